@@ -1,0 +1,85 @@
+// The calls that a seat makes, and their answers.
+
+/// A call on a seat. Keys and values are any numbers of 64 bits.
+#[derive(Clone, Copy, Debug, PartialEq, Eq)]
+pub enum Call {
+    Get { key: u64 },
+    Put { key: u64, value: u64 },
+    Remove { key: u64 },
+    Enqueue { value: u64 },
+    Dequeue,
+    /// Protects a key's row until it is released.
+    Hold { key: u64 },
+    Release,
+    /// Tries once to move the clock.
+    Advance,
+    /// Reads all guards, and gives back the retired rows that none of them covers.
+    Scan,
+}
+
+/// How one try to move the clock ended.
+#[derive(Clone, Copy, Debug, PartialEq, Eq)]
+pub enum ClockMove {
+    /// No move was due.
+    Still,
+    /// This call moved the clock to the era.
+    Moved { era: u32 },
+    /// The clock was seen at a greater era than the one loaded first.
+    Other { seen: u32 },
+    /// The clock stands at its last era.
+    EraSpent { era: u32 },
+}
+
+/// What a call answers.
+#[derive(Clone, Copy, Debug, PartialEq, Eq)]
+pub enum Answer {
+    /// The key's value at a version of its bucket.
+    Got {
+        version: u64,
+        value: Option<u64>,
+    },
+    /// The change is the bucket's at this version.
+    Done {
+        version: u64,
+        clock: ClockMove,
+    },
+    /// The key has no value at this version.
+    Absent {
+        version: u64,
+    },
+    /// No row was free.
+    Full,
+    /// The row at this version has no room for another key.
+    BucketFull {
+        version: u64,
+    },
+    /// The bucket's version, or the queue's number, is the last.
+    Spent {
+        number: u64,
+    },
+    /// The item's number in the queue.
+    Queued {
+        number: u64,
+    },
+    /// The item at the queue's front.
+    Taken {
+        number: u64,
+        value: u64,
+        clock: ClockMove,
+    },
+    Empty,
+    /// The row that is held.
+    Holding {
+        slot: u32,
+    },
+    Nothing,
+    Released,
+    Clock {
+        outcome: ClockMove,
+    },
+    /// How many retired rows stay, and how many went back.
+    Scanned {
+        kept: u32,
+        back: u32,
+    },
+}

@@ -1,0 +1,77 @@
+// The setting of a table: a scheme and nine numbers, each with a range of its own.
+ghost use Rattle.std.specs.Prelude.{◌≡◌};
+ghost use Rattle.wfe_words.specs.Config.{allows as is_allowed};
+
+/// The reclamation schemes: Hazard Eras (Ramalhete and Correia 2017), 2GE intervals (Wen and others
+/// 2018) and Wait-Free Eras (Nikolaev and Ravindran 2020).
+#[derive(Clone, Copy, Debug, PartialEq, Eq)]
+pub enum SchemeKind {
+    /// Hazard Eras: each index of a seat publishes one era.
+    He,
+    /// 2GE: each seat publishes one interval of eras.
+    Ibr,
+    /// Wait-Free Eras: as Hazard Eras, and movers of the clock help those that fail to protect.
+    Wfe,
+}
+
+/// The setting of a table.
+#[derive(Clone, Copy, Debug, PartialEq, Eq)]
+pub struct Config {
+    pub scheme: SchemeKind,
+    /// Threads that take part, 1 to 64.
+    pub seats: u32,
+    /// Protections that a seat may hold at a time, 3 to 8.
+    pub indexes: u32,
+    /// Rows besides the queue's first one, 2 to 65,536.
+    pub slots: u32,
+    /// Buckets of the map, 1 to 1,024.
+    pub buckets: u32,
+    /// Failed tries before a reader asks for help, 1 to 64.
+    pub tries: u32,
+    /// Retirements between two moves of the clock, 1 to 65,536.
+    pub every: u32,
+    /// The era at which the clock stops, 1 to 4,294,967,295.
+    pub last_era: u32,
+    /// The version at which a bucket or the queue takes no more changes, 1 to 281,474,976,710,656.
+    pub last_version: u64,
+    /// Pairs for which a row has room, 6 or 14.
+    pub pairs: u32,
+}
+
+/// The numbers of a setting, in the order in which they are judged.
+#[derive(Clone, Copy, Debug, PartialEq, Eq)]
+pub enum Field {
+    Seats,
+    Indexes,
+    Slots,
+    Buckets,
+    Tries,
+    Every,
+    LastEra,
+    LastVersion,
+    Pairs,
+}
+
+/// A number of the setting is outside its range: the first such.
+#[derive(Clone, Copy, Debug, PartialEq, Eq)]
+pub struct BadConfig {
+    pub field: Field,
+}
+
+impl Field {
+    /// Whether the number lies in the field's range.
+    pub fn allows(self, number: u64) -> bool
+        ensures { result ≡ is_allowed self number }
+    {
+        match self {
+            Field::Seats | Field::Tries => 1 <= number && number <= 64,
+            Field::Indexes => 3 <= number && number <= 8,
+            Field::Slots => 2 <= number && number <= 65_536,
+            Field::Buckets => 1 <= number && number <= 1_024,
+            Field::Every => 1 <= number && number <= 65_536,
+            Field::LastEra => 1 <= number && number <= 4_294_967_295,
+            Field::LastVersion => 1 <= number && number <= 281_474_976_710_656,
+            Field::Pairs => number == 6 || number == 14,
+        }
+    }
+}
