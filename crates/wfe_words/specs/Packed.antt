@@ -13,16 +13,20 @@ unfoldable pub halves : ℕ → ℕ → ℕ
 halves high low = high * 2 ^ 32 + low
 
 -- the high half of a word
-unfoldable pub high_half : ℕ → ℕ
+abbrev pub high_half : ℕ → ℕ
 high_half word = word / 2 ^ 32
 
 -- the low half of a word
-unfoldable pub low_half : ℕ → ℕ
+abbrev pub low_half : ℕ → ℕ
 low_half word = word % 2 ^ 32
 
 -- the kind of a request word, its two highest bits
-unfoldable pub kind_of : ℕ → ℕ
+abbrev pub kind_of : ℕ → ℕ
 kind_of word = word / 2 ^ 62
+
+-- the six bits of an answered request that are zero
+abbrev pub spare_bits : ℕ → ℕ
+spare_bits word = word / 2 ^ 56 % 2 ^ 6
 
 -- kind 1, a tag of 32 bits, an index of 4 and a word number of 26
 unfoldable pub pending_word : ℕ → ℕ → ℕ → ℕ
@@ -92,28 +96,28 @@ read_link word slots =
 -- the lifetime of a word
 unfoldable pub read_life : ℕ → Option Life
 read_life word =
-    if nat_lt 0 (word / 2 ^ 32) && (word % 2 ^ 32 == 0 || nat_le (word / 2 ^ 32) (word % 2 ^ 32))
-    then Some (record { birth = word / 2 ^ 32; retire = word % 2 ^ 32 })
+    if nat_lt 0 (high_half word) && (low_half word == 0 || nat_le (high_half word) (low_half word))
+    then Some (record { birth = high_half word; retire = low_half word })
     else None
 
 -- the reservation of a word
 unfoldable pub read_reservation : ℕ → Reservation
-read_reservation word = record { era = word / 2 ^ 32; tag = word % 2 ^ 32 }
+read_reservation word = record { era = high_half word; tag = low_half word }
 
 -- the interval of a word
 unfoldable pub read_span : ℕ → Option (Option Span)
 read_span word =
     if word == 0 then Some None
-    else if nat_lt 0 (word / 2 ^ 32) && nat_le (word / 2 ^ 32) (word % 2 ^ 32)
-    then Some (Some (record { lo = word / 2 ^ 32; hi = word % 2 ^ 32 }))
+    else if nat_lt 0 (high_half word) && nat_le (high_half word) (low_half word)
+    then Some (Some (record { lo = high_half word; hi = low_half word }))
     else None
 
 -- the request of a word
 unfoldable pub read_request : ℕ → Option Request
 read_request word =
     if word == 0 then Some requests.Idle
-    else if word / 2 ^ 62 == 1
+    else if kind_of word == 1
     then Some (requests.Pending (word / 2 ^ 30 % 2 ^ 32) (word / 2 ^ 26 % 2 ^ 4) (word % 2 ^ 26))
-    else if word / 2 ^ 56 == 128 && nat_lt 0 (word % 2 ^ 32)
-    then Some (requests.Answered (word / 2 ^ 32 % 2 ^ 24) (word % 2 ^ 32))
+    else if kind_of word == 2 && spare_bits word == 0 && nat_lt 0 (low_half word)
+    then Some (requests.Answered (high_half word % 2 ^ 24) (low_half word))
     else None

@@ -1,9 +1,11 @@
 -- The places of a table: which there are, their word numbers, and the values with which they start.
-use Rattle.std.specs.Prelude.{ℕ, ◌+◌, ◌-◌, ◌*◌, ◌/◌, ◌%◌, ◌^◌, ◌==◌, ◌&&◌, if◌then◌else◌, nat_lt, Bool, true, false}
-use Rattle.wfe_words.specs.declared.layout.Layout.{Layout}
-use Rattle.wfe_words.specs.declared.config.Field.TheVariants as fields
-use Rattle.wfe_words.specs.Config.{allows}
+use Rattle.std.specs.Prelude.{Bool, Err, None, Ok, Option, Result, Some, false, if◌then◌else◌, is_none, nat_lt, true, ℕ, ◌%◌, ◌&&◌, ◌*◌, ◌+◌, ◌-◌, ◌/◌, ◌==◌, ◌^◌}
+use Rattle.wfe_words.specs.Config.{bad_field}
 use Rattle.wfe_words.specs.Packed.{halves}
+use Rattle.wfe_words.specs.declared.config.BadConfig.{BadConfig}
+use Rattle.wfe_words.specs.declared.config.Config.{Config}
+use Rattle.wfe_words.specs.declared.config.Field.{Field}
+use Rattle.wfe_words.specs.declared.layout.Layout.{Layout}
 
 -- a word of a table, named by what it holds
 pub data Place : Type 0 where
@@ -38,11 +40,15 @@ same _ _ = false
 
 -- each number of the setting lies in its range
 unfoldable pub is_valid : Layout → Bool
-is_valid layout = let config = layout.config in
-    allows fields.Seats config.seats && allows fields.Indexes config.indexes && allows fields.Slots config.slots
-    && allows fields.Buckets config.buckets && allows fields.Tries config.tries && allows fields.Every config.every
-    && allows fields.LastEra config.last_era && allows fields.LastVersion config.last_version
-    && allows fields.Pairs config.pairs
+is_valid layout = is_none (bad_field layout.config)
+
+-- the layout of a setting, or the first number outside its range
+abbrev pub layout_of : Config → Result Layout BadConfig
+layout_of config = judged config (bad_field config)
+  where
+    judged : Config → Option Field → Result Layout BadConfig
+    judged config None = Ok (record { config = config })
+    judged config (Some field) = Err (record { field = field })
 
 -- rows, the queue's first dummy among them
 abbrev pub rows : Layout → ℕ
@@ -118,6 +124,24 @@ number layout (Life slot) = first_life layout + slot
 number layout (Row slot place) = first_row layout + (slot * row_places layout + place)
 number layout (PlaceOf seat) = first_place layout + seat
 
+-- the place of a word number
+unfoldable pub place_at : Layout → ℕ → Place
+place_at layout word =
+    if word == 0 then Clock
+    else if nat_lt word (first_index layout) then Helper (word - 1)
+    else if nat_lt word (first_interval layout) then
+    Index ((word - first_index layout) / layout.config.indexes) ((word - first_index layout) % layout.config.indexes)
+    else if nat_lt word (first_request layout) then Interval (word - first_interval layout)
+    else if nat_lt word (first_bucket layout) then Request (word - first_request layout)
+    else if nat_lt word (head_number layout) then Bucket (word - first_bucket layout)
+    else if word == head_number layout then Head
+    else if word == head_number layout + 1 then Tail
+    else if nat_lt word (first_life layout) then Claim (word - first_claim layout)
+    else if nat_lt word (first_row layout) then Life (word - first_life layout)
+    else if nat_lt word (first_place layout) then
+    Row ((word - first_row layout) / row_places layout) ((word - first_row layout) % row_places layout)
+    else PlaceOf (word - first_place layout)
+
 -- the claim word that has a slot's bit, and which bit that is
 abbrev pub claim_word : ℕ → ℕ
 claim_word slot = slot / 64
@@ -128,10 +152,6 @@ claim_bit slot = slot % 64
 -- the word that has a slot's claim bit alone
 unfoldable pub claim_mask : ℕ → ℕ
 claim_mask slot = 2 ^ (slot % 64)
-
--- a bit of a word is set
-unfoldable pub bit_set : ℕ → ℕ → Bool
-bit_set word bit = word / 2 ^ bit % 2 == 1
 
 -- the first value of a claim word: in the last one the dummy's bit and all above it are set
 unfoldable pub claim_start : Layout → ℕ → ℕ
