@@ -10,7 +10,7 @@ mod lifetime;
 pub use call::{Answer, Call, ClockMove};
 pub use command::Command;
 pub use event::{Event, Guard, Root};
-pub use fold::Change;
+pub use fold::{Change, fold_bucket};
 pub use lifetime::{Interval, Lifetime, meets};
 
 /// Memory ran out.
