@@ -1,0 +1,13 @@
+//! What a seat does at each atomic step: operations, local states, machines, and the World that they
+//! move.
+#![tactic(auto)]
+
+mod ends;
+mod op;
+mod post;
+mod told;
+
+pub use ends::{AllocateEnd, FollowEnd, ProtectEnd};
+pub use op::Op;
+pub use post::Post;
+pub use told::Told;
