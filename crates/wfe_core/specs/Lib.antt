@@ -1,1 +1,15 @@
 pub mod Memory
+pub mod Links
+pub mod Guards
+pub mod Phases
+pub mod Posts
+pub mod Protect
+pub mod SlowPath
+pub mod Spans
+pub mod Follow
+pub mod Clear
+pub mod Allocate
+pub mod WriteRow
+pub mod Retire
+pub mod MoveClock
+pub mod Machine
