@@ -13,3 +13,15 @@ pub mod WriteRow
 pub mod Retire
 pub mod MoveClock
 pub mod Machine
+pub mod Desks
+pub mod Calls
+pub mod Rounds
+pub mod Get
+pub mod Change
+pub mod Enqueue
+pub mod Dequeue
+pub mod Scan
+pub mod Steps
+pub mod Locals
+pub mod Book
+pub mod World
