@@ -51,8 +51,8 @@ abbrev pub walk_on : ℕ → Walk → (left : ℕ) → (slot : ℕ) → Option W
 walk_on slots walk zero slot = None
 walk_on slots walk (suc left) slot =
     elim (is_claimed (shown_of walk (next_slot slots slot)) (next_slot slots slot)) [
-      true ↦ walk_on slots walk left (next_slot slots slot)
-    | false ↦ Some (walk_at walk (next_slot slots slot) left)
+      | true ↦ walk_on slots walk left (next_slot slots slot)
+      | false ↦ Some (walk_at walk (next_slot slots slot) left)
     ]
 
 -- the walk after its slot was found taken
@@ -75,9 +75,9 @@ after_claim_slot birth walk post found =
     then walking birth post (walk_past post.layout.config.slots walk found)
     else
     goes
-      (record post { cursor = next_slot post.layout.config.slots walk.slot })
-      (events.Give walk.slot birth ∷ [])
-      (Allocate (StoreLife birth walk.slot))
+    (record post { cursor = next_slot post.layout.config.slots walk.slot })
+    (events.Give walk.slot birth ∷ [])
+    (Allocate (StoreLife birth walk.slot))
 
 -- 3. Store the birth era into the slot's lifetime word.
 abbrev pub after_store_life : ℕ → ℕ → Post → Turn

@@ -43,10 +43,10 @@ followed head tail (follow_ends.RootMoved seen) post desk told = clearing_next A
 abbrev pub taken : ℕ → ℕ → ℕ → ℕ → Post → Desk → (same : Bool) → CallTurn
 taken head next number value post desk true =
     clearing_next
-      (Retiring head (answers.Taken number value moves.Still))
-      post
-      desk
-      (events.Link roots.Head next ∷ events.Cut head ∷ events.Taken number value ∷ [])
+    (Retiring head (answers.Taken number value moves.Still))
+    post
+    desk
+    (events.Link roots.Head next ∷ events.Cut head ∷ events.Taken number value ∷ [])
 taken head next number value post desk false = clearing_next Again post desk []
 
 -- one step of a dequeue's own

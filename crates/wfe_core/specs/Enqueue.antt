@@ -59,10 +59,10 @@ at_next kept next post desk false = goes_on post desk [] (Works (Enqueuing kept 
 abbrev pub appended : EnqueueKept → ℕ → Post → Desk → (same : Bool) → CallTurn
 appended kept slot post desk true =
     goes_on
-      post
-      desk
-      (events.Link (roots.Next kept.tail) slot ∷ events.Queued (kept.number + 1) kept.value ∷ [])
-      (Works (Enqueuing (record kept { taken = None }) (ExchangeTail slot)))
+    post
+    desk
+    (events.Link (roots.Next kept.tail) slot ∷ events.Queued (kept.number + 1) kept.value ∷ [])
+    (Works (Enqueuing (record kept { taken = None }) (ExchangeTail slot)))
 appended kept slot post desk false = clearing (Enqueues kept) Again post desk []
 
 -- one step of an enqueue's own
@@ -74,8 +74,8 @@ enqueue_turn kept (PassTail next) post desk found =
 enqueue_turn kept (ExchangeNext slot) post desk found = appended kept slot post desk (found == 0)
 enqueue_turn kept (ExchangeTail slot) post desk found =
     clearing
-      (Enqueues kept)
-      (Answering (answers.Queued (kept.number + 1)))
-      post
-      desk
-      (told_link roots.Tail slot (found == kept.tail + 1))
+    (Enqueues kept)
+    (Answering (answers.Queued (kept.number + 1)))
+    post
+    desk
+    (told_link roots.Tail slot (found == kept.tail + 1))

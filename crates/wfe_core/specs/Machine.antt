@@ -77,9 +77,9 @@ move_move (AnswerAsked era seat tag index root link) post =
 move_move (LoadReserved era seat tag index root link) post = Load (places.Index seat index)
 move_move (HandOver era seat tag index root link old) post =
     Cas
-      (places.Index seat index)
-      (reservation_word (record { era = old; tag = tag }))
-      (reservation_word (record { era = era; tag = tag + 1 }))
+    (places.Index seat index)
+    (reservation_word (record { era = old; tag = tag }))
+    (reservation_word (record { era = era; tag = tag + 1 }))
 move_move (HideEra era) post = Store (places.Helper post.seat) 0
 move_move (HideLate seen) post = Store (places.Helper post.seat) 0
 move_move (ExchangeClock era) post = Cas places.Clock era (era + 1)

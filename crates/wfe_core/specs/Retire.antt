@@ -27,6 +27,6 @@ after_load_retire slot birth post found = goes post [] (Retire (StoreRetired slo
 abbrev pub after_store_retired : ℕ → ℕ → ℕ → Post → Turn
 after_store_retired slot birth retire post =
     ends
-      (record post { retired = bump post.retired })
-      (events.Retire slot birth retire ∷ [])
-      (Retired (record { slot = slot; birth = birth; retire = retire }))
+    (record post { retired = bump post.retired })
+    (events.Retire slot birth retire ∷ [])
+    (Retired (record { slot = slot; birth = birth; retire = retire }))

@@ -40,8 +40,8 @@ abbrev pub first_unmet : List Seen → ℕ → List Lifetime → Option Entry
 first_unmet read place [] = None
 first_unmet read place (life ∷ lives) =
     elim (meets_any life read) [
-      true ↦ first_unmet read (place + 1) lives
-    | false ↦ Some (place, life)
+      | true ↦ first_unmet read (place + 1) lives
+      | false ↦ Some (place, life)
     ]
 
 -- the first such from a place of the list on
@@ -80,12 +80,12 @@ reading later number post desk told false = giving_back later post desk told (un
 abbrev pub read_guard : AfterScan → ℕ → Post → Desk → Guard → Option Interval → CallTurn
 read_guard later number post desk guard span =
     reading
-      later
-      number
-      post
-      (with_read desk number (guard, span))
-      (events.Read guard span ∷ [])
-      (nat_lt (number + 1) (guards post.layout.config))
+    later
+    number
+    post
+    (with_read desk number (guard, span))
+    (events.Read guard span ∷ [])
+    (nat_lt (number + 1) (guards post.layout.config))
 
 -- a row went back: it leaves the list
 abbrev pub with_back : Desk → ℕ → Desk
@@ -99,11 +99,11 @@ with_back desk place =
 abbrev pub scan_turn : AfterScan → ScanAt → Post → Desk → ℕ → CallTurn
 scan_turn later (ReadGuard number) post desk found =
     read_guard
-      later
-      number
-      post
-      desk
-      (guard_at post.layout.config number)
-      (published (guard_at post.layout.config number) found)
+    later
+    number
+    post
+    desk
+    (guard_at post.layout.config number)
+    (published (guard_at post.layout.config number) found)
 scan_turn later (GiveBack place slot) post desk found =
     giving_back later post (with_back desk place) (events.Back slot ∷ []) (unmet_from (with_back desk place) place)

@@ -74,9 +74,9 @@ after_load_answer aim index root n post found = goes post [] (Protect aim index 
 abbrev pub after_take_answer : Aim → ℕ → Root → ℕ → ℕ → ℕ → Post → Turn
 after_take_answer aim index root n link era post =
     goes
-      (held_post (with_tag post index (tag_of post index + 1)) index root link)
-      (reserves_index post index era ++ told_held index root link n)
-      (Protect aim index root n (WithdrawRequest link era))
+    (held_post (with_tag post index (tag_of post index + 1)) index root link)
+    (reserves_index post index era ++ told_held index root link n)
+    (Protect aim index root n (WithdrawRequest link era))
 
 -- 9. Store 0 into the own request word.
 abbrev pub after_withdraw_request : Aim → ℕ → Root → ℕ → ℕ → ℕ → Post → Turn

@@ -40,9 +40,9 @@ after_check_upper aim index root n link post found =
 abbrev pub after_raise_upper : Aim → ℕ → Root → ℕ → ℕ → Post → Turn
 after_raise_upper aim index root n era post =
     goes
-      (with_span post (from_to (lower post.span) era))
-      (reserves_span post (from_to (lower post.span) era))
-      (Protect aim index root n LoadWithin)
+    (with_span post (from_to (lower post.span) era))
+    (reserves_span post (from_to (lower post.span) era))
+    (Protect aim index root n LoadWithin)
 
 -- Finish. Store 0 into the interval word.
 abbrev pub after_finish : Post → Turn

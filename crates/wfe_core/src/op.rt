@@ -4,27 +4,12 @@
 /// value before it, and 0 for a store.
 #[derive(Clone, Copy, Debug, PartialEq, Eq)]
 pub enum Op {
-    Load {
-        word: u32,
-    },
-    Store {
-        word: u32,
-        value: u64,
-    },
+    Load { word: u32 },
+    Store { word: u32, value: u64 },
     /// Writes `new` where the word is `old`.
-    Cas {
-        word: u32,
-        old: u64,
-        new: u64,
-    },
+    Cas { word: u32, old: u64, new: u64 },
     /// Sets bits.
-    Or {
-        word: u32,
-        bits: u64,
-    },
+    Or { word: u32, bits: u64 },
     /// Keeps these bits alone.
-    And {
-        word: u32,
-        bits: u64,
-    },
+    And { word: u32, bits: u64 },
 }

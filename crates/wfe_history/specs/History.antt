@@ -1,8 +1,7 @@
 -- Histories: calls that begin and steps that are made, in order, and the record that they tell.
-use Rattle.std.specs.Prelude.{ℕ, zero, suc, ◌&&◌, Bool, true, false, not, nat_lt, List, [], ◌∷◌, ◌++◌}
+use Rattle.std.specs.Prelude.{ℕ, zero, suc, ◌&&◌, Bool, true, false, not, nat_lt, List, [], ◌∷◌}
 use Rattle.wfe_words.specs.declared.layout.Layout.{Layout}
 use Rattle.wfe_defs.specs.declared.call.Call.{Call}
-use Rattle.wfe_defs.specs.declared.event.Event.{Event}
 use Rattle.wfe_defs.specs.declared.event.Event.TheVariants as events
 use Rattle.wfe_laws.specs.Record.{Past, tells_of}
 use Rattle.wfe_laws.specs.Record.Past.{Start, Then}
