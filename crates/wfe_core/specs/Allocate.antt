@@ -6,7 +6,7 @@ use Rattle.wfe_words.specs.Place.{claim_word, claim_bit, claim_mask}
 use Rattle.wfe_defs.specs.declared.event.Event.TheVariants as events
 use Rattle.wfe_core.specs.declared.ends.AllocateEnd.TheVariants as allocate_ends
 use Rattle.wfe_core.specs.declared.post.Post.{Post}
-use Rattle.wfe_core.specs.Phases.{Walk, AllocateAt, Base, Turn, goes, ends}
+use Rattle.wfe_core.specs.Phases.{Walk, Turn, goes, ends}
 use Rattle.wfe_core.specs.Phases.AllocateAt.{ClaimSlot, StoreLife}
 use Rattle.wfe_core.specs.Phases.Base.{Allocate}
 use Rattle.wfe_core.specs.Phases.Ending.{Done, Allocated}

@@ -1,5 +1,5 @@
 -- A dequeue follows the head's next link, reads the row after it, and exchanges the head.
-use Rattle.std.specs.Prelude.{ℕ, ◌==◌, ◌+◌, Bool, true, false, if◌then◌else◌, List, [], ◌∷◌, ◌++◌}
+use Rattle.std.specs.Prelude.{ℕ, ◌==◌, ◌+◌, Bool, true, false, List, [], ◌∷◌}
 use Rattle.wfe_words.specs.Place.Place.{Head, Tail, Row}
 use Rattle.wfe_words.specs.declared.config.SchemeKind.{SchemeKind}
 use Rattle.wfe_defs.specs.declared.call.Answer.TheVariants as answers
@@ -14,7 +14,7 @@ use Rattle.wfe_core.specs.Desks.{Desk}
 use Rattle.wfe_core.specs.Memory.{Move, Load, Cas}
 use Rattle.wfe_core.specs.Phases.{Follows, Base}
 use Rattle.wfe_core.specs.Phases.Base.{Protect}
-use Rattle.wfe_core.specs.Calls.{Dequeues, Again, Answering, Retiring, DequeueAt, LoadTail, SwingTail, TakeNumber, TakeValue, ExchangeHead, Works, Dequeuing, Runs, FollowsHead, CallTurn, goes_on}
+use Rattle.wfe_core.specs.Calls.{Again, Answering, Retiring, DequeueAt, LoadTail, SwingTail, TakeNumber, TakeValue, ExchangeHead, Works, Dequeuing, Runs, FollowsHead, CallTurn, goes_on}
 use Rattle.wfe_core.specs.Enqueue.{told_link}
 use Rattle.wfe_core.specs.Rounds.{protect_at, scheme_of, clearing_next}
 

@@ -1,5 +1,5 @@
 -- A get reads the version, the count, and the keys in order up to its own, and then that key's value.
-use Rattle.std.specs.Prelude.{ℕ, ◌==◌, ◌+◌, ◌*◌, Bool, true, false, if◌then◌else◌, nat_lt, List, [], ◌∷◌, ◌++◌, Option, Some, None}
+use Rattle.std.specs.Prelude.{ℕ, ◌==◌, ◌+◌, ◌*◌, Bool, true, false, nat_lt, List, [], ◌∷◌, ◌++◌, Option, Some, None}
 use Rattle.wfe_words.specs.Place.Place.{Row}
 use Rattle.wfe_defs.specs.declared.call.Answer.TheVariants as answers
 use Rattle.wfe_defs.specs.declared.event.Event.{Event}

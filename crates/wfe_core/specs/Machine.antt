@@ -1,9 +1,8 @@
 -- The machines that calls are made of: what each phase asks for, and what it does with the answer.
-use Rattle.std.specs.Prelude.{ℕ, ◌==◌, ◌+◌, Bool, true, false, List, []}
-use Rattle.wfe_words.specs.Place.{Place, claim_word, claim_mask}
+use Rattle.std.specs.Prelude.{ℕ, ◌==◌, ◌+◌}
+use Rattle.wfe_words.specs.Place.{claim_word, claim_mask}
 use Rattle.wfe_words.specs.Place.{Place as places}
 use Rattle.wfe_words.specs.Packed.{answered_word, life_word, reservation_word}
-use Rattle.wfe_words.specs.declared.packed.Life.{Life}
 use Rattle.wfe_defs.specs.declared.event.Root.{Root}
 use Rattle.wfe_core.specs.declared.op.Op.{Op}
 use Rattle.wfe_core.specs.declared.post.Post.{Post}
@@ -11,7 +10,7 @@ use Rattle.wfe_core.specs.Memory.{Load, Store, Cas, Or, And, numbered, bump}
 use Rattle.wfe_core.specs.Memory as memory
 use Rattle.wfe_core.specs.Links.{link_place}
 use Rattle.wfe_core.specs.Posts.{tag_of, index_word, helper_word, lower}
-use Rattle.wfe_core.specs.Phases.{Aim, BeginAt, ProtectAt, AllocateAt, RetireAt, MoveAt, RowOf, Base, Turn}
+use Rattle.wfe_core.specs.Phases.{Aim, BeginAt, ProtectAt, AllocateAt, RetireAt, MoveAt, Base, Turn}
 use Rattle.wfe_core.specs.Phases.BeginAt.{LoadLower, PublishSpan}
 use Rattle.wfe_core.specs.Phases.ProtectAt.{LoadClock, PublishEra, LoadLink, CheckClock, PublishRequest, LoadOwnClock, PublishHelper, LoadOwnLink, CheckOwnClock, AnswerOwn, LoadAnswer, TakeAnswer, WithdrawRequest, WithdrawHelper, LoadWithin, CheckUpper, RaiseUpper}
 use Rattle.wfe_core.specs.Phases.AllocateAt.{LoadBirth, ClaimSlot, StoreLife}
@@ -33,10 +32,10 @@ begin_move LoadLower post = Load places.Clock
 begin_move (PublishSpan era) post = Store (places.Interval post.seat) (eras_word era era)
 
 abbrev pub protect_move : ℕ → Root → ProtectAt → Post → memory.Move
-protect_move index root LoadClock post = Load places.Clock
-protect_move index root (PublishEra era failed) post = Store (places.Index post.seat index) (index_word post index era)
-protect_move index root (LoadLink era failed) post = Load (link_place root)
-protect_move index root (CheckClock era failed link) post = Load places.Clock
+protect_move index root (LoadClock tries) post = Load places.Clock
+protect_move index root (PublishEra era tries) post = Store (places.Index post.seat index) (index_word post index era)
+protect_move index root (LoadLink era tries) post = Load (link_place root)
+protect_move index root (CheckClock era tries link) post = Load places.Clock
 protect_move index root PublishRequest post = Store (places.Request post.seat) (own_request post index root)
 protect_move index root LoadOwnClock post = Load places.Clock
 protect_move index root (PublishHelper first era last) post = Store (places.Helper post.seat) (helper_word era)
@@ -108,10 +107,10 @@ begin_turn (PublishSpan era) post found = after_publish_span era post
 
 -- one step of a protection, its n-th
 abbrev pub protect_turn : Aim → ℕ → Root → ℕ → ProtectAt → Post → ℕ → Turn
-protect_turn aim index root n LoadClock post found = after_load_clock aim index root n post found
-protect_turn aim index root n (PublishEra era failed) post found = after_publish_era aim index root n era failed post
-protect_turn aim index root n (LoadLink era failed) post found = after_load_link aim index root n era failed post found
-protect_turn aim index root n (CheckClock era failed link) post found = after_check_clock aim index root n era failed link post found
+protect_turn aim index root n (LoadClock tries) post found = after_load_clock aim index root n tries post found
+protect_turn aim index root n (PublishEra era tries) post found = after_publish_era aim index root n era tries post
+protect_turn aim index root n (LoadLink era tries) post found = after_load_link aim index root n era tries post found
+protect_turn aim index root n (CheckClock era tries link) post found = after_check_clock aim index root n era tries link post found
 protect_turn aim index root n PublishRequest post found = after_publish_request aim index root n post
 protect_turn aim index root n LoadOwnClock post found = after_load_own_clock aim index root n post found
 protect_turn aim index root n (PublishHelper first era last) post found = after_publish_helper aim index root n first era last post

@@ -1,5 +1,5 @@
 -- Operations by place, and what they do to the words.
-use Rattle.std.specs.Prelude.{ℕ, ◌==◌, Bool, true, false, if◌then◌else◌, nat_lt, ◌+◌, bit_and, bit_or}
+use Rattle.std.specs.Prelude.{ℕ, ◌==◌, if◌then◌else◌, nat_lt, ◌+◌, bit_and, bit_or}
 use Rattle.wfe_words.specs.Place.{Place, same, number}
 use Rattle.wfe_words.specs.declared.layout.Layout.{Layout}
 use Rattle.wfe_core.specs.declared.op.Op.{Op}

@@ -1,7 +1,6 @@
 -- Move the clock by one era. Under Wait-Free Eras each request that is seen pending is answered first.
-use Rattle.std.specs.Prelude.{ℕ, ◌==◌, ◌+◌, Bool, true, false, if◌then◌else◌, nat_lt, List, [], ◌∷◌, Option, Some, None}
+use Rattle.std.specs.Prelude.{ℕ, ◌==◌, ◌+◌, Bool, true, false, if◌then◌else◌, nat_lt, [], ◌∷◌, Option, Some, None}
 use Rattle.wfe_words.specs.Packed.{read_request, read_reservation}
-use Rattle.wfe_words.specs.declared.layout.Layout.{Layout}
 use Rattle.wfe_words.specs.declared.packed.Request.{Request}
 use Rattle.wfe_words.specs.declared.packed.Request.TheVariants as requests
 use Rattle.wfe_defs.specs.declared.call.ClockMove.TheVariants as moves
@@ -12,7 +11,7 @@ use Rattle.wfe_core.specs.declared.post.Post.{Post}
 use Rattle.wfe_core.specs.Guards.{one_era}
 use Rattle.wfe_core.specs.Links.{root_at}
 use Rattle.wfe_core.specs.SlowPath.{asking}
-use Rattle.wfe_core.specs.Phases.{MoveAt, Base, Turn, goes, ends}
+use Rattle.wfe_core.specs.Phases.{MoveAt, Turn, goes, ends}
 use Rattle.wfe_core.specs.Phases.MoveAt.{LoadRequest, ShowEra, LoadAsked, CheckEra, AnswerAsked, LoadReserved, HandOver, HideEra, HideLate, ExchangeClock}
 use Rattle.wfe_core.specs.Phases.Base.{Move}
 use Rattle.wfe_core.specs.Phases.Ending.{Clocked}

@@ -20,14 +20,19 @@ pub data BeginAt : Type 0 where
   LoadLower : BeginAt
   PublishSpan : (era : ℕ) → BeginAt
 
--- a protection. `failed` counts failed tries under Wait-Free Eras. `first` is the first clock value after the request
--- was published, `last` says whether this is the second own turn
+-- how often a protection tries: without end, or until so many tries have failed. `Failed` counts the failed ones
+pub data Tries : Type 0 where
+  Endless : Tries
+  Failed : (count : ℕ) → Tries
+
+-- a protection. `first` is the first clock value after the request was published, `last` says whether this is the second
+-- own turn
 pub data ProtectAt : Type 0 where
   -- Hazard Eras, and the tries of Wait-Free Eras
-  LoadClock : ProtectAt
-  PublishEra : (era failed : ℕ) → ProtectAt
-  LoadLink : (era failed : ℕ) → ProtectAt
-  CheckClock : (era failed link : ℕ) → ProtectAt
+  LoadClock : Tries → ProtectAt
+  PublishEra : (era : ℕ) → Tries → ProtectAt
+  LoadLink : (era : ℕ) → Tries → ProtectAt
+  CheckClock : (era : ℕ) → Tries → (link : ℕ) → ProtectAt
   -- the slow path of Wait-Free Eras
   PublishRequest : ProtectAt
   LoadOwnClock : ProtectAt

@@ -1,15 +1,13 @@
 -- What a post says, and how steps change it.
-use Rattle.std.specs.Prelude.{ℕ, ◌==◌, ◌-◌, if◌then◌else◌, List, [], ◌∷◌, ◌++◌, slice_index, slice_index_or, slice_set, Option, Some, None}
+use Rattle.std.specs.Prelude.{ℕ, List, [], ◌∷◌, slice_index, slice_index_or, slice_set, Option, Some, None}
 use Rattle.wfe_words.specs.Packed.{reservation_word}
 use Rattle.wfe_words.specs.declared.layout.Layout.{Layout}
 use Rattle.wfe_defs.specs.declared.event.Event.{Event}
 use Rattle.wfe_defs.specs.declared.event.Event.TheVariants as events
 use Rattle.wfe_defs.specs.declared.event.Guard.TheVariants as guards
-use Rattle.wfe_defs.specs.declared.event.Root.{Root}
-use Rattle.wfe_defs.specs.declared.event.Root.TheVariants as roots
 use Rattle.wfe_defs.specs.declared.lifetime.Interval.{Interval}
 use Rattle.wfe_core.specs.declared.post.Post.{Post}
-use Rattle.wfe_core.specs.Guards.{one_era, from_to}
+use Rattle.wfe_core.specs.Guards.{one_era}
 use Rattle.wfe_core.specs.Memory.{bump}
 
 -- a seat between calls that has made none

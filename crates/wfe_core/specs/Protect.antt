@@ -1,9 +1,7 @@
 -- A protection: its ends, Hazard Eras, and the tries of Wait-Free Eras. It publishes the clock once; then a try loads
 -- the link, loads the clock, and is over where the clock has not moved; else it publishes the new era.
-use Rattle.std.specs.Prelude.{ℕ, ◌==◌, ◌+◌, ◌-◌, Bool, false, if◌then◌else◌, nat_le, List, [], ◌∷◌}
+use Rattle.std.specs.Prelude.{ℕ, ◌==◌, ◌+◌, ◌-◌, if◌then◌else◌, nat_le, List, [], ◌∷◌}
 use Rattle.wfe_words.specs.declared.config.Config.{Config}
-use Rattle.wfe_words.specs.declared.config.SchemeKind.{SchemeKind}
-use Rattle.wfe_words.specs.declared.config.SchemeKind.TheVariants.{He, Ibr, Wfe}
 use Rattle.wfe_defs.specs.declared.event.Event.{Event}
 use Rattle.wfe_defs.specs.declared.event.Event.TheVariants as events
 use Rattle.wfe_defs.specs.declared.event.Root.{Root}
@@ -13,7 +11,7 @@ use Rattle.wfe_core.specs.declared.ends.ProtectEnd.{ProtectEnd}
 use Rattle.wfe_core.specs.declared.ends.ProtectEnd.TheVariants as protect_ends
 use Rattle.wfe_core.specs.declared.post.Post.{Post}
 use Rattle.wfe_core.specs.Links.{parent_of}
-use Rattle.wfe_core.specs.Phases.{Aim, Alone, Follows, ProtectAt, Base, Ending, Turn, goes, ends}
+use Rattle.wfe_core.specs.Phases.{Aim, Alone, Follows, Tries, Endless, Failed, ProtectAt, Turn, goes, ends}
 use Rattle.wfe_core.specs.Phases.ProtectAt.{PublishEra, LoadLink, PublishRequest}
 use Rattle.wfe_core.specs.Phases.Base.{Protect, Reload}
 use Rattle.wfe_core.specs.Phases.Ending.{Protected, Followed}
@@ -51,38 +49,32 @@ abbrev pub protected : Aim → ℕ → Root → ℕ → ℕ → ℕ → Post →
 protected aim index root n link era post =
     concluded aim index root n link era (held_post post index root link) (told_held index root link n)
 
--- under Wait-Free Eras the tries are used up
-abbrev pub is_spent : SchemeKind → ℕ → ℕ → Bool
-is_spent He tries failed = false
-is_spent Ibr tries failed = false
-is_spent Wfe tries failed = nat_le tries failed
+-- one try more has failed; Hazard Eras count none
+abbrev pub failed_once : Tries → Tries
+failed_once Endless = Endless
+failed_once (Failed count) = Failed (count + 1)
 
--- failed tries are counted under Wait-Free Eras alone
-abbrev pub failed_once : SchemeKind → ℕ → ℕ
-failed_once He failed = failed
-failed_once Ibr failed = failed
-failed_once Wfe failed = failed + 1
-
--- after an era was published: a try, or the slow path
-abbrev pub trying : Config → ℕ → ℕ → ProtectAt
-trying config era failed = if is_spent config.scheme config.tries failed then PublishRequest else LoadLink era failed
+-- after an era was published: a try, or the slow path once the tries are used up
+abbrev pub trying : Config → ℕ → Tries → ProtectAt
+trying config era Endless = LoadLink era Endless
+trying config era (Failed count) = if nat_le config.tries count then PublishRequest else LoadLink era (Failed count)
 
 -- 1. Load the clock.
-abbrev pub after_load_clock : Aim → ℕ → Root → ℕ → Post → ℕ → Turn
-after_load_clock aim index root n post found = goes post [] (Protect aim index root n (PublishEra found 0))
+abbrev pub after_load_clock : Aim → ℕ → Root → ℕ → Tries → Post → ℕ → Turn
+after_load_clock aim index root n tries post found = goes post [] (Protect aim index root n (PublishEra found tries))
 
 -- 2 and 5. Store the era into the index word.
-abbrev pub after_publish_era : Aim → ℕ → Root → ℕ → ℕ → ℕ → Post → Turn
-after_publish_era aim index root n era failed post =
-    goes post (reserves_index post index era) (Protect aim index root n (trying post.layout.config era failed))
+abbrev pub after_publish_era : Aim → ℕ → Root → ℕ → ℕ → Tries → Post → Turn
+after_publish_era aim index root n era tries post =
+    goes post (reserves_index post index era) (Protect aim index root n (trying post.layout.config era tries))
 
 -- 3. Load the link.
-abbrev pub after_load_link : Aim → ℕ → Root → ℕ → ℕ → ℕ → Post → ℕ → Turn
-after_load_link aim index root n era failed post found = goes post [] (Protect aim index root n (ProtectAt.CheckClock era failed found))
+abbrev pub after_load_link : Aim → ℕ → Root → ℕ → ℕ → Tries → Post → ℕ → Turn
+after_load_link aim index root n era tries post found = goes post [] (Protect aim index root n (ProtectAt.CheckClock era tries found))
 
 -- 4. Load the clock again: it ends where the clock is still that era, else the new era is to be published.
-abbrev pub after_check_clock : Aim → ℕ → Root → ℕ → ℕ → ℕ → ℕ → Post → ℕ → Turn
-after_check_clock aim index root n era failed link post found =
+abbrev pub after_check_clock : Aim → ℕ → Root → ℕ → ℕ → Tries → ℕ → Post → ℕ → Turn
+after_check_clock aim index root n era tries link post found =
     if found == era
     then protected aim index root n link era post
-    else goes post [] (Protect aim index root n (PublishEra found (failed_once post.layout.config.scheme failed)))
+    else goes post [] (Protect aim index root n (PublishEra found (failed_once tries)))

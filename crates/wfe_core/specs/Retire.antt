@@ -5,7 +5,7 @@ use Rattle.wfe_words.specs.declared.packed.Life.{Life}
 use Rattle.wfe_defs.specs.declared.event.Event.TheVariants as events
 use Rattle.wfe_core.specs.declared.post.Post.{Post}
 use Rattle.wfe_core.specs.Memory.{bump}
-use Rattle.wfe_core.specs.Phases.{RetireAt, Base, Turn, goes, ends}
+use Rattle.wfe_core.specs.Phases.{Turn, goes, ends}
 use Rattle.wfe_core.specs.Phases.RetireAt.{LoadRetire, StoreRetired}
 use Rattle.wfe_core.specs.Phases.Base.{Retire}
 use Rattle.wfe_core.specs.Phases.Ending.{Retired}

@@ -1,5 +1,5 @@
 -- How a round of a call begins and ends under each scheme.
-use Rattle.std.specs.Prelude.{ℕ, ◌==◌, ◌%◌, Bool, true, false, if◌then◌else◌, List, ◌++◌, Option, Some, None}
+use Rattle.std.specs.Prelude.{ℕ, ◌%◌, Bool, true, false, List, [], ◌++◌, Option, Some, None}
 use Rattle.wfe_words.specs.declared.config.SchemeKind.{SchemeKind}
 use Rattle.wfe_words.specs.declared.config.SchemeKind.TheVariants.{He, Ibr, Wfe}
 use Rattle.wfe_defs.specs.declared.call.Answer.{Answer}
@@ -14,7 +14,7 @@ use Rattle.wfe_defs.specs.declared.lifetime.Interval.{Interval}
 use Rattle.wfe_core.specs.declared.post.Post.{Post}
 use Rattle.wfe_core.specs.Desks.{Desk}
 use Rattle.wfe_core.specs.Posts.{stands, withdrawn, cleared}
-use Rattle.wfe_core.specs.Phases.{Alone, Base, ProtectAt}
+use Rattle.wfe_core.specs.Phases.{Alone, Endless, Failed, Base, ProtectAt}
 use Rattle.wfe_core.specs.Phases.ProtectAt.{LoadClock, LoadWithin}
 use Rattle.wfe_core.specs.Phases.BeginAt.{LoadLower}
 use Rattle.wfe_core.specs.Phases.RetireAt.{LoadLife}
@@ -73,9 +73,9 @@ begin_base Ibr post = begin_span post.span
 begin_base Wfe post = None
 
 abbrev pub protect_at : SchemeKind → ProtectAt
-protect_at He = LoadClock
+protect_at He = LoadClock Endless
 protect_at Ibr = LoadWithin
-protect_at Wfe = LoadClock
+protect_at Wfe = LoadClock (Failed 0)
 
 abbrev pub protect_base : SchemeKind → ℕ → Root → Base
 protect_base scheme index root = Protect Alone index root 0 (protect_at scheme)
@@ -92,9 +92,9 @@ clear_post Ibr post index = withdrawn post index
 clear_post Wfe post index = post
 
 abbrev pub clear_told : SchemeKind → Post → ℕ → List Event
-clear_told He post index = List.[]
+clear_told He post index = []
 clear_told Ibr post index = cleared index (stands post index)
-clear_told Wfe post index = List.[]
+clear_told Wfe post index = []
 
 -- the interval stays while a row is held
 abbrev pub finish_span : Option ℕ → Option Base

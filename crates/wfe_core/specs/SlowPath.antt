@@ -1,14 +1,14 @@
 -- The slow path of Wait-Free Eras: the reader publishes a request, makes two turns of its own under its helper word, and
 -- takes the answer, its own or that of a mover of the clock.
-use Rattle.std.specs.Prelude.{ℕ, ◌==◌, ◌+◌, Bool, true, false, if◌then◌else◌, List, [], ◌++◌, Option, Some, None}
-use Rattle.wfe_words.specs.Packed.{pending_word, answered_word, read_request}
+use Rattle.std.specs.Prelude.{ℕ, ◌==◌, ◌+◌, Bool, true, false, if◌then◌else◌, [], ◌++◌, Option, Some, None}
+use Rattle.wfe_words.specs.Packed.{pending_word, read_request}
 use Rattle.wfe_words.specs.declared.packed.Request.{Request}
 use Rattle.wfe_words.specs.declared.packed.Request.TheVariants as requests
 use Rattle.wfe_words.specs.declared.layout.Layout.{Layout}
 use Rattle.wfe_defs.specs.declared.event.Root.{Root}
 use Rattle.wfe_core.specs.declared.post.Post.{Post}
 use Rattle.wfe_core.specs.Links.{link_number}
-use Rattle.wfe_core.specs.Phases.{Aim, ProtectAt, Base, Turn, goes}
+use Rattle.wfe_core.specs.Phases.{Aim, ProtectAt, Turn, goes}
 use Rattle.wfe_core.specs.Phases.ProtectAt.{LoadOwnClock, PublishHelper, LoadOwnLink, CheckOwnClock, AnswerOwn, LoadAnswer, TakeAnswer, WithdrawRequest, WithdrawHelper}
 use Rattle.wfe_core.specs.Phases.Base.{Protect}
 use Rattle.wfe_core.specs.Posts.{tag_of, with_tag, reserves_index, reserves_helper}

@@ -1,11 +1,10 @@
 -- 2GE intervals: begin, protect by raising the upper end until it is the clock, and finish.
-use Rattle.std.specs.Prelude.{ℕ, ◌==◌, if◌then◌else◌, List, [], ◌∷◌, ◌++◌, Option, Some, None}
+use Rattle.std.specs.Prelude.{ℕ, ◌==◌, if◌then◌else◌, [], ◌++◌, Some, None}
 use Rattle.wfe_words.specs.Packed.{span_word}
-use Rattle.wfe_words.specs.declared.packed.Span.{Span}
 use Rattle.wfe_defs.specs.declared.event.Root.{Root}
 use Rattle.wfe_core.specs.declared.post.Post.{Post}
 use Rattle.wfe_core.specs.Guards.{from_to}
-use Rattle.wfe_core.specs.Phases.{Aim, BeginAt, ProtectAt, Base, Turn, goes, ends}
+use Rattle.wfe_core.specs.Phases.{Aim, Turn, goes, ends}
 use Rattle.wfe_core.specs.Phases.BeginAt.{PublishSpan}
 use Rattle.wfe_core.specs.Phases.ProtectAt.{LoadWithin, CheckUpper, RaiseUpper}
 use Rattle.wfe_core.specs.Phases.Base.{Begin, Protect}

@@ -1,5 +1,5 @@
 -- A step of a call: the step of what runs, and what comes after it.
-use Rattle.std.specs.Prelude.{ℕ, ◌==◌, ◌+◌, ◌%◌, Bool, true, false, if◌then◌else◌, List, [], ◌∷◌, ◌++◌, Option, Some, None}
+use Rattle.std.specs.Prelude.{ℕ, ◌==◌, ◌+◌, ◌%◌, Bool, true, false, List, [], Option, Some, None}
 use Rattle.wfe_words.specs.Place.Place.{Clock}
 use Rattle.wfe_defs.specs.declared.call.Answer.{Answer}
 use Rattle.wfe_defs.specs.declared.call.Answer.TheVariants as answers
@@ -10,12 +10,11 @@ use Rattle.wfe_defs.specs.declared.event.Event.{Event}
 use Rattle.wfe_defs.specs.declared.fold.Change.TheVariants as changes
 use Rattle.wfe_core.specs.declared.ends.AllocateEnd.{AllocateEnd}
 use Rattle.wfe_core.specs.declared.ends.AllocateEnd.TheVariants as allocate_ends
-use Rattle.wfe_core.specs.declared.ends.ProtectEnd.{ProtectEnd}
 use Rattle.wfe_core.specs.declared.ends.ProtectEnd.TheVariants as protect_ends
 use Rattle.wfe_core.specs.declared.post.Post.{Post}
 use Rattle.wfe_core.specs.Desks.{Desk, with_life}
 use Rattle.wfe_core.specs.Memory.{Move, Load}
-use Rattle.wfe_core.specs.Phases.{Base, Ending, Done, Protected, Followed, Allocated, Retired, Clocked, Turn, Outcome, Goes, Ends}
+use Rattle.wfe_core.specs.Phases.{Ending, Protected, Followed, Allocated, Retired, Clocked, Turn, Outcome, Goes, Ends}
 use Rattle.wfe_core.specs.Posts.{stands}
 use Rattle.wfe_core.specs.WriteRow.{writing}
 use Rattle.wfe_core.specs.Machine.{base_move, after}

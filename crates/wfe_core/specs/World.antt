@@ -1,5 +1,5 @@
 -- The World: the words by place, each seat's local state, and the book. A step of a seat changes one word and that seat.
-use Rattle.std.specs.Prelude.{ℕ, Bool, false, if◌then◌else◌, List}
+use Rattle.std.specs.Prelude.{ℕ, Bool, if◌then◌else◌, List}
 use Rattle.wfe_words.specs.Place.{Place, has, start_of}
 use Rattle.wfe_words.specs.declared.layout.Layout.{Layout}
 use Rattle.wfe_defs.specs.declared.call.Call.{Call}
