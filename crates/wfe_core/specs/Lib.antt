@@ -25,3 +25,5 @@ pub mod Steps
 pub mod Locals
 pub mod Book
 pub mod World
+pub mod Valid
+pub mod Ready

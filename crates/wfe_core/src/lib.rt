@@ -3,11 +3,13 @@
 #![tactic(auto)]
 
 mod ends;
+mod machine;
 mod op;
 mod post;
 mod told;
 
 pub use ends::{AllocateEnd, FollowEnd, ProtectEnd};
+pub use machine::Machine;
 pub use op::Op;
 pub use post::Post;
 pub use told::Told;

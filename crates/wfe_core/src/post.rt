@@ -1,4 +1,9 @@
 // What a seat knows between its steps, whichever call it makes.
+ghost use Rattle.std.specs.Prelude.{◌≡◌, ◌<◌, true};
+ghost use Rattle.wfe_words.specs.Place.{is_valid};
+ghost use Rattle.wfe_core.specs.Posts.{new_post};
+ghost use Rattle.wfe_core.specs.Valid.{IsValid};
+
 use wfe_defs::Interval;
 use wfe_words::Layout;
 
@@ -20,4 +25,25 @@ pub struct Post {
     pub steps: u64,
     /// Rows that the seat has retired.
     pub retired: u64,
+}
+
+impl Post {
+    /// A seat that has made no call: nothing stands or is published, and all counts are 0.
+    pub fn new(seat: u32, layout: Layout) -> Post
+        requires layout { is_valid layout ≡ true }
+        requires seat { seat < layout.config.seats }
+        ensures result { result ≡ new_post seat layout }
+        ensures valid { IsValid result }
+    {
+        Post {
+            seat,
+            layout,
+            cursor: 0,
+            tags: [0; 8],
+            standing: [None; 8],
+            span: None,
+            steps: 0,
+            retired: 0,
+        }
+    }
 }
