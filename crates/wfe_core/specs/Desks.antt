@@ -57,7 +57,3 @@ noted_all notes (event ∷ told) = noted_all (noted notes event) told
 -- a life goes on the list
 abbrev pub with_life : Desk → Lifetime → Desk
 with_life desk life = record desk { list = desk.list ++ life ∷ [] }
-
--- a list without the entry at a place
-abbrev pub without : {A : Type 0} → ℕ → List A → List A
-without place xs = take place xs ++ drop (place + 1) xs

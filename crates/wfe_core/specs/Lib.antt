@@ -27,3 +27,4 @@ pub mod Book
 pub mod World
 pub mod Valid
 pub mod Ready
+pub mod CallReady

@@ -1,5 +1,6 @@
 -- A scan reads each guard once, and then gives back the rows of the list whose lives meet nothing that it read.
 use Rattle.std.specs.Prelude.{ℕ, zero, suc, ◌+◌, ◌||◌, Bool, true, false, nat_lt, List, [], ◌∷◌, ◌++◌, length, drop, Option, Some, None}
+use Rattle.std.specs.List.{remove}
 use Rattle.wfe_defs.specs.declared.call.Answer.TheVariants as answers
 use Rattle.wfe_defs.specs.declared.event.Event.{Event}
 use Rattle.wfe_defs.specs.declared.event.Event.TheVariants as events
@@ -8,7 +9,7 @@ use Rattle.wfe_defs.specs.declared.lifetime.Interval.{Interval}
 use Rattle.wfe_defs.specs.declared.lifetime.Lifetime.{Lifetime}
 use Rattle.wfe_defs.specs.Meets.{meets}
 use Rattle.wfe_core.specs.declared.post.Post.{Post}
-use Rattle.wfe_core.specs.Desks.{Desk, Report, Seen, without}
+use Rattle.wfe_core.specs.Desks.{Desk, Report, Seen}
 use Rattle.wfe_core.specs.Guards.{guards, guard_at, guard_place, published}
 use Rattle.wfe_core.specs.Memory.{Move, Load}
 use Rattle.wfe_core.specs.Machine.{free_move}
@@ -90,7 +91,7 @@ read_guard later number post desk guard span =
 abbrev pub with_back : Desk → ℕ → Desk
 with_back desk place =
     record desk {
-      list = without place desk.list;
+      list = remove desk.list place;
       report = record { read = desk.report.read; kept = desk.report.kept; back = desk.report.back + 1 };
     }
 
