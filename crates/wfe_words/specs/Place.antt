@@ -51,8 +51,8 @@ layout_of config = judged config (bad_field config)
     judged config (Some field) = Err (record { field = field })
 
 -- rows, the queue's first dummy among them
-abbrev pub rows : Layout → ℕ
-rows layout = layout.config.slots + 1
+abbrev pub row_count : Layout → ℕ
+row_count layout = layout.config.slots + 1
 
 -- words of a row: a link, a version or number, a count or value, and the pairs
 abbrev pub row_places : Layout → ℕ
@@ -73,8 +73,8 @@ has layout (Bucket bucket) = nat_lt bucket layout.config.buckets
 has layout Head = true
 has layout Tail = true
 has layout (Claim word) = nat_lt word (claim_words layout)
-has layout (Life slot) = nat_lt slot (rows layout)
-has layout (Row slot place) = nat_lt slot (rows layout) && nat_lt place (row_places layout)
+has layout (Life slot) = nat_lt slot (row_count layout)
+has layout (Row slot place) = nat_lt slot (row_count layout) && nat_lt place (row_places layout)
 has layout (PlaceOf seat) = nat_lt seat layout.config.seats
 
 -- the number of the first index word, after the clock and the helper words
@@ -100,10 +100,10 @@ abbrev pub first_life : Layout → ℕ
 first_life layout = first_claim layout + claim_words layout
 
 abbrev pub first_row : Layout → ℕ
-first_row layout = first_life layout + rows layout
+first_row layout = first_life layout + row_count layout
 
 abbrev pub first_place : Layout → ℕ
-first_place layout = first_row layout + rows layout * row_places layout
+first_place layout = first_row layout + row_count layout * row_places layout
 
 -- how many words the table has
 unfoldable pub words : Layout → ℕ
