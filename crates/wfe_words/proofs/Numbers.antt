@@ -1,11 +1,9 @@
 -- Places and their numbers: each place has a number of its own, and each number below the table's size is a place's.
-use Rattle.std.proofs.Common.{ℕ, ◌≡◌, ◌<◌, ◌≤◌, ◌+◌, ◌-◌, ◌*◌, ◌/◌, ◌%◌, ◌^◌, ◌⊎◌, inl, inr, Bool, true, false, cond, arith, refl, ap, sym, ◌∙◌}
-use Rattle.std.specs.Prelude.{Option, Some, None}
+use Rattle.std.proofs.Common.{ℕ, ◌≡◌, ◌<◌, ◌≤◌, ◌+◌, ◌-◌, ◌*◌, ◌/◌, ◌%◌, ◌^◌, inl, inr, true, arith, refl, ap, sym, ◌∙◌}
 use Rattle.std.proofs.lemmas.Bool.Decides.{nat_tests}
 use Rattle.std.proofs.lemmas.Grind.{rows}
 use Rattle.std.proofs.lemmas.Bool.{cases_lt}
-use Rattle.wfe_words.specs.Config.{bad_field}
-use Rattle.wfe_words.specs.Place.{Place, same, is_valid, has, number, words, place_at, row_places, claim_words, row_count, first_index, first_interval, first_request, first_bucket, head_number, first_claim, first_life, first_row, first_place}
+use Rattle.wfe_words.specs.Place.{Place, is_valid, has, number, words, place_at, row_places, row_count, first_index, first_interval, first_request, first_bucket, head_number, first_claim, first_life, first_row, first_place}
 use Rattle.wfe_words.specs.Place.Place.{Clock, Helper, Index, Interval, Request, Bucket, Head, Tail, Claim, Life, Row, PlaceOf}
 use Rattle.wfe_words.specs.declared.layout.Layout.{Layout}
 
@@ -184,4 +182,4 @@ number-place_at layout word h = let found = of_number layout word h in
 pub words_few : (layout : Layout) → is_valid layout ≡ true → words layout < 2 ^ 26
 unfolding words
 words_few layout h = let r = ranges layout h in let a : layout.config.seats * layout.config.indexes ≤ 64 * 8 = grind (arith, rows) in
-   let b : (layout.config.slots + 1) * (3 + 2 * layout.config.pairs) ≤ 65537 * 31 = grind (arith, rows) in omega arith
+    let b : (layout.config.slots + 1) * (3 + 2 * layout.config.pairs) ≤ 65537 * 31 = grind (arith, rows) in omega arith
