@@ -1,3 +1,5 @@
+pub mod Bounds
+pub mod Codecs
 pub mod Numbers
 pub mod Parts
 pub mod Places
