@@ -165,3 +165,7 @@ start_of layout Tail = layout.config.slots + 1
 start_of layout (Claim word) = claim_start layout word
 start_of layout (Life slot) = if slot == layout.config.slots then halves 1 0 else 0
 start_of layout _ = 0
+
+-- the first value of a word number
+abbrev pub start_at : Layout → ℕ → ℕ
+start_at layout word = start_of layout (place_at layout word)

@@ -1,25 +1,9 @@
 // Where each word of a table lies: its number, and the value with which it starts.
-ghost use Rattle.std.specs.Prelude.{◌≡◌, ◌/◌, ◌%◌, IfOk, IsTrue};
+ghost use Rattle.std.specs.Prelude.{◌≡◌, ◌<◌, ◌/◌, ◌%◌, IfOk, IsTrue};
 ghost use Rattle.wfe_words.specs.Place.Place.{Bucket, Claim, Clock, Head, Helper, Index, Interval, Life, PlaceOf, Request, Row, Tail};
-ghost use Rattle.wfe_words.specs.Place.{
-  claim_mask,
-  first_bucket,
-  first_claim,
-  first_index,
-  first_interval,
-  first_life,
-  first_place,
-  first_request,
-  first_row,
-  has,
-  is_valid,
-  layout_of,
-  number,
-  row_count,
-  row_places,
-  words,
-};
+ghost use Rattle.wfe_words.specs.Place.{claim_mask, first_bucket, first_claim, first_index, first_interval, first_life, first_place, first_request, first_row, has, is_valid, layout_of, number, row_count, row_places, start_at, words};
 
+use crate::packed::{self, Link, life_word, link_word};
 use crate::{BadConfig, Config, Field};
 
 /// The words of a table: which there are, their numbers from 0, and the values with which they
@@ -181,6 +165,31 @@ impl Layout {
         ensures { result ≡ number self.now (PlaceOf seat) }
     {
         self.first_place() + seat
+    }
+
+    /// The value with which a word starts: 1 for the clock, the link of row `slots` for the queue's
+    /// head and tail, in the claim words the bits of that row and of no row, and for its lifetime
+    /// birth 1, not retired. All other words start with 0.
+    pub fn start(&self, word: u32) -> u64
+        requires valid { IsTrue (is_valid self.now) }
+        requires there { word < words self.now }
+        ensures { result ≡ start_at self.now word }
+    {
+        let dummy = self.config.slots;
+        if word == self.clock() {
+            1
+        } else if word == self.head() || word == self.tail() {
+            link_word(Link::Slot(dummy))
+        } else if word == self.claim(dummy) {
+            u64::MAX << self.claim_bit(dummy)
+        } else if word == self.life(dummy) {
+            life_word(packed::Life {
+                birth: 1,
+                retire: 0,
+            })
+        } else {
+            0
+        }
     }
 
     // The number of each group's first word, after all words of the groups before it.

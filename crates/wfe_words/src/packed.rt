@@ -1,21 +1,6 @@
 // The values that one word of 64 bits holds, and how they are packed and read.
 ghost use Rattle.std.specs.Prelude.{◌≡◌, ◌<◌, ◌≤◌, ◌+◌, ◌*◌, ◌/◌, ◌%◌, ◌^◌, IsTrue};
-ghost use Rattle.wfe_words.specs.Packed.{
-  halves,
-  has_room,
-  high_half,
-  life_word,
-  link_word,
-  low_half,
-  read_life,
-  read_link,
-  read_request,
-  read_reservation,
-  read_span,
-  request_word,
-  reservation_word,
-  span_word,
-};
+ghost use Rattle.wfe_words.specs.Packed.{halves, has_room, high_half, life_word, link_word, low_half, read_life, read_link, read_request, read_reservation, read_span, request_word, reservation_word, span_word};
 
 // The kinds of a request word, in its two highest bits. Kind 0 is the idle word alone.
 const PENDING: u64 = 1;
