@@ -1,4 +1,5 @@
 pub mod Bounds
+pub mod Claims
 pub mod Codecs
 pub mod Numbers
 pub mod Parts

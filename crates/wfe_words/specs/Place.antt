@@ -153,6 +153,10 @@ claim_bit slot = slot % 64
 unfoldable pub claim_mask : ℕ → ℕ
 claim_mask slot = 2 ^ (slot % 64)
 
+-- every bit of a word but a slot's
+unfoldable pub claim_others : ℕ → ℕ
+claim_others slot = 2 ^ 64 - 1 - claim_mask slot
+
 -- the first value of a claim word: in the last one the dummy's bit and all above it are set
 unfoldable pub claim_start : Layout → ℕ → ℕ
 claim_start layout word = if word == layout.config.slots / 64 then 2 ^ 64 - claim_mask layout.config.slots else 0
