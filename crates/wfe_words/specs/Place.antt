@@ -42,6 +42,10 @@ same _ _ = false
 unfoldable pub is_valid : Layout → Bool
 is_valid layout = is_none (bad_field layout.config)
 
+-- the setting of a layout
+abbrev pub config_of : Layout → Config
+config_of layout = layout.config
+
 -- the layout of a setting, or the first number outside its range
 abbrev pub layout_of : Config → Result Layout BadConfig
 layout_of config = judged config (bad_field config)

@@ -1,7 +1,7 @@
 // Where each word of a table lies: its number, and the value with which it starts.
-ghost use Rattle.std.specs.Prelude.{◌≡◌, ◌<◌, ◌/◌, ◌%◌, IfOk, IsTrue};
+ghost use Rattle.std.specs.Prelude.{◌≡◌, ◌<◌, IfOk, IsTrue};
 ghost use Rattle.wfe_words.specs.Place.Place.{Bucket, Claim, Clock, Head, Helper, Index, Interval, Life, PlaceOf, Request, Row, Tail};
-ghost use Rattle.wfe_words.specs.Place.{claim_mask, first_bucket, first_claim, first_index, first_interval, first_life, first_place, first_request, first_row, has, is_valid, layout_of, number, row_count, row_places, start_at, words};
+ghost use Rattle.wfe_words.specs.Place.{claim_bit, claim_mask, claim_word, config_of, first_bucket, first_claim, first_index, first_interval, first_life, first_place, first_request, first_row, has, is_valid, layout_of, number, row_count, row_places, start_at, words};
 
 use crate::packed::{self, Link, life_word, link_word};
 use crate::{BadConfig, Config, Field};
@@ -33,7 +33,7 @@ impl Layout {
     }
 
     pub fn config(&self) -> Config
-        ensures { result ≡ self.now.config }
+        ensures { result ≡ config_of self.now }
     {
         self.config
     }
@@ -118,7 +118,7 @@ impl Layout {
     pub fn claim(&self, slot: u32) -> u32
         requires valid { IsTrue (is_valid self.now) }
         requires there { IsTrue (has self.now (Life slot)) }
-        ensures { result ≡ number self.now (Claim (slot / 64)) }
+        ensures { result ≡ number self.now (Claim (claim_word slot)) }
     {
         self.first_claim() + slot / 64
     }
@@ -126,7 +126,7 @@ impl Layout {
     /// Which bit of its claim word is a slot's, 0 to 63.
     pub fn claim_bit(&self, slot: u32) -> u32
         requires there { IsTrue (has self.now (Life slot)) }
-        ensures { result ≡ slot % 64 }
+        ensures { result ≡ claim_bit slot }
     {
         slot % 64
     }
