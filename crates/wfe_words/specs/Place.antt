@@ -42,6 +42,10 @@ same _ _ = false
 unfoldable pub is_valid : Layout → Bool
 is_valid layout = is_none (bad_field layout.config)
 
+-- the setting of a layout
+abbrev pub config_of : Layout → Config
+config_of layout = layout.config
+
 -- the layout of a setting, or the first number outside its range
 abbrev pub layout_of : Config → Result Layout BadConfig
 layout_of config = judged config (bad_field config)
@@ -51,8 +55,8 @@ layout_of config = judged config (bad_field config)
     judged config (Some field) = Err (record { field = field })
 
 -- rows, the queue's first dummy among them
-abbrev pub rows : Layout → ℕ
-rows layout = layout.config.slots + 1
+abbrev pub row_count : Layout → ℕ
+row_count layout = layout.config.slots + 1
 
 -- words of a row: a link, a version or number, a count or value, and the pairs
 abbrev pub row_places : Layout → ℕ
@@ -73,8 +77,8 @@ has layout (Bucket bucket) = nat_lt bucket layout.config.buckets
 has layout Head = true
 has layout Tail = true
 has layout (Claim word) = nat_lt word (claim_words layout)
-has layout (Life slot) = nat_lt slot (rows layout)
-has layout (Row slot place) = nat_lt slot (rows layout) && nat_lt place (row_places layout)
+has layout (Life slot) = nat_lt slot (row_count layout)
+has layout (Row slot place) = nat_lt slot (row_count layout) && nat_lt place (row_places layout)
 has layout (PlaceOf seat) = nat_lt seat layout.config.seats
 
 -- the number of the first index word, after the clock and the helper words
@@ -100,10 +104,10 @@ abbrev pub first_life : Layout → ℕ
 first_life layout = first_claim layout + claim_words layout
 
 abbrev pub first_row : Layout → ℕ
-first_row layout = first_life layout + rows layout
+first_row layout = first_life layout + row_count layout
 
 abbrev pub first_place : Layout → ℕ
-first_place layout = first_row layout + rows layout * row_places layout
+first_place layout = first_row layout + row_count layout * row_places layout
 
 -- how many words the table has
 unfoldable pub words : Layout → ℕ
@@ -153,6 +157,10 @@ claim_bit slot = slot % 64
 unfoldable pub claim_mask : ℕ → ℕ
 claim_mask slot = 2 ^ (slot % 64)
 
+-- every bit of a word but a slot's
+unfoldable pub claim_others : ℕ → ℕ
+claim_others slot = 2 ^ 64 - 1 - claim_mask slot
+
 -- the first value of a claim word: in the last one the dummy's bit and all above it are set
 unfoldable pub claim_start : Layout → ℕ → ℕ
 claim_start layout word = if word == layout.config.slots / 64 then 2 ^ 64 - claim_mask layout.config.slots else 0
@@ -165,3 +173,7 @@ start_of layout Tail = layout.config.slots + 1
 start_of layout (Claim word) = claim_start layout word
 start_of layout (Life slot) = if slot == layout.config.slots then halves 1 0 else 0
 start_of layout _ = 0
+
+-- the first value of a word number
+abbrev pub start_at : Layout → ℕ → ℕ
+start_at layout word = start_of layout (place_at layout word)
