@@ -1,1 +1,4 @@
 pub mod Config
+pub mod Laws
+pub mod Packed
+pub mod Place

@@ -2,5 +2,9 @@
 #![tactic(auto)]
 
 mod config;
+mod layout;
+mod packed;
 
 pub use config::{BadConfig, Config, Field, SchemeKind};
+pub use layout::Layout;
+pub use packed::{Life, Link, Request, Reservation, Span};
