@@ -1,0 +1,6 @@
+//! The program `wfe`: replays a trace of calls on a map, and prints the record.
+#![tactic(auto)]
+
+mod plain;
+
+fn main() {}
