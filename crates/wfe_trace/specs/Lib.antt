@@ -1,0 +1,6 @@
+pub mod Body
+pub mod Built
+pub mod Reading
+pub mod Record
+pub mod Setting
+pub mod Words

@@ -1,0 +1,1 @@
+// Prints the lines of a record.
