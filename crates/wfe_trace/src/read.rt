@@ -1,5 +1,6 @@
 // A trace as it is read, line by line.
-ghost use Rattle.std.specs.Prelude.{◌≡◌, ◌+◌, MatchResult, OnOk, OnErr, IfErr, Ok, Err, min};
+ghost use Rattle.std.specs.Prelude.{◌≡◌, ◌+◌, MatchResult, IfOk, OnOk, OnErr, IfErr, Ok, Err, min};
+ghost use Rattle.wfe_trace.specs.Item.{IsInRange};
 ghost use Rattle.wfe_trace.specs.Reading.{Reading, reading_start, judged, judged_at, reading_after, config_after, line_after, stage_after as later_stage, after_field as later_field};
 
 use std::marker::Model;
@@ -87,11 +88,19 @@ impl TraceState {
         }
     }
 
+    /// How many lines were read.
+    pub fn lines(&self) -> u64
+        ensures { result ≡ self.now.line }
+    {
+        self.line
+    }
+
     // Judges a line that is short enough, and takes what it says of the setting.
     fn judge(&mut self, bytes: &[u8]) -> Result<Item, Reason>
         ensures item { result ≡ judged_at self.old.stage self.old bytes.now }
         ensures taken { OnOk result (self.new ≡ record self.old { config = config_after self.old.stage self.old.config bytes.now }) }
         ensures kept { OnErr result (self.new ≡ self.old) }
+        ensures in_range { IfOk result IsInRange }
     {
         match self.stage {
             Stage::First => need(bytes == b"wfe 1".as_slice(), Reason::First)?,
@@ -125,6 +134,7 @@ pub fn read_line(state: &mut TraceState, bytes: &[u8]) -> Result<Item, BadLine>
     ensures line { IfErr result (λ bad. bad.line ≡ line_after state.old) }
     ensures after { OnOk result (state.new ≡ reading_after state.old bytes.now) }
     ensures kept { OnErr result (state.new ≡ state.old) }
+    ensures in_range { IfOk result IsInRange }
 {
     let line = state.line.saturating_add(1);
     match need(bytes.len() <= 200, Reason::LongLine) {
