@@ -1,5 +1,5 @@
 -- How the number of a word is found digit by digit.
-use Rattle.std.proofs.Common.{◌≡◌, ◌≤◌, ◌<◌, ◌+◌, ◌-◌, ◌*◌, ◌&&◌, ℕ, List, [], ◌∷◌, Bool, true, false, refl, arith, if◌then◌else◌, Option, Some, None, fold, nat_lt}
+use Rattle.std.proofs.Common.{◌≡◌, ◌≤◌, ◌+◌, ◌-◌, ◌*◌, ◌&&◌, ℕ, List, [], ◌∷◌, Bool, true, false, refl, arith, if◌then◌else◌, Option, Some, None, fold, nat_lt}
 use Rattle.std.specs.List.{list_all}
 use Rattle.std.proofs.lemmas.Bool.Decides.{nat_tests}
 use Rattle.wfe_trace.specs.Words.{is_digit}

@@ -1,6 +1,5 @@
 -- A setting stays in its ranges.
-use Rattle.std.proofs.Common.{◌≡◌, ℕ, Bool, true, false, refl, arith, Option, Some, None}
-use Rattle.std.proofs.lemmas.Bool.Decides.{nat_tests}
+use Rattle.std.proofs.Common.{◌≡◌, ℕ, true, arith, None}
 use Rattle.wfe_words.specs.declared.config.Config.{Config}
 use Rattle.wfe_words.specs.declared.config.Field.{Field}
 use Rattle.wfe_words.specs.declared.config.Field.TheVariants as fields

@@ -1,7 +1,6 @@
 -- The body lines of a trace.
-use Rattle.std.specs.Prelude.{◌+◌, ◌-◌, ◌*◌, ◌<◌, ◌==◌, ◌&&◌, if◌then◌else◌, not, nat_lt, nat_le, Bool, true, false, ℕ, List, [], ◌∷◌, Option, Some, None, Result, Ok, Err, codes}
+use Rattle.std.specs.Prelude.{◌==◌, ◌&&◌, if◌then◌else◌, nat_lt, nat_le, Bool, true, false, ℕ, List, [], ◌∷◌, Option, Some, None, Result, Ok, Err, codes}
 use Rattle.std.specs.Str.{bytes_eq}
-use Rattle.wfe_defs.specs.declared.call.Call.{Call}
 use Rattle.wfe_defs.specs.declared.call.Call.TheVariants as calls
 use Rattle.wfe_defs.specs.declared.command.Command.{Command}
 use Rattle.wfe_defs.specs.declared.command.Command.TheVariants as commands
@@ -15,7 +14,7 @@ use Rattle.wfe_trace.specs.declared.body.Places.{Places}
 use Rattle.wfe_trace.specs.declared.body.Places.TheVariants as places
 use Rattle.wfe_trace.specs.declared.body.Numbers.{Numbers}
 use Rattle.wfe_trace.specs.Built.{is_built_verb}
-use Rattle.wfe_trace.specs.Words.{words, number_in, need, or_number, ◌>>=◌}
+use Rattle.wfe_trace.specs.Words.{number_in, need, or_number, ◌>>=◌}
 
 -- the verb that a word names
 abbrev pub verb_in : List ℕ → Option Verb

@@ -1,12 +1,12 @@
 -- A trace as it is read, line by line.
-use Rattle.std.specs.Prelude.{◌≡◌, ◌+◌, min, if◌then◌else◌, nat_le, Bool, true, false, ℕ, List, [], ◌∷◌, Option, None, Result, Ok, Err, codes, length}
+use Rattle.std.specs.Prelude.{◌+◌, min, nat_le, ℕ, List, Result, Ok, codes, length}
 use Rattle.std.specs.Result.{result_unwrap_or}
 use Rattle.std.specs.Str.{bytes_eq}
 use Rattle.wfe_words.specs.declared.config.Config.{Config}
 use Rattle.wfe_words.specs.declared.config.SchemeKind.TheVariants as schemes
 use Rattle.wfe_words.specs.declared.config.Field.{Field}
 use Rattle.wfe_words.specs.declared.config.Field.TheVariants as fields
-use Rattle.wfe_words.specs.Config.{bad_field, number_of}
+use Rattle.wfe_words.specs.Config.{number_of}
 use Rattle.wfe_trace.specs.declared.item.Mode.{Mode}
 use Rattle.wfe_trace.specs.declared.item.Item.{Item}
 use Rattle.wfe_trace.specs.declared.item.Item.TheVariants as items

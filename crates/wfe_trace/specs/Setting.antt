@@ -1,5 +1,5 @@
 -- The lines of a trace before its body.
-use Rattle.std.specs.Prelude.{◌==◌, ◌&&◌, if◌then◌else◌, Bool, true, false, ℕ, List, [], ◌∷◌, Option, Some, None, Result, Ok, Err, codes}
+use Rattle.std.specs.Prelude.{if◌then◌else◌, ℕ, List, [], ◌∷◌, Result, Ok, Err, codes}
 use Rattle.std.specs.Str.{bytes_eq}
 use Rattle.wfe_words.specs.declared.config.SchemeKind.{SchemeKind}
 use Rattle.wfe_words.specs.declared.config.SchemeKind.TheVariants as schemes

@@ -161,14 +161,19 @@ fn command_of(verb: Verb, seat: u32, numbers: Numbers) -> Result<Command, Reason
             value: numbers.second,
         },
         Verb::Remove => Call::Remove { key: numbers.first },
-        Verb::Enqueue => Call::Enqueue { value: numbers.first },
+        Verb::Enqueue => Call::Enqueue {
+            value: numbers.first,
+        },
         Verb::Dequeue => Call::Dequeue,
         Verb::Hold => Call::Hold { key: numbers.first },
         Verb::Release => Call::Release,
         Verb::Advance => Call::Advance,
         Verb::Scan => Call::Scan,
         Verb::Step => {
-            need(1 <= numbers.first && numbers.first <= 100_000, Reason::Range)?;
+            need(
+                1 <= numbers.first && numbers.first <= 100_000,
+                Reason::Range,
+            )?;
             let units = numbers.first as u32;
             return Ok(Command::Step { seat, units });
         }

@@ -12,6 +12,6 @@ mod words;
 
 pub use item::{Item, Mode};
 pub use line::Line;
-//pub use print::{print_bad, print_event, print_header, print_table};
+pub use print::{print_bad, print_event, print_header, print_table};
 pub use read::{TraceState, read_line};
 pub use reason::{BadLine, Reason, Status};

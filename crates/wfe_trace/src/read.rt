@@ -3,13 +3,12 @@ ghost use Rattle.std.specs.Prelude.{◌≡◌, ◌+◌, MatchResult, IfOk, OnOk,
 ghost use Rattle.wfe_trace.specs.Item.{IsInRange};
 ghost use Rattle.wfe_trace.specs.Reading.{Reading, reading_start, judged, judged_at, reading_after, config_after, line_after, stage_after as later_stage, after_field as later_field};
 
-use std::marker::Model;
-
 use crate::body::read_body;
 use crate::item::Stage;
 use crate::setting::{read_number, read_scheme, with_number};
 use crate::words::need;
 use crate::{BadLine, Item, Mode, Reason};
+use std::marker::Model;
 use wfe_words::{Config, Field, SchemeKind};
 
 /// A trace of which some lines were read.

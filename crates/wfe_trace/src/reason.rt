@@ -45,10 +45,7 @@ pub enum Status {
     Done,
     /// The words are no command.
     Usage,
-    BadTrace {
-        line: u64,
-        reason: Reason,
-    },
+    BadTrace { line: u64, reason: Reason },
     ReadFault,
     WriteFault,
     NoMemory,
