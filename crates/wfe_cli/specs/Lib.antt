@@ -1,4 +1,9 @@
 pub mod Places
 pub mod Plain
+pub mod PlainEngine
+pub mod Replayed
+pub mod Some
+pub mod Sunk
 pub mod Told
+pub mod Trace
 pub mod Turn

@@ -1,6 +1,8 @@
 //! The program `wfe`: replays a trace of calls on a map, and prints the record.
 #![tactic(auto)]
 
+mod output;
 mod plain;
+mod progress;
 
 fn main() {}

@@ -1,0 +1,138 @@
+// A trace as its bytes come, and the map that takes its lines.
+ghost use Rattle.std.specs.Prelude.{◌≡◌, ◌≤◌, length, OnOk, OnErr, IfErr, Some};
+ghost use Rattle.std.specs.Io.KnownBytes.{Appends};
+ghost use Rattle.arrayvec.specs.ArrayVec.{array_vec_len};
+ghost use Rattle.wfe_outside.specs.Faults.{Rose};
+ghost use Rattle.wfe_trace.specs.Record.{header_line};
+ghost use Rattle.wfe_trace.specs.declared.item.Mode.TheVariants.{Replay};
+ghost use Rattle.wfe_words.specs.Config.{bad_field};
+ghost use Rattle.wfe_cli.specs.Plain.{plain_turn, after_turn};
+ghost use Rattle.wfe_cli.specs.PlainEngine.{plain, plain_after, plain_told};
+ghost use Rattle.wfe_cli.specs.Replayed.{entries_of};
+ghost use Rattle.wfe_cli.specs.Some.{AppendsSome};
+ghost use Rattle.wfe_cli.specs.Sunk.{Took};
+ghost use Rattle.wfe_cli.specs.Told.{events_of};
+ghost use Rattle.wfe_cli.specs.Trace.{Progress, progress_start, bad_line, entries_text, after_command, command_output, line_read, after_line, line_output, byte_refused, after_byte, byte_output};
+
+use crate::output::{Fault, Stop, tell, write_all};
+use crate::plain::{PlainMap, Turn};
+use arrayvec::ArrayVec;
+use std::alloc::Global;
+use std::marker::Model;
+use wfe_defs::{Command, Event};
+use wfe_outside::{Failed, Sink};
+use wfe_trace::{BadLine, Item, Line, Mode, Reason, TraceState, print_header, read_line};
+use wfe_words::Config;
+
+// Writes the lines of a turn.
+fn tell_turn<K: Sink>(sink: &mut K, seat: u32, turn: Turn) -> Result<(), Failed>
+    ensures wrote { OnOk result (Appends (K.written sink.old) (K.written sink.new) (entries_text (entries_of seat (events_of (Some turn))))) }
+    ensures some { OnErr result (AppendsSome (K.written sink.old) (K.written sink.new) (entries_text (entries_of seat (events_of (Some turn))))) }
+    ensures later { K.faults sink.old ≤ K.faults sink.new }
+    ensures cause { OnErr result (Rose (K.faults sink.old) (K.faults sink.new)) }
+{
+    tell(sink, seat, &turn.told)?;
+    tell(sink, seat, &turn.end)?;
+    Ok(())
+}
+
+// Runs a seat until its call ends, where one is under way.
+fn run<K: Sink>(map: &mut PlainMap, seat: u32, sink: &mut K) -> Result<(), Fault>
+    ensures after { OnOk result (map.new ≡ after_turn map.old.rows map.old.pending) }
+    ensures wrote { OnOk result (Appends (K.written sink.old) (K.written sink.new) (entries_text (entries_of seat (plain_turn map.old.rows map.old.pending)))) }
+    ensures some { OnErr result (AppendsSome (K.written sink.old) (K.written sink.new) (entries_text (entries_of seat (plain_turn map.old.rows map.old.pending)))) }
+    ensures later { K.faults sink.old ≤ K.faults sink.new }
+    ensures cause { IfErr result (λ fault. fault ≡ Fault.Write → Rose (K.faults sink.old) (K.faults sink.new)) }
+{
+    match map.unit()? {
+        None => Ok(()),
+        Some(turn) => {
+            tell_turn(sink, seat, turn)?;
+            Ok(())
+        }
+    }
+}
+
+// Takes a line of the body.
+fn perform<K: Sink>(map: &mut PlainMap, command: Command, sink: &mut K) -> Result<(), Fault>
+    ensures after { OnOk result (map.new ≡ plain_after command map.old) }
+    ensures wrote { OnOk result (Appends (K.written sink.old) (K.written sink.new) (entries_text (plain_told command map.old))) }
+    ensures some { OnErr result (AppendsSome (K.written sink.old) (K.written sink.new) (entries_text (plain_told command map.old))) }
+    ensures later { K.faults sink.old ≤ K.faults sink.new }
+    ensures cause { IfErr result (λ fault. fault ≡ Fault.Write → Rose (K.faults sink.old) (K.faults sink.new)) }
+{
+    match command {
+        Command::Call { seat, call } => {
+            map.start(call);
+            tell(sink, seat, &Event::Begin { call })?;
+            Ok(())
+        }
+        Command::Run { seat } => run(map, seat, sink),
+        Command::End => run(map, 0, sink),
+        Command::Step { .. } | Command::Table => Ok(()),
+    }
+}
+
+/// A trace of which some bytes came.
+#[derive(Drop)]
+pub struct Work {
+    state: TraceState,
+    line: ArrayVec<u8, 200>,
+    count: u32,
+    ended: bool,
+    map: Option<PlainMap>,
+}
+
+impl Model for Work {
+    ghost use Rattle.std.specs.Prelude.{◌≤◌};
+    ghost use Rattle.wfe_cli.specs.Plain.{Plain};
+    ghost use Rattle.wfe_cli.specs.Trace.{Progress};
+
+    ghost Value = { Progress Plain };
+
+    ghost view = { λ w. record { reading = w.state; line = w.line.items; count = w.count; ended = w.ended; engine = w.map } };
+
+    ghost invariant = { λ w. w.count ≤ 16777216 };
+}
+
+impl Work {
+    /// No byte came.
+    pub fn new() -> Work
+        ensures { result ≡ progress_start Mode.Replay }
+    {
+        Work {
+            state: TraceState::new(Mode::Replay),
+            line: ArrayVec::new(),
+            count: 0,
+            ended: false,
+            map: None,
+        }
+    }
+
+    // The line under way is bad.
+    fn bad(&self, reason: Reason) -> BadLine
+        ensures { result ≡ bad_line self.now reason }
+    {
+        BadLine {
+            line: self.state.lines().saturating_add(1),
+            reason,
+        }
+    }
+
+    // Why the next byte is bad, whatever it ends.
+    fn refused(&self, byte: u8) -> Option<Reason>
+        ensures { result ≡ byte_refused self.now byte }
+    {
+        if self.count >= 16_777_216 {
+            Some(Reason::LongTrace)
+        } else if self.ended {
+            Some(Reason::AfterEnd)
+        } else if byte == b'\n' {
+            None
+        } else if self.line.len() >= 200 {
+            Some(Reason::LongLine)
+        } else {
+            None
+        }
+    }
+}
