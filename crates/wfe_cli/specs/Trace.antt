@@ -55,39 +55,43 @@ is_refused E (commands.Run seat) s = false
 is_refused E commands.Table s = false
 is_refused E commands.End s = false
 
--- a body line is taken by the engine
-abbrev pub after_command : {S : Type 0} → Engine S → Progress S → Command → Option S → Result (Progress S) BadLine
-after_command E p c None = Ok (record (line_read p) { ended = is_end c })
-after_command E p c (Some s) =
-    if is_refused E c s then Err (bad_line p reasons.Busy)
-    else Ok (record (line_read p) { ended = is_end c; engine = Some (E.after c s) })
-
--- what a line says is taken
-abbrev pub after_item : {S : Type 0} → Engine S → Progress S → Result Item Reason → Result (Progress S) BadLine
-after_item E p (Err reason) = Err (bad_line p reason)
-after_item E p (Ok items.Setting) = Ok (line_read p)
-after_item E p (Ok (items.Ready version config)) = Ok (record (line_read p) { engine = Some (E.opened version config) })
-after_item E p (Ok (items.Command c)) = after_command E p c p.engine
-
--- the line under way is whole
-abbrev pub after_line : {S : Type 0} → Engine S → Progress S → Result (Progress S) BadLine
-after_line E p = after_item E p (judged p.reading p.line)
+-- the line would give a call to a seat whose call has not ended
+abbrev pub is_refused_in : {S : Type 0} → Engine S → Command → Option S → Bool
+is_refused_in E c None = false
+is_refused_in E c (Some s) = is_refused E c s
 
 -- the lines of a record
 abbrev pub entries_text : List Entry → List ℕ
 entries_text [] = []
 entries_text (x ∷ xs) = event_line x.seat x.event ++ entries_text xs
 
--- what a body line prints
-abbrev pub command_output : {S : Type 0} → Engine S → Command → Option S → List ℕ
-command_output E c None = []
-command_output E c (Some s) = if is_refused E c s then [] else entries_text (E.told c s)
+-- the engine takes a body line
+abbrev pub command_taken : {S : Type 0} → Engine S → Progress S → Command → Option S → Progress S
+command_taken E p c None = record p { ended = is_end c }
+command_taken E p c (Some s) = record p { ended = is_end c; engine = Some (E.after c s) }
+
+-- what a body line makes the engine print
+abbrev pub told_in : {S : Type 0} → Engine S → Command → Option S → List ℕ
+told_in E c None = []
+told_in E c (Some s) = entries_text (E.told c s)
+
+-- what a line says is taken
+abbrev pub after_item : {S : Type 0} → Engine S → Progress S → Result Item Reason → Result (Progress S) BadLine
+after_item E p (Err reason) = Err (bad_line p reason)
+after_item E p (Ok items.Setting) = Ok (line_read p)
+after_item E p (Ok (items.Ready version config)) = Ok (record (line_read p) { engine = Some (E.opened version config) })
+after_item E p (Ok (items.Command c)) =
+    if is_refused_in E c p.engine then Err (bad_line p reasons.Busy) else Ok (command_taken E (line_read p) c p.engine)
+
+-- the line under way is whole
+abbrev pub after_line : {S : Type 0} → Engine S → Progress S → Result (Progress S) BadLine
+after_line E p = after_item E p (judged p.reading p.line)
 
 abbrev pub item_output : {S : Type 0} → Engine S → Progress S → Result Item Reason → List ℕ
 item_output E p (Err reason) = []
 item_output E p (Ok items.Setting) = []
 item_output E p (Ok (items.Ready version config)) = header_line version config
-item_output E p (Ok (items.Command c)) = command_output E c p.engine
+item_output E p (Ok (items.Command c)) = if is_refused_in E c p.engine then [] else told_in E c p.engine
 
 -- what the line under way prints, once it is whole
 abbrev pub line_output : {S : Type 0} → Engine S → Progress S → List ℕ

@@ -12,7 +12,7 @@ ghost use Rattle.wfe_cli.specs.Replayed.{entries_of};
 ghost use Rattle.wfe_cli.specs.Some.{AppendsSome};
 ghost use Rattle.wfe_cli.specs.Sunk.{Took};
 ghost use Rattle.wfe_cli.specs.Told.{events_of};
-ghost use Rattle.wfe_cli.specs.Trace.{Progress, progress_start, bad_line, entries_text, after_command, command_output, line_read, after_line, line_output, byte_refused, after_byte, byte_output};
+ghost use Rattle.wfe_cli.specs.Trace.{Progress, progress_start, bad_line, entries_text, is_refused_in, command_taken, told_in, line_read, after_line, line_output, byte_refused, after_byte, byte_output};
 
 use crate::output::{Fault, Stop, tell, write_all};
 use crate::plain::{PlainMap, Turn};
@@ -134,5 +134,46 @@ impl Work {
         } else {
             None
         }
+    }
+
+    // The setting is whole: makes the map, and prints the header.
+    fn open<K: Sink>(&mut self, alloc: Global, version: u32, config: Config, sink: &mut K) -> Result<(), Fault>
+        requires { bad_field config ≡ None }
+        ensures after { OnOk result (self.new ≡ record self.old { engine = Some (plain.opened version config) }) }
+        ensures wrote { OnOk result (Appends (K.written sink.old) (K.written sink.new) (header_line version config)) }
+        ensures some { OnErr result (AppendsSome (K.written sink.old) (K.written sink.new) (header_line version config)) }
+        ensures later { K.faults sink.old ≤ K.faults sink.new }
+        ensures cause { IfErr result (λ fault. fault ≡ Fault.Write → Rose (K.faults sink.old) (K.faults sink.new)) }
+    {
+        self.map = Some(PlainMap::new(alloc, config.buckets)?);
+        let mut line = Line::new();
+        print_header(version, &config, &mut line);
+        write_all(sink, line.bytes())?;
+        Ok(())
+    }
+
+    // Whether the line gives a call to a seat whose call has not ended.
+    fn is_refused(&self, command: &Command) -> bool
+        ensures { result ≡ is_refused_in plain command.now self.now.engine }
+    {
+        match (command, &self.map) {
+            (Command::Call { .. }, Some(map)) => map.busy(),
+            _ => false,
+        }
+    }
+
+    // Takes a line of the body, which was read.
+    fn take_command<K: Sink>(&mut self, command: Command, sink: &mut K) -> Result<(), Fault>
+        ensures after { OnOk result (self.new ≡ command_taken plain self.old command self.old.engine) }
+        ensures wrote { OnOk result (Appends (K.written sink.old) (K.written sink.new) (told_in plain command self.old.engine)) }
+        ensures some { OnErr result (AppendsSome (K.written sink.old) (K.written sink.new) (told_in plain command self.old.engine)) }
+        ensures later { K.faults sink.old ≤ K.faults sink.new }
+        ensures cause { IfErr result (λ fault. fault ≡ Fault.Write → Rose (K.faults sink.old) (K.faults sink.new)) }
+    {
+        self.ended = matches!(command, Command::End);
+        if let Some(map) = &mut self.map {
+            perform(map, command, sink)?;
+        }
+        Ok(())
     }
 }
