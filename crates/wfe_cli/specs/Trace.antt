@@ -75,27 +75,47 @@ abbrev pub told_in : {S : Type 0} → Engine S → Command → Option S → List
 told_in E c None = []
 told_in E c (Some s) = entries_text (E.told c s)
 
--- what a line says is taken
-abbrev pub after_item : {S : Type 0} → Engine S → Progress S → Result Item Reason → Result (Progress S) BadLine
-after_item E p (Err reason) = Err (bad_line p reason)
-after_item E p (Ok items.Setting) = Ok (line_read p)
-after_item E p (Ok (items.Ready version config)) = Ok (record (line_read p) { engine = Some (E.opened version config) })
-after_item E p (Ok (items.Command c)) =
-    if is_refused_in E c p.engine then Err (bad_line p reasons.Busy) else Ok (command_taken E (line_read p) c p.engine)
+-- the engine takes what a line says
+abbrev pub item_taken : {S : Type 0} → Engine S → Progress S → Item → Progress S
+item_taken E p items.Setting = p
+item_taken E p (items.Ready version config) = record p { engine = Some (E.opened version config) }
+item_taken E p (items.Command c) = command_taken E p c p.engine
+
+-- what a line prints
+abbrev pub told_by : {S : Type 0} → Engine S → Progress S → Item → List ℕ
+told_by E p items.Setting = []
+told_by E p (items.Ready version config) = header_line version config
+told_by E p (items.Command c) = told_in E c p.engine
+
+-- the line would give a call to a busy seat
+abbrev pub refuses : {S : Type 0} → Engine S → Progress S → Item → Bool
+refuses E p items.Setting = false
+refuses E p (items.Ready version config) = false
+refuses E p (items.Command c) = is_refused_in E c p.engine
+
+-- what the line under way says, or that it is bad
+abbrev pub judged_item : {S : Type 0} → Engine S → Progress S → Result Item Reason → Result Item BadLine
+judged_item E p (Err reason) = Err (bad_line p reason)
+judged_item E p (Ok item) = if refuses E p item then Err (bad_line p reasons.Busy) else Ok item
+
+abbrev pub line_item : {S : Type 0} → Engine S → Progress S → Result Item BadLine
+line_item E p = judged_item E p (judged p.reading p.line)
 
 -- the line under way is whole
+abbrev pub line_taken : {S : Type 0} → Engine S → Progress S → Result Item BadLine → Result (Progress S) BadLine
+line_taken E p (Err bad) = Err bad
+line_taken E p (Ok item) = Ok (item_taken E (line_read p) item)
+
 abbrev pub after_line : {S : Type 0} → Engine S → Progress S → Result (Progress S) BadLine
-after_line E p = after_item E p (judged p.reading p.line)
+after_line E p = line_taken E p (line_item E p)
 
-abbrev pub item_output : {S : Type 0} → Engine S → Progress S → Result Item Reason → List ℕ
-item_output E p (Err reason) = []
-item_output E p (Ok items.Setting) = []
-item_output E p (Ok (items.Ready version config)) = header_line version config
-item_output E p (Ok (items.Command c)) = if is_refused_in E c p.engine then [] else told_in E c p.engine
+-- what it prints
+abbrev pub line_told : {S : Type 0} → Engine S → Progress S → Result Item BadLine → List ℕ
+line_told E p (Err bad) = []
+line_told E p (Ok item) = told_by E p item
 
--- what the line under way prints, once it is whole
 abbrev pub line_output : {S : Type 0} → Engine S → Progress S → List ℕ
-line_output E p = item_output E p (judged p.reading p.line)
+line_output E p = line_told E p (line_item E p)
 
 -- why the next byte is bad, whatever it ends: the trace is too long, it follows the line `end`, or its line is too long
 abbrev pub byte_refused : {S : Type 0} → Progress S → ℕ → Option Reason
@@ -119,7 +139,7 @@ after_byte E p b = after_good_byte E p b (byte_refused p b)
 
 abbrev pub good_byte_output : {S : Type 0} → Engine S → Progress S → ℕ → Option Reason → List ℕ
 good_byte_output E p b (Some reason) = []
-good_byte_output E p b None = if b == 10 then line_output E p else []
+good_byte_output E p b None = if b == 10 then line_output E (counted p) else []
 
 abbrev pub byte_output : {S : Type 0} → Engine S → Progress S → ℕ → List ℕ
 byte_output E p b = good_byte_output E p b (byte_refused p b)

@@ -1,8 +1,9 @@
 // A trace as its bytes come, and the map that takes its lines.
-ghost use Rattle.std.specs.Prelude.{◌≡◌, ◌≤◌, length, OnOk, OnErr, IfErr, Some};
+ghost use Rattle.std.specs.Prelude.{◌≡◌, ◌≤◌, ◌<◌, length, OnOk, OnErr, IfOk, IfErr, Some};
 ghost use Rattle.std.specs.Io.KnownBytes.{Appends};
 ghost use Rattle.arrayvec.specs.ArrayVec.{array_vec_len};
 ghost use Rattle.wfe_outside.specs.Faults.{Rose};
+ghost use Rattle.wfe_trace.specs.Item.{IsInRange};
 ghost use Rattle.wfe_trace.specs.Record.{header_line};
 ghost use Rattle.wfe_trace.specs.declared.item.Mode.TheVariants.{Replay};
 ghost use Rattle.wfe_words.specs.Config.{bad_field};
@@ -12,7 +13,7 @@ ghost use Rattle.wfe_cli.specs.Replayed.{entries_of};
 ghost use Rattle.wfe_cli.specs.Some.{AppendsSome};
 ghost use Rattle.wfe_cli.specs.Sunk.{Took};
 ghost use Rattle.wfe_cli.specs.Told.{events_of};
-ghost use Rattle.wfe_cli.specs.Trace.{Progress, progress_start, bad_line, entries_text, is_refused_in, command_taken, told_in, line_read, after_line, line_output, byte_refused, after_byte, byte_output};
+ghost use Rattle.wfe_cli.specs.Trace.{Progress, progress_start, bad_line, entries_text, is_refused_in, command_taken, told_in, item_taken, told_by, refuses as does_refuse, line_item, line_read, after_line, line_output, byte_refused, counted, after_byte, byte_output};
 
 use crate::output::{Fault, Stop, tell, write_all};
 use crate::plain::{PlainMap, Turn};
@@ -174,6 +175,90 @@ impl Work {
         if let Some(map) = &mut self.map {
             perform(map, command, sink)?;
         }
+        Ok(())
+    }
+
+    // Takes what a line says, which was read.
+    fn take_item<K: Sink>(&mut self, alloc: Global, item: Item, sink: &mut K) -> Result<(), Fault>
+        requires { IsInRange item }
+        ensures after { OnOk result (self.new ≡ item_taken plain self.old item) }
+        ensures wrote { OnOk result (Appends (K.written sink.old) (K.written sink.new) (told_by plain self.old item)) }
+        ensures some { OnErr result (AppendsSome (K.written sink.old) (K.written sink.new) (told_by plain self.old item)) }
+        ensures later { K.faults sink.old ≤ K.faults sink.new }
+        ensures cause { IfErr result (λ fault. fault ≡ Fault.Write → Rose (K.faults sink.old) (K.faults sink.new)) }
+    {
+        match item {
+            Item::Setting => Ok(()),
+            Item::Ready { version, config } => self.open(alloc, version, config, sink),
+            Item::Command { command } => self.take_command(command, sink),
+        }
+    }
+
+    // Whether the line would give a call to a busy seat.
+    fn refuses(&self, item: &Item) -> bool
+        ensures { result ≡ does_refuse plain self.now item.now }
+    {
+        match item {
+            Item::Command { command } => self.is_refused(command),
+            _ => false,
+        }
+    }
+
+    // Reads the line under way, which is whole.
+    fn read(&mut self) -> Result<Item, BadLine>
+        ensures item { result ≡ line_item plain self.old }
+        ensures after { OnOk result (self.new ≡ line_read self.old) }
+        ensures in_range { IfOk result IsInRange }
+    {
+        let busy = self.bad(Reason::Busy);
+        let item = read_line(&mut self.state, self.line.as_slice())?;
+        if self.refuses(&item) {
+            return Err(busy);
+        }
+        self.line.clear();
+        Ok(item)
+    }
+
+    // Takes the line under way, which is whole.
+    fn take_line<K: Sink>(&mut self, alloc: Global, sink: &mut K) -> Result<(), Stop>
+        ensures took { Took result (after_line plain self.old) self.new (K.written sink.old) (K.written sink.new) (line_output plain self.old) }
+        ensures later { K.faults sink.old ≤ K.faults sink.new }
+        ensures cause { IfErr result (λ stop. stop ≡ Stop.Fault Fault.Write → Rose (K.faults sink.old) (K.faults sink.new)) }
+    {
+        let item = match self.read() {
+            Ok(item) => item,
+            Err(bad) => return Err(Stop::Bad { bad }),
+        };
+        match self.take_item(alloc, item, sink) {
+            Ok(()) => Ok(()),
+            Err(fault) => Err(Stop::Fault { fault }),
+        }
+    }
+
+    // One more byte came.
+    fn count_byte(&mut self)
+        requires { self.old.count < 16777216 }
+        ensures { self.new ≡ counted self.old }
+    {
+        self.count += 1;
+    }
+
+    /// Takes one byte of the trace.
+    pub fn take_byte<K: Sink>(&mut self, alloc: Global, byte: u8, sink: &mut K) -> Result<(), Stop>
+        ensures took { Took result (after_byte plain self.old byte) self.new (K.written sink.old) (K.written sink.new) (byte_output plain self.old byte) }
+        ensures later { K.faults sink.old ≤ K.faults sink.new }
+        ensures cause { IfErr result (λ stop. stop ≡ Stop.Fault Fault.Write → Rose (K.faults sink.old) (K.faults sink.new)) }
+    {
+        if let Some(reason) = self.refused(byte) {
+            return Err(Stop::Bad {
+                bad: self.bad(reason),
+            });
+        }
+        self.count_byte();
+        if byte == b'\n' {
+            return self.take_line(alloc, sink);
+        }
+        self.line.push(byte);
         Ok(())
     }
 }
