@@ -1,5 +1,5 @@
 -- A trace as its bytes come, judged byte by byte, over any engine that takes its lines.
-use Rattle.std.specs.Prelude.{ℕ, ◌+◌, ◌==◌, ◌++◌, nat_le, if◌then◌else◌, Bool, true, false, List, [], ◌∷◌, length, Option, Some, None, Result, Ok, Err}
+use Rattle.std.specs.Prelude.{ℕ, ◌+◌, ◌==◌, ◌++◌, nat_le, if◌then◌else◌, Bool, true, false, List, [], ◌∷◌, length, Option, Some, None, Result, Ok, Err, codes}
 use Rattle.wfe_words.specs.declared.config.Config.{Config}
 use Rattle.wfe_defs.specs.declared.command.Command.{Command}
 use Rattle.wfe_defs.specs.declared.command.Command.TheVariants as commands
@@ -11,7 +11,7 @@ use Rattle.wfe_trace.specs.declared.reason.BadLine.{BadLine}
 use Rattle.wfe_trace.specs.declared.reason.Reason.{Reason}
 use Rattle.wfe_trace.specs.declared.reason.Reason.TheVariants as reasons
 use Rattle.wfe_trace.specs.Reading.{Reading, reading_start, reading_after, judged, line_after}
-use Rattle.wfe_trace.specs.Record.{header_line, event_line}
+use Rattle.wfe_trace.specs.Record.{header_line, event_line, bad_line as bad_text}
 
 -- What takes the lines of a trace's body: how it begins, whether a seat is busy, what it is after a line, and what the line makes it tell.
 pub record Engine (S : Type 0) : Type 0 where
@@ -164,26 +164,35 @@ bytes_output E r [] = []
 bytes_output E r (b ∷ bs) = output_of (λ p. byte_output E p b) r ++ bytes_output E (r >>= (λ p. after_byte E p b)) bs
 
 -- bytes after the last line feed are a line too
-abbrev pub is_blank : List ℕ → Bool
-is_blank [] = true
-is_blank (b ∷ bs) = false
-
 abbrev pub after_last : {S : Type 0} → Engine S → Progress S → Result (Progress S) BadLine
-after_last E p = if is_blank p.line then Ok p else after_line E p
+after_last E p = if length p.line == 0 then Ok p else after_line E p
 
 abbrev pub last_output : {S : Type 0} → Engine S → Progress S → List ℕ
-last_output E p = if is_blank p.line then [] else line_output E p
+last_output E p = if length p.line == 0 then [] else line_output E p
 
 -- the input ends: after the line `end` and nowhere else
 abbrev pub at_end : {S : Type 0} → Progress S → Result (Progress S) BadLine
 at_end p = if p.ended then Ok p else Err (bad_line p reasons.NoEnd)
 
+-- no byte comes any more
+abbrev pub finished : {S : Type 0} → Engine S → Progress S → Result (Progress S) BadLine
+finished E p = after_last E p >>= at_end
+
 -- a whole trace
 abbrev pub after_trace : {S : Type 0} → Engine S → Mode → List ℕ → Result (Progress S) BadLine
-after_trace E mode bytes = (after_bytes E (Ok (progress_start mode)) bytes >>= (λ p. after_last E p)) >>= (λ p. at_end p)
+after_trace E mode bytes = after_bytes E (Ok (progress_start mode)) bytes >>= finished E
 
--- what a whole trace prints, up to the first bad line or the line `done`
-abbrev pub trace_output : {S : Type 0} → Engine S → Mode → List ℕ → List ℕ
-trace_output E mode bytes =
+-- what its lines print, up to the first bad one
+abbrev pub lines_output : {S : Type 0} → Engine S → Mode → List ℕ → List ℕ
+lines_output E mode bytes =
     bytes_output E (Ok (progress_start mode)) bytes
-    ++ output_of (λ p. last_output E p) (after_bytes E (Ok (progress_start mode)) bytes)
+    ++ output_of (last_output E) (after_bytes E (Ok (progress_start mode)) bytes)
+
+-- the last line of a record: the work is done, or the first bad line
+abbrev pub closing_line : {S : Type 0} → Result (Progress S) BadLine → List ℕ
+closing_line (Ok p) = codes "done\n"
+closing_line (Err bad) = bad_text bad.line bad.reason
+
+-- what a whole trace prints
+abbrev pub trace_output : {S : Type 0} → Engine S → Mode → List ℕ → List ℕ
+trace_output E mode bytes = lines_output E mode bytes ++ closing_line (after_trace E mode bytes)

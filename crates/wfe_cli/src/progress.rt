@@ -1,5 +1,5 @@
 // A trace as its bytes come, and the map that takes its lines.
-ghost use Rattle.std.specs.Prelude.{◌≡◌, ◌≤◌, ◌<◌, length, OnOk, OnErr, IfOk, IfErr, Some};
+ghost use Rattle.std.specs.Prelude.{◌≡◌, ◌≤◌, ◌<◌, length, OnOk, OnErr, IfOk, IfErr, MatchResult, Some, Ok, Err};
 ghost use Rattle.std.specs.Io.KnownBytes.{Appends};
 ghost use Rattle.arrayvec.specs.ArrayVec.{array_vec_len};
 ghost use Rattle.wfe_outside.specs.Faults.{Rose};
@@ -13,7 +13,7 @@ ghost use Rattle.wfe_cli.specs.Replayed.{entries_of};
 ghost use Rattle.wfe_cli.specs.Some.{AppendsSome};
 ghost use Rattle.wfe_cli.specs.Sunk.{Took};
 ghost use Rattle.wfe_cli.specs.Told.{events_of};
-ghost use Rattle.wfe_cli.specs.Trace.{Progress, progress_start, bad_line, entries_text, is_refused_in, command_taken, told_in, item_taken, told_by, refuses as does_refuse, line_item, line_read, after_line, line_output, byte_refused, counted, after_byte, byte_output};
+ghost use Rattle.wfe_cli.specs.Trace.{Progress, progress_start, bad_line, entries_text, is_refused_in, command_taken, told_in, item_taken, told_by, refuses as does_refuse, line_item, line_read, after_line, line_output, byte_refused, counted, after_byte, byte_output, after_bytes, bytes_output, after_last, last_output, at_end, finished};
 
 use crate::output::{Fault, Stop, tell, write_all};
 use crate::plain::{PlainMap, Turn};
@@ -260,5 +260,59 @@ impl Work {
         }
         self.line.push(byte);
         Ok(())
+    }
+
+    /// Takes the next bytes of the trace, up to the first that is bad.
+    pub fn take_bytes<K: Sink>(&mut self, alloc: Global, bytes: &[u8], sink: &mut K) -> Result<(), Stop>
+        ensures took { Took result (after_bytes plain (Ok self.old) bytes.now) self.new (K.written sink.old) (K.written sink.new) (bytes_output plain (Ok self.old) bytes.now) }
+        ensures later { K.faults sink.old ≤ K.faults sink.new }
+        ensures cause { IfErr result (λ stop. stop ≡ Stop.Fault Fault.Write → Rose (K.faults sink.old) (K.faults sink.new)) }
+    {
+        for byte in bytes {
+            match self.take_byte(alloc, *byte, sink) {
+                Ok(()) => {}
+                Err(stop) => return Err(stop),
+            }
+        }
+        Ok(())
+    }
+
+    // Takes the bytes after the last line feed, which are a line too.
+    fn take_last<K: Sink>(&mut self, alloc: Global, sink: &mut K) -> Result<(), Stop>
+        ensures took { Took result (after_last plain self.old) self.new (K.written sink.old) (K.written sink.new) (last_output plain self.old) }
+        ensures later { K.faults sink.old ≤ K.faults sink.new }
+        ensures cause { IfErr result (λ stop. stop ≡ Stop.Fault Fault.Write → Rose (K.faults sink.old) (K.faults sink.new)) }
+    {
+        if self.line.is_empty() {
+            return Ok(());
+        }
+        self.take_line(alloc, sink)
+    }
+
+    // Whether the line `end` came.
+    fn check_end(&self) -> Result<(), BadLine>
+        ensures { MatchResult result (λ _. at_end self.now ≡ Ok self.now) (λ bad. at_end self.now ≡ Err bad) }
+    {
+        if self.ended {
+            Ok(())
+        } else {
+            Err(self.bad(Reason::NoEnd))
+        }
+    }
+
+    /// Takes the end of the input.
+    pub fn finish<K: Sink>(&mut self, alloc: Global, sink: &mut K) -> Result<(), Stop>
+        ensures took { Took result (finished plain self.old) self.new (K.written sink.old) (K.written sink.new) (last_output plain self.old) }
+        ensures later { K.faults sink.old ≤ K.faults sink.new }
+        ensures cause { IfErr result (λ stop. stop ≡ Stop.Fault Fault.Write → Rose (K.faults sink.old) (K.faults sink.new)) }
+    {
+        match self.take_last(alloc, sink) {
+            Ok(()) => {}
+            Err(stop) => return Err(stop),
+        }
+        match self.check_end() {
+            Ok(()) => Ok(()),
+            Err(bad) => Err(Stop::Bad { bad }),
+        }
     }
 }
