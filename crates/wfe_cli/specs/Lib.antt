@@ -1,7 +1,9 @@
 pub mod Places
 pub mod Plain
 pub mod PlainEngine
+pub mod Replay
 pub mod Replayed
+pub mod Run
 pub mod Some
 pub mod Sunk
 pub mod Told

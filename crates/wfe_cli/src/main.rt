@@ -4,5 +4,6 @@
 mod output;
 mod plain;
 mod progress;
+mod replay;
 
 fn main() {}
