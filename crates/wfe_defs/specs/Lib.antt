@@ -1,2 +1,3 @@
+pub mod Entry
 pub mod Meets
 pub mod Pairs

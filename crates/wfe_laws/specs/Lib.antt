@@ -1,1 +1,5 @@
+pub mod AnswerLaw
+pub mod MapLaw
 pub mod Record
+pub mod Schedule
+pub mod StateAt

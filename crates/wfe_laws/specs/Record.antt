@@ -1,5 +1,6 @@
 -- What a record is, and how one speaks of its positions.
 use Rattle.std.specs.Prelude.{ℕ, ◌≡◌, ◌==◌, ◌&&◌, ◌||◌, ◌+◌, Bool, true, false, not, if◌then◌else◌, List, [], ◌∷◌}
+use Rattle.wfe_defs.specs.Entry.{Entry}
 use Rattle.wfe_defs.specs.declared.event.Event.{Event}
 use Rattle.wfe_defs.specs.declared.event.Event.TheVariants as events
 
@@ -7,11 +8,6 @@ use Rattle.wfe_defs.specs.declared.event.Event.TheVariants as events
 pub data Past : Type 0 where
   Start : Past
   Then : Past → (seat : ℕ) → Event → Past
-
--- an entry, where entries stand in the order of time
-pub record Entry : Type 0 where
-  pub seat : ℕ
-  pub event : Event
 
 -- the record with these entries at its end
 abbrev pub tells : Past → List Entry → Past

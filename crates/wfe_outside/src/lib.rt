@@ -1,0 +1,13 @@
+//! Where bytes come from, where they go, and who is told of events. Sources and sinks count their
+//! faults, so that an answer which names a fault has its cause.
+#![tactic(auto)]
+
+mod memory;
+mod real;
+mod stream;
+mod watcher;
+
+pub use memory::{CleanSource, MemSink, MemSource};
+pub use real::{StdSink, StdSource};
+pub use stream::{Failed, Sink, Source};
+pub use watcher::{WatchRow, Watcher};

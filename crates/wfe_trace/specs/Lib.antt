@@ -1,0 +1,7 @@
+pub mod Body
+pub mod Built
+pub mod Item
+pub mod Reading
+pub mod Record
+pub mod Setting
+pub mod Words

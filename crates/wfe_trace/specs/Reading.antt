@@ -1,0 +1,93 @@
+-- A trace as it is read, line by line.
+use Rattle.std.specs.Prelude.{◌+◌, min, nat_le, ℕ, List, Result, Ok, codes, length}
+use Rattle.std.specs.Result.{result_unwrap_or}
+use Rattle.std.specs.Str.{bytes_eq}
+use Rattle.wfe_words.specs.declared.config.Config.{Config}
+use Rattle.wfe_words.specs.declared.config.SchemeKind.TheVariants as schemes
+use Rattle.wfe_words.specs.declared.config.Field.{Field}
+use Rattle.wfe_words.specs.declared.config.Field.TheVariants as fields
+use Rattle.wfe_words.specs.Config.{number_of}
+use Rattle.wfe_trace.specs.declared.item.Mode.{Mode}
+use Rattle.wfe_trace.specs.declared.item.Item.{Item}
+use Rattle.wfe_trace.specs.declared.item.Item.TheVariants as items
+use Rattle.wfe_trace.specs.declared.item.Stage.{Stage}
+use Rattle.wfe_trace.specs.declared.item.Stage.TheVariants as stages
+use Rattle.wfe_trace.specs.declared.reason.Reason.{Reason}
+use Rattle.wfe_trace.specs.declared.reason.Reason.TheVariants as reasons
+use Rattle.wfe_trace.specs.Body.{command_in}
+use Rattle.wfe_trace.specs.Setting.{scheme_line, number_line, with_number}
+use Rattle.wfe_trace.specs.Words.{words, need, ◌>>=◌}
+
+-- a trace of which some lines were read: the mode, the version, how many lines were read, the line that comes next, and the setting as far as it was read
+pub record Reading : Type 0 where
+  pub mode : Mode
+  pub version : ℕ
+  pub line : ℕ
+  pub stage : Stage
+  pub config : Config
+
+-- the numbers of a setting before they are read: the least of each range
+abbrev pub unread_config : Config
+unread_config = record { scheme = schemes.He; seats = 1; indexes = 3; slots = 2; buckets = 1; tries = 1; every = 1; last_era = 1; last_version = 1; pairs = 6 }
+
+-- no line was read
+abbrev pub reading_start : Mode → Reading
+reading_start mode = record { mode = mode; version = 1; line = 0; stage = stages.First; config = unread_config }
+
+-- the item of a line at its place in the trace, or the reason why it is bad
+abbrev pub judged_at : Stage → Reading → List ℕ → Result Item Reason
+judged_at stages.First r bytes = do
+  named ← need (bytes_eq bytes (codes "wfe 1")) reasons.First
+  Ok items.Setting
+judged_at stages.Scheme r bytes = do
+  scheme ← scheme_line (words bytes)
+  Ok items.Setting
+judged_at (stages.Number field) r bytes = do
+  number ← number_line field (words bytes)
+  Ok items.Setting
+judged_at stages.Begin r bytes = do
+  named ← need (bytes_eq bytes (codes "begin")) reasons.Config
+  Ok (items.Ready r.version r.config)
+judged_at stages.Body r bytes = do
+  command ← command_in r.mode r.config.seats (words bytes)
+  Ok (items.Command command)
+
+-- the item of the next line, or the reason why it is bad
+abbrev pub judged : Reading → List ℕ → Result Item Reason
+judged r bytes = do
+  short ← need (nat_le (length bytes) 200) reasons.LongLine
+  judged_at r.stage r bytes
+
+-- the line after a field's
+abbrev pub after_field : Field → Stage
+after_field fields.Seats = stages.Number fields.Indexes
+after_field fields.Indexes = stages.Number fields.Slots
+after_field fields.Slots = stages.Number fields.Buckets
+after_field fields.Buckets = stages.Number fields.Tries
+after_field fields.Tries = stages.Number fields.Every
+after_field fields.Every = stages.Number fields.LastEra
+after_field fields.LastEra = stages.Number fields.LastVersion
+after_field fields.LastVersion = stages.Begin
+after_field fields.Pairs = stages.Begin
+
+-- the line after a line
+abbrev pub stage_after : Stage → Stage
+stage_after stages.First = stages.Scheme
+stage_after stages.Scheme = stages.Number fields.Seats
+stage_after (stages.Number field) = after_field field
+stage_after stages.Begin = stages.Body
+stage_after stages.Body = stages.Body
+
+-- the setting with what a line gives it
+abbrev pub config_after : Stage → Config → List ℕ → Config
+config_after stages.Scheme config bytes = record config { scheme = result_unwrap_or (scheme_line (words bytes)) config.scheme }
+config_after (stages.Number field) config bytes = with_number config field (result_unwrap_or (number_line field (words bytes)) (number_of config field))
+config_after _ config bytes = config
+
+-- the number of the next line; the count stands still at the greatest number of 64 bits
+abbrev pub line_after : Reading → ℕ
+line_after r = min (r.line + 1) 18446744073709551615
+
+-- the trace after a line that is not bad
+abbrev pub reading_after : Reading → List ℕ → Reading
+reading_after r bytes = record r { line = line_after r; stage = stage_after r.stage; config = config_after r.stage r.config bytes }

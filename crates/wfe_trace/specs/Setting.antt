@@ -1,0 +1,66 @@
+-- The lines of a trace before its body.
+use Rattle.std.specs.Prelude.{if◌then◌else◌, ℕ, List, [], ◌∷◌, Result, Ok, Err, codes}
+use Rattle.std.specs.Str.{bytes_eq}
+use Rattle.wfe_words.specs.declared.config.SchemeKind.{SchemeKind}
+use Rattle.wfe_words.specs.declared.config.SchemeKind.TheVariants as schemes
+use Rattle.wfe_words.specs.declared.config.Config.{Config}
+use Rattle.wfe_words.specs.declared.config.Field.{Field}
+use Rattle.wfe_words.specs.declared.config.Field.TheVariants as fields
+use Rattle.wfe_words.specs.Config.{allows}
+use Rattle.wfe_trace.specs.declared.reason.Reason.{Reason}
+use Rattle.wfe_trace.specs.declared.reason.Reason.TheVariants as reasons
+use Rattle.wfe_trace.specs.Built.{is_built_scheme, is_built_number}
+use Rattle.wfe_trace.specs.Words.{number_in, need, or_number, ◌>>=◌}
+
+-- the word after the one that a line of the setting begins with
+abbrev pub word_after : List ℕ → List (List ℕ) → Result (List ℕ) Reason
+word_after name (first ∷ word ∷ []) = if bytes_eq first name then Ok word else Err reasons.Config
+word_after name _ = Err reasons.Config
+
+-- the scheme that a word names
+abbrev pub scheme_in : List ℕ → Result SchemeKind Reason
+scheme_in w =
+    if bytes_eq w (codes "he") then Ok schemes.He else
+    if bytes_eq w (codes "ibr") then Ok schemes.Ibr else
+    if bytes_eq w (codes "wfe") then Ok schemes.Wfe else Err reasons.Config
+
+-- the scheme that the second line names
+abbrev pub scheme_line : List (List ℕ) → Result SchemeKind Reason
+scheme_line ws = do
+  word ← word_after (codes "scheme") ws
+  scheme ← scheme_in word
+  built ← need (is_built_scheme scheme) reasons.NotYet
+  Ok scheme
+
+-- a field's name
+abbrev pub field_name : Field → List ℕ
+field_name fields.Seats = codes "seats"
+field_name fields.Indexes = codes "indexes"
+field_name fields.Slots = codes "slots"
+field_name fields.Buckets = codes "buckets"
+field_name fields.Tries = codes "tries"
+field_name fields.Every = codes "every"
+field_name fields.LastEra = codes "last_era"
+field_name fields.LastVersion = codes "last_version"
+field_name fields.Pairs = codes "pairs"
+
+-- the number that a field's line gives it
+abbrev pub number_line : Field → List (List ℕ) → Result ℕ Reason
+number_line field ws = do
+  word ← word_after (field_name field) ws
+  number ← or_number (number_in word)
+  within ← need (allows field number) reasons.Range
+  built ← need (is_built_number field number) reasons.NotYet
+  Ok number
+
+-- the setting with another number in a field
+abbrev pub with_number : Config → Field → ℕ → Config
+with_number config fields.Seats n = record config { seats = n }
+with_number config fields.Indexes n = record config { indexes = n }
+with_number config fields.Slots n = record config { slots = n }
+with_number config fields.Buckets n = record config { buckets = n }
+with_number config fields.Tries n = record config { tries = n }
+with_number config fields.Every n = record config { every = n }
+with_number config fields.LastEra n = record config { last_era = n }
+with_number config fields.LastVersion n = record config { last_version = n }
+with_number config fields.Pairs n = record config { pairs = n }

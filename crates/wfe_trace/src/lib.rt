@@ -1,0 +1,17 @@
+//! Reads the lines of a trace, and prints the lines of a record. No call here takes memory.
+#![tactic(auto)]
+
+mod body;
+mod item;
+mod line;
+mod print;
+mod read;
+mod reason;
+mod setting;
+mod words;
+
+pub use item::{Item, Mode};
+pub use line::Line;
+pub use print::{print_bad, print_event, print_header, print_table};
+pub use read::{TraceState, read_line};
+pub use reason::{BadLine, Reason, Status};

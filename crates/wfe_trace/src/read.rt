@@ -1,0 +1,151 @@
+// A trace as it is read, line by line.
+ghost use Rattle.std.specs.Prelude.{◌≡◌, ◌+◌, MatchResult, IfOk, OnOk, OnErr, IfErr, Ok, Err, min};
+ghost use Rattle.wfe_trace.specs.Item.{IsInRange};
+ghost use Rattle.wfe_trace.specs.Reading.{Reading, reading_start, judged, judged_at, reading_after, config_after, line_after, stage_after as later_stage, after_field as later_field};
+
+use crate::body::read_body;
+use crate::item::Stage;
+use crate::setting::{read_number, read_scheme, with_number};
+use crate::words::need;
+use crate::{BadLine, Item, Mode, Reason};
+use std::marker::Model;
+use wfe_words::{Config, Field, SchemeKind};
+
+/// A trace of which some lines were read.
+#[derive(Drop)]
+pub struct TraceState {
+    mode: Mode,
+    version: u32,
+    line: u64,
+    stage: Stage,
+    config: Config,
+}
+
+impl Model for TraceState {
+    ghost use Rattle.std.specs.Prelude.{◌≡◌, None};
+    ghost use Rattle.wfe_words.specs.Config.{bad_field};
+    ghost use Rattle.wfe_trace.specs.Reading.{Reading};
+
+    ghost Value = { Reading };
+
+    ghost view = { λ s. record { mode = s.mode; version = s.version; line = s.line; stage = s.stage; config = s.config } };
+
+    ghost invariant = { λ s. bad_field s.config ≡ None };
+}
+
+fn after_field(field: Field) -> Stage
+    ensures { result ≡ later_field field }
+{
+    let field = match field {
+        Field::Seats => Field::Indexes,
+        Field::Indexes => Field::Slots,
+        Field::Slots => Field::Buckets,
+        Field::Buckets => Field::Tries,
+        Field::Tries => Field::Every,
+        Field::Every => Field::LastEra,
+        Field::LastEra => Field::LastVersion,
+        Field::LastVersion | Field::Pairs => return Stage::Begin,
+    };
+    Stage::Number { field }
+}
+
+fn stage_after(stage: Stage) -> Stage
+    ensures { result ≡ later_stage stage }
+{
+    match stage {
+        Stage::First => Stage::Scheme,
+        Stage::Scheme => Stage::Number {
+            field: Field::Seats,
+        },
+        Stage::Number { field } => after_field(field),
+        Stage::Begin | Stage::Body => Stage::Body,
+    }
+}
+
+impl TraceState {
+    /// A trace of which no line was read.
+    pub fn new(mode: Mode) -> TraceState
+        ensures { result ≡ reading_start mode }
+    {
+        TraceState {
+            mode,
+            version: 1,
+            line: 0,
+            stage: Stage::First,
+            config: Config {
+                scheme: SchemeKind::He,
+                seats: 1,
+                indexes: 3,
+                slots: 2,
+                buckets: 1,
+                tries: 1,
+                every: 1,
+                last_era: 1,
+                last_version: 1,
+                pairs: 6,
+            },
+        }
+    }
+
+    /// How many lines were read.
+    pub fn lines(&self) -> u64
+        ensures { result ≡ self.now.line }
+    {
+        self.line
+    }
+
+    // Judges a line that is short enough, and takes what it says of the setting.
+    fn judge(&mut self, bytes: &[u8]) -> Result<Item, Reason>
+        ensures item { result ≡ judged_at self.old.stage self.old bytes.now }
+        ensures taken { OnOk result (self.new ≡ record self.old { config = config_after self.old.stage self.old.config bytes.now }) }
+        ensures kept { OnErr result (self.new ≡ self.old) }
+        ensures in_range { IfOk result IsInRange }
+    {
+        match self.stage {
+            Stage::First => need(bytes == b"wfe 1".as_slice(), Reason::First)?,
+            Stage::Scheme => self.config.scheme = read_scheme(bytes)?,
+            Stage::Number { field } => {
+                let number = read_number(field, bytes)?;
+                self.config = with_number(self.config, field, number);
+            }
+            Stage::Begin => {
+                need(bytes == b"begin".as_slice(), Reason::Config)?;
+                return Ok(Item::Ready {
+                    version: self.version,
+                    config: self.config,
+                });
+            }
+            Stage::Body => {
+                let command = read_body(self.mode, self.config.seats, bytes)?;
+                return Ok(Item::Command { command });
+            }
+        }
+        Ok(Item::Setting)
+    }
+}
+
+/// Reads one line, without its line feed. A trace is read from its first line on, up to the first
+/// bad line or the line `end`.
+pub fn read_line(state: &mut TraceState, bytes: &[u8]) -> Result<Item, BadLine>
+    ensures item { MatchResult result
+        (λ item. judged state.old bytes.now ≡ Ok item)
+        (λ bad. judged state.old bytes.now ≡ Err bad.reason) }
+    ensures line { IfErr result (λ bad. bad.line ≡ line_after state.old) }
+    ensures after { OnOk result (state.new ≡ reading_after state.old bytes.now) }
+    ensures kept { OnErr result (state.new ≡ state.old) }
+    ensures in_range { IfOk result IsInRange }
+{
+    let line = state.line.saturating_add(1);
+    match need(bytes.len() <= 200, Reason::LongLine) {
+        Ok(()) => {}
+        Err(reason) => return Err(BadLine { line, reason }),
+    }
+    match state.judge(bytes) {
+        Ok(item) => {
+            state.line = line;
+            state.stage = stage_after(state.stage);
+            Ok(item)
+        }
+        Err(reason) => Err(BadLine { line, reason }),
+    }
+}

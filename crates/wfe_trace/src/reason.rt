@@ -1,0 +1,52 @@
+// Why a trace is refused, and how a run over a trace ends.
+
+/// What is bad in a line, or at the end of a trace.
+#[derive(Clone, Copy, Debug, PartialEq, Eq)]
+pub enum Reason {
+    /// The first line names no version that is read here.
+    First,
+    /// A line of the setting has another form, or another word in its place.
+    Config,
+    /// A body line has none of the forms.
+    Form,
+    /// The word in a number's place is no number of 64 bits in its shortest form.
+    Number,
+    /// The line has no meaning in a run with workers.
+    RunLine,
+    /// The trace has no such seat.
+    Seat,
+    /// A number is outside its range.
+    Range,
+    /// The seat's call has not ended.
+    Busy,
+    /// A line has more than 200 bytes.
+    LongLine,
+    /// The trace has more than 16,777,216 bytes.
+    LongTrace,
+    /// The trace ends before a line `end`.
+    NoEnd,
+    /// Bytes follow the line `end`.
+    AfterEnd,
+    /// The text has a meaning that is not built.
+    NotYet,
+}
+
+/// The first bad line of a trace. Lines are counted from 1.
+#[derive(Clone, Copy, Debug, PartialEq, Eq)]
+pub struct BadLine {
+    pub line: u64,
+    pub reason: Reason,
+}
+
+/// How a command ended.
+#[derive(Clone, Copy, Debug, PartialEq, Eq)]
+pub enum Status {
+    /// The work is done, and what it reads was read to its end.
+    Done,
+    /// The words are no command.
+    Usage,
+    BadTrace { line: u64, reason: Reason },
+    ReadFault,
+    WriteFault,
+    NoMemory,
+}

@@ -1,0 +1,106 @@
+// The lines of a trace that give its setting.
+ghost use Rattle.std.specs.Prelude.{◌≡◌, ◌∷◌, MatchResult, IfOk, Ok, Err, IsTrue};
+ghost use Rattle.wfe_words.specs.Config.{allows as in_range};
+ghost use Rattle.wfe_trace.specs.Built.{is_built_scheme as built_scheme, is_built_number as built_number};
+ghost use Rattle.wfe_trace.specs.Setting.{word_after as after, scheme_in, scheme_line, field_name as name_of_field, number_line, with_number as changed};
+ghost use Rattle.wfe_trace.specs.Words.{words};
+
+use crate::Reason;
+use crate::words::{Words, need, number_of, or_number, words_of};
+use wfe_words::{Config, Field, SchemeKind};
+
+// The word after the one that the line begins with.
+fn word_after<'a>(name: &[u8], bytes: &'a [u8]) -> Result<&'a [u8], Reason>
+    ensures { MatchResult result (λ w. after name.now (words bytes.now) ≡ Ok w.now) (λ e. after name.now (words bytes.now) ≡ Err e) }
+{
+    match words_of(bytes) {
+        Words::Two(first, word) if first == name => Ok(word),
+        _ => Err(Reason::Config),
+    }
+}
+
+fn scheme_of(word: &[u8]) -> Result<SchemeKind, Reason>
+    ensures { result ≡ scheme_in word.now }
+{
+    if word == b"he".as_slice() {
+        Ok(SchemeKind::He)
+    } else if word == b"ibr".as_slice() {
+        Ok(SchemeKind::Ibr)
+    } else if word == b"wfe".as_slice() {
+        Ok(SchemeKind::Wfe)
+    } else {
+        Err(Reason::Config)
+    }
+}
+
+// What is built of the schemes so far.
+fn is_built_scheme(scheme: SchemeKind) -> bool
+    ensures { result ≡ built_scheme scheme }
+{
+    matches!(scheme, SchemeKind::He)
+}
+
+// What is built of the numbers so far.
+fn is_built_number(field: Field, number: u64) -> bool
+    ensures { result ≡ built_number field number }
+{
+    match field {
+        Field::Seats => number == 1,
+        _ => true,
+    }
+}
+
+/// The scheme that the second line names.
+pub fn read_scheme(bytes: &[u8]) -> Result<SchemeKind, Reason>
+    ensures { result ≡ scheme_line (words bytes.now) }
+{
+    let scheme = scheme_of(word_after(b"scheme", bytes)?)?;
+    need(is_built_scheme(scheme), Reason::NotYet)?;
+    Ok(scheme)
+}
+
+fn field_name(field: Field) -> &'static [u8]
+    ensures { result.now ≡ name_of_field field }
+{
+    match field {
+        Field::Seats => b"seats",
+        Field::Indexes => b"indexes",
+        Field::Slots => b"slots",
+        Field::Buckets => b"buckets",
+        Field::Tries => b"tries",
+        Field::Every => b"every",
+        Field::LastEra => b"last_era",
+        Field::LastVersion => b"last_version",
+        Field::Pairs => b"pairs",
+    }
+}
+
+/// The number that a field's line gives it.
+pub fn read_number(field: Field, bytes: &[u8]) -> Result<u64, Reason>
+    ensures line { result ≡ number_line field (words bytes.now) }
+    ensures within { IfOk result (λ number. IsTrue (in_range field number)) }
+{
+    let number = or_number(number_of(word_after(field_name(field), bytes)?))?;
+    need(field.allows(number), Reason::Range)?;
+    need(is_built_number(field, number), Reason::NotYet)?;
+    Ok(number)
+}
+
+/// The setting with another number in a field.
+pub fn with_number(mut config: Config, field: Field, number: u64) -> Config
+    requires { IsTrue (in_range field number) }
+    ensures { result ≡ changed config field number }
+{
+    match field {
+        Field::Seats => config.seats = number as u32,
+        Field::Indexes => config.indexes = number as u32,
+        Field::Slots => config.slots = number as u32,
+        Field::Buckets => config.buckets = number as u32,
+        Field::Tries => config.tries = number as u32,
+        Field::Every => config.every = number as u32,
+        Field::LastEra => config.last_era = number as u32,
+        Field::LastVersion => config.last_version = number,
+        Field::Pairs => config.pairs = number as u32,
+    }
+    config
+}
