@@ -2,7 +2,7 @@
 -- that a step of this walk has shown taken is passed over.
 use Rattle.std.specs.Prelude.{ℕ, zero, suc, ◌==◌, ◌+◌, ◌-◌, ◌^◌, Bool, true, false, if◌then◌else◌, bit_or, [], ◌∷◌, Option, Some, None}
 use Rattle.std.specs.Int.{bit_at}
-use Rattle.wfe_words.specs.Place.{claim_word, claim_bit, claim_mask}
+use Rattle.wfe_words.specs.Place.{claim_word, claim_bit}
 use Rattle.wfe_defs.specs.declared.event.Event.TheVariants as events
 use Rattle.wfe_core.specs.declared.ends.AllocateEnd.TheVariants as allocate_ends
 use Rattle.wfe_core.specs.declared.post.Post.{Post}
@@ -14,10 +14,6 @@ use Rattle.wfe_core.specs.Phases.Ending.{Done, Allocated}
 -- the claim word shows the slot taken
 abbrev pub is_claimed : ℕ → ℕ → Bool
 is_claimed word slot = bit_at word (claim_bit slot) == 1
-
--- the bits of a claim word but the slot's
-abbrev pub other_bits : ℕ → ℕ
-other_bits slot = 2 ^ 64 - 1 - claim_mask slot
 
 -- the slot after it, round the table
 abbrev pub next_slot : ℕ → ℕ → ℕ

@@ -1,6 +1,6 @@
 -- The machines that calls are made of: what each phase asks for, and what it does with the answer.
 use Rattle.std.specs.Prelude.{ℕ, ◌==◌, ◌+◌}
-use Rattle.wfe_words.specs.Place.{claim_word, claim_mask}
+use Rattle.wfe_words.specs.Place.{claim_word, claim_mask, claim_others}
 use Rattle.wfe_words.specs.Place.{Place as places}
 use Rattle.wfe_words.specs.Packed.{answered_word, life_word, reservation_word}
 use Rattle.wfe_defs.specs.declared.event.Root.{Root}
@@ -22,7 +22,7 @@ use Rattle.wfe_core.specs.SlowPath.{asking, own_request, after_publish_request, 
 use Rattle.wfe_core.specs.Spans.{eras_word, after_load_lower, after_publish_span, after_load_within, after_check_upper, after_raise_upper, after_finish, after_release}
 use Rattle.wfe_core.specs.Follow.{after_reload}
 use Rattle.wfe_core.specs.Clear.{after_clear}
-use Rattle.wfe_core.specs.Allocate.{other_bits, after_load_birth, after_claim_slot, after_store_life, after_give_up}
+use Rattle.wfe_core.specs.Allocate.{after_load_birth, after_claim_slot, after_store_life, after_give_up}
 use Rattle.wfe_core.specs.WriteRow.{row_word, after_write}
 use Rattle.wfe_core.specs.Retire.{after_load_life, after_load_retire, after_store_retired}
 use Rattle.wfe_core.specs.MoveClock.{after_load_era, after_load_request, after_show_era, after_load_asked, after_check_era, after_answer_asked, after_load_reserved, after_hand_over, after_hide_era, after_hide_late, after_exchange_clock}
@@ -58,7 +58,7 @@ allocate_move (StoreLife birth slot) = Store (places.Life slot) (life_word (reco
 
 -- the operation that makes a row free
 abbrev pub free_move : ℕ → memory.Move
-free_move slot = And (places.Claim (claim_word slot)) (other_bits slot)
+free_move slot = And (places.Claim (claim_word slot)) (claim_others slot)
 
 abbrev pub retire_move : RetireAt → memory.Move
 retire_move (LoadLife slot) = Load (places.Life slot)

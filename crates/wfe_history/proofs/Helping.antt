@@ -3,7 +3,7 @@ use Rattle.std.proofs.Common.{◌≡◌, refl, [], ◌∷◌, ◌++◌}
 use Rattle.std.specs.Prelude.{None}
 use Rattle.wfe_words.specs.declared.config.SchemeKind.TheVariants.{Wfe}
 use Rattle.wfe_words.specs.Packed.{halves, pending_word, answered_word, read_request, read_reservation, read_span, read_life}
-use Rattle.wfe_words.specs.Place.{claim_mask, claim_start, number, place_at}
+use Rattle.wfe_words.specs.Place.{claim_mask, claim_others, claim_start, number, place_at}
 use Rattle.wfe_defs.specs.declared.call.Answer.TheVariants as answers
 use Rattle.wfe_defs.specs.declared.call.Call.TheVariants as calls
 use Rattle.wfe_defs.specs.declared.call.ClockMove.TheVariants as moves
@@ -46,7 +46,7 @@ pub helper_stops_before_hand_over :
     )
     (entries (record_of (setting Wfe 4 8 1 100 100 100) (call 2 (calls.Put 7 70) ++ to_end 2 ++ call 0 (calls.Hold 7) ++ times 3 0 ++ call 1 calls.Advance ++ to_end 1 ++ call 3 calls.Advance ++ times 5 3 ++ times 3 0 ++ to_end 3 ++ call 2 (calls.Put 7 71) ++ to_end 2 ++ call 1 calls.Advance ++ times 6 1 ++ call 2 (calls.Put 7 72) ++ to_end 2 ++ call 2 calls.Scan ++ times 12 2 ++ to_end 1 ++ to_end 2 ++ to_end 0 ++ call 0 calls.Release ++ to_end 0 ++ call 2 calls.Scan ++ to_end 2)) [])
     ≡ []
-unfolding halves pending_word answered_word read_request read_reservation read_span read_life claim_mask claim_start number place_at
+unfolding halves pending_word answered_word read_request read_reservation read_span read_life claim_mask claim_others claim_start number place_at
 helper_stops_before_hand_over = refl
 
 -- two movers stand at their exchange of the clock as the request is published
@@ -67,7 +67,7 @@ pub movers_at_their_exchange :
     )
     (entries (record_of (setting Wfe 3 8 1 100 100 100) (call 0 (calls.Put 7 70) ++ to_end 0 ++ call 0 (calls.Hold 7) ++ times 3 0 ++ call 1 calls.Advance ++ to_end 1 ++ call 1 calls.Advance ++ times 4 1 ++ call 2 calls.Advance ++ times 4 2 ++ times 5 0 ++ to_end 1 ++ to_end 2 ++ to_end 0)) [])
     ≡ []
-unfolding halves pending_word answered_word read_request read_reservation read_span read_life claim_mask claim_start number place_at
+unfolding halves pending_word answered_word read_request read_reservation read_span read_life claim_mask claim_others claim_start number place_at
 movers_at_their_exchange = refl
 
 -- a helper that loaded one request meets the next one at its exchange
@@ -89,5 +89,5 @@ pub late_helper_meets_second_request :
     )
     (entries (record_of (setting Wfe 3 8 1 100 100 100) (call 2 (calls.Put 7 70) ++ to_end 2 ++ call 0 (calls.Hold 7) ++ times 3 0 ++ call 2 calls.Advance ++ to_end 2 ++ times 3 0 ++ call 1 calls.Advance ++ times 5 1 ++ to_end 0 ++ call 0 calls.Release ++ to_end 0 ++ call 0 (calls.Hold 7) ++ times 3 0 ++ call 2 calls.Advance ++ to_end 2 ++ times 3 0 ++ to_end 1 ++ to_end 0)) [])
     ≡ []
-unfolding halves pending_word answered_word read_request read_reservation read_span read_life claim_mask claim_start number place_at
+unfolding halves pending_word answered_word read_request read_reservation read_span read_life claim_mask claim_others claim_start number place_at
 late_helper_meets_second_request = refl

@@ -3,7 +3,7 @@ use Rattle.std.proofs.Common.{◌≡◌, refl, [], ◌∷◌, ◌++◌}
 use Rattle.std.specs.Prelude.{None}
 use Rattle.wfe_words.specs.declared.config.SchemeKind.TheVariants.{He}
 use Rattle.wfe_words.specs.Packed.{halves, pending_word, answered_word, read_request, read_reservation, read_span, read_life}
-use Rattle.wfe_words.specs.Place.{claim_mask, claim_start, number, place_at}
+use Rattle.wfe_words.specs.Place.{claim_mask, claim_others, claim_start, number, place_at}
 use Rattle.wfe_defs.specs.declared.call.Answer.TheVariants as answers
 use Rattle.wfe_defs.specs.declared.call.Call.TheVariants as calls
 use Rattle.wfe_defs.specs.declared.call.ClockMove.TheVariants as moves
@@ -29,7 +29,7 @@ pub dequeue_of_nothing :
     ∷ events.Clear 0 8
     ∷ events.Reserve (guards.Index 0 0) None
     ∷ events.End 11 answers.Empty ∷ [])
-unfolding halves pending_word answered_word read_request read_reservation read_span read_life claim_mask claim_start number place_at
+unfolding halves pending_word answered_word read_request read_reservation read_span read_life claim_mask claim_others claim_start number place_at
 dequeue_of_nothing = refl
 
 -- another dequeue takes the row that this one follows
@@ -56,5 +56,5 @@ pub head_moves_under_a_dequeue :
     )
     (entries (record_of (setting He 2 8 2 1 100 100) (call 0 (calls.Enqueue 5) ++ to_end 0 ++ call 0 (calls.Enqueue 6) ++ to_end 0 ++ call 1 calls.Dequeue ++ times 8 1 ++ call 0 calls.Dequeue ++ to_end 0 ++ to_end 1)) [])
     ≡ []
-unfolding halves pending_word answered_word read_request read_reservation read_span read_life claim_mask claim_start number place_at
+unfolding halves pending_word answered_word read_request read_reservation read_span read_life claim_mask claim_others claim_start number place_at
 head_moves_under_a_dequeue = refl

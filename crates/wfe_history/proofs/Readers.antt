@@ -3,7 +3,7 @@ use Rattle.std.proofs.Common.{◌≡◌, refl, [], ◌∷◌, ◌++◌}
 use Rattle.std.specs.Prelude.{Some, None}
 use Rattle.wfe_words.specs.declared.config.SchemeKind.TheVariants.{He, Ibr}
 use Rattle.wfe_words.specs.Packed.{halves, pending_word, answered_word, read_request, read_reservation, read_span, read_life}
-use Rattle.wfe_words.specs.Place.{claim_mask, claim_start, number, place_at}
+use Rattle.wfe_words.specs.Place.{claim_mask, claim_others, claim_start, number, place_at}
 use Rattle.wfe_defs.specs.declared.call.Answer.TheVariants as answers
 use Rattle.wfe_defs.specs.declared.call.Call.TheVariants as calls
 use Rattle.wfe_defs.specs.declared.call.ClockMove.TheVariants as moves
@@ -35,7 +35,7 @@ pub put_then_get_under_hazard_eras :
     ∷ events.Clear 0 0
     ∷ events.Reserve (guards.Index 0 0) None
     ∷ events.End 9 (answers.Got 1 (Some 70)) ∷ [])
-unfolding halves pending_word answered_word read_request read_reservation read_span read_life claim_mask claim_start number place_at
+unfolding halves pending_word answered_word read_request read_reservation read_span read_life claim_mask claim_others claim_start number place_at
 put_then_get_under_hazard_eras = refl
 
 -- the same under 2GE: what the get tells
@@ -49,7 +49,7 @@ pub get_under_intervals :
     ∷ events.Clear 0 0
     ∷ events.Reserve (guards.Whole 0) None
     ∷ events.End 9 (answers.Got 1 (Some 70)) ∷ [])
-unfolding halves pending_word answered_word read_request read_reservation read_span read_life claim_mask claim_start number place_at
+unfolding halves pending_word answered_word read_request read_reservation read_span read_life claim_mask claim_others claim_start number place_at
 get_under_intervals = refl
 
 -- and how both calls end
@@ -61,7 +61,7 @@ pub ends_under_intervals :
     )
     (entries (record_of (setting Ibr 1 8 2 1 100 100) (call 0 (calls.Put 7 70) ++ to_end 0 ++ call 0 (calls.Get 7) ++ to_end 0)) [])
     ≡ []
-unfolding halves pending_word answered_word read_request read_reservation read_span read_life claim_mask claim_start number place_at
+unfolding halves pending_word answered_word read_request read_reservation read_span read_life claim_mask claim_others claim_start number place_at
 ends_under_intervals = refl
 
 -- the clock moves between a reader's load of the link and its check
@@ -80,7 +80,7 @@ pub reader_overtaken_tries_again :
     )
     (entries (record_of (setting He 2 8 2 1 100 100) (call 0 (calls.Put 7 70) ++ to_end 0 ++ call 1 (calls.Hold 7) ++ times 3 1 ++ call 0 (calls.Put 7 71) ++ to_end 0 ++ to_end 1 ++ call 0 calls.Scan ++ to_end 0)) [])
     ≡ []
-unfolding halves pending_word answered_word read_request read_reservation read_span read_life claim_mask claim_start number place_at
+unfolding halves pending_word answered_word read_request read_reservation read_span read_life claim_mask claim_others claim_start number place_at
 reader_overtaken_tries_again = refl
 
 -- a get raises the interval under which a row is held
@@ -100,5 +100,5 @@ pub interval_is_raised :
     )
     (entries (record_of (setting Ibr 2 8 2 1 100 100) (call 0 (calls.Put 7 0) ++ to_end 0 ++ call 1 (calls.Hold 7) ++ to_end 1 ++ call 0 calls.Advance ++ to_end 0 ++ call 1 (calls.Get 7) ++ to_end 1 ++ call 1 calls.Release ++ to_end 1)) [])
     ≡ []
-unfolding halves pending_word answered_word read_request read_reservation read_span read_life claim_mask claim_start number place_at
+unfolding halves pending_word answered_word read_request read_reservation read_span read_life claim_mask claim_others claim_start number place_at
 interval_is_raised = refl

@@ -3,7 +3,7 @@ use Rattle.std.proofs.Common.{◌≡◌, refl, [], ◌∷◌, ◌++◌}
 use Rattle.std.specs.Prelude.{Some, None}
 use Rattle.wfe_words.specs.declared.config.SchemeKind.TheVariants.{He}
 use Rattle.wfe_words.specs.Packed.{halves, pending_word, answered_word, read_request, read_reservation, read_span, read_life}
-use Rattle.wfe_words.specs.Place.{claim_mask, claim_start, number, place_at}
+use Rattle.wfe_words.specs.Place.{claim_mask, claim_others, claim_start, number, place_at}
 use Rattle.wfe_defs.specs.declared.call.Answer.TheVariants as answers
 use Rattle.wfe_defs.specs.declared.call.Call.TheVariants as calls
 use Rattle.wfe_defs.specs.declared.call.ClockMove.TheVariants as moves
@@ -44,7 +44,7 @@ pub put_gives_back_in_its_own_scan :
     ∷ events.Read (guards.Index 0 2) None
     ∷ events.Back 0
     ∷ events.End 26 (answers.Done 2 (moves.Moved 2)) ∷ [])
-unfolding halves pending_word answered_word read_request read_reservation read_span read_life claim_mask claim_start number place_at
+unfolding halves pending_word answered_word read_request read_reservation read_span read_life claim_mask claim_others claim_start number place_at
 put_gives_back_in_its_own_scan = refl
 
 -- no row is free: the call moves the clock, scans, and walks again
@@ -61,7 +61,7 @@ pub full_table_scans_and_tries_again :
     )
     (entries (record_of (setting He 2 2 2 1 100 100) (call 0 (calls.Put 7 70) ++ to_end 0 ++ call 1 (calls.Hold 7) ++ to_end 1 ++ call 0 (calls.Put 7 71) ++ to_end 0 ++ call 0 (calls.Put 7 72) ++ to_end 0 ++ call 1 calls.Release ++ to_end 1 ++ call 0 (calls.Put 7 72) ++ to_end 0)) [])
     ≡ []
-unfolding halves pending_word answered_word read_request read_reservation read_span read_life claim_mask claim_start number place_at
+unfolding halves pending_word answered_word read_request read_reservation read_span read_life claim_mask claim_others claim_start number place_at
 full_table_scans_and_tries_again = refl
 
 -- how the calls of that run end
@@ -77,7 +77,7 @@ pub ends_in_a_full_table :
     )
     (entries (record_of (setting He 2 2 2 1 100 100) (call 0 (calls.Put 7 70) ++ to_end 0 ++ call 1 (calls.Hold 7) ++ to_end 1 ++ call 0 (calls.Put 7 71) ++ to_end 0 ++ call 0 (calls.Put 7 72) ++ to_end 0 ++ call 1 calls.Release ++ to_end 1 ++ call 0 (calls.Put 7 72) ++ to_end 0)) [])
     ≡ []
-unfolding halves pending_word answered_word read_request read_reservation read_span read_life claim_mask claim_start number place_at
+unfolding halves pending_word answered_word read_request read_reservation read_span read_life claim_mask claim_others claim_start number place_at
 ends_in_a_full_table = refl
 
 -- a bucket with six keys takes no seventh
@@ -95,7 +95,7 @@ pub full_bucket :
     )
     (entries (record_of (setting He 1 8 2 1 100 100) (call 0 (calls.Put 1 10) ++ to_end 0 ++ call 0 (calls.Put 2 20) ++ to_end 0 ++ call 0 (calls.Put 3 30) ++ to_end 0 ++ call 0 (calls.Put 4 40) ++ to_end 0 ++ call 0 (calls.Put 5 50) ++ to_end 0 ++ call 0 (calls.Put 6 60) ++ to_end 0 ++ call 0 (calls.Put 7 70) ++ to_end 0 ++ call 0 (calls.Put 3 99) ++ to_end 0)) [])
     ≡ []
-unfolding halves pending_word answered_word read_request read_reservation read_span read_life claim_mask claim_start number place_at
+unfolding halves pending_word answered_word read_request read_reservation read_span read_life claim_mask claim_others claim_start number place_at
 full_bucket = refl
 
 -- the clock stops at its last era
@@ -114,7 +114,7 @@ pub last_era :
     )
     (entries (record_of (setting He 1 8 2 1 3 100) (call 0 calls.Advance ++ to_end 0 ++ call 0 calls.Advance ++ to_end 0 ++ call 0 calls.Advance ++ to_end 0 ++ call 0 (calls.Put 7 70) ++ to_end 0 ++ call 0 (calls.Put 7 71) ++ to_end 0 ++ call 0 (calls.Get 7) ++ to_end 0)) [])
     ≡ []
-unfolding halves pending_word answered_word read_request read_reservation read_span read_life claim_mask claim_start number place_at
+unfolding halves pending_word answered_word read_request read_reservation read_span read_life claim_mask claim_others claim_start number place_at
 last_era = refl
 
 -- a remove of a key that is not there, and of one that is
@@ -128,7 +128,7 @@ pub removes :
     )
     (entries (record_of (setting He 1 8 2 1 100 100) (call 0 (calls.Remove 5) ++ to_end 0 ++ call 0 (calls.Put 5 50) ++ to_end 0 ++ call 0 (calls.Remove 5) ++ to_end 0 ++ call 0 (calls.Get 5) ++ to_end 0)) [])
     ≡ []
-unfolding halves pending_word answered_word read_request read_reservation read_span read_life claim_mask claim_start number place_at
+unfolding halves pending_word answered_word read_request read_reservation read_span read_life claim_mask claim_others claim_start number place_at
 removes = refl
 
 -- versions and numbers end
@@ -142,5 +142,5 @@ pub last_version :
     )
     (entries (record_of (setting He 1 8 2 1 100 1) (call 0 (calls.Put 7 70) ++ to_end 0 ++ call 0 (calls.Put 7 71) ++ to_end 0 ++ call 0 (calls.Enqueue 5) ++ to_end 0 ++ call 0 (calls.Enqueue 6) ++ to_end 0)) [])
     ≡ []
-unfolding halves pending_word answered_word read_request read_reservation read_span read_life claim_mask claim_start number place_at
+unfolding halves pending_word answered_word read_request read_reservation read_span read_life claim_mask claim_others claim_start number place_at
 last_version = refl
