@@ -1,6 +1,6 @@
 -- Allocate a row: a walk over the claim bits from the cursor on. A step sets one bit and shows a whole claim word; a slot
 -- that a step of this walk has shown taken is passed over.
-use Rattle.std.specs.Prelude.{ℕ, zero, suc, ◌==◌, ◌+◌, ◌-◌, ◌^◌, Bool, true, false, if◌then◌else◌, bit_or, [], ◌∷◌, Option, Some, None}
+use Rattle.std.specs.Prelude.{ℕ, zero, suc, ◌==◌, ◌+◌, Bool, true, false, if◌then◌else◌, bit_or, [], ◌∷◌, Option, Some, None}
 use Rattle.std.specs.Int.{bit_at}
 use Rattle.wfe_words.specs.Place.{claim_word, claim_bit}
 use Rattle.wfe_defs.specs.declared.event.Event.TheVariants as events

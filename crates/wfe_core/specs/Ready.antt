@@ -1,6 +1,6 @@
 -- What holds where a machine makes its next step, what that step may find, and what its end may be. A history gives all
 -- of it at each step.
-use Rattle.std.specs.Prelude.{ℕ, ◌≡◌, ◌≤◌, ◌<◌, ◌+◌, ◌^◌, true, List, length, Option, Some, None}
+use Rattle.std.specs.Prelude.{ℕ, ◌≡◌, ◌≤◌, ◌<◌, ◌+◌, ◌^◌, true, length, Option, Some, None}
 use Rattle.wfe_words.specs.Place.{has}
 use Rattle.wfe_words.specs.Packed.{read_request}
 use Rattle.wfe_words.specs.declared.layout.Layout.{Layout}

@@ -15,7 +15,8 @@ use Rattle.wfe_defs.specs.declared.event.Guard.TheVariants as guards
 use Rattle.wfe_defs.specs.declared.event.Root.{Root}
 use Rattle.wfe_defs.specs.declared.event.Root.TheVariants as roots
 use Rattle.wfe_defs.specs.declared.lifetime.Interval.{Interval}
-use Rattle.wfe_laws.specs.Record.{Past, Entry}
+use Rattle.wfe_defs.specs.Entry.{Entry}
+use Rattle.wfe_laws.specs.Record.{Past}
 use Rattle.wfe_laws.specs.Record.Past.{Start, Then}
 use Rattle.wfe_history.specs.History.{Item, Begins, times}
 
