@@ -71,7 +71,7 @@ slots_of lives = map (λ (life : Lifetime). life.slot) lives
 
 -- no entry of the list is of this slot
 abbrev pub NotListed : ℕ → List Lifetime → Type 0
-NotListed slot lives = list_any (λ (other : ℕ). slot == other) (slots_of lives) ≡ false
+NotListed slot lives = list_any (◌==◌ slot) (slots_of lives) ≡ false
 
 -- a row that is being retired is not on the list
 abbrev pub RetireFits : Base → Desk → Type 0

@@ -28,3 +28,4 @@ pub mod World
 pub mod Valid
 pub mod Ready
 pub mod CallReady
+pub mod Held

@@ -2,12 +2,14 @@
 //! move.
 #![tactic(auto)]
 
+mod desk;
 mod ends;
 mod machine;
 mod op;
 mod post;
 mod told;
 
+pub use desk::RetireList;
 pub use ends::{AllocateEnd, FollowEnd, ProtectEnd};
 pub use machine::Machine;
 pub use op::Op;
