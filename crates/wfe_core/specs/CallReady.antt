@@ -129,7 +129,10 @@ work_ready (Dequeuing at) post = dequeue_ready at post
 pub record BackFits (post : Post) (desk : Desk) (place slot : ℕ) : Type 0 where
   pub entry : slice_get (slots_of desk.list) place ≡ Some slot
   pub back : desk.report.back ≤ post.layout.config.slots
-  pub noted : length desk.notes.back ≤ 2 * post.layout.config.slots + 1
+
+-- in a call no more goes back than two scans may give
+abbrev pub NotesFit : Post → Desk → Type 0
+NotesFit post desk = length desk.notes.back ≤ 2 * (post.layout.config.slots + 1)
 
 abbrev pub scan_ready : ScanAt → Post → Desk → Type 0
 scan_ready (ReadGuard number) post desk =

@@ -57,3 +57,7 @@ noted_all notes (event ∷ told) = noted_all (noted notes event) told
 -- a life goes on the list
 abbrev pub with_life : Desk → Lifetime → Desk
 with_life desk life = record desk { list = desk.list ++ life ∷ [] }
+
+-- the desk with these events noted
+abbrev pub noting : Desk → List Event → Desk
+noting desk events = record desk { notes = noted_all desk.notes events }

@@ -3,7 +3,7 @@ use Rattle.std.specs.Prelude.{ℕ, ◌≡◌, ◌≤◌, ◌<◌, ◌+◌, ◌*�
 use Rattle.std.specs.List.{IsDistinct, list_any}
 use Rattle.wfe_defs.specs.declared.lifetime.Lifetime.{Lifetime}
 use Rattle.wfe_core.specs.CallReady.{slots_of}
-use Rattle.wfe_core.specs.Desks.{Seen}
+use Rattle.wfe_core.specs.Desks.{Seen, Report, Notes}
 
 -- a retire list of a table with so many slots besides the dummy's
 pub record ListHeld : Type 0 where
@@ -32,3 +32,18 @@ pub record NotesHeld : Type 0 where
   pub back : List ℕ
   pub early : ℕ
   pub room : ℕ
+
+-- the report and the notes without their room
+abbrev pub report_of : ReportHeld → Report
+report_of held = record { read = held.read; kept = held.kept; back = held.back }
+
+abbrev pub notes_of : NotesHeld → Notes
+notes_of held =
+    record {
+      steps = held.steps;
+      given = held.given;
+      unused = held.unused;
+      retired = held.retired;
+      back = held.back;
+      early = held.early;
+    }

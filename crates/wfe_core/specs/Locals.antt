@@ -8,7 +8,7 @@ use Rattle.wfe_defs.specs.declared.event.Event.{Event}
 use Rattle.wfe_defs.specs.declared.event.Event.TheVariants as events
 use Rattle.wfe_core.specs.declared.op.Op.{Op}
 use Rattle.wfe_core.specs.declared.post.Post.{Post}
-use Rattle.wfe_core.specs.Desks.{Desk, Notes, new_desk, no_notes, noted_all}
+use Rattle.wfe_core.specs.Desks.{Desk, Notes, new_desk, no_notes, noting}
 use Rattle.wfe_core.specs.Memory.{Move, numbered}
 use Rattle.wfe_core.specs.Posts.{new_post, counted}
 use Rattle.wfe_core.specs.Calls.{Phase, Idle, Runs, Scans, Works, CallTurn, CallOutcome, GoesOn, Answers}
@@ -62,10 +62,6 @@ told_by t = t.told ++ told_end t.post t.outcome
 
 abbrev pub told : Local → ℕ → List Event
 told l found = told_by (turn l found)
-
--- the desk with the step's events noted
-abbrev pub noting : Desk → List Event → Desk
-noting desk events = record desk { notes = noted_all desk.notes events }
 
 -- the seat stands at the next phase, or its call has ended
 abbrev pub settled_by : Local → Post → Desk → CallOutcome → Local

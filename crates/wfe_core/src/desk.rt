@@ -1,12 +1,16 @@
 // What a seat keeps beside its post. All of it is reserved when it is made, so that no step takes
 // memory.
-ghost use Rattle.std.specs.Prelude.{◌≡◌, ◌<◌, ◌≤◌, ◌+◌, ◌*◌, [], ◌∷◌, ◌++◌, length, slice_get, Some, false, IfOk};
-ghost use Rattle.std.specs.List.{remove, list_any};
+ghost use Rattle.std.specs.Prelude.{◌≡◌, ◌<◌, ◌≤◌, ◌+◌, ◌*◌, [], ◌∷◌, ◌++◌, ◌^◌, length, slice_get, Some, IfOk};
+ghost use Rattle.std.specs.List.{remove};
 ghost use Rattle.wfe_core.specs.CallReady.{NotListed};
+ghost use Rattle.wfe_core.specs.Desks.{noted, no_report, no_notes};
+ghost use Rattle.wfe_core.specs.Held.{report_of, notes_of};
+ghost use Rattle.wfe_core.specs.Scan.{read_before};
 
 use std::alloc::Global;
 use std::marker::Model;
-use wfe_defs::{Guard, Interval, Lifetime, NoMemory};
+use crate::{Post, Told};
+use wfe_defs::{Answer, Event, Guard, Interval, Lifetime, NoMemory};
 use wfe_words::Layout;
 
 /// The rows that a seat has retired and not given back, in order of their retirement.
@@ -75,5 +79,150 @@ impl RetireList {
         ensures slots { self.new.slots ≡ self.old.slots }
     {
         self.entries.remove(place)
+    }
+}
+
+/// What a seat's last scan read and did. Before the first scan it is empty.
+#[derive(Drop)]
+pub struct ScanReport {
+    /// Each guard with what it published, in the order of the reads.
+    pub read: Vec<(Guard, Option<Interval>)>,
+    /// How many rows stay in the list.
+    pub kept: u32,
+    /// How many rows went back.
+    pub back: u32,
+}
+
+impl Model for ScanReport {
+    ghost use Rattle.wfe_core.specs.Held.{ReportHeld};
+    ghost use Rattle.std.specs.Vec.{vec_capacity};
+
+    ghost Value = { ReportHeld };
+
+    ghost view = { λ r. record { read = r.read.items; kept = r.kept; back = r.back; room = vec_capacity r.read } };
+}
+
+impl ScanReport {
+    /// An empty report with room for so many guards.
+    pub fn new(alloc: Global, guards: usize) -> Result<ScanReport, NoMemory>
+        ensures empty { IfOk result (λ report. report_of report ≡ no_report) }
+        ensures room { IfOk result (λ report. guards ≤ report.room) }
+    {
+        match Vec::with_capacity(alloc, guards) {
+            Ok(read) => Ok(ScanReport {
+                read,
+                kept: 0,
+                back: 0,
+            }),
+            Err(_) => Err(NoMemory),
+        }
+    }
+
+    /// Notes a guard that was read; the first read of a scan leaves nothing of the scan before it. It
+    /// takes no memory.
+    pub fn note(&mut self, number: u32, guard: Guard, span: Option<Interval>)
+        requires { length (read_before (report_of self.old) number) < self.old.room }
+        ensures report { report_of self.new ≡ record { read = read_before (report_of self.old) number ++ (guard, span) ∷ []; kept = 0; back = 0 } }
+        ensures room { self.old.room ≤ self.new.room }
+    {
+        if number == 0 {
+            self.read.clear();
+        }
+        self.kept = 0;
+        self.back = 0;
+        let noted = self.read.push((guard, span)).is_ok();
+        prove!(noted);
+    }
+}
+
+/// What a seat's last call did. Before the first call all is empty, false or 0.
+#[derive(Drop)]
+pub struct Notes {
+    /// Atomic steps.
+    pub steps: u64,
+    /// The row given, with its birth era.
+    pub given: Option<(u32, u32)>,
+    /// Whether that row was given up.
+    pub unused: bool,
+    pub retired: Option<Lifetime>,
+    /// The slots that went back, in order.
+    pub back: Vec<u32>,
+    /// How many of them went back before a row was given.
+    pub early: u32,
+}
+
+impl Model for Notes {
+    ghost use Rattle.wfe_core.specs.Held.{NotesHeld};
+    ghost use Rattle.std.specs.Vec.{vec_capacity};
+
+    ghost Value = { NotesHeld };
+
+    ghost view = { λ n. record { steps = n.steps; given = n.given; unused = n.unused; retired = n.retired; back = n.back.items; early = n.early; room = vec_capacity n.back } };
+}
+
+impl Notes {
+    /// Empty notes with room for so many slots.
+    pub fn new(alloc: Global, slots: usize) -> Result<Notes, NoMemory>
+        ensures empty { IfOk result (λ notes. notes_of notes ≡ no_notes) }
+        ensures room { IfOk result (λ notes. slots ≤ notes.room) }
+    {
+        match Vec::with_capacity(alloc, slots) {
+            Ok(back) => Ok(Notes {
+                steps: 0,
+                given: None,
+                unused: false,
+                retired: None,
+                back,
+                early: 0,
+            }),
+            Err(_) => Err(NoMemory),
+        }
+    }
+
+    /// Leaves the notes empty, as a call begins.
+    pub fn clear(&mut self)
+        ensures empty { notes_of self.new ≡ no_notes }
+        ensures room { self.old.room ≤ self.new.room }
+    {
+        self.steps = 0;
+        self.given = None;
+        self.unused = false;
+        self.retired = None;
+        self.back.clear();
+        self.early = 0;
+    }
+
+    /// Notes an event of the call. It takes no memory.
+    pub fn note(&mut self, event: &Event)
+        requires room { length self.old.back < self.old.room }
+        requires few { length self.old.back < 2 ^ 32 }
+        ensures notes { notes_of self.new ≡ noted (notes_of self.old) event.now }
+        ensures room { self.old.room ≤ self.new.room }
+        ensures back { length self.new.back ≤ length self.old.back + 1 }
+    {
+        match *event {
+            Event::Give { slot, birth } => {
+                self.given = Some((slot, birth));
+                self.early = self.back.len() as u32;
+            }
+            Event::Unused { .. } => self.unused = true,
+            Event::Retire {
+                slot,
+                birth,
+                retire,
+            } => {
+                self.retired = Some(Lifetime {
+                    slot,
+                    birth,
+                    retire,
+                });
+            }
+            Event::Back { slot } => {
+                let noted = self.back.push(slot).is_ok();
+                prove!(noted);
+            }
+            Event::End { steps, .. } => self.steps = steps,
+            _ => {}
+        }
     }
 }

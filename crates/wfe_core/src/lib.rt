@@ -9,7 +9,7 @@ mod op;
 mod post;
 mod told;
 
-pub use desk::RetireList;
+pub use desk::{Notes, RetireList, ScanReport};
 pub use ends::{AllocateEnd, FollowEnd, ProtectEnd};
 pub use machine::Machine;
 pub use op::Op;
