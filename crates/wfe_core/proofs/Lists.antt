@@ -1,5 +1,5 @@
 -- Retire lists: no row is in one twice, so a list has room for one row more.
-use Rattle.std.proofs.Common.{ℕ, zero, suc, ◌≡◌, ◌≤◌, ◌<◌, ◌+◌, Bool, true, false, ◌||◌, List, [], ◌∷◌, ◌++◌, length, map, take, drop, refl, ap, sym, subst, arith, ◌∙◌}
+use Rattle.std.proofs.Common.{ℕ, zero, suc, ◌≡◌, ◌≤◌, ◌<◌, ◌+◌, Bool, true, false, ◌||◌, List, [], ◌∷◌, ◌++◌, length, refl, ap, sym, arith, ◌∙◌}
 use Rattle.std.proofs.lemmas.Bool.Decides.{nat_tests}
 use Rattle.std.proofs.lemmas.Grind.{common_steps}
 use Rattle.std.proofs.lemmas.List.Folds.{list_any-append}
@@ -36,10 +36,10 @@ apart_push x y (z ∷ xs) h e = (h.0, apart_push x y xs h.1 e)
 distinct_push : (xs : List ℕ) (y : ℕ) → IsDistinct ◌==◌ xs → list_any (◌==◌ y) xs ≡ false → IsDistinct ◌==◌ (xs ++ y ∷ [])
 unfolding IsDistinct
 distinct_push [] y d h = (tt, tt)
-distinct_push (x ∷ xs) y d h =
-    ( apart_push x y xs d.0 (same_back x y ∙ or_left (y == x) (list_any (◌==◌ y) xs) h)
-    , distinct_push xs y d.1 (or_right (y == x) (list_any (◌==◌ y) xs) h)
-    )
+distinct_push (x ∷ xs) y d h = (
+  apart_push x y xs d.0 (same_back x y ∙ or_left (y == x) (list_any (◌==◌ y) xs) h),
+  distinct_push xs y d.1 (or_right (y == x) (list_any (◌==◌ y) xs) h),
+)
 
 apart_remove : (x i : ℕ) (xs : List ℕ) → AllByRecursion (λ z. (x == z) ≡ false) xs → AllByRecursion (λ z. (x == z) ≡ false) (remove xs i)
 apart_remove x zero [] h = tt
@@ -92,7 +92,7 @@ pub fits_push : (lives : List Lifetime) (life : Lifetime) (slots capacity more :
 fits_push lives life slots capacity more h e k m = record {
   apart = rw (slots_push lives life) (distinct_push (slots_of lives) life.slot h.apart k);
   below = λ slot q. below_push slots slot life.slot (slots_of lives) h.below e (sym (ap (list_any (◌==◌ slot)) (slots_push lives life)) ∙ q);
-  room = omega (arith, h.room)
+  room = omega (arith, h.room);
 }
 
 -- a row that is not in the list has room in it
@@ -103,5 +103,5 @@ pub fits_remove : (lives : List Lifetime) (i slots capacity : ℕ) → ListFits 
 fits_remove lives i slots capacity h = record {
   apart = rw (slots_remove lives i) (distinct_remove (slots_of lives) i h.apart);
   below = λ slot q. h.below slot (any_remove slot (slots_of lives) i (sym (ap (list_any (◌==◌ slot)) (slots_remove lives i)) ∙ q));
-  room = h.room
+  room = h.room;
 }

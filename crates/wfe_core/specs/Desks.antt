@@ -60,4 +60,4 @@ with_life desk life = record desk { list = desk.list ++ life ∷ [] }
 
 -- the desk with these events noted
 abbrev pub noting : Desk → List Event → Desk
-noting desk events = record desk { notes = noted_all desk.notes events }
+noting desk told = record desk { notes = noted_all desk.notes told }

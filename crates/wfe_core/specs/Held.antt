@@ -1,5 +1,5 @@
 -- A seat's lists as contracts see them: what they hold, and the room that was reserved for more.
-use Rattle.std.specs.Prelude.{ℕ, ◌≡◌, ◌≤◌, ◌<◌, ◌+◌, ◌*◌, ◌==◌, Bool, true, List, [], Option}
+use Rattle.std.specs.Prelude.{ℕ, ◌≡◌, ◌≤◌, ◌<◌, ◌+◌, ◌==◌, Bool, true, List, Option}
 use Rattle.std.specs.List.{IsDistinct, list_any}
 use Rattle.wfe_defs.specs.declared.lifetime.Lifetime.{Lifetime}
 use Rattle.wfe_core.specs.CallReady.{slots_of}

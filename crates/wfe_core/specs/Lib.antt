@@ -29,3 +29,4 @@ pub mod Valid
 pub mod Ready
 pub mod CallReady
 pub mod Held
+pub mod DeskHeld

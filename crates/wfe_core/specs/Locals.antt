@@ -9,10 +9,10 @@ use Rattle.wfe_defs.specs.declared.event.Event.TheVariants as events
 use Rattle.wfe_core.specs.declared.op.Op.{Op}
 use Rattle.wfe_core.specs.declared.post.Post.{Post}
 use Rattle.wfe_core.specs.Desks.{Desk, Notes, new_desk, no_notes, noting}
-use Rattle.wfe_core.specs.Memory.{Move, numbered}
+use Rattle.wfe_core.specs.Memory.{Move}
 use Rattle.wfe_core.specs.Posts.{new_post, counted}
 use Rattle.wfe_core.specs.Calls.{Phase, Idle, Runs, Scans, Works, CallTurn, CallOutcome, GoesOn, Answers}
-use Rattle.wfe_core.specs.Steps.{phase_move, phase_turn, first_phase}
+use Rattle.wfe_core.specs.Steps.{call_op, phase_move, phase_turn, first_phase}
 
 -- a call that has ended
 pub record Group : Type 0 where
@@ -45,7 +45,7 @@ move l = phase_move l.phase l.post
 
 -- the same on the word of the place's number
 abbrev pub asks : Local → Op
-asks l = numbered l.post.layout (move l)
+asks l = call_op l.phase l.post
 
 -- one step of the seat that found this
 abbrev pub turn : Local → ℕ → CallTurn

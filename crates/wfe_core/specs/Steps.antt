@@ -11,9 +11,10 @@ use Rattle.wfe_defs.specs.declared.fold.Change.TheVariants as changes
 use Rattle.wfe_core.specs.declared.ends.AllocateEnd.{AllocateEnd}
 use Rattle.wfe_core.specs.declared.ends.AllocateEnd.TheVariants as allocate_ends
 use Rattle.wfe_core.specs.declared.ends.ProtectEnd.TheVariants as protect_ends
+use Rattle.wfe_core.specs.declared.op.Op.{Op}
 use Rattle.wfe_core.specs.declared.post.Post.{Post}
 use Rattle.wfe_core.specs.Desks.{Desk, with_life}
-use Rattle.wfe_core.specs.Memory.{Move, Load}
+use Rattle.wfe_core.specs.Memory.{Move, Load, numbered}
 use Rattle.wfe_core.specs.Phases.{Ending, Protected, Followed, Allocated, Retired, Clocked, Turn, Outcome, Goes, Ends}
 use Rattle.wfe_core.specs.Posts.{stands}
 use Rattle.wfe_core.specs.WriteRow.{writing}
@@ -39,6 +40,10 @@ phase_move Idle post = Load Clock
 phase_move (Runs why base) post = base_move base post
 phase_move (Scans later at) post = scan_move at post
 phase_move (Works work) post = work_move work post
+
+-- the same on the word of the place's number
+abbrev pub call_op : Phase → Post → Op
+call_op phase post = numbered post.layout (phase_move phase post)
 
 abbrev pub work_turn : Work → Post → Desk → ℕ → CallTurn
 work_turn (Getting key at) post desk found = get_turn key at post desk found

@@ -1,15 +1,17 @@
 // What a seat keeps beside its post. All of it is reserved when it is made, so that no step takes
 // memory.
-ghost use Rattle.std.specs.Prelude.{◌≡◌, ◌<◌, ◌≤◌, ◌+◌, ◌*◌, [], ◌∷◌, ◌++◌, ◌^◌, length, slice_get, Some, IfOk};
+ghost use Rattle.std.specs.Prelude.{◌≡◌, ◌<◌, ◌≤◌, ◌+◌, ◌*◌, [], ◌∷◌, ◌++◌, ◌^◌, length, slice_get, Some, true, IfOk};
 ghost use Rattle.std.specs.List.{remove};
+ghost use Rattle.wfe_words.specs.Place.{is_valid};
 ghost use Rattle.wfe_core.specs.CallReady.{NotListed};
-ghost use Rattle.wfe_core.specs.Desks.{noted, no_report, no_notes};
+ghost use Rattle.wfe_core.specs.Desks.{noted, noted_all, noting, no_report, no_notes, new_desk};
+ghost use Rattle.wfe_core.specs.DeskHeld.{HasRoom, desk_of, told_answer};
 ghost use Rattle.wfe_core.specs.Held.{report_of, notes_of};
 ghost use Rattle.wfe_core.specs.Scan.{read_before};
 
+use crate::{Post, Told};
 use std::alloc::Global;
 use std::marker::Model;
-use crate::{Post, Told};
 use wfe_defs::{Answer, Event, Guard, Interval, Lifetime, NoMemory};
 use wfe_words::Layout;
 
@@ -192,6 +194,18 @@ impl Notes {
         self.early = 0;
     }
 
+    /// Notes the events of a step, in order. It takes no memory.
+    pub fn note_all(&mut self, told: &Told)
+        requires room { length self.old.back + length told.now ≤ self.old.room }
+        requires few { length self.old.back + length told.now < 2 ^ 32 }
+        ensures notes { notes_of self.new ≡ noted_all (notes_of self.old) told.now }
+        ensures room { self.old.room ≤ self.new.room }
+    {
+        for place in 0..told.len() {
+            self.note(told.get(place));
+        }
+    }
+
     /// Notes an event of the call. It takes no memory.
     pub fn note(&mut self, event: &Event)
         requires room { length self.old.back < self.old.room }
@@ -224,5 +238,53 @@ impl Notes {
             Event::End { steps, .. } => self.steps = steps,
             _ => {}
         }
+    }
+}
+
+/// What a seat keeps beside its post. Its lists have all their room from the start.
+#[derive(Drop)]
+pub struct Desk {
+    pub list: RetireList,
+    pub report: ScanReport,
+    pub notes: Notes,
+}
+
+impl Desk {
+    /// The desk of a seat that has made no call.
+    pub fn new(alloc: Global, layout: Layout) -> Result<Desk, NoMemory>
+        requires { is_valid layout ≡ true }
+        ensures empty { IfOk result (λ desk. desk_of desk ≡ new_desk) }
+        ensures room { IfOk result (λ desk. HasRoom desk layout) }
+    {
+        let config = layout.config();
+        let seats = config.seats as usize;
+        let guards = seats + seats * config.indexes as usize;
+        let rows = config.slots as usize + 1;
+        Ok(Desk {
+            list: RetireList::new(alloc, layout)?,
+            report: ScanReport::new(alloc, guards)?,
+            notes: Notes::new(alloc, 2 * rows + 8)?,
+        })
+    }
+
+    /// Tells the answer, where a call has ended, and notes what the step has told. It takes no
+    /// memory.
+    pub fn settle(&mut self, post: &Post, told: &mut Told, answer: Option<Answer>)
+        requires few { length told.old < 8 }
+        requires room { length self.old.notes.back + 8 ≤ self.old.notes.room }
+        requires low { length self.old.notes.back + 8 < 2 ^ 32 }
+        ensures told { told.new ≡ told.old ++ told_answer post.now answer }
+        ensures desk { desk_of self.new ≡ noting (desk_of self.old) told.new }
+        ensures list { self.new.list ≡ self.old.list }
+        ensures report { self.new.report ≡ self.old.report }
+        ensures room { self.old.notes.room ≤ self.new.notes.room }
+    {
+        if let Some(answer) = answer {
+            told.push(Event::End {
+                steps: post.steps,
+                answer,
+            });
+        }
+        self.notes.note_all(told);
     }
 }

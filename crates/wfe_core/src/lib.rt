@@ -2,6 +2,7 @@
 //! move.
 #![tactic(auto)]
 
+mod call;
 mod desk;
 mod ends;
 mod machine;
@@ -9,7 +10,8 @@ mod op;
 mod post;
 mod told;
 
-pub use desk::{Notes, RetireList, ScanReport};
+pub use call::CallMachine;
+pub use desk::{Desk, Notes, RetireList, ScanReport};
 pub use ends::{AllocateEnd, FollowEnd, ProtectEnd};
 pub use machine::Machine;
 pub use op::Op;

@@ -1,8 +1,7 @@
 -- A life that is not in the list has room in it.
-use Rattle.std.proofs.Common.{◌≡◌, ◌<◌, ◌≤◌, length, arith, rules}
+use Rattle.std.proofs.Common.{arith}
 use Rattle.std.proofs.lemmas.Grind.{common_steps}
 use Rattle.std.specs.Vec.{vec_capacity}
-use Rattle.wfe_core.specs.CallReady.{NotListed}
 use Rattle.wfe_core.proofs.Lists.{fits_room, fits_push}
 use Rattle.wfe_core.proofs.desk.RetireList.add.Goals as goal
 

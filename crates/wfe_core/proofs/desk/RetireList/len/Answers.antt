@@ -1,4 +1,4 @@
-use Rattle.std.proofs.Common.{◌≡◌, ◌≤◌, length, arith}
+use Rattle.std.proofs.Common.{arith}
 use Rattle.std.proofs.lemmas.Grind.{common_steps}
 use Rattle.wfe_core.proofs.Lists.{fits_length}
 use Rattle.wfe_core.proofs.desk.RetireList.len.Goals as goal

@@ -1,5 +1,4 @@
-use Rattle.std.proofs.Common.{◌≡◌, ◌≤◌, length, arith}
-use Rattle.std.proofs.lemmas.Grind.{common_steps}
+use Rattle.std.proofs.Common.{arith}
 use Rattle.wfe_core.proofs.Lists.{fits_empty}
 use Rattle.wfe_core.proofs.desk.RetireList.new.Goals as goal
 
