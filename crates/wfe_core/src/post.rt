@@ -27,6 +27,7 @@ pub struct Post {
     pub retired: u64,
 }
 
+#[tactic(auto, using(crate::proofs::Ranges::bounds_of))]
 impl Post {
     /// A seat that has made no call: nothing stands or is published, and all counts are 0.
     pub fn new(seat: u32, layout: Layout) -> Post
