@@ -30,3 +30,4 @@ pub mod Ready
 pub mod CallReady
 pub mod Held
 pub mod DeskHeld
+pub mod Rest

@@ -1,5 +1,5 @@
 -- A seat's local state, and what a step and the start of a call make of it.
-use Rattle.std.specs.Prelude.{ℕ, Bool, true, false, List, [], ◌∷◌, ◌++◌}
+use Rattle.std.specs.Prelude.{ℕ, ◌==◌, ◌+◌, Bool, true, false, if◌then◌else◌, List, [], ◌∷◌, ◌++◌}
 use Rattle.wfe_words.specs.declared.layout.Layout.{Layout}
 use Rattle.wfe_defs.specs.declared.call.Answer.{Answer}
 use Rattle.wfe_defs.specs.declared.call.Call.{Call}
@@ -20,12 +20,14 @@ pub record Group : Type 0 where
   pub answer : Answer
   pub notes : Notes
 
--- a seat: where it stands, what it knows and keeps, its present or last call, and its calls that have ended
+-- a seat: where it stands, what it knows and keeps, its present or last call, how often that call has found its root,
+-- and the calls that have ended
 pub record Local : Type 0 where
   pub phase : Phase
   pub post : Post
   pub desk : Desk
   pub call : Call
+  pub rounds : ℕ
   pub log : List Group
 
 -- a call is under way
@@ -37,7 +39,7 @@ busy_in (Works work) = true
 
 -- a seat that has made no call
 abbrev pub fresh : Layout → ℕ → Local
-fresh layout seat = record { phase = Idle; post = new_post seat layout; desk = new_desk; call = names.Scan; log = [] }
+fresh layout seat = record { phase = Idle; post = new_post seat layout; desk = new_desk; call = names.Scan; rounds = 0; log = [] }
 
 -- the operation that the seat asks for
 abbrev pub move : Local → Move
@@ -63,20 +65,32 @@ told_by t = t.told ++ told_end t.post t.outcome
 abbrev pub told : Local → ℕ → List Event
 told l found = told_by (turn l found)
 
+-- a round has found its root once index 0 is held or null
+abbrev pub round_told : ℕ → Event → ℕ
+round_told rounds (events.Held index slot steps) = if index == 0 then rounds + 1 else rounds
+round_told rounds (events.Null index steps) = if index == 0 then rounds + 1 else rounds
+round_told rounds event = rounds
+
+abbrev pub rounds_told : ℕ → List Event → ℕ
+rounds_told rounds [] = rounds
+rounds_told rounds (event ∷ told) = rounds_told (round_told rounds event) told
+
 -- the seat stands at the next phase, or its call has ended
-abbrev pub settled_by : Local → Post → Desk → CallOutcome → Local
-settled_by l post desk (GoesOn phase) = record { phase = phase; post = post; desk = desk; call = l.call; log = l.log }
-settled_by l post desk (Answers answer) =
+abbrev pub settled_by : Local → Post → Desk → ℕ → CallOutcome → Local
+settled_by l post desk rounds (GoesOn phase) =
+    record { phase = phase; post = post; desk = desk; call = l.call; rounds = rounds; log = l.log }
+settled_by l post desk rounds (Answers answer) =
     record {
       phase = Idle;
       post = post;
       desk = desk;
       call = l.call;
+      rounds = rounds;
       log = l.log ++ record { call = l.call; answer = answer; notes = desk.notes } ∷ [];
     }
 
 abbrev pub settled : Local → CallTurn → Local
-settled l t = settled_by l t.post (noting t.desk (told_by t)) t.outcome
+settled l t = settled_by l t.post (noting t.desk (told_by t)) (rounds_told l.rounds (told_by t)) t.outcome
 
 -- the seat after a step that found this
 abbrev pub after : Local → ℕ → Local
@@ -94,5 +108,6 @@ begun l call =
       post = begun_post l.post;
       desk = record l.desk { notes = no_notes };
       call = call;
+      rounds = 0;
       log = l.log;
     }
