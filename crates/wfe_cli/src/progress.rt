@@ -3,7 +3,7 @@ ghost use Rattle.std.specs.Prelude.{◌≡◌, ◌≤◌, ◌<◌, length, OnOk,
 ghost use Rattle.std.specs.Io.KnownBytes.{Appends};
 ghost use Rattle.arrayvec.specs.ArrayVec.{array_vec_len};
 ghost use Rattle.wfe_outside.specs.Faults.{Rose};
-ghost use Rattle.wfe_trace.specs.Item.{IsInRange};
+ghost use Rattle.wfe_cli.specs.Opening.{IsOpening};
 ghost use Rattle.wfe_trace.specs.Record.{header_line};
 ghost use Rattle.wfe_trace.specs.declared.item.Mode.TheVariants.{Replay};
 ghost use Rattle.wfe_words.specs.Config.{bad_field};
@@ -180,7 +180,7 @@ impl Work {
 
     // Takes what a line says, which was read.
     fn take_item<K: Sink>(&mut self, alloc: Global, item: Item, sink: &mut K) -> Result<(), Fault>
-        requires { IsInRange item }
+        requires { IsOpening item }
         ensures after { OnOk result (self.new ≡ item_taken plain self.old item) }
         ensures wrote { OnOk result (Appends (K.written sink.old) (K.written sink.new) (told_by plain self.old item)) }
         ensures some { OnErr result (AppendsSome (K.written sink.old) (K.written sink.new) (told_by plain self.old item)) }
@@ -208,7 +208,7 @@ impl Work {
     fn read(&mut self) -> Result<Item, BadLine>
         ensures item { result ≡ line_item plain self.old }
         ensures after { OnOk result (self.new ≡ line_read self.old) }
-        ensures in_range { IfOk result IsInRange }
+        ensures in_range { IfOk result IsOpening }
     {
         let busy = self.bad(Reason::Busy);
         let item = read_line(&mut self.state, self.line.as_slice())?;

@@ -1,6 +1,5 @@
 pub mod Body
 pub mod Built
-pub mod Item
 pub mod Reading
 pub mod Record
 pub mod Setting

@@ -15,3 +15,6 @@ pub use line::Line;
 pub use print::{print_bad, print_event, print_header, print_table};
 pub use read::{TraceState, read_line};
 pub use reason::{BadLine, Reason, Status};
+
+#[cfg(test)]
+mod tests;
