@@ -1,12 +1,14 @@
 // Replays a trace: reads it in pieces, and prints the record of the one history that its lines give.
-ghost use Rattle.std.specs.Prelude.{◌≡◌, ◌≢◌, ◌≤◌, ◌<◌, length, Some};
+ghost use Rattle.std.specs.Prelude.{◌≡◌, ◌≢◌, ◌≤◌, ◌<◌, ◌⊎◌, ℕ, List, Option, length, Some};
 ghost use Rattle.wfe_outside.specs.Faults.{Rose};
-ghost use Rattle.wfe_cli.specs.Run.{Turns};
+ghost use Rattle.wfe_cli.specs.Run.{Turns, Ends, Closes, StopCloses, PlainReplays};
+ghost use Rattle.wfe_cli.specs.Trace.{progress_start};
 
-use crate::output::{Fault, Stop};
+use crate::output::{Fault, Stop, write_all};
 use crate::progress::Work;
 use std::alloc::Global;
 use wfe_outside::{Sink, Source};
+use wfe_trace::{Line, Mode, Status, print_bad};
 
 /// Why no more of the source is read.
 #[derive(Clone, Copy, Debug, PartialEq, Eq)]
@@ -37,6 +39,64 @@ fn turn<S: Source, K: Sink>(
         Ok(count) => match work.take_bytes(alloc, &piece[..count], sink) {
             Ok(()) => None,
             Err(stop) => Some(Ending::Stopped { stop }),
+        },
+    }
+}
+
+// Writes the last line, and then the status holds.
+fn close<K: Sink>(sink: &mut K, line: &[u8], status: Status) -> Status
+    ensures closed { Closes result status (K.written sink.old) (K.written sink.new) line.now }
+    ensures later { K.faults sink.old ≤ K.faults sink.new }
+    ensures cause { result ≡ Status.WriteFault → (status ≡ Status.WriteFault) ⊎ Rose (K.faults sink.old) (K.faults sink.new) }
+{
+    match write_all(sink, line) {
+        Ok(()) => status,
+        Err(_) => Status::WriteFault,
+    }
+}
+
+// The status after a stop: a bad line is written down.
+fn stopped<K: Sink>(sink: &mut K, stop: Stop) -> Status
+    ensures closed { StopCloses stop result (K.written sink.old) (K.written sink.new) }
+    ensures later { K.faults sink.old ≤ K.faults sink.new }
+    ensures read { result ≢ Status.ReadFault }
+    ensures cause { result ≡ Status.WriteFault → (stop ≡ Stop.Fault Fault.Write) ⊎ Rose (K.faults sink.old) (K.faults sink.new) }
+{
+    match stop {
+        Stop::Bad { bad } => {
+            let mut line = Line::new();
+            print_bad(&bad, &mut line);
+            close(
+                sink,
+                line.bytes(),
+                Status::BadTrace {
+                    line: bad.line,
+                    reason: bad.reason,
+                },
+            )
+        }
+        Stop::Fault {
+            fault: Fault::Write,
+        } => Status::WriteFault,
+        Stop::Fault {
+            fault: Fault::Memory,
+        } => Status::NoMemory,
+    }
+}
+
+// The status of a run that ended: the end of the input is judged, and the last line is written.
+fn conclude<K: Sink>(alloc: Global, ending: Ending, work: &mut Work, sink: &mut K) -> Status
+    ensures said { (before left old : Option (List ℕ)) → Ends ending before left old (K.written sink.old) (progress_start Mode.Replay) work.old → PlainReplays result before left old (K.written sink.new) }
+    ensures later { K.faults sink.old ≤ K.faults sink.new }
+    ensures read { result ≡ Status.ReadFault → ending ≡ Ending.NoRead }
+    ensures write { result ≡ Status.WriteFault → (ending ≡ Ending.Stopped (Stop.Fault Fault.Write)) ⊎ Rose (K.faults sink.old) (K.faults sink.new) }
+{
+    match ending {
+        Ending::NoRead => Status::ReadFault,
+        Ending::Stopped { stop } => stopped(sink, stop),
+        Ending::AtEnd => match work.finish(alloc, sink) {
+            Ok(()) => close(sink, b"done\n", Status::Done),
+            Err(stop) => stopped(sink, stop),
         },
     }
 }
