@@ -1,3 +1,4 @@
+pub mod Command
 pub mod Opening
 pub mod Places
 pub mod Plain
