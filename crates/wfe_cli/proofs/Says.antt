@@ -18,15 +18,17 @@ seen_bad taken left bad (inr end_) = inr end_
 
 says_of_plain : (status : Status) (taken : List ℕ) (left old new : Option (List ℕ)) → PlainSays status taken left old new → Says status taken left old new
 says_of_plain statuses.Done taken left old new (q, good, end_, wrote) =
-    let kept = whole-ok taken q good in
-    (record {
-      given = kept.given;
-      progress = kept.progress;
-      good = kept.good;
-      is_given = kept.is_given;
-      printed = subst (Appends old new) (whole_output-plain taken ∙ kept.text) wrote;
-      lawful = kept.lawful;
-    }, end_)
+    let kept = whole-ok taken q good in (
+      record {
+        given = kept.given;
+        progress = kept.progress;
+        good = kept.good;
+        is_given = kept.is_given;
+        printed = subst (Appends old new) (whole_output-plain taken ∙ kept.text) wrote;
+        lawful = kept.lawful;
+      },
+      end_,
+    )
 says_of_plain statuses.Usage taken left old new h = h
 says_of_plain (statuses.BadTrace line reason) taken left old new (bad, seen, wrote) = record {
   first = whole-bad taken (record { line = line; reason = reason }) bad;

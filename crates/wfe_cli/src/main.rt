@@ -6,13 +6,14 @@ mod output;
 mod plain;
 mod progress;
 mod replay;
+#[cfg(test)]
+mod tests;
 
 use command::main_call;
-use std::env;
-use std::io;
 use std::io::BufWriter;
 use std::process::ExitCode;
 use std::rt::Env;
+use std::{env, io};
 use wfe_outside::{StdSink, StdSource};
 use wfe_trace::Status;
 

@@ -138,7 +138,13 @@ impl Work {
     }
 
     // The setting is whole: makes the map, and prints the header.
-    fn open<K: Sink>(&mut self, alloc: Global, version: u32, config: Config, sink: &mut K) -> Result<(), Fault>
+    fn open<K: Sink>(
+        &mut self,
+        alloc: Global,
+        version: u32,
+        config: Config,
+        sink: &mut K,
+    ) -> Result<(), Fault>
         requires { bad_field config ≡ None }
         ensures after { OnOk result (self.new ≡ record self.old { engine = Some (plain.opened version config) }) }
         ensures wrote { OnOk result (Appends (K.written sink.old) (K.written sink.new) (header_line version config)) }
@@ -263,7 +269,12 @@ impl Work {
     }
 
     /// Takes the next bytes of the trace, up to the first that is bad.
-    pub fn take_bytes<K: Sink>(&mut self, alloc: Global, bytes: &[u8], sink: &mut K) -> Result<(), Stop>
+    pub fn take_bytes<K: Sink>(
+        &mut self,
+        alloc: Global,
+        bytes: &[u8],
+        sink: &mut K,
+    ) -> Result<(), Stop>
         ensures took { Took result (after_bytes plain (Ok self.old) bytes.now) self.new (K.written sink.old) (K.written sink.new) (bytes_output plain (Ok self.old) bytes.now) }
         ensures later { K.faults sink.old ≤ K.faults sink.new }
         ensures cause { IfErr result (λ stop. stop ≡ Stop.Fault Fault.Write → Rose (K.faults sink.old) (K.faults sink.new)) }

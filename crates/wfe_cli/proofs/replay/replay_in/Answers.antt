@@ -11,6 +11,6 @@ returns-clause-read g c = λ fault. c.read_all-ending.ensures.read (c.conclude.e
 
 pub returns-clause-write : goal.returns-clause-write
 returns-clause-write g c = λ fault. elim (c.conclude.ensures.write fault) as (λ s. Rose (g.K.Sink.faults c.args.sink.now) (g.K.Sink.faults c.conclude.new.sink)) [
-    inl stop ↦ Rose-later (g.K.Sink.faults c.args.sink.now) (g.K.Sink.faults c.read_all-ending.new.sink) (g.K.Sink.faults c.conclude.new.sink) (c.read_all-ending.ensures.write stop) c.conclude.ensures.later
+  | inl stop ↦ Rose-later (g.K.Sink.faults c.args.sink.now) (g.K.Sink.faults c.read_all-ending.new.sink) (g.K.Sink.faults c.conclude.new.sink) (c.read_all-ending.ensures.write stop) c.conclude.ensures.later
   | inr rose ↦ Rose-earlier (g.K.Sink.faults c.args.sink.now) (g.K.Sink.faults c.read_all-ending.new.sink) (g.K.Sink.faults c.conclude.new.sink) c.read_all-ending.ensures.sink rose
-  ]
+]
