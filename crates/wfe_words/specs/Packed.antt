@@ -86,6 +86,12 @@ request_fits requests.Idle = true
 request_fits (requests.Pending tag index word) = nat_lt tag (2 ^ 32) && nat_lt index (2 ^ 4) && nat_lt word (2 ^ 26)
 request_fits (requests.Answered link era) = nat_lt link (2 ^ 24) && nat_lt 0 era && nat_lt era (2 ^ 32)
 
+-- each part has its bits
+abbrev pub has_room : Request → Bool
+has_room requests.Idle = true
+has_room (requests.Pending tag index word) = nat_lt index (2 ^ 4) && nat_lt word (2 ^ 26)
+has_room (requests.Answered link era) = nat_lt link (2 ^ 24)
+
 -- the link of a word, in a table with so many slots
 unfoldable pub read_link : ℕ → ℕ → Option Link
 read_link word slots =

@@ -42,6 +42,10 @@ same _ _ = false
 unfoldable pub is_valid : Layout → Bool
 is_valid layout = is_none (bad_field layout.config)
 
+-- the setting of a layout
+abbrev pub config_of : Layout → Config
+config_of layout = layout.config
+
 -- the layout of a setting, or the first number outside its range
 abbrev pub layout_of : Config → Result Layout BadConfig
 layout_of config = judged config (bad_field config)
@@ -153,6 +157,10 @@ claim_bit slot = slot % 64
 unfoldable pub claim_mask : ℕ → ℕ
 claim_mask slot = 2 ^ (slot % 64)
 
+-- every bit of a word but a slot's
+unfoldable pub claim_others : ℕ → ℕ
+claim_others slot = 2 ^ 64 - 1 - claim_mask slot
+
 -- the first value of a claim word: in the last one the dummy's bit and all above it are set
 unfoldable pub claim_start : Layout → ℕ → ℕ
 claim_start layout word = if word == layout.config.slots / 64 then 2 ^ 64 - claim_mask layout.config.slots else 0
@@ -165,3 +173,7 @@ start_of layout Tail = layout.config.slots + 1
 start_of layout (Claim word) = claim_start layout word
 start_of layout (Life slot) = if slot == layout.config.slots then halves 1 0 else 0
 start_of layout _ = 0
+
+-- the first value of a word number
+abbrev pub start_at : Layout → ℕ → ℕ
+start_at layout word = start_of layout (place_at layout word)

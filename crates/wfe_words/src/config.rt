@@ -1,6 +1,6 @@
 // The setting of a table: a scheme and nine numbers, each with a range of its own.
-ghost use Rattle.std.specs.Prelude.{◌≡◌};
-ghost use Rattle.wfe_words.specs.Config.{allows as is_allowed};
+ghost use Rattle.std.specs.Prelude.{◌≡◌, if◌then◌else◌, Err, Ok};
+ghost use Rattle.wfe_words.specs.Config.{allows as is_allowed, number_of};
 
 /// The reclamation schemes: Hazard Eras (Ramalhete and Correia 2017), 2GE intervals (Wen and others
 /// 2018) and Wait-Free Eras (Nikolaev and Ravindran 2020).
@@ -72,6 +72,37 @@ impl Field {
             Field::LastEra => 1 <= number && number <= 4_294_967_295,
             Field::LastVersion => 1 <= number && number <= 281_474_976_710_656,
             Field::Pairs => number == 6 || number == 14,
+        }
+    }
+}
+
+impl Config {
+    fn number(&self, field: Field) -> u64
+        ensures { result ≡ number_of self.now field }
+    {
+        match field {
+            Field::Seats => self.seats as u64,
+            Field::Indexes => self.indexes as u64,
+            Field::Slots => self.slots as u64,
+            Field::Buckets => self.buckets as u64,
+            Field::Tries => self.tries as u64,
+            Field::Every => self.every as u64,
+            Field::LastEra => self.last_era as u64,
+            Field::LastVersion => self.last_version,
+            Field::Pairs => self.pairs as u64,
+        }
+    }
+
+    // Refuses a field whose number is outside its range.
+    pub(crate) fn judge(&self, field: Field) -> Result<(), BadConfig>
+        ensures { result ≡
+            (if is_allowed field (number_of self.now field) then Ok tt
+            else Err (record { field = field })) }
+    {
+        if field.allows(self.number(field)) {
+            Ok(())
+        } else {
+            Err(BadConfig { field })
         }
     }
 }
