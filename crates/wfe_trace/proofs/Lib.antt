@@ -1,4 +1,8 @@
+pub mod Decimals
 pub mod Digits
+pub mod EventReader
+pub mod EventTexts
+pub mod EventWords
 pub mod Numerals
 pub mod Settings
 pub mod Spaces

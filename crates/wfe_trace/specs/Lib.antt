@@ -1,5 +1,6 @@
 pub mod Body
 pub mod Built
+pub mod Fits
 pub mod Reading
 pub mod Record
 pub mod Setting
