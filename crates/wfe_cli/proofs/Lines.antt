@@ -1,7 +1,8 @@
 -- What a line of the body does to a history and to the map: the history stays lawful, and both tell the same.
-use Rattle.std.proofs.Common.{ℕ, zero, suc, ◌≡◌, ◌≢◌, ◌==◌, ◌&&◌, ◌+◌, ◌<◌, ◌≤◌, ◌++◌, nat_le, Bool, true, false, not, if◌then◌else◌, List, [], ◌∷◌, length, take, Option, Some, None, ◌⊎◌, inl, inr, refl, sym, ap, ap₂, subst, ◌∙◌, arith, append_assoc, append-nil, take_all, le_refl, le_trans}
+use Rattle.std.proofs.Common.{ℕ, zero, suc, ◌≡◌, ◌≢◌, ◌==◌, ◌&&◌, ◌+◌, ◌<◌, ◌≤◌, ◌++◌, nat_le, Bool, true, false, not, if◌then◌else◌, List, [], ◌∷◌, length, take, Option, Some, None, ◌⊎◌, inl, inr, refl, sym, ap, ap₂, subst, ◌∙◌, arith, append_assoc, append-nil, take_all, le_refl, le_trans, subst₂, true≢false, is_some}
 use Rattle.std.proofs.lemmas.Bool.Decides.{nat_tests, Decides-eqb, leb_tells}
 use Rattle.std.proofs.lemmas.List.{length_push}
+use Rattle.wfe_words.specs.declared.config.Config.{Config}
 use Rattle.wfe_defs.specs.declared.call.Answer.TheVariants as answers
 use Rattle.wfe_defs.specs.declared.call.Call.{Call}
 use Rattle.wfe_defs.specs.declared.call.Call.TheVariants as calls
@@ -17,16 +18,17 @@ use Rattle.wfe_laws.specs.AnswerLaw.{answer_ok, is_got_of, is_put_of}
 use Rattle.wfe_laws.specs.MapLaw.{map_ok, same_value}
 use Rattle.wfe_laws.specs.Record.{Past, Each, tells_of}
 use Rattle.wfe_laws.specs.Schedule.{History, record_of, is_busy, CountsTurns, Runs, Gives, GivesAll}
+use Rattle.wfe_laws.proofs.Entries.{entries_of_each}
 use Rattle.wfe_laws.specs.StateAt.{call_of, changes_of, count_of, bucket_of, value_at}
 use Rattle.wfe_trace.specs.Built.{is_built_call, is_built_command}
 use Rattle.wfe_trace.specs.Body.{IsCommandWithin}
 use Rattle.wfe_trace.specs.Record.{event_line}
 use Rattle.wfe_cli.specs.Plain.{Plain, PlainRow, next_version, plain_turn, after_turn}
-use Rattle.wfe_cli.specs.PlainEngine.{plain_after, plain_told}
-use Rattle.wfe_cli.specs.Replayed.{turn_of, with_run, with_line, entries_of, run_entries, line_entries, CallsAreTurns, record_text}
-use Rattle.wfe_cli.specs.Trace.{entries_text}
+use Rattle.wfe_cli.specs.PlainEngine.{plain, plain_after, plain_told}
+use Rattle.wfe_cli.specs.Replayed.{Replayed, keeper, IsLawful, turn_of, with_run, with_line, entries_of, run_entries, line_entries, CallsAreTurns, record_text}
+use Rattle.wfe_cli.specs.Trace.{Engine, entries_text, is_refused}
 use Rattle.wfe_cli.specs.Turn.{get_events, put_events}
-use Rattle.wfe_cli.proofs.Rows.{rows_after, row_after, length-rows_after, row_of-rows_after, rows_after-put}
+use Rattle.wfe_cli.proofs.Rows.{plain_of, rows_after, row_after, length-rows_after, row_of-rows_after, rows_after-put}
 
 -- the map after a history
 abbrev pub plain_at : ℕ → History → Plain
@@ -205,3 +207,128 @@ run-put buckets most g key value some bound l = record {
       (l.few (bucket_of buckets key)) bound);
   text = text-tells_of (record_of (putting g key value)) 0 (turn_of buckets 0 (putting g key value));
 }
+
+-- a run of a seat whose call just started
+run-call : (buckets most : ℕ) (g : History) (call : Call) → 0 < buckets → most < 18446744073709551615 → is_built_call call ≡ true → Lawful buckets most (History.Starts g 0 call) →
+    Keeps buckets most (commands.Run 0) (History.Starts g 0 call) (with_run buckets 0 (History.Starts g 0 call)) (run_entries buckets 0 (History.Starts g 0 call))
+run-call buckets most g (calls.Get key) some bound built l = run-get buckets most g key some l
+run-call buckets most g (calls.Put key value) some bound built l = run-put buckets most g key value some bound l
+run-call buckets most g call some bound built l = absurd (true≢false (sym built))
+
+idle_run : (buckets : ℕ) (h : History) (busy : Bool) → busy ≡ false → (if busy then History.Turns h 0 (turn_of buckets 0 h) else h) ≡ h
+idle_run buckets h true idle = absurd (true≢false idle)
+idle_run buckets h false idle = refl
+
+idle_entries : (buckets : ℕ) (h : History) (busy : Bool) → busy ≡ false → (if busy then entries_of 0 (turn_of buckets 0 h) else []) ≡ []
+idle_entries buckets h true idle = absurd (true≢false idle)
+idle_entries buckets h false idle = refl
+
+-- a run of the seat
+run-any : (buckets most : ℕ) (h : History) → 0 < buckets → most < 18446744073709551615 → Lawful buckets most h → Stands h →
+    Keeps buckets most (commands.Run 0) h (with_run buckets 0 h) (run_entries buckets 0 h)
+run-any buckets most h some bound l (inl rest) =
+    subst₂ (λ (later : History) (told : List Entry). Keeps buckets most (commands.Run 0) h later told) (sym (idle_run buckets h (is_busy 0 h) rest.idle)) (sym (idle_entries buckets h (is_busy 0 h) rest.idle))
+    (run-rest buckets most h l rest)
+run-any buckets most h some bound l (inr under) =
+    subst (λ (t : History). Keeps buckets most (commands.Run 0) t (with_run buckets 0 t) (run_entries buckets 0 t)) (sym under.is)
+    (run-call buckets most under.before under.call some bound under.built (subst (Lawful buckets most) under.is l))
+
+-- the line `end` runs the seat too
+end-any : (buckets most : ℕ) (h later : History) (told : List Entry) → Keeps buckets most (commands.Run 0) h later told → Keeps buckets most commands.End h later told
+end-any buckets most h later told k = record { lawful = k.lawful; stands = k.stands; gives = (later, k.gives, refl); after = k.after; tells = k.tells; text = k.text }
+
+-- a call starts
+starts-call : (buckets most : ℕ) (h : History) (call : Call) → is_built_call call ≡ true → is_busy 0 h ≡ false → Lawful buckets most h →
+    Keeps buckets most (commands.Call 0 call) h (History.Starts h 0 call) (entry 0 (events.Begin call) ∷ [])
+starts-call buckets most h call built idle l = record {
+  lawful = record { few = λ b. le_trans (l.few b) (omega arith); counted = (idle, l.counted); turns = l.turns; map = (refl, l.map); answers = (refl, l.answers) };
+  stands = inr (record { before = h; call = call; is = refl; built = built });
+  gives = (idle, refl);
+  after = refl;
+  tells = refl;
+  text = text-tells_of (record_of h) 0 (events.Begin call ∷ []);
+}
+
+-- the seat is busy for both
+busy_same : (h : History) → Stands h → is_some (call_of 0 (record_of h)) ≡ is_busy 0 h
+busy_same h (inl rest) = ap is_some rest.none ∙ sym rest.idle
+busy_same h (inr under) = ap (λ (t : History). is_some (call_of 0 (record_of t))) under.is ∙ ap (is_busy 0) (sym under.is)
+
+-- a setting, its lines, and the lawful history that they give
+pub record Good (most : ℕ) (s : Replayed) : Type 0 where
+  pub seats : s.config.seats ≡ 1
+  pub some : 0 < s.config.buckets
+  pub lawful : Lawful s.config.buckets most s.history
+  pub stands : Stands s.history
+  pub given : GivesAll s.config.seats s.lines History.Blank s.history
+
+pub good-later : (most : ℕ) (s : Replayed) → Good most s → Good (most + 1) s
+good-later most s g = record { seats = g.seats; some = g.some; lawful = later_lawful s.config.buckets most s.history g.lawful; stands = g.stands; given = g.given }
+
+-- before any line
+pub good-opened : (version : ℕ) (config : Config) → config.seats ≡ 1 → 0 < config.buckets → Good 0 (keeper.opened version config)
+good-opened version config seats some = record {
+  seats = seats;
+  some = some;
+  lawful = record { few = λ b. le_refl 0; counted = tt; turns = tt; map = tt; answers = tt };
+  stands = inl (record { idle = refl; none = refl });
+  given = refl;
+}
+
+-- the history is the one that the lines give, and lawful
+pub good-is_lawful : (most : ℕ) (s : Replayed) → Good most s → IsLawful s
+good-is_lawful most s g = record {
+  schedule = record { given = g.given; counted = g.lawful.counted };
+  map = entries_of_each (map_ok s.config.buckets) (record_of s.history) g.lawful.map;
+  answers = entries_of_each (answer_ok s.config.buckets) (record_of s.history) g.lawful.answers;
+  turns = g.lawful.turns;
+}
+
+-- one line more comes last
+given-more : (seats : ℕ) (cs : List Command) (c : Command) (h mid later : History) → GivesAll seats cs h mid → Gives seats c mid later → GivesAll seats (cs ++ c ∷ []) h later
+given-more seats [] c h mid later none gives = (later, subst (λ (t : History). Gives seats c t later) none gives, refl)
+given-more seats (d ∷ cs) c h mid later (between, first, rest) gives = (between, first, given-more seats cs c between mid later rest gives)
+
+-- the line is not refused, and both do the same
+keeps-line : (buckets most : ℕ) (c : Command) (s : Replayed) → 0 < buckets → most < 18446744073709551615 → is_built_command c ≡ true → IsCommandWithin 1 c → is_refused keeper c s ≡ false →
+    Lawful buckets most s.history → Stands s.history → Keeps buckets most c s.history (with_line buckets c s.history) (line_entries buckets c s.history)
+keeps-line buckets most (commands.Call zero call) s some bound built within free l stands = starts-call buckets most s.history call built free l
+keeps-line buckets most (commands.Call (suc i) call) s some bound built within free l stands = absurd (omega arith)
+keeps-line buckets most (commands.Run zero) s some bound built within free l stands = run-any buckets most s.history some bound l stands
+keeps-line buckets most (commands.Run (suc i)) s some bound built within free l stands = absurd (omega arith)
+keeps-line buckets most commands.End s some bound built within free l stands = end-any buckets most s.history _ _ (run-any buckets most s.history some bound l stands)
+keeps-line buckets most (commands.Step i units) s some bound built within free l stands = absurd (true≢false (sym built))
+keeps-line buckets most commands.Table s some bound built within free l stands = absurd (true≢false (sym built))
+
+-- what a line does to a good state
+pub record Taken (most : ℕ) (c : Command) (s : Replayed) : Type 0 where
+  pub good : Good (most + 1) (keeper.after c s)
+  pub after : plain.after c (plain_of s) ≡ plain_of (keeper.after c s)
+  pub tells : plain.told c (plain_of s) ≡ keeper.told c s
+  pub text : record_text (record_of (keeper.after c s).history) ≡ record_text (record_of s.history) ++ entries_text (keeper.told c s)
+
+pub taken : (most : ℕ) (c : Command) (s : Replayed) → most < 18446744073709551615 → is_built_command c ≡ true → IsCommandWithin 1 c → is_refused keeper c s ≡ false → Good most s → Taken most c s
+taken most c s bound built within free g =
+    let k : Keeps s.config.buckets most c s.history (with_line s.config.buckets c s.history) (line_entries s.config.buckets c s.history) =
+      keeps-line s.config.buckets most c s g.some bound built within free g.lawful g.stands in
+    record {
+      good = record {
+        seats = g.seats;
+        some = g.some;
+        lawful = k.lawful;
+        stands = k.stands;
+        given = given-more s.config.seats s.lines c History.Blank s.history _ g.given (subst (λ n. Gives n c s.history (with_line s.config.buckets c s.history)) (sym g.seats) k.gives);
+      };
+      after = k.after;
+      tells = k.tells;
+      text = k.text;
+    }
+
+-- both refuse the same lines
+pub refused_same : (most : ℕ) (c : Command) (s : Replayed) → IsCommandWithin 1 c → Good most s → is_refused plain c (plain_of s) ≡ is_refused keeper c s
+refused_same most (commands.Call zero call) s within g = busy_same s.history g.stands
+refused_same most (commands.Call (suc i) call) s within g = absurd (omega arith)
+refused_same most (commands.Run i) s within g = refl
+refused_same most (commands.Step i units) s within g = refl
+refused_same most commands.Table s within g = refl
+refused_same most commands.End s within g = refl
