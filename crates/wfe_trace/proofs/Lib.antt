@@ -1,4 +1,5 @@
 pub mod Digits
+pub mod Judged
 pub mod Numerals
 pub mod Settings
 pub mod Spaces
