@@ -266,11 +266,11 @@ pub good-later : (most : ℕ) (s : Replayed) → Good most s → Good (most + 1)
 good-later most s g = record { seats = g.seats; some = g.some; lawful = later_lawful s.config.buckets most s.history g.lawful; stands = g.stands; given = g.given }
 
 -- before any line
-pub good-opened : (version : ℕ) (config : Config) → config.seats ≡ 1 → 0 < config.buckets → Good 0 (keeper.opened version config)
-good-opened version config seats some = record {
+pub good-opened : (most version : ℕ) (config : Config) → config.seats ≡ 1 → 0 < config.buckets → Good most (keeper.opened version config)
+good-opened most version config seats some = record {
   seats = seats;
   some = some;
-  lawful = record { few = λ b. le_refl 0; counted = tt; turns = tt; map = tt; answers = tt };
+  lawful = record { few = λ b. omega arith; counted = tt; turns = tt; map = tt; answers = tt };
   stands = inl (record { idle = refl; none = refl });
   given = refl;
 }
