@@ -37,7 +37,7 @@ abbrev pub GoodIn : ℕ → Option Replayed → Type 0
 GoodIn most None = Unit {0}
 GoodIn most (Some s) = Good most s
 
-good_in-later : (most : ℕ) (engine : Option Replayed) → GoodIn most engine → GoodIn (most + 1) engine
+pub good_in-later : (most : ℕ) (engine : Option Replayed) → GoodIn most engine → GoodIn (most + 1) engine
 good_in-later most None g = tt
 good_in-later most (Some s) g = good-later most s g
 
