@@ -1,3 +1,5 @@
+pub mod Command
+pub mod Opening
 pub mod Places
 pub mod Plain
 pub mod PlainEngine

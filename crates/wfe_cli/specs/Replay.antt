@@ -1,5 +1,5 @@
 -- What a replay of a trace prints, and when it ends how.
-use Rattle.std.specs.Prelude.{◌≡◌, ℕ, List, Option, Result, Ok, Err}
+use Rattle.std.specs.Prelude.{◌≡◌, ◌⊎◌, ℕ, List, Option, Some, Result, Ok, Err}
 use Rattle.std.specs.Io.KnownBytes.{Appends, Consumes, IsAtEnd}
 use Rattle.wfe_trace.specs.declared.item.Mode.TheVariants as modes
 use Rattle.wfe_trace.specs.declared.reason.BadLine.{BadLine}
@@ -28,7 +28,7 @@ pub record IsReplayed (taken : List ℕ) (old new : Option (List ℕ)) : Type 0 
   pub given : Replayed
   pub progress : Progress Replayed
   pub good : whole taken ≡ Ok progress
-  pub is_given : progress.engine ≡ Option.Some given
+  pub is_given : progress.engine ≡ Some given
   pub printed : Appends old new (full_text given)
   pub lawful : IsLawful given
 

@@ -3,7 +3,7 @@ ghost use Rattle.std.specs.Prelude.{◌≡◌, ◌≤◌, ◌<◌, length, OnOk,
 ghost use Rattle.std.specs.Io.KnownBytes.{Appends};
 ghost use Rattle.arrayvec.specs.ArrayVec.{array_vec_len};
 ghost use Rattle.wfe_outside.specs.Faults.{Rose};
-ghost use Rattle.wfe_trace.specs.Item.{IsInRange};
+ghost use Rattle.wfe_cli.specs.Opening.{IsOpening};
 ghost use Rattle.wfe_trace.specs.Record.{header_line};
 ghost use Rattle.wfe_trace.specs.declared.item.Mode.TheVariants.{Replay};
 ghost use Rattle.wfe_words.specs.Config.{bad_field};
@@ -138,7 +138,13 @@ impl Work {
     }
 
     // The setting is whole: makes the map, and prints the header.
-    fn open<K: Sink>(&mut self, alloc: Global, version: u32, config: Config, sink: &mut K) -> Result<(), Fault>
+    fn open<K: Sink>(
+        &mut self,
+        alloc: Global,
+        version: u32,
+        config: Config,
+        sink: &mut K,
+    ) -> Result<(), Fault>
         requires { bad_field config ≡ None }
         ensures after { OnOk result (self.new ≡ record self.old { engine = Some (plain.opened version config) }) }
         ensures wrote { OnOk result (Appends (K.written sink.old) (K.written sink.new) (header_line version config)) }
@@ -180,7 +186,7 @@ impl Work {
 
     // Takes what a line says, which was read.
     fn take_item<K: Sink>(&mut self, alloc: Global, item: Item, sink: &mut K) -> Result<(), Fault>
-        requires { IsInRange item }
+        requires { IsOpening item }
         ensures after { OnOk result (self.new ≡ item_taken plain self.old item) }
         ensures wrote { OnOk result (Appends (K.written sink.old) (K.written sink.new) (told_by plain self.old item)) }
         ensures some { OnErr result (AppendsSome (K.written sink.old) (K.written sink.new) (told_by plain self.old item)) }
@@ -208,7 +214,7 @@ impl Work {
     fn read(&mut self) -> Result<Item, BadLine>
         ensures item { result ≡ line_item plain self.old }
         ensures after { OnOk result (self.new ≡ line_read self.old) }
-        ensures in_range { IfOk result IsInRange }
+        ensures in_range { IfOk result IsOpening }
     {
         let busy = self.bad(Reason::Busy);
         let item = read_line(&mut self.state, self.line.as_slice())?;
@@ -263,7 +269,12 @@ impl Work {
     }
 
     /// Takes the next bytes of the trace, up to the first that is bad.
-    pub fn take_bytes<K: Sink>(&mut self, alloc: Global, bytes: &[u8], sink: &mut K) -> Result<(), Stop>
+    pub fn take_bytes<K: Sink>(
+        &mut self,
+        alloc: Global,
+        bytes: &[u8],
+        sink: &mut K,
+    ) -> Result<(), Stop>
         ensures took { Took result (after_bytes plain (Ok self.old) bytes.now) self.new (K.written sink.old) (K.written sink.new) (bytes_output plain (Ok self.old) bytes.now) }
         ensures later { K.faults sink.old ≤ K.faults sink.new }
         ensures cause { IfErr result (λ stop. stop ≡ Stop.Fault Fault.Write → Rose (K.faults sink.old) (K.faults sink.new)) }

@@ -1,4 +1,9 @@
+pub mod Decimals
 pub mod Digits
+pub mod EventReader
+pub mod EventTexts
+pub mod EventWords
+pub mod Judged
 pub mod Numerals
 pub mod Settings
 pub mod Spaces

@@ -1,5 +1,5 @@
 -- The body lines of a trace.
-use Rattle.std.specs.Prelude.{◌==◌, ◌&&◌, if◌then◌else◌, nat_lt, nat_le, Bool, true, false, ℕ, List, [], ◌∷◌, Option, Some, None, Result, Ok, Err, codes}
+use Rattle.std.specs.Prelude.{◌<◌, ◌≤◌, ◌||◌, ◌==◌, ◌&&◌, if◌then◌else◌, nat_lt, nat_le, Bool, true, false, ℕ, List, [], ◌∷◌, Option, Some, None, Result, Ok, Err, codes}
 use Rattle.std.specs.Str.{bytes_eq}
 use Rattle.wfe_defs.specs.declared.call.Call.TheVariants as calls
 use Rattle.wfe_defs.specs.declared.command.Command.{Command}
@@ -90,6 +90,10 @@ seat_of seats verb seat =
     if count_of verb == 0 then Ok 0 else
     if nat_lt seat seats then Ok seat else Err reasons.Seat
 
+-- a seat of the trace, where the verb's line names one
+abbrev pub is_seat : ℕ → Verb → ℕ → Bool
+is_seat seats verb seat = count_of verb == 0 || nat_lt seat seats
+
 -- what the line asks for; only the units of a step can be out of range
 abbrev pub command_of : Verb → ℕ → Numbers → Result Command Reason
 command_of verbs.Get s n = Ok (commands.Call s (calls.Get n.first))
@@ -125,3 +129,11 @@ command_in mode seats (s ∷ v ∷ []) = judged_line mode seats (verb_in v) (pla
 command_in mode seats (s ∷ v ∷ a ∷ []) = judged_line mode seats (verb_in v) (places.SeatOne (number_in s) (number_in a))
 command_in mode seats (s ∷ v ∷ a ∷ b ∷ []) = judged_line mode seats (verb_in v) (places.SeatTwo (number_in s) (number_in a) (number_in b))
 command_in mode seats _ = Err reasons.Form
+
+-- the seat is one of the trace, and the units of a step are 1 to 100,000
+abbrev pub IsCommandWithin : ℕ → Command → Type 0
+IsCommandWithin seats (commands.Call seat call) = seat < seats
+IsCommandWithin seats (commands.Step seat units) = (seat < seats) × (1 ≤ units) × (units ≤ 100000)
+IsCommandWithin seats (commands.Run seat) = seat < seats
+IsCommandWithin seats commands.Table = Unit {0}
+IsCommandWithin seats commands.End = Unit {0}

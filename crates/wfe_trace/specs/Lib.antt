@@ -1,6 +1,6 @@
 pub mod Body
 pub mod Built
-pub mod Item
+pub mod Fits
 pub mod Reading
 pub mod Record
 pub mod Setting

@@ -1,12 +1,12 @@
 -- A trace as it is read, line by line.
-use Rattle.std.specs.Prelude.{◌+◌, min, nat_le, ℕ, List, Result, Ok, codes, length}
+use Rattle.std.specs.Prelude.{None, ◌≡◌, ◌+◌, min, nat_le, ℕ, List, Result, Ok, codes, length}
 use Rattle.std.specs.Result.{result_unwrap_or}
 use Rattle.std.specs.Str.{bytes_eq}
 use Rattle.wfe_words.specs.declared.config.Config.{Config}
 use Rattle.wfe_words.specs.declared.config.SchemeKind.TheVariants as schemes
 use Rattle.wfe_words.specs.declared.config.Field.{Field}
 use Rattle.wfe_words.specs.declared.config.Field.TheVariants as fields
-use Rattle.wfe_words.specs.Config.{number_of}
+use Rattle.wfe_words.specs.Config.{bad_field, number_of}
 use Rattle.wfe_trace.specs.declared.item.Mode.{Mode}
 use Rattle.wfe_trace.specs.declared.item.Item.{Item}
 use Rattle.wfe_trace.specs.declared.item.Item.TheVariants as items
@@ -14,7 +14,7 @@ use Rattle.wfe_trace.specs.declared.item.Stage.{Stage}
 use Rattle.wfe_trace.specs.declared.item.Stage.TheVariants as stages
 use Rattle.wfe_trace.specs.declared.reason.Reason.{Reason}
 use Rattle.wfe_trace.specs.declared.reason.Reason.TheVariants as reasons
-use Rattle.wfe_trace.specs.Body.{command_in}
+use Rattle.wfe_trace.specs.Body.{command_in, IsCommandWithin}
 use Rattle.wfe_trace.specs.Setting.{scheme_line, number_line, with_number}
 use Rattle.wfe_trace.specs.Words.{words, need, ◌>>=◌}
 
@@ -57,6 +57,12 @@ abbrev pub judged : Reading → List ℕ → Result Item Reason
 judged r bytes = do
   short ← need (nat_le (length bytes) 200) reasons.LongLine
   judged_at r.stage r bytes
+
+-- the numbers of the setting are in their ranges, and a command keeps to them
+abbrev pub IsItemWithin : Reading → Item → Type 0
+IsItemWithin r items.Setting = Unit {0}
+IsItemWithin r (items.Ready version config) = bad_field config ≡ None
+IsItemWithin r (items.Command command) = IsCommandWithin r.config.seats command
 
 -- the line after a field's
 abbrev pub after_field : Field → Stage

@@ -1,5 +1,5 @@
 -- The text of a record's lines.
-use Rattle.std.specs.Prelude.{ℕ, ◌-◌, List, [], ◌∷◌, ◌++◌, Option, Some, None, codes}
+use Rattle.std.specs.Prelude.{Bool, true, false, ℕ, ◌-◌, List, [], ◌∷◌, ◌++◌, Option, Some, None, codes}
 use Rattle.std.specs.Fmt.{decimal}
 use Rattle.wfe_words.specs.declared.config.Config.{Config}
 use Rattle.wfe_words.specs.declared.config.SchemeKind.{SchemeKind}
@@ -109,6 +109,15 @@ event_words (events.Removed bucket version key) = codes "removed" ∷ decimal bu
 event_words (events.Got bucket version key value) = codes "got" ∷ decimal bucket ∷ decimal version ∷ decimal key ∷ value_words value
 event_words (events.Queued number value) = codes "queued" ∷ decimal number ∷ decimal value ∷ []
 event_words (events.Taken number value) = codes "taken" ∷ decimal number ∷ decimal value ∷ []
+
+-- an event of keys and values
+abbrev pub tells_contents : Event → Bool
+tells_contents (events.Put bucket version key value) = true
+tells_contents (events.Removed bucket version key) = true
+tells_contents (events.Got bucket version key value) = true
+tells_contents (events.Queued number value) = true
+tells_contents (events.Taken number value) = true
+tells_contents _ = false
 
 -- the line of an event of a seat
 abbrev pub event_line : ℕ → Event → List ℕ

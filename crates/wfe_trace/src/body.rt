@@ -1,7 +1,7 @@
 // The body lines of a trace: all forms of version 1, of which some are not built.
-ghost use Rattle.std.specs.Prelude.{◌≡◌};
-ghost use Rattle.wfe_trace.specs.Built.{is_built_verb as built};
-ghost use Rattle.wfe_trace.specs.Body.{verb_in, count_of as count, count_in, in_form as form, numbers_in, is_for as fits, seat_of as named_seat, command_of as command, judged_line, command_in};
+ghost use Rattle.std.specs.Prelude.{◌≡◌, ℕ, IfOk, IsTrue};
+ghost use Rattle.wfe_trace.specs.Built.{is_built_verb as built, is_built_command};
+ghost use Rattle.wfe_trace.specs.Body.{verb_in, count_of as count, count_in, in_form as form, numbers_in, is_for as fits, seat_of as named_seat, command_of as command, judged_line, command_in, is_seat, IsCommandWithin};
 ghost use Rattle.wfe_trace.specs.Words.{words};
 
 use crate::words::{Words, need, number_of, or_number, words_of};
@@ -140,7 +140,8 @@ fn is_for(mode: Mode, verb: Verb) -> bool
 }
 
 fn seat_of(seats: u32, verb: Verb, seat: u64) -> Result<u32, Reason>
-    ensures { result ≡ named_seat seats verb seat }
+    ensures seat { result ≡ named_seat seats verb seat }
+    ensures within { IfOk result (λ s. IsTrue (is_seat seats verb s)) }
 {
     if count_of(verb) == 0 {
         Ok(0)
@@ -152,7 +153,9 @@ fn seat_of(seats: u32, verb: Verb, seat: u64) -> Result<u32, Reason>
 }
 
 fn command_of(verb: Verb, seat: u32, numbers: Numbers) -> Result<Command, Reason>
-    ensures { result ≡ command verb seat numbers }
+    ensures command { result ≡ command verb seat numbers }
+    ensures within { (seats : ℕ) → IsTrue (is_seat seats verb seat) → IfOk result (IsCommandWithin seats) }
+    ensures built { IsTrue (built verb) → IfOk result (λ c. IsTrue (is_built_command c)) }
 {
     let call = match verb {
         Verb::Get => Call::Get { key: numbers.first },
@@ -185,7 +188,9 @@ fn command_of(verb: Verb, seat: u32, numbers: Numbers) -> Result<Command, Reason
 }
 
 fn judge(mode: Mode, seats: u32, named: Option<Verb>, line: Places) -> Result<Command, Reason>
-    ensures { result ≡ judged_line mode seats named line }
+    ensures command { result ≡ judged_line mode seats named line }
+    ensures within { IfOk result (IsCommandWithin seats) }
+    ensures built { IfOk result (λ c. IsTrue (is_built_command c)) }
 {
     let verb = in_form(named, line)?;
     need(is_built_verb(verb), Reason::NotYet)?;
@@ -197,7 +202,9 @@ fn judge(mode: Mode, seats: u32, named: Option<Verb>, line: Places) -> Result<Co
 
 /// Judges a line of the body, in a trace with so many seats.
 pub fn read_body(mode: Mode, seats: u32, bytes: &[u8]) -> Result<Command, Reason>
-    ensures { result ≡ command_in mode seats (words bytes.now) }
+    ensures command { result ≡ command_in mode seats (words bytes.now) }
+    ensures within { IfOk result (IsCommandWithin seats) }
+    ensures built { IfOk result (λ c. IsTrue (is_built_command c)) }
 {
     match words_of(bytes) {
         Words::One(verb) => judge(mode, seats, verb_of(verb), Places::Nothing),

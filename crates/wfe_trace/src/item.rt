@@ -23,7 +23,7 @@ pub enum Item {
 }
 
 // The line that is read next.
-#[derive(Clone, Copy, Debug, PartialEq, Eq)]
+#[derive(Clone, Copy)]
 pub enum Stage {
     First,
     Scheme,

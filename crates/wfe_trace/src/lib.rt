@@ -3,6 +3,7 @@
 
 mod body;
 mod item;
+mod law;
 mod line;
 mod print;
 mod read;
@@ -11,7 +12,11 @@ mod setting;
 mod words;
 
 pub use item::{Item, Mode};
+pub use law::event_line_is_of_one_event;
 pub use line::Line;
 pub use print::{print_bad, print_event, print_header, print_table};
 pub use read::{TraceState, read_line};
 pub use reason::{BadLine, Reason, Status};
+
+#[cfg(test)]
+mod tests;

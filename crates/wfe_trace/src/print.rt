@@ -1,8 +1,8 @@
 // Prints the lines of a record: its first line, the lines of events and of counts, and the line
 // that names the first bad line of a trace.
-ghost use Rattle.std.specs.Prelude.{◌≡◌, ◌≤◌, ◌+◌, ◌*◌, map, [], ◌∷◌, ◌++◌, List, length};
+ghost use Rattle.std.specs.Prelude.{◌≡◌, ◌≤◌, ◌+◌, ◌*◌, IsTrue, map, [], ◌∷◌, ◌++◌, List, length};
 ghost use Rattle.std.specs.Fmt.{decimal};
-ghost use Rattle.wfe_trace.specs.Record.{spaced, later_words, guard_word, span_words, value_words, root_word, clock_words, call_words, answer_words, event_words, event_line, seat_word, table_line, scheme_word, setting_words, header_line, reason_word, bad_line};
+ghost use Rattle.wfe_trace.specs.Record.{spaced, later_words, guard_word, span_words, value_words, root_word, clock_words, call_words, answer_words, event_words, tells_contents, event_line, seat_word, table_line, scheme_word, setting_words, header_line, reason_word, bad_line};
 
 use crate::{BadLine, Line, Reason};
 use wfe_defs::{Answer, Call, ClockMove, Event, Guard, Interval, Root};
@@ -222,46 +222,14 @@ fn event_name(event: Event) -> &'static [u8]
     }
 }
 
-// The words after an event's name.
-fn print_rest(line: &mut Line, event: Event)
-    requires { length line.old ≤ 500 }
+// The words after the name of an event that tells of keys and values.
+fn print_contents(line: &mut Line, event: Event)
+    requires room { length line.old ≤ 500 }
+    requires contents { IsTrue (tells_contents event) }
     ensures text { line.new ≡ line.old ++ spaced (later_words (event_words event)) }
     ensures room { length line.new ≤ length line.old + 200 }
 {
     match event {
-        Event::Begin { call } => print_call(line, call),
-        Event::End { steps, answer } => {
-            number(line, steps);
-            print_answer(line, answer);
-        }
-        Event::Era { era } => number(line, era as u64),
-        Event::Reserve { guard, span } | Event::Read { guard, span } => {
-            print_guard(line, guard);
-            print_span(line, span);
-        }
-        Event::Give {
-            slot: first,
-            birth: second,
-        }
-        | Event::Clear {
-            index: first,
-            slot: second,
-        } => numbers(line, &[first as u64, second as u64]),
-        Event::Unused { slot } | Event::Cut { slot } | Event::Back { slot } => number(
-            line,
-            slot as u64,
-        ),
-        Event::Link { root, slot } => {
-            print_root(line, root);
-            number(line, slot as u64);
-        }
-        Event::Retire {
-            slot,
-            birth,
-            retire,
-        } => numbers(line, &[slot as u64, birth as u64, retire as u64]),
-        Event::Held { index, slot, steps } => numbers(line, &[index as u64, slot as u64, steps]),
-        Event::Null { index, steps } => numbers(line, &[index as u64, steps]),
         Event::Put {
             bucket,
             version,
@@ -286,6 +254,48 @@ fn print_rest(line: &mut Line, event: Event)
             line,
             &[number, value],
         ),
+        _ => unreachable!(),
+    }
+}
+
+// The words after an event's name.
+fn print_rest(line: &mut Line, event: Event)
+    requires { length line.old ≤ 500 }
+    ensures text { line.new ≡ line.old ++ spaced (later_words (event_words event)) }
+    ensures room { length line.new ≤ length line.old + 200 }
+{
+    match event {
+        Event::Begin { call } => print_call(line, call),
+        Event::End { steps, answer } => {
+            number(line, steps);
+            print_answer(line, answer);
+        }
+        Event::Era { era } => number(line, era as u64),
+        Event::Reserve { guard, span } | Event::Read { guard, span } => {
+            print_guard(line, guard);
+            print_span(line, span);
+        }
+        Event::Give { slot, birth } => numbers(line, &[slot as u64, birth as u64]),
+        Event::Unused { slot } => number(line, slot as u64),
+        Event::Link { root, slot } => {
+            print_root(line, root);
+            number(line, slot as u64);
+        }
+        Event::Cut { slot } => number(line, slot as u64),
+        Event::Retire {
+            slot,
+            birth,
+            retire,
+        } => numbers(line, &[slot as u64, birth as u64, retire as u64]),
+        Event::Back { slot } => number(line, slot as u64),
+        Event::Held { index, slot, steps } => numbers(line, &[index as u64, slot as u64, steps]),
+        Event::Null { index, steps } => numbers(line, &[index as u64, steps]),
+        Event::Clear { index, slot } => numbers(line, &[index as u64, slot as u64]),
+        Event::Put { .. }
+        | Event::Removed { .. }
+        | Event::Got { .. }
+        | Event::Queued { .. }
+        | Event::Taken { .. } => print_contents(line, event),
     }
 }
 

@@ -1,7 +1,7 @@
 // A trace as it is read, line by line.
-ghost use Rattle.std.specs.Prelude.{◌≡◌, ◌+◌, MatchResult, IfOk, OnOk, OnErr, IfErr, Ok, Err, min};
-ghost use Rattle.wfe_trace.specs.Item.{IsInRange};
-ghost use Rattle.wfe_trace.specs.Reading.{Reading, reading_start, judged, judged_at, reading_after, config_after, line_after, stage_after as later_stage, after_field as later_field};
+ghost use Rattle.std.specs.Prelude.{◌≡◌, MatchResult, OnOk, OnErr, IfOk, IfErr, IsTrue, Ok, Err};
+ghost use Rattle.wfe_trace.specs.Built.{is_built_item};
+ghost use Rattle.wfe_trace.specs.Reading.{IsItemWithin, Reading, reading_start, judged, judged_at, reading_after, config_after, line_after, stage_after as later_stage, after_field as later_field};
 
 use crate::body::read_body;
 use crate::item::Stage;
@@ -22,7 +22,8 @@ pub struct TraceState {
 }
 
 impl Model for TraceState {
-    ghost use Rattle.std.specs.Prelude.{◌≡◌, None};
+    ghost use Rattle.std.specs.Prelude.{◌≡◌, None, IsTrue};
+    ghost use Rattle.wfe_trace.specs.Built.{is_built_config};
     ghost use Rattle.wfe_words.specs.Config.{bad_field};
     ghost use Rattle.wfe_trace.specs.Reading.{Reading};
 
@@ -30,7 +31,7 @@ impl Model for TraceState {
 
     ghost view = { λ s. record { mode = s.mode; version = s.version; line = s.line; stage = s.stage; config = s.config } };
 
-    ghost invariant = { λ s. bad_field s.config ≡ None };
+    ghost invariant = { λ s. (bad_field s.config ≡ None) × IsTrue (is_built_config s.config) };
 }
 
 fn after_field(field: Field) -> Stage
@@ -99,7 +100,8 @@ impl TraceState {
         ensures item { result ≡ judged_at self.old.stage self.old bytes.now }
         ensures taken { OnOk result (self.new ≡ record self.old { config = config_after self.old.stage self.old.config bytes.now }) }
         ensures kept { OnErr result (self.new ≡ self.old) }
-        ensures in_range { IfOk result IsInRange }
+        ensures within { IfOk result (IsItemWithin self.old) }
+        ensures built { IfOk result (λ item. IsTrue (is_built_item item)) }
     {
         match self.stage {
             Stage::First => need(bytes == b"wfe 1".as_slice(), Reason::First)?,
@@ -133,7 +135,8 @@ pub fn read_line(state: &mut TraceState, bytes: &[u8]) -> Result<Item, BadLine>
     ensures line { IfErr result (λ bad. bad.line ≡ line_after state.old) }
     ensures after { OnOk result (state.new ≡ reading_after state.old bytes.now) }
     ensures kept { OnErr result (state.new ≡ state.old) }
-    ensures in_range { IfOk result IsInRange }
+    ensures within { IfOk result (IsItemWithin state.old) }
+    ensures built { IfOk result (λ item. IsTrue (is_built_item item)) }
 {
     let line = state.line.saturating_add(1);
     match need(bytes.len() <= 200, Reason::LongLine) {

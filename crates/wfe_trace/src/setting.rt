@@ -52,7 +52,8 @@ fn is_built_number(field: Field, number: u64) -> bool
 
 /// The scheme that the second line names.
 pub fn read_scheme(bytes: &[u8]) -> Result<SchemeKind, Reason>
-    ensures { result ≡ scheme_line (words bytes.now) }
+    ensures line { result ≡ scheme_line (words bytes.now) }
+    ensures built { IfOk result (λ scheme. IsTrue (built_scheme scheme)) }
 {
     let scheme = scheme_of(word_after(b"scheme", bytes)?)?;
     need(is_built_scheme(scheme), Reason::NotYet)?;
@@ -79,6 +80,7 @@ fn field_name(field: Field) -> &'static [u8]
 pub fn read_number(field: Field, bytes: &[u8]) -> Result<u64, Reason>
     ensures line { result ≡ number_line field (words bytes.now) }
     ensures within { IfOk result (λ number. IsTrue (in_range field number)) }
+    ensures built { IfOk result (λ number. IsTrue (built_number field number)) }
 {
     let number = or_number(number_of(word_after(field_name(field), bytes)?))?;
     need(field.allows(number), Reason::Range)?;

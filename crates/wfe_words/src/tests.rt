@@ -168,7 +168,7 @@ fn words_start_with_the_queue_at_its_dummy(rt: HostRuntime) -> Result<(), Fail> 
 }
 
 #[test]
-fn published_words_are_packed_and_read(rt: HostRuntime) {
+fn published_requests_are_packed_and_read(rt: HostRuntime) {
     let requests = [
         (Request::Idle, 0),
         (
@@ -195,21 +195,28 @@ fn published_words_are_packed_and_read(rt: HostRuntime) {
         9_223_372_054_034_645_001
     );
     assert_eq!(rt; request_word(Request::Idle), 0);
+}
+
+#[test]
+fn published_lifetime_is_packed_and_read(rt: HostRuntime) {
     let life = Life {
         birth: 3,
         retire: 5,
     };
     assert_eq!(rt; life_word(life), 0x0000_0003_0000_0005);
     assert_eq!(rt; read_life(12_884_901_893), Some(life));
-    let reservation = Reservation { era: 3, tag: 5 };
-    assert_eq!(rt; reservation_word(reservation), 12_884_901_893);
-    assert_eq!(rt; read_reservation(12_884_901_893), reservation);
-    let span = Some(Span { lo: 3, hi: 5 });
-    assert_eq!(rt; span_word(span), 12_884_901_893);
-    assert_eq!(rt; read_span(12_884_901_893), Some(span));
-    assert_eq!(rt; read_span(0), Some(None));
     assert_eq!(rt; link_word(Link::Slot(3)), 4);
     assert_eq!(rt; read_link(4, 3), Some(Link::Slot(3)));
+}
+
+#[test]
+fn eras_stand_in_the_high_half(rt: HostRuntime) {
+    let reservation = Reservation { era: 3, tag: 5 };
+    assert_eq!(rt; reservation_word(reservation), 0x0000_0003_0000_0005);
+    assert_eq!(rt; read_reservation(0x0000_0003_0000_0005), reservation);
+    let span = Some(Span { lo: 3, hi: 5 });
+    assert_eq!(rt; span_word(span), 0x0000_0003_0000_0005);
+    assert_eq!(rt; read_span(0x0000_0003_0000_0005), Some(span));
 }
 
 #[test]
