@@ -1,3 +1,4 @@
 pub mod Lists
 pub mod Noting
 pub mod Ranges
+pub mod Roots

@@ -1,5 +1,5 @@
 -- The ranges of a valid layout's numbers.
-use Rattle.std.proofs.Common.{◌≡◌, ◌≤◌, true, arith}
+use Rattle.std.proofs.Common.{◌≡◌, true, arith}
 use Rattle.std.proofs.lemmas.Bool.Decides.{nat_tests}
 use Rattle.wfe_words.specs.Place.{is_valid}
 use Rattle.wfe_words.specs.declared.layout.Layout.{Layout}
@@ -16,5 +16,5 @@ bounds_of layout h = record {
   every = grind (arith, nat_tests);
   eras = grind (arith, nat_tests);
   versions = grind (arith, nat_tests);
-  pairs = grind (arith, nat_tests)
+  pairs = grind (arith, nat_tests);
 }

@@ -1,12 +1,10 @@
 -- How many steps a call may still make, at most. Each round but the one after a failed walk has seen a greater version or
 -- number, each try but those of Wait-Free Eras a greater era, and a call walks and scans at most twice.
-use Rattle.std.specs.Prelude.{ℕ, ◌+◌, ◌-◌, ◌*◌, ◌==◌, Bool, true, false, if◌then◌else◌, List, length, Option, Some, None}
+use Rattle.std.specs.Prelude.{ℕ, ◌+◌, ◌-◌, ◌*◌, Bool, true, false, List, length, Option, Some, None}
 use Rattle.wfe_words.specs.Place.Place.{Clock}
 use Rattle.wfe_words.specs.declared.config.Config.{Config}
 use Rattle.wfe_defs.specs.declared.lifetime.Interval.{Interval}
 use Rattle.wfe_defs.specs.declared.lifetime.Lifetime.{Lifetime}
-use Rattle.wfe_core.specs.declared.post.Post.{Post}
-use Rattle.wfe_core.specs.Desks.{Desk}
 use Rattle.wfe_core.specs.Guards.{guards}
 use Rattle.wfe_core.specs.Phases.{Aim, Alone, Follows, Tries, Endless, Failed, BeginAt, ProtectAt, AllocateAt, RetireAt, MoveAt, Base}
 use Rattle.wfe_core.specs.Phases.BeginAt.{LoadLower, PublishSpan}

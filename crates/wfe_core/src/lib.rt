@@ -5,6 +5,8 @@
 mod call;
 mod desk;
 mod ends;
+mod hold_link;
+mod links;
 mod machine;
 mod op;
 mod post;
@@ -13,6 +15,8 @@ mod told;
 pub use call::CallMachine;
 pub use desk::{Desk, Notes, RetireList, ScanReport};
 pub use ends::{AllocateEnd, FollowEnd, ProtectEnd};
+pub use hold_link::{hold, index_word, one_era, protect_end};
+pub use links::{link_word_number, root_at};
 pub use machine::Machine;
 pub use op::Op;
 pub use post::Post;

@@ -1,24 +1,14 @@
 -- Falls.
-use Rattle.std.proofs.Common.{ℕ, ◌≡◌, refl, List, [], ◌∷◌, ◌++◌}
-use Rattle.std.specs.Prelude.{Some, None}
+use Rattle.std.proofs.Common.{◌≡◌, refl, ◌++◌}
 use Rattle.wfe_words.specs.declared.config.SchemeKind.TheVariants.{He, Ibr, Wfe}
 use Rattle.wfe_words.specs.Packed.{halves, pending_word, answered_word, read_request, read_reservation, read_span, read_life}
 use Rattle.wfe_words.specs.Place.{claim_mask, claim_others, claim_start, number, place_at}
-use Rattle.wfe_defs.specs.declared.call.Answer.TheVariants as answers
 use Rattle.wfe_defs.specs.declared.call.Call.TheVariants as calls
-use Rattle.wfe_defs.specs.declared.call.ClockMove.TheVariants as moves
-use Rattle.wfe_defs.specs.declared.event.Event.TheVariants as events
-use Rattle.wfe_defs.specs.declared.event.Guard.TheVariants as guards
-use Rattle.wfe_defs.specs.declared.event.Root.TheVariants as roots
-use Rattle.wfe_defs.specs.Entry.{Entry}
-use Rattle.wfe_laws.specs.Record.{Past, tells_of}
-use Rattle.wfe_laws.specs.Record.Past.{Start}
-use Rattle.wfe_core.specs.Guards.{from_to}
-use Rattle.wfe_history.specs.History.{record_of, times}
-use Rattle.wfe_history.proofs.Among.{call, to_end, said, setting, entries, left_over}
-
+use Rattle.wfe_history.specs.History.{times}
+use Rattle.wfe_history.proofs.Among.{call, to_end, setting}
 use Rattle.std.specs.Prelude.{true}
 use Rattle.wfe_history.proofs.Falls.{falls}
+
 pub falls_0 : falls (setting He 1 8 2 1 100 100) (call 0 (calls.Put 7 70) ++ to_end 0 ++ call 0 (calls.Get 7) ++ to_end 0) ≡ true
 unfolding halves pending_word answered_word read_request read_reservation read_span read_life claim_mask claim_others claim_start number place_at
 falls_0 = refl
@@ -94,4 +84,3 @@ falls_17 = refl
 pub falls_18 : falls (setting He 2 8 2 2 100 100) (call 0 (calls.Put 7 70) ++ to_end 0 ++ call 1 (calls.Hold 7) ++ times 3 1 ++ call 0 (calls.Put 7 71) ++ to_end 0 ++ to_end 1 ++ call 0 calls.Scan ++ to_end 0) ≡ true
 unfolding halves pending_word answered_word read_request read_reservation read_span read_life claim_mask claim_others claim_start number place_at
 falls_18 = refl
-
