@@ -41,13 +41,13 @@ pub run_counted : (layout : Layout) (why : Why) (base : Base) (post : Post) → 
 run_counted layout why base post p = record { suited = p.suited; fits = p.fits; shape = p.shape; posted = posted_counted base post p.posted }
 
 owed : (layout : Layout) (k : ℕ) → is_valid layout ≡ true → (phase : Phase) (post : Post) (found : ℕ) → PostFits layout k post → PhaseFits layout post phase → Owes (PostFits layout k) (PhaseFits layout) (counted post) found phase
-owed layout k v Idle post found q p = tt
+owed layout k v Idle post found q p = counted_fits layout k post q
 owed layout k v (Runs why base) post found q p = shape_moves layout k v why base (counted post) found (counted_fits layout k post q) (run_counted layout why base post p)
-owed layout k v (Scans later at) post found q p = tt
-owed layout k v (Works work) post found q p = p
+owed layout k v (Scans later at) post found q p = counted_fits layout k post q
+owed layout k v (Works work) post found q p = record { post = counted_fits layout k post q; span = p }
 
 after_fits : (layout : Layout) (k : ℕ) → is_valid layout ≡ true → (l : Local) (found : ℕ) → Seated (PostFits layout k) (PhaseFits layout) l → Seated (PostFits layout k) (PhaseFits layout) (after l found)
-after_fits layout k v l found s = after_seated (shape_grows layout k v) l found (counted_fits layout k l.post s.post) (owed layout k v l.phase l.post found s.post s.phase)
+after_fits layout k v l found s = after_seated (shape_grows layout k v) l found (owed layout k v l.phase l.post found s.post s.phase)
 
 -- the seat that moved, or another
 pub one_moves : (S : ℕ → Local → Type 0) (now then : ℕ → Local) (i : ℕ) → ((k : ℕ) → S k (now k)) → ((k : ℕ) → (k == i) ≡ false → then k ≡ now k) → S i (then i) → (k : ℕ) → S k (then k)
