@@ -30,7 +30,7 @@ use Rattle.wfe_core.specs.Phases.Base.{Begin, Protect, Reload, Clear, Finish, Re
 use Rattle.wfe_core.specs.Protect.{failed_once, trying, held_post, told_held, concluded}
 use Rattle.wfe_core.specs.SlowPath.{own_request, answer_in, lost_turn, asking}
 use Rattle.wfe_core.specs.Allocate.{is_claimed, next_slot, walk_from, walk_at, walk_on, walk_past, shown_word, shown_of, walking}
-use Rattle.wfe_core.specs.WriteRow.{last_written, after_write}
+use Rattle.wfe_core.specs.WriteRow.{first_written, last_written, after_write}
 use Rattle.wfe_core.specs.MoveClock.{after_hand_over, all_met, next_request, helping, met, moving}
 use Rattle.wfe_core.specs.Machine.{after, begin_turn, protect_turn, allocate_turn, retire_turn, move_turn}
 use Rattle.wfe_core.specs.Calls.{Runs, Why, Opens, FollowsHead, Fills, ClearsNext, Clears, Finishes, GivesUp, Retires, Tidies, Advances, Releases}
@@ -339,7 +339,7 @@ write_moves : (layout : Layout) (k : ℕ) (why : Why) (slot : ℕ) (row : RowOf)
 write_moves layout k why slot row place post q r =
     moves_if why (place == last_written row) _ _
     (λ e. record { post = q; phase = resumes_from why post r.posted })
-    (λ e. record { post = q; phase = record { suited = r.suited; fits = let f : nat_le place (last_written row) ≡ true = r.fits in grind (arith, nat_tests); shape = tt; posted = r.posted } })
+    (λ e. record { post = q; phase = record { suited = r.suited; fits = let f : (nat_le (first_written row) place && nat_le place (last_written row)) ≡ true = r.fits in grind (arith, nat_tests); shape = tt; posted = r.posted } })
 
 -- a step inside a machine
 pub shape_moves : (layout : Layout) (k : ℕ) → is_valid layout ≡ true → (why : Why) (base : Base) (post : Post) (found : ℕ) → PostFits layout k post → Run layout why base post

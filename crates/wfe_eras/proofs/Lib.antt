@@ -7,6 +7,8 @@ pub mod Kept
 pub mod Machines
 pub mod Monotone
 pub mod Shapes
+pub mod SlotCalls
+pub mod SlotRounds
 pub mod Spans
 pub mod Steps
 pub mod Works
