@@ -91,7 +91,7 @@ owed_at layout k mem w (Runs why base) post q p e d = let r = run_counted layout
 owed_at layout k mem w (Scans later at) post q p e d = subst (λ (word : ℕ). PostEras layout k (mem Clock) word (counted post)) (sym (scan_span mem k at (counted post))) q
 owed_at layout k mem w (Works work) post q p e d = record { post = subst (λ (word : ℕ). PostEras layout k (mem Clock) word (counted post)) (sym (work_span mem k work (counted post))) q; span = p }
 
-told_of : (w : World) → is_valid w.layout ≡ true → Eras w → Told w.layout w.mem
+pub told_of : (w : World) → is_valid w.layout ≡ true → Eras w → Told w.layout w.mem
 told_of w v e = record { valid = v; some = e.some; most = e.most; words = e.words }
 
 -- the seat that steps, by the clock before the step

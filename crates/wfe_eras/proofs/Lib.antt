@@ -8,7 +8,9 @@ pub mod Machines
 pub mod Monotone
 pub mod Shapes
 pub mod SlotCalls
+pub mod SlotKept
 pub mod SlotRounds
+pub mod SlotSteps
 pub mod Spans
 pub mod Steps
 pub mod Works

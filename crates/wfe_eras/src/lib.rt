@@ -9,6 +9,7 @@ ghost use Rattle.wfe_defs.specs.declared.call.Call.{Call};
 ghost use Rattle.wfe_core.specs.World.{World, start, begin, step};
 ghost use Rattle.wfe_eras.specs.Eras.{Eras, ErasNeeds};
 ghost use Rattle.wfe_eras.specs.Seats.{Seats};
+ghost use Rattle.wfe_eras.specs.Slots.{Slots};
 
 /// Each seat's post and phase have the seat's number, the table's layout and the shape that scheme
 /// and call give, from the start on and over every step and every call that begins.
@@ -25,4 +26,12 @@ pub fn words_decode()
     ensures begin { (w : World) (i : ℕ) (call : Call) → is_valid w.layout ≡ true → Eras w → Eras (begin w i call) }
     ensures step { (w : World) (i : ℕ) → is_valid w.layout ≡ true → Seats w → Eras w → ErasNeeds w i → Eras (step w i) }
     ensures rises { (w : World) (i : ℕ) → Eras w → w.mem Clock ≤ (step w i).mem Clock }
+{}
+
+/// Each link in a word or a phase is null or leads to a row of the table, and each slot that a seat
+/// knows is such a row, from the start on and over every step and every call that begins.
+pub fn links_stay_within()
+    ensures start { (layout : Table) → Slots (start layout) }
+    ensures begin { (w : World) (i : ℕ) (call : Call) → Slots w → Slots (begin w i call) }
+    ensures step { (w : World) (i : ℕ) → is_valid w.layout ≡ true → Seats w → Eras w → Slots w → Slots (step w i) }
 {}
