@@ -10,6 +10,7 @@ use Rattle.wfe_words.specs.declared.config.SchemeKind.{SchemeKind}
 use Rattle.wfe_words.specs.declared.config.SchemeKind.TheVariants.{He, Ibr, Wfe}
 use Rattle.wfe_words.specs.declared.layout.Layout.{Layout}
 use Rattle.wfe_defs.specs.declared.call.Call.{Call}
+use Rattle.wfe_defs.specs.declared.event.Root.{Root}
 use Rattle.wfe_core.specs.declared.post.Post.{Post}
 use Rattle.wfe_core.specs.Memory.{Move, place_in, found, written}
 use Rattle.wfe_core.specs.Posts.{counted}
@@ -17,14 +18,17 @@ use Rattle.wfe_core.proofs.Ranges.{bounds_of}
 use Rattle.wfe_core.specs.Rounds.{scheme_of, protect_at, release_base}
 use Rattle.wfe_core.specs.Steps.{phase_move}
 use Rattle.wfe_core.specs.Locals.{Local, move, after, begun_post}
-use Rattle.wfe_core.specs.Phases.{ProtectAt, Base}
-use Rattle.wfe_core.specs.Phases.ProtectAt.{RaiseUpper}
-use Rattle.wfe_core.specs.Phases.Base.{Protect}
+use Rattle.wfe_core.specs.Phases.{ProtectAt, MoveAt, Base}
+use Rattle.wfe_core.specs.Phases.ProtectAt.{PublishRequest, AnswerOwn, RaiseUpper}
+use Rattle.wfe_core.specs.Phases.MoveAt.{AnswerAsked}
+use Rattle.wfe_core.specs.Phases.Base.{Begin, Protect, Reload, Clear, Finish, Release, Allocate, Write, GiveUp, Retire}
+use Rattle.wfe_core.specs.Phases.Base.{Move as Moves}
 use Rattle.wfe_core.specs.Calls.{Phase, Idle, Runs, Scans, Works}
 use Rattle.wfe_core.specs.World.{World, first_word, start, begin, step}
 use Rattle.wfe_eras.specs.Frame.{Grows, Seated, Owes}
 use Rattle.wfe_eras.specs.Seats.{PhaseFits, Seats}
-use Rattle.wfe_eras.specs.Eras.{HelperIn, IndexIn, RequestIn, LifeIn, NoLife, Lives, WordIn, ClockIn, protect_eras, base_eras, PhaseEras, phase_needs, PostEras, Eras, ErasNeeds}
+use Rattle.wfe_eras.specs.Slots.{ProtectsIn, MovesIn, BaseIn, PhaseIn, Slots}
+use Rattle.wfe_eras.specs.Eras.{HelperIn, IndexIn, RequestIn, LifeIn, NoLife, Lives, WordIn, ClockIn, protect_eras, base_eras, PhaseEras, protect_needs, move_needs, base_needs, phase_needs, base_life, life_needs, PostEras, Eras, ErasNeeds}
 use Rattle.wfe_eras.proofs.Frame.{seat_stays, seat_steps, begin_stays, begin_begins, after_seated, begun_seated, moves_with, move_counted, finds_counted}
 use Rattle.wfe_eras.proofs.Shapes.{shape_grows}
 use Rattle.wfe_eras.proofs.Inside.{shape_moves}
@@ -95,10 +99,10 @@ pub told_of : (w : World) → is_valid w.layout ≡ true → Eras w → Told w.l
 told_of w v e = record { valid = v; some = e.some; most = e.most; words = e.words }
 
 -- the seat that steps, by the clock before the step
-own_eras : (w : World) (i : ℕ) → is_valid w.layout ≡ true → Seats w → Eras w → ErasNeeds w i
+own_eras : (w : World) (i : ℕ) → is_valid w.layout ≡ true → Seats w → Eras w → phase_needs (w.seat i).phase w.layout w.mem
     → Seated (PostEras w.layout i (w.mem Clock) ((step w i).mem (Interval i))) (PhaseEras w.layout (w.mem Clock)) ((step w i).seat i)
-own_eras w i v s e n = let l = w.seat i in let m = phase_move l.phase (counted l.post) in
-    let o = owed_at w.layout i w.mem (told_of w v e) l.phase l.post (counted_post w.layout i (w.mem Clock) (w.mem (Interval i)) l.post (e.seats i).post) (s.fits i).phase (e.seats i).phase n.phase in
+own_eras w i v s e d = let l = w.seat i in let m = phase_move l.phase (counted l.post) in
+    let o = owed_at w.layout i w.mem (told_of w v e) l.phase l.post (counted_post w.layout i (w.mem Clock) (w.mem (Interval i)) l.post (e.seats i).post) (s.fits i).phase (e.seats i).phase d in
     subst (Seated (PostEras w.layout i (w.mem Clock) ((step w i).mem (Interval i))) (PhaseEras w.layout (w.mem Clock))) (sym (seat_steps w i))
     (subst (λ (f : ℕ). Seated (PostEras w.layout i (w.mem Clock) ((step w i).mem (Interval i))) (PhaseEras w.layout (w.mem Clock)) (after l f)) (finds_counted w i)
     (subst (λ (x : Move). Seated (PostEras w.layout i (w.mem Clock) (written w.mem x (Interval i))) (PhaseEras w.layout (w.mem Clock)) (after l (found m (w.mem (place_in m))))) (move_counted l.phase l.post)
@@ -117,19 +121,48 @@ seated_later layout k c d word l h s = record { post = post_later layout k c d w
 pub clock_next : (w : World) (i : ℕ) → Eras w → ClockIn w.layout.config.last_era (w.mem Clock) ((step w i).mem Clock)
 clock_next w i e = phase_clock w.layout w.mem (w.seat i).phase (w.seat i).post e.most (e.seats i).phase
 
-pub eras_step : (w : World) (i : ℕ) → is_valid w.layout ≡ true → Seats w → Eras w → ErasNeeds w i → Eras (step w i)
-eras_step w i v s e n = let c = clock_next w i e in let a = e.some in let b = c.rises in
+protect_given : (layout : Layout) (root : Root) (at : ProtectAt) → ProtectsIn layout root at → protect_needs at layout root
+protect_given layout root PublishRequest h = h.root_in
+protect_given layout root (AnswerOwn first era link) h = h.at_in
+protect_given layout root at h = tt
+
+move_given : (layout : Layout) (at : MoveAt) → MovesIn layout.config.slots at → move_needs at layout
+move_given layout (AnswerAsked era seat tag index root link) h = h
+move_given layout at h = tt
+
+base_given : (layout : Layout) (mem : Place → ℕ) (base : Base) → BaseIn layout base → base_life base mem → base_needs base layout mem
+base_given layout mem (Begin at) h l = tt
+base_given layout mem (Protect aim index root steps at) h l = protect_given layout root at h
+base_given layout mem (Reload parent index slot era steps) h l = tt
+base_given layout mem (Clear index) h l = tt
+base_given layout mem Finish h l = tt
+base_given layout mem Release h l = tt
+base_given layout mem (Allocate at) h l = tt
+base_given layout mem (Write slot row place) h l = tt
+base_given layout mem (GiveUp slot) h l = tt
+base_given layout mem (Retire at) h l = l
+base_given layout mem (Moves at) h l = move_given layout at h
+
+-- what a step takes of the slots
+phase_given : (layout : Layout) (mem : Place → ℕ) (phase : Phase) → PhaseIn layout phase → life_needs phase mem → phase_needs phase layout mem
+phase_given layout mem Idle h l = tt
+phase_given layout mem (Runs why base) h l = base_given layout mem base h.1 l
+phase_given layout mem (Scans later at) h l = tt
+phase_given layout mem (Works work) h l = tt
+
+pub eras_step : (w : World) (i : ℕ) → is_valid w.layout ≡ true → Seats w → Slots w → Eras w → ErasNeeds w i → Eras (step w i)
+eras_step w i v s o e n = let d = phase_given w.layout w.mem (w.seat i).phase (o.seats i).phase n.life in let c = clock_next w i e in let a = e.some in let b = c.rises in
     record {
       some = omega arith;
       most = c.most;
       words = λ place. word_later w.layout (w.mem Clock) ((step w i).mem Clock) place ((step w i).mem place) c.rises
-          (words_written w.layout (w.mem Clock) w.mem (move (w.seat i)) (phase_in w.layout (w.mem Clock) v w.mem (w.seat i).phase (w.seat i).post (s.fits i).post.layout n.tags (s.fits i).phase (e.seats i).phase n.phase) e.words place);
+          (words_written w.layout (w.mem Clock) w.mem (move (w.seat i)) (phase_in w.layout (w.mem Clock) v w.mem (w.seat i).phase (w.seat i).post (s.fits i).post.layout n.tags (s.fits i).phase (e.seats i).phase d) e.words place);
       seats = λ k. seated_later w.layout k (w.mem Clock) ((step w i).mem Clock) ((step w i).mem (Interval k)) ((step w i).seat k) c.rises (at k (k == i) refl);
     }
   where
     at : (k : ℕ) (x : Bool) → (k == i) ≡ x → Seated (PostEras w.layout k (w.mem Clock) ((step w i).mem (Interval k))) (PhaseEras w.layout (w.mem Clock)) ((step w i).seat k)
     at k true h = let same : i ≡ k = grind (arith, nat_tests) in
-        subst (λ (j : ℕ). Seated (PostEras w.layout j (w.mem Clock) ((step w i).mem (Interval j))) (PhaseEras w.layout (w.mem Clock)) ((step w i).seat j)) same (own_eras w i v s e n)
+        subst (λ (j : ℕ). Seated (PostEras w.layout j (w.mem Clock) ((step w i).mem (Interval j))) (PhaseEras w.layout (w.mem Clock)) ((step w i).seat j)) same (own_eras w i v s e (phase_given w.layout w.mem (w.seat i).phase (o.seats i).phase n.life))
     at k false h = other_eras w i k s e h
 
 pub eras_begin : (w : World) (i : ℕ) (call : Call) → is_valid w.layout ≡ true → Eras w → Eras (begin w i call)

@@ -237,7 +237,7 @@ pub record Eras (w : World) : Type 0 where
   pub words : (place : Place) → WordIn w.layout (w.mem Clock) place (w.mem place)
   pub seats : (k : ℕ) → Seated (PostEras w.layout k (w.mem Clock) (w.mem (Interval k))) (PhaseEras w.layout (w.mem Clock)) (w.seat k)
 
--- what other parts give: tags that can rise, links and a followed row of the table, and lives stored before they are loaded
+-- what a step takes of other parts: links and a followed row of the table, and lives stored before they are loaded
 abbrev pub RootNeeds : Layout → Root → Type 0
 RootNeeds layout (roots.Bucket bucket) = Unit {0}
 RootNeeds layout roots.Head = Unit {0}
@@ -267,9 +267,18 @@ abbrev pub phase_needs : Phase → Layout → (Place → ℕ) → Type 0
 phase_needs (Runs why base) layout mem = base_needs base layout mem
 phase_needs phase layout mem = Unit {0}
 
+abbrev pub base_life : Base → (Place → ℕ) → Type 0
+base_life (Retire at) mem = retire_needs at mem
+base_life base mem = Unit {0}
+
+-- a lifetime word that is loaded was stored
+abbrev pub life_needs : Phase → (Place → ℕ) → Type 0
+life_needs (Runs why base) mem = base_life base mem
+life_needs phase mem = Unit {0}
+
+-- what the other parts give a step of seat i
 pub record ErasNeeds (w : World) (i : ℕ) : Type 0 where
-  -- the tags of the seat that steps can rise
+  -- the tags of the seat can rise
   pub tags : (index : ℕ) → tag_of (w.seat i).post index < 4294967295
-  -- where a request is published its link is a word of the table, where it is answered the answer is null or a row, and a
-  -- lifetime word that is loaded was stored
-  pub phase : phase_needs (w.seat i).phase w.layout w.mem
+  -- the lifetime word of a row that is being retired is not 0
+  pub life : life_needs (w.seat i).phase w.mem

@@ -24,7 +24,7 @@ pub fn seats_keep_their_shape()
 pub fn words_decode()
     ensures start { (layout : Table) → is_valid layout ≡ true → Eras (start layout) }
     ensures begin { (w : World) (i : ℕ) (call : Call) → is_valid w.layout ≡ true → Eras w → Eras (begin w i call) }
-    ensures step { (w : World) (i : ℕ) → is_valid w.layout ≡ true → Seats w → Eras w → ErasNeeds w i → Eras (step w i) }
+    ensures step { (w : World) (i : ℕ) → is_valid w.layout ≡ true → Seats w → Slots w → Eras w → ErasNeeds w i → Eras (step w i) }
     ensures rises { (w : World) (i : ℕ) → Eras w → w.mem Clock ≤ (step w i).mem Clock }
 {}
 
