@@ -1,6 +1,7 @@
 pub mod Decode
 pub mod Finds
 pub mod Frame
+pub mod Gives
 pub mod Growth
 pub mod Inside
 pub mod Kept

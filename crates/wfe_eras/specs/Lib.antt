@@ -1,5 +1,6 @@
 pub mod Code
 pub mod Eras
 pub mod Frame
+pub mod Gives
 pub mod Seats
 pub mod Slots

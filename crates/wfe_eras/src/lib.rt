@@ -9,6 +9,7 @@ ghost use Rattle.wfe_defs.specs.declared.call.Call.{Call};
 ghost use Rattle.wfe_core.specs.World.{World, start, begin, step};
 ghost use Rattle.wfe_eras.specs.Code.{CodeNeeds, CodeReady};
 ghost use Rattle.wfe_eras.specs.Eras.{Eras, ErasNeeds};
+ghost use Rattle.wfe_eras.specs.Gives.{GivesGuards, GivesClears, GivesWalks, GivesBirths, GivesLinks};
 ghost use Rattle.wfe_eras.specs.Seats.{Seats};
 ghost use Rattle.wfe_eras.specs.Slots.{Slots, SlotsNeeds};
 
@@ -42,4 +43,14 @@ pub fn links_stay_within()
 /// what its step finds is in range.
 pub fn steps_are_ready()
     ensures ready { (w : World) (i : ℕ) → is_valid w.layout ≡ true → i < w.layout.config.seats → Seats w → Eras w → Slots w → CodeNeeds w i → CodeReady w i }
+{}
+
+/// What the shape of seats, the eras and the links give to the parts that speak of rows and of
+/// requests.
+pub fn phases_give()
+    ensures guards { (w : World) → is_valid w.layout ≡ true → Seats w → Slots w → GivesGuards w }
+    ensures clears { (w : World) → is_valid w.layout ≡ true → Seats w → GivesClears w }
+    ensures walks { (w : World) → Seats w → GivesWalks w }
+    ensures births { (w : World) → Eras w → GivesBirths w }
+    ensures links { (w : World) → Slots w → GivesLinks w }
 {}
