@@ -21,3 +21,6 @@ pub use machine::Machine;
 pub use op::Op;
 pub use post::Post;
 pub use told::Told;
+
+#[cfg(test)]
+mod tests;
