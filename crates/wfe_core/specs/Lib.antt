@@ -31,3 +31,4 @@ pub mod CallReady
 pub mod Held
 pub mod DeskHeld
 pub mod Rest
+pub mod Frames
