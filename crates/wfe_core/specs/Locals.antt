@@ -1,0 +1,113 @@
+-- A seat's local state, and what a step and the start of a call make of it.
+use Rattle.std.specs.Prelude.{ℕ, ◌==◌, ◌+◌, Bool, true, false, if◌then◌else◌, List, [], ◌∷◌, ◌++◌}
+use Rattle.wfe_words.specs.declared.layout.Layout.{Layout}
+use Rattle.wfe_defs.specs.declared.call.Answer.{Answer}
+use Rattle.wfe_defs.specs.declared.call.Call.{Call}
+use Rattle.wfe_defs.specs.declared.call.Call.TheVariants as names
+use Rattle.wfe_defs.specs.declared.event.Event.{Event}
+use Rattle.wfe_defs.specs.declared.event.Event.TheVariants as events
+use Rattle.wfe_core.specs.declared.op.Op.{Op}
+use Rattle.wfe_core.specs.declared.post.Post.{Post}
+use Rattle.wfe_core.specs.Desks.{Desk, Notes, new_desk, no_notes, noting}
+use Rattle.wfe_core.specs.Memory.{Move}
+use Rattle.wfe_core.specs.Posts.{new_post, counted}
+use Rattle.wfe_core.specs.Calls.{Phase, Idle, Runs, Scans, Works, CallTurn, CallOutcome, GoesOn, Answers}
+use Rattle.wfe_core.specs.Steps.{call_op, phase_move, phase_turn, first_phase}
+
+-- a call that has ended
+pub record Group : Type 0 where
+  pub call : Call
+  pub answer : Answer
+  pub notes : Notes
+
+-- a seat: where it stands, what it knows and keeps, its present or last call, how often that call has found its root,
+-- and the calls that have ended
+pub record Local : Type 0 where
+  pub phase : Phase
+  pub post : Post
+  pub desk : Desk
+  pub call : Call
+  pub rounds : ℕ
+  pub log : List Group
+
+-- a call is under way
+abbrev pub busy_in : Phase → Bool
+busy_in Idle = false
+busy_in (Runs why base) = true
+busy_in (Scans later at) = true
+busy_in (Works work) = true
+
+-- a seat that has made no call
+abbrev pub fresh : Layout → ℕ → Local
+fresh layout seat = record { phase = Idle; post = new_post seat layout; desk = new_desk; call = names.Scan; rounds = 0; log = [] }
+
+-- the operation that the seat asks for
+abbrev pub move : Local → Move
+move l = phase_move l.phase l.post
+
+-- the same on the word of the place's number
+abbrev pub asks : Local → Op
+asks l = call_op l.phase l.post
+
+-- one step of the seat that found this
+abbrev pub turn : Local → ℕ → CallTurn
+turn l found = phase_turn l.phase (counted l.post) l.desk found
+
+-- a step that ends a call tells End last
+abbrev pub told_end : Post → CallOutcome → List Event
+told_end post (GoesOn phase) = []
+told_end post (Answers answer) = events.End post.steps answer ∷ []
+
+-- what a step tells
+abbrev pub told_by : CallTurn → List Event
+told_by t = t.told ++ told_end t.post t.outcome
+
+abbrev pub told : Local → ℕ → List Event
+told l found = told_by (turn l found)
+
+-- a round has found its root once index 0 is held or null
+abbrev pub round_told : ℕ → Event → ℕ
+round_told rounds (events.Held index slot steps) = if index == 0 then rounds + 1 else rounds
+round_told rounds (events.Null index steps) = if index == 0 then rounds + 1 else rounds
+round_told rounds event = rounds
+
+abbrev pub rounds_told : ℕ → List Event → ℕ
+rounds_told rounds [] = rounds
+rounds_told rounds (event ∷ told) = rounds_told (round_told rounds event) told
+
+-- the seat stands at the next phase, or its call has ended
+abbrev pub settled_by : Local → Post → Desk → ℕ → CallOutcome → Local
+settled_by l post desk rounds (GoesOn phase) =
+    record { phase = phase; post = post; desk = desk; call = l.call; rounds = rounds; log = l.log }
+settled_by l post desk rounds (Answers answer) =
+    record {
+      phase = Idle;
+      post = post;
+      desk = desk;
+      call = l.call;
+      rounds = rounds;
+      log = l.log ++ record { call = l.call; answer = answer; notes = desk.notes } ∷ [];
+    }
+
+abbrev pub settled : Local → CallTurn → Local
+settled l t = settled_by l t.post (noting t.desk (told_by t)) (rounds_told l.rounds (told_by t)) t.outcome
+
+-- the seat after a step that found this
+abbrev pub after : Local → ℕ → Local
+after l found = settled l (turn l found)
+
+-- steps are counted from a call's start
+abbrev pub begun_post : Post → Post
+begun_post post = record post { steps = 0 }
+
+-- the seat whose call begins
+abbrev pub begun : Local → Call → Local
+begun l call =
+    record {
+      phase = first_phase call (begun_post l.post);
+      post = begun_post l.post;
+      desk = record l.desk { notes = no_notes };
+      call = call;
+      rounds = 0;
+      log = l.log;
+    }

@@ -1,0 +1,82 @@
+// What protections publish and tell, under every scheme.
+ghost use Rattle.std.specs.Prelude.{◌≡◌, ◌<◌, ◌≤◌, ◌+◌, ◌++◌, length};
+ghost use Rattle.wfe_core.specs.Guards.{one_era as era_span};
+ghost use Rattle.wfe_core.specs.Posts.{index_word as own_index_word};
+ghost use Rattle.wfe_core.specs.Protect.{held_post, told_held, protect_end as end_of};
+ghost use Rattle.wfe_core.specs.Ready.{LinkFits, SlotFits, IndexFits, protect_within};
+ghost use Rattle.wfe_core.specs.Valid.{IsValid};
+
+use crate::{Post, ProtectEnd, Told};
+use wfe_defs::{Event, Interval, Root};
+use wfe_words::{Reservation, reservation_word};
+
+/// The interval of one era; era 0 publishes nothing.
+pub fn one_era(era: u32) -> Option<Interval>
+    ensures { result ≡ era_span era }
+{
+    if era == 0 {
+        return None;
+    }
+    Some(Interval { lo: era, hi: era })
+}
+
+/// The word with which one of the seat's indexes publishes an era, under the index's tag.
+pub fn index_word(post: &Post, index: u32, era: u32) -> u64
+    requires valid { IsValid post.now }
+    requires index { IndexFits post.now index }
+    ensures { result ≡ own_index_word post.now index era }
+{
+    reservation_word(Reservation {
+        era,
+        tag: post.tags[index as usize],
+    })
+}
+
+/// How a protection ends that found this link under this era.
+pub fn protect_end(post: &Post, link: u32, era: u32) -> ProtectEnd
+    requires { LinkFits post.now link }
+    ensures value { result ≡ end_of link era }
+    ensures within { protect_within result post.now }
+{
+    if link == 0 {
+        ProtectEnd::Null
+    } else {
+        ProtectEnd::Held {
+            slot: link - 1,
+            era,
+        }
+    }
+}
+
+/// Tells what a protection found in its n-th step, and lets the row stand. The row of a next link
+/// stands only once it was followed.
+pub fn hold(post: &mut Post, told: &mut Told, index: u32, root: Root, link: u32, n: u64)
+    requires valid { IsValid post.old }
+    requires index { IndexFits post.old index }
+    requires link { LinkFits post.old link }
+    requires room { length told.old < 8 }
+    ensures valid { IsValid post.new }
+    ensures post { post.new ≡ held_post post.old index root link }
+    ensures layout { post.new.layout ≡ post.old.layout }
+    ensures seat { post.new.seat ≡ post.old.seat }
+    ensures steps { post.new.steps ≡ post.old.steps }
+    ensures told { told.new ≡ told.old ++ told_held index root link n }
+    ensures few { length told.new ≤ length told.old + 1 }
+{
+    if link == 0 {
+        told.push(Event::Null { index, steps: n });
+        return;
+    }
+    match root {
+        Root::Next(_) => {}
+        _ => {
+            let slot = link - 1;
+            post.standing[index as usize] = Some(slot);
+            told.push(Event::Held {
+                index,
+                slot,
+                steps: n,
+            });
+        }
+    }
+}
