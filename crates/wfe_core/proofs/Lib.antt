@@ -5,3 +5,4 @@ pub mod Roots
 pub mod Frames
 pub mod CallFrames
 pub mod Following
+pub mod Standing

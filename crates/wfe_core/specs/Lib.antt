@@ -32,3 +32,4 @@ pub mod Held
 pub mod DeskHeld
 pub mod Rest
 pub mod Frames
+pub mod MayStep
