@@ -1,0 +1,4 @@
+pub mod Views
+pub mod Deals
+pub mod Roles
+pub mod Parts
