@@ -1,3 +1,4 @@
+pub mod Standing
 pub mod Views
 pub mod Deals
 pub mod Roles
