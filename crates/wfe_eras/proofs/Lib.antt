@@ -1,0 +1,3 @@
+pub mod Frame
+pub mod Growth
+pub mod Works
