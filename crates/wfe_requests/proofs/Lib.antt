@@ -1,2 +1,5 @@
+pub mod Going
 pub mod Movers
 pub mod Requester
+pub mod Turns
+pub mod Words

@@ -6,7 +6,7 @@ use Rattle.wfe_words.specs.declared.config.Config.{Config}
 use Rattle.wfe_core.specs.Memory.{upd}
 use Rattle.wfe_requests.specs.Views.{View, Deal, Role, upd2}
 use Rattle.wfe_requests.specs.Views.Deal.{Quiet, Open, Answered, Passed, Taken}
-use Rattle.wfe_requests.specs.Views.Role.{Away, Publishes, Tries, Asks, Asked, Turns, Looks, Answers, Waits, Takes, Took, Leaves, Meets, Shows, Loads, Helps, Reads, Hands, Hides, Late, Moves}
+use Rattle.wfe_requests.specs.Views.Role.{Away, Publishes, Attempts, Asks, Asked, Turns, Looks, Answers, Waits, Takes, Took, Leaves, Meets, Shows, Loads, Helps, Reads, Hands, Hides, Late, Moves}
 use Rattle.wfe_requests.specs.Deals.{is_open, fits, answered_with}
 use Rattle.wfe_requests.specs.Roles.{is_turn}
 use Rattle.wfe_requests.specs.Parts.{Parts}

@@ -6,7 +6,7 @@ use Rattle.wfe_words.specs.declared.config.Config.{Config}
 use Rattle.wfe_core.specs.Memory.{upd}
 use Rattle.wfe_requests.specs.Views.{View, Deal, Role, upd2}
 use Rattle.wfe_requests.specs.Views.Deal.{Quiet, Open, Answered, Passed, Taken}
-use Rattle.wfe_requests.specs.Views.Role.{Away, Publishes, Tries, Asks, Asked, Turns, Looks, Answers, Waits, Takes, Took, Leaves, Meets, Shows, Loads, Helps, Reads, Hands, Hides, Late, Moves}
+use Rattle.wfe_requests.specs.Views.Role.{Away, Publishes, Attempts, Asks, Asked, Turns, Looks, Answers, Waits, Takes, Took, Leaves, Meets, Shows, Loads, Helps, Reads, Hands, Hides, Late, Moves}
 use Rattle.wfe_requests.specs.Deals.{is_open, fits, answered_with}
 use Rattle.wfe_requests.specs.Roles.{is_turn}
 use Rattle.wfe_requests.specs.Parts.{Parts}
@@ -63,7 +63,7 @@ loads-keeps c v x j b d q = record {
   outside = λ i' hh. grind (arith, nat_tests, d.outside i', d.fit x, d.low x j);
 }
 
-pub publishes_first-keeps : (c : Config) (v : View) (x j e : ℕ) → x < c.seats → Parts c v → v.role x ≡ Publishes j e false → Parts c (record v { era = upd2 v.era x j e; role = upd v.role x (Tries j e false) })
+pub publishes_first-keeps : (c : Config) (v : View) (x j e : ℕ) → x < c.seats → Parts c v → v.role x ≡ Publishes j e false → Parts c (record v { era = upd2 v.era x j e; role = upd v.role x (Attempts j e false) })
 publishes_first-keeps c v x j e b d q = record {
   fit = λ i'. grind (arith, nat_tests, d.fit i', d.fit x);
   marks = λ i' j'. grind (arith, nat_tests, d.marks i' j', d.fit x);
@@ -89,7 +89,7 @@ publishes_first-keeps c v x j e b d q = record {
   outside = λ i' hh. grind (arith, nat_tests, d.outside i', d.fit x);
 }
 
-pub publishes_again-keeps : (c : Config) (v : View) (x j e : ℕ) → x < c.seats → Parts c v → v.role x ≡ Publishes j e true → Parts c (record v { era = upd2 v.era x j e; role = upd v.role x (Tries j e true) })
+pub publishes_again-keeps : (c : Config) (v : View) (x j e : ℕ) → x < c.seats → Parts c v → v.role x ≡ Publishes j e true → Parts c (record v { era = upd2 v.era x j e; role = upd v.role x (Attempts j e true) })
 publishes_again-keeps c v x j e b d q = record {
   fit = λ i'. grind (arith, nat_tests, d.fit i', d.fit x);
   marks = λ i' j'. grind (arith, nat_tests, d.marks i' j', d.fit x);
@@ -141,7 +141,7 @@ publishes_last-keeps c v x j w e b d q = record {
   outside = λ i' hh. grind (arith, nat_tests, d.outside i', d.fit x);
 }
 
-pub holds-keeps : (c : Config) (v : View) (x j e : ℕ) (lost : Bool) → x < c.seats → Parts c v → v.role x ≡ Tries j e lost → Parts c (record v { role = upd v.role x Away })
+pub holds-keeps : (c : Config) (v : View) (x j e : ℕ) (lost : Bool) → x < c.seats → Parts c v → v.role x ≡ Attempts j e lost → Parts c (record v { role = upd v.role x Away })
 holds-keeps c v x j e lost b d q = record {
   fit = λ i'. grind (arith, nat_tests, d.fit i', d.fit x);
   marks = λ i' j'. grind (arith, nat_tests, d.marks i' j', d.fit x);
@@ -167,7 +167,7 @@ holds-keeps c v x j e lost b d q = record {
   outside = λ i' hh. grind (arith, nat_tests, d.outside i', d.fit x);
 }
 
-pub fails_first-keeps : (c : Config) (v : View) (x j e : ℕ) → x < c.seats → Parts c v → v.role x ≡ Tries j e false → (v.clock == e) ≡ false → Parts c (record v { role = upd v.role x (Publishes j v.clock true) })
+pub fails_first-keeps : (c : Config) (v : View) (x j e : ℕ) → x < c.seats → Parts c v → v.role x ≡ Attempts j e false → (v.clock == e) ≡ false → Parts c (record v { role = upd v.role x (Publishes j v.clock true) })
 fails_first-keeps c v x j e b d q p0 = record {
   fit = λ i'. grind (arith, nat_tests, d.fit i', d.fit x, d.spare x, d.low x j);
   marks = λ i' j'. grind (arith, nat_tests, d.marks i' j', d.fit x, d.spare x, d.low x j);
@@ -193,7 +193,7 @@ fails_first-keeps c v x j e b d q p0 = record {
   outside = λ i' hh. grind (arith, nat_tests, d.outside i', d.fit x, d.spare x, d.low x j);
 }
 
-pub fails_again-keeps : (c : Config) (v : View) (x j e : ℕ) → x < c.seats → Parts c v → v.role x ≡ Tries j e true → (v.clock == e) ≡ false → Parts c (record v { role = upd v.role x (Publishes j v.clock true) })
+pub fails_again-keeps : (c : Config) (v : View) (x j e : ℕ) → x < c.seats → Parts c v → v.role x ≡ Attempts j e true → (v.clock == e) ≡ false → Parts c (record v { role = upd v.role x (Publishes j v.clock true) })
 fails_again-keeps c v x j e b d q p0 = record {
   fit = λ i'. grind (arith, nat_tests, d.fit i', d.fit x, d.spare x, d.low x j);
   marks = λ i' j'. grind (arith, nat_tests, d.marks i' j', d.fit x, d.spare x, d.low x j);
@@ -219,7 +219,7 @@ fails_again-keeps c v x j e b d q p0 = record {
   outside = λ i' hh. grind (arith, nat_tests, d.outside i', d.fit x, d.spare x, d.low x j);
 }
 
-pub fails_endless-keeps : (c : Config) (v : View) (x j e : ℕ) → x < c.seats → Parts c v → v.role x ≡ Tries j e false → (v.clock == e) ≡ false → Parts c (record v { role = upd v.role x (Publishes j v.clock false) })
+pub fails_endless-keeps : (c : Config) (v : View) (x j e : ℕ) → x < c.seats → Parts c v → v.role x ≡ Attempts j e false → (v.clock == e) ≡ false → Parts c (record v { role = upd v.role x (Publishes j v.clock false) })
 fails_endless-keeps c v x j e b d q p0 = record {
   fit = λ i'. grind (arith, nat_tests, d.fit i', d.fit x, d.low x j);
   marks = λ i' j'. grind (arith, nat_tests, d.marks i' j', d.fit x, d.low x j);

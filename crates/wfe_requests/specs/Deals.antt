@@ -2,7 +2,7 @@
 use Rattle.std.specs.Prelude.{ℕ, Bool, true, false, not, nat_le, nat_lt, if◌then◌else◌, ◌==◌, ◌&&◌, ◌||◌, ◌+◌}
 use Rattle.wfe_requests.specs.Views.{Deal, Role}
 use Rattle.wfe_requests.specs.Views.Deal.{Quiet, Open, Answered, Passed, Taken}
-use Rattle.wfe_requests.specs.Views.Role.{Away, Publishes, Tries, Asks, Asked, Turns, Looks, Answers, Waits, Takes, Took, Leaves, Meets, Shows, Loads, Helps, Reads, Hands, Hides, Late, Moves}
+use Rattle.wfe_requests.specs.Views.Role.{Away, Publishes, Attempts, Asks, Asked, Turns, Looks, Answers, Waits, Takes, Took, Leaves, Meets, Shows, Loads, Helps, Reads, Hands, Hides, Late, Moves}
 
 abbrev pub is_quiet : Deal → Bool
 is_quiet Quiet = true
@@ -63,7 +63,7 @@ gave_by tag index word link era by (Taken t j w l e) = false
 abbrev pub fits : Role → Deal → Bool
 fits Away d = is_quiet d
 fits (Publishes j e lost) d = is_quiet d
-fits (Tries j e lost) d = is_quiet d
+fits (Attempts j e lost) d = is_quiet d
 fits (Asks j w) d = is_quiet d
 fits (Asked j w) d = asked_at j w d
 fits (Turns j w f e last) d = asked_at j w d
@@ -120,7 +120,7 @@ in_time (Taken t j w l e) clock most = nat_lt (t + 1) e && (nat_le e clock && na
 abbrev pub stays : Role → ℕ → ℕ → ℕ → ℕ → ℕ → ℕ → ℕ → Bool
 stays Away m i t j w l e = false
 stays (Publishes j' e' lost) m i t j w l e = false
-stays (Tries j' e' lost) m i t j w l e = false
+stays (Attempts j' e' lost) m i t j w l e = false
 stays (Asks j' w') m i t j w l e = false
 stays (Asked j' w') m i t j w l e = false
 stays (Turns j' w' f e' last) m i t j w l e = false

@@ -1,3 +1,5 @@
+pub mod Context
+pub mod Turns
 pub mod Standing
 pub mod Views
 pub mod Deals

@@ -1,7 +1,7 @@
 -- What each role knows: eras, the own helper and index words, and the request that a mover answers.
 use Rattle.std.specs.Prelude.{ℕ, Bool, true, false, not, nat_le, nat_lt, if◌then◌else◌, ◌==◌, ◌&&◌, ◌||◌, ◌+◌, ◌^◌}
 use Rattle.wfe_requests.specs.Views.{Deal, Role}
-use Rattle.wfe_requests.specs.Views.Role.{Away, Publishes, Tries, Asks, Asked, Turns, Looks, Answers, Waits, Takes, Took, Leaves, Meets, Shows, Loads, Helps, Reads, Hands, Hides, Late, Moves}
+use Rattle.wfe_requests.specs.Views.Role.{Away, Publishes, Attempts, Asks, Asked, Turns, Looks, Answers, Waits, Takes, Took, Leaves, Meets, Shows, Loads, Helps, Reads, Hands, Hides, Late, Moves}
 use Rattle.wfe_requests.specs.Deals.{is_open, asked_by, gave_by}
 
 abbrev pub is_away : Role → Bool
@@ -12,7 +12,7 @@ is_away _ = false
 abbrev pub loaded : Role → ℕ
 loaded Away = 0
 loaded (Publishes j e lost) = e
-loaded (Tries j e lost) = e
+loaded (Attempts j e lost) = e
 loaded (Asks j w) = 0
 loaded (Asked j w) = 0
 loaded (Turns j w f e last) = e
@@ -36,7 +36,7 @@ loaded (Moves e) = e
 abbrev pub linked : Role → ℕ
 linked Away = 0
 linked (Publishes j e lost) = 0
-linked (Tries j e lost) = 0
+linked (Attempts j e lost) = 0
 linked (Asks j w) = 0
 linked (Asked j w) = 0
 linked (Turns j w f e last) = 0
@@ -60,7 +60,7 @@ linked (Moves e) = 0
 abbrev pub shows : Role → ℕ → Bool
 shows Away x = x == 0
 shows (Publishes j e lost) x = x == 0
-shows (Tries j e lost) x = x == 0
+shows (Attempts j e lost) x = x == 0
 shows (Asks j w) x = x == 0
 shows (Asked j w) x = x == 0
 shows (Turns j w f e false) x = x == 0
@@ -86,7 +86,7 @@ shows (Moves e) x = x == 0
 abbrev pub publishes : Role → (ℕ → ℕ) → Bool
 publishes Away eras = true
 publishes (Publishes j e lost) eras = true
-publishes (Tries j e lost) eras = eras j == e
+publishes (Attempts j e lost) eras = eras j == e
 publishes (Asks j w) eras = true
 publishes (Asked j w) eras = true
 publishes (Turns j w f e last) eras = true
@@ -110,7 +110,7 @@ publishes (Moves e) eras = true
 abbrev pub turned : Role → Bool
 turned Away = true
 turned (Publishes j e lost) = true
-turned (Tries j e lost) = true
+turned (Attempts j e lost) = true
 turned (Asks j w) = true
 turned (Asked j w) = true
 turned (Turns j w f e false) = e == f
@@ -142,7 +142,7 @@ raised true tag = tag + 1
 abbrev pub spares : Role → (ℕ → ℕ) → ℕ → Bool
 spares Away tags clock = true
 spares (Publishes j e lost) tags clock = nat_lt (raised lost (tags j)) e
-spares (Tries j e lost) tags clock = nat_lt (raised lost (tags j)) e
+spares (Attempts j e lost) tags clock = nat_lt (raised lost (tags j)) e
 spares (Asks j w) tags clock = nat_lt (tags j + 1) clock
 spares (Asked j w) tags clock = nat_lt (tags j + 1) clock
 spares (Turns j w f e last) tags clock = nat_lt (tags j + 1) e
@@ -211,7 +211,7 @@ meant _ d = true
 abbrev pub knows : Role → ℕ → (ℕ → ℕ → ℕ) → (ℕ → ℕ → ℕ) → (ℕ → Deal) → Bool
 knows Away m tags eras deals = true
 knows (Publishes j e lost) m tags eras deals = true
-knows (Tries j e lost) m tags eras deals = true
+knows (Attempts j e lost) m tags eras deals = true
 knows (Asks j w) m tags eras deals = true
 knows (Asked j w) m tags eras deals = true
 knows (Turns j w f e last) m tags eras deals = true
@@ -235,7 +235,7 @@ knows (Moves e) m tags eras deals = true
 abbrev pub in_range : Role → ℕ → ℕ → Bool
 in_range Away seats indexes = true
 in_range (Publishes j e lost) seats indexes = true
-in_range (Tries j e lost) seats indexes = true
+in_range (Attempts j e lost) seats indexes = true
 in_range (Asks j w) seats indexes = true
 in_range (Asked j w) seats indexes = true
 in_range (Turns j w f e last) seats indexes = true

@@ -16,7 +16,7 @@ use Rattle.wfe_core.specs.Locals.{Local}
 use Rattle.wfe_core.specs.World.{World}
 use Rattle.wfe_requests.specs.Views.{View, Deal, Role}
 use Rattle.wfe_requests.specs.Views.Deal.{Quiet, Open, Answered, Passed, Taken}
-use Rattle.wfe_requests.specs.Views.Role.{Away, Publishes, Tries, Asks, Asked, Turns, Looks, Answers, Waits, Takes, Took, Leaves, Meets, Shows, Loads, Helps, Reads, Hands, Hides, Late, Moves}
+use Rattle.wfe_requests.specs.Views.Role.{Away, Publishes, Attempts, Asks, Asked, Turns, Looks, Answers, Waits, Takes, Took, Leaves, Meets, Shows, Loads, Helps, Reads, Hands, Hides, Late, Moves}
 use Rattle.wfe_requests.specs.Parts.{Parts}
 
 -- a try has failed; Hazard Eras count none
@@ -27,8 +27,8 @@ has_failed (Failed count) = nat_lt 0 count
 abbrev pub protect_role : Layout → ℕ → Root → ProtectAt → Role
 protect_role layout j r (LoadClock tries) = Away
 protect_role layout j r (PublishEra era tries) = Publishes j era (has_failed tries)
-protect_role layout j r (LoadLink era tries) = Role.Tries j era (has_failed tries)
-protect_role layout j r (CheckClock era tries link) = Role.Tries j era (has_failed tries)
+protect_role layout j r (LoadLink era tries) = Attempts j era (has_failed tries)
+protect_role layout j r (CheckClock era tries link) = Attempts j era (has_failed tries)
 protect_role layout j r PublishRequest = Asks j (link_number layout r)
 protect_role layout j r LoadOwnClock = Asked j (link_number layout r)
 protect_role layout j r (PublishHelper first era last) = Turns j (link_number layout r) first era last

@@ -17,7 +17,7 @@ pub data Role : Type 0 where
   Away : Role
   -- tries: the era is to be published, and it is
   Publishes : (index era : ℕ) → (lost : Bool) → Role
-  Tries : (index era : ℕ) → (lost : Bool) → Role
+  Attempts : (index era : ℕ) → (lost : Bool) → Role
   -- the slow path: the request is to be published, and is; turns under the own helper word, before and after it is stored;
   -- the exchange; the answer is to be loaded, taken, withdrawn, and the helper word to be withdrawn
   Asks : (index word : ℕ) → Role
