@@ -1,5 +1,5 @@
 -- What a step of one seat needs to know, besides where it stands.
-use Rattle.std.specs.Prelude.{ℕ, ◌≡◌, ◌≤◌, ◌<◌, ◌+◌, ◌&&◌, Bool, true, false, nat_lt, not}
+use Rattle.std.specs.Prelude.{ℕ, ◌≡◌, ◌≤◌, ◌<◌, ◌+◌, ◌&&◌, Bool, true, false, nat_lt, not, length}
 use Rattle.wfe_words.specs.Place.{Place, has, is_valid}
 use Rattle.wfe_words.specs.declared.layout.Layout.{Layout}
 use Rattle.wfe_defs.specs.declared.event.Root.{Root}
@@ -39,6 +39,7 @@ pub record At (mem : Place → ℕ) (seat : ℕ → Local) (i : ℕ) (v : View) 
   pub facts : Facts (seat i).post.layout mem seat v
   pub below : i < (seat i).post.layout.config.seats
   pub number : (seat i).post.seat ≡ i
+  pub eight : length (seat i).post.tags ≡ 8
   pub valid : is_valid (seat i).post.layout ≡ true
   -- a protection's index and root are of the table
   pub inside : (k : ℕ) → phase_there (seat i).post.layout (seat k).phase ≡ true
