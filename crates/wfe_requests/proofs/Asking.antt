@@ -112,7 +112,7 @@ load_link mem seat i v why aim index root steps n era tries a q =
       (same_role (seat i).post.layout.config v i (roles.Attempts index era (has_failed tries)) a.facts.parts (stands_in mem seat i v (Runs why (Protect aim index root steps (LoadLink era tries))) a q))
 
 -- a protection that has ended asks nothing; where it is followed the head is to be loaded
-concluded_rests : {Q : Post → Type 0} {P : Post → Phase → Type 0} (layout : Layout) (tags : List ℕ) (why : Why) (aim : Aim) (index : ℕ) (root : Root) (n link era : ℕ) (post : Post) (told : List Event) → PostOf layout tags post → Moves Q P why (concluded aim index root n link era post told)
+pub concluded_rests : {Q : Post → Type 0} {P : Post → Phase → Type 0} (layout : Layout) (tags : List ℕ) (why : Why) (aim : Aim) (index : ℕ) (root : Root) (n link era : ℕ) (post : Post) (told : List Event) → PostOf layout tags post → Moves Q P why (concluded aim index root n link era post told)
     → Moves (PostOf layout tags) (RoleOf layout roles.Away) why (concluded aim index root n link era post told)
 concluded_rests layout tags why Alone index root n link era post told p h = record { post = p; phase = h.phase }
 concluded_rests {Q} {P} layout tags why Follows index root n link era post told p h =
@@ -123,7 +123,7 @@ concluded_rests {Q} {P} layout tags why Follows index root n link era post told 
       h
 
 -- that a row stands changes neither table nor tags
-post_held : (layout : Layout) (tags : List ℕ) (post : Post) (index : ℕ) (root : Root) (link : ℕ) → PostOf layout tags post → PostOf layout tags (held_post post index root link)
+pub post_held : (layout : Layout) (tags : List ℕ) (post : Post) (index : ℕ) (root : Root) (link : ℕ) → PostOf layout tags post → PostOf layout tags (held_post post index root link)
 post_held layout tags post index (root_names.Next parent) link p = p
 post_held layout tags post index (root_names.Bucket bucket) link p = by_test (link == 0) post (with_row post index (link - 1)) (PostOf layout tags) (λ e. p) (λ e. record { table = p.table; guarded = p.guarded; kept = p.kept })
 post_held layout tags post index root_names.Head link p = by_test (link == 0) post (with_row post index (link - 1)) (PostOf layout tags) (λ e. p) (λ e. record { table = p.table; guarded = p.guarded; kept = p.kept })
@@ -197,10 +197,10 @@ looks_any c v x j w f e l s false b d q h = own.looks_first-keeps c v x j w f e 
 looks_any c v x j w f e l s true b d q h = own.looks_last-keeps c v x j w f e l s b d q h
 
 -- index and root of the protection are of the table
-inside : (mem : Place → ℕ) (seat : ℕ → Local) (i : ℕ) (v : View) (why : Why) (aim : Aim) (index : ℕ) (root : Root) (steps : ℕ) (at : ProtectAt) → At mem seat i v → (seat i).phase ≡ Runs why (Protect aim index root steps at) → (nat_lt index (seat i).post.layout.config.indexes && has (seat i).post.layout (link_place root)) ≡ true
+pub inside : (mem : Place → ℕ) (seat : ℕ → Local) (i : ℕ) (v : View) (why : Why) (aim : Aim) (index : ℕ) (root : Root) (steps : ℕ) (at : ProtectAt) → At mem seat i v → (seat i).phase ≡ Runs why (Protect aim index root steps at) → (nat_lt index (seat i).post.layout.config.indexes && has (seat i).post.layout (link_place root)) ≡ true
 inside mem seat i v why aim index root steps at a q = sym (ap (phase_there (seat i).post.layout) q) ∙ a.inside i
 
-root_there : (mem : Place → ℕ) (seat : ℕ → Local) (i : ℕ) (v : View) (why : Why) (aim : Aim) (index : ℕ) (root : Root) (steps : ℕ) (at : ProtectAt) → At mem seat i v → (seat i).phase ≡ Runs why (Protect aim index root steps at) → has (seat i).post.layout (link_place root) ≡ true
+pub root_there : (mem : Place → ℕ) (seat : ℕ → Local) (i : ℕ) (v : View) (why : Why) (aim : Aim) (index : ℕ) (root : Root) (steps : ℕ) (at : ProtectAt) → At mem seat i v → (seat i).phase ≡ Runs why (Protect aim index root steps at) → has (seat i).post.layout (link_place root) ≡ true
 root_there mem seat i v why aim index root steps at a q = let h = inside mem seat i v why aim index root steps at a q in both_last (nat_lt index (seat i).post.layout.config.indexes) (has (seat i).post.layout (link_place root)) h
   where
     both_last : (x y : Bool) → (x && y) ≡ true → y ≡ true

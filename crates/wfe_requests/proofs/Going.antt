@@ -31,6 +31,13 @@ pub by_test : {A : Type 0} → (b : Bool) (x y : A) (P : A → Type 0) → (b �
 by_test true x y P f g = f refl
 by_test false x y P f g = g refl
 
+-- what a test of two numbers says
+pub test_equal : (x y : ℕ) → (x == y) ≡ true → x ≡ y
+test_equal x y h = grind (arith, nat_tests)
+
+pub equal_test : (x y : ℕ) → x ≡ y → (x == y) ≡ true
+equal_test x y h = grind (arith, nat_tests)
+
 -- either way
 pub either : (b : Bool) (P : Type 0) → (b ≡ true → P) → (b ≡ false → P) → P
 either true P f g = f refl

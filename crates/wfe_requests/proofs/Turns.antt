@@ -89,10 +89,10 @@ upd_all f i x P here there k = by_test (k == i) refl
     by_test true h = let e : i ≡ k = grind (arith, nat_tests) in subst (λ (n : ℕ). P n x) e here
     by_test false h = there k h
 
-upd_here : {A : Type 0} → (f : ℕ → A) (i : ℕ) (x : A) → upd f i x i ≡ x
+pub upd_here : {A : Type 0} → (f : ℕ → A) (i : ℕ) (x : A) → upd f i x i ≡ x
 upd_here f i x = let e : (i == i) ≡ true = grind (arith, nat_tests) in rw e refl
 
-upd_there : {A : Type 0} → (f : ℕ → A) (i : ℕ) (x : A) (k : ℕ) → (k == i) ≡ false → upd f i x k ≡ f k
+pub upd_there : {A : Type 0} → (f : ℕ → A) (i : ℕ) (x : A) (k : ℕ) → (k == i) ≡ false → upd f i x k ≡ f k
 upd_there f i x k h = rw h refl
 
 -- the seats after one of them came to another role, its tags unchanged

@@ -1,3 +1,4 @@
+pub mod Heard
 pub mod Context
 pub mod Turns
 pub mod Standing
