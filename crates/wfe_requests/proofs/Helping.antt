@@ -58,7 +58,7 @@ last_role e false = roles.Moves e
 last_role e true = roles.Hides e
 
 -- the next request, or all were met
-next_go : (mem : Place → ℕ) (seat : ℕ → Local) (i : ℕ) (v : View) (m : Move) (why : Why) (told : List Event) (e k : ℕ) (shown : Bool) (at : MoveAt) (v' : View) → At mem seat i v → at ≡ next_request (counted (seat i).post) e k shown → v.tag ≡ v'.tag
+pub next_go : (mem : Place → ℕ) (seat : ℕ → Local) (i : ℕ) (v : View) (m : Move) (why : Why) (told : List Event) (e k : ℕ) (shown : Bool) (at : MoveAt) (v' : View) → At mem seat i v → at ≡ next_request (counted (seat i).post) e k shown → v.tag ≡ v'.tag
     → Words (written mem m) v'.clock v'.helper v'.era v'.mark v'.deal
     → (k + 1 < (seat i).post.layout.config.seats → Parts (seat i).post.layout.config (record v' { role = upd v.role i (roles.Meets e (k + 1) shown) }))
     → ((seat i).post.layout.config.seats ≤ k + 1 → Parts (seat i).post.layout.config (record v' { role = upd v.role i (last_role e shown) }))
@@ -80,7 +80,7 @@ next_go mem seat i v m why told e k shown at v' a q t u f g =
     last_there layout era false = refl
 
 -- 1. The clock is loaded.
-load_era : {Q : Post → Type 0} {P : Post → Phase → Type 0} (mem : Place → ℕ) (seat : ℕ → Local) (i : ℕ) (v : View) (why : Why) (helps : Bool) → At mem seat i v → (seat i).phase ≡ Runs why (bases.Move (LoadEra helps)) → agree helps (is_wfe (seat i).post.layout.config.scheme) ≡ true
+pub load_era : {Q : Post → Type 0} {P : Post → Phase → Type 0} (mem : Place → ℕ) (seat : ℕ → Local) (i : ℕ) (v : View) (why : Why) (helps : Bool) → At mem seat i v → (seat i).phase ≡ Runs why (bases.Move (LoadEra helps)) → agree helps (is_wfe (seat i).post.layout.config.scheme) ≡ true
     → Moves Q P why (move_turn (LoadEra helps) (counted (seat i).post) (mem Clock))
     → Made mem seat i (memory.Load Clock) (run_turn why (seat i).desk (move_turn (LoadEra helps) (counted (seat i).post) (mem Clock)))
 load_era {Q} {P} mem seat i v why helps a q f m =
@@ -159,5 +159,5 @@ asker layout (Runs why base) t j w h f = asker_base layout base why t j w h f
 asker layout (Scans later at) t j w h f = absurd (cc)
 asker layout (Works work) t j w h f = absurd (cc)
 
-asker_of : (mem : Place → ℕ) (seat : ℕ → Local) (i : ℕ) (v : View) (k t j w : ℕ) → At mem seat i v → v.deal k ≡ Open t j w → Asker (seat i).post.layout j w
+pub asker_of : (mem : Place → ℕ) (seat : ℕ → Local) (i : ℕ) (v : View) (k t j w : ℕ) → At mem seat i v → v.deal k ≡ Open t j w → Asker (seat i).post.layout j w
 asker_of mem seat i v k t j w a q = asker (seat i).post.layout (seat k).phase t j w (a.inside k) (ap (λ (r : Role). fits r (Open t j w)) (a.facts.locals.roles k) ∙ ap (fits (v.role k)) (sym q) ∙ a.facts.parts.fit k)

@@ -4,5 +4,6 @@ pub mod Going
 pub mod Helping
 pub mod Movers
 pub mod Requester
+pub mod Serving
 pub mod Turns
 pub mod Words
