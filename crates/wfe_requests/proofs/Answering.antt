@@ -54,7 +54,7 @@ use Rattle.wfe_requests.specs.Parts.{Parts}
 use Rattle.wfe_requests.specs.Standing.{protect_role, role_of, is_there, request_of, Words, Locals}
 use Rattle.wfe_requests.specs.Turns.{PostOf, RoleOf, Made}
 use Rattle.wfe_requests.specs.Context.{At}
-use Rattle.wfe_requests.proofs.Words.{no_halves, words_helper, words_index, words_era, words_request, words_same, exchanged, not_exchanged}
+use Rattle.wfe_requests.proofs.Words.{no_halves, words_deal, words_helper, words_index, words_era, words_request, words_same, exchanged, not_exchanged}
 use Rattle.wfe_requests.proofs.Requester as own
 use Rattle.wfe_requests.proofs.Going.{test_equal, equal_test, by_test, either, same_role, stands_in, own_post, link_few, go, rest}
 
@@ -235,10 +235,6 @@ own_answered index word link era (Open t j w) f = cc
 own_answered index word link era (Answered t j w l e m) f = let z : l ≡ link = grind (arith, nat_tests) in let k : e ≡ era = grind (arith, nat_tests) in cc
 own_answered index word link era (Passed t j w l e) f = let z : l ≡ link = grind (arith, nat_tests) in let k : e ≡ era = grind (arith, nat_tests) in cc
 own_answered index word link era (Taken t j w l e) f = cc
-
--- a deal that changes and keeps its word
-words_deal : (mem : Place → ℕ) (clock : ℕ) (helper : ℕ → ℕ) (era mark : ℕ → ℕ → ℕ) (deal : ℕ → Deal) (i : ℕ) (d : Deal) → Words mem clock helper era mark deal → request_of (deal i) ≡ request_of d → Words mem clock helper era mark (upd deal i d)
-words_deal mem clock helper era mark deal i d u e = record { clocks = u.clocks; helpers = λ k. u.helpers k; indexes = λ k j. u.indexes k j; requests = λ k. upd_all deal i d (λ (n : ℕ) (a : Deal). mem (Request n) ≡ request_of a) (u.requests i ∙ e) (λ n h. u.requests n) k }
 
 take_answer : (mem : Place → ℕ) (seat : ℕ → Local) (i : ℕ) (v : View) (why : Why) (aim : Aim) (index : ℕ) (root : Root) (steps n link era : ℕ) → At mem seat i v → (seat i).phase ≡ Runs why (Protect aim index root steps (TakeAnswer link era))
     → Made mem seat i (protect_move index root (TakeAnswer link era) (seat i).post) (run_turn why (seat i).desk (protect_turn aim index root n (TakeAnswer link era) (counted (seat i).post) 0))

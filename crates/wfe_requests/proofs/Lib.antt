@@ -1,6 +1,7 @@
 pub mod Answering
 pub mod Asking
 pub mod Going
+pub mod Handing
 pub mod Helping
 pub mod Movers
 pub mod Requester

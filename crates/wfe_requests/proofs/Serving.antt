@@ -132,7 +132,7 @@ load_request : (mem : Place → ℕ) (seat : ℕ → Local) (i : ℕ) (v : View)
 load_request mem seat i v why e k shown a q = load_request_by mem seat i v why e k shown (v.deal k) a q refl
 
 -- the link that a mover is asked for is a word of the table
-there_of : (mem : Place → ℕ) (seat : ℕ → Local) (i : ℕ) (v : View) (why : Why) (at : MoveAt) → At mem seat i v → (seat i).phase ≡ Runs why (bases.Move at) → asked_there (seat i).post.layout at ≡ true
+pub there_of : (mem : Place → ℕ) (seat : ℕ → Local) (i : ℕ) (v : View) (why : Why) (at : MoveAt) → At mem seat i v → (seat i).phase ≡ Runs why (bases.Move at) → asked_there (seat i).post.layout at ≡ true
 there_of mem seat i v why at a q = sym (ap (is_there (seat i).post.layout) q) ∙ a.facts.locals.there i
 
 -- 3. The helper word is stored.

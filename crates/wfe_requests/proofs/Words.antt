@@ -8,6 +8,7 @@ use Rattle.wfe_words.specs.Packed.{halves}
 use Rattle.wfe_words.proofs.Places.{same_one}
 use Rattle.wfe_core.specs.Memory.{upd, put}
 use Rattle.wfe_requests.specs.Views.{Deal, upd2}
+use Rattle.wfe_requests.proofs.Turns.{upd_all}
 use Rattle.wfe_requests.specs.Standing.{Words, request_of}
 
 -- two zero halves are 0
@@ -70,6 +71,10 @@ words_same mem clock helper era mark deal p x u e = record {
   indexes = λ k j. put_same mem p (Index k j) x e ∙ u.indexes k j;
   requests = λ k. put_same mem p (Request k) x e ∙ u.requests k;
 }
+
+-- a deal that changes and keeps its word
+pub words_deal : (mem : Place → ℕ) (clock : ℕ) (helper : ℕ → ℕ) (era mark : ℕ → ℕ → ℕ) (deal : ℕ → Deal) (i : ℕ) (d : Deal) → Words mem clock helper era mark deal → request_of (deal i) ≡ request_of d → Words mem clock helper era mark (upd deal i d)
+words_deal mem clock helper era mark deal i d u e = record { clocks = u.clocks; helpers = λ k. u.helpers k; indexes = λ k j. u.indexes k j; requests = λ k. upd_all deal i d (λ (n : ℕ) (a : Deal). mem (Request n) ≡ request_of a) (u.requests i ∙ e) (λ n h. u.requests n) k }
 
 -- the word of an exchange that succeeds, and of one that fails
 pub exchanged : (word old new : ℕ) → (word == old) ≡ true → (if word == old then new else word) ≡ new
