@@ -90,10 +90,23 @@ pub record Moves (Q : Post → Type 0) (P : Post → Phase → Type 0) (why : Wh
   pub post : Q t.post
   pub phase : Passed P why t.post t.outcome
 
--- what a property owes at one step of a seat that has counted it: inside a machine its own steps, within a call's own
--- steps that an interval stands
+-- what a property owes at one step of a seat that has counted it: inside a machine its own steps, elsewhere Q of the post,
+-- and within a call's own steps that an interval stands
+pub record Owned (Q : Post → Type 0) (left : Post) : Type 0 where
+  pub post : Q left
+  pub span : SpanStands left
+
 abbrev pub Owes : (Post → Type 0) → (Post → Phase → Type 0) → Post → ℕ → Phase → Type 0
-Owes Q P post found Idle = Unit {0}
+Owes Q P post found Idle = Q post
 Owes Q P post found (Runs why base) = Moves Q P why (after base post found)
-Owes Q P post found (Scans later at) = Unit {0}
-Owes Q P post found (Works work) = SpanStands post
+Owes Q P post found (Scans later at) = Q post
+Owes Q P post found (Works work) = Owned Q post
+
+-- a step inside a machine, for a property that leaves what comes after the machine to another
+abbrev pub Onward : (Post → Phase → Type 0) → Why → Post → Outcome → Type 0
+Onward P why post (Goes base) = P post (Runs why base)
+Onward P why post (Ends ending) = Unit {0}
+
+pub record StepsOn (Q : Post → Type 0) (P : Post → Phase → Type 0) (why : Why) (t : Turn) : Type 0 where
+  pub post : Q t.post
+  pub phase : Onward P why t.post t.outcome
