@@ -52,7 +52,7 @@ use Rattle.wfe_requests.proofs.Requester as own
 use Rattle.wfe_requests.proofs.Going.{by_test, either, same_role, stands_in, own_post, link_few, go, rest}
 
 -- the tag in an index word of a seat that asks nothing is its own
-quiet_mark : (mem : Place → ℕ) (seat : ℕ → Local) (i : ℕ) (v : View) (j : ℕ) → At mem seat i v → is_quiet (v.deal i) ≡ true → v.mark i j ≡ tag_of (seat i).post j
+pub quiet_mark : (mem : Place → ℕ) (seat : ℕ → Local) (i : ℕ) (v : View) (j : ℕ) → At mem seat i v → is_quiet (v.deal i) ≡ true → v.mark i j ≡ tag_of (seat i).post j
 quiet_mark mem seat i v j a q = grind (arith, nat_tests, a.facts.parts.marks i j, a.facts.locals.tags i j)
 
 -- 1. The clock is loaded.

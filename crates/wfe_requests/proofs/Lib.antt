@@ -5,6 +5,7 @@ pub mod Handing
 pub mod Helping
 pub mod Movers
 pub mod Requester
+pub mod Resting
 pub mod Serving
 pub mod Turns
 pub mod Words
