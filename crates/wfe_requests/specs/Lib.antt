@@ -1,3 +1,4 @@
+pub mod Paces
 pub mod Asked
 pub mod Heard
 pub mod Context
