@@ -4,6 +4,7 @@ pub mod Going
 pub mod Handing
 pub mod Helping
 pub mod Movers
+pub mod Paced
 pub mod Paces
 pub mod Requester
 pub mod Resting
