@@ -86,7 +86,7 @@ take_heard mem seat i v m why aim index root n found h a e u d =
       (ap (protect_role (seat i).post.layout index root) (heard_word mem seat i v index (link_number (seat i).post.layout root) found h a e)) refl refl refl u d
 
 -- 7. The own request is loaded: it has an answer.
-load_answer : (mem : Place → ℕ) (seat : ℕ → Local) (i : ℕ) (v : View) (why : Why) (aim : Aim) (index : ℕ) (root : Root) (steps n first : ℕ) → At mem seat i v → (seat i).phase ≡ Runs why (Protect aim index root steps (LoadAnswer first))
+pub load_answer : (mem : Place → ℕ) (seat : ℕ → Local) (i : ℕ) (v : View) (why : Why) (aim : Aim) (index : ℕ) (root : Root) (steps n first : ℕ) → At mem seat i v → (seat i).phase ≡ Runs why (Protect aim index root steps (LoadAnswer first))
     → Made mem seat i (memory.Load (Request (seat i).post.seat)) (run_turn why (seat i).desk (protect_turn aim index root n (LoadAnswer first) (counted (seat i).post) (mem (Request (seat i).post.seat))))
 load_answer mem seat i v why aim index root steps n first a q =
     let r = stands_in mem seat i v (Runs why (Protect aim index root steps (LoadAnswer first))) a q in
@@ -175,7 +175,7 @@ find_answer mem seat i v why aim index root steps n first era link a q h =
         let w = word_by_open index (link_number (seat i).post.layout root) (tag_of (seat i).post index) (v.deal i) (v.tag i) f o (a.facts.parts.tags i) (a.facts.locals.tags i index) in
         let g : (mem (Request (seat i).post.seat) == own_request (seat i).post index root) ≡ true = equal_test (mem (Request (seat i).post.seat)) (own_request (seat i).post index root) (u ∙ w) in cc
 
-exchange_own : (mem : Place → ℕ) (seat : ℕ → Local) (i : ℕ) (v : View) (why : Why) (aim : Aim) (index : ℕ) (root : Root) (steps n first era link : ℕ) → At mem seat i v → (seat i).phase ≡ Runs why (Protect aim index root steps (AnswerOwn first era link))
+pub exchange_own : (mem : Place → ℕ) (seat : ℕ → Local) (i : ℕ) (v : View) (why : Why) (aim : Aim) (index : ℕ) (root : Root) (steps n first era link : ℕ) → At mem seat i v → (seat i).phase ≡ Runs why (Protect aim index root steps (AnswerOwn first era link))
     → Made mem seat i (protect_move index root (AnswerOwn first era link) (seat i).post) (run_turn why (seat i).desk (protect_turn aim index root n (AnswerOwn first era link) (counted (seat i).post) (mem (Request (seat i).post.seat))))
 exchange_own mem seat i v why aim index root steps n first era link a q =
     by_test (mem (Request (seat i).post.seat) == own_request (seat i).post index root) (goes (counted (seat i).post) [] (Protect aim index root n (TakeAnswer link era))) (goes (counted (seat i).post) [] (Protect aim index root n (answer_in (read_request (mem (Request (seat i).post.seat))))))
@@ -236,7 +236,7 @@ own_answered index word link era (Answered t j w l e m) f = let z : l ≡ link =
 own_answered index word link era (Passed t j w l e) f = let z : l ≡ link = grind (arith, nat_tests) in let k : e ≡ era = grind (arith, nat_tests) in cc
 own_answered index word link era (Taken t j w l e) f = cc
 
-take_answer : (mem : Place → ℕ) (seat : ℕ → Local) (i : ℕ) (v : View) (why : Why) (aim : Aim) (index : ℕ) (root : Root) (steps n link era : ℕ) → At mem seat i v → (seat i).phase ≡ Runs why (Protect aim index root steps (TakeAnswer link era))
+pub take_answer : (mem : Place → ℕ) (seat : ℕ → Local) (i : ℕ) (v : View) (why : Why) (aim : Aim) (index : ℕ) (root : Root) (steps n link era : ℕ) → At mem seat i v → (seat i).phase ≡ Runs why (Protect aim index root steps (TakeAnswer link era))
     → Made mem seat i (protect_move index root (TakeAnswer link era) (seat i).post) (run_turn why (seat i).desk (protect_turn aim index root n (TakeAnswer link era) (counted (seat i).post) 0))
 take_answer mem seat i v why aim index root steps n link era a q =
     let r = stands_in mem seat i v (Runs why (Protect aim index root steps (TakeAnswer link era))) a q in
@@ -258,7 +258,7 @@ take_answer mem seat i v why aim index root steps n link era a q =
      })
 
 -- 9. The own request is withdrawn.
-withdraw_request : (mem : Place → ℕ) (seat : ℕ → Local) (i : ℕ) (v : View) (why : Why) (aim : Aim) (index : ℕ) (root : Root) (steps n link era : ℕ) → At mem seat i v → (seat i).phase ≡ Runs why (Protect aim index root steps (WithdrawRequest link era))
+pub withdraw_request : (mem : Place → ℕ) (seat : ℕ → Local) (i : ℕ) (v : View) (why : Why) (aim : Aim) (index : ℕ) (root : Root) (steps n link era : ℕ) → At mem seat i v → (seat i).phase ≡ Runs why (Protect aim index root steps (WithdrawRequest link era))
     → Made mem seat i (protect_move index root (WithdrawRequest link era) (seat i).post) (run_turn why (seat i).desk (protect_turn aim index root n (WithdrawRequest link era) (counted (seat i).post) 0))
 withdraw_request mem seat i v why aim index root steps n link era a q =
     go mem seat i v (protect_move index root (WithdrawRequest link era) (seat i).post) why [] (Protect aim index root n (WithdrawHelper link era)) (roles.Leaves index link era)
@@ -268,7 +268,7 @@ withdraw_request mem seat i v why aim index root steps n link era a q =
       (own.withdraws-keeps (seat i).post.layout.config v i index (link_number (seat i).post.layout root) link era a.below a.facts.parts (stands_in mem seat i v (Runs why (Protect aim index root steps (WithdrawRequest link era))) a q))
 
 -- 10. The own helper word is withdrawn.
-withdraw_helper : {Q : Post → Type 0} {P : Post → Phase → Type 0} (mem : Place → ℕ) (seat : ℕ → Local) (i : ℕ) (v : View) (why : Why) (aim : Aim) (index : ℕ) (root : Root) (steps n link era : ℕ) → At mem seat i v → (seat i).phase ≡ Runs why (Protect aim index root steps (WithdrawHelper link era))
+pub withdraw_helper : {Q : Post → Type 0} {P : Post → Phase → Type 0} (mem : Place → ℕ) (seat : ℕ → Local) (i : ℕ) (v : View) (why : Why) (aim : Aim) (index : ℕ) (root : Root) (steps n link era : ℕ) → At mem seat i v → (seat i).phase ≡ Runs why (Protect aim index root steps (WithdrawHelper link era))
     → Moves Q P why (protect_turn aim index root n (WithdrawHelper link era) (counted (seat i).post) 0)
     → Made mem seat i (protect_move index root (WithdrawHelper link era) (seat i).post) (run_turn why (seat i).desk (protect_turn aim index root n (WithdrawHelper link era) (counted (seat i).post) 0))
 withdraw_helper mem seat i v why aim index root steps n link era a q m =

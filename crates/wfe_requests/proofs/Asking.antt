@@ -56,7 +56,7 @@ pub quiet_mark : (mem : Place → ℕ) (seat : ℕ → Local) (i : ℕ) (v : Vie
 quiet_mark mem seat i v j a q = grind (arith, nat_tests, a.facts.parts.marks i j, a.facts.locals.tags i j)
 
 -- 1. The clock is loaded.
-load_clock : (mem : Place → ℕ) (seat : ℕ → Local) (i : ℕ) (v : View) (why : Why) (aim : Aim) (index : ℕ) (root : Root) (steps n : ℕ) (tries : Tries) → At mem seat i v → (seat i).phase ≡ Runs why (Protect aim index root steps (LoadClock tries)) → has_failed tries ≡ false
+pub load_clock : (mem : Place → ℕ) (seat : ℕ → Local) (i : ℕ) (v : View) (why : Why) (aim : Aim) (index : ℕ) (root : Root) (steps n : ℕ) (tries : Tries) → At mem seat i v → (seat i).phase ≡ Runs why (Protect aim index root steps (LoadClock tries)) → has_failed tries ≡ false
     → Made mem seat i (memory.Load Clock) (run_turn why (seat i).desk (protect_turn aim index root n (LoadClock tries) (counted (seat i).post) (mem Clock)))
 load_clock mem seat i v why aim index root steps n tries a q f =
     go mem seat i v (memory.Load Clock) why [] (Protect aim index root n (PublishEra (mem Clock) tries)) (roles.Publishes index v.clock false)
@@ -94,7 +94,7 @@ publish_request mem seat i v why aim index root steps n era count a q f =
       (index_words mem seat i v index era a (rw r at (a.facts.parts.fit i)))
       (own.publishes_last-keeps (seat i).post.layout.config v i index (link_number (seat i).post.layout root) era a.below a.facts.parts (r ∙ ap (roles.Publishes index era) f))
 
-publish_era : (mem : Place → ℕ) (seat : ℕ → Local) (i : ℕ) (v : View) (why : Why) (aim : Aim) (index : ℕ) (root : Root) (steps n era : ℕ) (tries : Tries) → At mem seat i v → (seat i).phase ≡ Runs why (Protect aim index root steps (PublishEra era tries))
+pub publish_era : (mem : Place → ℕ) (seat : ℕ → Local) (i : ℕ) (v : View) (why : Why) (aim : Aim) (index : ℕ) (root : Root) (steps n era : ℕ) (tries : Tries) → At mem seat i v → (seat i).phase ≡ Runs why (Protect aim index root steps (PublishEra era tries))
     → Made mem seat i (protect_move index root (PublishEra era tries) (seat i).post) (run_turn why (seat i).desk (protect_turn aim index root n (PublishEra era tries) (counted (seat i).post) 0))
 publish_era mem seat i v why aim index root steps n era Endless a q = publish_link mem seat i v why aim index root steps n era Endless a q
 publish_era mem seat i v why aim index root steps n era (Failed count) a q =
@@ -104,7 +104,7 @@ publish_era mem seat i v why aim index root steps n era (Failed count) a q =
       (λ h. publish_link mem seat i v why aim index root steps n era (Failed count) a q)
 
 -- 3. The link is loaded.
-load_link : (mem : Place → ℕ) (seat : ℕ → Local) (i : ℕ) (v : View) (why : Why) (aim : Aim) (index : ℕ) (root : Root) (steps n era : ℕ) (tries : Tries) → At mem seat i v → (seat i).phase ≡ Runs why (Protect aim index root steps (LoadLink era tries))
+pub load_link : (mem : Place → ℕ) (seat : ℕ → Local) (i : ℕ) (v : View) (why : Why) (aim : Aim) (index : ℕ) (root : Root) (steps n era : ℕ) (tries : Tries) → At mem seat i v → (seat i).phase ≡ Runs why (Protect aim index root steps (LoadLink era tries))
     → Made mem seat i (memory.Load (link_place root)) (run_turn why (seat i).desk (protect_turn aim index root n (LoadLink era tries) (counted (seat i).post) (mem (link_place root))))
 load_link mem seat i v why aim index root steps n era tries a q =
     go mem seat i v (memory.Load (link_place root)) why [] (Protect aim index root n (CheckClock era tries (mem (link_place root)))) (roles.Attempts index era (has_failed tries))
@@ -140,7 +140,7 @@ fails c v x j e (Failed count) b d q h =
     let t : true ≡ nat_lt 0 (count + 1) = grind (arith, nat_tests) in
     subst (λ (lost : Bool). Parts c (record v { role = upd v.role x (roles.Publishes j v.clock lost) })) t (fails_any c v x j e (nat_lt 0 count) b d q h)
 
-check_clock : {Q : Post → Type 0} {P : Post → Phase → Type 0} (mem : Place → ℕ) (seat : ℕ → Local) (i : ℕ) (v : View) (why : Why) (aim : Aim) (index : ℕ) (root : Root) (steps n era link : ℕ) (tries : Tries) → At mem seat i v → (seat i).phase ≡ Runs why (Protect aim index root steps (CheckClock era tries link))
+pub check_clock : {Q : Post → Type 0} {P : Post → Phase → Type 0} (mem : Place → ℕ) (seat : ℕ → Local) (i : ℕ) (v : View) (why : Why) (aim : Aim) (index : ℕ) (root : Root) (steps n era link : ℕ) (tries : Tries) → At mem seat i v → (seat i).phase ≡ Runs why (Protect aim index root steps (CheckClock era tries link))
     → Moves Q P why (protect_turn aim index root n (CheckClock era tries link) (counted (seat i).post) (mem Clock))
     → Made mem seat i (memory.Load Clock) (run_turn why (seat i).desk (protect_turn aim index root n (CheckClock era tries link) (counted (seat i).post) (mem Clock)))
 check_clock {Q} {P} mem seat i v why aim index root steps n era link tries a q m =
@@ -158,7 +158,7 @@ check_clock {Q} {P} mem seat i v why aim index root steps n era link tries a q m
       m
 
 -- The slow path. 1. The request is published.
-publish_ask : (mem : Place → ℕ) (seat : ℕ → Local) (i : ℕ) (v : View) (why : Why) (aim : Aim) (index : ℕ) (root : Root) (steps n : ℕ) → At mem seat i v → (seat i).phase ≡ Runs why (Protect aim index root steps PublishRequest)
+pub publish_ask : (mem : Place → ℕ) (seat : ℕ → Local) (i : ℕ) (v : View) (why : Why) (aim : Aim) (index : ℕ) (root : Root) (steps n : ℕ) → At mem seat i v → (seat i).phase ≡ Runs why (Protect aim index root steps PublishRequest)
     → Made mem seat i (protect_move index root PublishRequest (seat i).post) (run_turn why (seat i).desk (protect_turn aim index root n PublishRequest (counted (seat i).post) 0))
 publish_ask mem seat i v why aim index root steps n a q =
     go mem seat i v (protect_move index root PublishRequest (seat i).post) why [] (Protect aim index root n LoadOwnClock) (roles.Asked index (link_number (seat i).post.layout root))
@@ -169,7 +169,7 @@ publish_ask mem seat i v why aim index root steps n a q =
       (own.asks-keeps (seat i).post.layout.config v i index (link_number (seat i).post.layout root) a.below a.facts.parts (stands_in mem seat i v (Runs why (Protect aim index root steps PublishRequest)) a q))
 
 -- 2. The clock is loaded.
-load_own_clock : (mem : Place → ℕ) (seat : ℕ → Local) (i : ℕ) (v : View) (why : Why) (aim : Aim) (index : ℕ) (root : Root) (steps n : ℕ) → At mem seat i v → (seat i).phase ≡ Runs why (Protect aim index root steps LoadOwnClock)
+pub load_own_clock : (mem : Place → ℕ) (seat : ℕ → Local) (i : ℕ) (v : View) (why : Why) (aim : Aim) (index : ℕ) (root : Root) (steps n : ℕ) → At mem seat i v → (seat i).phase ≡ Runs why (Protect aim index root steps LoadOwnClock)
     → Made mem seat i (memory.Load Clock) (run_turn why (seat i).desk (protect_turn aim index root n LoadOwnClock (counted (seat i).post) (mem Clock)))
 load_own_clock mem seat i v why aim index root steps n a q =
     go mem seat i v (memory.Load Clock) why [] (Protect aim index root n (PublishHelper (mem Clock) (mem Clock) false)) (roles.Turns index (link_number (seat i).post.layout root) v.clock v.clock false)
@@ -182,7 +182,7 @@ shows_any : (c : Config) (v : View) (x j w f e : ℕ) (last : Bool) → x < c.se
 shows_any c v x j w f e false b d q = own.shows_first-keeps c v x j w f e b d q
 shows_any c v x j w f e true b d q = own.shows_last-keeps c v x j w f e b d q
 
-publish_helper : (mem : Place → ℕ) (seat : ℕ → Local) (i : ℕ) (v : View) (why : Why) (aim : Aim) (index : ℕ) (root : Root) (steps n first era : ℕ) (last : Bool) → At mem seat i v → (seat i).phase ≡ Runs why (Protect aim index root steps (PublishHelper first era last))
+pub publish_helper : (mem : Place → ℕ) (seat : ℕ → Local) (i : ℕ) (v : View) (why : Why) (aim : Aim) (index : ℕ) (root : Root) (steps n first era : ℕ) (last : Bool) → At mem seat i v → (seat i).phase ≡ Runs why (Protect aim index root steps (PublishHelper first era last))
     → Made mem seat i (protect_move index root (PublishHelper first era last) (seat i).post) (run_turn why (seat i).desk (protect_turn aim index root n (PublishHelper first era last) (counted (seat i).post) 0))
 publish_helper mem seat i v why aim index root steps n first era last a q =
     go mem seat i v (protect_move index root (PublishHelper first era last) (seat i).post) why (reserves_helper (counted (seat i).post) era) (Protect aim index root n (LoadOwnLink first era last)) (roles.Looks index (link_number (seat i).post.layout root) first era last 0)
@@ -207,7 +207,7 @@ root_there mem seat i v why aim index root steps at a q = let h = inside mem sea
     both_last true y h = h
     both_last false y h = cc
 
-load_own_link : (mem : Place → ℕ) (seat : ℕ → Local) (i : ℕ) (v : View) (why : Why) (aim : Aim) (index : ℕ) (root : Root) (steps n first era : ℕ) (last : Bool) → At mem seat i v → (seat i).phase ≡ Runs why (Protect aim index root steps (LoadOwnLink first era last))
+pub load_own_link : (mem : Place → ℕ) (seat : ℕ → Local) (i : ℕ) (v : View) (why : Why) (aim : Aim) (index : ℕ) (root : Root) (steps n first era : ℕ) (last : Bool) → At mem seat i v → (seat i).phase ≡ Runs why (Protect aim index root steps (LoadOwnLink first era last))
     → Made mem seat i (memory.Load (link_place root)) (run_turn why (seat i).desk (protect_turn aim index root n (LoadOwnLink first era last) (counted (seat i).post) (mem (link_place root))))
 load_own_link mem seat i v why aim index root steps n first era last a q =
     go mem seat i v (memory.Load (link_place root)) why [] (Protect aim index root n (CheckOwnClock first era last (mem (link_place root)))) (roles.Looks index (link_number (seat i).post.layout root) first era last (mem (link_place root)))
@@ -234,7 +234,7 @@ lost mem seat i v why aim index root steps n first era link true a q h =
       refl refl refl refl a.facts.words
       (own.loses-keeps (seat i).post.layout.config v i index (link_number (seat i).post.layout root) first era link a.below a.facts.parts (stands_in mem seat i v (Runs why (Protect aim index root steps (CheckOwnClock first era true link))) a q) (rw a.facts.words.clocks at h))
 
-check_own_clock : (mem : Place → ℕ) (seat : ℕ → Local) (i : ℕ) (v : View) (why : Why) (aim : Aim) (index : ℕ) (root : Root) (steps n first era link : ℕ) (last : Bool) → At mem seat i v → (seat i).phase ≡ Runs why (Protect aim index root steps (CheckOwnClock first era last link))
+pub check_own_clock : (mem : Place → ℕ) (seat : ℕ → Local) (i : ℕ) (v : View) (why : Why) (aim : Aim) (index : ℕ) (root : Root) (steps n first era link : ℕ) (last : Bool) → At mem seat i v → (seat i).phase ≡ Runs why (Protect aim index root steps (CheckOwnClock first era last link))
     → Made mem seat i (memory.Load Clock) (run_turn why (seat i).desk (protect_turn aim index root n (CheckOwnClock first era last link) (counted (seat i).post) (mem Clock)))
 check_own_clock mem seat i v why aim index root steps n first era link last a q =
     by_test (mem Clock == era) (goes (counted (seat i).post) [] (Protect aim index root n (AnswerOwn first era link))) (goes (counted (seat i).post) [] (Protect aim index root n (lost_turn first last (mem Clock))))

@@ -88,7 +88,7 @@ open_exact mem seat i v k t j w (Passed t' j' w' l' e') a b o e = absurd (pendin
 open_exact mem seat i v k t j w (Taken t' j' w' l' e') a b o e = absurd (pending≢answered t j w l' e' b.tag_in b.index_in b.word_in (sym e))
 
 -- 6. The request is exchanged.
-answer_asked : (mem : Place → ℕ) (seat : ℕ → Local) (i : ℕ) (v : View) (why : Why) (e k t j : ℕ) (root : Root) (link : ℕ) → At mem seat i v → (seat i).phase ≡ Runs why (bases.Move (AnswerAsked e k t j root link))
+pub answer_asked : (mem : Place → ℕ) (seat : ℕ → Local) (i : ℕ) (v : View) (why : Why) (e k t j : ℕ) (root : Root) (link : ℕ) → At mem seat i v → (seat i).phase ≡ Runs why (bases.Move (AnswerAsked e k t j root link))
     → Made mem seat i (move_move (AnswerAsked e k t j root link) (seat i).post) (run_turn why (seat i).desk (move_turn (AnswerAsked e k t j root link) (counted (seat i).post) (mem (Request k))))
 answer_asked mem seat i v why e k t j root link a q =
     let r = stands_in mem seat i v (Runs why (bases.Move (AnswerAsked e k t j root link))) a q in
@@ -130,7 +130,7 @@ read_index : (mem : Place → ℕ) (seat : ℕ → Local) (i : ℕ) (v : View) (
 read_index mem seat i v k j a = ap read_reservation (a.facts.words.indexes k j) ∙ read_reservation-halves (v.era k j) (v.mark k j) (mark_few mem seat i v k j a)
 
 -- 7. The index word is loaded.
-load_reserved : (mem : Place → ℕ) (seat : ℕ → Local) (i : ℕ) (v : View) (why : Why) (e k t j : ℕ) (root : Root) (link : ℕ) → At mem seat i v → (seat i).phase ≡ Runs why (bases.Move (LoadReserved e k t j root link))
+pub load_reserved : (mem : Place → ℕ) (seat : ℕ → Local) (i : ℕ) (v : View) (why : Why) (e k t j : ℕ) (root : Root) (link : ℕ) → At mem seat i v → (seat i).phase ≡ Runs why (bases.Move (LoadReserved e k t j root link))
     → Made mem seat i (memory.Load (Index k j)) (run_turn why (seat i).desk (move_turn (LoadReserved e k t j root link) (counted (seat i).post) (mem (Index k j))))
 load_reserved mem seat i v why e k t j root link a q =
     let r = stands_in mem seat i v (Runs why (bases.Move (LoadReserved e k t j root link))) a q in
@@ -190,7 +190,7 @@ hand_late mem seat i v why e k t j root link old a q h =
     moved_on : v.mark k j ≡ t → v.era k j ≡ old → ⊥
     moved_on x y = let g : (mem (Index k j) == halves old t) ≡ true = equal_test (mem (Index k j)) (halves old t) (a.facts.words.indexes k j ∙ ap (halves (v.era k j)) x ∙ ap (λ (n : ℕ). halves n t) y) in cc
 
-exchange_index : (mem : Place → ℕ) (seat : ℕ → Local) (i : ℕ) (v : View) (why : Why) (e k t j : ℕ) (root : Root) (link old : ℕ) → At mem seat i v → (seat i).phase ≡ Runs why (bases.Move (HandOver e k t j root link old))
+pub exchange_index : (mem : Place → ℕ) (seat : ℕ → Local) (i : ℕ) (v : View) (why : Why) (e k t j : ℕ) (root : Root) (link old : ℕ) → At mem seat i v → (seat i).phase ≡ Runs why (bases.Move (HandOver e k t j root link old))
     → Made mem seat i (move_move (HandOver e k t j root link old) (seat i).post) (run_turn why (seat i).desk (move_turn (HandOver e k t j root link old) (counted (seat i).post) (mem (Index k j))))
 exchange_index mem seat i v why e k t j root link old a q = by (mem (Index k j) == halves old t) refl
   where
@@ -199,7 +199,7 @@ exchange_index mem seat i v why e k t j root link old a q = by (mem (Index k j) 
     by false h = hand_late mem seat i v why e k t j root link old a q h
 
 -- 9. The helper word is withdrawn.
-hide_era : (mem : Place → ℕ) (seat : ℕ → Local) (i : ℕ) (v : View) (why : Why) (e : ℕ) → At mem seat i v → (seat i).phase ≡ Runs why (bases.Move (HideEra e))
+pub hide_era : (mem : Place → ℕ) (seat : ℕ → Local) (i : ℕ) (v : View) (why : Why) (e : ℕ) → At mem seat i v → (seat i).phase ≡ Runs why (bases.Move (HideEra e))
     → Made mem seat i (move_move (HideEra e) (seat i).post) (run_turn why (seat i).desk (move_turn (HideEra e) (counted (seat i).post) 0))
 hide_era mem seat i v why e a q =
     go mem seat i v (move_move (HideEra e) (seat i).post) why (reserves_helper (counted (seat i).post) 0) (bases.Move (ExchangeClock e)) (roles.Moves e) (record v { helper = upd v.helper i 0; role = upd v.role i (roles.Moves e) }) a
@@ -207,7 +207,7 @@ hide_era mem seat i v why e a q =
       (words_helper mem v.clock v.helper v.era v.mark v.deal i (seat i).post.seat 0 0 a.facts.words a.number (sym no_halves))
       (mover.hides-keeps (seat i).post.layout.config v i e a.below a.facts.parts (stands_in mem seat i v (Runs why (bases.Move (HideEra e))) a q))
 
-hide_late : {Q : Post → Type 0} {P : Post → Phase → Type 0} (mem : Place → ℕ) (seat : ℕ → Local) (i : ℕ) (v : View) (why : Why) (seen : ℕ) → At mem seat i v → (seat i).phase ≡ Runs why (bases.Move (HideLate seen))
+pub hide_late : {Q : Post → Type 0} {P : Post → Phase → Type 0} (mem : Place → ℕ) (seat : ℕ → Local) (i : ℕ) (v : View) (why : Why) (seen : ℕ) → At mem seat i v → (seat i).phase ≡ Runs why (bases.Move (HideLate seen))
     → Moves Q P why (move_turn (HideLate seen) (counted (seat i).post) 0)
     → Made mem seat i (move_move (HideLate seen) (seat i).post) (run_turn why (seat i).desk (move_turn (HideLate seen) (counted (seat i).post) 0))
 hide_late mem seat i v why seen a q m =
@@ -217,7 +217,7 @@ hide_late mem seat i v why seen a q m =
       (mover.hides_late-keeps (seat i).post.layout.config v i a.below a.facts.parts (stands_in mem seat i v (Runs why (bases.Move (HideLate seen))) a q))
 
 -- 10. The clock is exchanged.
-exchange_clock : {Q : Post → Type 0} {P : Post → Phase → Type 0} (mem : Place → ℕ) (seat : ℕ → Local) (i : ℕ) (v : View) (why : Why) (e : ℕ) → At mem seat i v → (seat i).phase ≡ Runs why (bases.Move (ExchangeClock e))
+pub exchange_clock : {Q : Post → Type 0} {P : Post → Phase → Type 0} (mem : Place → ℕ) (seat : ℕ → Local) (i : ℕ) (v : View) (why : Why) (e : ℕ) → At mem seat i v → (seat i).phase ≡ Runs why (bases.Move (ExchangeClock e))
     → Moves Q P why (move_turn (ExchangeClock e) (counted (seat i).post) (mem Clock))
     → Made mem seat i (move_move (ExchangeClock e) (seat i).post) (run_turn why (seat i).desk (move_turn (ExchangeClock e) (counted (seat i).post) (mem Clock)))
 exchange_clock {Q} {P} mem seat i v why e a q m =

@@ -3,6 +3,7 @@ pub mod Asking
 pub mod Going
 pub mod Handing
 pub mod Helping
+pub mod Kept
 pub mod Movers
 pub mod Paced
 pub mod Paces

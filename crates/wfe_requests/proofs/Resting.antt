@@ -117,7 +117,7 @@ pub steps_if : (layout : Layout) (tags : List ℕ) (why : Why) (b : Bool) (x y :
 steps_if layout tags why true x y f g = f
 steps_if layout tags why false x y f g = g
 
-begin_made : {Q : Post → Type 0} {P : Post → Phase → Type 0} (mem : Place → ℕ) (seat : ℕ → Local) (i : ℕ) (v : View) (why : Why) (at : BeginAt) (found : ℕ) → At mem seat i v → (seat i).phase ≡ Runs why (bases.Begin at)
+pub begin_made : {Q : Post → Type 0} {P : Post → Phase → Type 0} (mem : Place → ℕ) (seat : ℕ → Local) (i : ℕ) (v : View) (why : Why) (at : BeginAt) (found : ℕ) → At mem seat i v → (seat i).phase ≡ Runs why (bases.Begin at)
     → Moves Q P why (after (bases.Begin at) (counted (seat i).post) found)
     → Made mem seat i (base_move (bases.Begin at) (seat i).post) (run_turn why (seat i).desk (after (bases.Begin at) (counted (seat i).post) found))
 begin_made mem seat i v why LoadLower found a q m = stay mem seat i v (memory.Load Clock) why (bases.Begin LoadLower) (after (bases.Begin LoadLower) (counted (seat i).post) found) a q refl refl m (record { post = own_post mem seat i v a; phase = record { is = refl; there = refl } })
@@ -133,13 +133,13 @@ concluded_on layout tags why Follows index root n link era post told p =
       (record { post = p; phase = tt }) (record { post = p; phase = record { is = refl; there = refl } })
 
 -- 2GE
-within_made : {Q : Post → Type 0} {P : Post → Phase → Type 0} (mem : Place → ℕ) (seat : ℕ → Local) (i : ℕ) (v : View) (why : Why) (aim : Aim) (index : ℕ) (root : Root) (steps n found : ℕ) → At mem seat i v → (seat i).phase ≡ Runs why (bases.Protect aim index root steps LoadWithin)
+pub within_made : {Q : Post → Type 0} {P : Post → Phase → Type 0} (mem : Place → ℕ) (seat : ℕ → Local) (i : ℕ) (v : View) (why : Why) (aim : Aim) (index : ℕ) (root : Root) (steps n found : ℕ) → At mem seat i v → (seat i).phase ≡ Runs why (bases.Protect aim index root steps LoadWithin)
     → Moves Q P why (protect_turn aim index root n LoadWithin (counted (seat i).post) found)
     → Made mem seat i (memory.Load (link_place root)) (run_turn why (seat i).desk (protect_turn aim index root n LoadWithin (counted (seat i).post) found))
 within_made mem seat i v why aim index root steps n found a q m =
     stay mem seat i v (memory.Load (link_place root)) why (bases.Protect aim index root steps LoadWithin) (protect_turn aim index root n LoadWithin (counted (seat i).post) found) a q refl refl m (record { post = own_post mem seat i v a; phase = record { is = refl; there = refl } })
 
-upper_made : {Q : Post → Type 0} {P : Post → Phase → Type 0} (mem : Place → ℕ) (seat : ℕ → Local) (i : ℕ) (v : View) (why : Why) (aim : Aim) (index : ℕ) (root : Root) (steps n link found : ℕ) → At mem seat i v → (seat i).phase ≡ Runs why (bases.Protect aim index root steps (CheckUpper link))
+pub upper_made : {Q : Post → Type 0} {P : Post → Phase → Type 0} (mem : Place → ℕ) (seat : ℕ → Local) (i : ℕ) (v : View) (why : Why) (aim : Aim) (index : ℕ) (root : Root) (steps n link found : ℕ) → At mem seat i v → (seat i).phase ≡ Runs why (bases.Protect aim index root steps (CheckUpper link))
     → Moves Q P why (protect_turn aim index root n (CheckUpper link) (counted (seat i).post) found)
     → Made mem seat i (memory.Load Clock) (run_turn why (seat i).desk (protect_turn aim index root n (CheckUpper link) (counted (seat i).post) found))
 upper_made mem seat i v why aim index root steps n link found a q m =
@@ -148,7 +148,7 @@ upper_made mem seat i v why aim index root steps n link found a q m =
         (concluded_on (seat i).post.layout (seat i).post.tags why aim index root n link found (held_post (counted (seat i).post) index root link) (told_held index root link n) (post_held (seat i).post.layout (seat i).post.tags (counted (seat i).post) index root link (own_post mem seat i v a)))
         (record { post = own_post mem seat i v a; phase = record { is = refl; there = refl } }))
 
-raise_made : {Q : Post → Type 0} {P : Post → Phase → Type 0} (mem : Place → ℕ) (seat : ℕ → Local) (i : ℕ) (v : View) (why : Why) (aim : Aim) (index : ℕ) (root : Root) (steps n era found : ℕ) → At mem seat i v → (seat i).phase ≡ Runs why (bases.Protect aim index root steps (RaiseUpper era))
+pub raise_made : {Q : Post → Type 0} {P : Post → Phase → Type 0} (mem : Place → ℕ) (seat : ℕ → Local) (i : ℕ) (v : View) (why : Why) (aim : Aim) (index : ℕ) (root : Root) (steps n era found : ℕ) → At mem seat i v → (seat i).phase ≡ Runs why (bases.Protect aim index root steps (RaiseUpper era))
     → Moves Q P why (protect_turn aim index root n (RaiseUpper era) (counted (seat i).post) found)
     → Made mem seat i (protect_move index root (RaiseUpper era) (seat i).post) (run_turn why (seat i).desk (protect_turn aim index root n (RaiseUpper era) (counted (seat i).post) found))
 raise_made mem seat i v why aim index root steps n era found a q m =
@@ -156,7 +156,7 @@ raise_made mem seat i v why aim index root steps n era found a q m =
     stay mem seat i v (protect_move index root (RaiseUpper era) (seat i).post) why (bases.Protect aim index root steps (RaiseUpper era)) (protect_turn aim index root n (RaiseUpper era) (counted (seat i).post) found) a q refl refl m
       (record { post = record { table = p.table; guarded = p.guarded; kept = p.kept }; phase = record { is = refl; there = refl } })
 
-reload_made : {Q : Post → Type 0} {P : Post → Phase → Type 0} (mem : Place → ℕ) (seat : ℕ → Local) (i : ℕ) (v : View) (why : Why) (parent index slot era steps found : ℕ) → At mem seat i v → (seat i).phase ≡ Runs why (bases.Reload parent index slot era steps)
+pub reload_made : {Q : Post → Type 0} {P : Post → Phase → Type 0} (mem : Place → ℕ) (seat : ℕ → Local) (i : ℕ) (v : View) (why : Why) (parent index slot era steps found : ℕ) → At mem seat i v → (seat i).phase ≡ Runs why (bases.Reload parent index slot era steps)
     → Moves Q P why (after (bases.Reload parent index slot era steps) (counted (seat i).post) found)
     → Made mem seat i (memory.Load places.Head) (run_turn why (seat i).desk (after (bases.Reload parent index slot era steps) (counted (seat i).post) found))
 reload_made mem seat i v why parent index slot era steps found a q m =
@@ -166,7 +166,7 @@ reload_made mem seat i v why parent index slot era steps found a q m =
         (record { post = record { table = p.table; guarded = p.guarded; kept = p.kept }; phase = tt }) (record { post = p; phase = tt }))
 
 -- an index word is cleared
-clear_made : {Q : Post → Type 0} {P : Post → Phase → Type 0} (mem : Place → ℕ) (seat : ℕ → Local) (i : ℕ) (v : View) (why : Why) (index found : ℕ) → At mem seat i v → (seat i).phase ≡ Runs why (bases.Clear index)
+pub clear_made : {Q : Post → Type 0} {P : Post → Phase → Type 0} (mem : Place → ℕ) (seat : ℕ → Local) (i : ℕ) (v : View) (why : Why) (index found : ℕ) → At mem seat i v → (seat i).phase ≡ Runs why (bases.Clear index)
     → Moves Q P why (after (bases.Clear index) (counted (seat i).post) found)
     → Made mem seat i (base_move (bases.Clear index) (seat i).post) (run_turn why (seat i).desk (after (bases.Clear index) (counted (seat i).post) found))
 clear_made mem seat i v why index found a q m =
@@ -179,14 +179,14 @@ clear_made mem seat i v why index found a q m =
         (ap (λ (n : ℕ). halves 0 n) (sym (quiet_mark mem seat i v index a (rw r at (a.facts.parts.fit i))))))
       (own.clears-keeps (seat i).post.layout.config v i index a.below a.facts.parts r)
 
-finish_made : {Q : Post → Type 0} {P : Post → Phase → Type 0} (mem : Place → ℕ) (seat : ℕ → Local) (i : ℕ) (v : View) (why : Why) (found : ℕ) → At mem seat i v → (seat i).phase ≡ Runs why bases.Finish
+pub finish_made : {Q : Post → Type 0} {P : Post → Phase → Type 0} (mem : Place → ℕ) (seat : ℕ → Local) (i : ℕ) (v : View) (why : Why) (found : ℕ) → At mem seat i v → (seat i).phase ≡ Runs why bases.Finish
     → Moves Q P why (after bases.Finish (counted (seat i).post) found)
     → Made mem seat i (base_move bases.Finish (seat i).post) (run_turn why (seat i).desk (after bases.Finish (counted (seat i).post) found))
 finish_made mem seat i v why found a q m =
     let p = own_post mem seat i v a in
     stay mem seat i v (base_move bases.Finish (seat i).post) why bases.Finish (after bases.Finish (counted (seat i).post) found) a q refl refl m (record { post = record { table = p.table; guarded = p.guarded; kept = p.kept }; phase = tt })
 
-release_made : {Q : Post → Type 0} {P : Post → Phase → Type 0} (mem : Place → ℕ) (seat : ℕ → Local) (i : ℕ) (v : View) (why : Why) (found : ℕ) → At mem seat i v → (seat i).phase ≡ Runs why bases.Release
+pub release_made : {Q : Post → Type 0} {P : Post → Phase → Type 0} (mem : Place → ℕ) (seat : ℕ → Local) (i : ℕ) (v : View) (why : Why) (found : ℕ) → At mem seat i v → (seat i).phase ≡ Runs why bases.Release
     → Moves Q P why (after bases.Release (counted (seat i).post) found)
     → Made mem seat i (base_move bases.Release (seat i).post) (run_turn why (seat i).desk (after bases.Release (counted (seat i).post) found))
 release_made mem seat i v why found a q m =
@@ -197,7 +197,7 @@ walking_on : (layout : Layout) (tags : List ℕ) (why : Why) (birth : ℕ) (post
 walking_on layout tags why birth post None p = record { post = p; phase = tt }
 walking_on layout tags why birth post (Some walk) p = record { post = p; phase = record { is = refl; there = refl } }
 
-allocate_made : {Q : Post → Type 0} {P : Post → Phase → Type 0} (mem : Place → ℕ) (seat : ℕ → Local) (i : ℕ) (v : View) (why : Why) (at : AllocateAt) (found : ℕ) → At mem seat i v → (seat i).phase ≡ Runs why (bases.Allocate at)
+pub allocate_made : {Q : Post → Type 0} {P : Post → Phase → Type 0} (mem : Place → ℕ) (seat : ℕ → Local) (i : ℕ) (v : View) (why : Why) (at : AllocateAt) (found : ℕ) → At mem seat i v → (seat i).phase ≡ Runs why (bases.Allocate at)
     → Moves Q P why (after (bases.Allocate at) (counted (seat i).post) found)
     → Made mem seat i (base_move (bases.Allocate at) (seat i).post) (run_turn why (seat i).desk (after (bases.Allocate at) (counted (seat i).post) found))
 allocate_made mem seat i v why LoadBirth found a q m = stay mem seat i v (memory.Load Clock) why (bases.Allocate LoadBirth) (after (bases.Allocate LoadBirth) (counted (seat i).post) found) a q refl refl m (record { post = own_post mem seat i v a; phase = record { is = refl; there = refl } })
@@ -210,7 +210,7 @@ allocate_made mem seat i v why (ClaimSlot birth walk) found a q m =
         (record { post = record { table = p.table; guarded = p.guarded; kept = p.kept }; phase = record { is = refl; there = refl } }))
 allocate_made mem seat i v why (StoreLife birth slot) found a q m = stay mem seat i v (base_move (bases.Allocate (StoreLife birth slot)) (seat i).post) why (bases.Allocate (StoreLife birth slot)) (after (bases.Allocate (StoreLife birth slot)) (counted (seat i).post) found) a q refl refl m (record { post = own_post mem seat i v a; phase = tt })
 
-write_made : {Q : Post → Type 0} {P : Post → Phase → Type 0} (mem : Place → ℕ) (seat : ℕ → Local) (i : ℕ) (v : View) (why : Why) (slot : ℕ) (row : RowOf) (place found : ℕ) → At mem seat i v → (seat i).phase ≡ Runs why (bases.Write slot row place)
+pub write_made : {Q : Post → Type 0} {P : Post → Phase → Type 0} (mem : Place → ℕ) (seat : ℕ → Local) (i : ℕ) (v : View) (why : Why) (slot : ℕ) (row : RowOf) (place found : ℕ) → At mem seat i v → (seat i).phase ≡ Runs why (bases.Write slot row place)
     → Moves Q P why (after (bases.Write slot row place) (counted (seat i).post) found)
     → Made mem seat i (base_move (bases.Write slot row place) (seat i).post) (run_turn why (seat i).desk (after (bases.Write slot row place) (counted (seat i).post) found))
 write_made mem seat i v why slot row place found a q m =
@@ -218,12 +218,12 @@ write_made mem seat i v why slot row place found a q m =
       (steps_if (seat i).post.layout (seat i).post.tags why (place == last_written row) (ends (counted (seat i).post) [] Done) (goes (counted (seat i).post) [] (bases.Write slot row (place + 1)))
         (record { post = own_post mem seat i v a; phase = tt }) (record { post = own_post mem seat i v a; phase = record { is = refl; there = refl } }))
 
-give_up_made : {Q : Post → Type 0} {P : Post → Phase → Type 0} (mem : Place → ℕ) (seat : ℕ → Local) (i : ℕ) (v : View) (why : Why) (slot found : ℕ) → At mem seat i v → (seat i).phase ≡ Runs why (bases.GiveUp slot)
+pub give_up_made : {Q : Post → Type 0} {P : Post → Phase → Type 0} (mem : Place → ℕ) (seat : ℕ → Local) (i : ℕ) (v : View) (why : Why) (slot found : ℕ) → At mem seat i v → (seat i).phase ≡ Runs why (bases.GiveUp slot)
     → Moves Q P why (after (bases.GiveUp slot) (counted (seat i).post) found)
     → Made mem seat i (base_move (bases.GiveUp slot) (seat i).post) (run_turn why (seat i).desk (after (bases.GiveUp slot) (counted (seat i).post) found))
 give_up_made mem seat i v why slot found a q m = stay mem seat i v (base_move (bases.GiveUp slot) (seat i).post) why (bases.GiveUp slot) (after (bases.GiveUp slot) (counted (seat i).post) found) a q refl refl m (record { post = own_post mem seat i v a; phase = tt })
 
-retire_made : {Q : Post → Type 0} {P : Post → Phase → Type 0} (mem : Place → ℕ) (seat : ℕ → Local) (i : ℕ) (v : View) (why : Why) (at : RetireAt) (found : ℕ) → At mem seat i v → (seat i).phase ≡ Runs why (bases.Retire at)
+pub retire_made : {Q : Post → Type 0} {P : Post → Phase → Type 0} (mem : Place → ℕ) (seat : ℕ → Local) (i : ℕ) (v : View) (why : Why) (at : RetireAt) (found : ℕ) → At mem seat i v → (seat i).phase ≡ Runs why (bases.Retire at)
     → Moves Q P why (after (bases.Retire at) (counted (seat i).post) found)
     → Made mem seat i (base_move (bases.Retire at) (seat i).post) (run_turn why (seat i).desk (after (bases.Retire at) (counted (seat i).post) found))
 retire_made mem seat i v why (LoadLife slot) found a q m = stay mem seat i v (base_move (bases.Retire (LoadLife slot)) (seat i).post) why (bases.Retire (LoadLife slot)) (after (bases.Retire (LoadLife slot)) (counted (seat i).post) found) a q refl refl m (record { post = own_post mem seat i v a; phase = record { is = refl; there = refl } })
@@ -271,7 +271,7 @@ work_leaves (Changing kept at) post = change_leaves kept at post
 work_leaves (Enqueuing kept at) post = enqueue_leaves kept at
 work_leaves (Dequeuing at) post = dequeue_leaves at
 
-work_made : (mem : Place → ℕ) (seat : ℕ → Local) (i : ℕ) (v : View) (work : Work) (found : ℕ) → At mem seat i v → (seat i).phase ≡ Works work → SpanStands (counted (seat i).post) → Made mem seat i (work_move work (seat i).post) (work_turn work (counted (seat i).post) (seat i).desk found)
+pub work_made : (mem : Place → ℕ) (seat : ℕ → Local) (i : ℕ) (v : View) (work : Work) (found : ℕ) → At mem seat i v → (seat i).phase ≡ Works work → SpanStands (counted (seat i).post) → Made mem seat i (work_move work (seat i).post) (work_turn work (counted (seat i).post) (seat i).desk found)
 work_made mem seat i v work found a q s = call_made mem seat i v (Works work) (work_move work (seat i).post) (work_turn work (counted (seat i).post) (seat i).desk found) a q refl (work_leaves work (seat i).post)
     (work_left (away (seat i).post.layout (seat i).post.tags) work (counted (seat i).post) (seat i).desk found s (own_post mem seat i v a))
 
@@ -279,9 +279,9 @@ scan_leaves : (at : ScanAt) (post : Post) → leaves (scan_move at post) ≡ tru
 scan_leaves (ReadGuard number) post = refl
 scan_leaves (GiveBack place slot) post = refl
 
-scan_made : (mem : Place → ℕ) (seat : ℕ → Local) (i : ℕ) (v : View) (later : AfterScan) (at : ScanAt) (found : ℕ) → At mem seat i v → (seat i).phase ≡ Scans later at → Made mem seat i (scan_move at (seat i).post) (scan_turn later at (counted (seat i).post) (seat i).desk found)
+pub scan_made : (mem : Place → ℕ) (seat : ℕ → Local) (i : ℕ) (v : View) (later : AfterScan) (at : ScanAt) (found : ℕ) → At mem seat i v → (seat i).phase ≡ Scans later at → Made mem seat i (scan_move at (seat i).post) (scan_turn later at (counted (seat i).post) (seat i).desk found)
 scan_made mem seat i v later at found a q = call_made mem seat i v (Scans later at) (scan_move at (seat i).post) (scan_turn later at (counted (seat i).post) (seat i).desk found) a q refl (scan_leaves at (seat i).post)
     (scan_left (away (seat i).post.layout (seat i).post.tags) later at (counted (seat i).post) (seat i).desk found (own_post mem seat i v a))
 
-idle_made : (mem : Place → ℕ) (seat : ℕ → Local) (i : ℕ) (v : View) (t : CallTurn) → At mem seat i v → (seat i).phase ≡ Idle → Left (PostOf (seat i).post.layout (seat i).post.tags) (RoleOf (seat i).post.layout roles.Away) t → Made mem seat i (memory.Load Clock) t
+pub idle_made : (mem : Place → ℕ) (seat : ℕ → Local) (i : ℕ) (v : View) (t : CallTurn) → At mem seat i v → (seat i).phase ≡ Idle → Left (PostOf (seat i).post.layout (seat i).post.tags) (RoleOf (seat i).post.layout roles.Away) t → Made mem seat i (memory.Load Clock) t
 idle_made mem seat i v t a q l = call_made mem seat i v Idle (memory.Load Clock) t a q refl refl l

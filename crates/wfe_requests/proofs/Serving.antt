@@ -127,7 +127,7 @@ load_request_by mem seat i v why e k shown (Taken t j w l r) a q o =
     let y = rw o at (a.facts.parts.timely k) in
     pass_request mem seat i v why e k shown a q (ap is_open o) (ap (met (counted (seat i).post) e k shown) (ap read_request (a.facts.words.requests k ∙ ap request_of o) ∙ read_answered mem seat i v l r a (grind (arith, nat_tests, y)) (grind (arith, nat_tests, y)) (grind (arith, nat_tests, y))))
 
-load_request : (mem : Place → ℕ) (seat : ℕ → Local) (i : ℕ) (v : View) (why : Why) (e k : ℕ) (shown : Bool) → At mem seat i v → (seat i).phase ≡ Runs why (bases.Move (LoadRequest e k shown))
+pub load_request : (mem : Place → ℕ) (seat : ℕ → Local) (i : ℕ) (v : View) (why : Why) (e k : ℕ) (shown : Bool) → At mem seat i v → (seat i).phase ≡ Runs why (bases.Move (LoadRequest e k shown))
     → Made mem seat i (memory.Load (Request k)) (run_turn why (seat i).desk (move_turn (LoadRequest e k shown) (counted (seat i).post) (mem (Request k))))
 load_request mem seat i v why e k shown a q = load_request_by mem seat i v why e k shown (v.deal k) a q refl
 
@@ -136,7 +136,7 @@ pub there_of : (mem : Place → ℕ) (seat : ℕ → Local) (i : ℕ) (v : View)
 there_of mem seat i v why at a q = sym (ap (is_there (seat i).post.layout) q) ∙ a.facts.locals.there i
 
 -- 3. The helper word is stored.
-show_era : (mem : Place → ℕ) (seat : ℕ → Local) (i : ℕ) (v : View) (why : Why) (e k t j : ℕ) (root : Root) → At mem seat i v → (seat i).phase ≡ Runs why (bases.Move (ShowEra e k t j root))
+pub show_era : (mem : Place → ℕ) (seat : ℕ → Local) (i : ℕ) (v : View) (why : Why) (e k t j : ℕ) (root : Root) → At mem seat i v → (seat i).phase ≡ Runs why (bases.Move (ShowEra e k t j root))
     → Made mem seat i (move_move (ShowEra e k t j root) (seat i).post) (run_turn why (seat i).desk (move_turn (ShowEra e k t j root) (counted (seat i).post) 0))
 show_era mem seat i v why e k t j root a q =
     go mem seat i v (move_move (ShowEra e k t j root) (seat i).post) why (reserves_helper (counted (seat i).post) e) (bases.Move (LoadAsked e k t j root)) (roles.Loads e k t j (link_number (seat i).post.layout root) 0)
@@ -146,7 +146,7 @@ show_era mem seat i v why e k t j root a q =
       (mover.shows_era-keeps (seat i).post.layout.config v i e k t j (link_number (seat i).post.layout root) a.below a.facts.parts (stands_in mem seat i v (Runs why (bases.Move (ShowEra e k t j root))) a q))
 
 -- 4. The link is loaded.
-load_asked : (mem : Place → ℕ) (seat : ℕ → Local) (i : ℕ) (v : View) (why : Why) (e k t j : ℕ) (root : Root) → At mem seat i v → (seat i).phase ≡ Runs why (bases.Move (LoadAsked e k t j root))
+pub load_asked : (mem : Place → ℕ) (seat : ℕ → Local) (i : ℕ) (v : View) (why : Why) (e k t j : ℕ) (root : Root) → At mem seat i v → (seat i).phase ≡ Runs why (bases.Move (LoadAsked e k t j root))
     → Made mem seat i (memory.Load (link_place root)) (run_turn why (seat i).desk (move_turn (LoadAsked e k t j root) (counted (seat i).post) (mem (link_place root))))
 load_asked mem seat i v why e k t j root a q =
     go mem seat i v (memory.Load (link_place root)) why [] (bases.Move (CheckEra e k t j root (mem (link_place root)))) (roles.Loads e k t j (link_number (seat i).post.layout root) (mem (link_place root)))
@@ -155,7 +155,7 @@ load_asked mem seat i v why e k t j root a q =
       (mover.looks_asked-keeps (seat i).post.layout.config v i e k t j (link_number (seat i).post.layout root) 0 (mem (link_place root)) a.below a.facts.parts (stands_in mem seat i v (Runs why (bases.Move (LoadAsked e k t j root))) a q) (a.links root (there_of mem seat i v why (LoadAsked e k t j root) a q)))
 
 -- 5. The clock is loaded again.
-check_era : (mem : Place → ℕ) (seat : ℕ → Local) (i : ℕ) (v : View) (why : Why) (e k t j : ℕ) (root : Root) (link : ℕ) → At mem seat i v → (seat i).phase ≡ Runs why (bases.Move (CheckEra e k t j root link))
+pub check_era : (mem : Place → ℕ) (seat : ℕ → Local) (i : ℕ) (v : View) (why : Why) (e k t j : ℕ) (root : Root) (link : ℕ) → At mem seat i v → (seat i).phase ≡ Runs why (bases.Move (CheckEra e k t j root link))
     → Made mem seat i (memory.Load Clock) (run_turn why (seat i).desk (move_turn (CheckEra e k t j root link) (counted (seat i).post) (mem Clock)))
 check_era mem seat i v why e k t j root link a q =
     let r = stands_in mem seat i v (Runs why (bases.Move (CheckEra e k t j root link))) a q in

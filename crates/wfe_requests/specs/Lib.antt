@@ -1,3 +1,4 @@
+pub mod Needs
 pub mod Paces
 pub mod Asked
 pub mod Heard
