@@ -26,23 +26,30 @@ use Rattle.wfe_core.specs.Memory.{Move, place_in, found, bump}
 use Rattle.wfe_core.specs.Phases.{Base as bases}
 use Rattle.wfe_core.specs.Phases.ProtectAt.{LoadClock, PublishEra, LoadLink, CheckClock, PublishRequest, LoadOwnClock, PublishHelper, LoadOwnLink, CheckOwnClock, AnswerOwn, LoadAnswer, TakeAnswer, WithdrawRequest, WithdrawHelper, LoadWithin, CheckUpper, RaiseUpper}
 use Rattle.wfe_core.specs.Phases.MoveAt.{LoadEra, LoadRequest, ShowEra, LoadAsked, CheckEra, AnswerAsked, LoadReserved, HandOver, HideEra, HideLate, ExchangeClock}
-use Rattle.wfe_core.specs.Calls.{Scans, Works, GoesOn}
+use Rattle.std.specs.Prelude.{◌%◌}
+use Rattle.wfe_core.specs.Calls.{Task, Gets, Changes, Holds, Enqueues, Dequeues, Opens, FollowsHead, Fills, ClearsNext, Clears, Finishes, GivesUp, Retires, Tidies, Advances, Releases, Scans, Works}
+use Rattle.wfe_core.specs.Rounds.{index_of, key_of}
+use Rattle.wfe_core.specs.Posts.{new_post}
 use Rattle.wfe_core.specs.Steps.{phase_move, phase_turn}
 use Rattle.wfe_core.specs.Locals.{busy_in, begun, begun_post}
 use Rattle.wfe_core.specs.World.{World, step, begin, start, is_busy}
 use Rattle.wfe_core.proofs.Ranges.{bounds_of}
 use Rattle.wfe_core.specs.Links.{parent_of}
-use Rattle.wfe_eras.specs.Seats.{is_wfe, base_fits, protect_fits, Seats, PostFits, PhaseFits, Run, Aimed, index_by, root_by}
+use Rattle.wfe_eras.specs.Seats.{is_wfe, base_fits, protect_fits, Seats, PostFits, PhaseFits, Run, Shaped, task_root, index_by, root_by}
 use Rattle.wfe_eras.proofs.Inside.{shape_moves}
 use Rattle.wfe_eras.proofs.Kept.{counted_fits, run_counted}
-use Rattle.wfe_requests.specs.Views.{View, Deal, Role}
+use Rattle.wfe_requests.specs.Views.{View, Role}
+use Rattle.wfe_requests.specs.Views.Deal.{Quiet}
 use Rattle.wfe_requests.specs.Views.{Role as roles}
 use Rattle.wfe_requests.specs.Roles.{is_turn}
 use Rattle.wfe_requests.specs.Paces.{paced, base_paced, phase_paced, first_paced, Paces}
-use Rattle.wfe_requests.specs.Standing.{has_failed, role_of, Words, Locals, Facts, Requests}
+use Rattle.wfe_requests.specs.Standing.{has_failed, protect_role, move_role, base_role, role_of, Words, Locals, Facts, Requests}
 use Rattle.wfe_requests.specs.Turns.{PostOf, RoleOf, Made}
 use Rattle.wfe_requests.specs.Context.{At, guards_there, phase_there}
 use Rattle.wfe_requests.specs.Needs.{Needs, head_fits, heads_fit}
+use Rattle.wfe_eras.proofs.Frame.{begun_seated}
+use Rattle.wfe_requests.proofs.Words.{no_halves}
+use Rattle.wfe_requests.proofs.Turns.{guards_some, away, locals_turn}
 use Rattle.wfe_requests.proofs.Going.{own_post, same_role}
 use Rattle.wfe_requests.proofs.Asking.{load_clock, publish_era, load_link, check_clock, publish_ask, load_own_clock, publish_helper, load_own_link, check_own_clock}
 use Rattle.wfe_requests.proofs.Answering.{exchange_own, load_answer, take_answer, withdraw_request, withdraw_helper}
@@ -122,3 +129,223 @@ phase_made mem seat i v layout (Runs why base) y t s f p a q =
       (shape_moves layout i y why base (counted (seat i).post) (found_by mem (base_move base (seat i).post)) (counted_fits layout i (seat i).post s) (run_counted layout why base (seat i).post f))
 phase_made mem seat i v layout (Scans later at) y t s f p a q = scan_made mem seat i v later at (found_by mem (phase_move (Scans later at) (seat i).post)) a q
 phase_made mem seat i v layout (Works work) y t s f p a q = work_made mem seat i v work (found_by mem (phase_move (Works work) (seat i).post)) a q f
+
+-- the shape of a protection gives its index and root
+
+index_small : (task : Task) → index_of task ≤ 2
+index_small (Gets key) = omega arith
+index_small (Changes kept) = omega arith
+index_small (Holds key) = omega arith
+index_small (Enqueues kept) = omega arith
+index_small Dequeues = omega arith
+
+index_by_small : (why : Why) → index_by why ≤ 2
+index_by_small (Opens task) = index_small task
+index_by_small (FollowsHead head tail) = omega arith
+index_by_small (Fills task) = omega arith
+index_by_small (ClearsNext next) = omega arith
+index_by_small (Clears task next) = index_small task
+index_by_small (Finishes task next) = omega arith
+index_by_small (GivesUp answer) = omega arith
+index_by_small (Retires answer) = omega arith
+index_by_small (Tidies later) = omega arith
+index_by_small Advances = omega arith
+index_by_small (Releases key) = omega arith
+
+below_buckets : (key buckets : ℕ) → 1 ≤ buckets → nat_lt (key % buckets) buckets ≡ true
+below_buckets key buckets h = let b : key % buckets < buckets = omega arith in grind (arith, nat_tests)
+
+task_root_there : (layout : Layout) (task : Task) → 1 ≤ layout.config.buckets → has layout (link_place (task_root layout.config.buckets task)) ≡ true
+task_root_there layout (Gets key) b = below_buckets key layout.config.buckets b
+task_root_there layout (Changes kept) b = below_buckets (key_of kept.change) layout.config.buckets b
+task_root_there layout (Holds key) b = below_buckets key layout.config.buckets b
+task_root_there layout (Enqueues kept) b = refl
+task_root_there layout Dequeues b = refl
+
+root_by_there : (layout : Layout) (why : Why) → 1 ≤ layout.config.buckets → head_fits layout.config why ≡ true → has layout (link_place (root_by layout.config.buckets why)) ≡ true
+root_by_there layout (Opens task) b h = task_root_there layout task b
+root_by_there layout (FollowsHead head tail) b h = grind (arith, nat_tests)
+root_by_there layout (Fills task) b h = refl
+root_by_there layout (ClearsNext next) b h = refl
+root_by_there layout (Clears task next) b h = refl
+root_by_there layout (Finishes task next) b h = refl
+root_by_there layout (GivesUp answer) b h = refl
+root_by_there layout (Retires answer) b h = refl
+root_by_there layout (Tidies later) b h = refl
+root_by_there layout Advances b h = refl
+root_by_there layout (Releases key) b h = refl
+
+base_inside : (layout : Layout) (why : Why) (base : Base) → is_valid layout ≡ true → Shaped layout.config.buckets why base → head_fits layout.config why ≡ true → guards_there layout base ≡ true
+base_inside layout why (bases.Begin at) y s h = refl
+base_inside layout why (bases.Protect aim index root steps at) y s h =
+    let b = bounds_of layout y in
+    let r = ap (λ (x : Root). has layout (link_place x)) s.of ∙ root_by_there layout why (b.buckets.0) h in
+    let x : index ≤ 2 = omega (arith, index_by_small why, s.at) in
+    let z : nat_lt index layout.config.indexes ≡ true = grind (arith, nat_tests, b.indexes) in
+    both z r
+  where
+    both : nat_lt index layout.config.indexes ≡ true → has layout (link_place root) ≡ true → (nat_lt index layout.config.indexes && has layout (link_place root)) ≡ true
+    both z r = rw z r
+base_inside layout why (bases.Reload parent index slot era steps) y s h = refl
+base_inside layout why (bases.Clear index) y s h = refl
+base_inside layout why bases.Finish y s h = refl
+base_inside layout why bases.Release y s h = refl
+base_inside layout why (bases.Allocate at) y s h = refl
+base_inside layout why (bases.Write slot row place) y s h = refl
+base_inside layout why (bases.GiveUp slot) y s h = refl
+base_inside layout why (bases.Retire at) y s h = refl
+base_inside layout why (bases.Move at) y s h = refl
+
+phase_inside : (layout : Layout) (phase : Phase) (post : Post) → is_valid layout ≡ true → PhaseFits layout post phase → heads_fit layout.config phase ≡ true → phase_there layout phase ≡ true
+phase_inside layout Idle post y f h = refl
+phase_inside layout (Runs why base) post y f h = base_inside layout why base y f.shape h
+phase_inside layout (Scans later at) post y f h = refl
+phase_inside layout (Works work) post y f h = refl
+
+-- own turns are made under Wait-Free Eras alone
+protect_alone : (layout : Layout) (index : ℕ) (root : Root) (at : ProtectAt) → protect_fits layout.config.scheme layout.config.tries at ≡ true → is_wfe layout.config.scheme ≡ false → is_turn (protect_role layout index root at) ≡ false
+protect_alone layout index root (LoadClock tries) f h = refl
+protect_alone layout index root (PublishEra era tries) f h = refl
+protect_alone layout index root (LoadLink era tries) f h = refl
+protect_alone layout index root (CheckClock era tries link) f h = refl
+protect_alone layout index root PublishRequest f h = refl
+protect_alone layout index root LoadOwnClock f h = refl
+protect_alone layout index root (PublishHelper first era last) f h = absurd (cc)
+protect_alone layout index root (LoadOwnLink first era last) f h = absurd (cc)
+protect_alone layout index root (CheckOwnClock first era last link) f h = absurd (cc)
+protect_alone layout index root (AnswerOwn first era link) f h = absurd (cc)
+protect_alone layout index root (LoadAnswer first) f h = refl
+protect_alone layout index root (TakeAnswer link era) f h = refl
+protect_alone layout index root (WithdrawRequest link era) f h = refl
+protect_alone layout index root (WithdrawHelper link era) f h = refl
+protect_alone layout index root LoadWithin f h = refl
+protect_alone layout index root (CheckUpper link) f h = refl
+protect_alone layout index root (RaiseUpper era) f h = refl
+
+move_alone : (layout : Layout) (at : MoveAt) → is_turn (move_role layout at) ≡ false
+move_alone layout (LoadEra helps) = refl
+move_alone layout (LoadRequest e k shown) = refl
+move_alone layout (ShowEra e k t j r) = refl
+move_alone layout (LoadAsked e k t j r) = refl
+move_alone layout (CheckEra e k t j r link) = refl
+move_alone layout (AnswerAsked e k t j r link) = refl
+move_alone layout (LoadReserved e k t j r link) = refl
+move_alone layout (HandOver e k t j r link old) = refl
+move_alone layout (HideEra e) = refl
+move_alone layout (HideLate seen) = refl
+move_alone layout (ExchangeClock e) = refl
+
+base_alone : (layout : Layout) (base : Base) → base_fits layout.config base ≡ true → is_wfe layout.config.scheme ≡ false → is_turn (base_role layout base) ≡ false
+base_alone layout (bases.Begin at) f h = refl
+base_alone layout (bases.Protect aim index root steps at) f h = protect_alone layout index root at f h
+base_alone layout (bases.Reload parent index slot era steps) f h = refl
+base_alone layout (bases.Clear index) f h = refl
+base_alone layout bases.Finish f h = refl
+base_alone layout bases.Release f h = refl
+base_alone layout (bases.Allocate at) f h = refl
+base_alone layout (bases.Write slot row place) f h = refl
+base_alone layout (bases.GiveUp slot) f h = refl
+base_alone layout (bases.Retire at) f h = refl
+base_alone layout (bases.Move at) f h = move_alone layout at
+
+phase_alone : (layout : Layout) (phase : Phase) (post : Post) → PhaseFits layout post phase → is_wfe layout.config.scheme ≡ false → is_turn (role_of layout phase) ≡ false
+phase_alone layout Idle post f h = refl
+phase_alone layout (Runs why base) post f h = base_alone layout base f.fits h
+phase_alone layout (Scans later at) post f h = refl
+phase_alone layout (Works work) post f h = refl
+
+-- a seat of a World that is to step
+at_of : (w : World) (i : ℕ) (v : View) → is_valid w.layout ≡ true → i < w.layout.config.seats → Seats w → Needs w → Facts w.layout w.mem w.seat v → At w.mem w.seat i v
+at_of w i v y b s n f =
+    let e = sym (s.fits i).post.layout in
+    record {
+      facts = subst (λ (l : Layout). Facts l w.mem w.seat v) e f;
+      below = subst (λ (l : Layout). i < l.config.seats) e b;
+      number = (s.fits i).post.seat;
+      eight = (s.fits i).post.tags;
+      valid = subst (λ (l : Layout). is_valid l ≡ true) e y;
+      inside = λ k. subst (λ (l : Layout). phase_there l (w.seat k).phase ≡ true) e (phase_inside w.layout (w.seat k).phase (w.seat k).post y (s.fits k).phase (n.heads k));
+      links = λ root h. subst (λ (l : Layout). w.mem (link_place root) ≤ l.config.slots + 1) e (n.links root (subst (λ (l : Layout). has l (link_place root) ≡ true) (sym e) h));
+      alone = λ k h. subst (λ (r : Role). is_turn r ≡ false) (f.locals.roles k) (phase_alone w.layout (w.seat k).phase (w.seat k).post (s.fits k).phase (subst (λ (l : Layout). is_wfe l.config.scheme ≡ false) (sym e) h));
+    }
+
+-- one step of a seat
+pub requests_step : (w : World) (i : ℕ) → is_valid w.layout ≡ true → i < w.layout.config.seats → Seats w → Paces w → Needs w → Requests w → Requests (step w i)
+requests_step w i y b s p n (v, f) =
+    let q = s.fits i in
+    let e = q.post.layout in
+    subst (λ (l : Layout). (u : View) × Facts l (step w i).mem (step w i).seat u) e
+      (phase_made w.mem w.seat i v w.layout (w.seat i).phase y e q.post q.phase (p.paced i) (at_of w i v y b s n f) refl)
+
+-- a seat between calls
+idle_of : (phase : Phase) → busy_in phase ≡ false → phase ≡ Idle
+idle_of Idle h = refl
+idle_of (Runs why base) h = absurd (cc)
+idle_of (Scans later at) h = absurd (cc)
+idle_of (Works work) h = absurd (cc)
+
+begun_made : (mem : Place → ℕ) (seat : ℕ → Local) (i : ℕ) (v : View) (call : Call) → is_valid (seat i).post.layout ≡ true → (seat i).phase ≡ Idle → Facts (seat i).post.layout mem seat v
+    → (u : View) × Facts (seat i).post.layout mem (upd seat i (begun (seat i) call)) u
+begun_made mem seat i v call y q f =
+    (record v { role = upd v.role i roles.Away },
+     record {
+       words = f.words;
+       locals = locals_turn (seat i).post.layout seat v.tag v.role i (begun (seat i) call) roles.Away f.locals
+         (begun_seated (away (seat i).post.layout (seat i).post.tags) (seat i) call (record { table = refl; guarded = guards_some (seat i).post.layout.config (bounds_of (seat i).post.layout y); kept = refl }));
+       parts = same_role (seat i).post.layout.config v i roles.Away f.parts (sym (f.locals.roles i) ∙ ap (role_of (seat i).post.layout) q);
+     })
+
+-- a call begins
+pub requests_begin : (w : World) (i : ℕ) (call : Call) → is_valid w.layout ≡ true → is_busy w i ≡ false → Seats w → Requests w → Requests (begin w i call)
+requests_begin w i call y q s (v, f) =
+    let e = (s.fits i).post.layout in
+    subst (λ (l : Layout). (u : View) × Facts l (begin w i call).mem (begin w i call).seat u) e
+      (begun_made w.mem w.seat i v call (subst (λ (l : Layout). is_valid l ≡ true) (sym e) y) (idle_of (w.seat i).phase q) (subst (λ (l : Layout). Facts l w.mem w.seat v) (sym e) f))
+
+-- the first view
+abbrev pub first_view : View
+first_view = record { clock = 1; helper = λ k. 0; era = λ k j. 0; mark = λ k j. 0; tag = λ k j. 0; deal = λ k. Quiet; role = λ k. roles.Away }
+
+zero_word : (b : Bool) → ◌≡◌ {A = ℕ} (if b then 0 else 0) 0
+zero_word true = refl
+zero_word false = refl
+
+no_tag : (layout : Layout) (k j : ℕ) → tag_of (new_post k layout) j ≡ 0
+no_tag layout k j = grind (arith, nat_tests)
+
+pub requests_start : (layout : Layout) → is_valid layout ≡ true → Requests (start layout)
+requests_start layout y =
+    let b = bounds_of layout y in
+    (first_view, record {
+      words = record {
+        clocks = refl;
+        helpers = λ k. zero_word (has layout (Helper k)) ∙ sym no_halves;
+        indexes = λ k j. zero_word (has layout (Index k j)) ∙ sym no_halves;
+        requests = λ k. zero_word (has layout (Request k));
+      };
+      locals = record { tags = λ k j. no_tag layout k j; roles = λ k. refl; there = λ k. refl };
+      parts = record {
+        fit = λ i. refl;
+        marks = λ i j. refl;
+        tags = λ i. refl;
+        taken = λ i. refl;
+        timely = λ i. refl;
+        clock = omega (arith, b.eras);
+        eras = λ i. omega arith;
+        helpers = λ i. omega arith;
+        indexes = λ i j. omega arith;
+        movers = λ i h. absurd (cc);
+        links = λ i. omega arith;
+        shown = λ i. refl;
+        published = λ i. refl;
+        turns = λ i. refl;
+        low = λ i j. omega arith;
+        spare = λ i. refl;
+        answer = λ i. refl;
+        known = λ m. refl;
+        whom = λ m. refl;
+        bound = λ i h g. absurd (cc);
+        passed = λ i m h g a c. absurd (cc);
+        outside = λ i h. refl;
+      };
+    })
