@@ -1,5 +1,5 @@
 -- The turns of a seat that is at a step, by the role that it comes to.
-use Rattle.std.proofs.Common.{ℕ, ◌≡◌, ◌≤◌, ◌<◌, ◌+◌, ◌^◌, Bool, true, false, List, arith, refl, sym, ap, subst, ◌∙◌}
+use Rattle.std.proofs.Common.{ℕ, ◌≡◌, ◌<◌, ◌^◌, Bool, true, false, List, arith, refl, sym, ap, subst, ◌∙◌}
 use Rattle.std.proofs.lemmas.Bool.Decides.{nat_tests}
 use Rattle.std.specs.Prelude.{◌==◌, if◌then◌else◌}
 use Rattle.wfe_words.specs.Place.{Place, has}
@@ -15,11 +15,10 @@ use Rattle.wfe_core.specs.Phases.{Base, Turn, goes}
 use Rattle.wfe_core.specs.Calls.{Why, Phase}
 use Rattle.wfe_core.specs.Steps.{run_turn}
 use Rattle.wfe_core.specs.Locals.{Local}
-use Rattle.wfe_eras.specs.Frame.{Moves, Left}
+use Rattle.wfe_eras.specs.Frame.{Moves}
 use Rattle.wfe_eras.proofs.Frame.{run_left}
-use Rattle.wfe_requests.specs.Views.{View, Deal, Role}
+use Rattle.wfe_requests.specs.Views.{View, Role}
 use Rattle.wfe_requests.specs.Views.Role.{Away}
-use Rattle.wfe_requests.specs.Deals.{is_quiet}
 use Rattle.wfe_requests.specs.Parts.{Parts}
 use Rattle.wfe_requests.specs.Standing.{base_role, base_there, role_of, Words, Locals}
 use Rattle.wfe_requests.specs.Turns.{PostOf, RoleOf, Made}
@@ -74,9 +73,9 @@ pub go : (mem : Place → ℕ) (seat : ℕ → Local) (i : ℕ) (v : View) (m : 
     → Made mem seat i m (run_turn why (seat i).desk (goes (counted (seat i).post) told base))
 go mem seat i v m why told base r v' a p t g e u d =
     made mem seat v.role i m (run_turn why (seat i).desk (goes (counted (seat i).post) told base)) r v'
-      (subst (λ (f : ℕ → ℕ → ℕ). Locals (seat i).post.layout seat f v.role) g a.facts.locals)
-      (record { post = own_post mem seat i v a; phase = record { is = p; there = t } })
-      e u d
+    (subst (λ (f : ℕ → ℕ → ℕ). Locals (seat i).post.layout seat f v.role) g a.facts.locals)
+    (record { post = own_post mem seat i v a; phase = record { is = p; there = t } })
+    e u d
 
 -- a machine ends or goes on, and neither asks nor helps from here on
 pub rest : (mem : Place → ℕ) (seat : ℕ → Local) (i : ℕ) (v : View) (m : Move) (why : Why) (t : Turn) (v' : View)
@@ -89,6 +88,6 @@ pub rest : (mem : Place → ℕ) (seat : ℕ → Local) (i : ℕ) (v : View) (m 
     → Made mem seat i m (run_turn why (seat i).desk t)
 rest mem seat i v m why t v' a h g e u d =
     made mem seat v.role i m (run_turn why (seat i).desk t) Away v'
-      (subst (λ (f : ℕ → ℕ → ℕ). Locals (seat i).post.layout seat f v.role) g a.facts.locals)
-      (run_left (away (seat i).post.layout (seat i).post.tags) why (seat i).desk t h)
-      e u d
+    (subst (λ (f : ℕ → ℕ → ℕ). Locals (seat i).post.layout seat f v.role) g a.facts.locals)
+    (run_left (away (seat i).post.layout (seat i).post.tags) why (seat i).desk t h)
+    e u d

@@ -1,13 +1,13 @@
 -- The steps of a mover of the clock.
-use Rattle.std.proofs.Common.{ℕ, ◌≤◌, ◌+◌, ◌<◌, ◌≡◌, ◌^◌, Bool, true, false, arith}
+use Rattle.std.proofs.Common.{ℕ, ◌≤◌, ◌+◌, ◌<◌, ◌≡◌, ◌^◌, true, false, arith}
 use Rattle.std.proofs.lemmas.Bool.Decides.{nat_tests}
-use Rattle.std.specs.Prelude.{◌==◌, nat_lt, nat_le}
+use Rattle.std.specs.Prelude.{◌==◌}
 use Rattle.wfe_words.specs.declared.config.Config.{Config}
 use Rattle.wfe_core.specs.Memory.{upd}
-use Rattle.wfe_requests.specs.Views.{View, Deal, Role, upd2}
-use Rattle.wfe_requests.specs.Views.Deal.{Quiet, Open, Answered, Passed, Taken}
-use Rattle.wfe_requests.specs.Views.Role.{Away, Publishes, Attempts, Asks, Asked, Turns, Looks, Answers, Waits, Takes, Took, Leaves, Meets, Shows, Loads, Helps, Reads, Hands, Hides, Late, Moves}
-use Rattle.wfe_requests.specs.Deals.{is_open, fits, answered_with}
+use Rattle.wfe_requests.specs.Views.{View, Role, upd2}
+use Rattle.wfe_requests.specs.Views.Deal.{Open, Answered, Passed}
+use Rattle.wfe_requests.specs.Views.Role.{Away, Meets, Shows, Loads, Helps, Reads, Hands, Hides, Late, Moves}
+use Rattle.wfe_requests.specs.Deals.{is_open, fits}
 use Rattle.wfe_requests.specs.Roles.{is_turn}
 use Rattle.wfe_requests.specs.Parts.{Parts}
 

@@ -1,7 +1,7 @@
 -- The count of a protection's steps, from the start on and over every step.
-use Rattle.std.proofs.Common.{ℕ, ◌≡◌, ◌≤◌, ◌+◌, Bool, true, false, List, [], ◌∷◌, arith, refl, sym, ap, subst, ◌∙◌}
+use Rattle.std.proofs.Common.{ℕ, ◌≡◌, ◌≤◌, ◌+◌, Bool, true, false, [], ◌∷◌, arith, refl, sym, ap, subst, ◌∙◌}
 use Rattle.std.proofs.lemmas.Bool.Decides.{nat_tests}
-use Rattle.std.specs.Prelude.{◌==◌, nat_le, if◌then◌else◌, Option, Some, None}
+use Rattle.std.specs.Prelude.{◌==◌, Option, Some, None}
 use Rattle.wfe_words.specs.Place.{is_valid}
 use Rattle.wfe_words.specs.Packed.{read_reservation, reservation_word}
 use Rattle.wfe_words.specs.declared.config.Config.{Config}
@@ -17,7 +17,7 @@ use Rattle.wfe_core.specs.Allocate.{is_claimed, walking, walk_past, next_slot}
 use Rattle.wfe_core.specs.Memory.{bump}
 use Rattle.wfe_core.specs.MoveClock.{moving, next_request, after_hand_over}
 use Rattle.wfe_core.specs.Posts.{counted, with_row}
-use Rattle.wfe_core.specs.Phases.{Endless, Failed, ProtectAt, BeginAt, AllocateAt, RetireAt, MoveAt, Walk, Base, Turn, goes, ends}
+use Rattle.wfe_core.specs.Phases.{Endless, Failed, ProtectAt, BeginAt, AllocateAt, RetireAt, MoveAt, Walk, Base, goes, ends}
 use Rattle.wfe_core.specs.Phases.BeginAt.{LoadLower, PublishSpan}
 use Rattle.wfe_core.specs.Phases.AllocateAt.{LoadBirth, ClaimSlot, StoreLife}
 use Rattle.wfe_core.specs.Phases.RetireAt.{LoadLife, LoadRetire, StoreRetired}
@@ -25,7 +25,7 @@ use Rattle.wfe_core.specs.Phases.MoveAt.{LoadEra, LoadRequest, ShowEra, LoadAske
 use Rattle.wfe_core.specs.Phases.Base.{Begin, Protect, Reload, Clear, Finish, Release, Allocate, Write, GiveUp, Retire, Move}
 use Rattle.wfe_core.specs.Phases.ProtectAt.{LoadClock, PublishEra, LoadLink, CheckClock, PublishRequest, LoadOwnClock, PublishHelper, LoadOwnLink, CheckOwnClock, AnswerOwn, LoadAnswer, TakeAnswer, WithdrawRequest, WithdrawHelper, LoadWithin, CheckUpper, RaiseUpper}
 use Rattle.wfe_core.specs.Phases.Ending.{Done, Followed, Clocked}
-use Rattle.wfe_core.specs.Machine.{after, move_turn}
+use Rattle.wfe_core.specs.Machine.{after}
 use Rattle.wfe_core.specs.Rest.{protect_most}
 use Rattle.wfe_core.specs.Rounds.{scheme_of, protect_at, release_base}
 use Rattle.wfe_core.specs.SlowPath.{asking}
@@ -39,7 +39,7 @@ use Rattle.wfe_eras.proofs.Frame.{seat_stays, seat_steps, begin_stays, begin_beg
 use Rattle.wfe_eras.proofs.Shapes.{shape_grows}
 use Rattle.wfe_eras.proofs.Inside.{shape_moves}
 use Rattle.wfe_eras.proofs.Kept.{counted_fits, run_counted, one_moves}
-use Rattle.wfe_requests.specs.Paces.{paced, reload_paced, base_paced, phase_paced, Paces}
+use Rattle.wfe_requests.specs.Paces.{paced, reload_paced, base_paced, phase_paced, Paces, InTime}
 use Rattle.wfe_requests.proofs.Going.{by_test}
 use Rattle.wfe_requests.proofs.Paces.{Any, InPace, bump_near, protect_pace}
 
@@ -91,7 +91,7 @@ allocate_pace : (c : Config) (why : Why) (at : AllocateAt) (post : Post) (found 
 allocate_pace c why LoadBirth post found = record { post = tt; phase = refl }
 allocate_pace c why (ClaimSlot birth walk) post found =
     by_test (is_claimed found walk.slot) (walking birth post (walk_past post.layout.config.slots walk found)) (goes (record post { cursor = next_slot post.layout.config.slots walk.slot }) (events.Give walk.slot birth ∷ []) (Allocate (StoreLife birth walk.slot)))
-      (StepsOn Any (InPace c) why) (λ e. walking_pace c why birth post (walk_past post.layout.config.slots walk found)) (λ e. record { post = tt; phase = refl })
+    (StepsOn Any (InPace c) why) (λ e. walking_pace c why birth post (walk_past post.layout.config.slots walk found)) (λ e. record { post = tt; phase = refl })
 allocate_pace c why (StoreLife birth slot) post found = record { post = tt; phase = tt }
 
 retire_pace : (c : Config) (why : Why) (at : RetireAt) (post : Post) (found : ℕ) → StepsOn Any (InPace c) why (after (Retire at) post found)
@@ -106,25 +106,25 @@ hand_pace c why e k t j old post false = record { post = tt; phase = refl }
 move_pace : (c : Config) (why : Why) (at : MoveAt) (post : Post) (found : ℕ) → StepsOn Any (InPace c) why (after (Move at) post found)
 move_pace c why (LoadEra helps) post found =
     by_test (found == post.layout.config.last_era) (ends post [] (Clocked (moves.EraSpent found))) (goes post [] (Move (moving helps found)))
-      (StepsOn Any (InPace c) why) (λ e. record { post = tt; phase = tt }) (λ e. record { post = tt; phase = refl })
+    (StepsOn Any (InPace c) why) (λ e. record { post = tt; phase = tt }) (λ e. record { post = tt; phase = refl })
 move_pace c why (LoadRequest e k shown) post found = record { post = tt; phase = refl }
 move_pace c why (ShowEra e k t j root) post found = record { post = tt; phase = refl }
 move_pace c why (LoadAsked e k t j root) post found = record { post = tt; phase = refl }
 move_pace c why (CheckEra e k t j root link) post found =
     by_test (found == e) (goes post [] (Move (AnswerAsked e k t j root link))) (goes post [] (Move (HideLate found)))
-      (StepsOn Any (InPace c) why) (λ h. record { post = tt; phase = refl }) (λ h. record { post = tt; phase = refl })
+    (StepsOn Any (InPace c) why) (λ h. record { post = tt; phase = refl }) (λ h. record { post = tt; phase = refl })
 move_pace c why (AnswerAsked e k t j root link) post found =
     by_test (found == asking post.layout t j root) (goes post [] (Move (LoadReserved e k t j root link))) (goes post [] (Move (next_request post e k true)))
-      (StepsOn Any (InPace c) why) (λ h. record { post = tt; phase = refl }) (λ h. record { post = tt; phase = refl })
+    (StepsOn Any (InPace c) why) (λ h. record { post = tt; phase = refl }) (λ h. record { post = tt; phase = refl })
 move_pace c why (LoadReserved e k t j root link) post found =
     by_test ((read_reservation found).tag == t) (goes post [] (Move (HandOver e k t j root link (read_reservation found).era))) (goes post [] (Move (next_request post e k true)))
-      (StepsOn Any (InPace c) why) (λ h. record { post = tt; phase = refl }) (λ h. record { post = tt; phase = refl })
+    (StepsOn Any (InPace c) why) (λ h. record { post = tt; phase = refl }) (λ h. record { post = tt; phase = refl })
 move_pace c why (HandOver e k t j root link old) post found = hand_pace c why e k t j old post (found == reservation_word (record { era = old; tag = t }))
 move_pace c why (HideEra e) post found = record { post = tt; phase = refl }
 move_pace c why (HideLate seen) post found = record { post = tt; phase = tt }
 move_pace c why (ExchangeClock e) post found =
     by_test (found == e) (ends post (events.Era (e + 1) ∷ []) (Clocked (moves.Moved (e + 1)))) (ends post [] (Clocked (moves.Other found)))
-      (StepsOn Any (InPace c) why) (λ h. record { post = tt; phase = tt }) (λ h. record { post = tt; phase = tt })
+    (StepsOn Any (InPace c) why) (λ h. record { post = tt; phase = tt }) (λ h. record { post = tt; phase = tt })
 
 -- a step inside a machine
 base_pace : (layout : Layout) (why : Why) (base : Base) (post : Post) (found : ℕ) → post.layout ≡ layout → Run layout why base post → base_paced layout.config base ≡ true → StepsOn Any (InPace layout.config) why (after base post found)
@@ -132,14 +132,14 @@ base_pace layout why (Begin at) post found t r p = begin_pace layout.config why 
 base_pace layout why (Protect aim index root steps at) post found t r p = protect_pace layout.config why aim index root steps (bump steps) at post found (ap (λ (l : Layout). l.config) t) (bump_near steps) p r.fits
 base_pace layout why (Reload parent index slot era steps) post found t r p =
     by_test (found == parent + 1) (ends (with_row post index slot) (events.Held index slot (bump steps) ∷ []) (Followed (follow_ends.Followed slot))) (ends post [] (Followed (follow_ends.RootMoved found)))
-      (StepsOn Any (InPace layout.config) why) (λ h. record { post = tt; phase = tt }) (λ h. record { post = tt; phase = tt })
+    (StepsOn Any (InPace layout.config) why) (λ h. record { post = tt; phase = tt }) (λ h. record { post = tt; phase = tt })
 base_pace layout why (Clear index) post found t r p = record { post = tt; phase = tt }
 base_pace layout why Finish post found t r p = record { post = tt; phase = tt }
 base_pace layout why Release post found t r p = record { post = tt; phase = tt }
 base_pace layout why (Allocate at) post found t r p = allocate_pace layout.config why at post found
 base_pace layout why (Write slot row place) post found t r p =
     by_test (place == last_written row) (ends post [] Done) (goes post [] (Write slot row (place + 1)))
-      (StepsOn Any (InPace layout.config) why) (λ h. record { post = tt; phase = tt }) (λ h. record { post = tt; phase = refl })
+    (StepsOn Any (InPace layout.config) why) (λ h. record { post = tt; phase = tt }) (λ h. record { post = tt; phase = refl })
 base_pace layout why (GiveUp slot) post found t r p = record { post = tt; phase = tt }
 base_pace layout why (Retire at) post found t r p = retire_pace layout.config why at post found
 base_pace layout why (Move at) post found t r p = move_pace layout.config why at post found
@@ -224,3 +224,14 @@ reloads_in_time c parent index slot era steps p w = reload_in_time (is_wfe c.sch
     reload_in_time : (b : Bool) → reload_paced c steps b ≡ true → b ≡ true → steps ≤ protect_most c
     reload_in_time true p w = grind (arith, nat_tests)
     reload_in_time false p w = absurd (cc)
+
+pub in_time : (w : World) (k : ℕ) → Seats w → Paces w → InTime w k
+in_time w k s p = record {
+  protects = λ why aim index root steps at h q.
+      let x : paced w.layout.config steps at ≡ true = sym (ap (phase_paced w.layout.config) q) ∙ p.paced k in
+      let f = subst (PhaseFits w.layout (w.seat k).post) q (s.fits k).phase in
+      protects_in_time w.layout.config steps at x h f.fits;
+  reloads = λ why parent index slot era steps h q.
+      let x : base_paced w.layout.config (Reload parent index slot era steps) ≡ true = sym (ap (phase_paced w.layout.config) q) ∙ p.paced k in
+      let n = reloads_in_time w.layout.config parent index slot era steps x h in omega arith;
+}

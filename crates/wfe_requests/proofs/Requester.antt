@@ -1,14 +1,13 @@
 -- A requester's own steps, and the tries before it asks.
-use Rattle.std.proofs.Common.{ℕ, ◌≤◌, ◌+◌, ◌<◌, ◌≡◌, ◌^◌, Bool, true, false, arith}
+use Rattle.std.proofs.Common.{ℕ, ◌≤◌, ◌+◌, ◌<◌, ◌≡◌, Bool, true, false, arith}
 use Rattle.std.proofs.lemmas.Bool.Decides.{nat_tests}
-use Rattle.std.specs.Prelude.{◌==◌, nat_lt, nat_le}
+use Rattle.std.specs.Prelude.{◌==◌}
 use Rattle.wfe_words.specs.declared.config.Config.{Config}
 use Rattle.wfe_core.specs.Memory.{upd}
-use Rattle.wfe_requests.specs.Views.{View, Deal, Role, upd2}
+use Rattle.wfe_requests.specs.Views.{View, upd2}
 use Rattle.wfe_requests.specs.Views.Deal.{Quiet, Open, Answered, Passed, Taken}
-use Rattle.wfe_requests.specs.Views.Role.{Away, Publishes, Attempts, Asks, Asked, Turns, Looks, Answers, Waits, Takes, Took, Leaves, Meets, Shows, Loads, Helps, Reads, Hands, Hides, Late, Moves}
-use Rattle.wfe_requests.specs.Deals.{is_open, fits, answered_with}
-use Rattle.wfe_requests.specs.Roles.{is_turn}
+use Rattle.wfe_requests.specs.Views.Role.{Away, Publishes, Attempts, Asks, Asked, Turns, Looks, Answers, Waits, Takes, Took, Leaves}
+use Rattle.wfe_requests.specs.Deals.{answered_with}
 use Rattle.wfe_requests.specs.Parts.{Parts}
 
 pub clears-keeps : (c : Config) (v : View) (x j : ℕ) → x < c.seats → Parts c v → v.role x ≡ Away → Parts c (record v { era = upd2 v.era x j 0; role = upd v.role x Away })

@@ -1,5 +1,5 @@
 -- A turn of one seat: between the machines that ask or help, and in general.
-use Rattle.std.proofs.Common.{ℕ, ◌≡◌, ◌≤◌, ◌<◌, ◌*◌, ◌+◌, Bool, true, false, List, arith, refl, sym, ap, subst, ◌∙◌}
+use Rattle.std.proofs.Common.{ℕ, ◌≡◌, ◌≤◌, ◌<◌, ◌*◌, Bool, true, false, List, arith, refl, sym, ap, subst, ◌∙◌}
 use Rattle.std.proofs.lemmas.Bool.Decides.{nat_tests}
 use Rattle.std.proofs.lemmas.Grind.{rows}
 use Rattle.std.specs.Prelude.{◌==◌, if◌then◌else◌, slice_index}
@@ -8,26 +8,21 @@ use Rattle.wfe_words.specs.declared.config.Config.{Config}
 use Rattle.wfe_words.specs.declared.config.SchemeKind.{SchemeKind}
 use Rattle.wfe_words.specs.declared.config.SchemeKind.TheVariants.{He, Ibr, Wfe}
 use Rattle.wfe_words.specs.declared.layout.Layout.{Layout}
-use Rattle.wfe_defs.specs.declared.event.Event.{Event}
 use Rattle.wfe_defs.specs.declared.event.Root.{Root}
-use Rattle.wfe_core.specs.declared.post.Post.{Post}
 use Rattle.wfe_core.specs.Valid.{Bounds}
 use Rattle.wfe_core.specs.Guards.{guards, guards_by}
 use Rattle.wfe_core.specs.Posts.{tag_of}
 use Rattle.wfe_defs.specs.declared.event.Root.TheVariants as roots
-use Rattle.wfe_core.specs.Rounds.{index_of, root_of, scheme_of, protect_at, release_base, move_base}
-use Rattle.wfe_core.specs.Calls.{Why, Phase, Idle, Runs, CallTurn}
-use Rattle.wfe_core.specs.Phases.{Turn}
-use Rattle.wfe_core.specs.Steps.{run_turn}
-use Rattle.wfe_core.specs.Desks.{Desk}
+use Rattle.wfe_core.specs.Rounds.{index_of, root_of, scheme_of, protect_at, release_base}
+use Rattle.wfe_core.specs.Calls.{CallTurn}
 use Rattle.wfe_core.specs.Locals.{Local, settled}
 use Rattle.wfe_core.specs.Memory.{Move, written, upd}
-use Rattle.wfe_eras.specs.Frame.{Left, Grows, Seated, Moves}
-use Rattle.wfe_eras.proofs.Frame.{settled_seated, run_left}
+use Rattle.wfe_eras.specs.Frame.{Left, Grows, Seated}
+use Rattle.wfe_eras.proofs.Frame.{settled_seated}
 use Rattle.wfe_requests.specs.Views.{View, Role}
 use Rattle.wfe_requests.specs.Views.Role.{Away}
 use Rattle.wfe_requests.specs.Parts.{Parts}
-use Rattle.wfe_requests.specs.Standing.{protect_role, base_role, base_there, role_of, is_there, Words, Locals, Facts}
+use Rattle.wfe_requests.specs.Standing.{protect_role, base_role, base_there, role_of, is_there, Words, Locals}
 use Rattle.wfe_requests.specs.Turns.{PostOf, RoleOf, Made}
 
 some_cells : (n m : ℕ) → 1 ≤ n → 1 ≤ m → 0 < n * m

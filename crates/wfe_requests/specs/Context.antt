@@ -1,18 +1,17 @@
 -- What a step of one seat needs to know, besides where it stands.
-use Rattle.std.specs.Prelude.{ℕ, ◌≡◌, ◌≤◌, ◌<◌, ◌+◌, ◌&&◌, Bool, true, false, nat_lt, not, length}
+use Rattle.std.specs.Prelude.{ℕ, ◌≡◌, ◌≤◌, ◌<◌, ◌+◌, ◌&&◌, Bool, true, false, nat_lt, length}
 use Rattle.wfe_words.specs.Place.{Place, has, is_valid}
 use Rattle.wfe_words.specs.declared.layout.Layout.{Layout}
 use Rattle.wfe_defs.specs.declared.event.Root.{Root}
 use Rattle.wfe_core.specs.Links.{link_place}
-use Rattle.wfe_core.specs.Phases.{ProtectAt, Base}
-use Rattle.wfe_core.specs.Phases.ProtectAt.{LoadClock}
+use Rattle.wfe_core.specs.Phases.{Base}
 use Rattle.wfe_core.specs.Phases.Base.{Begin, Protect, Reload, Clear, Finish, Release, Allocate, Write, GiveUp, Retire, Move}
 use Rattle.wfe_core.specs.Calls.{Phase, Idle, Runs, Scans, Works}
 use Rattle.wfe_core.specs.Locals.{Local}
 use Rattle.wfe_eras.specs.Seats.{is_wfe}
 use Rattle.wfe_requests.specs.Views.{View}
 use Rattle.wfe_requests.specs.Roles.{is_turn}
-use Rattle.wfe_requests.specs.Standing.{has_failed, Facts}
+use Rattle.wfe_requests.specs.Standing.{Facts}
 
 -- index and root of a protection are of the table, and so is the index that is cleared
 abbrev pub guards_there : Layout → Base → Bool

@@ -1,10 +1,11 @@
 -- How many steps a protection of Wait-Free Eras has made, by where it stands.
-use Rattle.std.specs.Prelude.{ℕ, ◌≡◌, Bool, true, false, not, nat_le, nat_lt, ◌&&◌, ◌||◌, ◌+◌, ◌==◌}
+use Rattle.std.specs.Prelude.{ℕ, ◌≡◌, Bool, true, false, not, nat_le, nat_lt, ◌&&◌, ◌||◌, ◌+◌, ◌*◌, ◌≤◌, ◌==◌}
 use Rattle.wfe_words.specs.declared.config.Config.{Config}
-use Rattle.wfe_core.specs.Phases.{Tries, Endless, Failed, ProtectAt, Base}
+use Rattle.wfe_core.specs.Phases.{Aim, Tries, Endless, Failed, ProtectAt, Base}
 use Rattle.wfe_core.specs.Phases.ProtectAt.{LoadClock, PublishEra, LoadLink, CheckClock, PublishRequest, LoadOwnClock, PublishHelper, LoadOwnLink, CheckOwnClock, AnswerOwn, LoadAnswer, TakeAnswer, WithdrawRequest, WithdrawHelper, LoadWithin, CheckUpper, RaiseUpper}
 use Rattle.wfe_core.specs.Phases.Base.{Begin, Protect, Reload, Clear, Finish, Release, Allocate, Write, GiveUp, Retire, Move}
-use Rattle.wfe_core.specs.Calls.{Phase, Idle, Runs, Scans, Works}
+use Rattle.wfe_core.specs.Calls.{Why, Phase, Idle, Runs, Scans, Works}
+use Rattle.wfe_defs.specs.declared.event.Root.{Root}
 use Rattle.wfe_core.specs.Rest.{protect_left, protect_most}
 use Rattle.wfe_core.specs.World.{World}
 use Rattle.wfe_eras.specs.Seats.{is_wfe}
@@ -63,3 +64,10 @@ phase_paced c (Works work) = true
 
 pub record Paces (w : World) : Type 0 where
   pub paced : (k : ℕ) → phase_paced w.layout.config (w.seat k).phase ≡ true
+
+-- under Wait-Free Eras the next step of a protection, or of its reload, is no later than its last
+pub record InTime (w : World) (k : ℕ) : Type 0 where
+  pub protects : (why : Why) (aim : Aim) (index : ℕ) (root : Root) (steps : ℕ) (at : ProtectAt) → is_wfe w.layout.config.scheme ≡ true
+      → (w.seat k).phase ≡ Runs why (Protect aim index root steps at) → steps + 1 ≤ 3 * w.layout.config.tries + 14
+  pub reloads : (why : Why) (parent index slot era steps : ℕ) → is_wfe w.layout.config.scheme ≡ true
+      → (w.seat k).phase ≡ Runs why (Reload parent index slot era steps) → steps + 1 ≤ 3 * w.layout.config.tries + 15

@@ -1,5 +1,5 @@
 -- What each role knows: eras, the own helper and index words, and the request that a mover answers.
-use Rattle.std.specs.Prelude.{ℕ, Bool, true, false, not, nat_le, nat_lt, if◌then◌else◌, ◌==◌, ◌&&◌, ◌||◌, ◌+◌, ◌^◌}
+use Rattle.std.specs.Prelude.{ℕ, Bool, true, false, not, nat_le, nat_lt, ◌==◌, ◌&&◌, ◌||◌, ◌+◌, ◌^◌}
 use Rattle.wfe_requests.specs.Views.{Deal, Role}
 use Rattle.wfe_requests.specs.Views.Role.{Away, Publishes, Attempts, Asks, Asked, Turns, Looks, Answers, Waits, Takes, Took, Leaves, Meets, Shows, Loads, Helps, Reads, Hands, Hides, Late, Moves}
 use Rattle.wfe_requests.specs.Deals.{is_open, asked_by, gave_by}

@@ -1,5 +1,5 @@
 -- Which role a seat's phase is, and the words that a view stands for.
-use Rattle.std.specs.Prelude.{ℕ, ◌≡◌, ◌+◌, Bool, true, false, nat_lt, length}
+use Rattle.std.specs.Prelude.{ℕ, ◌≡◌, Bool, true, false, nat_lt}
 use Rattle.wfe_words.specs.Place.{Place, has}
 use Rattle.wfe_words.specs.Place.Place.{Clock, Helper, Index, Request}
 use Rattle.wfe_words.specs.Packed.{halves, pending_word, answered_word}

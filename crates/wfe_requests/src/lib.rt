@@ -1,3 +1,32 @@
 //! Requests of Wait-Free Eras and the helping of movers, as a part of what holds between any two
 //! steps of any calls.
 #![tactic(auto)]
+
+ghost use Rattle.std.specs.Prelude.{ℕ, ◌≡◌, ◌≤◌, ◌<◌, ◌+◌, ◌*◌, true, false};
+ghost use Rattle.wfe_words.specs.Place.{is_valid};
+ghost use Rattle.wfe_words.specs.declared.layout.Layout.{Layout as Table};
+ghost use Rattle.wfe_defs.specs.declared.call.Call.{Call};
+ghost use Rattle.wfe_core.specs.World.{World, start, begin, step, is_busy};
+ghost use Rattle.wfe_eras.specs.Seats.{Seats};
+ghost use Rattle.wfe_requests.specs.Needs.{Needs};
+ghost use Rattle.wfe_requests.specs.Paces.{Paces, InTime};
+ghost use Rattle.wfe_requests.specs.Standing.{Requests};
+
+/// A view exists that words and phases stand for, with what holds of requests, helping, hand-over
+/// and tags: at the start, after each call that begins, and after each step of a seat of the table.
+pub fn requests_hold()
+    ensures start { (layout : Table) → is_valid layout ≡ true → Requests (start layout) }
+    ensures begin { (w : World) (i : ℕ) (call : Call) → is_valid w.layout ≡ true → is_busy w i ≡ false → Seats w → Requests w
+        → Requests (begin w i call) }
+    ensures step { (w : World) (i : ℕ) → is_valid w.layout ≡ true → i < w.layout.config.seats → Seats w → Paces w → Needs w
+        → Requests w → Requests (step w i) }
+{}
+
+/// The steps that a protection of Wait-Free Eras has made and those that it may still make are at
+/// most `3 * tries + 14`, with the reload of a followed link one more.
+pub fn protections_end_in_time()
+    ensures start { (layout : Table) → Paces (start layout) }
+    ensures begin { (w : World) (i : ℕ) (call : Call) → is_valid w.layout ≡ true → Seats w → Paces w → Paces (begin w i call) }
+    ensures step { (w : World) (i : ℕ) → is_valid w.layout ≡ true → Seats w → Paces w → Paces (step w i) }
+    ensures in_time { (w : World) (k : ℕ) → Seats w → Paces w → InTime w k }
+{}
