@@ -70,7 +70,7 @@ pub go : (mem : Place → ℕ) (seat : ℕ → Local) (i : ℕ) (v : View) (m : 
     → v'.role ≡ upd v.role i r
     → Words (written mem m) v'.clock v'.helper v'.era v'.mark v'.deal
     → Parts (seat i).post.layout.config v'
-    → Made mem seat i m (run_turn why (seat i).desk (goes (counted (seat i).post) told base))
+    → Made mem seat i m (run_turn why (seat i).desk (goes (counted (seat i).post) told base)) v'.deal
 go mem seat i v m why told base r v' a p t g e u d =
     made mem seat v.role i m (run_turn why (seat i).desk (goes (counted (seat i).post) told base)) r v'
     (subst (λ (f : ℕ → ℕ → ℕ). Locals (seat i).post.layout seat f v.role) g a.facts.locals)
@@ -85,7 +85,7 @@ pub rest : (mem : Place → ℕ) (seat : ℕ → Local) (i : ℕ) (v : View) (m 
     → v'.role ≡ upd v.role i Away
     → Words (written mem m) v'.clock v'.helper v'.era v'.mark v'.deal
     → Parts (seat i).post.layout.config v'
-    → Made mem seat i m (run_turn why (seat i).desk t)
+    → Made mem seat i m (run_turn why (seat i).desk t) v'.deal
 rest mem seat i v m why t v' a h g e u d =
     made mem seat v.role i m (run_turn why (seat i).desk t) Away v'
     (subst (λ (f : ℕ → ℕ → ℕ). Locals (seat i).post.layout seat f v.role) g a.facts.locals)

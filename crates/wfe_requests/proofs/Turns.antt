@@ -19,7 +19,7 @@ use Rattle.wfe_core.specs.Locals.{Local, settled}
 use Rattle.wfe_core.specs.Memory.{Move, written, upd}
 use Rattle.wfe_eras.specs.Frame.{Left, Grows, Seated}
 use Rattle.wfe_eras.proofs.Frame.{settled_seated}
-use Rattle.wfe_requests.specs.Views.{View, Role}
+use Rattle.wfe_requests.specs.Views.{View, Deal, Role}
 use Rattle.wfe_requests.specs.Views.Role.{Away}
 use Rattle.wfe_requests.specs.Parts.{Parts}
 use Rattle.wfe_requests.specs.Standing.{protect_role, base_role, base_there, role_of, is_there, Words, Locals}
@@ -108,5 +108,9 @@ pub made : (mem : Place → ℕ) (seat : ℕ → Local) (role : ℕ → Role) (i
     → v.role ≡ upd role i r
     → Words (written mem m) v.clock v.helper v.era v.mark v.deal
     → Parts (seat i).post.layout.config v
-    → Made mem seat i m t
-made mem seat role i m t r v c s e u d = (v, record { words = u; locals = subst (Locals (seat i).post.layout (upd seat i (settled (seat i) t)) v.tag) (sym e) (locals_turn (seat i).post.layout seat v.tag role i (settled (seat i) t) r c (settled_seated (seat i) t s)); parts = d })
+    → Made mem seat i m t v.deal
+made mem seat role i m t r v c s e u d = (v, record { facts = record { words = u; locals = subst (Locals (seat i).post.layout (upd seat i (settled (seat i) t)) v.tag) (sym e) (locals_turn (seat i).post.layout seat v.tag role i (settled (seat i) t) r c (settled_seated (seat i) t s)); parts = d }; deal = refl })
+
+-- the same with deals that are the same
+pub same_deals : (mem : Place → ℕ) (seat : ℕ → Local) (i : ℕ) (m : Move) (t : CallTurn) (d e : ℕ → Deal) → d ≡ e → Made mem seat i m t d → Made mem seat i m t e
+same_deals mem seat i m t d e h (v, f) = (v, record { facts = f.facts; deal = f.deal ∙ h })

@@ -1,4 +1,5 @@
 pub mod Needs
+pub mod NextDeals
 pub mod Paces
 pub mod Asked
 pub mod Heard

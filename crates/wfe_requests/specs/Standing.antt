@@ -135,6 +135,6 @@ pub record Facts (layout : Layout) (mem : Place → ℕ) (seat : ℕ → Local) 
   pub locals : Locals layout seat v.tag v.role
   pub parts : Parts layout.config v
 
--- what holds of requests and helping in a World
-abbrev pub Requests : World → Type 0
-Requests w = (v : View) × Facts w.layout w.mem w.seat v
+-- what holds of requests and helping in a World, with the view that it stands for
+abbrev pub Requests : World → View → Type 0
+Requests w v = Facts w.layout w.mem w.seat v

@@ -10,16 +10,25 @@ ghost use Rattle.wfe_core.specs.World.{World, start, begin, step, is_busy};
 ghost use Rattle.wfe_eras.specs.Seats.{Seats};
 ghost use Rattle.wfe_requests.specs.Needs.{Needs};
 ghost use Rattle.wfe_requests.specs.Paces.{Paces, InTime};
+ghost use Rattle.wfe_requests.specs.NextDeals.{next_deals};
 ghost use Rattle.wfe_requests.specs.Standing.{Requests};
+ghost use Rattle.wfe_requests.specs.Turns.{StandsAfter};
+ghost use Rattle.wfe_requests.specs.Views.{View};
+ghost use Rattle.wfe_requests.specs.Views.Deal.{Quiet};
 
 /// A view exists that words and phases stand for, with what holds of requests, helping, hand-over
 /// and tags: at the start, after each call that begins, and after each step of a seat of the table.
+/// Its deals are those that the step makes of the deals before.
 pub fn requests_hold()
-    ensures start { (layout : Table) → is_valid layout ≡ true → Requests (start layout) }
-    ensures begin { (w : World) (i : ℕ) (call : Call) → is_valid w.layout ≡ true → is_busy w i ≡ false → Seats w → Requests w
-        → Requests (begin w i call) }
-    ensures step { (w : World) (i : ℕ) → is_valid w.layout ≡ true → i < w.layout.config.seats → Seats w → Paces w → Needs w
-        → Requests w → Requests (step w i) }
+    ensures start { (layout : Table) → is_valid layout ≡ true → StandsAfter (start layout) (λ k. Quiet) }
+    ensures begin {
+        (w : World) (i : ℕ) (call : Call) (v : View) → is_valid w.layout ≡ true → is_busy w i ≡ false → Seats w
+            → Requests w v → StandsAfter (begin w i call) v.deal
+    }
+    ensures step {
+        (w : World) (i : ℕ) (v : View) → is_valid w.layout ≡ true → i < w.layout.config.seats → Seats w → Paces w
+            → Needs w → Requests w v → StandsAfter (step w i) (next_deals w i v.deal)
+    }
 {}
 
 /// The steps that a protection of Wait-Free Eras has made and those that it may still make are at
