@@ -50,7 +50,7 @@ finish_when : (post : Post) (x : Option ℕ) (base : Base) → stands post 2 ≡
 finish_when post None base e h = record { ibr = refl; free = e; is = cc }
 finish_when post (Some slot) base e h = absurd (cc)
 
-finish_is : (s : SchemeKind) (post : Post) (base : Base) → finish_base s post ≡ Some base → IsFinish s post base
+pub finish_is : (s : SchemeKind) (post : Post) (base : Base) → finish_base s post ≡ Some base → IsFinish s post base
 finish_is He post base h = absurd (cc)
 finish_is Ibr post base h = finish_when post (stands post 2) base refl h
 finish_is Wfe post base h = absurd (cc)
@@ -75,7 +75,7 @@ pub record IsClear (scheme : SchemeKind) (index : ℕ) (base : Base) : Type 0 wh
   pub plain : is_ibr scheme ≡ false
   pub is : base ≡ Clear index
 
-clear_is : (s : SchemeKind) (index : ℕ) (base : Base) → clear_base s index ≡ Some base → IsClear s index base
+pub clear_is : (s : SchemeKind) (index : ℕ) (base : Base) → clear_base s index ≡ Some base → IsClear s index base
 clear_is He index base h = record { plain = refl; is = cc }
 clear_is Ibr index base h = absurd (cc)
 clear_is Wfe index base h = record { plain = refl; is = cc }

@@ -30,7 +30,7 @@ use Rattle.wfe_core.specs.Phases.Base.{Begin, Protect, Reload, Clear, Finish, Re
 use Rattle.wfe_core.specs.Protect.{failed_once, trying, held_post, told_held, concluded}
 use Rattle.wfe_core.specs.SlowPath.{own_request, answer_in, lost_turn, asking}
 use Rattle.wfe_core.specs.Allocate.{is_claimed, next_slot, walk_from, walk_at, walk_on, walk_past, shown_word, shown_of, walking}
-use Rattle.wfe_core.specs.WriteRow.{last_written, after_write}
+use Rattle.wfe_core.specs.WriteRow.{first_written, last_written, after_write}
 use Rattle.wfe_core.specs.MoveClock.{after_hand_over, all_met, next_request, helping, met, moving}
 use Rattle.wfe_core.specs.Machine.{after, begin_turn, protect_turn, allocate_turn, retire_turn, move_turn}
 use Rattle.wfe_core.specs.Calls.{Runs, Why, Opens, FollowsHead, Fills, ClearsNext, Clears, Finishes, GivesUp, Retires, Tidies, Advances, Releases}
@@ -131,16 +131,16 @@ lost_fits s most first found true h = h
 lost_fits s most first found false h = h
 
 -- a post with the same tags' and rows' counts
-row_fits : (layout : Layout) (k : ℕ) (post : Post) (index slot : ℕ) → PostFits layout k post → PostFits layout k (with_row post index slot)
+pub row_fits : (layout : Layout) (k : ℕ) (post : Post) (index slot : ℕ) → PostFits layout k post → PostFits layout k (with_row post index slot)
 row_fits layout k post index slot q = record { seat = q.seat; layout = q.layout; cursor = q.cursor; tags = q.tags; standing = length-set post.standing index (Some slot) ∙ q.standing }
 
-held_fits : (layout : Layout) (k : ℕ) (post : Post) (index : ℕ) (root : Root) (link : ℕ) → PostFits layout k post → PostFits layout k (held_post post index root link)
+pub held_fits : (layout : Layout) (k : ℕ) (post : Post) (index : ℕ) (root : Root) (link : ℕ) → PostFits layout k post → PostFits layout k (held_post post index root link)
 held_fits layout k post index root link q = held_post_keeps (PostFits layout k) post index root link q (λ slot. row_fits layout k post index slot q)
 
 held_span : (post : Post) (index : ℕ) (root : Root) (link : ℕ) → SpanStands post → SpanStands (held_post post index root link)
 held_span post index root link s = held_post_keeps SpanStands post index root link s (λ slot. s)
 
-tag_fits : (layout : Layout) (k : ℕ) (post : Post) (index tag : ℕ) → PostFits layout k post → PostFits layout k (with_tag post index tag)
+pub tag_fits : (layout : Layout) (k : ℕ) (post : Post) (index tag : ℕ) → PostFits layout k post → PostFits layout k (with_tag post index tag)
 tag_fits layout k post index tag q = record { seat = q.seat; layout = q.layout; cursor = q.cursor; tags = length-set post.tags index tag ∙ q.tags; standing = q.standing }
 
 -- the protection goes on
@@ -193,10 +193,10 @@ protect_moves layout k why aim index root n m (RaiseUpper era) post found q l r 
     record { post = record { seat = q.seat; layout = q.layout; cursor = q.cursor; tags = q.tags; standing = q.standing }; phase = on r m LoadWithin (with_span post (from_to (lower post.span) era)) r.fits (λ e. refl) }
 
 -- the same post with another interval
-span_fits : (layout : Layout) (k : ℕ) (post : Post) (span : Option Interval) → PostFits layout k post → PostFits layout k (with_span post span)
+pub span_fits : (layout : Layout) (k : ℕ) (post : Post) (span : Option Interval) → PostFits layout k post → PostFits layout k (with_span post span)
 span_fits layout k post span q = record { seat = q.seat; layout = q.layout; cursor = q.cursor; tags = q.tags; standing = q.standing }
 
-withdrawn_fits : (layout : Layout) (k : ℕ) (post : Post) (index : ℕ) → PostFits layout k post → PostFits layout k (withdrawn post index)
+pub withdrawn_fits : (layout : Layout) (k : ℕ) (post : Post) (index : ℕ) → PostFits layout k post → PostFits layout k (withdrawn post index)
 withdrawn_fits layout k post index q = record { seat = q.seat; layout = q.layout; cursor = q.cursor; tags = q.tags; standing = length-set post.standing index None ∙ q.standing }
 
 begin_moves : (layout : Layout) (k : ℕ) (why : Why) (at : BeginAt) (post : Post) (found : ℕ) → PostFits layout k post → Run layout why (Begin at) post
@@ -206,16 +206,16 @@ begin_moves layout k why (PublishSpan era) post found q r =
     record { post = span_fits layout k post (from_to era era) q; phase = resumes_from why (with_span post (from_to era era)) (λ e. refl) }
 
 -- a walk that stays in the table
-record Walks (slots : ℕ) (walk : Walk) : Type 0 where
-  start : walk.start ≤ slots
-  slot : walk.slot ≤ slots
-  left : walk.left ≤ slots
+pub record Walks (slots : ℕ) (walk : Walk) : Type 0 where
+  pub start : walk.start ≤ slots
+  pub slot : walk.slot ≤ slots
+  pub left : walk.left ≤ slots
 
 abbrev WalksOn : ℕ → Option Walk → Type 0
 WalksOn slots None = Unit {0}
 WalksOn slots (Some walk) = Walks slots walk
 
-next_in : (slots slot : ℕ) → slot ≤ slots → next_slot slots slot ≤ slots
+pub next_in : (slots slot : ℕ) → slot ≤ slots → next_slot slots slot ≤ slots
 next_in slots slot h = grind (arith, nat_tests)
 
 walk_on_in : (slots : ℕ) (walk : Walk) (left slot : ℕ) → walk.start ≤ slots → left ≤ slots → slot ≤ slots → WalksOn slots (walk_on slots walk left slot)
@@ -235,7 +235,7 @@ walking_moves layout k why birth post None q r w = record { post = q; phase = re
 walking_moves layout k why birth post (Some walk) q r w = let a = w.start in let b = w.slot in let c = w.left in
     record { post = q; phase = record { suited = r.suited; fits = grind (arith, nat_tests); shape = tt; posted = r.posted } }
 
-walks_of : (slots : ℕ) (walk : Walk) → (nat_le walk.start slots && nat_le walk.slot slots && nat_le walk.left slots) ≡ true → Walks slots walk
+pub walks_of : (slots : ℕ) (walk : Walk) → (nat_le walk.start slots && nat_le walk.slot slots && nat_le walk.left slots) ≡ true → Walks slots walk
 walks_of slots walk h = record { start = grind (arith, nat_tests); slot = grind (arith, nat_tests); left = grind (arith, nat_tests) }
 
 allocate_moves : (layout : Layout) (k : ℕ) (why : Why) (at : AllocateAt) (post : Post) (found : ℕ) → PostFits layout k post → post.layout ≡ layout → Run layout why (Allocate at) post
@@ -339,7 +339,7 @@ write_moves : (layout : Layout) (k : ℕ) (why : Why) (slot : ℕ) (row : RowOf)
 write_moves layout k why slot row place post q r =
     moves_if why (place == last_written row) _ _
     (λ e. record { post = q; phase = resumes_from why post r.posted })
-    (λ e. record { post = q; phase = record { suited = r.suited; fits = let f : nat_le place (last_written row) ≡ true = r.fits in grind (arith, nat_tests); shape = tt; posted = r.posted } })
+    (λ e. record { post = q; phase = record { suited = r.suited; fits = let f : (nat_le (first_written row) place && nat_le place (last_written row)) ≡ true = r.fits in grind (arith, nat_tests); shape = tt; posted = r.posted } })
 
 -- a step inside a machine
 pub shape_moves : (layout : Layout) (k : ℕ) → is_valid layout ≡ true → (why : Why) (base : Base) (post : Post) (found : ℕ) → PostFits layout k post → Run layout why base post

@@ -21,7 +21,7 @@ use Rattle.wfe_eras.proofs.Inside.{shape_moves}
 pub counted_fits : (layout : Layout) (k : ℕ) (post : Post) → PostFits layout k post → PostFits layout k (counted post)
 counted_fits layout k post q = record { seat = q.seat; layout = q.layout; cursor = q.cursor; tags = q.tags; standing = q.standing }
 
-begun_fits : (layout : Layout) (k : ℕ) (post : Post) → PostFits layout k post → PostFits layout k (begun_post post)
+pub begun_fits : (layout : Layout) (k : ℕ) (post : Post) → PostFits layout k post → PostFits layout k (begun_post post)
 begun_fits layout k post q = record { seat = q.seat; layout = q.layout; cursor = q.cursor; tags = q.tags; standing = q.standing }
 
 posted_counted : (base : Base) (post : Post) → Posted base post → Posted base (counted post)

@@ -2,7 +2,7 @@
 use Rattle.std.proofs.Common.{ℕ, ◌≡◌, ◌≤◌, ◌<◌, Bool, true, false, not, Option, None, refl, ap, sym, subst, ◌∙◌, arith}
 use Rattle.std.proofs.lemmas.Bool.Decides.{nat_tests}
 use Rattle.std.proofs.lemmas.List.{length-set}
-use Rattle.std.specs.Prelude.{nat_lt, nat_le}
+use Rattle.std.specs.Prelude.{◌&&◌, nat_lt, nat_le}
 use Rattle.wfe_words.specs.Place.{is_valid}
 use Rattle.wfe_words.specs.declared.config.SchemeKind.{SchemeKind}
 use Rattle.wfe_words.specs.declared.config.SchemeKind.TheVariants.{He, Ibr, Wfe}
@@ -71,7 +71,7 @@ release_posted He post = tt
 release_posted Ibr post = tt
 release_posted Wfe post = tt
 
-written_last : (row : RowOf) → nat_le (first_written row) (last_written row) ≡ true
+written_last : (row : RowOf) → (nat_le (first_written row) (first_written row) && nat_le (first_written row) (last_written row)) ≡ true
 written_last (MapRow version pairs) = grind (arith, nat_tests)
 written_last (QueueRow number value) = refl
 

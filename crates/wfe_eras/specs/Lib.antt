@@ -1,2 +1,4 @@
+pub mod Eras
 pub mod Frame
 pub mod Seats
+pub mod Slots

@@ -10,7 +10,7 @@ use Rattle.wfe_core.specs.declared.post.Post.{Post}
 use Rattle.wfe_core.specs.Guards.{guards}
 use Rattle.wfe_core.specs.Links.{parent_of}
 use Rattle.wfe_core.specs.Posts.{stands}
-use Rattle.wfe_core.specs.WriteRow.{last_written}
+use Rattle.wfe_core.specs.WriteRow.{first_written, last_written}
 use Rattle.wfe_core.specs.Phases.{Aim, Alone, Follows, Tries, Endless, Failed, ProtectAt, AllocateAt, MoveAt, Base}
 use Rattle.wfe_core.specs.Phases.ProtectAt.{LoadClock, PublishEra, LoadLink, CheckClock, PublishRequest, LoadOwnClock, PublishHelper, LoadOwnLink, CheckOwnClock, AnswerOwn, LoadAnswer, TakeAnswer, WithdrawRequest, WithdrawHelper, LoadWithin, CheckUpper, RaiseUpper}
 use Rattle.wfe_core.specs.Phases.AllocateAt.{LoadBirth, ClaimSlot, StoreLife}
@@ -225,7 +225,7 @@ base_fits config (Clear index) = not (is_ibr config.scheme)
 base_fits config Finish = is_ibr config.scheme
 base_fits config Release = is_ibr config.scheme
 base_fits config (Allocate at) = allocate_fits config.slots at
-base_fits config (Write slot row place) = nat_le place (last_written row)
+base_fits config (Write slot row place) = nat_le (first_written row) place && nat_le place (last_written row)
 base_fits config (GiveUp slot) = true
 base_fits config (Retire at) = true
 base_fits config (Move at) = move_fits config.scheme config.seats at

@@ -1,0 +1,232 @@
+-- Links and slots stay within the table, at the start and over each step and each call that begins.
+use Rattle.std.proofs.Common.{ℕ, zero, suc, ◌≡◌, ◌≤◌, ◌+◌, Bool, true, false, List, refl, sym, subst, arith}
+use Rattle.std.proofs.lemmas.Bool.Decides.{nat_tests}
+use Rattle.std.proofs.lemmas.List.Elements.{All-nil}
+use Rattle.std.specs.Prelude.{◌==◌, ◌&&◌, nat_le, if◌then◌else◌}
+use Rattle.wfe_words.specs.Place.{Place, same, has, is_valid}
+use Rattle.wfe_words.specs.Place.Place.{Clock, Helper, Index, Interval, Bucket, Head, Tail, Claim, Life, Row, PlaceOf}
+use Rattle.wfe_words.specs.Place.Place.{Request as RequestOf}
+use Rattle.wfe_words.specs.declared.layout.Layout.{Layout}
+use Rattle.wfe_words.proofs.Places.{same_one}
+use Rattle.wfe_defs.specs.declared.call.Call.{Call}
+use Rattle.wfe_defs.specs.declared.event.Event.{Event}
+use Rattle.wfe_defs.specs.declared.event.Root.{Root}
+use Rattle.wfe_defs.specs.declared.lifetime.Lifetime.{Lifetime}
+use Rattle.wfe_core.specs.declared.post.Post.{Post}
+use Rattle.wfe_core.specs.Desks.{Desk, noting}
+use Rattle.wfe_core.specs.Memory.{Move, Load, Store, Cas, Or, And, place_in, change, found, written}
+use Rattle.wfe_core.specs.Posts.{counted}
+use Rattle.wfe_core.specs.Phases.{BeginAt, ProtectAt, AllocateAt, RetireAt, MoveAt, RowOf, MapRow, QueueRow, Base, Outcome, Goes, Ends}
+use Rattle.wfe_core.specs.Phases.BeginAt.{LoadLower}
+use Rattle.wfe_core.specs.Phases.ProtectAt.{LoadClock}
+use Rattle.wfe_core.specs.Phases.AllocateAt.{LoadBirth, ClaimSlot, StoreLife}
+use Rattle.wfe_core.specs.Phases.RetireAt.{LoadLife}
+use Rattle.wfe_core.specs.Phases.MoveAt.{LoadEra}
+use Rattle.wfe_core.specs.Phases.Base.{Begin, Protect, Reload, Clear, Finish, Release, Allocate, Write, GiveUp, Retire}
+use Rattle.wfe_core.specs.Phases.Base.{Move as Moves}
+use Rattle.wfe_core.specs.WriteRow.{row_word, first_written, last_written}
+use Rattle.wfe_core.specs.Machine.{begin_move, protect_move, allocate_move, retire_move, move_move, base_move}
+use Rattle.wfe_core.specs.Get.{get_move}
+use Rattle.wfe_core.specs.Change.{change_move}
+use Rattle.wfe_core.specs.Enqueue.{enqueue_move}
+use Rattle.wfe_core.specs.Dequeue.{dequeue_move}
+use Rattle.wfe_core.specs.Scan.{scan_move}
+use Rattle.wfe_core.specs.Steps.{resumed, work_move, phase_move, phase_turn}
+use Rattle.wfe_core.specs.Locals.{Local, move, after, settled_by, settled, told_by, rounds_told, begun_post, fresh}
+use Rattle.wfe_core.specs.Calls.{ChangeKept, EnqueueKept, GetAt, FindVersion, ChangeAt, ExchangeRoot, EnqueueAt, LoadNumber, LoadNext, PassTail, ExchangeNext, ExchangeTail, DequeueAt, LoadTail, SwingTail, TakeNumber, TakeValue, ExchangeHead, Work, Getting, Changing, Enqueuing, Dequeuing, ScanAt, ReadGuard, GiveBack, Why, Phase, Idle, Runs, Scans, Works, CallTurn, CallOutcome, GoesOn, Answers}
+use Rattle.wfe_core.specs.World.{World, first_word, start, begin, step}
+use Rattle.wfe_eras.specs.Frame.{phase_left}
+use Rattle.wfe_eras.specs.Seats.{Run, PhaseFits, Seats}
+use Rattle.wfe_eras.specs.Eras.{Eras}
+use Rattle.wfe_eras.specs.Slots.{RowLink, WordSlots, MoveSlots, WorkIn, PhaseIn, PostIn, ListIn, WhyIn, OutcomeIn, TurnSlots, SeatSlots, Slots}
+use Rattle.wfe_eras.proofs.Frame.{seat_stays, seat_steps, begin_stays, begin_begins, finds_counted}
+use Rattle.wfe_eras.proofs.Kept.{run_counted, one_moves}
+use Rattle.wfe_eras.proofs.Decode.{told_of}
+use Rattle.wfe_eras.proofs.SlotCalls.{work_finds, work_slots, scan_slots, resume_slots, first_slots}
+use Rattle.wfe_eras.proofs.SlotSteps.{Linked, machine_slots}
+
+-- what an operation leaves in the words
+slot_change : (slots : ℕ) (m : Move) (word : ℕ) → MoveSlots slots m → WordSlots slots (place_in m) word → WordSlots slots (place_in m) (change m word)
+slot_change slots (Load place) word h e = e
+slot_change slots (Store place value) word h e = h
+slot_change slots (Cas place old new) word h e = by (word == old)
+  where
+    by : (b : Bool) → WordSlots slots place (if b then new else word)
+    by true = h
+    by false = e
+slot_change slots (Or place bits) word h e = h _
+slot_change slots (And place bits) word h e = h _
+
+slot_by : (slots : ℕ) (mem : Place → ℕ) (place : Place) (value : ℕ) (other : Place) (b : Bool) → same other place ≡ b → WordSlots slots place value → WordSlots slots other (mem other) → WordSlots slots other (if b then value else mem other)
+slot_by slots mem place value other true e h g = subst (λ (p : Place). WordSlots slots p value) (sym (same_one other place e)) h
+slot_by slots mem place value other false e h g = g
+
+slots_written : (slots : ℕ) (mem : Place → ℕ) (m : Move) → MoveSlots slots m → ((place : Place) → WordSlots slots place (mem place)) → (place : Place) → WordSlots slots place (written mem m place)
+slots_written slots mem (Load at) h e place = e place
+slots_written slots mem (Store at value) h e place = slot_by slots mem at value place (same place at) refl h (e place)
+slots_written slots mem (Cas at old new) h e place = slot_by slots mem at (change (Cas at old new) (mem at)) place (same place at) refl (slot_change slots (Cas at old new) (mem at) h (e at)) (e place)
+slots_written slots mem (Or at bits) h e place = slot_by slots mem at (change (Or at bits) (mem at)) place (same place at) refl (slot_change slots (Or at bits) (mem at) h (e at)) (e place)
+slots_written slots mem (And at bits) h e place = slot_by slots mem at (change (And at bits) (mem at)) place (same place at) refl (slot_change slots (And at bits) (mem at) h (e at)) (e place)
+
+-- what each operation writes
+protect_writes : (slots index : ℕ) (root : Root) (at : ProtectAt) (post : Post) → MoveSlots slots (protect_move index root at post)
+protect_writes slots index root (LoadClock tries) post = tt
+protect_writes slots index root at post = tt
+
+begin_writes : (slots : ℕ) (at : BeginAt) (post : Post) → MoveSlots slots (begin_move at post)
+begin_writes slots LoadLower post = tt
+begin_writes slots at post = tt
+
+allocate_writes : (slots : ℕ) (at : AllocateAt) → MoveSlots slots (allocate_move at)
+allocate_writes slots LoadBirth = tt
+allocate_writes slots (ClaimSlot birth walk) = λ word. tt
+allocate_writes slots (StoreLife birth slot) = tt
+
+retire_writes : (slots : ℕ) (at : RetireAt) → MoveSlots slots (retire_move at)
+retire_writes slots (LoadLife slot) = tt
+retire_writes slots at = tt
+
+move_writes : (slots : ℕ) (at : MoveAt) (post : Post) → MoveSlots slots (move_move at post)
+move_writes slots (LoadEra helps) post = tt
+move_writes slots at post = tt
+
+-- a row's first word is written only in a queue row, and is null
+row_writes : (slots : ℕ) (row : RowOf) (place : ℕ) → (nat_le (first_written row) place && nat_le place (last_written row)) ≡ true → RowLink slots place (row_word row place)
+row_writes slots (MapRow version pairs) place f = λ e. absurd (grind (arith, nat_tests))
+row_writes slots (QueueRow number value) place f = λ e. grind (arith, nat_tests)
+
+base_writes : (layout : Layout) (why : Why) (base : Base) (post : Post) → Run layout why base post → MoveSlots layout.config.slots (base_move base post)
+base_writes layout why (Begin at) post r = begin_writes layout.config.slots at post
+base_writes layout why (Protect aim index root steps at) post r = protect_writes layout.config.slots index root at post
+base_writes layout why (Reload parent index slot era steps) post r = tt
+base_writes layout why (Clear index) post r = tt
+base_writes layout why Finish post r = tt
+base_writes layout why Release post r = tt
+base_writes layout why (Allocate at) post r = allocate_writes layout.config.slots at
+base_writes layout why (Write slot row place) post r = row_writes layout.config.slots row place r.fits
+base_writes layout why (GiveUp slot) post r = λ word. tt
+base_writes layout why (Retire at) post r = retire_writes layout.config.slots at
+base_writes layout why (Moves at) post r = move_writes layout.config.slots at post
+
+get_writes : (slots : ℕ) (at : GetAt) → MoveSlots slots (get_move at)
+get_writes slots (FindVersion slot) = tt
+get_writes slots at = tt
+
+change_writes : (slots : ℕ) (kept : ChangeKept) (at : ChangeAt) (post : Post) → WorkIn slots (Changing kept at) → MoveSlots slots (change_move kept at post)
+change_writes slots kept (ExchangeRoot slot) post w = let s = w.1 in omega arith
+change_writes slots kept at post w = tt
+
+enqueue_writes : (slots : ℕ) (kept : EnqueueKept) (at : EnqueueAt) → WorkIn slots (Enqueuing kept at) → MoveSlots slots (enqueue_move kept at)
+enqueue_writes slots kept LoadNumber w = tt
+enqueue_writes slots kept LoadNext w = tt
+enqueue_writes slots kept (PassTail next) w = w.1.1
+enqueue_writes slots kept (ExchangeNext slot) w = λ e. let s = w.1 in omega arith
+enqueue_writes slots kept (ExchangeTail slot) w = let s = w.1 in omega arith
+
+dequeue_writes : (slots : ℕ) (at : DequeueAt) → WorkIn slots (Dequeuing at) → MoveSlots slots (dequeue_move at)
+dequeue_writes slots (LoadTail head) w = tt
+dequeue_writes slots (SwingTail head next) w = let s = w.1 in omega arith
+dequeue_writes slots (TakeNumber head next) w = tt
+dequeue_writes slots (TakeValue head next number) w = tt
+dequeue_writes slots (ExchangeHead head next number value) w = let s = w.1 in omega arith
+
+work_writes : (slots : ℕ) (work : Work) (post : Post) → WorkIn slots work → MoveSlots slots (work_move work post)
+work_writes slots (Getting key at) post w = get_writes slots at
+work_writes slots (Changing kept at) post w = change_writes slots kept at post w
+work_writes slots (Enqueuing kept at) post w = enqueue_writes slots kept at w
+work_writes slots (Dequeuing at) post w = dequeue_writes slots at w
+
+scan_writes : (slots : ℕ) (at : ScanAt) (post : Post) → MoveSlots slots (scan_move at post)
+scan_writes slots (ReadGuard number) post = tt
+scan_writes slots (GiveBack place slot) post = λ word. tt
+
+phase_writes : (layout : Layout) (phase : Phase) (post : Post) → PhaseFits layout post phase → PhaseIn layout phase → MoveSlots layout.config.slots (phase_move phase post)
+phase_writes layout Idle post r h = tt
+phase_writes layout (Runs why base) post r h = base_writes layout why base post r
+phase_writes layout (Scans later at) post r h = scan_writes layout.config.slots at post
+phase_writes layout (Works work) post r h = work_writes layout.config.slots work post h
+
+-- the seat that steps
+resumed_slots : (layout : Layout) (why : Why) (desk : Desk) (post : Post) (told : List Event) (outcome : Outcome) → WhyIn layout.config.slots why → OutcomeIn layout outcome → PostIn layout post → ListIn layout.config.slots desk.list → TurnSlots layout (resumed why desk post told outcome)
+resumed_slots layout why desk post told (Goes base) y o q l = record { post = q; list = l; phase = (y, o) }
+resumed_slots layout why desk post told (Ends ending) y o q l = resume_slots layout why ending post desk told y o q l
+
+work_found : (slots : ℕ) (mem : Place → ℕ) (work : Work) (post : Post) → ((place : Place) → WordSlots slots place (mem place)) → work_finds slots work (found (work_move work post) (mem (place_in (work_move work post))))
+work_found slots mem (Getting key at) post h = tt
+work_found slots mem (Changing kept at) post h = tt
+work_found slots mem (Enqueuing kept LoadNumber) post h = tt
+work_found slots mem (Enqueuing kept LoadNext) post h = h (Row kept.tail 0) refl
+work_found slots mem (Enqueuing kept (PassTail next)) post h = tt
+work_found slots mem (Enqueuing kept (ExchangeNext slot)) post h = tt
+work_found slots mem (Enqueuing kept (ExchangeTail slot)) post h = tt
+work_found slots mem (Dequeuing at) post h = tt
+
+turn_slots : (layout : Layout) (mem : Place → ℕ) → Linked layout mem → (phase : Phase) (post : Post) (desk : Desk) → PhaseFits layout post phase → PhaseIn layout phase → PostIn layout post → ListIn layout.config.slots desk.list
+    → TurnSlots layout (phase_turn phase (counted post) desk (found (phase_move phase (counted post)) (mem (place_in (phase_move phase (counted post))))))
+turn_slots layout mem w Idle post desk r h q l = record { post = q; list = l; phase = tt }
+turn_slots layout mem w (Runs why base) post desk r h q l = let m = machine_slots layout mem w why base (counted post) (run_counted layout why base post r) h.1 q in
+    resumed_slots layout why desk _ _ _ h.0 m.outcome m.post l
+turn_slots layout mem w (Scans later at) post desk r h q l = scan_slots layout later at (counted post) desk _ h.0 q l
+turn_slots layout mem w (Works work) post desk r h q l = work_slots layout work (counted post) desk _ (work_found layout.config.slots mem work (counted post) w.links) h q l
+
+settled_by_slots : (layout : Layout) (l : Local) (post : Post) (desk : Desk) (rounds : ℕ) (outcome : CallOutcome) → PostIn layout post → ListIn layout.config.slots desk.list → PhaseIn layout (phase_left outcome) → SeatSlots layout (settled_by l post desk rounds outcome)
+settled_by_slots layout l post desk rounds (GoesOn phase) q s p = record { post = q; list = s; phase = p }
+settled_by_slots layout l post desk rounds (Answers answer) q s p = record { post = q; list = s; phase = p }
+
+settled_slots : (layout : Layout) (l : Local) (t : CallTurn) → TurnSlots layout t → SeatSlots layout (settled l t)
+settled_slots layout l t h = settled_by_slots layout l t.post (noting t.desk (told_by t)) (rounds_told l.rounds (told_by t)) t.outcome h.post h.list h.phase
+
+own_slots : (w : World) (i : ℕ) → is_valid w.layout ≡ true → Seats w → Eras w → Slots w → SeatSlots w.layout ((step w i).seat i)
+own_slots w i v s e h = let l = w.seat i in let g = h.seats i in
+    subst (SeatSlots w.layout) (sym (seat_steps w i))
+    (subst (λ (f : ℕ). SeatSlots w.layout (after l f)) (finds_counted w i)
+    (settled_slots w.layout l _ (turn_slots w.layout w.mem (record { told = told_of w v e; links = h.words }) l.phase l.post l.desk (s.fits i).phase g.phase g.post g.list)))
+
+pub slots_step : (w : World) (i : ℕ) → is_valid w.layout ≡ true → Seats w → Eras w → Slots w → Slots (step w i)
+slots_step w i v s e h = record {
+  words = slots_written w.layout.config.slots w.mem (move (w.seat i)) (phase_writes w.layout (w.seat i).phase (w.seat i).post (s.fits i).phase (h.seats i).phase) h.words;
+  seats = one_moves (λ k l. SeatSlots w.layout l) w.seat (step w i).seat i h.seats (seat_stays w i) (own_slots w i v s e h);
+}
+
+pub slots_begin : (w : World) (i : ℕ) (call : Call) → Slots w → Slots (begin w i call)
+slots_begin w i call h = record {
+  words = h.words;
+  seats = one_moves (λ k l. SeatSlots w.layout l) w.seat (begin w i call).seat i h.seats (λ k. begin_stays w i k call)
+      (subst (SeatSlots w.layout) (sym (begin_begins w i call)) (record { post = (h.seats i).post; list = (h.seats i).list; phase = first_slots w.layout call (begun_post (w.seat i).post) }));
+}
+
+-- the start
+few_if : (slots n : ℕ) (b : Bool) → n ≤ slots + 1 → (if b then n else 0) ≤ slots + 1
+few_if slots n true h = h
+few_if slots n false h = omega arith
+
+start_links : (layout : Layout) (place : Place) → WordSlots layout.config.slots place (first_word layout place)
+start_links layout Clock = tt
+start_links layout (Helper seat) = tt
+start_links layout (Index seat index) = tt
+start_links layout (Interval seat) = tt
+start_links layout (RequestOf seat) = tt
+start_links layout (Bucket bucket) = few_if layout.config.slots 0 (has layout (Bucket bucket)) (omega arith)
+start_links layout Head = omega arith
+start_links layout Tail = omega arith
+start_links layout (Claim number) = tt
+start_links layout (Life slot) = tt
+start_links layout (Row slot place) = λ e. few_if layout.config.slots 0 (has layout (Row slot place)) (omega arith)
+start_links layout (PlaceOf seat) = tt
+
+nothing_stands : (layout : Layout) (k : ℕ) → PostIn layout (fresh layout k).post
+nothing_stands layout k zero = tt
+nothing_stands layout k (suc zero) = tt
+nothing_stands layout k (suc (suc zero)) = tt
+nothing_stands layout k (suc (suc (suc zero))) = tt
+nothing_stands layout k (suc (suc (suc (suc zero)))) = tt
+nothing_stands layout k (suc (suc (suc (suc (suc zero))))) = tt
+nothing_stands layout k (suc (suc (suc (suc (suc (suc zero)))))) = tt
+nothing_stands layout k (suc (suc (suc (suc (suc (suc (suc zero))))))) = tt
+nothing_stands layout k (suc (suc (suc (suc (suc (suc (suc (suc index)))))))) = tt
+
+pub slots_start : (layout : Layout) → Slots (start layout)
+slots_start layout = record {
+  words = start_links layout;
+  seats = λ k. record { post = nothing_stands layout k; list = All-nil (λ (life : Lifetime). life.slot ≤ layout.config.slots); phase = tt };
+}
