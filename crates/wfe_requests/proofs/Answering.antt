@@ -60,7 +60,7 @@ use Rattle.wfe_requests.proofs.Requester as own
 use Rattle.wfe_requests.proofs.Going.{test_equal, equal_test, by_test, either, same_role, stands_in, own_post, link_few, go, rest}
 
 -- a deal of this request that is answered
-heard : (index word : ℕ) (d : Deal) → asked_at index word d ≡ true → is_open d ≡ false → Heard index word d
+pub heard : (index word : ℕ) (d : Deal) → asked_at index word d ≡ true → is_open d ≡ false → Heard index word d
 heard index word Quiet h g = cc
 heard index word (Open t j w) h g = cc
 heard index word (Answered t j w l e m) h g = record { link = l; era = e; with = grind (arith, nat_tests); is = refl; small = λ clock most b. grind (arith, nat_tests); some = λ clock most b. grind (arith, nat_tests); early = λ clock most b. grind (arith, nat_tests) }
@@ -117,7 +117,7 @@ open_by_word index word tag (Passed t j w l r) h a b c e = absurd (pending≢ans
 open_by_word index word tag (Taken t j w l r) h a b c e = cc
 
 -- the word of a pending request has the seat's own tag
-word_by_open : (index word tag : ℕ) (d : Deal) (tags : ℕ → ℕ) → asked_at index word d ≡ true → is_open d ≡ true → has_tag d tags ≡ true → tag ≡ tags index → request_of d ≡ pending_word tag index word
+pub word_by_open : (index word tag : ℕ) (d : Deal) (tags : ℕ → ℕ) → asked_at index word d ≡ true → is_open d ≡ true → has_tag d tags ≡ true → tag ≡ tags index → request_of d ≡ pending_word tag index word
 word_by_open index word tag Quiet tags h g t e = cc
 word_by_open index word tag (Open t j w) tags h g s e = let p : t ≡ tag = grind (arith, nat_tests) in let q : j ≡ index = grind (arith, nat_tests) in let r : w ≡ word = grind (arith, nat_tests) in cc
 word_by_open index word tag (Answered t j w l r m) tags h g s e = cc

@@ -279,7 +279,7 @@ requests_step w i v y b s p n f =
       (phase_made w.mem w.seat i v w.layout (w.seat i).phase y e q.post q.phase (p.paced i) (at_of w i v y b s n f) refl)
 
 -- a seat between calls
-idle_of : (phase : Phase) → busy_in phase ≡ false → phase ≡ Idle
+pub idle_of : (phase : Phase) → busy_in phase ≡ false → phase ≡ Idle
 idle_of Idle h = refl
 idle_of (Runs why base) h = absurd (cc)
 idle_of (Scans later at) h = absurd (cc)

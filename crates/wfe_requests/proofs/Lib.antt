@@ -4,6 +4,7 @@ pub mod Going
 pub mod Handing
 pub mod Helping
 pub mod Kept
+pub mod Known
 pub mod Movers
 pub mod Paced
 pub mod Paces
