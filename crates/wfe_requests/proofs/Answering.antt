@@ -1,63 +1,54 @@
 -- The end of the slow path: the answer, own or not, is found, taken and withdrawn.
-use Rattle.std.proofs.Common.{ℕ, ◌≡◌, ◌≤◌, ◌<◌, ◌+◌, ◌^◌, Bool, true, false, List, [], arith, refl, sym, ap, subst, ◌∙◌}
+use Rattle.std.proofs.Common.{ℕ, ◌≡◌, ◌<◌, ◌+◌, ◌^◌, Bool, true, false, List, [], arith, refl, sym, ap, subst, ◌∙◌}
 use Rattle.std.proofs.lemmas.Bool.Decides.{nat_tests}
-use Rattle.std.specs.Prelude.{◌==◌, ◌&&◌, nat_lt, nat_le, if◌then◌else◌, Option, Some, None}
-use Rattle.wfe_words.specs.Place.{Place, has}
-use Rattle.wfe_words.specs.Place.Place.{Clock, Helper, Index, Request}
+use Rattle.std.specs.Prelude.{◌==◌, ◌&&◌, if◌then◌else◌}
+use Rattle.wfe_words.specs.Place.{Place}
+use Rattle.wfe_words.specs.Place.Place.{Index, Request}
 use Rattle.wfe_words.specs.Packed.{halves}
-use Rattle.wfe_defs.specs.declared.event.Event.{Event}
 use Rattle.wfe_defs.specs.declared.event.Root.{Root}
 use Rattle.wfe_core.specs.declared.post.Post.{Post}
-use Rattle.wfe_core.specs.Links.{link_place, link_number}
+use Rattle.wfe_core.specs.Links.{link_number}
 use Rattle.wfe_core.specs.Memory.{upd, written, put}
 use Rattle.wfe_core.specs.Memory as memory
 use Rattle.wfe_core.specs.Posts.{counted, tag_of}
-use Rattle.wfe_core.specs.Phases.{Aim, Tries, Endless, Failed, ProtectAt, MoveAt, Base, Turn, goes, ends}
-use Rattle.wfe_core.specs.Calls.{Why, Phase, Idle, Runs, CallTurn}
+use Rattle.wfe_core.specs.Phases.{Aim, ProtectAt, Turn, goes}
+use Rattle.wfe_core.specs.Calls.{Why, Phase, Runs}
 use Rattle.wfe_core.specs.Steps.{run_turn}
 use Rattle.wfe_core.specs.Locals.{Local}
-use Rattle.wfe_core.specs.Machine.{protect_move, protect_turn, move_move, move_turn, base_move, after}
+use Rattle.wfe_core.specs.Machine.{protect_move, protect_turn}
 use Rattle.wfe_eras.specs.Frame.{Moves}
 use Rattle.wfe_core.specs.Memory.{Move}
 use Rattle.wfe_words.specs.Packed.{read_request, pending_word, answered_word}
-use Rattle.wfe_words.specs.declared.packed.Request.TheVariants as requests
-use Rattle.wfe_words.proofs.Parts.{pending≢answered, pending_one, read_request-answered}
-use Rattle.wfe_words.proofs.Places.{same_self}
-use Rattle.wfe_core.specs.declared.ends.ProtectEnd.{ProtectEnd}
+use Rattle.wfe_words.proofs.Parts.{pending≢answered, read_request-answered}
 use Rattle.wfe_core.proofs.Ranges.{bounds_of}
-use Rattle.wfe_core.specs.Phases.ProtectAt.{LoadClock, PublishEra, LoadLink, CheckClock, PublishRequest, LoadOwnClock, PublishHelper, LoadOwnLink, CheckOwnClock, AnswerOwn, LoadAnswer, TakeAnswer, WithdrawRequest, WithdrawHelper, LoadWithin, CheckUpper, RaiseUpper}
-use Rattle.wfe_core.specs.Phases.Base.{Protect, Reload}
-use Rattle.wfe_core.specs.Phases.{Alone, Follows}
-use Rattle.wfe_core.specs.Phases.Ending.{Protected, Followed}
-use Rattle.wfe_core.specs.declared.ends.FollowEnd.TheVariants as follow_ends
+use Rattle.wfe_core.specs.Phases.ProtectAt.{AnswerOwn, LoadAnswer, TakeAnswer, WithdrawRequest, WithdrawHelper}
+use Rattle.wfe_core.specs.Phases.Base.{Protect}
 use Rattle.wfe_defs.specs.declared.event.Root.TheVariants as root_names
 use Rattle.wfe_words.specs.declared.config.Config.{Config}
 use Rattle.wfe_words.specs.declared.layout.Layout.{Layout}
-use Rattle.wfe_core.specs.Links.{parent_of}
 use Rattle.wfe_core.specs.Posts.{with_row}
-use Rattle.wfe_core.specs.Protect.{concluded, told_held}
 use Rattle.std.specs.Prelude.{◌-◌, not, length, slice_index, slice_set}
 use Rattle.std.proofs.lemmas.List.{get_or-set_same, get_or-set_other}
 use Rattle.wfe_core.specs.Locals.{settled}
 use Rattle.wfe_requests.proofs.Turns.{upd_all, upd_here, upd_there, same_deals}
 use Rattle.wfe_core.specs.Posts.{with_tag}
 use Rattle.wfe_requests.specs.Heard.{Heard}
-use Rattle.wfe_requests.proofs.Asking.{inside, root_there, concluded_rests, post_held}
-use Rattle.wfe_core.specs.Posts.{index_word, helper_word, reserves_index, reserves_helper}
-use Rattle.wfe_core.specs.Protect.{failed_once, trying, protected, held_post}
-use Rattle.wfe_core.specs.SlowPath.{own_request, answer_in, lost_turn}
+use Rattle.wfe_requests.proofs.Asking.{inside, root_there, concluded_rests}
+use Rattle.wfe_core.specs.Posts.{reserves_helper}
+use Rattle.wfe_core.specs.Protect.{held_post}
+use Rattle.wfe_core.specs.SlowPath.{own_request, answer_in}
 use Rattle.wfe_requests.specs.Views.{View, Deal, Role, upd2}
 use Rattle.wfe_requests.specs.Views.Deal.{Quiet, Open, Answered, Passed, Taken}
 use Rattle.wfe_requests.specs.Views.{Role as roles}
-use Rattle.wfe_requests.specs.Deals.{fits, is_open, asked_at, answered_with, has_tag}
+use Rattle.wfe_requests.specs.Deals.{is_open, asked_at, answered_with, has_tag}
 use Rattle.wfe_requests.specs.Parts.{Parts}
 use Rattle.wfe_requests.specs.Standing.{protect_role, role_of, is_there, request_of, Words, Locals}
-use Rattle.wfe_requests.specs.NextDeals.{protect_deals, move_deals, base_deals, phase_deals}
-use Rattle.wfe_requests.specs.Turns.{PostOf, RoleOf, Made}
+use Rattle.wfe_requests.specs.NextDeals.{protect_deals}
+use Rattle.wfe_requests.specs.Turns.{Made}
 use Rattle.wfe_requests.specs.Context.{At}
-use Rattle.wfe_requests.proofs.Words.{no_halves, words_deal, words_helper, words_index, words_era, words_request, words_same, exchanged, not_exchanged}
+use Rattle.wfe_requests.proofs.Words.{no_halves, words_deal, words_helper, words_index, words_request, words_same, exchanged, not_exchanged}
 use Rattle.wfe_requests.proofs.Requester as own
-use Rattle.wfe_requests.proofs.Going.{test_equal, equal_test, by_test, either, same_role, stands_in, own_post, link_few, go, rest}
+use Rattle.wfe_requests.proofs.Going.{test_equal, equal_test, by_test, stands_in, own_post, link_few, go, rest}
 
 -- a deal of this request that is answered
 pub heard : (index word : ℕ) (d : Deal) → asked_at index word d ≡ true → is_open d ≡ false → Heard index word d
@@ -83,8 +74,8 @@ take_heard : (mem : Place → ℕ) (seat : ℕ → Local) (i : ℕ) (v : View) (
     → Made mem seat i m (run_turn why (seat i).desk (goes (counted (seat i).post) [] (Protect aim index root n (answer_in (read_request found))))) v.deal
 take_heard mem seat i v m why aim index root n found h a e u d =
     go mem seat i v m why [] (Protect aim index root n (answer_in (read_request found))) (roles.Takes index (link_number (seat i).post.layout root) h.link h.era)
-      (record v { role = upd v.role i (roles.Takes index (link_number (seat i).post.layout root) h.link h.era) }) a
-      (ap (protect_role (seat i).post.layout index root) (heard_word mem seat i v index (link_number (seat i).post.layout root) found h a e)) refl refl refl u d
+    (record v { role = upd v.role i (roles.Takes index (link_number (seat i).post.layout root) h.link h.era) }) a
+    (ap (protect_role (seat i).post.layout index root) (heard_word mem seat i v index (link_number (seat i).post.layout root) found h a e)) refl refl refl u d
 
 -- 7. The own request is loaded: it has an answer.
 pub load_answer : (mem : Place → ℕ) (seat : ℕ → Local) (i : ℕ) (v : View) (why : Why) (aim : Aim) (index : ℕ) (root : Root) (steps n first : ℕ) → At mem seat i v → (seat i).phase ≡ Runs why (Protect aim index root steps (LoadAnswer first))
@@ -94,7 +85,7 @@ load_answer mem seat i v why aim index root steps n first a q =
     let f : (asked_at index (link_number (seat i).post.layout root) (v.deal i) && not (is_open (v.deal i))) ≡ true = rw r at (a.facts.parts.fit i) in
     let h = heard index (link_number (seat i).post.layout root) (v.deal i) (grind (arith, nat_tests)) (grind (arith, nat_tests)) in
     take_heard mem seat i v (memory.Load (Request (seat i).post.seat)) why aim index root n (mem (Request (seat i).post.seat)) h a (ap (λ (k : ℕ). mem (Request k)) a.number ∙ a.facts.words.requests i) a.facts.words
-      (own.hears-keeps (seat i).post.layout.config v i index (link_number (seat i).post.layout root) h.link h.era a.below a.facts.parts r h.with)
+    (own.hears-keeps (seat i).post.layout.config v i index (link_number (seat i).post.layout root) h.link h.era a.below a.facts.parts r h.with)
 
 -- a request that is pending, with its tag
 pub record Pends (index word : ℕ) (d : Deal) : Type 0 where
@@ -155,13 +146,13 @@ answer_own mem seat i v why aim index root steps n first era link a q h =
     let p = pends index (link_number (seat i).post.layout root) (v.deal i) f o in
     let z : p.tag ≡ tag_of (seat i).post index = own_tag p.tag index (link_number (seat i).post.layout root) (v.deal i) (v.tag i) p.is (a.facts.parts.tags i) ∙ sym (a.facts.locals.tags i index) in
     same_deals mem seat i (protect_move index root (AnswerOwn first era link) (seat i).post) (run_turn why (seat i).desk (goes (counted (seat i).post) [] (Protect aim index root n (TakeAnswer link era)))) (upd v.deal i (Answered p.tag index (link_number (seat i).post.layout root) link era i)) (upd v.deal i (Answered (tag_of (seat i).post index) index (link_number (seat i).post.layout root) link era i))
-      (ap (λ (t : ℕ). upd v.deal i (Answered t index (link_number (seat i).post.layout root) link era i)) z)
-      (go mem seat i v (protect_move index root (AnswerOwn first era link) (seat i).post) why [] (Protect aim index root n (TakeAnswer link era)) (roles.Takes index (link_number (seat i).post.layout root) link era)
-      (record v { deal = upd v.deal i (Answered p.tag index (link_number (seat i).post.layout root) link era i); role = upd v.role i (roles.Takes index (link_number (seat i).post.layout root) link era) }) a
-      refl refl refl refl
-      (words_request mem v.clock v.helper v.era v.mark v.deal i (seat i).post.seat (if mem (Request (seat i).post.seat) == own_request (seat i).post index root then answered_word link era else mem (Request (seat i).post.seat)) (Answered p.tag index (link_number (seat i).post.layout root) link era i) a.facts.words a.number
-        (exchanged (mem (Request (seat i).post.seat)) (own_request (seat i).post index root) (answered_word link era) h))
-      (own.answers-keeps (seat i).post.layout.config v i p.tag index (link_number (seat i).post.layout root) first era link a.below a.facts.parts r p.is))
+    (ap (λ (t : ℕ). upd v.deal i (Answered t index (link_number (seat i).post.layout root) link era i)) z)
+    (go mem seat i v (protect_move index root (AnswerOwn first era link) (seat i).post) why [] (Protect aim index root n (TakeAnswer link era)) (roles.Takes index (link_number (seat i).post.layout root) link era)
+    (record v { deal = upd v.deal i (Answered p.tag index (link_number (seat i).post.layout root) link era i); role = upd v.role i (roles.Takes index (link_number (seat i).post.layout root) link era) }) a
+    refl refl refl refl
+    (words_request mem v.clock v.helper v.era v.mark v.deal i (seat i).post.seat (if mem (Request (seat i).post.seat) == own_request (seat i).post index root then answered_word link era else mem (Request (seat i).post.seat)) (Answered p.tag index (link_number (seat i).post.layout root) link era i) a.facts.words a.number
+    (exchanged (mem (Request (seat i).post.seat)) (own_request (seat i).post index root) (answered_word link era) h))
+    (own.answers-keeps (seat i).post.layout.config v i p.tag index (link_number (seat i).post.layout root) first era link a.below a.facts.parts r p.is))
 
 find_answer : (mem : Place → ℕ) (seat : ℕ → Local) (i : ℕ) (v : View) (why : Why) (aim : Aim) (index : ℕ) (root : Root) (steps n first era link : ℕ) → At mem seat i v → (seat i).phase ≡ Runs why (Protect aim index root steps (AnswerOwn first era link)) → (mem (Request (seat i).post.seat) == own_request (seat i).post index root) ≡ false
     → Made mem seat i (protect_move index root (AnswerOwn first era link) (seat i).post) (run_turn why (seat i).desk (goes (counted (seat i).post) [] (Protect aim index root n (answer_in (read_request (mem (Request (seat i).post.seat))))))) v.deal
@@ -172,9 +163,9 @@ find_answer mem seat i v why aim index root steps n first era link a q h =
     let c : is_open (v.deal i) ≡ false = not_open (is_open (v.deal i)) refl f u in
     let t = heard index (link_number (seat i).post.layout root) (v.deal i) f c in
     take_heard mem seat i v (protect_move index root (AnswerOwn first era link) (seat i).post) why aim index root n (mem (Request (seat i).post.seat)) t a u
-      (words_same mem v.clock v.helper v.era v.mark v.deal (Request (seat i).post.seat) (if mem (Request (seat i).post.seat) == own_request (seat i).post index root then answered_word link era else mem (Request (seat i).post.seat)) a.facts.words
-        (not_exchanged (mem (Request (seat i).post.seat)) (own_request (seat i).post index root) (answered_word link era) h))
-      (own.finds-keeps (seat i).post.layout.config v i index (link_number (seat i).post.layout root) first era link t.link t.era a.below a.facts.parts r t.with)
+    (words_same mem v.clock v.helper v.era v.mark v.deal (Request (seat i).post.seat) (if mem (Request (seat i).post.seat) == own_request (seat i).post index root then answered_word link era else mem (Request (seat i).post.seat)) a.facts.words
+    (not_exchanged (mem (Request (seat i).post.seat)) (own_request (seat i).post index root) (answered_word link era) h))
+    (own.finds-keeps (seat i).post.layout.config v i index (link_number (seat i).post.layout root) first era link t.link t.era a.below a.facts.parts r t.with)
   where
     not_open : (b : Bool) → is_open (v.deal i) ≡ b → asked_at index (link_number (seat i).post.layout root) (v.deal i) ≡ true → mem (Request (seat i).post.seat) ≡ request_of (v.deal i) → b ≡ false
     not_open false o f u = refl
@@ -186,9 +177,9 @@ pub exchange_own : (mem : Place → ℕ) (seat : ℕ → Local) (i : ℕ) (v : V
     → Made mem seat i (protect_move index root (AnswerOwn first era link) (seat i).post) (run_turn why (seat i).desk (protect_turn aim index root n (AnswerOwn first era link) (counted (seat i).post) (mem (Request (seat i).post.seat)))) (protect_deals mem i (seat i).post index root (AnswerOwn first era link) v.deal)
 exchange_own mem seat i v why aim index root steps n first era link a q =
     by_test (mem (Request (seat i).post.seat) == own_request (seat i).post index root) (goes (counted (seat i).post) [] (Protect aim index root n (TakeAnswer link era))) (goes (counted (seat i).post) [] (Protect aim index root n (answer_in (read_request (mem (Request (seat i).post.seat))))))
-      (λ (t : Turn). Made mem seat i (protect_move index root (AnswerOwn first era link) (seat i).post) (run_turn why (seat i).desk t) (protect_deals mem i (seat i).post index root (AnswerOwn first era link) v.deal))
-      (λ h. same_deals mem seat i (protect_move index root (AnswerOwn first era link) (seat i).post) (run_turn why (seat i).desk (goes (counted (seat i).post) [] (Protect aim index root n (TakeAnswer link era)))) (upd v.deal i (Answered (tag_of (seat i).post index) index (link_number (seat i).post.layout root) link era i)) (protect_deals mem i (seat i).post index root (AnswerOwn first era link) v.deal) (rw h refl) (answer_own mem seat i v why aim index root steps n first era link a q h))
-      (λ h. same_deals mem seat i (protect_move index root (AnswerOwn first era link) (seat i).post) (run_turn why (seat i).desk (goes (counted (seat i).post) [] (Protect aim index root n (answer_in (read_request (mem (Request (seat i).post.seat))))))) v.deal (protect_deals mem i (seat i).post index root (AnswerOwn first era link) v.deal) (rw h refl) (find_answer mem seat i v why aim index root steps n first era link a q h))
+    (λ (t : Turn). Made mem seat i (protect_move index root (AnswerOwn first era link) (seat i).post) (run_turn why (seat i).desk t) (protect_deals mem i (seat i).post index root (AnswerOwn first era link) v.deal))
+    (λ h. same_deals mem seat i (protect_move index root (AnswerOwn first era link) (seat i).post) (run_turn why (seat i).desk (goes (counted (seat i).post) [] (Protect aim index root n (TakeAnswer link era)))) (upd v.deal i (Answered (tag_of (seat i).post index) index (link_number (seat i).post.layout root) link era i)) (protect_deals mem i (seat i).post index root (AnswerOwn first era link) v.deal) (rw h refl) (answer_own mem seat i v why aim index root steps n first era link a q h))
+    (λ h. same_deals mem seat i (protect_move index root (AnswerOwn first era link) (seat i).post) (run_turn why (seat i).desk (goes (counted (seat i).post) [] (Protect aim index root n (answer_in (read_request (mem (Request (seat i).post.seat))))))) v.deal (protect_deals mem i (seat i).post index root (AnswerOwn first era link) v.deal) (rw h refl) (find_answer mem seat i v why aim index root steps n first era link a q h))
 
 -- the tags after one of them has risen
 tag_same : (tags : List ℕ) (index x : ℕ) → index < length tags → slice_index (slice_set tags index x) index ≡ x
@@ -209,8 +200,8 @@ locals_take : (layout : Layout) (seat : ℕ → Local) (tag : ℕ → ℕ → �
     → Locals layout (upd seat i l) (upd2 tag i index (tag i index + 1)) (upd role i r)
 locals_take layout seat tag role i index l r c b t e h = record {
   tags = λ k j. upd_all seat i l (λ (n : ℕ) (a : Local). tag_of a.post j ≡ upd2 tag i index (tag i index + 1) n j)
-    (ap (λ (x : List ℕ). slice_index x j) t ∙ risen (seat i).post.tags tag i index (tag i index + 1) j (j == index) refl b (c.tags i j))
-    (λ n g. c.tags n j ∙ sym (upd2_there tag i index (tag i index + 1) n j g)) k;
+      (ap (λ (x : List ℕ). slice_index x j) t ∙ risen (seat i).post.tags tag i index (tag i index + 1) j (j == index) refl b (c.tags i j))
+      (λ n g. c.tags n j ∙ sym (upd2_there tag i index (tag i index + 1) n j g)) k;
   roles = λ k. upd_all seat i l (λ (n : ℕ) (a : Local). role_of layout a.phase ≡ upd role i r n) (e ∙ sym (upd_here role i r)) (λ n g. c.roles n ∙ sym (upd_there role i r n g)) k;
   there = λ k. upd_all seat i l (λ (n : ℕ) (a : Local). is_there layout a.phase ≡ true) h (λ n g. c.there n) k;
 }
@@ -222,10 +213,10 @@ take_keeps c v x j w l e Quiet b d q s f t = cc
 take_keeps c v x j w l e (Open t' j' w') b d q s f t = cc
 take_keeps c v x j w l e (Answered t' j' w' l' e' m') b d q s f t =
     own.takes_back-keeps c v x (v.tag x j) j w l e m' b d q
-      (let p : t' ≡ v.tag x j = grind (arith, nat_tests) in let r : j' ≡ j = grind (arith, nat_tests) in let y : w' ≡ w = grind (arith, nat_tests) in let z : l' ≡ l = grind (arith, nat_tests) in let k : e' ≡ e = grind (arith, nat_tests) in cc)
+    (let p : t' ≡ v.tag x j = grind (arith, nat_tests) in let r : j' ≡ j = grind (arith, nat_tests) in let y : w' ≡ w = grind (arith, nat_tests) in let z : l' ≡ l = grind (arith, nat_tests) in let k : e' ≡ e = grind (arith, nat_tests) in cc)
 take_keeps c v x j w l e (Passed t' j' w' l' e') b d q s f t =
     own.takes_over-keeps c v x (v.tag x j) j w l e b d q
-      (let p : t' ≡ v.tag x j = grind (arith, nat_tests) in let r : j' ≡ j = grind (arith, nat_tests) in let y : w' ≡ w = grind (arith, nat_tests) in let z : l' ≡ l = grind (arith, nat_tests) in let k : e' ≡ e = grind (arith, nat_tests) in cc)
+    (let p : t' ≡ v.tag x j = grind (arith, nat_tests) in let r : j' ≡ j = grind (arith, nat_tests) in let y : w' ≡ w = grind (arith, nat_tests) in let z : l' ≡ l = grind (arith, nat_tests) in let k : e' ≡ e = grind (arith, nat_tests) in cc)
 take_keeps c v x j w l e (Taken t' j' w' l' e') b d q s f t = cc
 
 -- the tags of the post once its row stands
@@ -252,27 +243,31 @@ take_answer mem seat i v why aim index root steps n link era a q =
     let g = inside mem seat i v why aim index root steps (TakeAnswer link era) a q in
     let p = own_post mem seat i v a in
     let k = raised_held (counted (seat i).post) index root link (tag_of (seat i).post index + 1) in
-    let t : v.tag i index ≡ tag_of (seat i).post index = sym (a.facts.locals.tags i index) in
-    (record v { era = upd2 v.era i index era; mark = upd2 v.mark i index (v.tag i index + 1); tag = upd2 v.tag i index (v.tag i index + 1); deal = upd v.deal i (Taken (v.tag i index) index (link_number (seat i).post.layout root) link era); role = upd v.role i (roles.Took index (link_number (seat i).post.layout root) link era) },
-     record { facts = record {
-       words = words_deal (put mem (Index (seat i).post.seat index) (halves era (tag_of (seat i).post index + 1))) v.clock v.helper (upd2 v.era i index era) (upd2 v.mark i index (v.tag i index + 1)) v.deal i (Taken (v.tag i index) index (link_number (seat i).post.layout root) link era)
-         (words_index mem v.clock v.helper v.era v.mark v.deal i (seat i).post.seat index era (v.tag i index + 1) (halves era (tag_of (seat i).post index + 1)) a.facts.words a.number (ap (λ (x : ℕ). halves era (x + 1)) (sym t)))
-         (own_answered index (link_number (seat i).post.layout root) link era (v.deal i) f);
-       locals = locals_take (seat i).post.layout seat v.tag v.role i index (settled (seat i) (run_turn why (seat i).desk (protect_turn aim index root n (TakeAnswer link era) (counted (seat i).post) 0))) (roles.Took index (link_number (seat i).post.layout root) link era) a.facts.locals
-         (grind (arith, nat_tests, a.eight, b.indexes, g))
-         (k ∙ ap (λ (x : ℕ). slice_set (seat i).post.tags index (x + 1)) (sym t)) refl refl;
-       parts = take_keeps (seat i).post.layout.config v i index (link_number (seat i).post.layout root) link era (v.deal i) a.below a.facts.parts r refl f (a.facts.parts.tags i);
-     }; deal = ap (λ (x : ℕ). upd v.deal i (Taken x index (link_number (seat i).post.layout root) link era)) t })
+    let t : v.tag i index ≡ tag_of (seat i).post index = sym (a.facts.locals.tags i index) in (
+      record v { era = upd2 v.era i index era; mark = upd2 v.mark i index (v.tag i index + 1); tag = upd2 v.tag i index (v.tag i index + 1); deal = upd v.deal i (Taken (v.tag i index) index (link_number (seat i).post.layout root) link era); role = upd v.role i (roles.Took index (link_number (seat i).post.layout root) link era) },
+      record {
+        facts = record {
+          words = words_deal (put mem (Index (seat i).post.seat index) (halves era (tag_of (seat i).post index + 1))) v.clock v.helper (upd2 v.era i index era) (upd2 v.mark i index (v.tag i index + 1)) v.deal i (Taken (v.tag i index) index (link_number (seat i).post.layout root) link era)
+              (words_index mem v.clock v.helper v.era v.mark v.deal i (seat i).post.seat index era (v.tag i index + 1) (halves era (tag_of (seat i).post index + 1)) a.facts.words a.number (ap (λ (x : ℕ). halves era (x + 1)) (sym t)))
+              (own_answered index (link_number (seat i).post.layout root) link era (v.deal i) f);
+          locals = locals_take (seat i).post.layout seat v.tag v.role i index (settled (seat i) (run_turn why (seat i).desk (protect_turn aim index root n (TakeAnswer link era) (counted (seat i).post) 0))) (roles.Took index (link_number (seat i).post.layout root) link era) a.facts.locals
+              (grind (arith, nat_tests, a.eight, b.indexes, g))
+              (k ∙ ap (λ (x : ℕ). slice_set (seat i).post.tags index (x + 1)) (sym t)) refl refl;
+          parts = take_keeps (seat i).post.layout.config v i index (link_number (seat i).post.layout root) link era (v.deal i) a.below a.facts.parts r refl f (a.facts.parts.tags i);
+        };
+        deal = ap (λ (x : ℕ). upd v.deal i (Taken x index (link_number (seat i).post.layout root) link era)) t;
+      },
+    )
 
 -- 9. The own request is withdrawn.
 pub withdraw_request : (mem : Place → ℕ) (seat : ℕ → Local) (i : ℕ) (v : View) (why : Why) (aim : Aim) (index : ℕ) (root : Root) (steps n link era : ℕ) → At mem seat i v → (seat i).phase ≡ Runs why (Protect aim index root steps (WithdrawRequest link era))
     → Made mem seat i (protect_move index root (WithdrawRequest link era) (seat i).post) (run_turn why (seat i).desk (protect_turn aim index root n (WithdrawRequest link era) (counted (seat i).post) 0)) (upd v.deal i Quiet)
 withdraw_request mem seat i v why aim index root steps n link era a q =
     go mem seat i v (protect_move index root (WithdrawRequest link era) (seat i).post) why [] (Protect aim index root n (WithdrawHelper link era)) (roles.Leaves index link era)
-      (record v { deal = upd v.deal i Quiet; role = upd v.role i (roles.Leaves index link era) }) a
-      refl refl refl refl
-      (words_request mem v.clock v.helper v.era v.mark v.deal i (seat i).post.seat 0 Quiet a.facts.words a.number refl)
-      (own.withdraws-keeps (seat i).post.layout.config v i index (link_number (seat i).post.layout root) link era a.below a.facts.parts (stands_in mem seat i v (Runs why (Protect aim index root steps (WithdrawRequest link era))) a q))
+    (record v { deal = upd v.deal i Quiet; role = upd v.role i (roles.Leaves index link era) }) a
+    refl refl refl refl
+    (words_request mem v.clock v.helper v.era v.mark v.deal i (seat i).post.seat 0 Quiet a.facts.words a.number refl)
+    (own.withdraws-keeps (seat i).post.layout.config v i index (link_number (seat i).post.layout root) link era a.below a.facts.parts (stands_in mem seat i v (Runs why (Protect aim index root steps (WithdrawRequest link era))) a q))
 
 -- 10. The own helper word is withdrawn.
 pub withdraw_helper : {Q : Post → Type 0} {P : Post → Phase → Type 0} (mem : Place → ℕ) (seat : ℕ → Local) (i : ℕ) (v : View) (why : Why) (aim : Aim) (index : ℕ) (root : Root) (steps n link era : ℕ) → At mem seat i v → (seat i).phase ≡ Runs why (Protect aim index root steps (WithdrawHelper link era))
@@ -280,8 +275,8 @@ pub withdraw_helper : {Q : Post → Type 0} {P : Post → Phase → Type 0} (mem
     → Made mem seat i (protect_move index root (WithdrawHelper link era) (seat i).post) (run_turn why (seat i).desk (protect_turn aim index root n (WithdrawHelper link era) (counted (seat i).post) 0)) v.deal
 withdraw_helper mem seat i v why aim index root steps n link era a q m =
     rest mem seat i v (protect_move index root (WithdrawHelper link era) (seat i).post) why (protect_turn aim index root n (WithdrawHelper link era) (counted (seat i).post) 0)
-      (record v { helper = upd v.helper i 0; role = upd v.role i roles.Away }) a
-      (concluded_rests (seat i).post.layout (seat i).post.tags why aim index root n link era (counted (seat i).post) (reserves_helper (counted (seat i).post) 0) (own_post mem seat i v a) m)
-      refl refl
-      (words_helper mem v.clock v.helper v.era v.mark v.deal i (seat i).post.seat 0 0 a.facts.words a.number (sym no_halves))
-      (own.leaves-keeps (seat i).post.layout.config v i index link era a.below a.facts.parts (stands_in mem seat i v (Runs why (Protect aim index root steps (WithdrawHelper link era))) a q))
+    (record v { helper = upd v.helper i 0; role = upd v.role i roles.Away }) a
+    (concluded_rests (seat i).post.layout (seat i).post.tags why aim index root n link era (counted (seat i).post) (reserves_helper (counted (seat i).post) 0) (own_post mem seat i v a) m)
+    refl refl
+    (words_helper mem v.clock v.helper v.era v.mark v.deal i (seat i).post.seat 0 0 a.facts.words a.number (sym no_halves))
+    (own.leaves-keeps (seat i).post.layout.config v i index link era a.below a.facts.parts (stands_in mem seat i v (Runs why (Protect aim index root steps (WithdrawHelper link era))) a q))

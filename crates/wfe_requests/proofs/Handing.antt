@@ -1,64 +1,52 @@
 -- A mover answers a request, hands its answer over, and exchanges the clock.
-use Rattle.std.proofs.Common.{ℕ, ◌≡◌, ◌≤◌, ◌<◌, ◌+◌, ◌^◌, Bool, true, false, List, [], arith, refl, sym, ap, subst, ◌∙◌}
+use Rattle.std.proofs.Common.{ℕ, ◌≡◌, ◌≤◌, ◌<◌, ◌+◌, ◌^◌, Bool, true, false, [], arith, refl, sym, ap, ◌∙◌}
 use Rattle.std.proofs.lemmas.Bool.Decides.{nat_tests}
-use Rattle.std.specs.Prelude.{◌==◌, ◌&&◌, nat_lt, nat_le, if◌then◌else◌, Option, Some, None}
-use Rattle.wfe_words.specs.Place.{Place, has}
-use Rattle.wfe_words.specs.Place.Place.{Clock, Helper, Index, Request}
+use Rattle.std.specs.Prelude.{◌==◌, ◌&&◌, nat_lt, if◌then◌else◌}
+use Rattle.wfe_words.specs.Place.{Place}
+use Rattle.wfe_words.specs.Place.Place.{Clock, Index, Request}
 use Rattle.wfe_words.specs.Packed.{halves}
-use Rattle.wfe_defs.specs.declared.event.Event.{Event}
 use Rattle.wfe_defs.specs.declared.event.Root.{Root}
 use Rattle.wfe_core.specs.declared.post.Post.{Post}
-use Rattle.wfe_core.specs.Links.{link_place, link_number}
+use Rattle.wfe_core.specs.Links.{link_number}
 use Rattle.wfe_core.specs.Memory.{upd, written, put}
 use Rattle.wfe_core.specs.Memory as memory
-use Rattle.wfe_core.specs.Posts.{counted, tag_of}
-use Rattle.wfe_core.specs.Phases.{Aim, Tries, Endless, Failed, ProtectAt, MoveAt, Base, Turn, goes, ends}
-use Rattle.wfe_core.specs.Calls.{Why, Phase, Idle, Runs, CallTurn}
+use Rattle.wfe_core.specs.Posts.{counted}
+use Rattle.wfe_core.specs.Phases.{Turn, goes, ends}
+use Rattle.wfe_core.specs.Calls.{Why, Phase, Runs}
 use Rattle.wfe_core.specs.Steps.{run_turn}
 use Rattle.wfe_core.specs.Locals.{Local}
-use Rattle.wfe_core.specs.Machine.{protect_move, protect_turn, move_move, move_turn, base_move, after}
+use Rattle.wfe_core.specs.Machine.{move_move, move_turn}
 use Rattle.wfe_eras.specs.Frame.{Moves}
 use Rattle.std.specs.Prelude.{◌||◌, ◌∷◌}
 use Rattle.wfe_words.specs.declared.packed.Reservation.{Reservation}
 use Rattle.wfe_defs.specs.declared.event.Event.TheVariants as events
 use Rattle.wfe_defs.specs.declared.event.Guard.TheVariants as guards
 use Rattle.wfe_core.specs.Guards.{one_era}
-use Rattle.wfe_words.specs.Packed.{read_request, read_reservation, pending_word, answered_word}
-use Rattle.wfe_words.specs.declared.config.Config.{Config}
-use Rattle.wfe_words.specs.declared.layout.Layout.{Layout}
-use Rattle.wfe_words.specs.declared.packed.Request.TheVariants as requests
-use Rattle.wfe_words.proofs.Parts.{halves_one, pending_some, pending≢answered, pending_one, read_request-pending, read_request-answered, read_reservation-halves}
+use Rattle.wfe_words.specs.Packed.{read_reservation, pending_word, answered_word}
+use Rattle.wfe_words.proofs.Parts.{halves_one, pending_some, pending≢answered, pending_one, read_reservation-halves}
 use Rattle.wfe_core.proofs.Ranges.{bounds_of}
-use Rattle.wfe_core.proofs.Roots.{root_at-number}
-use Rattle.wfe_core.specs.Links.{root_at}
 use Rattle.wfe_core.specs.Memory.{Move}
-use Rattle.wfe_core.specs.Phases.MoveAt.{LoadEra, LoadRequest, ShowEra, LoadAsked, CheckEra, AnswerAsked, LoadReserved, HandOver, HideEra, HideLate, ExchangeClock}
-use Rattle.wfe_core.specs.Phases.ProtectAt.{LoadClock, PublishEra, LoadLink, CheckClock, PublishRequest, LoadOwnClock, PublishHelper, LoadOwnLink, CheckOwnClock, AnswerOwn, LoadAnswer, TakeAnswer, WithdrawRequest, WithdrawHelper, LoadWithin, CheckUpper, RaiseUpper}
+use Rattle.wfe_core.specs.Phases.MoveAt.{AnswerAsked, LoadReserved, HandOver, HideEra, HideLate, ExchangeClock}
 use Rattle.wfe_core.specs.Phases.{Base as bases}
-use Rattle.wfe_core.specs.Calls.{Scans, Works}
 use Rattle.wfe_core.specs.Phases.Ending.{Clocked}
 use Rattle.wfe_defs.specs.declared.call.ClockMove.TheVariants as moves
-use Rattle.wfe_core.specs.Posts.{helper_word, reserves_helper}
+use Rattle.wfe_core.specs.Posts.{reserves_helper}
 use Rattle.wfe_core.specs.SlowPath.{asking}
 use Rattle.wfe_core.specs.MoveClock.{next_request, after_hand_over}
-use Rattle.wfe_eras.specs.Seats.{is_wfe, agree}
-use Rattle.wfe_requests.specs.Views.{View, Deal, Role, upd2}
+use Rattle.wfe_requests.specs.Views.{View, Deal, upd2}
 use Rattle.wfe_requests.specs.Views.Deal.{Quiet, Open, Answered, Passed, Taken}
 use Rattle.wfe_requests.specs.Views.{Role as roles}
-use Rattle.wfe_requests.specs.Deals.{is_open, ahead, gave_by}
-use Rattle.wfe_requests.specs.Roles.{in_range, spares, knows}
-use Rattle.wfe_requests.specs.Parts.{Parts}
-use Rattle.wfe_requests.specs.Standing.{move_role, role_of, asked_there, is_there, request_of, Words}
-use Rattle.wfe_requests.specs.NextDeals.{protect_deals, move_deals, base_deals, phase_deals}
+use Rattle.wfe_requests.specs.Deals.{ahead, gave_by}
+use Rattle.wfe_requests.specs.Standing.{request_of}
+use Rattle.wfe_requests.specs.NextDeals.{move_deals}
 use Rattle.wfe_requests.specs.Turns.{PostOf, RoleOf, Made}
-use Rattle.wfe_requests.specs.Context.{At, phase_there}
-use Rattle.wfe_requests.specs.Asked.{Asker}
+use Rattle.wfe_requests.specs.Context.{At}
 use Rattle.wfe_requests.proofs.Words.{no_halves, words_deal, words_helper, words_index, words_request, words_same, words_clock, exchanged, not_exchanged}
 use Rattle.wfe_requests.proofs.Movers as mover
 use Rattle.wfe_requests.proofs.Turns.{same_deals}
-use Rattle.wfe_requests.proofs.Helping.{last_role, next_go, asker_of}
+use Rattle.wfe_requests.proofs.Helping.{next_go, asker_of}
 use Rattle.wfe_requests.proofs.Serving.{there_of}
-use Rattle.wfe_requests.proofs.Going.{test_equal, equal_test, by_test, either, same_role, stands_in, own_post, link_few, go, rest}
+use Rattle.wfe_requests.proofs.Going.{test_equal, equal_test, by_test, either, stands_in, own_post, link_few, go, rest}
 
 -- the numbers of a request that a mover holds fit their bits
 pub record Bits (tag index word : ℕ) : Type 0 where
@@ -96,22 +84,22 @@ answer_asked mem seat i v why e k t j root link a q =
     let r = stands_in mem seat i v (Runs why (bases.Move (AnswerAsked e k t j root link))) a q in
     let b = asked_bits mem seat i v e k t j (link_number (seat i).post.layout root) a (rw r at (a.facts.parts.whom i)) (rw r at (a.facts.parts.spare i)) (rw r at (a.facts.parts.eras i)) in
     by_test (mem (Request k) == asking (seat i).post.layout t j root) (goes (counted (seat i).post) [] (bases.Move (LoadReserved e k t j root link))) (goes (counted (seat i).post) [] (bases.Move (next_request (counted (seat i).post) e k true)))
-      (λ (x : Turn). Made mem seat i (move_move (AnswerAsked e k t j root link) (seat i).post) (run_turn why (seat i).desk x) (move_deals mem i (seat i).post (AnswerAsked e k t j root link) v.deal))
-      (λ h.
-        let o = open_exact mem seat i v k t j (link_number (seat i).post.layout root) (v.deal k) a b refl (sym (a.facts.words.requests k) ∙ test_equal (mem (Request k)) (asking (seat i).post.layout t j root) h) in
-        same_deals mem seat i (move_move (AnswerAsked e k t j root link) (seat i).post) (run_turn why (seat i).desk (goes (counted (seat i).post) [] (bases.Move (LoadReserved e k t j root link)))) (upd v.deal k (Answered t j (link_number (seat i).post.layout root) link e i)) (move_deals mem i (seat i).post (AnswerAsked e k t j root link) v.deal) (rw h refl) (go mem seat i v (move_move (AnswerAsked e k t j root link) (seat i).post) why [] (bases.Move (LoadReserved e k t j root link)) (roles.Reads e k t j (link_number (seat i).post.layout root) link)
-        (record v { deal = upd v.deal k (Answered t j (link_number (seat i).post.layout root) link e i); role = upd v.role i (roles.Reads e k t j (link_number (seat i).post.layout root) link) }) a
-        refl (there_of mem seat i v why (AnswerAsked e k t j root link) a q) refl refl
-        (words_request mem v.clock v.helper v.era v.mark v.deal k k (if mem (Request k) == asking (seat i).post.layout t j root then answered_word link e else mem (Request k)) (Answered t j (link_number (seat i).post.layout root) link e i) a.facts.words refl
-          (exchanged (mem (Request k)) (asking (seat i).post.layout t j root) (answered_word link e) h))
-        (mover.helps-keeps (seat i).post.layout.config v i e k t j (link_number (seat i).post.layout root) link a.below a.facts.parts r o)))
-      (λ h.
-        let n = not_open b h in
-        same_deals mem seat i (move_move (AnswerAsked e k t j root link) (seat i).post) (run_turn why (seat i).desk (goes (counted (seat i).post) [] (bases.Move (next_request (counted (seat i).post) e k true)))) v.deal (move_deals mem i (seat i).post (AnswerAsked e k t j root link) v.deal) (rw h refl) (next_go mem seat i v (move_move (AnswerAsked e k t j root link) (seat i).post) why [] e k true (next_request (counted (seat i).post) e k true) v a refl refl
-        (words_same mem v.clock v.helper v.era v.mark v.deal (Request k) (if mem (Request k) == asking (seat i).post.layout t j root then answered_word link e else mem (Request k)) a.facts.words
-          (not_exchanged (mem (Request k)) (asking (seat i).post.layout t j root) (answered_word link e) h))
-        (mover.helps_not_next-keeps (seat i).post.layout.config v i e k t j (link_number (seat i).post.layout root) link a.below a.facts.parts r n)
-        (mover.helps_not_last-keeps (seat i).post.layout.config v i e k t j (link_number (seat i).post.layout root) link a.below a.facts.parts r n)))
+    (λ (x : Turn). Made mem seat i (move_move (AnswerAsked e k t j root link) (seat i).post) (run_turn why (seat i).desk x) (move_deals mem i (seat i).post (AnswerAsked e k t j root link) v.deal))
+    (λ h.
+    let o = open_exact mem seat i v k t j (link_number (seat i).post.layout root) (v.deal k) a b refl (sym (a.facts.words.requests k) ∙ test_equal (mem (Request k)) (asking (seat i).post.layout t j root) h) in
+    same_deals mem seat i (move_move (AnswerAsked e k t j root link) (seat i).post) (run_turn why (seat i).desk (goes (counted (seat i).post) [] (bases.Move (LoadReserved e k t j root link)))) (upd v.deal k (Answered t j (link_number (seat i).post.layout root) link e i)) (move_deals mem i (seat i).post (AnswerAsked e k t j root link) v.deal) (rw h refl) (go mem seat i v (move_move (AnswerAsked e k t j root link) (seat i).post) why [] (bases.Move (LoadReserved e k t j root link)) (roles.Reads e k t j (link_number (seat i).post.layout root) link)
+    (record v { deal = upd v.deal k (Answered t j (link_number (seat i).post.layout root) link e i); role = upd v.role i (roles.Reads e k t j (link_number (seat i).post.layout root) link) }) a
+    refl (there_of mem seat i v why (AnswerAsked e k t j root link) a q) refl refl
+    (words_request mem v.clock v.helper v.era v.mark v.deal k k (if mem (Request k) == asking (seat i).post.layout t j root then answered_word link e else mem (Request k)) (Answered t j (link_number (seat i).post.layout root) link e i) a.facts.words refl
+    (exchanged (mem (Request k)) (asking (seat i).post.layout t j root) (answered_word link e) h))
+    (mover.helps-keeps (seat i).post.layout.config v i e k t j (link_number (seat i).post.layout root) link a.below a.facts.parts r o)))
+    (λ h.
+    let n = not_open b h in
+    same_deals mem seat i (move_move (AnswerAsked e k t j root link) (seat i).post) (run_turn why (seat i).desk (goes (counted (seat i).post) [] (bases.Move (next_request (counted (seat i).post) e k true)))) v.deal (move_deals mem i (seat i).post (AnswerAsked e k t j root link) v.deal) (rw h refl) (next_go mem seat i v (move_move (AnswerAsked e k t j root link) (seat i).post) why [] e k true (next_request (counted (seat i).post) e k true) v a refl refl
+    (words_same mem v.clock v.helper v.era v.mark v.deal (Request k) (if mem (Request k) == asking (seat i).post.layout t j root then answered_word link e else mem (Request k)) a.facts.words
+    (not_exchanged (mem (Request k)) (asking (seat i).post.layout t j root) (answered_word link e) h))
+    (mover.helps_not_next-keeps (seat i).post.layout.config v i e k t j (link_number (seat i).post.layout root) link a.below a.facts.parts r n)
+    (mover.helps_not_last-keeps (seat i).post.layout.config v i e k t j (link_number (seat i).post.layout root) link a.below a.facts.parts r n)))
   where
     not_open : Bits t j (link_number (seat i).post.layout root) → (mem (Request k) == asking (seat i).post.layout t j root) ≡ false → v.deal k ≡ Open t j (link_number (seat i).post.layout root) → ⊥
     not_open b h o = let g : (mem (Request k) == asking (seat i).post.layout t j root) ≡ true = equal_test (mem (Request k)) (asking (seat i).post.layout t j root) (a.facts.words.requests k ∙ ap request_of o) in cc
@@ -140,14 +128,14 @@ load_reserved mem seat i v why e k t j root link a q =
     let y : (read_reservation (mem (Index k j))).tag ≡ v.mark k j = ap (λ (s : Reservation). s.tag) x in
     let z : (read_reservation (mem (Index k j))).era ≡ v.era k j = ap (λ (s : Reservation). s.era) x in
     by_test ((read_reservation (mem (Index k j))).tag == t) (goes (counted (seat i).post) [] (bases.Move (HandOver e k t j root link (read_reservation (mem (Index k j))).era))) (goes (counted (seat i).post) [] (bases.Move (next_request (counted (seat i).post) e k true)))
-      (λ (n : Turn). Made mem seat i (memory.Load (Index k j)) (run_turn why (seat i).desk n) v.deal)
-      (λ h. go mem seat i v (memory.Load (Index k j)) why [] (bases.Move (HandOver e k t j root link (read_reservation (mem (Index k j))).era)) (roles.Hands e k t j (link_number (seat i).post.layout root) link (v.era k j))
-        (record v { role = upd v.role i (roles.Hands e k t j (link_number (seat i).post.layout root) link (v.era k j)) }) a
-        (ap (roles.Hands e k t j (link_number (seat i).post.layout root) link) z) (there_of mem seat i v why (LoadReserved e k t j root link) a q) refl refl a.facts.words
-        (mover.reads-keeps (seat i).post.layout.config v i e k t j (link_number (seat i).post.layout root) link a.below a.facts.parts r (rw y at h)))
-      (λ h. next_go mem seat i v (memory.Load (Index k j)) why [] e k true (next_request (counted (seat i).post) e k true) v a refl refl a.facts.words
-        (mover.reads_not_next-keeps (seat i).post.layout.config v i e k t j (link_number (seat i).post.layout root) link a.below a.facts.parts r (rw y at h))
-        (mover.reads_not_last-keeps (seat i).post.layout.config v i e k t j (link_number (seat i).post.layout root) link a.below a.facts.parts r (rw y at h)))
+    (λ (n : Turn). Made mem seat i (memory.Load (Index k j)) (run_turn why (seat i).desk n) v.deal)
+    (λ h. go mem seat i v (memory.Load (Index k j)) why [] (bases.Move (HandOver e k t j root link (read_reservation (mem (Index k j))).era)) (roles.Hands e k t j (link_number (seat i).post.layout root) link (v.era k j))
+    (record v { role = upd v.role i (roles.Hands e k t j (link_number (seat i).post.layout root) link (v.era k j)) }) a
+    (ap (roles.Hands e k t j (link_number (seat i).post.layout root) link) z) (there_of mem seat i v why (LoadReserved e k t j root link) a q) refl refl a.facts.words
+    (mover.reads-keeps (seat i).post.layout.config v i e k t j (link_number (seat i).post.layout root) link a.below a.facts.parts r (rw y at h)))
+    (λ h. next_go mem seat i v (memory.Load (Index k j)) why [] e k true (next_request (counted (seat i).post) e k true) v a refl refl a.facts.words
+    (mover.reads_not_next-keeps (seat i).post.layout.config v i e k t j (link_number (seat i).post.layout root) link a.below a.facts.parts r (rw y at h))
+    (mover.reads_not_last-keeps (seat i).post.layout.config v i e k t j (link_number (seat i).post.layout root) link a.below a.facts.parts r (rw y at h)))
 
 -- who gave an answer, by the test
 gave_is : (t j w l e m : ℕ) (d : Deal) → gave_by t j w l e m d ≡ true → d ≡ Answered t j w l e m
@@ -173,21 +161,21 @@ hand_over mem seat i v why e k t j root link old a q h =
     let f : (nat_lt t (v.tag k j) || (gave_by t j (link_number (seat i).post.layout root) link e i (v.deal k) && v.era k j == old)) ≡ true = rw r at (a.facts.parts.known i) in
     let o = gave_is t j (link_number (seat i).post.layout root) link e i (v.deal k) (grind (arith, nat_tests, a.facts.parts.marks k j)) in
     next_go mem seat i v (move_move (HandOver e k t j root link old) (seat i).post) why (events.Reserve (guards.Index k j) (one_era e) ∷ []) e k true (next_request (counted (seat i).post) e k true)
-      (record v { era = upd2 v.era k j e; mark = upd2 v.mark k j (t + 1); deal = upd v.deal k (Passed t j (link_number (seat i).post.layout root) link e) }) a refl refl
-      (words_deal (put mem (Index k j) (if mem (Index k j) == halves old t then halves e (t + 1) else mem (Index k j))) v.clock v.helper (upd2 v.era k j e) (upd2 v.mark k j (t + 1)) v.deal k (Passed t j (link_number (seat i).post.layout root) link e)
-        (words_index mem v.clock v.helper v.era v.mark v.deal k k j e (t + 1) (if mem (Index k j) == halves old t then halves e (t + 1) else mem (Index k j)) a.facts.words refl (exchanged (mem (Index k j)) (halves old t) (halves e (t + 1)) h))
-        (ap request_of o))
-      (mover.hands_next-keeps (seat i).post.layout.config v i e k t j (link_number (seat i).post.layout root) link old a.below a.facts.parts r o)
-      (mover.hands_last-keeps (seat i).post.layout.config v i e k t j (link_number (seat i).post.layout root) link old a.below a.facts.parts r o)
+    (record v { era = upd2 v.era k j e; mark = upd2 v.mark k j (t + 1); deal = upd v.deal k (Passed t j (link_number (seat i).post.layout root) link e) }) a refl refl
+    (words_deal (put mem (Index k j) (if mem (Index k j) == halves old t then halves e (t + 1) else mem (Index k j))) v.clock v.helper (upd2 v.era k j e) (upd2 v.mark k j (t + 1)) v.deal k (Passed t j (link_number (seat i).post.layout root) link e)
+    (words_index mem v.clock v.helper v.era v.mark v.deal k k j e (t + 1) (if mem (Index k j) == halves old t then halves e (t + 1) else mem (Index k j)) a.facts.words refl (exchanged (mem (Index k j)) (halves old t) (halves e (t + 1)) h))
+    (ap request_of o))
+    (mover.hands_next-keeps (seat i).post.layout.config v i e k t j (link_number (seat i).post.layout root) link old a.below a.facts.parts r o)
+    (mover.hands_last-keeps (seat i).post.layout.config v i e k t j (link_number (seat i).post.layout root) link old a.below a.facts.parts r o)
 
 hand_late : (mem : Place → ℕ) (seat : ℕ → Local) (i : ℕ) (v : View) (why : Why) (e k t j : ℕ) (root : Root) (link old : ℕ) → At mem seat i v → (seat i).phase ≡ Runs why (bases.Move (HandOver e k t j root link old)) → (mem (Index k j) == halves old t) ≡ false
     → Made mem seat i (move_move (HandOver e k t j root link old) (seat i).post) (run_turn why (seat i).desk (after_hand_over e k t j old (counted (seat i).post) false)) v.deal
 hand_late mem seat i v why e k t j root link old a q h =
     let r = stands_in mem seat i v (Runs why (bases.Move (HandOver e k t j root link old))) a q in
     next_go mem seat i v (move_move (HandOver e k t j root link old) (seat i).post) why [] e k true (next_request (counted (seat i).post) e k true) v a refl refl
-      (words_same mem v.clock v.helper v.era v.mark v.deal (Index k j) (if mem (Index k j) == halves old t then halves e (t + 1) else mem (Index k j)) a.facts.words (not_exchanged (mem (Index k j)) (halves old t) (halves e (t + 1)) h))
-      (mover.hands_not_next-keeps (seat i).post.layout.config v i e k t j (link_number (seat i).post.layout root) link old a.below a.facts.parts r moved_on)
-      (mover.hands_not_last-keeps (seat i).post.layout.config v i e k t j (link_number (seat i).post.layout root) link old a.below a.facts.parts r moved_on)
+    (words_same mem v.clock v.helper v.era v.mark v.deal (Index k j) (if mem (Index k j) == halves old t then halves e (t + 1) else mem (Index k j)) a.facts.words (not_exchanged (mem (Index k j)) (halves old t) (halves e (t + 1)) h))
+    (mover.hands_not_next-keeps (seat i).post.layout.config v i e k t j (link_number (seat i).post.layout root) link old a.below a.facts.parts r moved_on)
+    (mover.hands_not_last-keeps (seat i).post.layout.config v i e k t j (link_number (seat i).post.layout root) link old a.below a.facts.parts r moved_on)
   where
     moved_on : v.mark k j ≡ t → v.era k j ≡ old → ⊥
     moved_on x y = let g : (mem (Index k j) == halves old t) ≡ true = equal_test (mem (Index k j)) (halves old t) (a.facts.words.indexes k j ∙ ap (halves (v.era k j)) x ∙ ap (λ (n : ℕ). halves n t) y) in cc
@@ -205,18 +193,18 @@ pub hide_era : (mem : Place → ℕ) (seat : ℕ → Local) (i : ℕ) (v : View)
     → Made mem seat i (move_move (HideEra e) (seat i).post) (run_turn why (seat i).desk (move_turn (HideEra e) (counted (seat i).post) 0)) v.deal
 hide_era mem seat i v why e a q =
     go mem seat i v (move_move (HideEra e) (seat i).post) why (reserves_helper (counted (seat i).post) 0) (bases.Move (ExchangeClock e)) (roles.Moves e) (record v { helper = upd v.helper i 0; role = upd v.role i (roles.Moves e) }) a
-      refl refl refl refl
-      (words_helper mem v.clock v.helper v.era v.mark v.deal i (seat i).post.seat 0 0 a.facts.words a.number (sym no_halves))
-      (mover.hides-keeps (seat i).post.layout.config v i e a.below a.facts.parts (stands_in mem seat i v (Runs why (bases.Move (HideEra e))) a q))
+    refl refl refl refl
+    (words_helper mem v.clock v.helper v.era v.mark v.deal i (seat i).post.seat 0 0 a.facts.words a.number (sym no_halves))
+    (mover.hides-keeps (seat i).post.layout.config v i e a.below a.facts.parts (stands_in mem seat i v (Runs why (bases.Move (HideEra e))) a q))
 
 pub hide_late : {Q : Post → Type 0} {P : Post → Phase → Type 0} (mem : Place → ℕ) (seat : ℕ → Local) (i : ℕ) (v : View) (why : Why) (seen : ℕ) → At mem seat i v → (seat i).phase ≡ Runs why (bases.Move (HideLate seen))
     → Moves Q P why (move_turn (HideLate seen) (counted (seat i).post) 0)
     → Made mem seat i (move_move (HideLate seen) (seat i).post) (run_turn why (seat i).desk (move_turn (HideLate seen) (counted (seat i).post) 0)) v.deal
 hide_late mem seat i v why seen a q m =
     rest mem seat i v (move_move (HideLate seen) (seat i).post) why (move_turn (HideLate seen) (counted (seat i).post) 0) (record v { helper = upd v.helper i 0; role = upd v.role i roles.Away }) a
-      (record { post = own_post mem seat i v a; phase = m.phase }) refl refl
-      (words_helper mem v.clock v.helper v.era v.mark v.deal i (seat i).post.seat 0 0 a.facts.words a.number (sym no_halves))
-      (mover.hides_late-keeps (seat i).post.layout.config v i a.below a.facts.parts (stands_in mem seat i v (Runs why (bases.Move (HideLate seen))) a q))
+    (record { post = own_post mem seat i v a; phase = m.phase }) refl refl
+    (words_helper mem v.clock v.helper v.era v.mark v.deal i (seat i).post.seat 0 0 a.facts.words a.number (sym no_halves))
+    (mover.hides_late-keeps (seat i).post.layout.config v i a.below a.facts.parts (stands_in mem seat i v (Runs why (bases.Move (HideLate seen))) a q))
 
 -- 10. The clock is exchanged.
 pub exchange_clock : {Q : Post → Type 0} {P : Post → Phase → Type 0} (mem : Place → ℕ) (seat : ℕ → Local) (i : ℕ) (v : View) (why : Why) (e : ℕ) → At mem seat i v → (seat i).phase ≡ Runs why (bases.Move (ExchangeClock e))
@@ -225,22 +213,22 @@ pub exchange_clock : {Q : Post → Type 0} {P : Post → Phase → Type 0} (mem 
 exchange_clock {Q} {P} mem seat i v why e a q m =
     let r = stands_in mem seat i v (Runs why (bases.Move (ExchangeClock e))) a q in
     either (mem Clock == e) (Made mem seat i (move_move (ExchangeClock e) (seat i).post) (run_turn why (seat i).desk (move_turn (ExchangeClock e) (counted (seat i).post) (mem Clock))) v.deal)
-      (λ h. let s : v.clock ≡ e = sym a.facts.words.clocks ∙ test_equal (mem Clock) e h in
-        rest mem seat i v (move_move (ExchangeClock e) (seat i).post) why (move_turn (ExchangeClock e) (counted (seat i).post) (mem Clock)) (record v { clock = v.clock + 1; role = upd v.role i roles.Away }) a
-        (ends_move m) refl refl
-        (let u = words_clock mem v.clock v.helper v.era v.mark v.deal (if mem Clock == e then e + 1 else mem Clock) a.facts.words in
-          let x : (if mem Clock == e then e + 1 else mem Clock) ≡ v.clock + 1 = exchanged (mem Clock) e (e + 1) h ∙ ap (λ (n : ℕ). n + 1) (sym s) in
-          record { clocks = x; helpers = u.helpers; indexes = u.indexes; requests = u.requests })
-        (mover.moves-keeps (seat i).post.layout.config v i e a.below a.facts.parts r (equal_test v.clock e s)))
-      (λ h. rest mem seat i v (move_move (ExchangeClock e) (seat i).post) why (move_turn (ExchangeClock e) (counted (seat i).post) (mem Clock)) (record v { role = upd v.role i roles.Away }) a
-        (ends_move m) refl refl
-        (words_same mem v.clock v.helper v.era v.mark v.deal Clock (if mem Clock == e then e + 1 else mem Clock) a.facts.words (not_exchanged (mem Clock) e (e + 1) h))
-        (mover.moves_not-keeps (seat i).post.layout.config v i e a.below a.facts.parts r))
+    (λ h. let s : v.clock ≡ e = sym a.facts.words.clocks ∙ test_equal (mem Clock) e h in
+    rest mem seat i v (move_move (ExchangeClock e) (seat i).post) why (move_turn (ExchangeClock e) (counted (seat i).post) (mem Clock)) (record v { clock = v.clock + 1; role = upd v.role i roles.Away }) a
+    (ends_move m) refl refl
+    (let u = words_clock mem v.clock v.helper v.era v.mark v.deal (if mem Clock == e then e + 1 else mem Clock) a.facts.words in
+    let x : (if mem Clock == e then e + 1 else mem Clock) ≡ v.clock + 1 = exchanged (mem Clock) e (e + 1) h ∙ ap (λ (n : ℕ). n + 1) (sym s) in
+    record { clocks = x; helpers = u.helpers; indexes = u.indexes; requests = u.requests })
+    (mover.moves-keeps (seat i).post.layout.config v i e a.below a.facts.parts r (equal_test v.clock e s)))
+    (λ h. rest mem seat i v (move_move (ExchangeClock e) (seat i).post) why (move_turn (ExchangeClock e) (counted (seat i).post) (mem Clock)) (record v { role = upd v.role i roles.Away }) a
+    (ends_move m) refl refl
+    (words_same mem v.clock v.helper v.era v.mark v.deal Clock (if mem Clock == e then e + 1 else mem Clock) a.facts.words (not_exchanged (mem Clock) e (e + 1) h))
+    (mover.moves_not-keeps (seat i).post.layout.config v i e a.below a.facts.parts r))
   where
     ends_move : Moves Q P why (move_turn (ExchangeClock e) (counted (seat i).post) (mem Clock)) → Moves (PostOf (seat i).post.layout (seat i).post.tags) (RoleOf (seat i).post.layout roles.Away) why (move_turn (ExchangeClock e) (counted (seat i).post) (mem Clock))
     ends_move g =
         by_test (mem Clock == e) (ends (counted (seat i).post) (events.Era (e + 1) ∷ []) (Clocked (moves.Moved (e + 1)))) (ends (counted (seat i).post) [] (Clocked (moves.Other (mem Clock))))
-          (λ (t : Turn). Moves Q P why t → Moves (PostOf (seat i).post.layout (seat i).post.tags) (RoleOf (seat i).post.layout roles.Away) why t)
-          (λ h x. record { post = own_post mem seat i v a; phase = x.phase })
-          (λ h x. record { post = own_post mem seat i v a; phase = x.phase })
-          g
+        (λ (t : Turn). Moves Q P why t → Moves (PostOf (seat i).post.layout (seat i).post.tags) (RoleOf (seat i).post.layout roles.Away) why t)
+        (λ h x. record { post = own_post mem seat i v a; phase = x.phase })
+        (λ h x. record { post = own_post mem seat i v a; phase = x.phase })
+        g

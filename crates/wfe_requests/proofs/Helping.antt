@@ -1,32 +1,23 @@
 -- The steps of a mover of the clock.
-use Rattle.std.proofs.Common.{ℕ, ◌≡◌, ◌≤◌, ◌<◌, ◌+◌, ◌^◌, Bool, true, false, List, [], arith, refl, sym, ap, subst, ◌∙◌}
+use Rattle.std.proofs.Common.{ℕ, ◌≡◌, ◌≤◌, ◌<◌, ◌+◌, Bool, true, false, List, [], arith, refl, sym, ap, ◌∙◌}
 use Rattle.std.proofs.lemmas.Bool.Decides.{nat_tests}
-use Rattle.std.specs.Prelude.{◌==◌, ◌&&◌, nat_lt, nat_le, if◌then◌else◌, Option, Some, None}
+use Rattle.std.specs.Prelude.{◌==◌, ◌&&◌, nat_lt}
 use Rattle.wfe_words.specs.Place.{Place, has}
-use Rattle.wfe_words.specs.Place.Place.{Clock, Helper, Index, Request}
-use Rattle.wfe_words.specs.Packed.{halves}
+use Rattle.wfe_words.specs.Place.Place.{Clock}
 use Rattle.wfe_defs.specs.declared.event.Event.{Event}
 use Rattle.wfe_defs.specs.declared.event.Root.{Root}
 use Rattle.wfe_core.specs.declared.post.Post.{Post}
 use Rattle.wfe_core.specs.Links.{link_place, link_number}
 use Rattle.wfe_core.specs.Memory.{upd, written, put}
 use Rattle.wfe_core.specs.Memory as memory
-use Rattle.wfe_core.specs.Posts.{counted, tag_of}
-use Rattle.wfe_core.specs.Phases.{Aim, Tries, Endless, Failed, ProtectAt, MoveAt, Base, Turn, goes, ends}
-use Rattle.wfe_core.specs.Calls.{Why, Phase, Idle, Runs, CallTurn}
+use Rattle.wfe_core.specs.Posts.{counted}
+use Rattle.wfe_core.specs.Phases.{Aim, ProtectAt, MoveAt, Base, Turn, goes, ends}
+use Rattle.wfe_core.specs.Calls.{Why, Phase, Idle, Runs}
 use Rattle.wfe_core.specs.Steps.{run_turn}
 use Rattle.wfe_core.specs.Locals.{Local}
-use Rattle.wfe_core.specs.Machine.{protect_move, protect_turn, move_move, move_turn, base_move, after}
+use Rattle.wfe_core.specs.Machine.{move_turn}
 use Rattle.wfe_eras.specs.Frame.{Moves}
-use Rattle.std.specs.Prelude.{not}
-use Rattle.wfe_words.specs.Packed.{read_request, read_reservation, pending_word, answered_word}
-use Rattle.wfe_words.specs.declared.config.Config.{Config}
 use Rattle.wfe_words.specs.declared.layout.Layout.{Layout}
-use Rattle.wfe_words.specs.declared.packed.Request.TheVariants as requests
-use Rattle.wfe_words.proofs.Parts.{halves_one, pending_some, pending≢answered, pending_one, read_request-pending, read_request-answered, read_reservation-halves}
-use Rattle.wfe_core.proofs.Ranges.{bounds_of}
-use Rattle.wfe_core.proofs.Roots.{root_at-number}
-use Rattle.wfe_core.specs.Links.{root_at}
 use Rattle.wfe_core.specs.Memory.{Move}
 use Rattle.wfe_core.specs.Phases.MoveAt.{LoadEra, LoadRequest, ShowEra, LoadAsked, CheckEra, AnswerAsked, LoadReserved, HandOver, HideEra, HideLate, ExchangeClock}
 use Rattle.wfe_core.specs.Phases.ProtectAt.{LoadClock, PublishEra, LoadLink, CheckClock, PublishRequest, LoadOwnClock, PublishHelper, LoadOwnLink, CheckOwnClock, AnswerOwn, LoadAnswer, TakeAnswer, WithdrawRequest, WithdrawHelper, LoadWithin, CheckUpper, RaiseUpper}
@@ -34,23 +25,19 @@ use Rattle.wfe_core.specs.Phases.{Base as bases}
 use Rattle.wfe_core.specs.Calls.{Scans, Works}
 use Rattle.wfe_core.specs.Phases.Ending.{Clocked}
 use Rattle.wfe_defs.specs.declared.call.ClockMove.TheVariants as moves
-use Rattle.wfe_core.specs.Posts.{helper_word, reserves_helper}
-use Rattle.wfe_core.specs.SlowPath.{asking}
-use Rattle.wfe_core.specs.MoveClock.{next_request, all_met, met, helping, moving}
+use Rattle.wfe_core.specs.MoveClock.{next_request, all_met, moving}
 use Rattle.wfe_eras.specs.Seats.{is_wfe, agree}
-use Rattle.wfe_requests.specs.Views.{View, Deal, Role, upd2}
-use Rattle.wfe_requests.specs.Views.Deal.{Quiet, Open, Answered, Passed, Taken}
+use Rattle.wfe_requests.specs.Views.{View, Role}
+use Rattle.wfe_requests.specs.Views.Deal.{Open}
 use Rattle.wfe_requests.specs.Views.{Role as roles}
-use Rattle.wfe_requests.specs.Deals.{fits, is_open, in_time, gave_by}
-use Rattle.wfe_requests.specs.Roles.{in_range, spares, knows}
+use Rattle.wfe_requests.specs.Deals.{fits}
 use Rattle.wfe_requests.specs.Parts.{Parts}
-use Rattle.wfe_requests.specs.Standing.{move_role, role_of, asked_there, is_there, request_of, Words}
-use Rattle.wfe_requests.specs.Turns.{PostOf, RoleOf, Made}
+use Rattle.wfe_requests.specs.Standing.{move_role, role_of, asked_there, Words}
+use Rattle.wfe_requests.specs.Turns.{Made}
 use Rattle.wfe_requests.specs.Context.{At, phase_there}
 use Rattle.wfe_requests.specs.Asked.{Asker}
-use Rattle.wfe_requests.proofs.Words.{no_halves, words_helper, words_index, words_request, words_same, words_clock, exchanged, not_exchanged}
 use Rattle.wfe_requests.proofs.Movers as mover
-use Rattle.wfe_requests.proofs.Going.{test_equal, equal_test, by_test, either, same_role, stands_in, own_post, link_few, go, rest}
+use Rattle.wfe_requests.proofs.Going.{by_test, either, same_role, stands_in, own_post, go, rest}
 
 -- the role once all requests were met
 abbrev pub last_role : ℕ → Bool → Role
@@ -65,16 +52,17 @@ pub next_go : (mem : Place → ℕ) (seat : ℕ → Local) (i : ℕ) (v : View) 
     → Made mem seat i m (run_turn why (seat i).desk (goes (counted (seat i).post) told (bases.Move at))) v'.deal
 next_go mem seat i v m why told e k shown at v' a q t u f g =
     either (nat_lt (k + 1) (seat i).post.layout.config.seats) (Made mem seat i m (run_turn why (seat i).desk (goes (counted (seat i).post) told (bases.Move at))) v'.deal)
-      (λ h. let s : at ≡ LoadRequest e (k + 1) shown = q ∙ rw h refl in
-        go mem seat i v m why told (bases.Move at) (roles.Meets e (k + 1) shown) (record v' { role = upd v.role i (roles.Meets e (k + 1) shown) }) a
-          (ap (move_role (seat i).post.layout) s) (ap (asked_there (seat i).post.layout) s) t refl u (f (grind (arith, nat_tests))))
-      (λ h. let s : at ≡ all_met e shown = q ∙ rw h refl in
-        go mem seat i v m why told (bases.Move at) (last_role e shown) (record v' { role = upd v.role i (last_role e shown) }) a
-          (ap (move_role (seat i).post.layout) s ∙ last_is (seat i).post.layout e shown) (ap (asked_there (seat i).post.layout) s ∙ last_there (seat i).post.layout e shown) t refl u (g (grind (arith, nat_tests))))
+    (λ h. let s : at ≡ LoadRequest e (k + 1) shown = q ∙ rw h refl in
+    go mem seat i v m why told (bases.Move at) (roles.Meets e (k + 1) shown) (record v' { role = upd v.role i (roles.Meets e (k + 1) shown) }) a
+    (ap (move_role (seat i).post.layout) s) (ap (asked_there (seat i).post.layout) s) t refl u (f (grind (arith, nat_tests))))
+    (λ h. let s : at ≡ all_met e shown = q ∙ rw h refl in
+    go mem seat i v m why told (bases.Move at) (last_role e shown) (record v' { role = upd v.role i (last_role e shown) }) a
+    (ap (move_role (seat i).post.layout) s ∙ last_is (seat i).post.layout e shown) (ap (asked_there (seat i).post.layout) s ∙ last_there (seat i).post.layout e shown) t refl u (g (grind (arith, nat_tests))))
   where
     last_is : (layout : Layout) (era : ℕ) (b : Bool) → move_role layout (all_met era b) ≡ last_role era b
     last_is layout era true = refl
     last_is layout era false = refl
+
     last_there : (layout : Layout) (era : ℕ) (b : Bool) → asked_there layout (all_met era b) ≡ true
     last_there layout era true = refl
     last_there layout era false = refl
@@ -85,23 +73,23 @@ pub load_era : {Q : Post → Type 0} {P : Post → Phase → Type 0} (mem : Plac
     → Made mem seat i (memory.Load Clock) (run_turn why (seat i).desk (move_turn (LoadEra helps) (counted (seat i).post) (mem Clock))) v.deal
 load_era {Q} {P} mem seat i v why helps a q f m =
     by_test (mem Clock == (seat i).post.layout.config.last_era) (ends (counted (seat i).post) [] (Clocked (moves.EraSpent (mem Clock)))) (goes (counted (seat i).post) [] (bases.Move (moving helps (mem Clock))))
-      (λ (t : Turn). Moves Q P why t → Made mem seat i (memory.Load Clock) (run_turn why (seat i).desk t) v.deal)
-      (λ h g. rest mem seat i v (memory.Load Clock) why (ends (counted (seat i).post) [] (Clocked (moves.EraSpent (mem Clock)))) (record v { role = upd v.role i roles.Away }) a
-        (record { post = own_post mem seat i v a; phase = g.phase }) refl refl a.facts.words
-        (same_role (seat i).post.layout.config v i roles.Away a.facts.parts (stands_in mem seat i v (Runs why (bases.Move (LoadEra helps))) a q)))
-      (λ h g. begin_move helps f (stands_in mem seat i v (Runs why (bases.Move (LoadEra helps))) a q) (rw a.facts.words.clocks at h))
-      m
+    (λ (t : Turn). Moves Q P why t → Made mem seat i (memory.Load Clock) (run_turn why (seat i).desk t) v.deal)
+    (λ h g. rest mem seat i v (memory.Load Clock) why (ends (counted (seat i).post) [] (Clocked (moves.EraSpent (mem Clock)))) (record v { role = upd v.role i roles.Away }) a
+    (record { post = own_post mem seat i v a; phase = g.phase }) refl refl a.facts.words
+    (same_role (seat i).post.layout.config v i roles.Away a.facts.parts (stands_in mem seat i v (Runs why (bases.Move (LoadEra helps))) a q)))
+    (λ h g. begin_move helps f (stands_in mem seat i v (Runs why (bases.Move (LoadEra helps))) a q) (rw a.facts.words.clocks at h))
+    m
   where
     begin_move : (b : Bool) → agree b (is_wfe (seat i).post.layout.config.scheme) ≡ true → v.role i ≡ roles.Away → (v.clock == (seat i).post.layout.config.last_era) ≡ false
         → Made mem seat i (memory.Load Clock) (run_turn why (seat i).desk (goes (counted (seat i).post) [] (bases.Move (moving b (mem Clock))))) v.deal
     begin_move true w r h =
         go mem seat i v (memory.Load Clock) why [] (bases.Move (LoadRequest (mem Clock) 0 false)) (roles.Meets v.clock 0 false) (record v { role = upd v.role i (roles.Meets v.clock 0 false) }) a
-          (ap (λ (x : ℕ). roles.Meets x 0 false) a.facts.words.clocks) refl refl refl a.facts.words
-          (mover.begins-keeps (seat i).post.layout.config v i a.below a.facts.parts r h)
+        (ap (λ (x : ℕ). roles.Meets x 0 false) a.facts.words.clocks) refl refl refl a.facts.words
+        (mover.begins-keeps (seat i).post.layout.config v i a.below a.facts.parts r h)
     begin_move false w r h =
         go mem seat i v (memory.Load Clock) why [] (bases.Move (ExchangeClock (mem Clock))) (roles.Moves v.clock) (record v { role = upd v.role i (roles.Moves v.clock) }) a
-          (ap roles.Moves a.facts.words.clocks) refl refl refl a.facts.words
-          (mover.begins_alone-keeps (seat i).post.layout.config v i a.below a.facts.parts r h (λ k. a.alone k (grind (arith, nat_tests))))
+        (ap roles.Moves a.facts.words.clocks) refl refl refl a.facts.words
+        (mover.begins_alone-keeps (seat i).post.layout.config v i a.below a.facts.parts r h (λ k. a.alone k (grind (arith, nat_tests))))
 
 -- a pending request is for the word that its seat protects
 asker_here : (layout : Layout) (index : ℕ) (root : Root) (t j w : ℕ) → (nat_lt index layout.config.indexes && has layout (link_place root)) ≡ true → (j == index && w == link_number layout root) ≡ true → Asker layout j w

@@ -1,25 +1,21 @@
 -- Each step of each seat keeps what holds of requests.
-use Rattle.std.proofs.Common.{ℕ, ◌≡◌, ◌≤◌, ◌<◌, ◌+◌, ◌^◌, Bool, true, false, List, [], arith, refl, sym, ap, subst, ◌∙◌}
+use Rattle.std.proofs.Common.{ℕ, ◌≡◌, ◌≤◌, ◌<◌, ◌+◌, Bool, true, false, arith, refl, sym, ap, subst, ◌∙◌}
 use Rattle.std.proofs.lemmas.Bool.Decides.{nat_tests}
-use Rattle.std.specs.Prelude.{◌==◌, ◌&&◌, nat_lt, nat_le, if◌then◌else◌, Option, Some, None}
+use Rattle.std.specs.Prelude.{◌&&◌, nat_lt, if◌then◌else◌}
 use Rattle.wfe_words.specs.Place.{Place, has}
 use Rattle.wfe_words.specs.Place.Place.{Clock, Helper, Index, Request}
-use Rattle.wfe_words.specs.Packed.{halves}
-use Rattle.wfe_defs.specs.declared.event.Event.{Event}
 use Rattle.wfe_defs.specs.declared.event.Root.{Root}
 use Rattle.wfe_core.specs.declared.post.Post.{Post}
-use Rattle.wfe_core.specs.Links.{link_place, link_number}
-use Rattle.wfe_core.specs.Memory.{upd, written, put}
-use Rattle.wfe_core.specs.Memory as memory
+use Rattle.wfe_core.specs.Links.{link_place}
+use Rattle.wfe_core.specs.Memory.{upd}
 use Rattle.wfe_core.specs.Posts.{counted, tag_of}
-use Rattle.wfe_core.specs.Phases.{Aim, Tries, Endless, Failed, ProtectAt, MoveAt, Base, Turn, goes, ends}
-use Rattle.wfe_core.specs.Calls.{Why, Phase, Idle, Runs, CallTurn}
+use Rattle.wfe_core.specs.Phases.{Aim, Tries, Endless, Failed, ProtectAt, MoveAt, Base}
+use Rattle.wfe_core.specs.Calls.{Why, Phase, Idle, Runs}
 use Rattle.wfe_core.specs.Steps.{run_turn}
 use Rattle.wfe_core.specs.Locals.{Local}
 use Rattle.wfe_core.specs.Machine.{protect_move, protect_turn, move_move, move_turn, base_move, after}
 use Rattle.wfe_eras.specs.Frame.{Moves}
 use Rattle.wfe_words.specs.Place.{is_valid}
-use Rattle.wfe_words.specs.declared.config.Config.{Config}
 use Rattle.wfe_words.specs.declared.layout.Layout.{Layout}
 use Rattle.wfe_defs.specs.declared.call.Call.{Call}
 use Rattle.wfe_core.specs.Memory.{Move, place_in, found, bump}
@@ -31,11 +27,10 @@ use Rattle.wfe_core.specs.Calls.{Task, Gets, Changes, Holds, Enqueues, Dequeues,
 use Rattle.wfe_core.specs.Rounds.{index_of, key_of}
 use Rattle.wfe_core.specs.Posts.{new_post}
 use Rattle.wfe_core.specs.Steps.{phase_move, phase_turn}
-use Rattle.wfe_core.specs.Locals.{busy_in, begun, begun_post}
+use Rattle.wfe_core.specs.Locals.{busy_in, begun}
 use Rattle.wfe_core.specs.World.{World, step, begin, start, is_busy}
 use Rattle.wfe_core.proofs.Ranges.{bounds_of}
-use Rattle.wfe_core.specs.Links.{parent_of}
-use Rattle.wfe_eras.specs.Seats.{is_wfe, base_fits, protect_fits, Seats, PostFits, PhaseFits, Run, Shaped, task_root, index_by, root_by}
+use Rattle.wfe_eras.specs.Seats.{is_wfe, base_fits, protect_fits, Seats, PostFits, PhaseFits, Shaped, task_root, index_by, root_by}
 use Rattle.wfe_eras.proofs.Inside.{shape_moves}
 use Rattle.wfe_eras.proofs.Kept.{counted_fits, run_counted}
 use Rattle.wfe_requests.specs.Views.{View, Role}
@@ -43,9 +38,9 @@ use Rattle.wfe_requests.specs.Views.Deal.{Quiet}
 use Rattle.wfe_requests.specs.Views.{Role as roles}
 use Rattle.wfe_requests.specs.Roles.{is_turn}
 use Rattle.wfe_requests.specs.Paces.{paced, base_paced, phase_paced, first_paced, Paces}
-use Rattle.wfe_requests.specs.Standing.{has_failed, protect_role, move_role, base_role, role_of, Words, Locals, Facts}
+use Rattle.wfe_requests.specs.Standing.{has_failed, protect_role, move_role, base_role, role_of, Facts}
 use Rattle.wfe_requests.specs.NextDeals.{protect_deals, move_deals, base_deals, phase_deals, next_deals}
-use Rattle.wfe_requests.specs.Turns.{PostOf, RoleOf, Dealt, Made, StandsAfter}
+use Rattle.wfe_requests.specs.Turns.{Dealt, Made, StandsAfter}
 use Rattle.wfe_requests.specs.Context.{At, guards_there, phase_there}
 use Rattle.wfe_requests.specs.Needs.{Needs, head_fits, heads_fit}
 use Rattle.wfe_eras.proofs.Frame.{begun_seated}
@@ -125,9 +120,9 @@ phase_made mem seat i v layout Idle y t s f p a q =
     idle_made mem seat i v (phase_turn Idle (counted (seat i).post) (seat i).desk (mem Clock)) a q (record { post = own_post mem seat i v a; phase = record { is = refl; there = refl } })
 phase_made mem seat i v layout (Runs why base) y t s f p a q =
     base_made mem seat i v why base a q
-      (subst (λ (l : Layout). base_fits l.config base ≡ true) (sym t) f.fits)
-      (subst (λ (l : Layout). base_paced l.config base ≡ true) (sym t) p)
-      (shape_moves layout i y why base (counted (seat i).post) (found_by mem (base_move base (seat i).post)) (counted_fits layout i (seat i).post s) (run_counted layout why base (seat i).post f))
+    (subst (λ (l : Layout). base_fits l.config base ≡ true) (sym t) f.fits)
+    (subst (λ (l : Layout). base_paced l.config base ≡ true) (sym t) p)
+    (shape_moves layout i y why base (counted (seat i).post) (found_by mem (base_move base (seat i).post)) (counted_fits layout i (seat i).post s) (run_counted layout why base (seat i).post f))
 phase_made mem seat i v layout (Scans later at) y t s f p a q = scan_made mem seat i v later at (found_by mem (phase_move (Scans later at) (seat i).post)) a q
 phase_made mem seat i v layout (Works work) y t s f p a q = work_made mem seat i v work (found_by mem (phase_move (Works work) (seat i).post)) a q f
 
@@ -276,7 +271,7 @@ requests_step w i v y b s p n f =
     let q = s.fits i in
     let e = q.post.layout in
     subst (λ (l : Layout). (u : View) × Dealt l (step w i).mem (step w i).seat (next_deals w i v.deal) u) e
-      (phase_made w.mem w.seat i v w.layout (w.seat i).phase y e q.post q.phase (p.paced i) (at_of w i v y b s n f) refl)
+    (phase_made w.mem w.seat i v w.layout (w.seat i).phase y e q.post q.phase (p.paced i) (at_of w i v y b s n f) refl)
 
 -- a seat between calls
 pub idle_of : (phase : Phase) → busy_in phase ≡ false → phase ≡ Idle
@@ -287,24 +282,25 @@ idle_of (Works work) h = absurd (cc)
 
 begun_made : (mem : Place → ℕ) (seat : ℕ → Local) (i : ℕ) (v : View) (call : Call) → is_valid (seat i).post.layout ≡ true → (seat i).phase ≡ Idle → Facts (seat i).post.layout mem seat v
     → (u : View) × Dealt (seat i).post.layout mem (upd seat i (begun (seat i) call)) v.deal u
-begun_made mem seat i v call y q f =
-    (record v { role = upd v.role i roles.Away },
-     record {
-       facts = record {
-         words = f.words;
-         locals = locals_turn (seat i).post.layout seat v.tag v.role i (begun (seat i) call) roles.Away f.locals
-           (begun_seated (away (seat i).post.layout (seat i).post.tags) (seat i) call (record { table = refl; guarded = guards_some (seat i).post.layout.config (bounds_of (seat i).post.layout y); kept = refl }));
-         parts = same_role (seat i).post.layout.config v i roles.Away f.parts (sym (f.locals.roles i) ∙ ap (role_of (seat i).post.layout) q);
-       };
-       deal = refl;
-     })
+begun_made mem seat i v call y q f = (
+  record v { role = upd v.role i roles.Away },
+  record {
+    facts = record {
+      words = f.words;
+      locals = locals_turn (seat i).post.layout seat v.tag v.role i (begun (seat i) call) roles.Away f.locals
+          (begun_seated (away (seat i).post.layout (seat i).post.tags) (seat i) call (record { table = refl; guarded = guards_some (seat i).post.layout.config (bounds_of (seat i).post.layout y); kept = refl }));
+      parts = same_role (seat i).post.layout.config v i roles.Away f.parts (sym (f.locals.roles i) ∙ ap (role_of (seat i).post.layout) q);
+    };
+    deal = refl;
+  },
+)
 
 -- a call begins
 pub requests_begin : (w : World) (i : ℕ) (call : Call) (v : View) → is_valid w.layout ≡ true → is_busy w i ≡ false → Seats w → Facts w.layout w.mem w.seat v → StandsAfter (begin w i call) v.deal
 requests_begin w i call v y q s f =
     let e = (s.fits i).post.layout in
     subst (λ (l : Layout). (u : View) × Dealt l (begin w i call).mem (begin w i call).seat v.deal u) e
-      (begun_made w.mem w.seat i v call (subst (λ (l : Layout). is_valid l ≡ true) (sym e) y) (idle_of (w.seat i).phase q) (subst (λ (l : Layout). Facts l w.mem w.seat v) (sym e) f))
+    (begun_made w.mem w.seat i v call (subst (λ (l : Layout). is_valid l ≡ true) (sym e) y) (idle_of (w.seat i).phase q) (subst (λ (l : Layout). Facts l w.mem w.seat v) (sym e) f))
 
 -- the first view
 abbrev pub first_view : View
@@ -319,37 +315,42 @@ no_tag layout k j = grind (arith, nat_tests)
 
 pub requests_start : (layout : Layout) → is_valid layout ≡ true → StandsAfter (start layout) (λ k. Quiet)
 requests_start layout y =
-    let b = bounds_of layout y in
-    (first_view, record { facts = record {
-      words = record {
-        clocks = refl;
-        helpers = λ k. zero_word (has layout (Helper k)) ∙ sym no_halves;
-        indexes = λ k j. zero_word (has layout (Index k j)) ∙ sym no_halves;
-        requests = λ k. zero_word (has layout (Request k));
-      };
-      locals = record { tags = λ k j. no_tag layout k j; roles = λ k. refl; there = λ k. refl };
-      parts = record {
-        fit = λ i. refl;
-        marks = λ i j. refl;
-        tags = λ i. refl;
-        taken = λ i. refl;
-        timely = λ i. refl;
-        clock = omega (arith, b.eras);
-        eras = λ i. omega arith;
-        helpers = λ i. omega arith;
-        indexes = λ i j. omega arith;
-        movers = λ i h. absurd (cc);
-        links = λ i. omega arith;
-        shown = λ i. refl;
-        published = λ i. refl;
-        turns = λ i. refl;
-        low = λ i j. omega arith;
-        spare = λ i. refl;
-        answer = λ i. refl;
-        known = λ m. refl;
-        whom = λ m. refl;
-        bound = λ i h g. absurd (cc);
-        passed = λ i m h g a c. absurd (cc);
-        outside = λ i h. refl;
-      };
-    }; deal = refl })
+    let b = bounds_of layout y in (
+      first_view,
+      record {
+        facts = record {
+          words = record {
+            clocks = refl;
+            helpers = λ k. zero_word (has layout (Helper k)) ∙ sym no_halves;
+            indexes = λ k j. zero_word (has layout (Index k j)) ∙ sym no_halves;
+            requests = λ k. zero_word (has layout (Request k));
+          };
+          locals = record { tags = λ k j. no_tag layout k j; roles = λ k. refl; there = λ k. refl };
+          parts = record {
+            fit = λ i. refl;
+            marks = λ i j. refl;
+            tags = λ i. refl;
+            taken = λ i. refl;
+            timely = λ i. refl;
+            clock = omega (arith, b.eras);
+            eras = λ i. omega arith;
+            helpers = λ i. omega arith;
+            indexes = λ i j. omega arith;
+            movers = λ i h. absurd (cc);
+            links = λ i. omega arith;
+            shown = λ i. refl;
+            published = λ i. refl;
+            turns = λ i. refl;
+            low = λ i j. omega arith;
+            spare = λ i. refl;
+            answer = λ i. refl;
+            known = λ m. refl;
+            whom = λ m. refl;
+            bound = λ i h g. absurd (cc);
+            passed = λ i m h g a c. absurd (cc);
+            outside = λ i h. refl;
+          };
+        };
+        deal = refl;
+      },
+    )

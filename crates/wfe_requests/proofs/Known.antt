@@ -1,31 +1,27 @@
 -- What the part on requests tells of a seat's own post and of what its step finds.
-use Rattle.std.proofs.Common.{ℕ, ◌≡◌, ◌≤◌, ◌<◌, ◌+◌, Bool, true, false, arith, refl, sym, ap, subst, ◌∙◌}
+use Rattle.std.proofs.Common.{ℕ, ◌≡◌, ◌<◌, ◌+◌, Bool, true, false, arith, refl, sym, ap, ◌∙◌}
 use Rattle.std.proofs.lemmas.Bool.Decides.{nat_tests}
 use Rattle.std.specs.Prelude.{◌==◌, ◌&&◌, not}
-use Rattle.wfe_words.specs.Place.{Place, is_valid}
+use Rattle.wfe_words.specs.Place.{is_valid}
 use Rattle.wfe_words.specs.Place.Place.{Helper, Request}
 use Rattle.wfe_words.specs.Packed.{halves}
-use Rattle.wfe_words.specs.declared.config.Config.{Config}
 use Rattle.wfe_words.specs.declared.layout.Layout.{Layout}
 use Rattle.wfe_defs.specs.declared.event.Root.{Root}
 use Rattle.wfe_core.proofs.Ranges.{bounds_of}
-use Rattle.wfe_core.specs.Links.{link_number, link_place}
+use Rattle.wfe_core.specs.Links.{link_number}
 use Rattle.wfe_core.specs.Memory.{place_in, found}
 use Rattle.wfe_core.specs.Posts.{tag_of}
 use Rattle.wfe_core.specs.SlowPath.{asking, own_request}
-use Rattle.wfe_core.specs.Phases.{Aim, ProtectAt}
 use Rattle.wfe_core.specs.Phases.ProtectAt.{AnswerOwn, LoadAnswer, TakeAnswer}
 use Rattle.wfe_core.specs.Phases.Base.{Protect}
-use Rattle.wfe_core.specs.Calls.{Why, Phase, Idle, Runs}
+use Rattle.wfe_core.specs.Calls.{Phase, Idle, Runs}
 use Rattle.wfe_core.specs.Steps.{phase_move}
-use Rattle.wfe_core.specs.World.{World, finds, is_busy}
+use Rattle.wfe_core.specs.World.{World, finds}
 use Rattle.wfe_eras.specs.Seats.{Seats}
-use Rattle.wfe_requests.specs.Deals.{is_open, asked_at, in_time}
-use Rattle.wfe_requests.specs.Roles.{spares, shows}
-use Rattle.wfe_requests.specs.Heard.{Heard}
+use Rattle.wfe_requests.specs.Deals.{is_open, asked_at}
 use Rattle.wfe_requests.specs.Known.{IsAnswer, Known}
-use Rattle.wfe_requests.specs.Standing.{role_of, request_of, Facts, Requests}
-use Rattle.wfe_requests.specs.Views.{View, Deal, Role}
+use Rattle.wfe_requests.specs.Standing.{role_of, request_of, Requests}
+use Rattle.wfe_requests.specs.Views.{View}
 use Rattle.wfe_requests.specs.Views.{Role as roles}
 use Rattle.wfe_requests.proofs.Answering.{heard, word_by_open}
 use Rattle.wfe_requests.proofs.Going.{test_equal, equal_test}
@@ -105,8 +101,8 @@ known w v k y s f = record {
   tags = λ index. tag_low w v k index y f;
   rises = λ why aim index root steps link era q. tag_rises w v k index (link_number w.layout root) link era y f (stands_as w v k (Runs why (Protect aim index root steps (TakeAnswer link era))) f q);
   hears = λ why aim index root steps first q. hears_answer w v k index (link_number w.layout root) (finds w k) f (stands_as w v k (Runs why (Protect aim index root steps (LoadAnswer first))) f q)
-    (finds_by w k (Runs why (Protect aim index root steps (LoadAnswer first))) q ∙ own_word w v k s f);
+      (finds_by w k (Runs why (Protect aim index root steps (LoadAnswer first))) q ∙ own_word w v k s f);
   meets = λ why aim index root steps first era link q n. meets_answer w v k index root first era link (finds w k) s f (stands_as w v k (Runs why (Protect aim index root steps (AnswerOwn first era link))) f q)
-    (finds_by w k (Runs why (Protect aim index root steps (AnswerOwn first era link))) q ∙ own_word w v k s f) n;
+      (finds_by w k (Runs why (Protect aim index root steps (AnswerOwn first era link))) q ∙ own_word w v k s f) n;
   hidden = λ b. hidden_word w v k f (stands_as w v k Idle f (idle_of (w.seat k).phase b));
 }

@@ -1,5 +1,6 @@
 pub mod Answering
 pub mod Asking
+pub mod Falling
 pub mod Going
 pub mod Handing
 pub mod Helping

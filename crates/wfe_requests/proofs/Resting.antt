@@ -1,22 +1,21 @@
 -- The steps of machines and calls that neither ask nor help.
-use Rattle.std.proofs.Common.{ℕ, ◌≡◌, ◌≤◌, ◌<◌, ◌+◌, ◌^◌, Bool, true, false, List, [], arith, refl, sym, ap, subst, ◌∙◌}
-use Rattle.std.proofs.lemmas.Bool.Decides.{nat_tests}
-use Rattle.std.specs.Prelude.{◌==◌, ◌&&◌, nat_lt, nat_le, if◌then◌else◌, Option, Some, None}
-use Rattle.wfe_words.specs.Place.{Place, has}
-use Rattle.wfe_words.specs.Place.Place.{Clock, Helper, Index, Request}
+use Rattle.std.proofs.Common.{ℕ, ◌≡◌, ◌+◌, Bool, true, false, List, [], refl, sym, ap, ◌∙◌}
+use Rattle.std.specs.Prelude.{◌==◌, if◌then◌else◌, Option, Some, None}
+use Rattle.wfe_words.specs.Place.{Place}
+use Rattle.wfe_words.specs.Place.Place.{Clock}
 use Rattle.wfe_words.specs.Packed.{halves}
 use Rattle.wfe_defs.specs.declared.event.Event.{Event}
 use Rattle.wfe_defs.specs.declared.event.Root.{Root}
 use Rattle.wfe_core.specs.declared.post.Post.{Post}
-use Rattle.wfe_core.specs.Links.{link_place, link_number}
+use Rattle.wfe_core.specs.Links.{link_place}
 use Rattle.wfe_core.specs.Memory.{upd, written, put}
 use Rattle.wfe_core.specs.Memory as memory
-use Rattle.wfe_core.specs.Posts.{counted, tag_of}
-use Rattle.wfe_core.specs.Phases.{Aim, Tries, Endless, Failed, ProtectAt, MoveAt, Base, Turn, goes, ends}
+use Rattle.wfe_core.specs.Posts.{counted}
+use Rattle.wfe_core.specs.Phases.{Aim, Base, Turn, goes, ends}
 use Rattle.wfe_core.specs.Calls.{Why, Phase, Idle, Runs, CallTurn}
 use Rattle.wfe_core.specs.Steps.{run_turn}
 use Rattle.wfe_core.specs.Locals.{Local}
-use Rattle.wfe_core.specs.Machine.{protect_move, protect_turn, move_move, move_turn, base_move, after}
+use Rattle.wfe_core.specs.Machine.{protect_move, protect_turn, base_move, after}
 use Rattle.wfe_eras.specs.Frame.{Moves}
 use Rattle.std.specs.Prelude.{◌-◌, ◌∷◌}
 use Rattle.wfe_words.specs.declared.layout.Layout.{Layout}
@@ -25,7 +24,6 @@ use Rattle.wfe_core.specs.declared.ends.FollowEnd.TheVariants as follow_ends
 use Rattle.wfe_core.specs.Links.{parent_of}
 use Rattle.wfe_core.specs.Memory.{bump}
 use Rattle.wfe_core.specs.Phases.Ending.{Done, Followed}
-use Rattle.wfe_words.specs.Place.{claim_word, claim_mask, claim_others, claim_bit}
 use Rattle.wfe_words.specs.Place.{Place as places}
 use Rattle.wfe_core.specs.Memory.{Move}
 use Rattle.wfe_core.specs.Phases.{BeginAt, AllocateAt, RetireAt, RowOf, Walk, Alone, Follows}
@@ -34,7 +32,6 @@ use Rattle.wfe_core.specs.Phases.BeginAt.{LoadLower, PublishSpan}
 use Rattle.wfe_core.specs.Phases.ProtectAt.{LoadWithin, CheckUpper, RaiseUpper}
 use Rattle.wfe_core.specs.Phases.AllocateAt.{LoadBirth, ClaimSlot, StoreLife}
 use Rattle.wfe_core.specs.Phases.RetireAt.{LoadLife, LoadRetire, StoreRetired}
-use Rattle.wfe_core.specs.Machine.{begin_turn, allocate_turn, retire_turn}
 use Rattle.wfe_core.specs.Posts.{index_word, upper, with_row}
 use Rattle.wfe_core.specs.Protect.{protected, concluded, held_post, told_held}
 use Rattle.wfe_core.specs.Allocate.{is_claimed, walking, walk_past, next_slot}
@@ -46,19 +43,19 @@ use Rattle.wfe_core.specs.Enqueue.{enqueue_move}
 use Rattle.wfe_core.specs.Dequeue.{dequeue_move}
 use Rattle.wfe_core.specs.Scan.{scan_move, scan_turn}
 use Rattle.wfe_core.specs.Steps.{work_move, work_turn}
-use Rattle.wfe_eras.specs.Frame.{Onward, StepsOn, SpanStands, Left}
+use Rattle.wfe_eras.specs.Frame.{StepsOn, SpanStands, Left}
 use Rattle.wfe_eras.proofs.Frame.{moves_with}
 use Rattle.wfe_eras.proofs.Works.{work_left, scan_left}
-use Rattle.wfe_requests.specs.Views.{View, Deal, Role, upd2}
+use Rattle.wfe_requests.specs.Views.{View, upd2}
 use Rattle.wfe_requests.specs.Views.{Role as roles}
-use Rattle.wfe_requests.specs.Standing.{role_of, is_there, Words}
+use Rattle.wfe_requests.specs.Standing.{role_of, Words}
 use Rattle.wfe_requests.specs.Turns.{PostOf, RoleOf, Made}
 use Rattle.wfe_requests.specs.Context.{At}
 use Rattle.wfe_requests.proofs.Words.{words_era}
 use Rattle.wfe_requests.proofs.Requester as own
 use Rattle.wfe_requests.proofs.Turns.{away, made}
-use Rattle.wfe_requests.proofs.Going.{by_test, same_role, stands_in, own_post, rest}
-use Rattle.wfe_requests.proofs.Asking.{concluded_rests, post_held, quiet_mark}
+use Rattle.wfe_requests.proofs.Going.{same_role, stands_in, own_post, rest}
+use Rattle.wfe_requests.proofs.Asking.{post_held, quiet_mark}
 
 -- a word of another kind than those that requests and helping are about
 abbrev pub is_other : Place → Bool
@@ -110,7 +107,7 @@ stay : {Q : Post → Type 0} {P : Post → Phase → Type 0} (mem : Place → �
     → Made mem seat i m (run_turn why (seat i).desk t) v.deal
 stay mem seat i v m why base t a q r h g s =
     rest mem seat i v m why t (record v { role = upd v.role i roles.Away }) a (moves_with why t g s) refl refl (words_left mem v m h a.facts.words)
-      (same_role (seat i).post.layout.config v i roles.Away a.facts.parts (stands_in mem seat i v (Runs why base) a q ∙ r))
+    (same_role (seat i).post.layout.config v i roles.Away a.facts.parts (stands_in mem seat i v (Runs why base) a q ∙ r))
 
 -- either of two turns
 pub steps_if : (layout : Layout) (tags : List ℕ) (why : Why) (b : Bool) (x y : Turn) → StepsOn (PostOf layout tags) (RoleOf layout roles.Away) why x → StepsOn (PostOf layout tags) (RoleOf layout roles.Away) why y → StepsOn (PostOf layout tags) (RoleOf layout roles.Away) why (if b then x else y)
@@ -124,13 +121,13 @@ begin_made mem seat i v why LoadLower found a q m = stay mem seat i v (memory.Lo
 begin_made mem seat i v why (PublishSpan era) found a q m =
     let p = own_post mem seat i v a in
     stay mem seat i v (base_move (bases.Begin (PublishSpan era)) (seat i).post) why (bases.Begin (PublishSpan era)) (after (bases.Begin (PublishSpan era)) (counted (seat i).post) found) a q refl refl m
-      (record { post = record { table = p.table; guarded = p.guarded; kept = p.kept }; phase = tt })
+    (record { post = record { table = p.table; guarded = p.guarded; kept = p.kept }; phase = tt })
 
 concluded_on : (layout : Layout) (tags : List ℕ) (why : Why) (aim : Aim) (index : ℕ) (root : Root) (n link era : ℕ) (post : Post) (told : List Event) → PostOf layout tags post → StepsOn (PostOf layout tags) (RoleOf layout roles.Away) why (concluded aim index root n link era post told)
 concluded_on layout tags why Alone index root n link era post told p = record { post = p; phase = tt }
 concluded_on layout tags why Follows index root n link era post told p =
     steps_if layout tags why (link == 0) (ends post told (Followed follow_ends.NoNext)) (goes post told (bases.Reload (parent_of root) index (link - 1) era n))
-      (record { post = p; phase = tt }) (record { post = p; phase = record { is = refl; there = refl } })
+    (record { post = p; phase = tt }) (record { post = p; phase = record { is = refl; there = refl } })
 
 -- 2GE
 pub within_made : {Q : Post → Type 0} {P : Post → Phase → Type 0} (mem : Place → ℕ) (seat : ℕ → Local) (i : ℕ) (v : View) (why : Why) (aim : Aim) (index : ℕ) (root : Root) (steps n found : ℕ) → At mem seat i v → (seat i).phase ≡ Runs why (bases.Protect aim index root steps LoadWithin)
@@ -144,9 +141,9 @@ pub upper_made : {Q : Post → Type 0} {P : Post → Phase → Type 0} (mem : Pl
     → Made mem seat i (memory.Load Clock) (run_turn why (seat i).desk (protect_turn aim index root n (CheckUpper link) (counted (seat i).post) found)) v.deal
 upper_made mem seat i v why aim index root steps n link found a q m =
     stay mem seat i v (memory.Load Clock) why (bases.Protect aim index root steps (CheckUpper link)) (protect_turn aim index root n (CheckUpper link) (counted (seat i).post) found) a q refl refl m
-      (steps_if (seat i).post.layout (seat i).post.tags why (found == upper (counted (seat i).post).span) (protected aim index root n link found (counted (seat i).post)) (goes (counted (seat i).post) [] (bases.Protect aim index root n (RaiseUpper found)))
-        (concluded_on (seat i).post.layout (seat i).post.tags why aim index root n link found (held_post (counted (seat i).post) index root link) (told_held index root link n) (post_held (seat i).post.layout (seat i).post.tags (counted (seat i).post) index root link (own_post mem seat i v a)))
-        (record { post = own_post mem seat i v a; phase = record { is = refl; there = refl } }))
+    (steps_if (seat i).post.layout (seat i).post.tags why (found == upper (counted (seat i).post).span) (protected aim index root n link found (counted (seat i).post)) (goes (counted (seat i).post) [] (bases.Protect aim index root n (RaiseUpper found)))
+    (concluded_on (seat i).post.layout (seat i).post.tags why aim index root n link found (held_post (counted (seat i).post) index root link) (told_held index root link n) (post_held (seat i).post.layout (seat i).post.tags (counted (seat i).post) index root link (own_post mem seat i v a)))
+    (record { post = own_post mem seat i v a; phase = record { is = refl; there = refl } }))
 
 pub raise_made : {Q : Post → Type 0} {P : Post → Phase → Type 0} (mem : Place → ℕ) (seat : ℕ → Local) (i : ℕ) (v : View) (why : Why) (aim : Aim) (index : ℕ) (root : Root) (steps n era found : ℕ) → At mem seat i v → (seat i).phase ≡ Runs why (bases.Protect aim index root steps (RaiseUpper era))
     → Moves Q P why (protect_turn aim index root n (RaiseUpper era) (counted (seat i).post) found)
@@ -154,7 +151,7 @@ pub raise_made : {Q : Post → Type 0} {P : Post → Phase → Type 0} (mem : Pl
 raise_made mem seat i v why aim index root steps n era found a q m =
     let p = own_post mem seat i v a in
     stay mem seat i v (protect_move index root (RaiseUpper era) (seat i).post) why (bases.Protect aim index root steps (RaiseUpper era)) (protect_turn aim index root n (RaiseUpper era) (counted (seat i).post) found) a q refl refl m
-      (record { post = record { table = p.table; guarded = p.guarded; kept = p.kept }; phase = record { is = refl; there = refl } })
+    (record { post = record { table = p.table; guarded = p.guarded; kept = p.kept }; phase = record { is = refl; there = refl } })
 
 pub reload_made : {Q : Post → Type 0} {P : Post → Phase → Type 0} (mem : Place → ℕ) (seat : ℕ → Local) (i : ℕ) (v : View) (why : Why) (parent index slot era steps found : ℕ) → At mem seat i v → (seat i).phase ≡ Runs why (bases.Reload parent index slot era steps)
     → Moves Q P why (after (bases.Reload parent index slot era steps) (counted (seat i).post) found)
@@ -162,8 +159,8 @@ pub reload_made : {Q : Post → Type 0} {P : Post → Phase → Type 0} (mem : P
 reload_made mem seat i v why parent index slot era steps found a q m =
     let p = own_post mem seat i v a in
     stay mem seat i v (memory.Load places.Head) why (bases.Reload parent index slot era steps) (after (bases.Reload parent index slot era steps) (counted (seat i).post) found) a q refl refl m
-      (steps_if (seat i).post.layout (seat i).post.tags why (found == parent + 1) (ends (with_row (counted (seat i).post) index slot) (events.Held index slot (bump steps) ∷ []) (Followed (follow_ends.Followed slot))) (ends (counted (seat i).post) [] (Followed (follow_ends.RootMoved found)))
-        (record { post = record { table = p.table; guarded = p.guarded; kept = p.kept }; phase = tt }) (record { post = p; phase = tt }))
+    (steps_if (seat i).post.layout (seat i).post.tags why (found == parent + 1) (ends (with_row (counted (seat i).post) index slot) (events.Held index slot (bump steps) ∷ []) (Followed (follow_ends.Followed slot))) (ends (counted (seat i).post) [] (Followed (follow_ends.RootMoved found)))
+    (record { post = record { table = p.table; guarded = p.guarded; kept = p.kept }; phase = tt }) (record { post = p; phase = tt }))
 
 -- an index word is cleared
 pub clear_made : {Q : Post → Type 0} {P : Post → Phase → Type 0} (mem : Place → ℕ) (seat : ℕ → Local) (i : ℕ) (v : View) (why : Why) (index found : ℕ) → At mem seat i v → (seat i).phase ≡ Runs why (bases.Clear index)
@@ -173,11 +170,11 @@ clear_made mem seat i v why index found a q m =
     let p = own_post mem seat i v a in
     let r = stands_in mem seat i v (Runs why (bases.Clear index)) a q in
     rest mem seat i v (base_move (bases.Clear index) (seat i).post) why (after (bases.Clear index) (counted (seat i).post) found) (record v { era = upd2 v.era i index 0; role = upd v.role i roles.Away }) a
-      (moves_with why (after (bases.Clear index) (counted (seat i).post) found) m (record { post = record { table = p.table; guarded = p.guarded; kept = p.kept }; phase = tt }))
-      refl refl
-      (words_era mem v.clock v.helper v.era v.mark v.deal i (seat i).post.seat index 0 (index_word (seat i).post index 0) a.facts.words a.number
-        (ap (λ (n : ℕ). halves 0 n) (sym (quiet_mark mem seat i v index a (rw r at (a.facts.parts.fit i))))))
-      (own.clears-keeps (seat i).post.layout.config v i index a.below a.facts.parts r)
+    (moves_with why (after (bases.Clear index) (counted (seat i).post) found) m (record { post = record { table = p.table; guarded = p.guarded; kept = p.kept }; phase = tt }))
+    refl refl
+    (words_era mem v.clock v.helper v.era v.mark v.deal i (seat i).post.seat index 0 (index_word (seat i).post index 0) a.facts.words a.number
+    (ap (λ (n : ℕ). halves 0 n) (sym (quiet_mark mem seat i v index a (rw r at (a.facts.parts.fit i))))))
+    (own.clears-keeps (seat i).post.layout.config v i index a.below a.facts.parts r)
 
 pub finish_made : {Q : Post → Type 0} {P : Post → Phase → Type 0} (mem : Place → ℕ) (seat : ℕ → Local) (i : ℕ) (v : View) (why : Why) (found : ℕ) → At mem seat i v → (seat i).phase ≡ Runs why bases.Finish
     → Moves Q P why (after bases.Finish (counted (seat i).post) found)
@@ -204,10 +201,10 @@ allocate_made mem seat i v why LoadBirth found a q m = stay mem seat i v (memory
 allocate_made mem seat i v why (ClaimSlot birth walk) found a q m =
     let p = own_post mem seat i v a in
     stay mem seat i v (base_move (bases.Allocate (ClaimSlot birth walk)) (seat i).post) why (bases.Allocate (ClaimSlot birth walk)) (after (bases.Allocate (ClaimSlot birth walk)) (counted (seat i).post) found) a q refl refl m
-      (steps_if (seat i).post.layout (seat i).post.tags why (is_claimed found walk.slot) (walking birth (counted (seat i).post) (walk_past (seat i).post.layout.config.slots walk found))
-        (goes (record (counted (seat i).post) { cursor = next_slot (seat i).post.layout.config.slots walk.slot }) (events.Give walk.slot birth ∷ []) (bases.Allocate (StoreLife birth walk.slot)))
-        (walking_on (seat i).post.layout (seat i).post.tags why birth (counted (seat i).post) (walk_past (seat i).post.layout.config.slots walk found) p)
-        (record { post = record { table = p.table; guarded = p.guarded; kept = p.kept }; phase = record { is = refl; there = refl } }))
+    (steps_if (seat i).post.layout (seat i).post.tags why (is_claimed found walk.slot) (walking birth (counted (seat i).post) (walk_past (seat i).post.layout.config.slots walk found))
+    (goes (record (counted (seat i).post) { cursor = next_slot (seat i).post.layout.config.slots walk.slot }) (events.Give walk.slot birth ∷ []) (bases.Allocate (StoreLife birth walk.slot)))
+    (walking_on (seat i).post.layout (seat i).post.tags why birth (counted (seat i).post) (walk_past (seat i).post.layout.config.slots walk found) p)
+    (record { post = record { table = p.table; guarded = p.guarded; kept = p.kept }; phase = record { is = refl; there = refl } }))
 allocate_made mem seat i v why (StoreLife birth slot) found a q m = stay mem seat i v (base_move (bases.Allocate (StoreLife birth slot)) (seat i).post) why (bases.Allocate (StoreLife birth slot)) (after (bases.Allocate (StoreLife birth slot)) (counted (seat i).post) found) a q refl refl m (record { post = own_post mem seat i v a; phase = tt })
 
 pub write_made : {Q : Post → Type 0} {P : Post → Phase → Type 0} (mem : Place → ℕ) (seat : ℕ → Local) (i : ℕ) (v : View) (why : Why) (slot : ℕ) (row : RowOf) (place found : ℕ) → At mem seat i v → (seat i).phase ≡ Runs why (bases.Write slot row place)
@@ -215,8 +212,8 @@ pub write_made : {Q : Post → Type 0} {P : Post → Phase → Type 0} (mem : Pl
     → Made mem seat i (base_move (bases.Write slot row place) (seat i).post) (run_turn why (seat i).desk (after (bases.Write slot row place) (counted (seat i).post) found)) v.deal
 write_made mem seat i v why slot row place found a q m =
     stay mem seat i v (base_move (bases.Write slot row place) (seat i).post) why (bases.Write slot row place) (after (bases.Write slot row place) (counted (seat i).post) found) a q refl refl m
-      (steps_if (seat i).post.layout (seat i).post.tags why (place == last_written row) (ends (counted (seat i).post) [] Done) (goes (counted (seat i).post) [] (bases.Write slot row (place + 1)))
-        (record { post = own_post mem seat i v a; phase = tt }) (record { post = own_post mem seat i v a; phase = record { is = refl; there = refl } }))
+    (steps_if (seat i).post.layout (seat i).post.tags why (place == last_written row) (ends (counted (seat i).post) [] Done) (goes (counted (seat i).post) [] (bases.Write slot row (place + 1)))
+    (record { post = own_post mem seat i v a; phase = tt }) (record { post = own_post mem seat i v a; phase = record { is = refl; there = refl } }))
 
 pub give_up_made : {Q : Post → Type 0} {P : Post → Phase → Type 0} (mem : Place → ℕ) (seat : ℕ → Local) (i : ℕ) (v : View) (why : Why) (slot found : ℕ) → At mem seat i v → (seat i).phase ≡ Runs why (bases.GiveUp slot)
     → Moves Q P why (after (bases.GiveUp slot) (counted (seat i).post) found)
@@ -236,7 +233,7 @@ retire_made mem seat i v why (StoreRetired slot birth retire) found a q m =
 call_made : (mem : Place → ℕ) (seat : ℕ → Local) (i : ℕ) (v : View) (phase : Phase) (m : memory.Move) (t : CallTurn) → At mem seat i v → (seat i).phase ≡ phase → role_of (seat i).post.layout phase ≡ roles.Away → leaves m ≡ true → Left (PostOf (seat i).post.layout (seat i).post.tags) (RoleOf (seat i).post.layout roles.Away) t → Made mem seat i m t v.deal
 call_made mem seat i v phase m t a q r h l =
     made mem seat v.role i m t roles.Away (record v { role = upd v.role i roles.Away }) a.facts.locals l refl (words_left mem v m h a.facts.words)
-      (same_role (seat i).post.layout.config v i roles.Away a.facts.parts (stands_in mem seat i v phase a q ∙ r))
+    (same_role (seat i).post.layout.config v i roles.Away a.facts.parts (stands_in mem seat i v phase a q ∙ r))
 
 get_leaves : (at : GetAt) → leaves (get_move at) ≡ true
 get_leaves (FindVersion slot) = refl

@@ -1,58 +1,44 @@
 -- A mover at the requests of the other seats: it reads, answers and hands over.
-use Rattle.std.proofs.Common.{ℕ, ◌≡◌, ◌≤◌, ◌<◌, ◌+◌, ◌^◌, Bool, true, false, List, [], arith, refl, sym, ap, subst, ◌∙◌}
+use Rattle.std.proofs.Common.{ℕ, ◌≡◌, ◌≤◌, ◌<◌, ◌+◌, ◌^◌, Bool, true, false, [], arith, refl, sym, ap, ◌∙◌}
 use Rattle.std.proofs.lemmas.Bool.Decides.{nat_tests}
-use Rattle.std.specs.Prelude.{◌==◌, ◌&&◌, nat_lt, nat_le, if◌then◌else◌, Option, Some, None}
-use Rattle.wfe_words.specs.Place.{Place, has}
-use Rattle.wfe_words.specs.Place.Place.{Clock, Helper, Index, Request}
-use Rattle.wfe_words.specs.Packed.{halves}
-use Rattle.wfe_defs.specs.declared.event.Event.{Event}
+use Rattle.std.specs.Prelude.{◌==◌, Some}
+use Rattle.wfe_words.specs.Place.{Place}
+use Rattle.wfe_words.specs.Place.Place.{Clock, Request}
 use Rattle.wfe_defs.specs.declared.event.Root.{Root}
-use Rattle.wfe_core.specs.declared.post.Post.{Post}
 use Rattle.wfe_core.specs.Links.{link_place, link_number}
 use Rattle.wfe_core.specs.Memory.{upd, written, put}
 use Rattle.wfe_core.specs.Memory as memory
-use Rattle.wfe_core.specs.Posts.{counted, tag_of}
-use Rattle.wfe_core.specs.Phases.{Aim, Tries, Endless, Failed, ProtectAt, MoveAt, Base, Turn, goes, ends}
-use Rattle.wfe_core.specs.Calls.{Why, Phase, Idle, Runs, CallTurn}
+use Rattle.wfe_core.specs.Posts.{counted}
+use Rattle.wfe_core.specs.Phases.{MoveAt, Turn, goes}
+use Rattle.wfe_core.specs.Calls.{Why, Runs}
 use Rattle.wfe_core.specs.Steps.{run_turn}
 use Rattle.wfe_core.specs.Locals.{Local}
-use Rattle.wfe_core.specs.Machine.{protect_move, protect_turn, move_move, move_turn, base_move, after}
-use Rattle.wfe_eras.specs.Frame.{Moves}
-use Rattle.std.specs.Prelude.{not}
-use Rattle.wfe_words.specs.Packed.{read_request, read_reservation, pending_word, answered_word}
+use Rattle.wfe_core.specs.Machine.{move_move, move_turn}
+use Rattle.wfe_words.specs.Packed.{read_request, answered_word}
 use Rattle.wfe_words.specs.declared.config.Config.{Config}
-use Rattle.wfe_words.specs.declared.layout.Layout.{Layout}
 use Rattle.wfe_words.specs.declared.packed.Request.TheVariants as requests
-use Rattle.wfe_words.proofs.Parts.{halves_one, pending_some, pending≢answered, pending_one, read_request-pending, read_request-answered, read_reservation-halves}
+use Rattle.wfe_words.proofs.Parts.{read_request-pending, read_request-answered}
 use Rattle.wfe_core.proofs.Ranges.{bounds_of}
 use Rattle.wfe_core.proofs.Roots.{root_at-number}
 use Rattle.wfe_core.specs.Links.{root_at}
 use Rattle.wfe_core.specs.Memory.{Move}
-use Rattle.wfe_core.specs.Phases.MoveAt.{LoadEra, LoadRequest, ShowEra, LoadAsked, CheckEra, AnswerAsked, LoadReserved, HandOver, HideEra, HideLate, ExchangeClock}
-use Rattle.wfe_core.specs.Phases.ProtectAt.{LoadClock, PublishEra, LoadLink, CheckClock, PublishRequest, LoadOwnClock, PublishHelper, LoadOwnLink, CheckOwnClock, AnswerOwn, LoadAnswer, TakeAnswer, WithdrawRequest, WithdrawHelper, LoadWithin, CheckUpper, RaiseUpper}
+use Rattle.wfe_core.specs.Phases.MoveAt.{LoadRequest, ShowEra, LoadAsked, CheckEra, AnswerAsked, HideLate}
 use Rattle.wfe_core.specs.Phases.{Base as bases}
-use Rattle.wfe_core.specs.Calls.{Scans, Works}
-use Rattle.wfe_core.specs.Phases.Ending.{Clocked}
-use Rattle.wfe_defs.specs.declared.call.ClockMove.TheVariants as moves
 use Rattle.wfe_core.specs.Posts.{helper_word, reserves_helper}
-use Rattle.wfe_core.specs.SlowPath.{asking}
-use Rattle.wfe_core.specs.MoveClock.{next_request, all_met, met, helping, moving}
-use Rattle.wfe_eras.specs.Seats.{is_wfe, agree}
-use Rattle.wfe_requests.specs.Views.{View, Deal, Role, upd2}
+use Rattle.wfe_core.specs.MoveClock.{next_request, met, helping}
+use Rattle.wfe_requests.specs.Views.{View, Deal}
 use Rattle.wfe_requests.specs.Views.Deal.{Quiet, Open, Answered, Passed, Taken}
 use Rattle.wfe_requests.specs.Views.{Role as roles}
-use Rattle.wfe_requests.specs.Deals.{fits, is_open, in_time, gave_by}
-use Rattle.wfe_requests.specs.Roles.{in_range, spares, knows}
+use Rattle.wfe_requests.specs.Deals.{is_open}
 use Rattle.wfe_requests.specs.Parts.{Parts}
-use Rattle.wfe_requests.specs.Standing.{move_role, role_of, asked_there, is_there, request_of, Words}
-use Rattle.wfe_requests.specs.NextDeals.{protect_deals, move_deals, base_deals, phase_deals}
-use Rattle.wfe_requests.specs.Turns.{PostOf, RoleOf, Made}
-use Rattle.wfe_requests.specs.Context.{At, phase_there}
+use Rattle.wfe_requests.specs.Standing.{move_role, asked_there, is_there, request_of}
+use Rattle.wfe_requests.specs.Turns.{Made}
+use Rattle.wfe_requests.specs.Context.{At}
 use Rattle.wfe_requests.specs.Asked.{Asker}
-use Rattle.wfe_requests.proofs.Words.{no_halves, words_helper, words_index, words_request, words_same, words_clock, exchanged, not_exchanged}
+use Rattle.wfe_requests.proofs.Words.{words_helper}
 use Rattle.wfe_requests.proofs.Movers as mover
 use Rattle.wfe_requests.proofs.Helping.{last_role, next_go, asker_of}
-use Rattle.wfe_requests.proofs.Going.{test_equal, equal_test, by_test, either, same_role, stands_in, own_post, link_few, go, rest}
+use Rattle.wfe_requests.proofs.Going.{by_test, stands_in, link_few, go}
 
 -- an idle request word
 read_idle : read_request 0 ≡ Some requests.Idle
@@ -79,8 +65,8 @@ pass_request : (mem : Place → ℕ) (seat : ℕ → Local) (i : ℕ) (v : View)
 pass_request mem seat i v why e k shown a q o g =
     let r = stands_in mem seat i v (Runs why (bases.Move (LoadRequest e k shown))) a q in
     next_go mem seat i v (memory.Load (Request k)) why [] e k shown (met (counted (seat i).post) e k shown (read_request (mem (Request k)))) v a g refl a.facts.words
-      (passes_next (seat i).post.layout.config v i e k shown a.below a.facts.parts r o)
-      (passes_last (seat i).post.layout.config v i e k shown a.below a.facts.parts r o)
+    (passes_next (seat i).post.layout.config v i e k shown a.below a.facts.parts r o)
+    (passes_last (seat i).post.layout.config v i e k shown a.below a.facts.parts r o)
 
 -- A pending one is loaded.
 meet_request : (mem : Place → ℕ) (seat : ℕ → Local) (i : ℕ) (v : View) (why : Why) (e k t j w : ℕ) (shown : Bool) → At mem seat i v → (seat i).phase ≡ Runs why (bases.Move (LoadRequest e k shown)) → v.deal k ≡ Open t j w
@@ -100,12 +86,12 @@ meet_request mem seat i v why e k t j w shown a q o =
         → Made mem seat i (memory.Load (Request k)) (run_turn why (seat i).desk (move_turn (LoadRequest e k shown) (counted (seat i).post) (mem (Request k)))) v.deal
     meet_as true r s x n =
         go mem seat i v (memory.Load (Request k)) why [] (bases.Move (met (counted (seat i).post) e k shown (read_request (mem (Request k))))) (roles.Loads e k t j w 0) (record v { role = upd v.role i (roles.Loads e k t j w 0) }) a
-          (ap (move_role (seat i).post.layout) x ∙ ap (λ (word : ℕ). roles.Loads e k t j word 0) (sym s.is)) (ap (asked_there (seat i).post.layout) x ∙ s.there) refl refl a.facts.words
-          (mover.meets_shown-keeps (seat i).post.layout.config v i e k t j w a.below a.facts.parts r o s.below n)
+        (ap (move_role (seat i).post.layout) x ∙ ap (λ (word : ℕ). roles.Loads e k t j word 0) (sym s.is)) (ap (asked_there (seat i).post.layout) x ∙ s.there) refl refl a.facts.words
+        (mover.meets_shown-keeps (seat i).post.layout.config v i e k t j w a.below a.facts.parts r o s.below n)
     meet_as false r s x n =
         go mem seat i v (memory.Load (Request k)) why [] (bases.Move (met (counted (seat i).post) e k shown (read_request (mem (Request k))))) (roles.Shows e k t j w) (record v { role = upd v.role i (roles.Shows e k t j w) }) a
-          (ap (move_role (seat i).post.layout) x ∙ ap (λ (word : ℕ). roles.Shows e k t j word) (sym s.is)) (ap (asked_there (seat i).post.layout) x ∙ s.there) refl refl a.facts.words
-          (mover.meets_plain-keeps (seat i).post.layout.config v i e k t j w a.below a.facts.parts r o s.below n)
+        (ap (move_role (seat i).post.layout) x ∙ ap (λ (word : ℕ). roles.Shows e k t j word) (sym s.is)) (ap (asked_there (seat i).post.layout) x ∙ s.there) refl refl a.facts.words
+        (mover.meets_plain-keeps (seat i).post.layout.config v i e k t j w a.below a.facts.parts r o s.below n)
 
 -- an answer's numbers are in range
 pub record Timely (clock most link era : ℕ) : Type 0 where
@@ -141,19 +127,19 @@ pub show_era : (mem : Place → ℕ) (seat : ℕ → Local) (i : ℕ) (v : View)
     → Made mem seat i (move_move (ShowEra e k t j root) (seat i).post) (run_turn why (seat i).desk (move_turn (ShowEra e k t j root) (counted (seat i).post) 0)) v.deal
 show_era mem seat i v why e k t j root a q =
     go mem seat i v (move_move (ShowEra e k t j root) (seat i).post) why (reserves_helper (counted (seat i).post) e) (bases.Move (LoadAsked e k t j root)) (roles.Loads e k t j (link_number (seat i).post.layout root) 0)
-      (record v { helper = upd v.helper i e; role = upd v.role i (roles.Loads e k t j (link_number (seat i).post.layout root) 0) }) a
-      refl (there_of mem seat i v why (ShowEra e k t j root) a q) refl refl
-      (words_helper mem v.clock v.helper v.era v.mark v.deal i (seat i).post.seat e (helper_word e) a.facts.words a.number refl)
-      (mover.shows_era-keeps (seat i).post.layout.config v i e k t j (link_number (seat i).post.layout root) a.below a.facts.parts (stands_in mem seat i v (Runs why (bases.Move (ShowEra e k t j root))) a q))
+    (record v { helper = upd v.helper i e; role = upd v.role i (roles.Loads e k t j (link_number (seat i).post.layout root) 0) }) a
+    refl (there_of mem seat i v why (ShowEra e k t j root) a q) refl refl
+    (words_helper mem v.clock v.helper v.era v.mark v.deal i (seat i).post.seat e (helper_word e) a.facts.words a.number refl)
+    (mover.shows_era-keeps (seat i).post.layout.config v i e k t j (link_number (seat i).post.layout root) a.below a.facts.parts (stands_in mem seat i v (Runs why (bases.Move (ShowEra e k t j root))) a q))
 
 -- 4. The link is loaded.
 pub load_asked : (mem : Place → ℕ) (seat : ℕ → Local) (i : ℕ) (v : View) (why : Why) (e k t j : ℕ) (root : Root) → At mem seat i v → (seat i).phase ≡ Runs why (bases.Move (LoadAsked e k t j root))
     → Made mem seat i (memory.Load (link_place root)) (run_turn why (seat i).desk (move_turn (LoadAsked e k t j root) (counted (seat i).post) (mem (link_place root)))) v.deal
 load_asked mem seat i v why e k t j root a q =
     go mem seat i v (memory.Load (link_place root)) why [] (bases.Move (CheckEra e k t j root (mem (link_place root)))) (roles.Loads e k t j (link_number (seat i).post.layout root) (mem (link_place root)))
-      (record v { role = upd v.role i (roles.Loads e k t j (link_number (seat i).post.layout root) (mem (link_place root))) }) a
-      refl (there_of mem seat i v why (LoadAsked e k t j root) a q) refl refl a.facts.words
-      (mover.looks_asked-keeps (seat i).post.layout.config v i e k t j (link_number (seat i).post.layout root) 0 (mem (link_place root)) a.below a.facts.parts (stands_in mem seat i v (Runs why (bases.Move (LoadAsked e k t j root))) a q) (a.links root (there_of mem seat i v why (LoadAsked e k t j root) a q)))
+    (record v { role = upd v.role i (roles.Loads e k t j (link_number (seat i).post.layout root) (mem (link_place root))) }) a
+    refl (there_of mem seat i v why (LoadAsked e k t j root) a q) refl refl a.facts.words
+    (mover.looks_asked-keeps (seat i).post.layout.config v i e k t j (link_number (seat i).post.layout root) 0 (mem (link_place root)) a.below a.facts.parts (stands_in mem seat i v (Runs why (bases.Move (LoadAsked e k t j root))) a q) (a.links root (there_of mem seat i v why (LoadAsked e k t j root) a q)))
 
 -- 5. The clock is loaded again.
 pub check_era : (mem : Place → ℕ) (seat : ℕ → Local) (i : ℕ) (v : View) (why : Why) (e k t j : ℕ) (root : Root) (link : ℕ) → At mem seat i v → (seat i).phase ≡ Runs why (bases.Move (CheckEra e k t j root link))
@@ -161,12 +147,12 @@ pub check_era : (mem : Place → ℕ) (seat : ℕ → Local) (i : ℕ) (v : View
 check_era mem seat i v why e k t j root link a q =
     let r = stands_in mem seat i v (Runs why (bases.Move (CheckEra e k t j root link))) a q in
     by_test (mem Clock == e) (goes (counted (seat i).post) [] (bases.Move (AnswerAsked e k t j root link))) (goes (counted (seat i).post) [] (bases.Move (HideLate (mem Clock))))
-      (λ (x : Turn). Made mem seat i (memory.Load Clock) (run_turn why (seat i).desk x) v.deal)
-      (λ h. go mem seat i v (memory.Load Clock) why [] (bases.Move (AnswerAsked e k t j root link)) (roles.Helps e k t j (link_number (seat i).post.layout root) link)
-        (record v { role = upd v.role i (roles.Helps e k t j (link_number (seat i).post.layout root) link) }) a
-        refl (there_of mem seat i v why (CheckEra e k t j root link) a q) refl refl a.facts.words
-        (mover.checks-keeps (seat i).post.layout.config v i e k t j (link_number (seat i).post.layout root) link a.below a.facts.parts r (rw a.facts.words.clocks at h)))
-      (λ h. go mem seat i v (memory.Load Clock) why [] (bases.Move (HideLate (mem Clock))) roles.Late
-        (record v { role = upd v.role i roles.Late }) a
-        refl refl refl refl a.facts.words
-        (mover.is_late-keeps (seat i).post.layout.config v i e k t j (link_number (seat i).post.layout root) link a.below a.facts.parts r))
+    (λ (x : Turn). Made mem seat i (memory.Load Clock) (run_turn why (seat i).desk x) v.deal)
+    (λ h. go mem seat i v (memory.Load Clock) why [] (bases.Move (AnswerAsked e k t j root link)) (roles.Helps e k t j (link_number (seat i).post.layout root) link)
+    (record v { role = upd v.role i (roles.Helps e k t j (link_number (seat i).post.layout root) link) }) a
+    refl (there_of mem seat i v why (CheckEra e k t j root link) a q) refl refl a.facts.words
+    (mover.checks-keeps (seat i).post.layout.config v i e k t j (link_number (seat i).post.layout root) link a.below a.facts.parts r (rw a.facts.words.clocks at h)))
+    (λ h. go mem seat i v (memory.Load Clock) why [] (bases.Move (HideLate (mem Clock))) roles.Late
+    (record v { role = upd v.role i roles.Late }) a
+    refl refl refl refl a.facts.words
+    (mover.is_late-keeps (seat i).post.layout.config v i e k t j (link_number (seat i).post.layout root) link a.below a.facts.parts r))

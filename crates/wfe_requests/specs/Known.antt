@@ -8,7 +8,7 @@ use Rattle.wfe_core.specs.SlowPath.{own_request}
 use Rattle.wfe_core.specs.Phases.{Aim}
 use Rattle.wfe_core.specs.Phases.ProtectAt.{AnswerOwn, LoadAnswer, TakeAnswer}
 use Rattle.wfe_core.specs.Phases.Base.{Protect}
-use Rattle.wfe_core.specs.Calls.{Why, Runs, Phase}
+use Rattle.wfe_core.specs.Calls.{Why, Runs}
 use Rattle.wfe_core.specs.World.{World, finds, is_busy}
 
 -- the word is an answered request, of a table with so many slots besides the dummy's at this clock

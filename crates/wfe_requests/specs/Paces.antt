@@ -1,13 +1,16 @@
 -- How many steps a protection of Wait-Free Eras has made, by where it stands.
 use Rattle.std.specs.Prelude.{ℕ, ◌≡◌, Bool, true, false, not, nat_le, nat_lt, ◌&&◌, ◌||◌, ◌+◌, ◌*◌, ◌≤◌, ◌==◌}
 use Rattle.wfe_words.specs.declared.config.Config.{Config}
-use Rattle.wfe_core.specs.Phases.{Aim, Tries, Endless, Failed, ProtectAt, Base}
+use Rattle.wfe_core.specs.Phases.{Aim, Tries, Endless, Failed, ProtectAt, MoveAt, Base, Outcome, Goes, Ends}
 use Rattle.wfe_core.specs.Phases.ProtectAt.{LoadClock, PublishEra, LoadLink, CheckClock, PublishRequest, LoadOwnClock, PublishHelper, LoadOwnLink, CheckOwnClock, AnswerOwn, LoadAnswer, TakeAnswer, WithdrawRequest, WithdrawHelper, LoadWithin, CheckUpper, RaiseUpper}
 use Rattle.wfe_core.specs.Phases.Base.{Begin, Protect, Reload, Clear, Finish, Release, Allocate, Write, GiveUp, Retire, Move}
+use Rattle.wfe_core.specs.Phases.MoveAt.{LoadEra}
+use Rattle.wfe_core.specs.Machine.{move_turn}
+use Rattle.wfe_core.specs.Posts.{counted}
 use Rattle.wfe_core.specs.Calls.{Why, Phase, Idle, Runs, Scans, Works}
 use Rattle.wfe_defs.specs.declared.event.Root.{Root}
-use Rattle.wfe_core.specs.Rest.{protect_left, protect_most}
-use Rattle.wfe_core.specs.World.{World}
+use Rattle.wfe_core.specs.Rest.{protect_left, protect_most, move_left}
+use Rattle.wfe_core.specs.World.{World, finds}
 use Rattle.wfe_eras.specs.Seats.{is_wfe}
 
 -- the steps made and those that are left are no more than a protection takes, while at most so many tries have failed
@@ -71,3 +74,27 @@ pub record InTime (w : World) (k : ℕ) : Type 0 where
       → (w.seat k).phase ≡ Runs why (Protect aim index root steps at) → steps + 1 ≤ 3 * w.layout.config.tries + 14
   pub reloads : (why : Why) (parent index slot era steps : ℕ) → is_wfe w.layout.config.scheme ≡ true
       → (w.seat k).phase ≡ Runs why (Reload parent index slot era steps) → steps + 1 ≤ 3 * w.layout.config.tries + 15
+
+-- the machine is still the move, with fewer steps left
+abbrev pub base_falls : Config → ℕ → Base → Type 0
+base_falls c left (Begin at) = ⊥
+base_falls c left (Protect aim index root steps at) = ⊥
+base_falls c left (Reload parent index slot era steps) = ⊥
+base_falls c left (Clear index) = ⊥
+base_falls c left Finish = ⊥
+base_falls c left Release = ⊥
+base_falls c left (Allocate at) = ⊥
+base_falls c left (Write slot row place) = ⊥
+base_falls c left (GiveUp slot) = ⊥
+base_falls c left (Retire at) = ⊥
+base_falls c left (Move at) = move_left at c + 1 ≤ left
+
+-- a move of the clock ends, or goes on with fewer steps left
+abbrev pub Falls : Config → ℕ → Outcome → Type 0
+Falls c left (Goes base) = base_falls c left base
+Falls c left (Ends ending) = 1 ≤ left
+
+-- each step of a mover leaves fewer steps; at the first of them `7 * seats + 3` are left
+pub record MovesOn (w : World) (k : ℕ) : Type 0 where
+  pub falls : (why : Why) (at : MoveAt) → (w.seat k).phase ≡ Runs why (Move at) → Falls w.layout.config (move_left at w.layout.config) (move_turn at (counted (w.seat k).post) (finds w k)).outcome
+  pub first : (helps : Bool) → move_left (LoadEra helps) w.layout.config ≡ 7 * w.layout.config.seats + 3

@@ -1,3 +1,4 @@
+use Rattle.wfe_requests.proofs.Falling.{needs_of}
 use Rattle.wfe_requests.proofs.Kept.{requests_start, requests_begin, requests_step}
 use Rattle.wfe_requests.proofs.requests_hold.Goals as goal
 
@@ -9,3 +10,6 @@ returns-clause-begin c = requests_begin
 
 pub returns-clause-step : goal.returns-clause-step
 returns-clause-step c = requests_step
+
+pub returns-clause-needs : goal.returns-clause-needs
+returns-clause-needs c = needs_of
