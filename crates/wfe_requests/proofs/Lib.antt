@@ -1,0 +1,16 @@
+pub mod Answering
+pub mod Asking
+pub mod Falling
+pub mod Going
+pub mod Handing
+pub mod Helping
+pub mod Kept
+pub mod Known
+pub mod Movers
+pub mod Paced
+pub mod Paces
+pub mod Requester
+pub mod Resting
+pub mod Serving
+pub mod Turns
+pub mod Words

@@ -1,0 +1,13 @@
+pub mod Asked
+pub mod Context
+pub mod Deals
+pub mod Heard
+pub mod Known
+pub mod Needs
+pub mod NextDeals
+pub mod Paces
+pub mod Parts
+pub mod Roles
+pub mod Standing
+pub mod Turns
+pub mod Views
