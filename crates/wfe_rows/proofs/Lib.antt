@@ -1,0 +1,4 @@
+pub mod Made
+pub mod Rounds
+pub mod Turns
+pub mod Words
