@@ -1,4 +1,6 @@
+pub mod Lists
 pub mod Made
 pub mod Rounds
+pub mod Runs
 pub mod Turns
 pub mod Words

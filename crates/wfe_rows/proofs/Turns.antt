@@ -184,7 +184,7 @@ opened_null_leaves (Holds key) post desk told = clearing_leaves (Holds key) (Ans
 opened_null_leaves (Enqueues kept) post desk told = clearing_leaves (Enqueues kept) Again post desk told
 opened_null_leaves Dequeues post desk told = clearing_leaves Dequeues Again post desk told
 
-opened_leaves : (task : Task) (ending : Ending) (post : Post) (desk : Desk) (told : List Event) → Leaves (hand_task task) desk.list (steps.opened task ending post desk told)
+pub opened_leaves : (task : Task) (ending : Ending) (post : Post) (desk : Desk) (told : List Event) → Leaves (hand_task task) desk.list (steps.opened task ending post desk told)
 opened_leaves task (Protected (protect_ends.Held slot era)) post desk told = opened_row_leaves task slot post desk told
 opened_leaves task (Protected protect_ends.Null) post desk told = opened_null_leaves task post desk told
 opened_leaves task Done post desk told = record { hand = refl; right = refl; list = refl }
@@ -193,7 +193,7 @@ opened_leaves task (Allocated end) post desk told = record { hand = refl; right 
 opened_leaves task (endings.Retired life) post desk told = record { hand = refl; right = refl; list = refl }
 opened_leaves task (Clocked clock) post desk told = record { hand = refl; right = refl; list = refl }
 
-followed_by_leaves : (head tail : ℕ) (ending : Ending) (post : Post) (desk : Desk) (told : List Event) → Leaves Empty desk.list (steps.followed_by head tail ending post desk told)
+pub followed_by_leaves : (head tail : ℕ) (ending : Ending) (post : Post) (desk : Desk) (told : List Event) → Leaves Empty desk.list (steps.followed_by head tail ending post desk told)
 followed_by_leaves head tail (Followed end) post desk told = followed_leaves head tail end post desk told
 followed_by_leaves head tail (Protected end) post desk told = closed_leaves Dequeues Again post desk told
 followed_by_leaves head tail Done post desk told = closed_leaves Dequeues Again post desk told
@@ -206,7 +206,7 @@ moved_later (Answered answer) clock = refl
 moved_later (Repeated task) clock = refl
 moved_later Counted clock = refl
 
-tidied_leaves : (later : AfterScan) (ending : Ending) (post : Post) (desk : Desk) (told : List Event) → Leaves (hand_later later) desk.list (steps.tidied later ending post desk told)
+pub tidied_leaves : (later : AfterScan) (ending : Ending) (post : Post) (desk : Desk) (told : List Event) → Leaves (hand_later later) desk.list (steps.tidied later ending post desk told)
 tidied_leaves later (Clocked clock) post desk told = record { hand = moved_later later clock; right = refl; list = refl }
 tidied_leaves later (Protected end) post desk told = record { hand = refl; right = refl; list = refl }
 tidied_leaves later Done post desk told = record { hand = refl; right = refl; list = refl }
@@ -214,7 +214,7 @@ tidied_leaves later (Followed end) post desk told = record { hand = refl; right 
 tidied_leaves later (Allocated end) post desk told = record { hand = refl; right = refl; list = refl }
 tidied_leaves later (endings.Retired life) post desk told = record { hand = refl; right = refl; list = refl }
 
-advanced_leaves : (ending : Ending) (post : Post) (desk : Desk) (told : List Event) → Leaves Empty desk.list (steps.advanced ending post desk told)
+pub advanced_leaves : (ending : Ending) (post : Post) (desk : Desk) (told : List Event) → Leaves Empty desk.list (steps.advanced ending post desk told)
 advanced_leaves (Clocked clock) post desk told = record { hand = refl; right = refl; list = refl }
 advanced_leaves (Protected end) post desk told = record { hand = refl; right = refl; list = refl }
 advanced_leaves Done post desk told = record { hand = refl; right = refl; list = refl }
@@ -222,6 +222,6 @@ advanced_leaves (Followed end) post desk told = record { hand = refl; right = re
 advanced_leaves (Allocated end) post desk told = record { hand = refl; right = refl; list = refl }
 advanced_leaves (endings.Retired life) post desk told = record { hand = refl; right = refl; list = refl }
 
-released_leaves : (key : Option ℕ) (post : Post) (desk : Desk) (told : List Event) → Leaves Empty desk.list (steps.released key post desk told)
+pub released_leaves : (key : Option ℕ) (post : Post) (desk : Desk) (told : List Event) → Leaves Empty desk.list (steps.released key post desk told)
 released_leaves None post desk told = record { hand = refl; right = refl; list = refl }
 released_leaves (Some key) post desk told = record { hand = round_hand (Holds key) post; right = round_right (Holds key) post desk.list; list = refl }

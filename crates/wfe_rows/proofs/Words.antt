@@ -111,6 +111,147 @@ written_other mem (Cas place old new) q f h = put_other mem place q (change (Cas
 written_other mem (Or place bits) q f h = put_other mem place q (bit_or (mem place) bits) (f h place refl h)
 written_other mem (And place bits) q f h = put_other mem place q (bit_and (mem place) bits) (f h place refl h)
 
--- four words that rows are known by stay
-abbrev pub Same : (Place → ℕ) → (Place → ℕ) → Type 0
-Same old new = (claims : (w : ℕ) → new (Claim w) ≡ old (Claim w)) × (lives : (s : ℕ) → new (Life s) ≡ old (Life s)) × (roots : (b : ℕ) → new (Bucket b) ≡ old (Bucket b)) × (new Head ≡ old Head)
+-- an operation on another place leaves them
+abbrev Apart : Place → Type 0
+Apart q = (p : Place) → is_rowish p ≡ false → same q p ≡ false
+
+plain_other : (mem : Place → ℕ) (m : Move) (q : Place) → Apart q → is_writing m ≡ false → written mem m q ≡ mem q
+plain_other mem m q f h = written_other mem m q (λ k p e r. f p r) h
+
+pub words_plain : (slots : ℕ) (mem : Place → ℕ) (v : View) (m : Move) → is_writing m ≡ false → Words slots mem v → Words slots (written mem m) v
+words_plain slots mem v m h w = record {
+  claims = λ s e. ap (λ (x : ℕ). bit_at x (s % 64)) (plain_other mem m (Claim (s / 64)) (claim_apart (s / 64)) h) ∙ w.claims s e;
+  lives = λ s e. plain_other mem m (Life s) (life_apart s) h ∙ w.lives s e;
+  roots = λ b. plain_other mem m (Bucket b) (bucket_apart b) h ∙ w.roots b;
+  head = plain_other mem m Head head_apart h ∙ w.head;
+}
+
+-- an exchange that fails leaves all words
+missed : (mem : Place → ℕ) (p q : Place) (old new : ℕ) → (mem p == old) ≡ false → written mem (Cas p old new) q ≡ mem q
+missed mem p q old new h = rw h (put_back mem p q)
+
+pub words_missed : (slots : ℕ) (mem : Place → ℕ) (v : View) (p : Place) (old new : ℕ) → (mem p == old) ≡ false → Words slots mem v → Words slots (written mem (Cas p old new)) v
+words_missed slots mem v p old new h w = record {
+  claims = λ s e. ap (λ (x : ℕ). bit_at x (s % 64)) (missed mem p (Claim (s / 64)) old new h) ∙ w.claims s e;
+  lives = λ s e. missed mem p (Life s) old new h ∙ w.lives s e;
+  roots = λ b. missed mem p (Bucket b) old new h ∙ w.roots b;
+  head = missed mem p Head old new h ∙ w.head;
+}
+
+-- a claim bit is set, or cleared, and the others stay
+or_bit : (mem : Place → ℕ) (t s : ℕ) → bit_at (put mem (Claim (t / 64)) (bit_or (mem (Claim (t / 64))) (claim_mask t)) (Claim (s / 64))) (s % 64) ≡ (if s == t then 1 else bit_at (mem (Claim (s / 64))) (s % 64))
+or_bit mem t s = by_word (s / 64 == t / 64) refl (s == t) refl
+  where
+    by_word : (b : Bool) → (s / 64 == t / 64) ≡ b → (d : Bool) → (s == t) ≡ d → bit_at (put mem (Claim (t / 64)) (bit_or (mem (Claim (t / 64))) (claim_mask t)) (Claim (s / 64))) (s % 64) ≡ (if s == t then 1 else bit_at (mem (Claim (s / 64))) (s % 64))
+    by_word true e true d = let same : s ≡ t = grind (arith, nat_tests) in rw (e, d) (rw same (claimed_same (mem (Claim (t / 64))) t))
+    by_word true e false d = let there : s / 64 ≡ t / 64 = grind (arith, nat_tests) in let other : s ≢ t = (λ z. grind (arith, nat_tests)) in rw (e, d) (rw there (claimed_other (mem (Claim (t / 64))) t (s % 64) (bits_apart s t there other)))
+    by_word false e true d = absurd (grind (arith, nat_tests))
+    by_word false e false d = rw (e, d) refl
+
+and_bit : (mem : Place → ℕ) (t s : ℕ) → bit_at (put mem (Claim (t / 64)) (bit_and (mem (Claim (t / 64))) (claim_others t)) (Claim (s / 64))) (s % 64) ≡ (if s == t then 0 else bit_at (mem (Claim (s / 64))) (s % 64))
+and_bit mem t s = by_word (s / 64 == t / 64) refl (s == t) refl
+  where
+    by_word : (b : Bool) → (s / 64 == t / 64) ≡ b → (d : Bool) → (s == t) ≡ d → bit_at (put mem (Claim (t / 64)) (bit_and (mem (Claim (t / 64))) (claim_others t)) (Claim (s / 64))) (s % 64) ≡ (if s == t then 0 else bit_at (mem (Claim (s / 64))) (s % 64))
+    by_word true e true d = let same : s ≡ t = grind (arith, nat_tests) in rw (e, d) (rw same (freed_same (mem (Claim (t / 64))) t))
+    by_word true e false d = let there : s / 64 ≡ t / 64 = grind (arith, nat_tests) in let other : s ≢ t = (λ z. grind (arith, nat_tests)) in let below : s % 64 < 64 = omega arith in rw (e, d) (rw there (freed_other (mem (Claim (t / 64))) t (s % 64) below (bits_apart s t there other)))
+    by_word false e true d = absurd (grind (arith, nat_tests))
+    by_word false e false d = rw (e, d) refl
+
+-- a row's claim bit was set before: nothing changes
+pub words_shown : (slots : ℕ) (mem : Place → ℕ) (v : View) (t : ℕ) → t ≤ slots → bit_at (mem (Claim (t / 64))) (t % 64) ≡ 1 → Words slots mem v → Words slots (written mem (Or (Claim (t / 64)) (claim_mask t))) v
+words_shown slots mem v t below h w = record {
+  claims = λ s e. or_bit mem t s ∙ grind (arith, nat_tests, w.claims s e, h);
+  lives = w.lives;
+  roots = w.roots;
+  head = w.head;
+}
+
+-- a row is claimed
+pub words_claims : (slots : ℕ) (mem : Place → ℕ) (v : View) (i t : ℕ) → t ≤ slots → Words slots mem v → Words slots (written mem (Or (Claim (t / 64)) (claim_mask t))) (made i v (Claims t))
+words_claims slots mem v i t below w = record {
+  claims = λ s e. or_bit mem t s ∙ grind (arith, nat_tests, w.claims s e);
+  lives = λ s e. grind (arith, nat_tests, w.lives s);
+  roots = w.roots;
+  head = w.head;
+}
+
+-- a row becomes free
+pub words_frees : (slots : ℕ) (mem : Place → ℕ) (v : View) (t : ℕ) → t ≤ slots → Words slots mem v → Words slots (written mem (And (Claim (t / 64)) (claim_others t))) (set_status v t Free)
+words_frees slots mem v t below w = record {
+  claims = λ s e. and_bit mem t s ∙ grind (arith, nat_tests, w.claims s e);
+  lives = λ s e. grind (arith, nat_tests, w.lives s);
+  roots = w.roots;
+  head = w.head;
+}
+
+-- a row's lifetime is stored
+pub words_bears : (slots : ℕ) (mem : Place → ℕ) (v : View) (i t birth : ℕ) → v.status t ≡ Claimed i → Words slots mem v → Words slots (written mem (Store (Life t) (life_word (record { birth = birth; retire = 0 })))) (made i v (Bears t birth))
+words_bears slots mem v i t birth h w = record {
+  claims = λ s e. grind (arith, nat_tests, w.claims s e);
+  lives = λ s e. grind (arith, nat_tests, w.lives s);
+  roots = w.roots;
+  head = w.head;
+}
+
+-- its retire era is
+pub words_lists : (slots : ℕ) (mem : Place → ℕ) (v : View) (i t birth retire : ℕ) → v.status t ≡ Sealed i retire → v.birth t ≡ birth → Words slots mem v → Words slots (written mem (Store (Life t) (life_word (record { birth = birth; retire = retire })))) (made i v (Lists t birth retire))
+words_lists slots mem v i t birth retire h b w = record {
+  claims = λ s e. grind (arith, nat_tests, w.claims s e);
+  lives = λ s e. grind (arith, nat_tests, w.lives s);
+  roots = w.roots;
+  head = w.head;
+}
+
+-- a row that was cut gets its retire era
+pub words_seals : (slots : ℕ) (mem : Place → ℕ) (v : View) (i t birth retire : ℕ) → v.status t ≡ Cut i → Words slots mem v → Words slots mem (made i v (Seals t birth retire))
+words_seals slots mem v i t birth retire h w = record {
+  claims = λ s e. grind (arith, nat_tests, w.claims s e);
+  lives = λ s e. grind (arith, nat_tests, w.lives s);
+  roots = w.roots;
+  head = w.head;
+}
+
+-- a root is exchanged
+pub words_links : (slots : ℕ) (mem : Place → ℕ) (v : View) (i b t link : ℕ) → (mem (Bucket b) == link) ≡ true → v.status t ≡ Born i → Words slots mem v → Words slots (written mem (Cas (Bucket b) link (t + 1))) (made i v (Links b t))
+words_links slots mem v i b t link h e w = record {
+  claims = λ s x. grind (arith, nat_tests, w.claims s x);
+  lives = λ s x. grind (arith, nat_tests, w.lives s);
+  roots = λ c. grind (arith, nat_tests, w.roots c);
+  head = w.head;
+}
+
+pub words_replaces : (slots : ℕ) (mem : Place → ℕ) (v : View) (i b t old link : ℕ) → (mem (Bucket b) == link) ≡ true → v.status t ≡ Born i → v.status old ≡ Linked b → Words slots mem v → Words slots (written mem (Cas (Bucket b) link (t + 1))) (made i v (Replaces b t old))
+words_replaces slots mem v i b t old link h e k w = record {
+  claims = λ s x. grind (arith, nat_tests, w.claims s x);
+  lives = λ s x. grind (arith, nat_tests, w.lives s);
+  roots = λ c. grind (arith, nat_tests, w.roots c);
+  head = w.head;
+}
+
+-- a row goes into the queue
+pub words_appends : (slots : ℕ) (mem : Place → ℕ) (v : View) (i t tail : ℕ) → v.status t ≡ Born i → Words slots mem v → Words slots (written mem (Cas (Row tail 0) 0 (t + 1))) (made i v (Appends t))
+words_appends slots mem v i t tail h w = record {
+  claims = λ s x. grind (arith, nat_tests, w.claims s x);
+  lives = λ s x. grind (arith, nat_tests, w.lives s);
+  roots = w.roots;
+  head = w.head;
+}
+
+-- the head is exchanged
+pub words_pops : (slots : ℕ) (mem : Place → ℕ) (v : View) (i t next : ℕ) → (mem Head == t + 1) ≡ true → v.status t ≡ InQueue → Words slots mem v → Words slots (written mem (Cas Head (t + 1) (next + 1))) (made i v (Pops t next))
+words_pops slots mem v i t next h e w = record {
+  claims = λ s x. grind (arith, nat_tests, w.claims s x);
+  lives = λ s x. grind (arith, nat_tests, w.lives s);
+  roots = w.roots;
+  head = grind (arith, nat_tests, w.head);
+}
+
+-- what is in hand does not bear on words
+pub words_hand : (slots : ℕ) (mem : Place → ℕ) (v : View) (i : ℕ) (hand : Hand) → Words slots mem v → Words slots mem (set_hand v i hand)
+words_hand slots mem v i hand w = record { claims = w.claims; lives = w.lives; roots = w.roots; head = w.head }
+
+pub words_drops : (slots : ℕ) (mem : Place → ℕ) (v : View) (i t : ℕ) → t ≤ slots → Words slots mem v → Words slots (written mem (And (Claim (t / 64)) (claim_others t))) (made i v (Drops t))
+words_drops slots mem v i t below w = let f = words_frees slots mem v t below w in record { claims = f.claims; lives = f.lives; roots = f.roots; head = f.head }
+
+pub words_returns : (slots : ℕ) (mem : Place → ℕ) (v : View) (i t : ℕ) → t ≤ slots → Words slots mem v → Words slots (written mem (And (Claim (t / 64)) (claim_others t))) (made i v (Returns t))
+words_returns slots mem v i t below w = let f = words_frees slots mem v t below w in record { claims = f.claims; lives = f.lives; roots = f.roots; head = f.head }
