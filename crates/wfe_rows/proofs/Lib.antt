@@ -1,5 +1,7 @@
+pub mod Kept
 pub mod Lists
 pub mod Made
+pub mod Phases
 pub mod Rounds
 pub mod Runs
 pub mod Steps

@@ -1,12 +1,11 @@
 -- Each move of rows keeps what is known of them.
-use Rattle.std.proofs.Common.{ℕ, ◌≤◌, ◌+◌, ◌<◌, ◌≡◌, ◌≢◌, Bool, true, false, arith, refl, ap, ◌&&◌, ◌||◌, sym, subst, List, [], ◌∷◌, ◌++◌}
+use Rattle.std.proofs.Common.{ℕ, ◌≤◌, ◌+◌, ◌<◌, ◌≡◌, true, false, arith}
 use Rattle.std.proofs.lemmas.Bool.Decides.{nat_tests}
-use Rattle.std.specs.Prelude.{◌==◌, not, if◌then◌else◌}
-use Rattle.wfe_core.specs.Memory.{upd}
-use Rattle.wfe_rows.specs.Rows.{Status, Hand, View, Good, RowMove, made, names, status_in, in_hand, knows, is_taken, has_life, with, without, set_hand, set_status}
-use Rattle.wfe_rows.specs.Rows.Status.{Free, Claimed, Born, Linked, InQueue, Cut, Sealed, Listed}
+use Rattle.std.specs.Prelude.{◌==◌}
+use Rattle.wfe_rows.specs.Rows.{View, Good, made}
+use Rattle.wfe_rows.specs.Rows.Status.{Free, InQueue}
 use Rattle.wfe_rows.specs.Rows.Hand.{Empty, New, Taken, Old, Known, Dated}
-use Rattle.wfe_rows.specs.Rows.RowMove.{Stays, Claims, Bears, Drops, Links, Replaces, Appends, Pops, Reads, Seals, Lists, Returns}
+use Rattle.wfe_rows.specs.Rows.RowMove.{Claims, Bears, Drops, Links, Replaces, Appends, Pops, Reads, Seals, Lists, Returns}
 
 pub claims_good : (slots : ℕ) (v : View) (i slot : ℕ) → Good slots v → (v.hand i) ≡ Empty → v.status slot ≡ Free → slot ≤ slots → Good slots (made i v (Claims slot))
 claims_good slots v i slot g p0 p1 p2 = record {

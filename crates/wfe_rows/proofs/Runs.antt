@@ -1,67 +1,39 @@
 -- A step of a machine, by what comes after it: what is in hand, and the list.
-use Rattle.std.proofs.Common.{ℕ, zero, suc, ◌≤◌, ◌+◌, ◌-◌, ◌<◌, ◌/◌, ◌%◌, ◌≡◌, ◌≢◌, Bool, true, false, arith, refl, ap, ◌&&◌, ◌||◌, ◌∙◌, sym, subst, List, [], ◌∷◌, ◌++◌, length}
+use Rattle.std.proofs.Common.{ℕ, ◌%◌, ◌≡◌, Bool, true, false, arith, refl, ap, List, [], ◌∷◌, ◌++◌}
 use Rattle.std.proofs.lemmas.Bool.Decides.{nat_tests}
-use Rattle.std.specs.Prelude.{◌==◌, not, nat_lt, nat_le, if◌then◌else◌, Option, Some, None}
-use Rattle.wfe_words.specs.declared.config.SchemeKind.{SchemeKind}
-use Rattle.wfe_words.specs.declared.config.SchemeKind.TheVariants.{He, Ibr, Wfe}
+use Rattle.std.specs.Prelude.{◌==◌, Option, Some, None}
 use Rattle.wfe_defs.specs.declared.call.Answer.{Answer}
-use Rattle.wfe_defs.specs.declared.call.Answer.TheVariants as the_answers
-use Rattle.wfe_defs.specs.declared.event.Event.TheVariants as events
-use Rattle.wfe_defs.specs.declared.call.Call.{Call}
-use Rattle.wfe_defs.specs.declared.call.Call.TheVariants as names
-use Rattle.wfe_defs.specs.declared.call.ClockMove.{ClockMove}
 use Rattle.wfe_defs.specs.declared.event.Event.{Event}
-use Rattle.wfe_defs.specs.declared.lifetime.Interval.{Interval}
 use Rattle.wfe_defs.specs.declared.lifetime.Lifetime.{Lifetime}
-use Rattle.wfe_core.specs.declared.ends.AllocateEnd.{AllocateEnd}
 use Rattle.wfe_core.specs.declared.ends.AllocateEnd.TheVariants as allocate_ends
-use Rattle.wfe_core.specs.declared.ends.FollowEnd.{FollowEnd}
-use Rattle.wfe_core.specs.declared.ends.FollowEnd.TheVariants as follow_ends
-use Rattle.wfe_core.specs.declared.ends.ProtectEnd.{ProtectEnd}
-use Rattle.wfe_core.specs.declared.ends.ProtectEnd.TheVariants as protect_ends
 use Rattle.wfe_core.specs.declared.post.Post.{Post}
 use Rattle.wfe_core.specs.Desks.{Desk, with_life}
-use Rattle.wfe_core.specs.Posts.{stands}
-use Rattle.wfe_core.specs.Phases.{Base, Ending}
-use Rattle.wfe_core.specs.Phases.Ending.{Done, Protected, Followed, Allocated, Clocked}
+use Rattle.wfe_core.specs.Phases.{Base}
+use Rattle.wfe_core.specs.Phases.Ending.{Done, Allocated}
 use Rattle.wfe_core.specs.Phases.{Ending as endings}
-use Rattle.wfe_core.specs.Rounds as rounds
-use Rattle.wfe_core.specs.Rounds.{scheme_of, taken_of, round, round_by, begin_base, begin_span, finish_base, finish_span, clear_base, clear_post, clear_told, index_of, closed, given_up, finishing, finishing_by, clearing, clearing_by, clearing_next, clearing_next_by}
-use Rattle.wfe_core.specs.Get as gets
 use Rattle.wfe_core.specs.Change as alters
 use Rattle.wfe_core.specs.Enqueue as enqueues
-use Rattle.wfe_core.specs.Dequeue as dequeues
-use Rattle.wfe_core.specs.Scan as scan
 use Rattle.wfe_core.specs.Steps as steps
-use Rattle.wfe_core.specs.Calls.{ChangeKept, EnqueueKept, Task, Gets, Changes, Holds, Enqueues, Dequeues, Next, Again, MakeRoom, Answering, Retiring, AfterScan, Answered, Repeated, Counted, Why, Opens, FollowsHead, Fills, ClearsNext, Clears, Finishes, GivesUp, Retires, Tidies, Advances, Releases, ScanAt, ReadGuard, GiveBack, GetAt, FindVersion, FindCount, FindKey, FindValue, ChangeAt, LoadVersion, LoadCount, LoadKey, LoadValue, ExchangeRoot, EnqueueAt, LoadNumber, LoadNext, PassTail, ExchangeNext, ExchangeTail, DequeueAt, LoadTail, SwingTail, TakeNumber, TakeValue, ExchangeHead, Work, Getting, Changing, Enqueuing, Dequeuing, Phase, Idle, Runs, Scans, Works, CallTurn, CallOutcome, GoesOn}
-use Rattle.wfe_core.specs.Locals as locals
-use Rattle.wfe_rows.specs.Rows.{Hand}
-use Rattle.wfe_rows.specs.Rows.Hand.{Empty, New, Taken, Old, Known, Dated}
-use Rattle.wfe_rows.specs.Hands.{hand_of, hand_task, hand_next, hand_base, hand_later, hand_in, is_plain, is_right, fills_right, holds_none, holds_slot, Leaves}
+use Rattle.wfe_core.specs.Calls.{Task, Gets, Changes, Holds, Enqueues, Dequeues, Again, Why, Opens, FollowsHead, Fills, ClearsNext, Clears, Finishes, GivesUp, Retires, Tidies, Advances, Releases}
+use Rattle.wfe_rows.specs.Rows.Hand.{Empty, Taken}
+use Rattle.wfe_rows.specs.Hands.{hand_of, hand_task, hand_next, is_plain, fills_right, holds_none, holds_slot, Leaves}
 use Rattle.std.specs.Prelude.{ℕ}
 use Rattle.wfe_defs.specs.declared.event.Root.{Root}
-use Rattle.wfe_defs.specs.declared.event.Root.TheVariants as roots
-use Rattle.wfe_core.specs.Phases.{Aim, Alone, Follows, BeginAt, ProtectAt, AllocateAt, RetireAt, MoveAt, RowOf, Walk, Outcome, Goes, Ends, Turn}
+use Rattle.wfe_core.specs.Phases.{Aim, Alone, Follows, BeginAt, ProtectAt, AllocateAt, MoveAt, RowOf, Outcome, Goes, Ends, Turn}
 use Rattle.wfe_core.specs.Phases.BeginAt.{LoadLower, PublishSpan}
 use Rattle.wfe_core.specs.Phases.ProtectAt.{LoadClock, PublishEra, LoadLink, CheckClock, PublishRequest, LoadOwnClock, PublishHelper, LoadOwnLink, CheckOwnClock, AnswerOwn, LoadAnswer, TakeAnswer, WithdrawRequest, WithdrawHelper, LoadWithin, CheckUpper, RaiseUpper}
-use Rattle.wfe_core.specs.Phases.AllocateAt.{LoadBirth, ClaimSlot, StoreLife}
-use Rattle.wfe_core.specs.Phases.RetireAt.{LoadLife, LoadRetire, StoreRetired}
 use Rattle.wfe_core.specs.Phases.MoveAt.{LoadEra, LoadRequest, ShowEra, LoadAsked, CheckEra, AnswerAsked, LoadReserved, HandOver, HideEra, HideLate, ExchangeClock}
 use Rattle.wfe_core.specs.Phases.Base.{Begin, Protect, Reload, Clear, Finish, Release, Allocate, Write, GiveUp, Retire, Move}
 use Rattle.wfe_core.specs.Machine as machine
 use Rattle.wfe_core.specs.Machine.{base_move}
-use Rattle.wfe_core.specs.Memory as memory
 use Rattle.wfe_core.specs.Memory.{bump}
 use Rattle.wfe_core.specs.Protect as protects
 use Rattle.wfe_core.specs.MoveClock as movers
-use Rattle.wfe_core.specs.Allocate.{is_claimed, walking, walk_past}
-use Rattle.wfe_core.specs.Retire.{birth_in}
-use Rattle.wfe_core.specs.Links.{link_place, parent_of}
-use Rattle.wfe_words.specs.Packed.{read_life, reservation_word}
+use Rattle.wfe_words.specs.Packed.{reservation_word}
 use Rattle.wfe_core.specs.Posts.{reserves_helper}
-use Rattle.wfe_rows.specs.Hands.{hand_why, hand_allocate, hand_retire, runs_right, is_giving_up, is_retiring, task_fills}
+use Rattle.wfe_rows.specs.Hands.{hand_why, task_fills}
 use Rattle.wfe_rows.proofs.Words.{is_writing}
-use Rattle.wfe_rows.proofs.Rounds.{round_hand, round_right, closed_leaves, finishing_leaves, clearing_leaves, leaves_along}
+use Rattle.wfe_rows.proofs.Rounds.{closed_leaves, finishing_leaves, clearing_leaves, leaves_along}
 use Rattle.wfe_rows.proofs.Turns.{opened_leaves, followed_by_leaves, tidied_leaves, advanced_leaves, released_leaves}
 
 -- a machine that handles no row goes on as one
@@ -216,7 +188,6 @@ plain_leaves (Releases key) base desk post told (Ends ending) h g = released_lea
 plain_leaves (Fills task) base desk post told outcome h g = cc
 plain_leaves (GivesUp answer) base desk post told outcome h g = cc
 plain_leaves (Retires answer) base desk post told outcome h g = cc
-
 
 -- a row is filled: the task's row, or one that is taken now
 room_hand : (task : Task) (walked : Bool) → hand_next task (alters.no_room walked) ≡ hand_task task

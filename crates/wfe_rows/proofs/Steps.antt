@@ -1,54 +1,31 @@
 -- One step of a seat, by the phase in which it stands.
-use Rattle.std.proofs.Common.{ℕ, zero, suc, ◌≤◌, ◌+◌, ◌-◌, ◌<◌, ◌/◌, ◌%◌, ◌≡◌, ◌≢◌, Bool, true, false, arith, refl, ap, ◌&&◌, ◌||◌, ◌∙◌, sym, subst, List, [], ◌∷◌, ◌++◌, length}
+use Rattle.std.proofs.Common.{ℕ, ◌≤◌, ◌+◌, ◌<◌, ◌/◌, ◌%◌, ◌≡◌, Bool, true, false, arith, refl, ap, ◌∙◌, sym, List, [], ◌∷◌, ◌++◌}
 use Rattle.std.proofs.lemmas.Bool.Decides.{nat_tests}
-use Rattle.std.specs.Prelude.{◌==◌, not, nat_lt, nat_le, if◌then◌else◌, Option, Some, None}
-use Rattle.wfe_words.specs.declared.config.SchemeKind.{SchemeKind}
-use Rattle.wfe_words.specs.declared.config.SchemeKind.TheVariants.{He, Ibr, Wfe}
+use Rattle.std.specs.Prelude.{◌==◌, if◌then◌else◌, Option, Some, None}
 use Rattle.wfe_defs.specs.declared.call.Answer.{Answer}
-use Rattle.wfe_defs.specs.declared.call.Answer.TheVariants as the_answers
 use Rattle.wfe_defs.specs.declared.event.Event.TheVariants as events
-use Rattle.wfe_defs.specs.declared.call.Call.{Call}
-use Rattle.wfe_defs.specs.declared.call.Call.TheVariants as names
-use Rattle.wfe_defs.specs.declared.call.ClockMove.{ClockMove}
 use Rattle.wfe_defs.specs.declared.event.Event.{Event}
-use Rattle.wfe_defs.specs.declared.lifetime.Interval.{Interval}
 use Rattle.wfe_defs.specs.declared.lifetime.Lifetime.{Lifetime}
-use Rattle.wfe_core.specs.declared.ends.AllocateEnd.{AllocateEnd}
 use Rattle.wfe_core.specs.declared.ends.AllocateEnd.TheVariants as allocate_ends
-use Rattle.wfe_core.specs.declared.ends.FollowEnd.{FollowEnd}
-use Rattle.wfe_core.specs.declared.ends.FollowEnd.TheVariants as follow_ends
-use Rattle.wfe_core.specs.declared.ends.ProtectEnd.{ProtectEnd}
-use Rattle.wfe_core.specs.declared.ends.ProtectEnd.TheVariants as protect_ends
 use Rattle.wfe_core.specs.declared.post.Post.{Post}
-use Rattle.wfe_core.specs.Desks.{Desk, with_life}
-use Rattle.wfe_core.specs.Posts.{stands}
-use Rattle.wfe_core.specs.Phases.{Base, Ending}
-use Rattle.wfe_core.specs.Phases.Ending.{Done, Protected, Followed, Allocated, Clocked}
+use Rattle.wfe_core.specs.Desks.{Desk}
+use Rattle.wfe_core.specs.Phases.{Base}
+use Rattle.wfe_core.specs.Phases.Ending.{Done, Allocated}
 use Rattle.wfe_core.specs.Phases.{Ending as endings}
-use Rattle.wfe_core.specs.Rounds as rounds
-use Rattle.wfe_core.specs.Rounds.{scheme_of, taken_of, round, round_by, begin_base, begin_span, finish_base, finish_span, clear_base, clear_post, clear_told, index_of, closed, given_up, finishing, finishing_by, clearing, clearing_by, clearing_next, clearing_next_by}
-use Rattle.wfe_core.specs.Get as gets
-use Rattle.wfe_core.specs.Change as alters
-use Rattle.wfe_core.specs.Enqueue as enqueues
-use Rattle.wfe_core.specs.Dequeue as dequeues
 use Rattle.wfe_core.specs.Scan as scan
-use Rattle.wfe_core.specs.Steps as steps
-use Rattle.wfe_core.specs.Calls.{ChangeKept, EnqueueKept, Task, Gets, Changes, Holds, Enqueues, Dequeues, Next, Again, MakeRoom, Answering, Retiring, AfterScan, Answered, Repeated, Counted, Why, Opens, FollowsHead, Fills, ClearsNext, Clears, Finishes, GivesUp, Retires, Tidies, Advances, Releases, ScanAt, ReadGuard, GiveBack, GetAt, FindVersion, FindCount, FindKey, FindValue, ChangeAt, LoadVersion, LoadCount, LoadKey, LoadValue, ExchangeRoot, EnqueueAt, LoadNumber, LoadNext, PassTail, ExchangeNext, ExchangeTail, DequeueAt, LoadTail, SwingTail, TakeNumber, TakeValue, ExchangeHead, Work, Getting, Changing, Enqueuing, Dequeuing, Phase, Idle, Runs, Scans, Works, CallTurn, CallOutcome, GoesOn}
-use Rattle.wfe_core.specs.Locals as locals
+use Rattle.wfe_core.specs.Calls.{Task, Gets, Changes, Holds, Enqueues, Dequeues, AfterScan, Why, Fills, GivesUp, Retires, ScanAt, ReadGuard, GiveBack, Phase, Runs, Scans, CallTurn}
 use Rattle.wfe_rows.specs.Rows.{Hand}
 use Rattle.wfe_rows.specs.Rows.Hand.{Empty, New, Taken, Old, Known, Dated}
-use Rattle.wfe_rows.specs.Hands.{hand_of, hand_task, hand_next, hand_base, hand_later, hand_in, is_plain, is_right, fills_right, holds_none, holds_slot, Leaves}
-use Rattle.std.specs.Prelude.{bit_or}
+use Rattle.wfe_rows.specs.Hands.{hand_later, hand_in, is_plain, Leaves}
 use Rattle.std.specs.Int.{bit_at}
 use Rattle.std.specs.List.{remove}
-use Rattle.std.proofs.lemmas.Nat.Bits.{bit_at-lt}
 use Rattle.wfe_words.specs.Place.{Place, claim_word, claim_mask, claim_others}
-use Rattle.wfe_words.specs.Place.Place.{Clock, Bucket, Head, Tail, Claim, Life, Row}
+use Rattle.wfe_words.specs.Place.Place.{Clock, Claim, Life, Row}
 use Rattle.wfe_words.specs.Packed.{read_life, life_word, halves}
 use Rattle.wfe_words.proofs.Parts.{read_life-open}
 use Rattle.wfe_core.specs.Memory as memory
 use Rattle.wfe_core.specs.Memory.{place_in, written, upd}
-use Rattle.wfe_core.specs.Phases.{goes, ends, AllocateAt, RetireAt, RowOf, Walk, Outcome, Goes, Ends, Turn}
+use Rattle.wfe_core.specs.Phases.{goes, ends, AllocateAt, RowOf, Walk, Turn}
 use Rattle.wfe_core.specs.Phases.AllocateAt.{LoadBirth, ClaimSlot, StoreLife}
 use Rattle.wfe_core.specs.Phases.RetireAt.{LoadLife, LoadRetire, StoreRetired}
 use Rattle.wfe_core.specs.Phases.Base.{Begin, Protect, Reload, Clear, Finish, Release, Allocate, Write, GiveUp, Retire, Move}
@@ -58,18 +35,17 @@ use Rattle.wfe_core.specs.Allocate.{is_claimed, walking, walk_past, walk_from, n
 use Rattle.wfe_core.specs.Guards as the_guards
 use Rattle.wfe_core.specs.WriteRow.{last_written, row_word}
 use Rattle.wfe_core.specs.Retire.{birth_in}
-use Rattle.wfe_core.specs.Steps.{run_turn, phase_move, phase_turn, work_move, work_turn}
-use Rattle.wfe_rows.specs.Rows.{Status, View, Good, RowMove, made, is_taken, has_life, retire_in, names, knows, status_in}
+use Rattle.wfe_core.specs.Steps.{run_turn}
+use Rattle.wfe_rows.specs.Rows.{Status, View, Good, made, is_taken, has_life, retire_in}
 use Rattle.wfe_rows.specs.Rows.Status.{Free, Claimed, Born, Linked, InQueue, Cut, Sealed, Listed}
-use Rattle.wfe_rows.specs.Rows.RowMove.{Stays, Claims, Bears, Drops, Links, Replaces, Appends, Pops, Reads, Seals, Lists, Returns}
-use Rattle.wfe_rows.specs.Hands.{hand_why, hand_left, right_left, in_list, no_entry, each_once, stands_at, runs_right, is_giving_up, is_retiring, task_fills, base_row, row_move, linked_row, change_row, enqueue_row, dequeue_row, work_row, scan_row}
-use Rattle.wfe_rows.specs.Agree.{Words, Plays, Needs, bit_of, claim_of}
-use Rattle.wfe_rows.proofs.Made.{claims_good, bears_good, drops_good, links_good, replaces_good, appends_good, pops_good, reads_good, seals_good, lists_good, returns_good}
-use Rattle.wfe_rows.proofs.Words.{is_writing, words_plain, words_missed, words_shown, words_claims, words_bears, words_drops, words_returns, words_lists, words_seals, words_links, words_replaces, words_appends, words_pops, words_hand}
+use Rattle.wfe_rows.specs.Rows.RowMove.{Stays, Claims, Bears, Drops, Reads, Seals, Lists, Returns}
+use Rattle.wfe_rows.specs.Hands.{hand_left, right_left, in_list, each_once, stands_at, task_fills, base_row, scan_row}
+use Rattle.wfe_rows.specs.Agree.{Words, Plays, Needs, claim_of}
+use Rattle.wfe_rows.proofs.Made.{claims_good, bears_good, drops_good, reads_good, seals_good, lists_good, returns_good}
+use Rattle.wfe_rows.proofs.Words.{words_plain, words_shown, words_claims, words_bears, words_drops, words_returns, words_lists, words_seals, words_hand}
 use Rattle.wfe_rows.proofs.Lists.{no_entry_from, in_list_last, once_last, once_remove, in_list_remove, Entered, stands_entered}
-use Rattle.wfe_rows.proofs.Rounds.{leaves_along, get_leaves, reading_leaves, at_next_leaves, clearing_leaves, clearing_next_leaves}
-use Rattle.wfe_rows.proofs.Turns.{linked_leaves, replaced_leaves, missed_leaves, appended_leaves, unappended_leaves, popped_leaves, unpopped_leaves, read_leaves, back_leaves}
-use Rattle.wfe_rows.proofs.Runs.{is_plain_why, plain_goes, plain_writes, plain_leaves, spent_leaves, given_leaves, written_leaves, retired_leaves, is_filling, only_fills}
+use Rattle.wfe_rows.proofs.Turns.{read_leaves, back_leaves}
+use Rattle.wfe_rows.proofs.Runs.{is_plain_why, plain_goes, plain_writes, plain_leaves, spent_leaves, given_leaves, written_leaves, retired_leaves, only_fills}
 
 -- what the step of seat i leaves agrees with the rows
 pub record Did (slots i : ℕ) (mem : Place → ℕ) (v : View) (t : CallTurn) : Type 0 where
@@ -95,11 +71,11 @@ did_kept slots i mem v h list t g w e f o l = record {
 }
 
 -- a step that moves no row
-did_stays : (slots i : ℕ) (mem after : Place → ℕ) (v : View) (phase : Phase) (list : List Lifetime) (t : CallTurn) → Good slots v → Words slots after v → Plays i phase list v → Leaves (hand_in phase) list t → Did slots i after v t
+pub did_stays : (slots i : ℕ) (mem after : Place → ℕ) (v : View) (phase : Phase) (list : List Lifetime) (t : CallTurn) → Good slots v → Words slots after v → Plays i phase list v → Leaves (hand_in phase) list t → Did slots i after v t
 did_stays slots i mem after v phase list t g w p l = did_kept slots i after v (hand_in phase) list t g w p.hand p.lists p.once l
 
 -- a step that moves a row into the hand or out of it
-did_hand : (slots i : ℕ) (after : Place → ℕ) (v u : View) (phase : Phase) (h : Hand) (list : List Lifetime) (t : CallTurn) → Good slots u → Words slots after u → u.hand ≡ upd v.hand i h → u.lists ≡ v.lists → Plays i phase list v → Leaves h list t → Did slots i after u t
+pub did_hand : (slots i : ℕ) (after : Place → ℕ) (v u : View) (phase : Phase) (h : Hand) (list : List Lifetime) (t : CallTurn) → Good slots u → Words slots after u → u.hand ≡ upd v.hand i h → u.lists ≡ v.lists → Plays i phase list v → Leaves h list t → Did slots i after u t
 did_hand slots i after v u phase h list t g w e k p l =
     did_kept slots i after u h list t g w (ap (λ (f : ℕ → Hand). f i) e ∙ upd_own v.hand i h) (λ s b r. ap (λ (f : ℕ → ℕ → ℕ → ℕ → Bool). f i s b r) k ∙ p.lists s b r) p.once l
 
@@ -117,24 +93,24 @@ plain_row (GiveUp slot) found h = cc
 plain_row (Retire at) found h = cc
 plain_row (Move at) found h = refl
 
-did_plain : (slots i : ℕ) (mem : Place → ℕ) (v : View) (why : Why) (base : Base) (post next : Post) (desk : Desk) (found : ℕ) → Good slots v → Words slots mem v → Plays i (Runs why base) desk.list v → is_plain_why why ≡ true → is_plain base ≡ true → Did slots i (written mem (base_move base post)) (made i v (base_row base found)) (run_turn why desk (machine.after base next found))
+pub did_plain : (slots i : ℕ) (mem : Place → ℕ) (v : View) (why : Why) (base : Base) (post next : Post) (desk : Desk) (found : ℕ) → Good slots v → Words slots mem v → Plays i (Runs why base) desk.list v → is_plain_why why ≡ true → is_plain base ≡ true → Did slots i (written mem (base_move base post)) (made i v (base_row base found)) (run_turn why desk (machine.after base next found))
 did_plain slots i mem v why base post next desk found g w p y h =
     let t : Turn = machine.after base next found in
     rw
     (plain_row base found h)
     (did_stays
-      slots
-      i
-      mem
-      (written mem (base_move base post))
-      v
-      (Runs why base)
-      desk.list
-      (run_turn why desk (machine.after base next found))
-      g
-      (words_plain slots mem v (base_move base post) (plain_writes base post h) w)
-      p
-      (plain_leaves why base desk t.post t.told t.outcome y (plain_goes base next found h)))
+    slots
+    i
+    mem
+    (written mem (base_move base post))
+    v
+    (Runs why base)
+    desk.list
+    (run_turn why desk (machine.after base next found))
+    g
+    (words_plain slots mem v (base_move base post) (plain_writes base post h) w)
+    p
+    (plain_leaves why base desk t.post t.told t.outcome y (plain_goes base next found h)))
 
 -- a row is claimed where its bit was not set
 free_of : (x : Status) → is_taken x ≡ false → x ≡ Free
@@ -220,7 +196,6 @@ did_claims slots i mem v task birth walk post desk false e below g w p =
     p
     (record { hand = refl; right = fills_allocate task (ClaimSlot birth walk) (StoreLife birth walk.slot) p.right; list = refl })
 
-
 -- what the hand says of its row
 same_slot : (n : ℕ) → (n == n) ≡ true
 same_slot n = grind (arith, nat_tests)
@@ -228,7 +203,7 @@ same_slot n = grind (arith, nat_tests)
 of_new : (slots : ℕ) (v : View) (i slot : ℕ) → Good slots v → v.hand i ≡ New slot → v.status slot ≡ Claimed i
 of_new slots v i slot g h = grind (arith, nat_tests, g.hands i slot)
 
-of_taken : (slots : ℕ) (v : View) (i slot : ℕ) → Good slots v → v.hand i ≡ Taken slot → v.status slot ≡ Born i
+pub of_taken : (slots : ℕ) (v : View) (i slot : ℕ) → Good slots v → v.hand i ≡ Taken slot → v.status slot ≡ Born i
 of_taken slots v i slot g h = grind (arith, nat_tests, g.hands i slot)
 
 of_old : (slots : ℕ) (v : View) (i slot : ℕ) → Good slots v → v.hand i ≡ Old slot → v.status slot ≡ Cut i
@@ -298,7 +273,7 @@ did_writes slots i mem v task slot row place word post desk false g w p =
     (record { hand = refl; right = fills_write task slot row place (place + 1) p.right; list = refl })
 
 -- a row is filled
-did_fills : (slots i : ℕ) (mem : Place → ℕ) (v : View) (task : Task) (base : Base) (post next : Post) (desk : Desk) → Needs slots mem v (Runs (Fills task) base) → Good slots v → Words slots mem v → Plays i (Runs (Fills task) base) desk.list v
+pub did_fills : (slots i : ℕ) (mem : Place → ℕ) (v : View) (task : Task) (base : Base) (post next : Post) (desk : Desk) → Needs slots mem v (Runs (Fills task) base) → Good slots v → Words slots mem v → Plays i (Runs (Fills task) base) desk.list v
     → Did slots i (written mem (base_move base post)) (made i v (base_row base (memory.found (base_move base post) (mem (place_in (base_move base post)))))) (run_turn (Fills task) desk (machine.after base next (memory.found (base_move base post) (mem (place_in (base_move base post))))))
 did_fills slots i mem v task (Allocate LoadBirth) post next desk n g w p =
     did_stays
@@ -384,7 +359,7 @@ did_drops slots i mem v answer slot post desk told g w p =
     p
     (record { hand = refl; right = refl; list = refl })
 
-did_gives_up : (slots i : ℕ) (mem : Place → ℕ) (v : View) (answer : Answer) (base : Base) (post next : Post) (desk : Desk) → Good slots v → Words slots mem v → Plays i (Runs (GivesUp answer) base) desk.list v
+pub did_gives_up : (slots i : ℕ) (mem : Place → ℕ) (v : View) (answer : Answer) (base : Base) (post next : Post) (desk : Desk) → Good slots v → Words slots mem v → Plays i (Runs (GivesUp answer) base) desk.list v
     → Did slots i (written mem (base_move base post)) (made i v (base_row base (memory.found (base_move base post) (mem (place_in (base_move base post)))))) (run_turn (GivesUp answer) desk (machine.after base next (memory.found (base_move base post) (mem (place_in (base_move base post))))))
 did_gives_up slots i mem v answer (GiveUp slot) post next desk g w p = did_drops slots i mem v answer slot next desk (events.Unused slot ∷ []) g w p
 did_gives_up slots i mem v answer (Begin at) post next desk g w p = absurd (no_fill p.right)
@@ -457,7 +432,7 @@ did_lists slots i mem v answer slot birth retire post desk told g w p =
     (once_last desk.list (record { slot = slot; birth = birth; retire = retire }) p.once (no_entry_from desk.list slot (λ b r. unlisted slots v i desk.list slot birth retire b r g p.hand p.lists)))
     (retired_leaves answer (record { slot = slot; birth = birth; retire = retire }) post desk told)
 
-did_retires : (slots i : ℕ) (mem : Place → ℕ) (v : View) (answer : Answer) (base : Base) (post next : Post) (desk : Desk) → Good slots v → Words slots mem v → Plays i (Runs (Retires answer) base) desk.list v
+pub did_retires : (slots i : ℕ) (mem : Place → ℕ) (v : View) (answer : Answer) (base : Base) (post next : Post) (desk : Desk) → Good slots v → Words slots mem v → Plays i (Runs (Retires answer) base) desk.list v
     → Did slots i (written mem (base_move base post)) (made i v (base_row base (memory.found (base_move base post) (mem (place_in (base_move base post)))))) (run_turn (Retires answer) desk (machine.after base next (memory.found (base_move base post) (mem (place_in (base_move base post))))))
 did_retires slots i mem v answer (Retire (LoadLife slot)) post next desk g w p = did_reads slots i mem v answer slot next desk g w p
 did_retires slots i mem v answer (Retire (LoadRetire slot birth)) post next desk g w p = did_seals slots i mem v answer slot birth (mem Clock) next desk g w p
@@ -495,7 +470,7 @@ did_returns slots i mem v later place slot post desk found g w p =
     (once_remove desk.list place p.once)
     (back_leaves later place slot post desk found)
 
-did_scans : (slots i : ℕ) (mem : Place → ℕ) (v : View) (later : AfterScan) (at : ScanAt) (post next : Post) (desk : Desk) → Good slots v → Words slots mem v → Plays i (Scans later at) desk.list v
+pub did_scans : (slots i : ℕ) (mem : Place → ℕ) (v : View) (later : AfterScan) (at : ScanAt) (post next : Post) (desk : Desk) → Good slots v → Words slots mem v → Plays i (Scans later at) desk.list v
     → Did slots i (written mem (scan.scan_move at post)) (made i v (scan_row at)) (scan.scan_turn later at next desk (memory.found (scan.scan_move at post) (mem (place_in (scan.scan_move at post)))))
 did_scans slots i mem v later (ReadGuard number) post next desk g w p =
     did_stays
@@ -511,11 +486,11 @@ did_scans slots i mem v later (ReadGuard number) post next desk g w p =
     w
     p
     (read_leaves
-      later
-      number
-      next
-      desk
-      (the_guards.guard_at next.layout.config number)
-      (the_guards.published (the_guards.guard_at next.layout.config number) (mem (the_guards.guard_place (the_guards.guard_at post.layout.config number)))))
+    later
+    number
+    next
+    desk
+    (the_guards.guard_at next.layout.config number)
+    (the_guards.published (the_guards.guard_at next.layout.config number) (mem (the_guards.guard_place (the_guards.guard_at post.layout.config number)))))
 did_scans slots i mem v later (GiveBack place slot) post next desk g w p =
     did_returns slots i mem v later place slot next desk (mem (Claim (claim_word slot))) g w p

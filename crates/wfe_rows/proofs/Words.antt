@@ -1,19 +1,18 @@
 -- The words by which rows are known, after each operation.
-use Rattle.std.proofs.Common.{ℕ, zero, suc, ◌≤◌, ◌+◌, ◌-◌, ◌<◌, ◌/◌, ◌%◌, ◌^◌, ◌≡◌, ◌≢◌, Bool, true, false, arith, refl, ap, ◌&&◌, ◌||◌, ◌∙◌, sym, subst, bit_and, bit_or}
+use Rattle.std.proofs.Common.{ℕ, ◌≤◌, ◌+◌, ◌<◌, ◌/◌, ◌%◌, ◌≡◌, ◌≢◌, Bool, true, false, arith, refl, ap, ◌∙◌, sym, bit_and, bit_or}
 use Rattle.std.proofs.lemmas.Bool.Decides.{nat_tests}
-use Rattle.std.specs.Prelude.{◌==◌, not, nat_lt, nat_le, if◌then◌else◌}
+use Rattle.std.specs.Prelude.{◌==◌, if◌then◌else◌}
 use Rattle.std.specs.Int.{bit_at}
-use Rattle.wfe_words.specs.Place.{Place, same, claim_word, claim_mask, claim_others}
+use Rattle.wfe_words.specs.Place.{Place, same, claim_mask, claim_others}
 use Rattle.wfe_words.specs.Place.Place.{Clock, Helper, Index, Interval, Request, Bucket, Head, Tail, Claim, Life, Row, PlaceOf}
-use Rattle.wfe_words.specs.Packed.{life_word, halves}
+use Rattle.wfe_words.specs.Packed.{life_word}
 use Rattle.wfe_words.proofs.Claims.{claimed_same, claimed_other, freed_same, freed_other, bits_apart}
 use Rattle.wfe_words.proofs.Places.{same_one}
-use Rattle.wfe_core.specs.Memory.{Move, Load, Store, Cas, Or, And, place_in, change, found, written, put, upd}
-use Rattle.wfe_rows.specs.Rows.{Status, Hand, View, is_taken, has_life, retire_in, set_status, set_hand, made}
-use Rattle.wfe_rows.specs.Rows.Status.{Free, Claimed, Born, Linked, InQueue, Cut, Sealed, Listed}
-use Rattle.wfe_rows.specs.Rows.Hand.{Empty, New, Taken, Old, Known, Dated}
-use Rattle.wfe_rows.specs.Rows.RowMove.{Stays, Claims, Bears, Drops, Links, Replaces, Appends, Pops, Reads, Seals, Lists, Returns}
-use Rattle.wfe_rows.specs.Agree.{Words, bit_of, claim_of}
+use Rattle.wfe_core.specs.Memory.{Move, Load, Store, Cas, Or, And, place_in, change, written, put}
+use Rattle.wfe_rows.specs.Rows.{Hand, View, set_status, set_hand, made}
+use Rattle.wfe_rows.specs.Rows.Status.{Free, Claimed, Born, Linked, InQueue, Cut, Sealed}
+use Rattle.wfe_rows.specs.Rows.RowMove.{Claims, Bears, Drops, Links, Replaces, Appends, Pops, Seals, Lists, Returns}
+use Rattle.wfe_rows.specs.Agree.{Words}
 
 -- a place by which rows are known
 abbrev pub is_rowish : Place → Bool

@@ -1,5 +1,5 @@
 -- Words and seats agree with what is known of the rows, and what a step owes to the other parts of the invariant.
-use Rattle.std.specs.Prelude.{ℕ, ◌≡◌, ◌≤◌, ◌<◌, ◌+◌, ◌-◌, ◌/◌, ◌%◌, ◌==◌, ◌&&◌, nat_le, nat_lt, not, Bool, true, false, if◌then◌else◌, List}
+use Rattle.std.specs.Prelude.{ℕ, ◌≡◌, ◌≤◌, ◌<◌, ◌+◌, ◌/◌, ◌%◌, ◌==◌, nat_le, Bool, true, false, if◌then◌else◌, List}
 use Rattle.std.specs.Int.{bit_at}
 use Rattle.wfe_words.specs.Place.{Place, is_valid}
 use Rattle.wfe_words.specs.Place.Place.{Bucket, Head, Claim, Life}
@@ -7,12 +7,10 @@ use Rattle.wfe_words.specs.Packed.{life_word}
 use Rattle.wfe_words.specs.declared.layout.Layout.{Layout}
 use Rattle.wfe_defs.specs.declared.call.Call.{Call}
 use Rattle.wfe_defs.specs.declared.lifetime.Lifetime.{Lifetime}
-use Rattle.wfe_core.specs.declared.post.Post.{Post}
 use Rattle.wfe_core.specs.Phases.{Walk}
 use Rattle.wfe_core.specs.Phases.AllocateAt.{ClaimSlot, StoreLife}
 use Rattle.wfe_core.specs.Phases.Base.{Allocate}
 use Rattle.wfe_core.specs.Calls.{Why, Phase, Runs, Works, Dequeuing, ExchangeHead}
-use Rattle.wfe_core.specs.Locals.{Local}
 use Rattle.wfe_core.specs.World.{World, start, step, begin, is_busy, finds}
 use Rattle.wfe_rows.specs.Rows.{Status, View, Good, made, is_taken, has_life, retire_in}
 use Rattle.wfe_rows.specs.Rows.Status.{Free, InQueue}

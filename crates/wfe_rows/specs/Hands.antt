@@ -1,6 +1,6 @@
 -- What a seat's local state says of rows: what its call has in hand, what is in its list, which move of rows its step makes,
 -- and what always holds of its phase.
-use Rattle.std.specs.Prelude.{ℕ, zero, suc, ◌≡◌, ◌≤◌, ◌<◌, ◌+◌, ◌-◌, ◌==◌, ◌&&◌, ◌||◌, nat_le, nat_lt, not, Bool, true, false, if◌then◌else◌, List, [], ◌∷◌, Option, Some, None}
+use Rattle.std.specs.Prelude.{ℕ, zero, suc, ◌≡◌, ◌+◌, ◌-◌, ◌==◌, ◌&&◌, ◌||◌, not, Bool, true, false, if◌then◌else◌, List, [], ◌∷◌, Option, Some, None}
 use Rattle.wfe_words.specs.Packed.{read_life}
 use Rattle.wfe_defs.specs.declared.lifetime.Lifetime.{Lifetime}
 use Rattle.wfe_core.specs.declared.post.Post.{Post}
@@ -8,7 +8,7 @@ use Rattle.wfe_core.specs.Allocate.{is_claimed}
 use Rattle.wfe_core.specs.Retire.{birth_in}
 use Rattle.wfe_core.specs.Rounds.{taken_of}
 use Rattle.wfe_core.specs.Change.{changed_bucket}
-use Rattle.wfe_core.specs.Phases.{AllocateAt, RetireAt, Base, Outcome, Goes, Ends}
+use Rattle.wfe_core.specs.Phases.{AllocateAt, RetireAt, Base}
 use Rattle.wfe_core.specs.Phases.AllocateAt.{LoadBirth, ClaimSlot, StoreLife}
 use Rattle.wfe_core.specs.Phases.RetireAt.{LoadLife, LoadRetire, StoreRetired}
 use Rattle.wfe_core.specs.Phases.Base.{Begin, Protect, Reload, Clear, Finish, Release, Allocate, Write, GiveUp, Retire, Move}
