@@ -1,4 +1,5 @@
 pub mod Kept
+pub mod Line
 pub mod Lists
 pub mod Made
 pub mod Phases

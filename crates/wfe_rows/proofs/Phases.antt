@@ -190,7 +190,7 @@ did_enqueues slots i mem v kept (ExchangeTail slot) next desk g w p =
     (clearing_leaves (Enqueues kept) (Answering (the_answers.Queued (kept.number + 1))) next desk (enqueues.told_link roots.Tail slot (mem Tail == kept.tail + 1)))
 
 -- the head is exchanged
-did_pops : (slots i : ℕ) (mem : Place → ℕ) (v : View) (head next number value : ℕ) (post : Post) (desk : Desk) (same : Bool) → (mem Head == head + 1) ≡ same → (mem Head ≡ head + 1 → v.status next ≡ InQueue) → (next == head) ≡ false → Good slots v → Words slots mem v → Plays i (Works (Dequeuing (ExchangeHead head next number value))) desk.list v
+did_pops : (slots i : ℕ) (mem : Place → ℕ) (v : View) (head next number value : ℕ) (post : Post) (desk : Desk) (same : Bool) → (mem Head == head + 1) ≡ same → (mem Head ≡ head + 1 → v.status next ≡ InQueue) → (mem Head ≡ head + 1 → (next == head) ≡ false) → Good slots v → Words slots mem v → Plays i (Works (Dequeuing (ExchangeHead head next number value))) desk.list v
     → Did slots i (written mem (memory.Cas Head (head + 1) (next + 1))) (made i v (if same then Pops head next else Stays)) (dequeues.taken head next number value post desk same)
 did_pops slots i mem v head next number value post desk true same q a g w p =
     let word : mem Head ≡ head + 1 = number_of (mem Head) (head + 1) same in
@@ -205,7 +205,7 @@ did_pops slots i mem v head next number value post desk true same q a g w p =
     (Old head)
     desk.list
     (dequeues.taken head next number value post desk true)
-    (pops_good slots v i head next g p.hand at (q word) a)
+    (pops_good slots v i head next g p.hand at (q word) (a word))
     (words_pops slots mem v i head next same (g.queue head at) w)
     refl
     refl

@@ -49,7 +49,9 @@ pub record Needs (slots : ℕ) (mem : Place → ℕ) (v : View) (phase : Phase) 
   pub walks : (why : Why) (birth : ℕ) (walk : Walk) → phase ≡ Runs why (Allocate (ClaimSlot birth walk)) → walk.slot ≤ slots
   pub births : (why : Why) (birth slot : ℕ) → phase ≡ Runs why (Allocate (StoreLife birth slot)) → 0 < birth
   pub follows : (head next number value : ℕ) → phase ≡ Works (Dequeuing (ExchangeHead head next number value)) → mem Head ≡ head + 1 → v.status next ≡ InQueue
-  pub apart : (head next number value : ℕ) → phase ≡ Works (Dequeuing (ExchangeHead head next number value)) → (next == head) ≡ false
+  pub apart :
+      (head next number value : ℕ) → phase ≡ Works (Dequeuing (ExchangeHead head next number value)) → mem Head ≡ head + 1
+      → (next == head) ≡ false
 
 abbrev pub RowsNeeds : World → ℕ → View → Type 0
 RowsNeeds w i v = Needs w.layout.config.slots w.mem v (w.seat i).phase

@@ -1,3 +1,4 @@
 pub mod Agree
 pub mod Hands
+pub mod Queue
 pub mod Rows
