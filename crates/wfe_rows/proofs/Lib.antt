@@ -3,6 +3,7 @@ pub mod Line
 pub mod Lists
 pub mod Made
 pub mod Phases
+pub mod Quiet
 pub mod Rounds
 pub mod Runs
 pub mod Steps
