@@ -1,7 +1,9 @@
+pub mod Fits
 pub mod Kept
 pub mod Line
 pub mod Lists
 pub mod Made
+pub mod Own
 pub mod Phases
 pub mod Quiet
 pub mod Rounds

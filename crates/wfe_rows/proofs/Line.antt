@@ -228,3 +228,30 @@ swing_walks phase q past l next head tail slot link g w n d = record {
   blank = λ s u1. grind (arith, nat_tests, w.blank s);
   items = w.items;
 }
+
+-- the same of functions that agree
+pub same_line : (q past q2 p : ℕ → Bool) (l : Line) (next n2 : ℕ → ℕ) (head h2 tail t2 : ℕ) → InLine q past l next head tail → ((s : ℕ) → q2 s ≡ q s) → ((s : ℕ) → l.lined s ≡ true → p s ≡ true) → ((s : ℕ) → n2 s ≡ next s) → h2 ≡ head → t2 ≡ tail → InLine q2 p l n2 h2 t2
+same_line q past q2 p l next n2 head h2 tail t2 g e f n a b = record {
+  lined = λ s u1. grind (arith, nat_tests, g.lined s, e s);
+  passed = λ s u1. f s u1;
+  last = λ s u1 u2. grind (arith, nat_tests, g.last s, e s, n s);
+  links = λ s t u1 u2. grind (arith, nat_tests, g.links s t, e s, e t, n s);
+  rises = λ s t u1 u2. grind (arith, nat_tests, g.rises s t, e s, n s);
+  one = λ s t u1 u2 u3. grind (arith, nat_tests, g.one s t, e s, e t);
+  first = λ s u1. grind (arith, nat_tests, g.first s, e s);
+  least = λ s x u1 u2. grind (arith, nat_tests, g.least s x, e s);
+  most = λ s t u1 u2 u3. grind (arith, nat_tests, g.most s t, e s, e t, n s);
+  reached = λ s u1. grind (arith, nat_tests, g.reached s, e s);
+  some = omega (arith, g.some);
+}
+
+pub same_walks : (phase : Phase) (q q2 : ℕ → Bool) (l : Line) (next n2 : ℕ → ℕ) (head h2 tail t2 : ℕ) → Walks phase q l next head tail → ((s : ℕ) → q2 s ≡ q s) → ((s : ℕ) → n2 s ≡ next s) → h2 ≡ head → t2 ≡ tail → Walks phase q2 l n2 h2 t2
+same_walks phase q q2 l next n2 head h2 tail t2 w e n a b = record {
+  stood = w.stood;
+  heads = λ h u1 u2. grind (arith, nat_tests, w.heads h, e h);
+  follows = λ h link u1. grind (arith, nat_tests, w.follows h link, n h);
+  some = w.some;
+  leads = λ h u1 u2. grind (arith, nat_tests, w.leads h);
+  blank = λ s u1. grind (arith, nat_tests, w.blank s, n s);
+  items = w.items;
+}

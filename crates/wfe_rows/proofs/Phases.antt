@@ -32,15 +32,15 @@ use Rattle.wfe_rows.proofs.Turns.{linked_leaves, replaced_leaves, missed_leaves,
 use Rattle.wfe_defs.specs.declared.event.Root.TheVariants as roots
 use Rattle.wfe_rows.proofs.Steps.{Did, did_stays, did_hand, did_plain, did_fills, did_gives_up, did_retires, did_scans, of_taken}
 
-number_of : (a b : ℕ) → (a == b) ≡ true → a ≡ b
+pub number_of : (a b : ℕ) → (a == b) ≡ true → a ≡ b
 number_of a b h = grind (arith, nat_tests)
 
 -- the row taken is the one that is linked
-taken_as : (x : Option ℕ) (slot : ℕ) → holds_slot x slot ≡ true → hand_of x ≡ Taken slot
+pub taken_as : (x : Option ℕ) (slot : ℕ) → holds_slot x slot ≡ true → hand_of x ≡ Taken slot
 taken_as None slot h = cc
 taken_as (Some taken) slot h = let e : taken ≡ slot = grind (arith, nat_tests) in ap Taken e
 
-linked_slot : (link : ℕ) → (link == 0) ≡ false → link ≡ link - 1 + 1
+pub linked_slot : (link : ℕ) → (link == 0) ≡ false → link ≡ link - 1 + 1
 linked_slot link h = grind (arith, nat_tests)
 
 -- the root is exchanged

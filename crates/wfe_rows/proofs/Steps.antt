@@ -80,7 +80,7 @@ did_hand slots i after v u phase h list t g w e k p l =
     did_kept slots i after u h list t g w (ap (λ (f : ℕ → Hand). f i) e ∙ upd_own v.hand i h) (λ s b r. ap (λ (f : ℕ → ℕ → ℕ → ℕ → Bool). f i s b r) k ∙ p.lists s b r) p.once l
 
 -- a machine that handles no row
-plain_row : (base : Base) (found : ℕ) → is_plain base ≡ true → base_row base found ≡ Stays
+pub plain_row : (base : Base) (found : ℕ) → is_plain base ≡ true → base_row base found ≡ Stays
 plain_row (Begin at) found h = refl
 plain_row (Protect aim index root steps at) found h = refl
 plain_row (Reload parent index slot era steps) found h = refl
@@ -123,7 +123,7 @@ free_of (Cut by) h = cc
 free_of (Sealed by retire) h = cc
 free_of (Listed by retire) h = cc
 
-bit_free : (slots : ℕ) (x : Status) (slot bit : ℕ) → slot ≤ slots → bit ≡ claim_of slots x slot → (bit == 1) ≡ false → x ≡ Free
+pub bit_free : (slots : ℕ) (x : Status) (slot bit : ℕ) → slot ≤ slots → bit ≡ claim_of slots x slot → (bit == 1) ≡ false → x ≡ Free
 bit_free slots x slot bit h e k = let f : is_taken x ≡ false = grind (arith, nat_tests) in free_of x f
 
 -- a task that takes a row, or writes it, does so at each step
@@ -149,7 +149,7 @@ claimed birth walk post =
     (events.Give walk.slot birth ∷ [])
     (Allocate (StoreLife birth walk.slot))
 
-div_le : (s slots : ℕ) → s ≤ slots → s / 64 ≤ slots / 64
+pub div_le : (s slots : ℕ) → s ≤ slots → s / 64 ≤ slots / 64
 div_le s slots h = omega arith
 
 bit_set : (bit : ℕ) → (bit == 1) ≡ true → bit ≡ 1
@@ -200,7 +200,7 @@ did_claims slots i mem v task birth walk post desk false e below g w p =
 same_slot : (n : ℕ) → (n == n) ≡ true
 same_slot n = grind (arith, nat_tests)
 
-of_new : (slots : ℕ) (v : View) (i slot : ℕ) → Good slots v → v.hand i ≡ New slot → v.status slot ≡ Claimed i
+pub of_new : (slots : ℕ) (v : View) (i slot : ℕ) → Good slots v → v.hand i ≡ New slot → v.status slot ≡ Claimed i
 of_new slots v i slot g h = grind (arith, nat_tests, g.hands i slot)
 
 pub of_taken : (slots : ℕ) (v : View) (i slot : ℕ) → Good slots v → v.hand i ≡ Taken slot → v.status slot ≡ Born i
@@ -209,16 +209,16 @@ of_taken slots v i slot g h = grind (arith, nat_tests, g.hands i slot)
 of_old : (slots : ℕ) (v : View) (i slot : ℕ) → Good slots v → v.hand i ≡ Old slot → v.status slot ≡ Cut i
 of_old slots v i slot g h = grind (arith, nat_tests, g.hands i slot)
 
-of_known : (slots : ℕ) (v : View) (i slot birth : ℕ) → Good slots v → v.hand i ≡ Known slot birth → v.status slot ≡ Cut i
+pub of_known : (slots : ℕ) (v : View) (i slot birth : ℕ) → Good slots v → v.hand i ≡ Known slot birth → v.status slot ≡ Cut i
 of_known slots v i slot birth g h = grind (arith, nat_tests, g.hands i slot)
 
-of_dated : (slots : ℕ) (v : View) (i slot birth retire : ℕ) → Good slots v → v.hand i ≡ Dated slot birth retire → v.status slot ≡ Sealed i retire
+pub of_dated : (slots : ℕ) (v : View) (i slot birth retire : ℕ) → Good slots v → v.hand i ≡ Dated slot birth retire → v.status slot ≡ Sealed i retire
 of_dated slots v i slot birth retire g h = grind (arith, nat_tests, g.hands i slot)
 
 born_dated : (slots : ℕ) (v : View) (i slot birth retire : ℕ) → Good slots v → v.hand i ≡ Dated slot birth retire → v.birth slot ≡ birth
 born_dated slots v i slot birth retire g h = grind (arith, nat_tests, g.known i slot)
 
-no_fill : false ≡ true → ⊥
+pub no_fill : false ≡ true → ⊥
 no_fill h = cc
 
 did_bears : (slots i : ℕ) (mem : Place → ℕ) (v : View) (task : Task) (birth slot : ℕ) (post : Post) (desk : Desk) → 0 < birth → Good slots v → Words slots mem v → Plays i (Runs (Fills task) (Allocate (StoreLife birth slot))) desk.list v

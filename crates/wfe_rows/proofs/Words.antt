@@ -93,7 +93,7 @@ life_apart s (Life t) h = cc
 life_apart s (Row t q) h = refl
 life_apart s (PlaceOf i) h = refl
 
-put_other : (mem : Place → ℕ) (p q : Place) (value : ℕ) → same q p ≡ false → put mem p value q ≡ mem q
+pub put_other : (mem : Place → ℕ) (p q : Place) (value : ℕ) → same q p ≡ false → put mem p value q ≡ mem q
 put_other mem p q value h = rw h refl
 
 put_back : (mem : Place → ℕ) (p q : Place) → put mem p (mem p) q ≡ mem q
@@ -126,7 +126,7 @@ words_plain slots mem v m h w = record {
 }
 
 -- an exchange that fails leaves all words
-missed : (mem : Place → ℕ) (p q : Place) (old new : ℕ) → (mem p == old) ≡ false → written mem (Cas p old new) q ≡ mem q
+pub missed : (mem : Place → ℕ) (p q : Place) (old new : ℕ) → (mem p == old) ≡ false → written mem (Cas p old new) q ≡ mem q
 missed mem p q old new h = rw h (put_back mem p q)
 
 pub words_missed : (slots : ℕ) (mem : Place → ℕ) (v : View) (p : Place) (old new : ℕ) → (mem p == old) ≡ false → Words slots mem v → Words slots (written mem (Cas p old new)) v

@@ -1,0 +1,351 @@
+-- What a step of a machine leaves of what its seat has found of the queue.
+use Rattle.std.proofs.Common.{ℕ, zero, suc, ◌≤◌, ◌+◌, ◌-◌, ◌<◌, ◌/◌, ◌%◌, ◌≡◌, ◌≢◌, Bool, true, false, arith, refl, ap, ◌&&◌, ◌||◌, ◌∙◌, sym, subst, List, [], ◌∷◌, ◌++◌, length}
+use Rattle.std.proofs.lemmas.Bool.Decides.{nat_tests}
+use Rattle.std.specs.Prelude.{◌==◌, not, nat_lt, nat_le, if◌then◌else◌, Option, Some, None}
+use Rattle.wfe_words.specs.declared.config.SchemeKind.{SchemeKind}
+use Rattle.wfe_words.specs.declared.config.SchemeKind.TheVariants.{He, Ibr, Wfe}
+use Rattle.wfe_defs.specs.declared.call.Answer.{Answer}
+use Rattle.wfe_defs.specs.declared.call.Answer.TheVariants as the_answers
+use Rattle.wfe_defs.specs.declared.event.Event.TheVariants as events
+use Rattle.wfe_defs.specs.declared.call.Call.{Call}
+use Rattle.wfe_defs.specs.declared.call.Call.TheVariants as names
+use Rattle.wfe_defs.specs.declared.call.ClockMove.{ClockMove}
+use Rattle.wfe_defs.specs.declared.event.Event.{Event}
+use Rattle.wfe_defs.specs.declared.lifetime.Lifetime.{Lifetime}
+use Rattle.wfe_core.specs.declared.ends.AllocateEnd.{AllocateEnd}
+use Rattle.wfe_core.specs.declared.ends.AllocateEnd.TheVariants as allocate_ends
+use Rattle.wfe_core.specs.declared.ends.FollowEnd.{FollowEnd}
+use Rattle.wfe_core.specs.declared.ends.FollowEnd.TheVariants as follow_ends
+use Rattle.wfe_core.specs.declared.ends.ProtectEnd.{ProtectEnd}
+use Rattle.wfe_core.specs.declared.ends.ProtectEnd.TheVariants as protect_ends
+use Rattle.wfe_core.specs.declared.post.Post.{Post}
+use Rattle.wfe_core.specs.Desks.{Desk, with_life}
+use Rattle.wfe_core.specs.Posts.{stands}
+use Rattle.wfe_core.specs.Phases.{Base, Ending}
+use Rattle.wfe_core.specs.Phases.Ending.{Done, Protected, Followed, Allocated, Clocked}
+use Rattle.wfe_core.specs.Phases.{Ending as endings}
+use Rattle.wfe_core.specs.Rounds as rounds
+use Rattle.wfe_core.specs.Rounds.{scheme_of, taken_of, round, round_by, begin_base, begin_span, finish_base, finish_span, clear_base, clear_post, clear_told, index_of, closed, given_up, finishing, finishing_by, clearing, clearing_by, clearing_next, clearing_next_by}
+use Rattle.wfe_core.specs.Get as gets
+use Rattle.wfe_core.specs.Change as alters
+use Rattle.wfe_core.specs.Enqueue as enqueues
+use Rattle.wfe_core.specs.Dequeue as dequeues
+use Rattle.wfe_core.specs.Scan as scan
+use Rattle.wfe_core.specs.Steps as steps
+use Rattle.wfe_core.specs.Calls.{ChangeKept, EnqueueKept, Task, Gets, Changes, Holds, Enqueues, Dequeues, Next, Again, MakeRoom, Answering, Retiring, AfterScan, Answered, Repeated, Counted, Why, Opens, FollowsHead, Fills, ClearsNext, Clears, Finishes, GivesUp, Retires, Tidies, Advances, Releases, ScanAt, ReadGuard, GiveBack, GetAt, FindVersion, FindCount, FindKey, FindValue, ChangeAt, LoadVersion, LoadCount, LoadKey, LoadValue, ExchangeRoot, EnqueueAt, LoadNumber, LoadNext, PassTail, ExchangeNext, ExchangeTail, DequeueAt, LoadTail, SwingTail, TakeNumber, TakeValue, ExchangeHead, Work, Getting, Changing, Enqueuing, Dequeuing, Phase, Idle, Runs, Scans, Works, CallTurn, CallOutcome, GoesOn}
+use Rattle.wfe_core.specs.Locals as locals
+use Rattle.wfe_rows.specs.Rows.{Hand}
+use Rattle.wfe_rows.specs.Rows.Hand.{Empty, New, Taken, Old, Known, Dated}
+use Rattle.wfe_rows.specs.Hands.{hand_of, hand_task, hand_next, hand_base, hand_later, hand_in, is_plain, is_right, fills_right, holds_none, holds_slot, Leaves}
+use Rattle.std.specs.Prelude.{bit_or}
+use Rattle.std.specs.Int.{bit_at}
+use Rattle.std.specs.List.{remove}
+use Rattle.std.proofs.lemmas.Nat.Bits.{bit_at-lt}
+use Rattle.wfe_words.specs.Place.{Place, claim_word, claim_mask, claim_others}
+use Rattle.wfe_words.specs.Place.Place.{Clock, Bucket, Head, Tail, Claim, Life, Row}
+use Rattle.wfe_words.specs.Packed.{read_life, life_word, halves}
+use Rattle.wfe_words.proofs.Parts.{read_life-open}
+use Rattle.wfe_core.specs.Memory as memory
+use Rattle.wfe_core.specs.Memory.{place_in, written, upd}
+use Rattle.wfe_core.specs.Phases.{goes, ends, AllocateAt, RetireAt, RowOf, Walk, Outcome, Goes, Ends, Turn}
+use Rattle.wfe_core.specs.Phases.AllocateAt.{LoadBirth, ClaimSlot, StoreLife}
+use Rattle.wfe_core.specs.Phases.RetireAt.{LoadLife, LoadRetire, StoreRetired}
+use Rattle.wfe_core.specs.Phases.Base.{Begin, Protect, Reload, Clear, Finish, Release, Allocate, Write, GiveUp, Retire, Move}
+use Rattle.wfe_core.specs.Machine as machine
+use Rattle.wfe_core.specs.Machine.{base_move}
+use Rattle.wfe_core.specs.Allocate.{is_claimed, walking, walk_past, walk_from, next_slot}
+use Rattle.wfe_core.specs.Guards as the_guards
+use Rattle.wfe_core.specs.WriteRow.{last_written, row_word}
+use Rattle.wfe_core.specs.Retire.{birth_in}
+use Rattle.wfe_core.specs.Steps.{run_turn, phase_move, phase_turn, work_move, work_turn}
+use Rattle.wfe_rows.specs.Rows.{Status, View, Good, RowMove, made, is_taken, has_life, retire_in, names, knows, status_in}
+use Rattle.wfe_rows.specs.Rows.Status.{Free, Claimed, Born, Linked, InQueue, Cut, Sealed, Listed}
+use Rattle.wfe_rows.specs.Rows.RowMove.{Stays, Claims, Bears, Drops, Links, Replaces, Appends, Pops, Reads, Seals, Lists, Returns}
+use Rattle.wfe_rows.specs.Hands.{hand_why, hand_left, right_left, in_list, no_entry, each_once, stands_at, runs_right, is_giving_up, is_retiring, task_fills, base_row, row_move, linked_row, change_row, enqueue_row, dequeue_row, work_row, scan_row}
+use Rattle.wfe_rows.specs.Agree.{Words, Plays, Needs, bit_of, claim_of}
+use Rattle.wfe_rows.proofs.Made.{claims_good, bears_good, drops_good, links_good, replaces_good, appends_good, pops_good, reads_good, seals_good, lists_good, returns_good}
+use Rattle.wfe_rows.proofs.Words.{is_writing, words_plain, words_missed, words_shown, words_claims, words_bears, words_drops, words_returns, words_lists, words_seals, words_links, words_replaces, words_appends, words_pops, words_hand}
+use Rattle.wfe_rows.proofs.Lists.{no_entry_from, in_list_last, once_last, once_remove, in_list_remove, Entered, stands_entered}
+use Rattle.wfe_rows.proofs.Rounds.{leaves_along, get_leaves, reading_leaves, at_next_leaves, clearing_leaves, clearing_next_leaves}
+use Rattle.wfe_rows.proofs.Turns.{linked_leaves, replaced_leaves, missed_leaves, appended_leaves, unappended_leaves, popped_leaves, unpopped_leaves, read_leaves, back_leaves}
+use Rattle.wfe_rows.proofs.Runs.{is_plain_why, plain_goes, plain_writes, plain_leaves, spent_leaves, given_leaves, written_leaves, retired_leaves, is_filling, only_fills}
+use Rattle.std.proofs.Common.{◌-◌}
+use Rattle.wfe_defs.specs.declared.event.Root.{Root}
+use Rattle.wfe_core.specs.Phases.{BeginAt, ProtectAt, MoveAt}
+use Rattle.wfe_core.specs.Phases.BeginAt.{LoadLower, PublishSpan}
+use Rattle.wfe_core.specs.Phases.ProtectAt.{LoadClock, PublishEra, LoadLink, CheckClock, PublishRequest, LoadOwnClock, PublishHelper, LoadOwnLink, CheckOwnClock, AnswerOwn, LoadAnswer, TakeAnswer, WithdrawRequest, WithdrawHelper, LoadWithin, CheckUpper, RaiseUpper}
+use Rattle.wfe_core.specs.Phases.MoveAt.{LoadEra, LoadRequest, ShowEra, LoadAsked, CheckEra, AnswerAsked, LoadReserved, HandOver, HideEra, HideLate, ExchangeClock}
+use Rattle.wfe_words.specs.Place.{same}
+use Rattle.wfe_words.specs.Place.Place.{Helper, Index, Interval, Request, PlaceOf}
+use Rattle.wfe_core.specs.Memory.{Load, Store, Cas, Or, And, put, change}
+use Rattle.std.specs.Prelude.{bit_and}
+use Rattle.wfe_rows.specs.Queue.{Line, InLine, Walks, in_queue, is_past, stands_on, heads_on, follows_in, leads_in, blanks_in, items_in}
+use Rattle.wfe_rows.proofs.Words.{put_other}
+use Rattle.wfe_rows.proofs.Steps.{no_fill}
+use Rattle.wfe_rows.proofs.Quiet.{phase_of, is_quiet, quiet_task, quiet_walks, clearing_quiet, clearing_next_quiet, closed_quiet, finishing_quiet, opened_null_quiet, tidied_quiet, advanced_quiet, released_quiet, retired_quiet, filled_quiet}
+
+-- an operation that may change a next link or the tail
+abbrev pub is_link_place : Place → Bool
+is_link_place Clock = false
+is_link_place (Helper seat) = false
+is_link_place (Index seat index) = false
+is_link_place (Interval seat) = false
+is_link_place (Request seat) = false
+is_link_place (Bucket bucket) = false
+is_link_place Head = false
+is_link_place Tail = true
+is_link_place (Claim word) = false
+is_link_place (Life slot) = false
+is_link_place (Row slot place) = true
+is_link_place (PlaceOf seat) = false
+
+abbrev pub is_linking : memory.Move → Bool
+is_linking (Load place) = false
+is_linking (Store place value) = is_link_place place
+is_linking (Cas place old new) = is_link_place place
+is_linking (Or place bits) = is_link_place place
+is_linking (And place bits) = is_link_place place
+
+row_apart : (s : ℕ) (p : Place) → is_link_place p ≡ false → same (Row s 0) p ≡ false
+row_apart s Clock h = refl
+row_apart s (Helper i) h = refl
+row_apart s (Index i j) h = refl
+row_apart s (Interval i) h = refl
+row_apart s (Request i) h = refl
+row_apart s (Bucket c) h = refl
+row_apart s Head h = refl
+row_apart s Tail h = absurd (no_fill (sym h))
+row_apart s (Claim v) h = refl
+row_apart s (Life t) h = refl
+row_apart s (Row t r) h = absurd (no_fill (sym h))
+row_apart s (PlaceOf i) h = refl
+
+tail_apart : (p : Place) → is_link_place p ≡ false → same Tail p ≡ false
+tail_apart Clock h = refl
+tail_apart (Helper i) h = refl
+tail_apart (Index i j) h = refl
+tail_apart (Interval i) h = refl
+tail_apart (Request i) h = refl
+tail_apart (Bucket c) h = refl
+tail_apart Head h = refl
+tail_apart Tail h = absurd (no_fill (sym h))
+tail_apart (Claim v) h = refl
+tail_apart (Life t) h = refl
+tail_apart (Row t r) h = absurd (no_fill (sym h))
+tail_apart (PlaceOf i) h = refl
+
+unlinked : (mem : Place → ℕ) (m : memory.Move) (q : Place) → ((p : Place) → is_link_place p ≡ false → same q p ≡ false) → is_linking m ≡ false → written mem m q ≡ mem q
+unlinked mem (Load place) q f h = refl
+unlinked mem (Store place value) q f h = put_other mem place q value (f place h)
+unlinked mem (Cas place old new) q f h = put_other mem place q (change (Cas place old new) (mem place)) (f place h)
+unlinked mem (Or place bits) q f h = put_other mem place q (bit_or (mem place) bits) (f place h)
+unlinked mem (And place bits) q f h = put_other mem place q (bit_and (mem place) bits) (f place h)
+
+pub unlinked_row : (mem : Place → ℕ) (m : memory.Move) (s : ℕ) → is_linking m ≡ false → written mem m (Row s 0) ≡ mem (Row s 0)
+unlinked_row mem m s h = unlinked mem m (Row s 0) (row_apart s) h
+
+pub unlinked_tail : (mem : Place → ℕ) (m : memory.Move) → is_linking m ≡ false → written mem m Tail ≡ mem Tail
+unlinked_tail mem m h = unlinked mem m Tail tail_apart h
+
+-- only a write does so among the machines
+abbrev pub is_write : Base → Bool
+is_write (Begin at) = false
+is_write (Protect aim index root steps at) = false
+is_write (Reload parent index slot era steps) = false
+is_write (Clear index) = false
+is_write Finish = false
+is_write Release = false
+is_write (Allocate at) = false
+is_write (Write slot row place) = true
+is_write (GiveUp slot) = false
+is_write (Retire at) = false
+is_write (Move at) = false
+
+protect_links : (index : ℕ) (root : Root) (at : ProtectAt) (post : Post) → is_linking (machine.protect_move index root at post) ≡ false
+protect_links index root (LoadClock tries) post = refl
+protect_links index root (PublishEra era tries) post = refl
+protect_links index root (LoadLink era tries) post = refl
+protect_links index root (CheckClock era tries link) post = refl
+protect_links index root PublishRequest post = refl
+protect_links index root LoadOwnClock post = refl
+protect_links index root (PublishHelper first era last) post = refl
+protect_links index root (LoadOwnLink first era last) post = refl
+protect_links index root (CheckOwnClock first era last link) post = refl
+protect_links index root (AnswerOwn first era link) post = refl
+protect_links index root (LoadAnswer first) post = refl
+protect_links index root (TakeAnswer link era) post = refl
+protect_links index root (WithdrawRequest link era) post = refl
+protect_links index root (WithdrawHelper link era) post = refl
+protect_links index root LoadWithin post = refl
+protect_links index root (CheckUpper link) post = refl
+protect_links index root (RaiseUpper era) post = refl
+
+move_links : (at : MoveAt) (post : Post) → is_linking (machine.move_move at post) ≡ false
+move_links (LoadEra helps) post = refl
+move_links (LoadRequest era seat shows) post = refl
+move_links (ShowEra era seat tag index root) post = refl
+move_links (LoadAsked era seat tag index root) post = refl
+move_links (CheckEra era seat tag index root link) post = refl
+move_links (AnswerAsked era seat tag index root link) post = refl
+move_links (LoadReserved era seat tag index root link) post = refl
+move_links (HandOver era seat tag index root link old) post = refl
+move_links (HideEra era) post = refl
+move_links (HideLate seen) post = refl
+move_links (ExchangeClock era) post = refl
+
+begin_links : (at : BeginAt) (post : Post) → is_linking (machine.begin_move at post) ≡ false
+begin_links LoadLower post = refl
+begin_links (PublishSpan era) post = refl
+
+allocate_links : (at : AllocateAt) → is_linking (machine.allocate_move at) ≡ false
+allocate_links LoadBirth = refl
+allocate_links (ClaimSlot birth walk) = refl
+allocate_links (StoreLife birth slot) = refl
+
+retire_links : (at : RetireAt) → is_linking (machine.retire_move at) ≡ false
+retire_links (LoadLife slot) = refl
+retire_links (LoadRetire slot birth) = refl
+retire_links (StoreRetired slot birth retire) = refl
+
+pub base_links : (base : Base) (post : Post) → is_write base ≡ false → is_linking (base_move base post) ≡ false
+base_links (Begin at) post h = begin_links at post
+base_links (Protect aim index root steps at) post h = protect_links index root at post
+base_links (Reload parent index slot era steps) post h = refl
+base_links (Clear index) post h = refl
+base_links Finish post h = refl
+base_links Release post h = refl
+base_links (Allocate at) post h = allocate_links at
+base_links (Write slot row place) post h = absurd (no_fill (sym h))
+base_links (GiveUp slot) post h = refl
+base_links (Retire at) post h = retire_links at
+base_links (Move at) post h = move_links at post
+
+-- what a machine gives that ends: a row from the tail or the head that was in the queue, or the row after the head
+pub record Gives (why : Why) (outcome : Outcome) (q : ℕ → Bool) (l : Line) (next : ℕ → ℕ) (head : ℕ) : Type 0 where
+  pub tails : (kept : EnqueueKept) (slot era : ℕ) → why ≡ Opens (Enqueues kept) → outcome ≡ Ends (Protected (protect_ends.Held slot era)) → l.lined slot ≡ true
+  pub heads : (slot era : ℕ) → why ≡ Opens Dequeues → outcome ≡ Ends (Protected (protect_ends.Held slot era)) → l.lined slot ≡ true
+  pub leads : (slot era : ℕ) → why ≡ Opens Dequeues → outcome ≡ Ends (Protected (protect_ends.Held slot era)) → q slot ≡ true → head ≡ slot + 1
+  pub follows : (parent tail slot : ℕ) → why ≡ FollowsHead parent tail → outcome ≡ Ends (Followed (follow_ends.Followed slot)) → next parent ≡ slot + 1
+
+abbrev pub Left : CallTurn → (ℕ → Bool) → Line → (ℕ → ℕ) → ℕ → ℕ → Type 0
+Left t q l next head tail = Walks (phase_of t.outcome) q l next head tail
+
+enqueue_opens : (kept : EnqueueKept) (ending : Ending) (post : Post) (desk : Desk) (told : List Event) (q : ℕ → Bool) (l : Line) (next : ℕ → ℕ) (head tail : ℕ) → ((slot era : ℕ) → ending ≡ Protected (protect_ends.Held slot era) → l.lined slot ≡ true) → Left (steps.opened (Enqueues kept) ending post desk told) q l next head tail
+enqueue_opens kept (Protected (protect_ends.Held slot era)) post desk told q l next head tail f =
+    record { stood = λ h e. grind (arith, nat_tests, f slot era refl); heads = λ h e k. cc; follows = λ h link e. cc; some = λ h link e. cc; leads = λ h e k. cc; blank = λ s e. cc; items = refl }
+enqueue_opens kept (Protected protect_ends.Null) post desk told q l next head tail f =
+    quiet_walks (phase_of (steps.opened_null (Enqueues kept) post desk told).outcome) q l next head tail (opened_null_quiet (Enqueues kept) post desk told)
+enqueue_opens kept Done post desk told q l next head tail f = quiet_walks (phase_of (steps.opened (Enqueues kept) Done post desk told).outcome) q l next head tail refl
+enqueue_opens kept (Followed end) post desk told q l next head tail f = quiet_walks (phase_of (steps.opened (Enqueues kept) (Followed end) post desk told).outcome) q l next head tail refl
+enqueue_opens kept (Allocated end) post desk told q l next head tail f = quiet_walks (phase_of (steps.opened (Enqueues kept) (Allocated end) post desk told).outcome) q l next head tail refl
+enqueue_opens kept (endings.Retired life) post desk told q l next head tail f = quiet_walks (phase_of (steps.opened (Enqueues kept) (endings.Retired life) post desk told).outcome) q l next head tail refl
+enqueue_opens kept (Clocked clock) post desk told q l next head tail f = quiet_walks (phase_of (steps.opened (Enqueues kept) (Clocked clock) post desk told).outcome) q l next head tail refl
+
+dequeue_opens : (ending : Ending) (post : Post) (desk : Desk) (told : List Event) (q : ℕ → Bool) (l : Line) (next : ℕ → ℕ) (head tail : ℕ) → ((slot era : ℕ) → ending ≡ Protected (protect_ends.Held slot era) → l.lined slot ≡ true) → ((slot era : ℕ) → ending ≡ Protected (protect_ends.Held slot era) → q slot ≡ true → head ≡ slot + 1) → Left (steps.opened Dequeues ending post desk told) q l next head tail
+dequeue_opens (Protected (protect_ends.Held slot era)) post desk told q l next head tail f g =
+    record { stood = λ h e. grind (arith, nat_tests, f slot era refl); heads = λ h e k. head_is h e k; follows = λ h link e. cc; some = λ h link e. cc; leads = λ h e k. cc; blank = λ s e. cc; items = refl }
+  where
+    head_is : (h : ℕ) → (slot == h) ≡ true → q h ≡ true → head ≡ h + 1
+    head_is h e k = let same : slot ≡ h = grind (arith, nat_tests) in subst (λ (x : ℕ). head ≡ x + 1) same (g slot era refl (subst (λ (x : ℕ). q x ≡ true) (sym same) k))
+dequeue_opens (Protected protect_ends.Null) post desk told q l next head tail f g =
+    quiet_walks (phase_of (steps.opened_null Dequeues post desk told).outcome) q l next head tail (opened_null_quiet Dequeues post desk told)
+dequeue_opens Done post desk told q l next head tail f g = quiet_walks (phase_of (steps.opened Dequeues Done post desk told).outcome) q l next head tail refl
+dequeue_opens (Followed end) post desk told q l next head tail f g = quiet_walks (phase_of (steps.opened Dequeues (Followed end) post desk told).outcome) q l next head tail refl
+dequeue_opens (Allocated end) post desk told q l next head tail f g = quiet_walks (phase_of (steps.opened Dequeues (Allocated end) post desk told).outcome) q l next head tail refl
+dequeue_opens (endings.Retired life) post desk told q l next head tail f g = quiet_walks (phase_of (steps.opened Dequeues (endings.Retired life) post desk told).outcome) q l next head tail refl
+dequeue_opens (Clocked clock) post desk told q l next head tail f g = quiet_walks (phase_of (steps.opened Dequeues (Clocked clock) post desk told).outcome) q l next head tail refl
+
+-- another task's root
+abbrev opens_quiet : Task → Bool
+opens_quiet (Gets key) = true
+opens_quiet (Changes kept) = true
+opens_quiet (Holds key) = true
+opens_quiet (Enqueues kept) = false
+opens_quiet Dequeues = false
+
+opened_row_quiet : (task : Task) (slot : ℕ) (post : Post) (desk : Desk) (told : List Event) → opens_quiet task ≡ true → is_quiet (phase_of (steps.opened_row task slot post desk told).outcome) ≡ true
+opened_row_quiet (Gets key) slot post desk told h = refl
+opened_row_quiet (Changes kept) slot post desk told h = refl
+opened_row_quiet (Holds key) slot post desk told h = refl
+opened_row_quiet (Enqueues kept) slot post desk told h = absurd (no_fill h)
+opened_row_quiet Dequeues slot post desk told h = absurd (no_fill h)
+
+opened_quiet : (task : Task) (ending : Ending) (post : Post) (desk : Desk) (told : List Event) → opens_quiet task ≡ true → is_quiet (phase_of (steps.opened task ending post desk told).outcome) ≡ true
+opened_quiet task (Protected (protect_ends.Held slot era)) post desk told h = opened_row_quiet task slot post desk told h
+opened_quiet task (Protected protect_ends.Null) post desk told h = opened_null_quiet task post desk told
+opened_quiet task Done post desk told h = refl
+opened_quiet task (Followed end) post desk told h = refl
+opened_quiet task (Allocated end) post desk told h = refl
+opened_quiet task (endings.Retired life) post desk told h = refl
+opened_quiet task (Clocked clock) post desk told h = refl
+
+-- the head's next row was followed
+followed_row_walks : (parent last slot : ℕ) (base : Base) (post : Post) (desk : Desk) (told : List Event) (lags : Bool) (q : ℕ → Bool) (l : Line) (next : ℕ → ℕ) (head tail : ℕ) → (last == parent + 1) ≡ lags → Walks (Runs (FollowsHead parent last) base) q l next head tail → next parent ≡ slot + 1 → Left (dequeues.followed_row parent slot post desk told lags) q l next head tail
+followed_row_walks parent last slot base post desk told true q l next head tail e w f =
+    record { stood = w.stood; heads = w.heads; follows = λ h link u. grind (arith, nat_tests, f); some = λ h link u. grind (arith, nat_tests); leads = λ h u k. cc; blank = λ s u. cc; items = refl }
+followed_row_walks parent last slot base post desk told false q l next head tail e w f =
+    record { stood = w.stood; heads = w.heads; follows = λ h link u. grind (arith, nat_tests, f); some = λ h link u. grind (arith, nat_tests); leads = λ h u k. w.leads h (lags_on h u) k; blank = λ s u. cc; items = refl }
+  where
+    lags_on : (h : ℕ) → (parent == h) ≡ true → leads_in (Runs (FollowsHead parent last) base) h ≡ true
+    lags_on h u = rw (u, e) refl
+
+followed_walks : (parent last : ℕ) (base : Base) (end : FollowEnd) (post : Post) (desk : Desk) (told : List Event) (q : ℕ → Bool) (l : Line) (next : ℕ → ℕ) (head tail : ℕ) → Walks (Runs (FollowsHead parent last) base) q l next head tail → ((slot : ℕ) → end ≡ follow_ends.Followed slot → next parent ≡ slot + 1) → Left (dequeues.followed parent last end post desk told) q l next head tail
+followed_walks parent last base (follow_ends.Followed slot) post desk told q l next head tail w f = followed_row_walks parent last slot base post desk told (last == parent + 1) q l next head tail refl w (f slot refl)
+followed_walks parent last base follow_ends.NoNext post desk told q l next head tail w f =
+    quiet_walks (phase_of (dequeues.followed parent last follow_ends.NoNext post desk told).outcome) q l next head tail (clearing_next_quiet (Answering the_answers.Empty) post desk told)
+followed_walks parent last base (follow_ends.RootMoved seen) post desk told q l next head tail w f =
+    quiet_walks (phase_of (dequeues.followed parent last (follow_ends.RootMoved seen) post desk told).outcome) q l next head tail (clearing_next_quiet Again post desk told)
+
+follow_ends_walks : (parent last : ℕ) (base : Base) (ending : Ending) (post : Post) (desk : Desk) (told : List Event) (q : ℕ → Bool) (l : Line) (next : ℕ → ℕ) (head tail : ℕ) → Walks (Runs (FollowsHead parent last) base) q l next head tail → ((slot : ℕ) → ending ≡ Followed (follow_ends.Followed slot) → next parent ≡ slot + 1) → Left (steps.followed_by parent last ending post desk told) q l next head tail
+follow_ends_walks parent last base (Followed end) post desk told q l next head tail w f = followed_walks parent last base end post desk told q l next head tail w (λ slot e. f slot (ap Followed e))
+follow_ends_walks parent last base Done post desk told q l next head tail w f = quiet_walks (phase_of (steps.followed_by parent last Done post desk told).outcome) q l next head tail (closed_quiet Dequeues Again post desk told)
+follow_ends_walks parent last base (Protected end) post desk told q l next head tail w f = quiet_walks (phase_of (steps.followed_by parent last (Protected end) post desk told).outcome) q l next head tail (closed_quiet Dequeues Again post desk told)
+follow_ends_walks parent last base (Allocated end) post desk told q l next head tail w f = quiet_walks (phase_of (steps.followed_by parent last (Allocated end) post desk told).outcome) q l next head tail (closed_quiet Dequeues Again post desk told)
+follow_ends_walks parent last base (endings.Retired life) post desk told q l next head tail w f = quiet_walks (phase_of (steps.followed_by parent last (endings.Retired life) post desk told).outcome) q l next head tail (closed_quiet Dequeues Again post desk told)
+follow_ends_walks parent last base (Clocked clock) post desk told q l next head tail w f = quiet_walks (phase_of (steps.followed_by parent last (Clocked clock) post desk told).outcome) q l next head tail (closed_quiet Dequeues Again post desk told)
+
+-- a machine has made a step; where a row is filled it is another matter
+abbrev pub fills_none : Why → Bool
+fills_none (Opens task) = true
+fills_none (FollowsHead parent last) = true
+fills_none (Fills task) = false
+fills_none (ClearsNext after) = true
+fills_none (Clears task after) = true
+fills_none (Finishes task after) = true
+fills_none (GivesUp answer) = true
+fills_none (Retires answer) = true
+fills_none (Tidies later) = true
+fills_none Advances = true
+fills_none (Releases key) = true
+
+pub resumed_walks : (why : Why) (base : Base) (desk : Desk) (post : Post) (told : List Event) (outcome : Outcome) (q : ℕ → Bool) (l : Line) (next : ℕ → ℕ) (head tail : ℕ) → fills_none why ≡ true → Walks (Runs why base) q l next head tail → Gives why outcome q l next head → Left (steps.resumed why desk post told outcome) q l next head tail
+resumed_walks (Opens (Gets key)) base desk post told (Goes more) q l next head tail h w g = quiet_walks (Runs (Opens (Gets key)) more) q l next head tail refl
+resumed_walks (Opens (Gets key)) base desk post told (Ends ending) q l next head tail h w g = quiet_walks (phase_of (steps.resume (Opens (Gets key)) ending post desk told).outcome) q l next head tail (opened_quiet (Gets key) ending post desk told refl)
+resumed_walks (Opens (Changes kept)) base desk post told (Goes more) q l next head tail h w g = quiet_walks (Runs (Opens (Changes kept)) more) q l next head tail refl
+resumed_walks (Opens (Changes kept)) base desk post told (Ends ending) q l next head tail h w g = quiet_walks (phase_of (steps.resume (Opens (Changes kept)) ending post desk told).outcome) q l next head tail (opened_quiet (Changes kept) ending post desk told refl)
+resumed_walks (Opens (Holds key)) base desk post told (Goes more) q l next head tail h w g = quiet_walks (Runs (Opens (Holds key)) more) q l next head tail refl
+resumed_walks (Opens (Holds key)) base desk post told (Ends ending) q l next head tail h w g = quiet_walks (phase_of (steps.resume (Opens (Holds key)) ending post desk told).outcome) q l next head tail (opened_quiet (Holds key) ending post desk told refl)
+resumed_walks (ClearsNext after) base desk post told (Goes more) q l next head tail h w g = quiet_walks (Runs (ClearsNext after) more) q l next head tail refl
+resumed_walks (ClearsNext after) base desk post told (Ends ending) q l next head tail h w g = quiet_walks (phase_of (steps.resume (ClearsNext after) ending post desk told).outcome) q l next head tail (clearing_quiet Dequeues after post desk told)
+resumed_walks (Clears task after) base desk post told (Goes more) q l next head tail h w g = quiet_walks (Runs (Clears task after) more) q l next head tail refl
+resumed_walks (Clears task after) base desk post told (Ends ending) q l next head tail h w g = quiet_walks (phase_of (steps.resume (Clears task after) ending post desk told).outcome) q l next head tail (finishing_quiet task after post desk told)
+resumed_walks (Finishes task after) base desk post told (Goes more) q l next head tail h w g = quiet_walks (Runs (Finishes task after) more) q l next head tail refl
+resumed_walks (Finishes task after) base desk post told (Ends ending) q l next head tail h w g = quiet_walks (phase_of (steps.resume (Finishes task after) ending post desk told).outcome) q l next head tail (closed_quiet task after post desk told)
+resumed_walks (GivesUp answer) base desk post told (Goes more) q l next head tail h w g = quiet_walks (Runs (GivesUp answer) more) q l next head tail refl
+resumed_walks (GivesUp answer) base desk post told (Ends ending) q l next head tail h w g = quiet_walks Idle q l next head tail refl
+resumed_walks (Retires answer) base desk post told (Goes more) q l next head tail h w g = quiet_walks (Runs (Retires answer) more) q l next head tail refl
+resumed_walks (Retires answer) base desk post told (Ends ending) q l next head tail h w g = quiet_walks (phase_of (steps.resume (Retires answer) ending post desk told).outcome) q l next head tail (retired_quiet answer ending post desk told)
+resumed_walks (Tidies later) base desk post told (Goes more) q l next head tail h w g = quiet_walks (Runs (Tidies later) more) q l next head tail refl
+resumed_walks (Tidies later) base desk post told (Ends ending) q l next head tail h w g = quiet_walks (phase_of (steps.resume (Tidies later) ending post desk told).outcome) q l next head tail (tidied_quiet later ending post desk told)
+resumed_walks Advances base desk post told (Goes more) q l next head tail h w g = quiet_walks (Runs Advances more) q l next head tail refl
+resumed_walks Advances base desk post told (Ends ending) q l next head tail h w g = quiet_walks (phase_of (steps.resume Advances ending post desk told).outcome) q l next head tail (advanced_quiet ending post desk told)
+resumed_walks (Releases key) base desk post told (Goes more) q l next head tail h w g = quiet_walks (Runs (Releases key) more) q l next head tail refl
+resumed_walks (Releases key) base desk post told (Ends ending) q l next head tail h w g = quiet_walks (phase_of (steps.resume (Releases key) ending post desk told).outcome) q l next head tail (released_quiet key post desk told)
+resumed_walks (Opens (Enqueues kept)) base desk post told (Goes more) q l next head tail h w g = quiet_walks (Runs (Opens (Enqueues kept)) more) q l next head tail refl
+resumed_walks (Opens (Enqueues kept)) base desk post told (Ends ending) q l next head tail h w g = enqueue_opens kept ending post desk told q l next head tail (λ slot era e. g.tails kept slot era refl (ap Ends e))
+resumed_walks (Opens Dequeues) base desk post told (Goes more) q l next head tail h w g = quiet_walks (Runs (Opens Dequeues) more) q l next head tail refl
+resumed_walks (Opens Dequeues) base desk post told (Ends ending) q l next head tail h w g = dequeue_opens ending post desk told q l next head tail (λ slot era e. g.heads slot era refl (ap Ends e)) (λ slot era e. g.leads slot era refl (ap Ends e))
+resumed_walks (FollowsHead parent last) base desk post told (Goes more) q l next head tail h w g = record { stood = w.stood; heads = w.heads; follows = λ x link e. cc; some = λ x link e. cc; leads = w.leads; blank = λ s e. cc; items = refl }
+resumed_walks (FollowsHead parent last) base desk post told (Ends ending) q l next head tail h w g = follow_ends_walks parent last base ending post desk told q l next head tail w (λ slot e. g.follows parent last slot refl (ap Ends e))
+resumed_walks (Fills task) base desk post told outcome q l next head tail h w g = absurd (no_fill h)
+
