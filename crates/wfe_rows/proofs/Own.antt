@@ -81,6 +81,11 @@ use Rattle.wfe_core.specs.Memory.{Load, Store, Cas, Or, And, put, change}
 use Rattle.std.specs.Prelude.{bit_and}
 use Rattle.wfe_rows.specs.Queue.{Line, InLine, Walks, in_queue, is_past, stands_on, heads_on, follows_in, leads_in, blanks_in, items_in}
 use Rattle.wfe_rows.proofs.Words.{put_other}
+use Rattle.wfe_core.specs.Phases.{MapRow, QueueRow, goes, ends}
+use Rattle.wfe_core.specs.Allocate.{walk_from}
+use Rattle.wfe_core.specs.WriteRow.{row_word}
+use Rattle.wfe_core.specs.Guards as the_guards
+use Rattle.wfe_rows.specs.Chain.{next_of}
 use Rattle.wfe_rows.proofs.Steps.{no_fill}
 use Rattle.wfe_rows.proofs.Quiet.{phase_of, is_quiet, quiet_task, quiet_walks, clearing_quiet, clearing_next_quiet, closed_quiet, finishing_quiet, opened_null_quiet, tidied_quiet, advanced_quiet, released_quiet, retired_quiet, filled_quiet}
 
@@ -349,3 +354,79 @@ resumed_walks (FollowsHead parent last) base desk post told (Goes more) q l next
 resumed_walks (FollowsHead parent last) base desk post told (Ends ending) q l next head tail h w g = follow_ends_walks parent last base ending post desk told q l next head tail w (λ slot e. g.follows parent last slot refl (ap Ends e))
 resumed_walks (Fills task) base desk post told outcome q l next head tail h w g = absurd (no_fill h)
 
+
+-- where a row is taken or written for another task than an enqueue
+pub fills_quiet : (task : Task) (desk : Desk) (post : Post) (told : List Event) (outcome : Outcome) → quiet_task task ≡ true → is_quiet (phase_of (steps.resumed (Fills task) desk post told outcome).outcome) ≡ true
+fills_quiet task desk post told (Goes base) h = h
+fills_quiet task desk post told (Ends ending) h = filled_quiet task ending post desk told h
+
+-- where an enqueue takes a row
+enqueue_goes : (kept : EnqueueKept) (at more : AllocateAt) (q : ℕ → Bool) (l : Line) (next : ℕ → ℕ) (head tail : ℕ) → Walks (Runs (Fills (Enqueues kept)) (Allocate at)) q l next head tail → Walks (Runs (Fills (Enqueues kept)) (Allocate more)) q l next head tail
+enqueue_goes kept at more q l next head tail w = record { stood = w.stood; heads = λ h e k. cc; follows = λ h link e. cc; some = λ h link e. cc; leads = λ h e k. cc; blank = λ s e. cc; items = refl }
+
+enqueue_walks : (kept : EnqueueKept) (birth : ℕ) (at : AllocateAt) (post : Post) (desk : Desk) (x : Option Walk) (q : ℕ → Bool) (l : Line) (next : ℕ → ℕ) (head tail : ℕ) → Walks (Runs (Fills (Enqueues kept)) (Allocate at)) q l next head tail → Left (run_turn (Fills (Enqueues kept)) desk (walking birth post x)) q l next head tail
+enqueue_walks kept birth at post desk None q l next head tail w =
+    quiet_walks (phase_of (run_turn (Fills (Enqueues kept)) desk (walking birth post None)).outcome) q l next head tail (clearing_quiet (Enqueues (enqueues.item_walked kept)) (alters.no_room kept.walked) post desk [])
+enqueue_walks kept birth at post desk (Some walk) q l next head tail w = enqueue_goes kept at (ClaimSlot birth walk) q l next head tail w
+
+enqueue_claims : (kept : EnqueueKept) (birth : ℕ) (walk : Walk) (post given : Post) (desk : Desk) (told : List Event) (x : Option Walk) (shown : Bool) (q : ℕ → Bool) (l : Line) (next : ℕ → ℕ) (head tail : ℕ) → Walks (Runs (Fills (Enqueues kept)) (Allocate (ClaimSlot birth walk))) q l next head tail → Left (run_turn (Fills (Enqueues kept)) desk (if shown then walking birth post x else goes given told (Allocate (StoreLife birth walk.slot)))) q l next head tail
+enqueue_claims kept birth walk post given desk told x true q l next head tail w = enqueue_walks kept birth (ClaimSlot birth walk) post desk x q l next head tail w
+enqueue_claims kept birth walk post given desk told x false q l next head tail w = enqueue_goes kept (ClaimSlot birth walk) (StoreLife birth walk.slot) q l next head tail w
+
+enqueue_takes : (kept : EnqueueKept) (at : AllocateAt) (post : Post) (desk : Desk) (found : ℕ) (q : ℕ → Bool) (l : Line) (next : ℕ → ℕ) (head tail : ℕ) → Walks (Runs (Fills (Enqueues kept)) (Allocate at)) q l next head tail → Left (run_turn (Fills (Enqueues kept)) desk (machine.after (Allocate at) post found)) q l next head tail
+enqueue_takes kept LoadBirth post desk found q l next head tail w = enqueue_goes kept LoadBirth (ClaimSlot found (walk_from post.layout.config.slots post.cursor)) q l next head tail w
+enqueue_takes kept (ClaimSlot birth walk) post desk found q l next head tail w =
+    enqueue_claims
+    kept
+    birth
+    walk
+    post
+    (record post { cursor = next_slot post.layout.config.slots walk.slot })
+    desk
+    (events.Give walk.slot birth ∷ [])
+    (walk_past post.layout.config.slots walk found)
+    (is_claimed found walk.slot)
+    q
+    l
+    next
+    head
+    tail
+    w
+enqueue_takes kept (StoreLife birth slot) post desk found q l next head tail w =
+    record { stood = w.stood; heads = λ h e k. cc; follows = λ h link e. cc; some = λ h link e. cc; leads = λ h e k. cc; blank = λ s e. absurd (grind (arith, nat_tests)); items = refl }
+
+pub takes_walks : (task : Task) (at : AllocateAt) (post : Post) (desk : Desk) (found : ℕ) (q : ℕ → Bool) (l : Line) (next : ℕ → ℕ) (head tail : ℕ) → Walks (Runs (Fills task) (Allocate at)) q l next head tail → Left (run_turn (Fills task) desk (machine.after (Allocate at) post found)) q l next head tail
+takes_walks (Enqueues kept) at post desk found q l next head tail w = enqueue_takes kept at post desk found q l next head tail w
+takes_walks (Gets key) at post desk found q l next head tail w = let t : Turn = machine.after (Allocate at) post found in quiet_walks (phase_of (run_turn (Fills (Gets key)) desk t).outcome) q l next head tail (fills_quiet (Gets key) desk t.post t.told t.outcome refl)
+takes_walks (Changes kept) at post desk found q l next head tail w = let t : Turn = machine.after (Allocate at) post found in quiet_walks (phase_of (run_turn (Fills (Changes kept)) desk t).outcome) q l next head tail (fills_quiet (Changes kept) desk t.post t.told t.outcome refl)
+takes_walks (Holds key) at post desk found q l next head tail w = let t : Turn = machine.after (Allocate at) post found in quiet_walks (phase_of (run_turn (Fills (Holds key)) desk t).outcome) q l next head tail (fills_quiet (Holds key) desk t.post t.told t.outcome refl)
+takes_walks Dequeues at post desk found q l next head tail w = let t : Turn = machine.after (Allocate at) post found in quiet_walks (phase_of (run_turn (Fills Dequeues) desk t).outcome) q l next head tail (fills_quiet Dequeues desk t.post t.told t.outcome refl)
+
+taken_in : (x : Option ℕ) (slot : ℕ) → holds_slot x slot ≡ true → steps.slot_in x ≡ slot
+taken_in None slot h = absurd (no_fill h)
+taken_in (Some taken) slot h = grind (arith, nat_tests)
+
+blank_after : (mem : Place → ℕ) (slot number value place : ℕ) → ((slot == slot && not (place == 0)) ≡ true → mem (Row slot 0) ≡ 0) → written mem (Store (Row slot place) (row_word (QueueRow number value) place)) (Row slot 0) ≡ 0
+blank_after mem slot number value place f = grind (arith, nat_tests, f)
+
+-- where an enqueue writes its row
+item_last : (kept : EnqueueKept) (slot number value place word : ℕ) (post : Post) (desk : Desk) (last : Bool) (q : ℕ → Bool) (l : Line) (next n2 : ℕ → ℕ) (head tail : ℕ) → (place == 2) ≡ last → holds_slot kept.taken slot ≡ true → n2 slot ≡ 0 → Walks (Runs (Fills (Enqueues kept)) (Write slot (QueueRow number value) place)) q l next head tail → Left (run_turn (Fills (Enqueues kept)) desk (if last then ends post [] Done else goes post [] (Write slot (QueueRow number value) (place + 1)))) q l n2 head tail
+item_last kept slot number value place word post desk true q l next n2 head tail e t b w =
+    record { stood = w.stood; heads = λ h u k. cc; follows = λ h link u. cc; some = λ h link u. cc; leads = λ h u k. cc; blank = λ s u. blank_at s u; items = refl }
+  where
+    blank_at : (s : ℕ) → (steps.slot_in kept.taken == s) ≡ true → n2 s ≡ 0
+    blank_at s u = let own : steps.slot_in kept.taken ≡ slot = taken_in kept.taken slot t in let same : slot ≡ s = grind (arith, nat_tests) in subst (λ (x : ℕ). n2 x ≡ 0) same b
+item_last kept slot number value place word post desk false q l next n2 head tail e t b w =
+    record { stood = w.stood; heads = λ h u k. cc; follows = λ h link u. cc; some = λ h link u. cc; leads = λ h u k. cc; blank = λ s u. grind (arith, nat_tests, b); items = refl }
+
+item_writes : (kept : EnqueueKept) (slot : ℕ) (row : RowOf) (place : ℕ) (post : Post) (desk : Desk) (q : ℕ → Bool) (l : Line) (mem : Place → ℕ) (head tail : ℕ) → holds_slot kept.taken slot ≡ true → Walks (Runs (Fills (Enqueues kept)) (Write slot row place)) q l (next_of mem) head tail → Left (run_turn (Fills (Enqueues kept)) desk (machine.after (Write slot row place) post 0)) q l (next_of (written mem (Store (Row slot place) (row_word row place)))) head tail
+item_writes kept slot (MapRow version pairs) place post desk q l mem head tail t w = absurd (no_fill w.items)
+item_writes kept slot (QueueRow number value) place post desk q l mem head tail t w =
+    item_last kept slot number value place 0 post desk (place == 2) q l (next_of mem) (next_of (written mem (Store (Row slot place) (row_word (QueueRow number value) place)))) head tail refl t (blank_after mem slot number value place (w.blank slot)) w
+
+pub writes_walks : (task : Task) (slot : ℕ) (row : RowOf) (place : ℕ) (post : Post) (desk : Desk) (q : ℕ → Bool) (l : Line) (mem : Place → ℕ) (head tail : ℕ) → task_fills task (Write slot row place) ≡ true → Walks (Runs (Fills task) (Write slot row place)) q l (next_of mem) head tail → Left (run_turn (Fills task) desk (machine.after (Write slot row place) post 0)) q l (next_of (written mem (Store (Row slot place) (row_word row place)))) head tail
+writes_walks (Enqueues kept) slot row place post desk q l mem head tail t w = item_writes kept slot row place post desk q l mem head tail t w
+writes_walks (Gets key) slot row place post desk q l mem head tail t w = let u : Turn = machine.after (Write slot row place) post 0 in quiet_walks (phase_of (run_turn (Fills (Gets key)) desk u).outcome) q l (next_of (written mem (Store (Row slot place) (row_word row place)))) head tail (fills_quiet (Gets key) desk u.post u.told u.outcome refl)
+writes_walks (Changes kept) slot row place post desk q l mem head tail t w = let u : Turn = machine.after (Write slot row place) post 0 in quiet_walks (phase_of (run_turn (Fills (Changes kept)) desk u).outcome) q l (next_of (written mem (Store (Row slot place) (row_word row place)))) head tail (fills_quiet (Changes kept) desk u.post u.told u.outcome refl)
+writes_walks (Holds key) slot row place post desk q l mem head tail t w = let u : Turn = machine.after (Write slot row place) post 0 in quiet_walks (phase_of (run_turn (Fills (Holds key)) desk u).outcome) q l (next_of (written mem (Store (Row slot place) (row_word row place)))) head tail (fills_quiet (Holds key) desk u.post u.told u.outcome refl)
+writes_walks Dequeues slot row place post desk q l mem head tail t w = let u : Turn = machine.after (Write slot row place) post 0 in quiet_walks (phase_of (run_turn (Fills Dequeues) desk u).outcome) q l (next_of (written mem (Store (Row slot place) (row_word row place)))) head tail (fills_quiet Dequeues desk u.post u.told u.outcome refl)
