@@ -10,4 +10,5 @@ pub mod Rounds
 pub mod Runs
 pub mod Steps
 pub mod Turns
+pub mod Went
 pub mod Words
