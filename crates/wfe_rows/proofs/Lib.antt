@@ -5,6 +5,7 @@ pub mod Lists
 pub mod Made
 pub mod Own
 pub mod Phases
+pub mod Queued
 pub mod Quiet
 pub mod Rounds
 pub mod Runs

@@ -114,10 +114,10 @@ abbrev pub WalksIn : Phase → View → Line → (Place → ℕ) → Type 0
 WalksIn phase v l mem = Walks phase (queue_of v) l (next_of mem) v.head (mem Tail)
 
 -- rows and links after these changes
-same_number : (n : ℕ) → (n == n) ≡ true
+pub same_number : (n : ℕ) → (n == n) ≡ true
 same_number n = grind (arith, nat_tests)
 
-both_same : (a b : ℕ) → (a == a && (b == b)) ≡ true
+pub both_same : (a b : ℕ) → (a == a && (b == b)) ≡ true
 both_same a b = grind (arith, nat_tests)
 
 past_born : (x : Status) (i : ℕ) → x ≡ Born i → is_past x ≡ true → false ≡ true
@@ -165,29 +165,29 @@ joined_follows mem last slot h link n u = n h ∙ joined_at mem last slot h link
     joined_at : (mem : Place → ℕ) (last slot h link : ℕ) → (last == h && (slot + 1 == link)) ≡ true → upd (next_of mem) last (slot + 1) h ≡ link
     joined_at mem last slot h link u = grind (arith, nat_tests)
 
-calm_self : (v : View) → Calm v v
+pub calm_self : (v : View) → Calm v v
 calm_self v = record { queue = λ s. refl; past = λ s e. e; head = refl }
 
 -- no link and no row of the queue changes
-went_same : (i : ℕ) (v u : View) (l : Line) (mem after : Place → ℕ) (t : CallTurn) → Calm v u → ((s : ℕ) → after (Row s 0) ≡ mem (Row s 0)) → after Tail ≡ mem Tail → LineIn v l mem → Left t (queue_of v) l (next_of mem) v.head (mem Tail) → Went i v u l Keeps mem after t
+pub went_same : (i : ℕ) (v u : View) (l : Line) (mem after : Place → ℕ) (t : CallTurn) → Calm v u → ((s : ℕ) → after (Row s 0) ≡ mem (Row s 0)) → after Tail ≡ mem Tail → LineIn v l mem → Left t (queue_of v) l (next_of mem) v.head (mem Tail) → Went i v u l Keeps mem after t
 went_same i v u l mem after t c n a g w = record {
   line = same_line (queue_of v) (past_of v) (queue_of u) (past_of u) l (next_of mem) (next_of after) v.head u.head (mem Tail) (after Tail) g c.queue (λ s e. c.past s (g.passed s e)) n c.head a;
   own = same_walks (phase_of t.outcome) (queue_of v) (queue_of u) l (next_of mem) (next_of after) v.head u.head (mem Tail) (after Tail) w c.queue n c.head a;
   others = λ phase o f x. same_walks phase (queue_of v) (queue_of u) l (next_of mem) (next_of after) v.head u.head (mem Tail) (after Tail) o c.queue n c.head a;
 }
 
-went_calm : (i : ℕ) (v u : View) (l : Line) (mem : Place → ℕ) (m : memory.Move) (t : CallTurn) → Calm v u → is_linking m ≡ false → LineIn v l mem → Left t (queue_of v) l (next_of mem) v.head (mem Tail) → Went i v u l Keeps mem (written mem m) t
+pub went_calm : (i : ℕ) (v u : View) (l : Line) (mem : Place → ℕ) (m : memory.Move) (t : CallTurn) → Calm v u → is_linking m ≡ false → LineIn v l mem → Left t (queue_of v) l (next_of mem) v.head (mem Tail) → Went i v u l Keeps mem (written mem m) t
 went_calm i v u l mem m t c h g w = went_same i v u l mem (written mem m) t c (λ s. unlinked_row mem m s h) (unlinked_tail mem m h) g w
 
 -- an exchange of the tail, or of a next link, or of the head, that fails
-went_missed : (i : ℕ) (v : View) (l : Line) (mem : Place → ℕ) (p : Place) (old new : ℕ) (t : CallTurn) → (mem p == old) ≡ false → LineIn v l mem → Left t (queue_of v) l (next_of mem) v.head (mem Tail) → Went i v v l Keeps mem (written mem (memory.Cas p old new)) t
+pub went_missed : (i : ℕ) (v : View) (l : Line) (mem : Place → ℕ) (p : Place) (old new : ℕ) (t : CallTurn) → (mem p == old) ≡ false → LineIn v l mem → Left t (queue_of v) l (next_of mem) v.head (mem Tail) → Went i v v l Keeps mem (written mem (memory.Cas p old new)) t
 went_missed i v l mem p old new t h g w = went_same i v v l mem (written mem (memory.Cas p old new)) t (calm_self v) (λ s. missed mem p (Row s 0) old new h) (missed mem p Tail old new h) g w
 
 -- a row goes back
 listed_out : (x : Status) (i : ℕ) → (retire : ℕ) × (x ≡ Listed i retire) → in_queue x ≡ false
 listed_out x i h = rw h.1 refl
 
-went_returns : (i : ℕ) (v : View) (l : Line) (mem : Place → ℕ) (slot : ℕ) (t : CallTurn) → MoveFits i v (Returns slot) → LineIn v l mem → is_quiet (phase_of t.outcome) ≡ true → Went i v (made i v (Returns slot)) l (Leaves slot) mem (written mem (memory.And (Claim (claim_word slot)) (claim_others slot))) t
+pub went_returns : (i : ℕ) (v : View) (l : Line) (mem : Place → ℕ) (slot : ℕ) (t : CallTurn) → MoveFits i v (Returns slot) → LineIn v l mem → is_quiet (phase_of t.outcome) ≡ true → Went i v (made i v (Returns slot)) l (Leaves slot) mem (written mem (memory.And (Claim (claim_word slot)) (claim_others slot))) t
 went_returns i v l mem slot t f g y =
     let out : in_queue (v.status slot) ≡ false = listed_out (v.status slot) i f in
     let queue : (s : ℕ) → queue_of (made i v (Returns slot)) s ≡ queue_of v s = λ s. returned_queue i v slot s out in
@@ -206,7 +206,7 @@ pub born_unlined : (i : ℕ) (v : View) (l : Line) (mem : Place → ℕ) (slot :
 born_unlined i v l mem slot g e = unlined (l.lined slot) (v.status slot) i (g.passed slot) e
 
 -- a word of an own row is written
-went_writes_by : (i : ℕ) (v : View) (l : Line) (mem : Place → ℕ) (slot place word : ℕ) (t : CallTurn) (first : Bool) → (place == 0) ≡ first → v.status slot ≡ Born i → LineIn v l mem → Left t (queue_of v) l (next_of (written mem (memory.Store (Row slot place) word))) v.head (mem Tail) → Went i v v l Keeps mem (written mem (memory.Store (Row slot place) word)) t
+pub went_writes_by : (i : ℕ) (v : View) (l : Line) (mem : Place → ℕ) (slot place word : ℕ) (t : CallTurn) (first : Bool) → (place == 0) ≡ first → v.status slot ≡ Born i → LineIn v l mem → Left t (queue_of v) l (next_of (written mem (memory.Store (Row slot place) word))) v.head (mem Tail) → Went i v v l Keeps mem (written mem (memory.Store (Row slot place) word)) t
 went_writes_by i v l mem slot place word t true e b g w =
     let after : Place → ℕ = written mem (memory.Store (Row slot place) word) in
     let n : (s : ℕ) → next_of (written mem (memory.Store (Row slot place) word)) s ≡ upd (next_of mem) slot word s = λ s. written_first mem slot place word s e in
@@ -225,7 +225,7 @@ went_writes_by i v l mem slot place word t false e b g w =
     }
 
 -- the tail is moved on
-went_swings : (i : ℕ) (v : View) (l : Line) (mem : Place → ℕ) (slot link : ℕ) (t : CallTurn) (same : Bool) → (mem Tail == slot + 1) ≡ same → mem (Row slot 0) ≡ link → 0 < link → LineIn v l mem → is_quiet (phase_of t.outcome) ≡ true → Went i v v l Keeps mem (written mem (memory.Cas Tail (slot + 1) link)) t
+pub went_swings : (i : ℕ) (v : View) (l : Line) (mem : Place → ℕ) (slot link : ℕ) (t : CallTurn) (same : Bool) → (mem Tail == slot + 1) ≡ same → mem (Row slot 0) ≡ link → 0 < link → LineIn v l mem → is_quiet (phase_of t.outcome) ≡ true → Went i v v l Keeps mem (written mem (memory.Cas Tail (slot + 1) link)) t
 went_swings i v l mem slot link t true e n o g y =
     let at : mem Tail ≡ slot + 1 = number_of (mem Tail) (slot + 1) e in
     let a : written mem (memory.Cas Tail (slot + 1) link) Tail ≡ link = rw e refl in
@@ -238,7 +238,7 @@ went_swings i v l mem slot link t false e n o g y =
     went_missed i v l mem Tail (slot + 1) link t e g (quiet_walks (phase_of t.outcome) (queue_of v) l (next_of mem) v.head (mem Tail) y)
 
 -- a row joins the queue
-went_joins : (i : ℕ) (v : View) (l : Line) (mem : Place → ℕ) (kept : EnqueueKept) (slot : ℕ) (post : Post) (desk : Desk) (same : Bool) → (mem (Row kept.tail 0) == 0) ≡ same → v.status slot ≡ Born i → LineIn v l mem → WalksIn (Works (Enqueuing kept (ExchangeNext slot))) v l mem → Went i v (made i v (if same then Appends slot else Stays)) l (if same then Joins kept.tail slot else Keeps) mem (written mem (memory.Cas (Row kept.tail 0) 0 (slot + 1))) (enqueues.appended kept slot post desk same)
+pub went_joins : (i : ℕ) (v : View) (l : Line) (mem : Place → ℕ) (kept : EnqueueKept) (slot : ℕ) (post : Post) (desk : Desk) (same : Bool) → (mem (Row kept.tail 0) == 0) ≡ same → v.status slot ≡ Born i → LineIn v l mem → WalksIn (Works (Enqueuing kept (ExchangeNext slot))) v l mem → Went i v (made i v (if same then Appends slot else Stays)) l (if same then Joins kept.tail slot else Keeps) mem (written mem (memory.Cas (Row kept.tail 0) 0 (slot + 1))) (enqueues.appended kept slot post desk same)
 went_joins i v l mem kept slot post desk true e b g w =
     let null : mem (Row kept.tail 0) ≡ 0 = number_of (mem (Row kept.tail 0)) 0 e in
     let blank : mem (Row slot 0) ≡ 0 = w.blank slot (same_number slot) in
@@ -263,7 +263,7 @@ went_joins i v l mem kept slot post desk false e b g w =
     went_missed i v l mem (Row kept.tail 0) 0 (slot + 1) (enqueues.appended kept slot post desk false) e g (quiet_walks (phase_of (enqueues.appended kept slot post desk false).outcome) (queue_of v) l (next_of mem) v.head (mem Tail) (clearing_quiet (Enqueues kept) Again post desk []))
 
 -- the head is cut
-went_pops : (i : ℕ) (v : View) (l : Line) (mem : Place → ℕ) (head next number value : ℕ) (post : Post) (desk : Desk) (same : Bool) → (mem Head == head + 1) ≡ same → mem Head ≡ v.head → LineIn v l mem → WalksIn (Works (Dequeuing (ExchangeHead head next number value))) v l mem → Went i v (made i v (if same then Pops head next else Stays)) l Keeps mem (written mem (memory.Cas Head (head + 1) (next + 1))) (dequeues.taken head next number value post desk same)
+pub went_pops : (i : ℕ) (v : View) (l : Line) (mem : Place → ℕ) (head next number value : ℕ) (post : Post) (desk : Desk) (same : Bool) → (mem Head == head + 1) ≡ same → mem Head ≡ v.head → LineIn v l mem → WalksIn (Works (Dequeuing (ExchangeHead head next number value))) v l mem → Went i v (made i v (if same then Pops head next else Stays)) l Keeps mem (written mem (memory.Cas Head (head + 1) (next + 1))) (dequeues.taken head next number value post desk same)
 went_pops i v l mem head next number value post desk true e c g w =
     let at : v.head ≡ head + 1 = sym c ∙ number_of (mem Head) (head + 1) e in
     let link : mem (Row head 0) ≡ next + 1 = w.follows head (next + 1) (both_same head (next + 1)) in
