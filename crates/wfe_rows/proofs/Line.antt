@@ -1,11 +1,11 @@
 -- What is known of the queue is kept by each change of it.
-use Rattle.std.proofs.Common.{ℕ, ◌≤◌, ◌+◌, ◌<◌, ◌≡◌, ◌≢◌, Bool, true, false, arith, refl, ap, sym, ◌∙◌, ◌&&◌}
+use Rattle.std.proofs.Common.{ℕ, ◌+◌, ◌<◌, ◌≡◌, Bool, true, false, arith}
 use Rattle.std.proofs.lemmas.Bool.Decides.{nat_tests}
-use Rattle.std.specs.Prelude.{◌==◌, not, if◌then◌else◌}
+use Rattle.std.specs.Prelude.{◌==◌}
 use Rattle.wfe_core.specs.Memory.{upd}
-use Rattle.wfe_core.specs.Calls.{Why, Opens, FollowsHead, Fills, ClearsNext, Clears, Finishes, GivesUp, Retires, Tidies, Advances, Releases, LoadNumber, LoadNext, PassTail, ExchangeNext, ExchangeTail, LoadTail, SwingTail, TakeNumber, TakeValue, ExchangeHead, Getting, Changing, Enqueuing, Dequeuing, Phase, Idle, Runs, Scans, Works}
-use Rattle.wfe_rows.specs.Queue.{Line, InLine, Walks, stands_on, heads_on, follows_in, leads_in, blanks_in, items_in, LineMove, moved_line}
-use Rattle.wfe_rows.specs.Queue.LineMove.{Keeps, Joins, Leaves}
+use Rattle.wfe_core.specs.Calls.{Opens, FollowsHead, Fills, ClearsNext, Clears, Finishes, GivesUp, Retires, Tidies, Advances, Releases, LoadNumber, LoadNext, PassTail, ExchangeNext, ExchangeTail, LoadTail, SwingTail, TakeNumber, TakeValue, ExchangeHead, Getting, Changing, Enqueuing, Dequeuing, Phase, Idle, Runs, Scans, Works}
+use Rattle.wfe_rows.specs.Queue.{Line, InLine, Walks, stands_on, heads_on, follows_in, leads_in, blanks_in, moved_line}
+use Rattle.wfe_rows.specs.Queue.LineMove.{Joins, Leaves}
 
 -- rows of the queue stay, and no row that was in it is free
 pub calm_line : (q past p q2 : ℕ → Bool) (l : Line) (next : ℕ → ℕ) (head tail : ℕ) → InLine q past l next head tail → ((s : ℕ) → q2 s ≡ q s) → ((s : ℕ) → l.lined s ≡ true → p s ≡ true) → InLine q2 p l next head tail

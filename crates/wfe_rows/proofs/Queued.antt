@@ -1,106 +1,68 @@
 -- Each step keeps the rows and the queue.
-use Rattle.std.proofs.Common.{ℕ, zero, suc, ◌≤◌, ◌+◌, ◌-◌, ◌<◌, ◌/◌, ◌%◌, ◌≡◌, ◌≢◌, Bool, true, false, arith, refl, ap, ◌&&◌, ◌||◌, ◌∙◌, sym, subst, List, [], ◌∷◌, ◌++◌, length}
+use Rattle.std.proofs.Common.{ℕ, ◌+◌, ◌-◌, ◌<◌, ◌≡◌, Bool, true, false, arith, refl, ap, ◌&&◌, ◌∙◌, sym, subst, List, []}
 use Rattle.std.proofs.lemmas.Bool.Decides.{nat_tests}
-use Rattle.std.specs.Prelude.{◌==◌, not, nat_lt, nat_le, if◌then◌else◌, Option, Some, None}
-use Rattle.wfe_words.specs.declared.config.SchemeKind.{SchemeKind}
-use Rattle.wfe_words.specs.declared.config.SchemeKind.TheVariants.{He, Ibr, Wfe}
-use Rattle.wfe_defs.specs.declared.call.Answer.{Answer}
+use Rattle.std.specs.Prelude.{◌==◌, not, if◌then◌else◌, Option, Some, None}
 use Rattle.wfe_defs.specs.declared.call.Answer.TheVariants as the_answers
-use Rattle.wfe_defs.specs.declared.event.Event.TheVariants as events
 use Rattle.wfe_defs.specs.declared.call.Call.{Call}
 use Rattle.wfe_defs.specs.declared.call.Call.TheVariants as names
-use Rattle.wfe_defs.specs.declared.call.ClockMove.{ClockMove}
-use Rattle.wfe_defs.specs.declared.event.Event.{Event}
-use Rattle.wfe_defs.specs.declared.lifetime.Interval.{Interval}
 use Rattle.wfe_defs.specs.declared.lifetime.Lifetime.{Lifetime}
-use Rattle.wfe_core.specs.declared.ends.AllocateEnd.{AllocateEnd}
-use Rattle.wfe_core.specs.declared.ends.AllocateEnd.TheVariants as allocate_ends
-use Rattle.wfe_core.specs.declared.ends.FollowEnd.{FollowEnd}
-use Rattle.wfe_core.specs.declared.ends.FollowEnd.TheVariants as follow_ends
-use Rattle.wfe_core.specs.declared.ends.ProtectEnd.{ProtectEnd}
-use Rattle.wfe_core.specs.declared.ends.ProtectEnd.TheVariants as protect_ends
 use Rattle.wfe_core.specs.declared.post.Post.{Post}
-use Rattle.wfe_core.specs.Desks.{Desk, with_life}
+use Rattle.wfe_core.specs.Desks.{Desk}
 use Rattle.wfe_core.specs.Posts.{stands}
-use Rattle.wfe_core.specs.Phases.{Base, Ending}
-use Rattle.wfe_core.specs.Phases.Ending.{Done, Protected, Followed, Allocated, Clocked}
-use Rattle.wfe_core.specs.Phases.{Ending as endings}
-use Rattle.wfe_core.specs.Rounds as rounds
-use Rattle.wfe_core.specs.Rounds.{scheme_of, taken_of, round, round_by, begin_base, begin_span, finish_base, finish_span, clear_base, clear_post, clear_told, index_of, closed, given_up, finishing, finishing_by, clearing, clearing_by, clearing_next, clearing_next_by}
+use Rattle.wfe_core.specs.Phases.{Base}
 use Rattle.wfe_core.specs.Get as gets
 use Rattle.wfe_core.specs.Change as alters
 use Rattle.wfe_core.specs.Enqueue as enqueues
 use Rattle.wfe_core.specs.Dequeue as dequeues
 use Rattle.wfe_core.specs.Scan as scan
-use Rattle.wfe_core.specs.Steps as steps
-use Rattle.wfe_core.specs.Calls.{ChangeKept, EnqueueKept, Task, Gets, Changes, Holds, Enqueues, Dequeues, Next, Again, MakeRoom, Answering, Retiring, AfterScan, Answered, Repeated, Counted, Why, Opens, FollowsHead, Fills, ClearsNext, Clears, Finishes, GivesUp, Retires, Tidies, Advances, Releases, ScanAt, ReadGuard, GiveBack, GetAt, FindVersion, FindCount, FindKey, FindValue, ChangeAt, LoadVersion, LoadCount, LoadKey, LoadValue, ExchangeRoot, EnqueueAt, LoadNumber, LoadNext, PassTail, ExchangeNext, ExchangeTail, DequeueAt, LoadTail, SwingTail, TakeNumber, TakeValue, ExchangeHead, Work, Getting, Changing, Enqueuing, Dequeuing, Phase, Idle, Runs, Scans, Works, CallTurn, CallOutcome, GoesOn}
-use Rattle.wfe_core.specs.Locals as locals
-use Rattle.wfe_rows.specs.Rows.{Hand}
-use Rattle.wfe_rows.specs.Rows.Hand.{Empty, New, Taken, Old, Known, Dated}
-use Rattle.wfe_rows.specs.Hands.{hand_of, hand_task, hand_next, hand_base, hand_later, hand_in, is_plain, is_right, fills_right, holds_none, holds_slot}
-use Rattle.std.specs.Prelude.{bit_or}
-use Rattle.std.specs.Int.{bit_at}
-use Rattle.std.specs.List.{remove}
-use Rattle.std.proofs.lemmas.Nat.Bits.{bit_at-lt}
-use Rattle.wfe_words.specs.Place.{Place, claim_word, claim_mask, claim_others}
-use Rattle.wfe_words.specs.Place.Place.{Clock, Bucket, Head, Tail, Claim, Life, Row}
-use Rattle.wfe_words.specs.Packed.{read_life, life_word, halves}
-use Rattle.wfe_words.proofs.Parts.{read_life-open}
+use Rattle.wfe_core.specs.Calls.{ChangeKept, EnqueueKept, Task, Gets, Changes, Holds, Enqueues, Dequeues, Again, Answering, AfterScan, Why, Opens, FollowsHead, Fills, ClearsNext, Clears, Finishes, GivesUp, Retires, Tidies, Advances, Releases, ScanAt, ReadGuard, GiveBack, GetAt, FindVersion, FindCount, FindKey, FindValue, ChangeAt, LoadVersion, LoadCount, LoadKey, LoadValue, ExchangeRoot, EnqueueAt, LoadNumber, LoadNext, PassTail, ExchangeNext, ExchangeTail, DequeueAt, LoadTail, SwingTail, TakeNumber, TakeValue, ExchangeHead, Work, Getting, Changing, Enqueuing, Dequeuing, Phase, Idle, Runs, Scans, Works, CallTurn, CallOutcome, GoesOn}
+use Rattle.wfe_rows.specs.Rows.Hand.{Taken}
+use Rattle.wfe_rows.specs.Hands.{hand_base, is_plain}
+use Rattle.wfe_words.specs.Place.{Place, claim_word}
+use Rattle.wfe_words.specs.Place.Place.{Clock, Head, Tail, Claim, Row}
 use Rattle.wfe_core.specs.Memory as memory
 use Rattle.wfe_core.specs.Memory.{place_in, written, upd}
-use Rattle.wfe_core.specs.Phases.{goes, ends, AllocateAt, RetireAt, RowOf, Walk, Outcome, Goes, Ends, Turn}
+use Rattle.wfe_core.specs.Phases.{AllocateAt, RetireAt, Outcome, Turn}
 use Rattle.wfe_core.specs.Phases.AllocateAt.{LoadBirth, ClaimSlot, StoreLife}
 use Rattle.wfe_core.specs.Phases.RetireAt.{LoadLife, LoadRetire, StoreRetired}
 use Rattle.wfe_core.specs.Phases.Base.{Begin, Protect, Reload, Clear, Finish, Release, Allocate, Write, GiveUp, Retire, Move}
 use Rattle.wfe_core.specs.Machine as machine
 use Rattle.wfe_core.specs.Machine.{base_move}
-use Rattle.wfe_core.specs.Allocate.{is_claimed, walking, walk_past, walk_from, next_slot}
+use Rattle.wfe_core.specs.Allocate.{is_claimed}
 use Rattle.wfe_core.specs.Guards as the_guards
-use Rattle.wfe_core.specs.WriteRow.{last_written, row_word}
-use Rattle.wfe_core.specs.Retire.{birth_in}
+use Rattle.wfe_core.specs.WriteRow.{row_word}
 use Rattle.wfe_core.specs.Steps.{run_turn, phase_move, phase_turn, work_move, work_turn}
-use Rattle.wfe_rows.specs.Rows.{Status, View, Good, RowMove, made, is_taken, has_life, retire_in, names, knows, status_in}
+use Rattle.wfe_rows.specs.Rows.{Status, View, Good, made}
 use Rattle.wfe_rows.specs.Rows.Status.{Free, Claimed, Born, Linked, InQueue, Cut, Sealed, Listed}
-use Rattle.wfe_rows.specs.Rows.RowMove.{Stays, Claims, Bears, Drops, Links, Replaces, Appends, Pops, Reads, Seals, Lists, Returns}
-use Rattle.wfe_rows.specs.Hands.{hand_why, hand_left, right_left, in_list, no_entry, each_once, stands_at, runs_right, is_giving_up, is_retiring, task_fills, base_row, row_move, linked_row, change_row, enqueue_row, dequeue_row, work_row, scan_row}
-use Rattle.wfe_rows.specs.Agree.{Words, Plays, Needs, bit_of, claim_of}
-use Rattle.wfe_rows.proofs.Made.{claims_good, bears_good, drops_good, links_good, replaces_good, appends_good, pops_good, reads_good, seals_good, lists_good, returns_good}
-use Rattle.wfe_rows.proofs.Words.{is_writing, words_plain, words_missed, words_shown, words_claims, words_bears, words_drops, words_returns, words_lists, words_seals, words_links, words_replaces, words_appends, words_pops, words_hand}
-use Rattle.wfe_rows.proofs.Lists.{no_entry_from, in_list_last, once_last, once_remove, in_list_remove, Entered, stands_entered}
-use Rattle.wfe_rows.proofs.Rounds.{leaves_along, get_leaves, reading_leaves, at_next_leaves, clearing_leaves, clearing_next_leaves}
-use Rattle.wfe_rows.proofs.Turns.{linked_leaves, replaced_leaves, missed_leaves, appended_leaves, unappended_leaves, popped_leaves, unpopped_leaves, read_leaves, back_leaves}
-use Rattle.wfe_rows.proofs.Runs.{is_plain_why, plain_goes, plain_writes, plain_leaves, spent_leaves, given_leaves, written_leaves, retired_leaves, is_filling, only_fills}
+use Rattle.wfe_rows.specs.Rows.RowMove.{Stays, Claims, Links, Replaces}
+use Rattle.wfe_rows.specs.Hands.{runs_right, is_giving_up, is_retiring, task_fills, base_row, row_move, linked_row, change_row, enqueue_row, dequeue_row, work_row, scan_row}
+use Rattle.wfe_rows.specs.Agree.{Words, Plays, Needs}
+use Rattle.wfe_rows.proofs.Runs.{only_fills}
 use Rattle.std.proofs.Common.{◌-◌}
 use Rattle.wfe_defs.specs.declared.event.Root.TheVariants as roots
-use Rattle.wfe_words.specs.Place.{same}
-use Rattle.wfe_core.specs.Phases.{MapRow, QueueRow, goes, ends}
 use Rattle.wfe_core.specs.Memory.{Load, Store, Cas, Or, And, put, change}
 use Rattle.wfe_core.specs.WriteRow.{row_word}
 use Rattle.wfe_core.specs.Guards as the_guards
-use Rattle.wfe_defs.specs.declared.call.ClockMove.TheVariants as clock_moves
 use Rattle.wfe_rows.specs.Hands.{scan_row, allocate_row, retire_row}
-use Rattle.wfe_rows.specs.Queue.{Line, InLine, Walks, in_queue, is_past, stands_on, heads_on, follows_in, leads_in, blanks_in, items_in, base_blanks, base_items, LineMove, moved_line, line_move, enqueue_line, scan_line, work_line}
-use Rattle.wfe_rows.specs.Queue.LineMove.{Keeps, Joins, Leaves}
-use Rattle.wfe_rows.specs.Chain.{queue_of, past_of, next_of, PhaseNeeds}
-use Rattle.wfe_rows.proofs.Words.{missed}
+use Rattle.wfe_rows.specs.Queue.{Line, Walks, in_queue, blanks_in, base_blanks, base_items, line_move, enqueue_line, scan_line, work_line}
+use Rattle.wfe_rows.specs.Queue.LineMove.{Keeps, Joins}
+use Rattle.wfe_rows.specs.Chain.{queue_of, next_of, PhaseNeeds}
 use Rattle.wfe_rows.proofs.Steps.{no_fill, of_taken}
-use Rattle.wfe_rows.proofs.Phases.{number_of, taken_as, linked_slot}
-use Rattle.wfe_rows.proofs.Fits.{MoveFits, phase_fits, Calm, is_calm, calm_made}
-use Rattle.wfe_rows.proofs.Line.{calm_line, free_line, write_line, join_line, pop_line, swing_line, same_line, calm_walks, free_walks, write_walks, join_walks, pop_walks, swing_walks, same_walks}
-use Rattle.wfe_rows.proofs.Quiet.{phase_of, is_quiet, quiet_walks, clearing_quiet, clearing_next_quiet, change_quiet, scan_quiet, get_quiet}
-use Rattle.wfe_rows.proofs.Own.{is_linking, unlinked_row, unlinked_tail, is_write, base_links, Gives, Left, fills_none, resumed_walks, takes_walks, writes_walks}
-use Rattle.wfe_rows.proofs.Went.{Far, Others, Went, LineIn, WalksIn, same_number, both_same, calm_self, went_same, went_calm, went_missed, went_returns, went_writes_by, went_swings, went_joins, went_pops, born_unlined}
+use Rattle.wfe_rows.proofs.Phases.{taken_as}
+use Rattle.wfe_rows.proofs.Fits.{MoveFits, phase_fits, is_calm, calm_made}
+use Rattle.wfe_rows.proofs.Quiet.{phase_of, is_quiet, quiet_walks, clearing_quiet, clearing_next_quiet, change_quiet, scan_quiet, get_quiet, round_quiet}
+use Rattle.wfe_rows.proofs.Own.{is_linking, is_write, base_links, Left, fills_none, resumed_walks, takes_walks, writes_walks}
+use Rattle.wfe_rows.proofs.Went.{Far, Others, Went, LineIn, WalksIn, both_same, calm_self, went_same, went_calm, went_returns, went_writes_by, went_swings, went_joins, went_pops, born_unlined}
 use Rattle.wfe_rows.proofs.Kept.{rows_kept}
-use Rattle.wfe_rows.specs.Agree.{Agree, RowsNeeds, rows_after, first_rows, first_status}
-use Rattle.wfe_rows.specs.Chain.{Queue, QueueNeeds, Both, line_after, first_line, QueueStart, QueueBegin, QueueKept}
-use Rattle.wfe_words.specs.Place.{has, is_valid}
+use Rattle.wfe_rows.specs.Agree.{RowsNeeds, rows_after, first_rows}
+use Rattle.wfe_rows.specs.Chain.{QueueNeeds, line_after, first_line, QueueStart, QueueBegin, QueueKept}
 use Rattle.wfe_words.specs.declared.layout.Layout.{Layout}
 use Rattle.wfe_core.specs.Posts.{counted}
 use Rattle.wfe_core.specs.Desks.{noting}
 use Rattle.wfe_core.specs.Steps.{first_phase, holding}
 use Rattle.wfe_core.specs.Calls.{Answers}
-use Rattle.wfe_core.specs.Locals.{Local, busy_in, turn, settled, settled_by, told_by, rounds_told, begun, begun_post}
-use Rattle.wfe_core.specs.World.{World, start, step, begin, is_busy, finds}
+use Rattle.wfe_core.specs.Locals.{Local, turn, settled, settled_by, told_by, rounds_told, begun, begun_post}
+use Rattle.wfe_core.specs.World.{World, start, step, finds}
 
 -- the moves of rows by machines leave the queue's rows
 claim_calm : (slot : ℕ) (shown : Bool) → is_calm (if shown then Stays else Claims slot) ≡ true
@@ -221,25 +183,25 @@ went_runs slots i mem v l why base post next desk h n c r f g w =
     (base_links base post (why_write why base h r))
     g
     (resumed_walks
-      why
-      base
-      desk
-      t.post
-      t.told
-      t.outcome
-      (queue_of v)
-      l
-      (next_of mem)
-      v.head
-      (mem Tail)
-      h
-      w
-      (record {
-        tails = λ kept slot era e o. n.tails kept base slot era (ap (λ (y : Why). Runs y base) e) o;
-        heads = λ slot era e o. n.heads base slot era (ap (λ (y : Why). Runs y base) e) o;
-        leads = λ slot era e o q. sym c ∙ n.leads base slot era (ap (λ (y : Why). Runs y base) e) o q;
-        follows = λ parent tail slot e o. n.follows parent tail slot base (ap (λ (y : Why). Runs y base) e) o;
-      }))
+    why
+    base
+    desk
+    t.post
+    t.told
+    t.outcome
+    (queue_of v)
+    l
+    (next_of mem)
+    v.head
+    (mem Tail)
+    h
+    w
+    (record {
+      tails = λ kept slot era e o. n.tails kept base slot era (ap (λ (y : Why). Runs y base) e) o;
+      heads = λ slot era e o. n.heads base slot era (ap (λ (y : Why). Runs y base) e) o;
+      leads = λ slot era e o q. sym c ∙ n.leads base slot era (ap (λ (y : Why). Runs y base) e) o q;
+      follows = λ parent tail slot e o. n.follows parent tail slot base (ap (λ (y : Why). Runs y base) e) o;
+    }))
 
 went_takes : (i : ℕ) (mem : Place → ℕ) (v : View) (l : Line) (task : Task) (at : AllocateAt) (post next : Post) (desk : Desk) → MoveFits i v (base_row (Allocate at) (finds_base mem (Allocate at) post)) → LineIn v l mem → WalksIn (Runs (Fills task) (Allocate at)) v l mem
     → Went i v (made i v (base_row (Allocate at) (finds_base mem (Allocate at) post))) l Keeps mem (written mem (base_move (Allocate at) post)) (run_turn (Fills task) desk (base_turn mem (Allocate at) post next))
@@ -398,3 +360,176 @@ phase_went slots i mem v l Idle post next desk n d c p f g w =
 phase_went slots i mem v l (Runs why base) post next desk n d c p f g w = run_went slots i mem v l why base post next desk n d c p f g w
 phase_went slots i mem v l (Scans later at) post next desk n d c p f g w = scan_went i mem v l later at post next desk f g
 phase_went slots i mem v l (Works work) post next desk n d c p f g w = work_went slots i mem v l work post next desk d c p f g w
+
+first_true : (a b : Bool) → (a && b) ≡ true → a ≡ true
+first_true true b h = refl
+first_true false b h = absurd (no_fill h)
+
+born_at : (slots k : ℕ) (v : View) (slot s : ℕ) → Good slots v → v.hand k ≡ Taken slot → (slot == s) ≡ true → v.status s ≡ Born k
+born_at slots k v slot s d h e = let same : slot ≡ s = grind (arith, nat_tests) in subst (λ (x : ℕ). v.status x ≡ Born k) same (of_taken slots v k slot d h)
+
+far_joins : (last slot : ℕ) (phase : Phase) (same : Bool) → Far (if same then Joins last slot else Keeps) phase
+far_joins last slot phase true = tt
+far_joins last slot phase false = tt
+
+-- a seat that has stored the link of a row has that row in hand
+blank_born : (slots k : ℕ) (v : View) (phase : Phase) (list : List Lifetime) (s : ℕ) → Good slots v → Plays k phase list v → blanks_in phase s ≡ true → v.status s ≡ Born k
+blank_born slots k v Idle list s d p e = absurd (no_fill e)
+blank_born slots k v (Runs (Opens task) base) list s d p e = absurd (no_fill e)
+blank_born slots k v (Runs (FollowsHead parent last) base) list s d p e = absurd (no_fill e)
+blank_born slots k v (Runs (ClearsNext after) base) list s d p e = absurd (no_fill e)
+blank_born slots k v (Runs (Clears task after) base) list s d p e = absurd (no_fill e)
+blank_born slots k v (Runs (Finishes task after) base) list s d p e = absurd (no_fill e)
+blank_born slots k v (Runs (GivesUp answer) base) list s d p e = absurd (no_fill e)
+blank_born slots k v (Runs (Retires answer) base) list s d p e = absurd (no_fill e)
+blank_born slots k v (Runs (Tidies later) base) list s d p e = absurd (no_fill e)
+blank_born slots k v (Runs Advances base) list s d p e = absurd (no_fill e)
+blank_born slots k v (Runs (Releases key) base) list s d p e = absurd (no_fill e)
+blank_born slots k v (Runs (Fills (Gets key)) base) list s d p e = absurd (no_fill e)
+blank_born slots k v (Runs (Fills (Changes kept)) base) list s d p e = absurd (no_fill e)
+blank_born slots k v (Runs (Fills (Holds key)) base) list s d p e = absurd (no_fill e)
+blank_born slots k v (Runs (Fills Dequeues) base) list s d p e = absurd (no_fill e)
+blank_born slots k v (Runs (Fills (Enqueues kept)) (Begin at)) list s d p e = absurd (no_fill e)
+blank_born slots k v (Runs (Fills (Enqueues kept)) (Protect aim index root steps at)) list s d p e = absurd (no_fill e)
+blank_born slots k v (Runs (Fills (Enqueues kept)) (Reload parent index slot era steps)) list s d p e = absurd (no_fill e)
+blank_born slots k v (Runs (Fills (Enqueues kept)) (Clear index)) list s d p e = absurd (no_fill e)
+blank_born slots k v (Runs (Fills (Enqueues kept)) Finish) list s d p e = absurd (no_fill e)
+blank_born slots k v (Runs (Fills (Enqueues kept)) Release) list s d p e = absurd (no_fill e)
+blank_born slots k v (Runs (Fills (Enqueues kept)) (Allocate at)) list s d p e = absurd (no_fill e)
+blank_born slots k v (Runs (Fills (Enqueues kept)) (GiveUp slot)) list s d p e = absurd (no_fill e)
+blank_born slots k v (Runs (Fills (Enqueues kept)) (Retire at)) list s d p e = absurd (no_fill e)
+blank_born slots k v (Runs (Fills (Enqueues kept)) (Move at)) list s d p e = absurd (no_fill e)
+blank_born slots k v (Runs (Fills (Enqueues kept)) (Write slot row place)) list s d p e = born_at slots k v slot s d p.hand (first_true (slot == s) (not (place == 0)) e)
+blank_born slots k v (Scans later at) list s d p e = absurd (no_fill e)
+blank_born slots k v (Works (Getting key at)) list s d p e = absurd (no_fill e)
+blank_born slots k v (Works (Changing kept at)) list s d p e = absurd (no_fill e)
+blank_born slots k v (Works (Enqueuing kept LoadNumber)) list s d p e = absurd (no_fill e)
+blank_born slots k v (Works (Enqueuing kept LoadNext)) list s d p e = absurd (no_fill e)
+blank_born slots k v (Works (Enqueuing kept (PassTail next))) list s d p e = absurd (no_fill e)
+blank_born slots k v (Works (Enqueuing kept (ExchangeTail slot))) list s d p e = absurd (no_fill e)
+blank_born slots k v (Works (Enqueuing kept (ExchangeNext slot))) list s d p e = born_at slots k v slot s d (p.hand ∙ taken_as kept.taken slot p.right) e
+blank_born slots k v (Works (Dequeuing at)) list s d p e = absurd (no_fill e)
+
+not_blank : (k i : ℕ) (x : Status) (blanks : Bool) → (k == i) ≡ false → (blanks ≡ true → x ≡ Born k) → x ≡ Born i → blanks ≡ false
+not_blank k i x true e f b = let same : Born k ≡ Born i = sym (f refl) ∙ b in let number : k ≡ i = cc in absurd (grind (arith, nat_tests))
+not_blank k i x false e f b = refl
+
+others_of : (slots k i : ℕ) (v : View) (l : Line) (mem : Place → ℕ) (phase : Phase) (list : List Lifetime) → (k == i) ≡ false → Good slots v → Plays k phase list v → LineIn v l mem → Others i v l phase
+others_of slots k i v l mem phase list e d p g = record {
+  unlined = λ s u. born_unlined k v l mem s g (blank_born slots k v phase list s d p u);
+  apart = λ s b. not_blank k i (v.status s) (blanks_in phase s) e (λ u. blank_born slots k v phase list s d p u) b;
+}
+
+-- what the rows need, from the queue
+queue_is : (x : Status) → in_queue x ≡ true → x ≡ InQueue
+queue_is Free h = absurd (no_fill h)
+queue_is (Claimed by) h = absurd (no_fill h)
+queue_is (Born by) h = absurd (no_fill h)
+queue_is (Linked bucket) h = absurd (no_fill h)
+queue_is InQueue h = refl
+queue_is (Cut by) h = absurd (no_fill h)
+queue_is (Sealed by retire) h = absurd (no_fill h)
+queue_is (Listed by retire) h = absurd (no_fill h)
+
+after_head : (mem : Place → ℕ) (v : View) (l : Line) (phase : Phase) (head next number value : ℕ) → WalksIn phase v l mem → phase ≡ Works (Dequeuing (ExchangeHead head next number value)) → mem (Row head 0) ≡ next + 1
+after_head mem v l phase head next number value w e =
+    let P : Phase → Type 0 = λ y. WalksIn y v l mem in
+    let u : WalksIn (Works (Dequeuing (ExchangeHead head next number value))) v l mem = subst P e w in u.follows head (next + 1) (both_same head (next + 1))
+
+not_head : (numbers : ℕ → ℕ) (head next : ℕ) (same : Bool) → (next == head) ≡ same → numbers next ≡ numbers head + 1 → same ≡ false
+not_head numbers head next true e h = let one : next ≡ head = grind (arith, nat_tests) in absurd (omega (arith, ap numbers one))
+not_head numbers head next false e h = refl
+
+queue_needs : (slots : ℕ) (mem : Place → ℕ) (v : View) (l : Line) (phase : Phase) (outcome : Base → Outcome) → PhaseNeeds slots mem v l phase outcome → mem Head ≡ v.head → LineIn v l mem → WalksIn phase v l mem → Needs slots mem v phase
+queue_needs slots mem v l phase outcome n c g w = record {
+  walks = n.walks;
+  births = n.births;
+  follows = λ head next number value e h. queue_is (v.status next) (g.links head next (g.first head (sym c ∙ h)) (after_head mem v l phase head next number value w e));
+  apart = λ head next number value e h. not_head l.number head next (next == head) refl (g.rises head next (g.first head (sym c ∙ h)) (after_head mem v l phase head next number value w e));
+}
+
+-- the seat after its step
+settled_phase : (l : Local) (post : Post) (desk : Desk) (count : ℕ) (outcome : CallOutcome) → phase_of outcome ≡ (settled_by l post desk count outcome).phase
+settled_phase l post desk count (GoesOn phase) = refl
+settled_phase l post desk count (Answers answer) = refl
+
+walks_at : (i k : ℕ) (v : View) (l : Line) (mem : Place → ℕ) (old new : Local) (same : Bool) → (k == i) ≡ same → WalksIn new.phase v l mem → ((k == i) ≡ false → WalksIn old.phase v l mem) → WalksIn (if same then new else old).phase v l mem
+walks_at i k v l mem old new true e p q = p
+walks_at i k v l mem old new false e p q = q e
+
+abbrev SlotsOf : World → ℕ
+SlotsOf w = w.layout.config.slots
+
+far_of : (w : World) (i k : ℕ) (v : View) (l : Line) (phase : Phase) → QueueNeeds w i v l → (w.seat i).phase ≡ phase → (found : ℕ) → Far (line_move phase found) (w.seat k).phase
+far_of w i k v l Idle n e found = tt
+far_of w i k v l (Runs why base) n e found = tt
+far_of w i k v l (Scans later (ReadGuard number)) n e found = tt
+far_of w i k v l (Scans later (GiveBack place slot)) n e found = n.backs later place slot k e
+far_of w i k v l (Works (Getting key at)) n e found = tt
+far_of w i k v l (Works (Changing kept at)) n e found = tt
+far_of w i k v l (Works (Enqueuing kept LoadNumber)) n e found = tt
+far_of w i k v l (Works (Enqueuing kept LoadNext)) n e found = tt
+far_of w i k v l (Works (Enqueuing kept (PassTail next))) n e found = tt
+far_of w i k v l (Works (Enqueuing kept (ExchangeNext slot))) n e found = far_joins kept.tail slot (w.seat k).phase (found == 0)
+far_of w i k v l (Works (Enqueuing kept (ExchangeTail slot))) n e found = tt
+far_of w i k v l (Works (Dequeuing at)) n e found = tt
+
+pub queue_kept : QueueKept
+queue_kept w i v l n b =
+    let own : Local = w.seat i in
+    let needs : RowsNeeds w i v = queue_needs (SlotsOf w) w.mem v l own.phase (λ base. (machine.after base (counted own.post) (finds w i)).outcome) n.own b.rows.words.head b.queue.line (b.queue.walks i) in
+    let fits : MoveFits i v (row_move own.phase own.post (finds w i)) = phase_fits (SlotsOf w) i w.mem v own.phase own.post own.desk.list needs b.rows.good b.rows.words (b.rows.plays i) in
+    let t : CallTurn = turn own (finds w i) in
+    let went : Went i v (rows_after w i v) l (line_move own.phase (finds w i)) w.mem (step w i).mem (turn own (finds w i)) = phase_went (SlotsOf w) i w.mem v l own.phase own.post (counted own.post) own.desk n.own b.rows.good b.rows.words (b.rows.plays i) fits b.queue.line (b.queue.walks i) in
+    let P : Phase → Type 0 = λ y. WalksIn y (rows_after w i v) (line_after w i l) (step w i).mem in
+    record {
+      rows = rows_kept w i v needs b.rows;
+      queue = record {
+        line = went.line;
+        walks = λ k. walks_at i k (rows_after w i v) (line_after w i l) (step w i).mem (w.seat k) (settled own t) (k == i) refl (subst P (settled_phase own t.post (noting t.desk (told_by t)) (rounds_told own.rounds (told_by t)) t.outcome) went.own) (λ e. went.others (w.seat k).phase (b.queue.walks k) (far_of w i k v l own.phase n refl (finds w i)) (others_of (SlotsOf w) k i v l w.mem (w.seat k).phase (w.seat k).desk.list e b.rows.good (b.rows.plays k) b.queue.line));
+      };
+    }
+
+-- a call begins with nothing found of the queue
+holding_quiet : (key : ℕ) (post : Post) (x : Option ℕ) → is_quiet (holding key post x) ≡ true
+holding_quiet key post None = round_quiet (Holds key) post
+holding_quiet key post (Some slot) = refl
+
+first_quiet : (call : Call) (post : Post) → is_quiet (first_phase call post) ≡ true
+first_quiet (names.Get key) post = round_quiet (Gets key) post
+first_quiet (names.Put key value) post = round_quiet (Changes _) post
+first_quiet (names.Remove key) post = round_quiet (Changes _) post
+first_quiet (names.Enqueue value) post = round_quiet (Enqueues _) post
+first_quiet names.Dequeue post = round_quiet Dequeues post
+first_quiet (names.Hold key) post = holding_quiet key post (stands post 2)
+first_quiet names.Release post = refl
+first_quiet names.Advance post = refl
+first_quiet names.Scan post = refl
+
+pub queue_begin : QueueBegin
+queue_begin w i call v l b = record {
+  line = b.line;
+  walks = λ k. walks_at i k v l w.mem (w.seat k) (begun (w.seat i) call) (k == i) refl (quiet_walks (first_phase call (begun_post (w.seat i).post)) (queue_of v) l (next_of w.mem) v.head (w.mem Tail) (first_quiet call (begun_post (w.seat i).post))) (λ e. b.walks k);
+}
+
+-- the start
+first_next : (layout : Layout) (s : ℕ) → next_of (start layout).mem s ≡ 0
+first_next layout s = grind (arith, nat_tests)
+
+pub queue_start : QueueStart
+queue_start layout h = record {
+  line = record {
+    lined = λ s u. grind (arith, nat_tests);
+    passed = λ s u. grind (arith, nat_tests);
+    last = λ s u k. grind (arith, nat_tests);
+    links = λ s t u k. absurd (grind (arith, nat_tests, first_next layout s));
+    rises = λ s t u k. absurd (grind (arith, nat_tests, first_next layout s));
+    one = λ s t u k e. grind (arith, nat_tests);
+    first = λ s u. grind (arith, nat_tests);
+    least = λ s x u k. omega arith;
+    most = λ s t u k e. omega arith;
+    reached = λ s u. grind (arith, nat_tests);
+    some = omega arith;
+  };
+  walks = λ k. quiet_walks Idle (queue_of (first_rows layout)) (first_line layout) (next_of (start layout).mem) (layout.config.slots + 1) (layout.config.slots + 1) refl;
+}

@@ -1,27 +1,15 @@
 -- Phases in which a call has found nothing of the queue, and the turns that lead to them.
-use Rattle.std.proofs.Common.{ℕ, zero, suc, ◌≤◌, ◌+◌, ◌-◌, ◌<◌, ◌/◌, ◌%◌, ◌≡◌, ◌≢◌, Bool, true, false, arith, refl, ap, ◌&&◌, ◌||◌, ◌∙◌, sym, subst, List, [], ◌∷◌, ◌++◌, length}
-use Rattle.std.proofs.lemmas.Bool.Decides.{nat_tests}
-use Rattle.std.specs.Prelude.{◌==◌, not, nat_lt, nat_le, if◌then◌else◌, Option, Some, None}
-use Rattle.wfe_words.specs.declared.config.SchemeKind.{SchemeKind}
-use Rattle.wfe_words.specs.declared.config.SchemeKind.TheVariants.{He, Ibr, Wfe}
+use Rattle.std.proofs.Common.{ℕ, ◌+◌, ◌%◌, ◌≡◌, Bool, true, false, refl, List, [], ◌∷◌, ◌++◌, length}
+use Rattle.std.specs.Prelude.{◌==◌, nat_lt, Option, Some, None}
 use Rattle.wfe_defs.specs.declared.call.Answer.{Answer}
 use Rattle.wfe_defs.specs.declared.call.Answer.TheVariants as the_answers
 use Rattle.wfe_defs.specs.declared.event.Event.TheVariants as events
-use Rattle.wfe_defs.specs.declared.call.Call.{Call}
-use Rattle.wfe_defs.specs.declared.call.Call.TheVariants as names
-use Rattle.wfe_defs.specs.declared.call.ClockMove.{ClockMove}
 use Rattle.wfe_defs.specs.declared.event.Event.{Event}
 use Rattle.wfe_defs.specs.declared.lifetime.Interval.{Interval}
-use Rattle.wfe_defs.specs.declared.lifetime.Lifetime.{Lifetime}
 use Rattle.wfe_core.specs.declared.ends.AllocateEnd.{AllocateEnd}
 use Rattle.wfe_core.specs.declared.ends.AllocateEnd.TheVariants as allocate_ends
-use Rattle.wfe_core.specs.declared.ends.FollowEnd.{FollowEnd}
-use Rattle.wfe_core.specs.declared.ends.FollowEnd.TheVariants as follow_ends
-use Rattle.wfe_core.specs.declared.ends.ProtectEnd.{ProtectEnd}
-use Rattle.wfe_core.specs.declared.ends.ProtectEnd.TheVariants as protect_ends
 use Rattle.wfe_core.specs.declared.post.Post.{Post}
 use Rattle.wfe_core.specs.Desks.{Desk, with_life}
-use Rattle.wfe_core.specs.Posts.{stands}
 use Rattle.wfe_core.specs.Phases.{Base, Ending}
 use Rattle.wfe_core.specs.Phases.Ending.{Done, Protected, Followed, Allocated, Clocked}
 use Rattle.wfe_core.specs.Phases.{Ending as endings}
@@ -29,25 +17,13 @@ use Rattle.wfe_core.specs.Rounds as rounds
 use Rattle.wfe_core.specs.Rounds.{scheme_of, taken_of, round, round_by, begin_base, begin_span, finish_base, finish_span, clear_base, clear_post, clear_told, index_of, closed, given_up, finishing, finishing_by, clearing, clearing_by, clearing_next, clearing_next_by}
 use Rattle.wfe_core.specs.Get as gets
 use Rattle.wfe_core.specs.Change as alters
-use Rattle.wfe_core.specs.Enqueue as enqueues
-use Rattle.wfe_core.specs.Dequeue as dequeues
 use Rattle.wfe_core.specs.Scan as scan
 use Rattle.wfe_core.specs.Steps as steps
 use Rattle.wfe_core.specs.Calls.{ChangeKept, EnqueueKept, Task, Gets, Changes, Holds, Enqueues, Dequeues, Next, Again, MakeRoom, Answering, Retiring, AfterScan, Answered, Repeated, Counted, Why, Opens, FollowsHead, Fills, ClearsNext, Clears, Finishes, GivesUp, Retires, Tidies, Advances, Releases, ScanAt, ReadGuard, GiveBack, GetAt, FindVersion, FindCount, FindKey, FindValue, ChangeAt, LoadVersion, LoadCount, LoadKey, LoadValue, ExchangeRoot, EnqueueAt, LoadNumber, LoadNext, PassTail, ExchangeNext, ExchangeTail, DequeueAt, LoadTail, SwingTail, TakeNumber, TakeValue, ExchangeHead, Work, Getting, Changing, Enqueuing, Dequeuing, Phase, Idle, Runs, Scans, Works, CallTurn, CallOutcome, GoesOn}
-use Rattle.wfe_core.specs.Locals as locals
-use Rattle.wfe_rows.specs.Rows.{Hand}
-use Rattle.wfe_rows.specs.Rows.Hand.{Empty, New, Taken, Old, Known, Dated}
-use Rattle.wfe_rows.specs.Hands.{hand_of, hand_task, hand_next, hand_base, hand_later, hand_in, is_plain, is_right, fills_right, holds_none, holds_slot, Leaves}
 use Rattle.wfe_defs.specs.declared.event.Guard.{Guard}
-use Rattle.wfe_defs.specs.declared.event.Root.TheVariants as roots
-use Rattle.wfe_defs.specs.declared.call.ClockMove.TheVariants as clock_moves
 use Rattle.wfe_core.specs.Guards as the_guards
-use Rattle.wfe_core.specs.Phases.{AllocateAt, RetireAt, RowOf, Walk, Outcome, Goes, Ends, Turn}
-use Rattle.wfe_core.specs.Phases.AllocateAt.{LoadBirth, ClaimSlot, StoreLife}
-use Rattle.wfe_core.specs.Phases.Base.{Begin, Protect, Reload, Clear, Finish, Release, Allocate, Write, GiveUp, Retire, Move}
-use Rattle.wfe_core.specs.Machine as machine
 use Rattle.wfe_core.specs.Calls as calls
-use Rattle.wfe_rows.specs.Queue.{Line, InLine, Walks, stands_on, heads_on, follows_in, leads_in, blanks_in, items_in}
+use Rattle.wfe_rows.specs.Queue.{Line, Walks}
 
 abbrev pub quiet_task : Task → Bool
 quiet_task (Gets key) = true

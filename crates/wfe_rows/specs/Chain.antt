@@ -1,19 +1,18 @@
 -- The queue in a World, what a step owes to the other parts of the invariant for it, and that steps keep it.
-use Rattle.std.specs.Prelude.{ℕ, ◌≡◌, ◌≤◌, ◌<◌, ◌+◌, ◌==◌, ◌&&◌, not, Bool, true, false, if◌then◌else◌}
+use Rattle.std.specs.Prelude.{ℕ, ◌≡◌, ◌≤◌, ◌<◌, ◌+◌, ◌==◌, Bool, true, false}
 use Rattle.wfe_words.specs.Place.{Place, is_valid}
 use Rattle.wfe_words.specs.Place.Place.{Head, Tail, Row}
 use Rattle.wfe_words.specs.declared.layout.Layout.{Layout}
 use Rattle.wfe_defs.specs.declared.call.Call.{Call}
 use Rattle.wfe_core.specs.declared.ends.FollowEnd.TheVariants as follow_ends
 use Rattle.wfe_core.specs.declared.ends.ProtectEnd.TheVariants as protect_ends
-use Rattle.wfe_core.specs.declared.post.Post.{Post}
-use Rattle.wfe_core.specs.Phases.{Base, Walk, Outcome, Ends, Ending, Protected, Followed}
+use Rattle.wfe_core.specs.Phases.{Base, Walk, Outcome, Ends, Protected, Followed}
 use Rattle.wfe_core.specs.Phases.AllocateAt.{ClaimSlot, StoreLife}
 use Rattle.wfe_core.specs.Phases.Base.{Allocate}
 use Rattle.wfe_core.specs.Posts.{counted}
 use Rattle.wfe_core.specs.Machine.{after}
 use Rattle.wfe_core.specs.Calls.{Why, EnqueueKept, Enqueues, Dequeues, Opens, FollowsHead, AfterScan, GiveBack, Phase, Runs, Scans}
-use Rattle.wfe_core.specs.World.{World, start, step, begin, is_busy, finds}
+use Rattle.wfe_core.specs.World.{World, start, step, begin, finds}
 use Rattle.wfe_rows.specs.Rows.{View}
 use Rattle.wfe_rows.specs.Agree.{Agree, rows_after, first_rows}
 use Rattle.wfe_rows.specs.Queue.{Line, InLine, Walks, in_queue, is_past, stands_on, line_move, moved_line}

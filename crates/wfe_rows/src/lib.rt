@@ -3,6 +3,7 @@
 #![tactic(auto)]
 
 ghost use Rattle.wfe_rows.specs.Agree.{RowsBegin, RowsKept, RowsStart};
+ghost use Rattle.wfe_rows.specs.Chain.{QueueBegin, QueueKept, QueueStart};
 
 /// At the start of a table with a valid setting every row is free but the dummy, which is the
 /// queue's head.
@@ -20,4 +21,21 @@ pub fn rows_begin()
 /// step changes it is a function of the seat's local state and of the word found.
 pub fn rows_kept()
     ensures { RowsKept }
+{}
+
+/// At the start the queue is the dummy alone.
+pub fn queue_start()
+    ensures { QueueStart }
+{}
+
+/// The beginning of a call keeps what is known of the queue.
+pub fn queue_begin()
+    ensures { QueueBegin }
+{}
+
+/// Each step of a seat keeps the rows and the queue: from the head the next links lead through the
+/// rows in the queue, with numbers that rise by one, and the tail is one of them. The head is cut
+/// only while it is the head and not the tail, and the row after it is then the head.
+pub fn queue_kept()
+    ensures { QueueKept }
 {}
