@@ -1,9 +1,9 @@
 -- Each machine is ready at its step, and what it finds is plausible.
-use Rattle.std.proofs.Common.{ℕ, ◌≡◌, ◌≤◌, ◌<◌, true, Option, Some, None, ap, sym, subst, ◌∙◌, arith}
+use Rattle.std.proofs.Common.{refl, ℕ, ◌≡◌, ◌≤◌, ◌<◌, true, Option, Some, None, ap, sym, subst, ◌∙◌, arith}
 use Rattle.std.proofs.lemmas.Bool.Decides.{nat_tests}
 use Rattle.std.specs.Prelude.{◌&&◌, nat_lt, nat_le, is_some}
 use Rattle.wfe_words.specs.Place.{Place, is_valid}
-use Rattle.wfe_words.specs.Place.Place.{Clock}
+use Rattle.wfe_words.specs.Place.Place.{Clock, Tail, Row}
 use Rattle.wfe_words.specs.Place.Place.{Request as RequestOf}
 use Rattle.wfe_words.specs.Packed.{read_request}
 use Rattle.wfe_words.specs.declared.config.SchemeKind.{SchemeKind}
@@ -29,14 +29,18 @@ use Rattle.wfe_core.specs.Phases.MoveAt.{LoadEra, LoadRequest, ShowEra, LoadAske
 use Rattle.wfe_core.specs.Phases.Base.{Begin, Protect, Reload, Clear, Finish, Release, Allocate, Write, GiveUp, Retire, Move}
 use Rattle.wfe_core.specs.Machine.{begin_move, protect_move, allocate_move, retire_move, move_move, base_move}
 use Rattle.wfe_core.specs.Ready.{EraFits, FailedFits, TryFits, RootFits, AskFits, AskedFits, RowFits, IsReady, Plausible, begin_ready, protect_ready, allocate_ready, retire_ready, move_ready, begin_plausible, protect_plausible, allocate_plausible, retire_plausible, move_plausible}
-use Rattle.wfe_core.specs.Steps.{phase_move}
-use Rattle.wfe_core.specs.Calls.{Why, Phase, Idle, Runs, Scans, Works}
+use Rattle.wfe_core.specs.Steps.{work_move, phase_move}
+use Rattle.wfe_core.specs.Calls.{ChangeKept, EnqueueKept, Task, Gets, Changes, Holds, Enqueues, Dequeues, AfterScan, Answered, Repeated, Counted, GetAt, FindVersion, FindCount, FindKey, FindValue, ChangeAt, LoadVersion, LoadCount, LoadKey, LoadValue, ExchangeRoot, EnqueueAt, LoadNumber, LoadNext, PassTail, ExchangeNext, ExchangeTail, DequeueAt, LoadTail, SwingTail, TakeNumber, TakeValue, ExchangeHead, Work, Getting, Changing, Enqueuing, Dequeuing, ScanAt, ReadGuard, GiveBack, Why, Opens, FollowsHead, Fills, ClearsNext, Clears, Finishes, GivesUp, Retires, Tidies, Advances, Releases, Phase, Idle, Runs, Scans, Works}
+use Rattle.wfe_core.specs.CallReady.{TakenFits, TaskFits, FillFits, LaterFits, why_ready, get_ready, change_ready, enqueue_ready, dequeue_ready, work_ready, scan_ready, IsCallReady, get_plausible, change_plausible, enqueue_plausible, dequeue_plausible, work_plausible, IsCallPlausible}
+use Rattle.wfe_core.specs.Desks.{Desk}
+use Rattle.wfe_core.specs.Enqueue.{enqueue_move}
+use Rattle.wfe_core.specs.Dequeue.{dequeue_move}
 use Rattle.wfe_core.specs.World.{World}
 use Rattle.wfe_eras.specs.Frame.{SpanStands}
-use Rattle.wfe_eras.specs.Seats.{is_wfe, tries_fit, try_fits, protect_fits, allocate_fits, move_fits, Run, PostFits, PhaseFits, Seats}
+use Rattle.wfe_eras.specs.Seats.{is_wfe, tries_fit, try_fits, protect_fits, allocate_fits, move_fits, Run, PostFits, PhaseFits, Seats, scan_fits}
 use Rattle.wfe_eras.specs.Eras.{SpanIn, AskIn, AskingIn, begin_eras, protect_eras, allocate_eras, retire_eras, move_eras, base_eras, PhaseEras, Eras}
-use Rattle.wfe_eras.specs.Slots.{ProtectIn, RetireIn, MovesIn, BaseIn, StandsIn, PostIn, PhaseIn, Slots}
-use Rattle.wfe_eras.specs.Code.{row_room, base_room, protect_rises, base_rises, phase_room, phase_rises, PhaseReady, CodeNeeds, CodeReady}
+use Rattle.wfe_eras.specs.Slots.{ProtectIn, RetireIn, MovesIn, BaseIn, StandsIn, PostIn, PhaseIn, Slots, RowIn, TakenIn, TaskIn, FillIn, LaterIn, WhyIn, GetIn, ChangeAtIn, EnqueueAtIn, DequeueIn, WorkIn, ScanIn, get_finds, change_finds, enqueue_finds, dequeue_finds, work_finds, phase_finds}
+use Rattle.wfe_eras.specs.Code.{protect_rises, base_rises, phase_rises, why_lists, scan_lists, phase_lists, CodeNeeds, CodeReady}
 use Rattle.wfe_eras.proofs.Finds.{request_read}
 use Rattle.wfe_eras.proofs.Steps.{Told}
 use Rattle.wfe_eras.proofs.SlotSteps.{Linked, link_found}
@@ -106,25 +110,25 @@ move_is_ready post clock (HideEra era) f e h = tt
 move_is_ready post clock (HideLate seen) f e h = tt
 move_is_ready post clock (ExchangeClock era) f e h = e.left
 
-row_ready : (post : Post) (row : RowOf) → row_room post.layout.config row → RowFits post row
+row_ready : (post : Post) (row : RowOf) → RowIn post.layout.config row → RowFits post row
 row_ready post (MapRow version pairs) m = m
 row_ready post (QueueRow number value) m = m
 
-pub base_is_ready : (post : Post) (clock : ℕ) (why : Why) (base : Base) → is_valid post.layout ≡ true → Run post.layout why base post → SpanIn clock post.span → base_eras post.layout clock post base → BaseIn post.layout base → base_room post.layout.config base → base_rises base post
+pub base_is_ready : (post : Post) (clock : ℕ) (why : Why) (base : Base) → is_valid post.layout ≡ true → Run post.layout why base post → SpanIn clock post.span → base_eras post.layout clock post base → BaseIn post.layout base → base_rises base post
     → IsReady base post
-base_is_ready post clock why (Begin at) v r p e h m u = begin_is_ready post clock at e
-base_is_ready post clock why (Protect aim index root steps at) v r p e h m u = let b = bounds_of post.layout v in
+base_is_ready post clock why (Begin at) v r p e h u = begin_is_ready post clock at e
+base_is_ready post clock why (Protect aim index root steps at) v r p e h u = let b = bounds_of post.layout v in
     (index_below post.layout why index v r.shape.at, root_there post.layout why root b.buckets.0 r.shape.of h.root_in, protect_is_ready post clock index at r.fits r.posted p e h.at_in u)
-base_is_ready post clock why (Reload parent index slot era steps) v r p e h m u = (index_below post.layout why index v r.shape.at, h.1, h.0)
-base_is_ready post clock why (Clear index) v r p e h m u = index_below post.layout why index v r.shape
-base_is_ready post clock why Finish v r p e h m u = tt
-base_is_ready post clock why Release v r p e h m u = tt
-base_is_ready post clock why (Allocate at) v r p e h m u = allocate_is_ready post clock at r.fits e
-base_is_ready post clock why (Write slot row place) v r p e h m u = let f : (nat_le (first_written row) place && nat_le place (last_written row)) ≡ true = r.fits in
-    (h, row_ready post row m, grind (arith, nat_tests), grind (arith, nat_tests))
-base_is_ready post clock why (GiveUp slot) v r p e h m u = h
-base_is_ready post clock why (Retire at) v r p e h m u = retire_is_ready post clock at h e
-base_is_ready post clock why (Move at) v r p e h m u = move_is_ready post clock at r.fits e h
+base_is_ready post clock why (Reload parent index slot era steps) v r p e h u = (index_below post.layout why index v r.shape.at, h.1, h.0)
+base_is_ready post clock why (Clear index) v r p e h u = index_below post.layout why index v r.shape
+base_is_ready post clock why Finish v r p e h u = tt
+base_is_ready post clock why Release v r p e h u = tt
+base_is_ready post clock why (Allocate at) v r p e h u = allocate_is_ready post clock at r.fits e
+base_is_ready post clock why (Write slot row place) v r p e h u = let f : (nat_le (first_written row) place && nat_le place (last_written row)) ≡ true = r.fits in
+    (h.0, row_ready post row h.1, grind (arith, nat_tests), grind (arith, nat_tests))
+base_is_ready post clock why (GiveUp slot) v r p e h u = h
+base_is_ready post clock why (Retire at) v r p e h u = retire_is_ready post clock at h e
+base_is_ready post clock why (Move at) v r p e h u = move_is_ready post clock at r.fits e h
 
 -- what is found
 clock_plausible : {layout : Layout} {mem : Place → ℕ} → Told layout mem → EraFits (mem Clock)
@@ -222,12 +226,126 @@ post_valid post seat clock v b q s h t = record {
   all_standing = q.standing;
 }
 
-phase_ready : (post : Post) (mem : Place → ℕ) (phase : Phase) → Linked post.layout mem → PhaseFits post.layout post phase → SpanIn (mem Clock) post.span → PhaseEras post.layout (mem Clock) post phase → PhaseIn post.layout phase → phase_room post.layout.config phase → phase_rises phase post
-    → PhaseReady phase post (found (phase_move phase post) (mem (place_in (phase_move phase post))))
-phase_ready post mem Idle w r p e h m u = tt
-phase_ready post mem (Runs why base) w r p e h m u = (base_is_ready post (mem Clock) why base w.told.valid r p e h.1 m u, base_is_plausible post mem base w)
-phase_ready post mem (Scans later at) w r p e h m u = tt
-phase_ready post mem (Works work) w r p e h m u = tt
+-- what a call keeps
+taken_ready : (post : Post) (x : Option ℕ) → TakenIn post.layout.config.slots x → TakenFits post x
+taken_ready post None t = tt
+taken_ready post (Some slot) t = t
+
+task_ready : (post : Post) (task : Task) → TaskIn post.layout.config task → TaskFits post task
+task_ready post (Gets key) t = tt
+task_ready post (Changes kept) t = record { taken = taken_ready post kept.taken t.taken; link = t.link; version = t.version; pairs = t.pairs }
+task_ready post (Holds key) t = tt
+task_ready post (Enqueues kept) t = record { taken = taken_ready post kept.taken t.taken; tail = t.tail; number = t.number }
+task_ready post Dequeues t = tt
+
+fill_ready : (post : Post) (task : Task) → FillIn post.layout.config task → FillFits post task
+fill_ready post (Gets key) t = tt
+fill_ready post (Changes kept) t = t
+fill_ready post (Holds key) t = tt
+fill_ready post (Enqueues kept) t = t
+fill_ready post Dequeues t = tt
+
+later_ready : (post : Post) (later : AfterScan) → LaterIn post.layout.config later → LaterFits post later
+later_ready post (Answered answer) t = tt
+later_ready post (Repeated task) t = task_ready post task t
+later_ready post Counted t = tt
+
+why_is_ready : (post : Post) (why : Why) (base : Base) (desk : Desk) → WhyIn post.layout.config why → why_lists why base desk → why_ready why base post desk
+why_is_ready post (Opens task) base desk y n = task_ready post task y
+why_is_ready post (FollowsHead head tail) base desk y n = y
+why_is_ready post (Fills task) base desk y n = (task_ready post task y.0, fill_ready post task y.1)
+why_is_ready post (ClearsNext next) base desk y n = tt
+why_is_ready post (Clears task next) base desk y n = task_ready post task y.0
+why_is_ready post (Finishes task next) base desk y n = task_ready post task y.0
+why_is_ready post (GivesUp answer) base desk y n = tt
+why_is_ready post (Retires answer) base desk y n = n
+why_is_ready post (Tidies later) base desk y n = later_ready post later y
+why_is_ready post Advances base desk y n = tt
+why_is_ready post (Releases key) base desk y n = tt
+
+get_is_ready : (post : Post) (at : GetAt) → GetIn post.layout.config at → get_ready at post
+get_is_ready post (FindVersion slot) h = h
+get_is_ready post (FindCount slot version) h = h
+get_is_ready post (FindKey slot version count pair) h = h
+get_is_ready post (FindValue slot version pair) h = h
+
+change_is_ready : (post : Post) (kept : ChangeKept) (at : ChangeAt) → ChangeAtIn post.layout.config kept at → change_ready kept at post
+change_is_ready post kept (LoadVersion slot) h = h
+change_is_ready post kept (LoadCount slot) h = h
+change_is_ready post kept (LoadKey slot count) h = h
+change_is_ready post kept (LoadValue slot count key) h = h
+change_is_ready post kept (ExchangeRoot slot) h = h
+
+enqueue_is_ready : (post : Post) (kept : EnqueueKept) (at : EnqueueAt) → EnqueueAtIn post.layout.config kept at → enqueue_ready kept at post
+enqueue_is_ready post kept LoadNumber h = tt
+enqueue_is_ready post kept LoadNext h = tt
+enqueue_is_ready post kept (PassTail next) h = h
+enqueue_is_ready post kept (ExchangeNext slot) h = h
+enqueue_is_ready post kept (ExchangeTail slot) h = h
+
+dequeue_is_ready : (post : Post) (at : DequeueAt) → DequeueIn post.layout.config.slots at → dequeue_ready at post
+dequeue_is_ready post (LoadTail head) h = h
+dequeue_is_ready post (SwingTail head next) h = h
+dequeue_is_ready post (TakeNumber head next) h = h
+dequeue_is_ready post (TakeValue head next number) h = h
+dequeue_is_ready post (ExchangeHead head next number value) h = h
+
+work_is_ready : (post : Post) (work : Work) → WorkIn post.layout.config work → work_ready work post
+work_is_ready post (Getting key at) h = get_is_ready post at h
+work_is_ready post (Changing kept at) h = (record { taken = taken_ready post kept.taken h.0.taken; link = h.0.link; version = h.0.version; pairs = h.0.pairs }, change_is_ready post kept at h.1)
+work_is_ready post (Enqueuing kept at) h = (record { taken = taken_ready post kept.taken h.0.taken; tail = h.0.tail; number = h.0.number }, enqueue_is_ready post kept at h.1)
+work_is_ready post (Dequeuing at) h = dequeue_is_ready post at h
+
+scan_is_ready : (post : Post) (desk : Desk) (at : ScanAt) → scan_fits post.layout.config at ≡ true → ScanIn post.layout.config.slots at → scan_lists at post desk → scan_ready at post desk
+scan_is_ready post desk (ReadGuard number) f h n = (grind (arith, nat_tests), n)
+scan_is_ready post desk (GiveBack place slot) f h n = (h, n)
+
+-- what a call finds
+get_is_plausible : (post : Post) (found : ℕ) (at : GetAt) → get_finds post.layout.config at found → get_plausible at post found
+get_is_plausible post found (FindVersion slot) f = f
+get_is_plausible post found (FindCount slot version) f = f
+get_is_plausible post found (FindKey slot version count pair) f = tt
+get_is_plausible post found (FindValue slot version pair) f = tt
+
+change_is_plausible : (post : Post) (found : ℕ) (at : ChangeAt) → change_finds post.layout.config at found → change_plausible at post found
+change_is_plausible post found (LoadVersion slot) f = f
+change_is_plausible post found (LoadCount slot) f = f
+change_is_plausible post found (LoadKey slot count) f = tt
+change_is_plausible post found (LoadValue slot count key) f = tt
+change_is_plausible post found (ExchangeRoot slot) f = tt
+
+enqueue_is_plausible : (post : Post) (mem : Place → ℕ) (kept : EnqueueKept) (at : EnqueueAt) → Linked post.layout mem → enqueue_finds post.layout.config at (found (enqueue_move kept at) (mem (place_in (enqueue_move kept at)))) → enqueue_plausible at post (found (enqueue_move kept at) (mem (place_in (enqueue_move kept at))))
+enqueue_is_plausible post mem kept LoadNumber w f = f
+enqueue_is_plausible post mem kept LoadNext w f = w.links (Row kept.tail 0) refl
+enqueue_is_plausible post mem kept (PassTail next) w f = tt
+enqueue_is_plausible post mem kept (ExchangeNext slot) w f = tt
+enqueue_is_plausible post mem kept (ExchangeTail slot) w f = tt
+
+dequeue_is_plausible : (post : Post) (mem : Place → ℕ) (at : DequeueAt) → Linked post.layout mem → dequeue_finds post.layout.config at (found (dequeue_move at) (mem (place_in (dequeue_move at)))) → dequeue_plausible at post (found (dequeue_move at) (mem (place_in (dequeue_move at))))
+dequeue_is_plausible post mem (LoadTail head) w f = w.links Tail
+dequeue_is_plausible post mem (SwingTail head next) w f = tt
+dequeue_is_plausible post mem (TakeNumber head next) w f = f
+dequeue_is_plausible post mem (TakeValue head next number) w f = tt
+dequeue_is_plausible post mem (ExchangeHead head next number value) w f = tt
+
+work_is_plausible : (post : Post) (mem : Place → ℕ) (work : Work) → Linked post.layout mem → work_finds post.layout.config work (found (work_move work post) (mem (place_in (work_move work post)))) → work_plausible work post (found (work_move work post) (mem (place_in (work_move work post))))
+work_is_plausible post mem (Getting key at) w f = get_is_plausible post _ at f
+work_is_plausible post mem (Changing kept at) w f = change_is_plausible post _ at f
+work_is_plausible post mem (Enqueuing kept at) w f = enqueue_is_plausible post mem kept at w f
+work_is_plausible post mem (Dequeuing at) w f = dequeue_is_plausible post mem at w f
+
+phase_ready : (post : Post) (desk : Desk) (clock : ℕ) (phase : Phase) → is_valid post.layout ≡ true → PhaseFits post.layout post phase → SpanIn clock post.span → PhaseEras post.layout clock post phase → PhaseIn post.layout phase → phase_rises phase post → phase_lists phase post desk
+    → IsCallReady phase post desk
+phase_ready post desk clock Idle v r p e h u n = tt
+phase_ready post desk clock (Runs why base) v r p e h u n = (base_is_ready post clock why base v r p e h.1 u, why_is_ready post why base desk h.0 n)
+phase_ready post desk clock (Scans later at) v r p e h u n = (later_ready post later h.0, scan_is_ready post desk at r h.1 n)
+phase_ready post desk clock (Works work) v r p e h u n = work_is_ready post work h
+
+phase_plausible : (post : Post) (mem : Place → ℕ) (phase : Phase) → Linked post.layout mem → phase_finds post.layout.config phase (found (phase_move phase post) (mem (place_in (phase_move phase post)))) → IsCallPlausible phase post (found (phase_move phase post) (mem (place_in (phase_move phase post))))
+phase_plausible post mem Idle w f = tt
+phase_plausible post mem (Runs why base) w f = base_is_plausible post mem base w
+phase_plausible post mem (Scans later at) w f = tt
+phase_plausible post mem (Works work) w f = work_is_plausible post mem work w f
 
 -- a seat of a table with these words
 record Sits (layout : Layout) (mem : Place → ℕ) (seat : ℕ) (post : Post) (phase : Phase) : Type 0 where
@@ -239,16 +357,18 @@ record Sits (layout : Layout) (mem : Place → ℕ) (seat : ℕ) (post : Post) (
   eras : PhaseEras layout (mem Clock) post phase
   stand : PostIn layout post
   slots : PhaseIn layout phase
-  room : phase_room layout.config phase
+  finds : phase_finds layout.config phase (found (phase_move phase post) (mem (place_in (phase_move phase post))))
 
-record CodeAt (post : Post) (mem : Place → ℕ) (phase : Phase) : Type 0 where
+record CodeAt (post : Post) (desk : Desk) (mem : Place → ℕ) (phase : Phase) : Type 0 where
   valid : IsValid post
-  ready : PhaseReady phase post (found (phase_move phase post) (mem (place_in (phase_move phase post))))
+  ready : IsCallReady phase post desk
+  plausible : IsCallPlausible phase post (found (phase_move phase post) (mem (place_in (phase_move phase post))))
 
-code_at : (post : Post) (mem : Place → ℕ) (seat : ℕ) (phase : Phase) → Sits post.layout mem seat post phase → ((index : ℕ) → tag_of post index < 4294967295) → phase_rises phase post → CodeAt post mem phase
-code_at post mem seat phase s t u = record {
+code_at : (post : Post) (desk : Desk) (mem : Place → ℕ) (seat : ℕ) (phase : Phase) → Sits post.layout mem seat post phase → ((index : ℕ) → tag_of post index < 4294967295) → phase_rises phase post → phase_lists phase post desk → CodeAt post desk mem phase
+code_at post desk mem seat phase s t u n = record {
   valid = post_valid post seat (mem Clock) s.linked.told.valid s.below s.fits s.span s.stand t;
-  ready = phase_ready post mem phase s.linked s.shape s.span s.eras s.slots s.room u;
+  ready = phase_ready post desk (mem Clock) phase s.linked.told.valid s.shape s.span s.eras s.slots u n;
+  plausible = phase_plausible post mem phase s.linked s.finds;
 }
 
 pub code_ready : (w : World) (i : ℕ) → is_valid w.layout ≡ true → i < w.layout.config.seats → Seats w → Eras w → Slots w → CodeNeeds w i → CodeReady w i
@@ -263,7 +383,7 @@ code_ready w i v b s e h n =
       eras = (e.seats i).phase;
       stand = (h.seats i).post;
       slots = (h.seats i).phase;
-      room = n.room;
+      finds = n.reads;
     } in
-    let c = code_at l.post w.mem i l.phase (subst (λ (t : Layout). Sits t w.mem i l.post l.phase) (sym q.layout) a) n.tags n.rises in
-    record { there = place_there w i v b s e h n.room; valid = c.valid; ready = c.ready }
+    let c = code_at l.post l.desk w.mem i l.phase (subst (λ (t : Layout). Sits t w.mem i l.post l.phase) (sym q.layout) a) n.tags n.rises n.lists in
+    record { there = place_there w i v b s e h; valid = c.valid; ready = c.ready; noted = n.noted; plausible = c.plausible }

@@ -6,6 +6,7 @@ use Rattle.std.specs.Prelude.{◌==◌, ◌&&◌, nat_le, if◌then◌else◌}
 use Rattle.wfe_words.specs.Place.{Place, same, has, is_valid}
 use Rattle.wfe_words.specs.Place.Place.{Clock, Helper, Index, Interval, Bucket, Head, Tail, Claim, Life, Row, PlaceOf}
 use Rattle.wfe_words.specs.Place.Place.{Request as RequestOf}
+use Rattle.wfe_words.specs.declared.config.Config.{Config}
 use Rattle.wfe_words.specs.declared.layout.Layout.{Layout}
 use Rattle.wfe_words.proofs.Places.{same_one}
 use Rattle.wfe_defs.specs.declared.call.Call.{Call}
@@ -36,13 +37,14 @@ use Rattle.wfe_core.specs.Locals.{Local, move, after, settled_by, settled, told_
 use Rattle.wfe_core.specs.Calls.{ChangeKept, EnqueueKept, GetAt, FindVersion, ChangeAt, ExchangeRoot, EnqueueAt, LoadNumber, LoadNext, PassTail, ExchangeNext, ExchangeTail, DequeueAt, LoadTail, SwingTail, TakeNumber, TakeValue, ExchangeHead, Work, Getting, Changing, Enqueuing, Dequeuing, ScanAt, ReadGuard, GiveBack, Why, Phase, Idle, Runs, Scans, Works, CallTurn, CallOutcome, GoesOn, Answers}
 use Rattle.wfe_core.specs.World.{World, first_word, start, begin, step}
 use Rattle.wfe_eras.specs.Frame.{phase_left}
-use Rattle.wfe_eras.specs.Seats.{Run, PhaseFits, Seats}
+use Rattle.wfe_eras.specs.Seats.{Run, PostFits, PhaseFits, Seats}
 use Rattle.wfe_eras.specs.Eras.{Eras}
-use Rattle.wfe_eras.specs.Slots.{RowLink, WordSlots, MoveSlots, WorkIn, PhaseIn, PostIn, ListIn, WhyIn, OutcomeIn, TurnSlots, SeatSlots, Slots}
+use Rattle.wfe_eras.specs.Slots.{RowLink, WordSlots, MoveSlots, WorkIn, PhaseIn, PostIn, ListIn, WhyIn, OutcomeIn, TurnSlots, SeatSlots, Slots, phase_finds, SlotsNeeds}
 use Rattle.wfe_eras.proofs.Frame.{seat_stays, seat_steps, begin_stays, begin_begins, finds_counted}
-use Rattle.wfe_eras.proofs.Kept.{run_counted, one_moves}
+use Rattle.wfe_eras.proofs.Kept.{counted_fits, run_counted, one_moves}
 use Rattle.wfe_eras.proofs.Decode.{told_of}
-use Rattle.wfe_eras.proofs.SlotCalls.{work_finds, work_slots, scan_slots, resume_slots, first_slots}
+use Rattle.wfe_eras.proofs.Inside.{shape_moves}
+use Rattle.wfe_eras.proofs.SlotCalls.{work_links, work_slots, scan_slots, resume_slots, first_slots}
 use Rattle.wfe_eras.proofs.SlotSteps.{Linked, machine_slots}
 
 -- what an operation leaves in the words
@@ -112,29 +114,29 @@ get_writes : (slots : ℕ) (at : GetAt) → MoveSlots slots (get_move at)
 get_writes slots (FindVersion slot) = tt
 get_writes slots at = tt
 
-change_writes : (slots : ℕ) (kept : ChangeKept) (at : ChangeAt) (post : Post) → WorkIn slots (Changing kept at) → MoveSlots slots (change_move kept at post)
-change_writes slots kept (ExchangeRoot slot) post w = let s = w.1 in omega arith
-change_writes slots kept at post w = tt
+change_writes : (config : Config) (kept : ChangeKept) (at : ChangeAt) (post : Post) → WorkIn config (Changing kept at) → MoveSlots config.slots (change_move kept at post)
+change_writes config kept (ExchangeRoot slot) post w = let s = w.1.0 in omega arith
+change_writes config kept at post w = tt
 
-enqueue_writes : (slots : ℕ) (kept : EnqueueKept) (at : EnqueueAt) → WorkIn slots (Enqueuing kept at) → MoveSlots slots (enqueue_move kept at)
-enqueue_writes slots kept LoadNumber w = tt
-enqueue_writes slots kept LoadNext w = tt
-enqueue_writes slots kept (PassTail next) w = w.1.1
-enqueue_writes slots kept (ExchangeNext slot) w = λ e. let s = w.1 in omega arith
-enqueue_writes slots kept (ExchangeTail slot) w = let s = w.1 in omega arith
+enqueue_writes : (config : Config) (kept : EnqueueKept) (at : EnqueueAt) → WorkIn config (Enqueuing kept at) → MoveSlots config.slots (enqueue_move kept at)
+enqueue_writes config kept LoadNumber w = tt
+enqueue_writes config kept LoadNext w = tt
+enqueue_writes config kept (PassTail next) w = w.1.1
+enqueue_writes config kept (ExchangeNext slot) w = λ e. let s = w.1.0 in omega arith
+enqueue_writes config kept (ExchangeTail slot) w = let s = w.1.0 in omega arith
 
-dequeue_writes : (slots : ℕ) (at : DequeueAt) → WorkIn slots (Dequeuing at) → MoveSlots slots (dequeue_move at)
-dequeue_writes slots (LoadTail head) w = tt
-dequeue_writes slots (SwingTail head next) w = let s = w.1 in omega arith
-dequeue_writes slots (TakeNumber head next) w = tt
-dequeue_writes slots (TakeValue head next number) w = tt
-dequeue_writes slots (ExchangeHead head next number value) w = let s = w.1 in omega arith
+dequeue_writes : (config : Config) (at : DequeueAt) → WorkIn config (Dequeuing at) → MoveSlots config.slots (dequeue_move at)
+dequeue_writes config (LoadTail head) w = tt
+dequeue_writes config (SwingTail head next) w = let s = w.1 in omega arith
+dequeue_writes config (TakeNumber head next) w = tt
+dequeue_writes config (TakeValue head next number) w = tt
+dequeue_writes config (ExchangeHead head next number value) w = let s = w.1 in omega arith
 
-work_writes : (slots : ℕ) (work : Work) (post : Post) → WorkIn slots work → MoveSlots slots (work_move work post)
-work_writes slots (Getting key at) post w = get_writes slots at
-work_writes slots (Changing kept at) post w = change_writes slots kept at post w
-work_writes slots (Enqueuing kept at) post w = enqueue_writes slots kept at w
-work_writes slots (Dequeuing at) post w = dequeue_writes slots at w
+work_writes : (config : Config) (work : Work) (post : Post) → WorkIn config work → MoveSlots config.slots (work_move work post)
+work_writes config (Getting key at) post w = get_writes config.slots at
+work_writes config (Changing kept at) post w = change_writes config kept at post w
+work_writes config (Enqueuing kept at) post w = enqueue_writes config kept at w
+work_writes config (Dequeuing at) post w = dequeue_writes config at w
 
 scan_writes : (slots : ℕ) (at : ScanAt) (post : Post) → MoveSlots slots (scan_move at post)
 scan_writes slots (ReadGuard number) post = tt
@@ -144,14 +146,14 @@ phase_writes : (layout : Layout) (phase : Phase) (post : Post) → PhaseFits lay
 phase_writes layout Idle post r h = tt
 phase_writes layout (Runs why base) post r h = base_writes layout why base post r
 phase_writes layout (Scans later at) post r h = scan_writes layout.config.slots at post
-phase_writes layout (Works work) post r h = work_writes layout.config.slots work post h
+phase_writes layout (Works work) post r h = work_writes layout.config work post h
 
 -- the seat that steps
-resumed_slots : (layout : Layout) (why : Why) (desk : Desk) (post : Post) (told : List Event) (outcome : Outcome) → WhyIn layout.config.slots why → OutcomeIn layout outcome → PostIn layout post → ListIn layout.config.slots desk.list → TurnSlots layout (resumed why desk post told outcome)
-resumed_slots layout why desk post told (Goes base) y o q l = record { post = q; list = l; phase = (y, o) }
-resumed_slots layout why desk post told (Ends ending) y o q l = resume_slots layout why ending post desk told y o q l
+resumed_slots : (layout : Layout) (why : Why) (desk : Desk) (post : Post) (told : List Event) (outcome : Outcome) → WhyIn layout.config why → OutcomeIn layout outcome → post.layout ≡ layout → PostIn layout post → ListIn layout.config.slots desk.list → TurnSlots layout (resumed why desk post told outcome)
+resumed_slots layout why desk post told (Goes base) y o p q l = record { post = q; list = l; phase = (y, o) }
+resumed_slots layout why desk post told (Ends ending) y o p q l = resume_slots layout why ending post desk told y o p q l
 
-work_found : (slots : ℕ) (mem : Place → ℕ) (work : Work) (post : Post) → ((place : Place) → WordSlots slots place (mem place)) → work_finds slots work (found (work_move work post) (mem (place_in (work_move work post))))
+work_found : (slots : ℕ) (mem : Place → ℕ) (work : Work) (post : Post) → ((place : Place) → WordSlots slots place (mem place)) → work_links slots work (found (work_move work post) (mem (place_in (work_move work post))))
 work_found slots mem (Getting key at) post h = tt
 work_found slots mem (Changing kept at) post h = tt
 work_found slots mem (Enqueuing kept LoadNumber) post h = tt
@@ -161,13 +163,14 @@ work_found slots mem (Enqueuing kept (ExchangeNext slot)) post h = tt
 work_found slots mem (Enqueuing kept (ExchangeTail slot)) post h = tt
 work_found slots mem (Dequeuing at) post h = tt
 
-turn_slots : (layout : Layout) (mem : Place → ℕ) → Linked layout mem → (phase : Phase) (post : Post) (desk : Desk) → PhaseFits layout post phase → PhaseIn layout phase → PostIn layout post → ListIn layout.config.slots desk.list
+turn_slots : (layout : Layout) (mem : Place → ℕ) (k : ℕ) → Linked layout mem → (phase : Phase) (post : Post) (desk : Desk) → PostFits layout k (counted post) → PhaseFits layout post phase → PhaseIn layout phase → PostIn layout post → ListIn layout.config.slots desk.list
+    → phase_finds layout.config phase (found (phase_move phase (counted post)) (mem (place_in (phase_move phase (counted post)))))
     → TurnSlots layout (phase_turn phase (counted post) desk (found (phase_move phase (counted post)) (mem (place_in (phase_move phase (counted post))))))
-turn_slots layout mem w Idle post desk r h q l = record { post = q; list = l; phase = tt }
-turn_slots layout mem w (Runs why base) post desk r h q l = let m = machine_slots layout mem w why base (counted post) (run_counted layout why base post r) h.1 q in
-    resumed_slots layout why desk _ _ _ h.0 m.outcome m.post l
-turn_slots layout mem w (Scans later at) post desk r h q l = scan_slots layout later at (counted post) desk _ h.0 q l
-turn_slots layout mem w (Works work) post desk r h q l = work_slots layout work (counted post) desk _ (work_found layout.config.slots mem work (counted post) w.links) h q l
+turn_slots layout mem k w Idle post desk p r h q l f = record { post = q; list = l; phase = tt }
+turn_slots layout mem k w (Runs why base) post desk p r h q l f = let run = run_counted layout why base post r in let m = machine_slots layout mem w why base (counted post) run h.1 q in
+    resumed_slots layout why desk _ _ _ h.0 m.outcome (shape_moves layout k w.told.valid why base (counted post) _ p run).post.layout m.post l
+turn_slots layout mem k w (Scans later at) post desk p r h q l f = scan_slots layout later at (counted post) desk _ h.0 q l
+turn_slots layout mem k w (Works work) post desk p r h q l f = work_slots layout work (counted post) desk _ f (work_found layout.config.slots mem work (counted post) w.links) p.layout h q l
 
 settled_by_slots : (layout : Layout) (l : Local) (post : Post) (desk : Desk) (rounds : ℕ) (outcome : CallOutcome) → PostIn layout post → ListIn layout.config.slots desk.list → PhaseIn layout (phase_left outcome) → SeatSlots layout (settled_by l post desk rounds outcome)
 settled_by_slots layout l post desk rounds (GoesOn phase) q s p = record { post = q; list = s; phase = p }
@@ -176,16 +179,16 @@ settled_by_slots layout l post desk rounds (Answers answer) q s p = record { pos
 settled_slots : (layout : Layout) (l : Local) (t : CallTurn) → TurnSlots layout t → SeatSlots layout (settled l t)
 settled_slots layout l t h = settled_by_slots layout l t.post (noting t.desk (told_by t)) (rounds_told l.rounds (told_by t)) t.outcome h.post h.list h.phase
 
-own_slots : (w : World) (i : ℕ) → is_valid w.layout ≡ true → Seats w → Eras w → Slots w → SeatSlots w.layout ((step w i).seat i)
-own_slots w i v s e h = let l = w.seat i in let g = h.seats i in
+own_slots : (w : World) (i : ℕ) → is_valid w.layout ≡ true → Seats w → Eras w → Slots w → SlotsNeeds w i → SeatSlots w.layout ((step w i).seat i)
+own_slots w i v s e h n = let l = w.seat i in let g = h.seats i in
     subst (SeatSlots w.layout) (sym (seat_steps w i))
     (subst (λ (f : ℕ). SeatSlots w.layout (after l f)) (finds_counted w i)
-    (settled_slots w.layout l _ (turn_slots w.layout w.mem (record { told = told_of w v e; links = h.words }) l.phase l.post l.desk (s.fits i).phase g.phase g.post g.list)))
+    (settled_slots w.layout l _ (turn_slots w.layout w.mem i (record { told = told_of w v e; links = h.words }) l.phase l.post l.desk (counted_fits w.layout i l.post (s.fits i).post) (s.fits i).phase g.phase g.post g.list (subst (phase_finds w.layout.config l.phase) (sym (finds_counted w i)) n))))
 
-pub slots_step : (w : World) (i : ℕ) → is_valid w.layout ≡ true → Seats w → Eras w → Slots w → Slots (step w i)
-slots_step w i v s e h = record {
+pub slots_step : (w : World) (i : ℕ) → is_valid w.layout ≡ true → Seats w → Eras w → Slots w → SlotsNeeds w i → Slots (step w i)
+slots_step w i v s e h n = record {
   words = slots_written w.layout.config.slots w.mem (move (w.seat i)) (phase_writes w.layout (w.seat i).phase (w.seat i).post (s.fits i).phase (h.seats i).phase) h.words;
-  seats = one_moves (λ k l. SeatSlots w.layout l) w.seat (step w i).seat i h.seats (seat_stays w i) (own_slots w i v s e h);
+  seats = one_moves (λ k l. SeatSlots w.layout l) w.seat (step w i).seat i h.seats (seat_stays w i) (own_slots w i v s e h n);
 }
 
 pub slots_begin : (w : World) (i : ℕ) (call : Call) → Slots w → Slots (begin w i call)

@@ -5,6 +5,7 @@ use Rattle.std.proofs.lemmas.List.{get_or-set_same, get_or-set_other, set_past}
 use Rattle.std.specs.Prelude.{◌==◌, nat_lt}
 use Rattle.wfe_words.specs.declared.config.SchemeKind.{SchemeKind}
 use Rattle.wfe_words.specs.declared.config.SchemeKind.TheVariants.{He, Ibr, Wfe}
+use Rattle.wfe_words.specs.declared.config.Config.{Config}
 use Rattle.wfe_words.specs.declared.layout.Layout.{Layout}
 use Rattle.wfe_defs.specs.declared.call.Answer.{Answer}
 use Rattle.wfe_defs.specs.declared.event.Event.{Event}
@@ -40,48 +41,48 @@ at_first He slots = tt
 at_first Ibr slots = tt
 at_first Wfe slots = tt
 
-pub opening_slots : (layout : Layout) (task : Task) (post : Post) → TaskIn layout.config.slots task → PhaseIn layout (opening task post)
+pub opening_slots : (layout : Layout) (task : Task) (post : Post) → TaskIn layout.config task → PhaseIn layout (opening task post)
 opening_slots layout (Gets key) post t = (t, record { root_in = tt; at_in = at_first (scheme_of post) layout.config.slots })
 opening_slots layout (Changes kept) post t = (t, record { root_in = tt; at_in = at_first (scheme_of post) layout.config.slots })
 opening_slots layout (Holds key) post t = (t, record { root_in = tt; at_in = at_first (scheme_of post) layout.config.slots })
 opening_slots layout (Enqueues kept) post t = (t, record { root_in = tt; at_in = at_first (scheme_of post) layout.config.slots })
 opening_slots layout Dequeues post t = (t, record { root_in = tt; at_in = at_first (scheme_of post) layout.config.slots })
 
-begun_by : (layout : Layout) (task : Task) (post : Post) (x : Option Interval) → TaskIn layout.config.slots task → PhaseIn layout (round_by task post (begin_span x))
+begun_by : (layout : Layout) (task : Task) (post : Post) (x : Option Interval) → TaskIn layout.config task → PhaseIn layout (round_by task post (begin_span x))
 begun_by layout task post None t = (t, tt)
 begun_by layout task post (Some span) t = opening_slots layout task post t
 
-round_at : (layout : Layout) (task : Task) (post : Post) (s : SchemeKind) → TaskIn layout.config.slots task → PhaseIn layout (round_by task post (begin_base s post))
+round_at : (layout : Layout) (task : Task) (post : Post) (s : SchemeKind) → TaskIn layout.config task → PhaseIn layout (round_by task post (begin_base s post))
 round_at layout task post He t = opening_slots layout task post t
 round_at layout task post Ibr t = begun_by layout task post post.span t
 round_at layout task post Wfe t = opening_slots layout task post t
 
-pub round_slots : (layout : Layout) (task : Task) (post : Post) → TaskIn layout.config.slots task → PhaseIn layout (round task post)
+pub round_slots : (layout : Layout) (task : Task) (post : Post) → TaskIn layout.config task → PhaseIn layout (round task post)
 round_slots layout task post t = round_at layout task post (scheme_of post) t
 
 -- a task's row
-task_taken : (slots : ℕ) (task : Task) → TaskIn slots task → TakenIn slots (taken_of task)
-task_taken slots (Gets key) t = tt
-task_taken slots (Changes kept) t = t.taken
-task_taken slots (Holds key) t = tt
-task_taken slots (Enqueues kept) t = t.taken
-task_taken slots Dequeues t = tt
+task_taken : (config : Config) (task : Task) → TaskIn config task → TakenIn config.slots (taken_of task)
+task_taken config (Gets key) t = tt
+task_taken config (Changes kept) t = t.taken
+task_taken config (Holds key) t = tt
+task_taken config (Enqueues kept) t = t.taken
+task_taken config Dequeues t = tt
 
 given_up_slots : (layout : Layout) (answer : Answer) (post : Post) (desk : Desk) (told : List Event) (x : Option ℕ) → TakenIn layout.config.slots x → PostIn layout post → ListIn layout.config.slots desk.list → TurnSlots layout (given_up answer post desk told x)
 given_up_slots layout answer post desk told None t q l = record { post = q; list = l; phase = tt }
 given_up_slots layout answer post desk told (Some slot) t q l = record { post = q; list = l; phase = (tt, t) }
 
-pub closed_slots : (layout : Layout) (task : Task) (next : Next) (post : Post) (desk : Desk) (told : List Event) → TaskIn layout.config.slots task → NextIn layout.config.slots next → PostIn layout post → ListIn layout.config.slots desk.list → TurnSlots layout (closed task next post desk told)
+pub closed_slots : (layout : Layout) (task : Task) (next : Next) (post : Post) (desk : Desk) (told : List Event) → TaskIn layout.config task → NextIn layout.config.slots next → PostIn layout post → ListIn layout.config.slots desk.list → TurnSlots layout (closed task next post desk told)
 closed_slots layout task Again post desk told t n q l = record { post = q; list = l; phase = round_slots layout task post t }
 closed_slots layout task MakeRoom post desk told t n q l = record { post = q; list = l; phase = (t, tt) }
-closed_slots layout task (Answering answer) post desk told t n q l = given_up_slots layout answer post desk told (taken_of task) (task_taken layout.config.slots task t) q l
+closed_slots layout task (Answering answer) post desk told t n q l = given_up_slots layout answer post desk told (taken_of task) (task_taken layout.config task t) q l
 closed_slots layout task (Retiring slot answer) post desk told t n q l = record { post = q; list = l; phase = (tt, n) }
 
-finishing_by_slots : (layout : Layout) (task : Task) (next : Next) (post : Post) (desk : Desk) (told : List Event) (x : Option Base) → finish_base (scheme_of post) post ≡ x → TaskIn layout.config.slots task → NextIn layout.config.slots next → PostIn layout post → ListIn layout.config.slots desk.list → TurnSlots layout (finishing_by task next post desk told x)
+finishing_by_slots : (layout : Layout) (task : Task) (next : Next) (post : Post) (desk : Desk) (told : List Event) (x : Option Base) → finish_base (scheme_of post) post ≡ x → TaskIn layout.config task → NextIn layout.config.slots next → PostIn layout post → ListIn layout.config.slots desk.list → TurnSlots layout (finishing_by task next post desk told x)
 finishing_by_slots layout task next post desk told None e t n q l = closed_slots layout task next post desk told t n q l
 finishing_by_slots layout task next post desk told (Some base) e t n q l = record { post = q; list = l; phase = ((t, n), subst (BaseIn layout) (sym (finish_is (scheme_of post) post base e).is) tt) }
 
-pub finishing_slots : (layout : Layout) (task : Task) (next : Next) (post : Post) (desk : Desk) (told : List Event) → TaskIn layout.config.slots task → NextIn layout.config.slots next → PostIn layout post → ListIn layout.config.slots desk.list → TurnSlots layout (finishing task next post desk told)
+pub finishing_slots : (layout : Layout) (task : Task) (next : Next) (post : Post) (desk : Desk) (told : List Event) → TaskIn layout.config task → NextIn layout.config.slots next → PostIn layout post → ListIn layout.config.slots desk.list → TurnSlots layout (finishing task next post desk told)
 finishing_slots layout task Again post desk told t n q l = closed_slots layout task Again post desk told t n q l
 finishing_slots layout task MakeRoom post desk told t n q l = finishing_by_slots layout task MakeRoom post desk told (finish_base (scheme_of post) post) refl t n q l
 finishing_slots layout task (Answering answer) post desk told t n q l = finishing_by_slots layout task (Answering answer) post desk told (finish_base (scheme_of post) post) refl t n q l
@@ -92,11 +93,11 @@ clear_post_slots layout He post index q = q
 clear_post_slots layout Ibr post index q = withdrawn_slots layout post index q
 clear_post_slots layout Wfe post index q = q
 
-clearing_by_slots : (layout : Layout) (task : Task) (next : Next) (post : Post) (desk : Desk) (told : List Event) (x : Option Base) → clear_base (scheme_of post) (index_of task) ≡ x → TaskIn layout.config.slots task → NextIn layout.config.slots next → PostIn layout post → ListIn layout.config.slots desk.list → TurnSlots layout (clearing_by task next post desk told x)
+clearing_by_slots : (layout : Layout) (task : Task) (next : Next) (post : Post) (desk : Desk) (told : List Event) (x : Option Base) → clear_base (scheme_of post) (index_of task) ≡ x → TaskIn layout.config task → NextIn layout.config.slots next → PostIn layout post → ListIn layout.config.slots desk.list → TurnSlots layout (clearing_by task next post desk told x)
 clearing_by_slots layout task next post desk told None e t n q l = finishing_slots layout task next (clear_post (scheme_of post) post (index_of task)) desk _ t n (clear_post_slots layout (scheme_of post) post (index_of task) q) l
 clearing_by_slots layout task next post desk told (Some base) e t n q l = record { post = q; list = l; phase = ((t, n), subst (BaseIn layout) (sym (clear_is (scheme_of post) (index_of task) base e).is) tt) }
 
-pub clearing_slots : (layout : Layout) (task : Task) (next : Next) (post : Post) (desk : Desk) (told : List Event) → TaskIn layout.config.slots task → NextIn layout.config.slots next → PostIn layout post → ListIn layout.config.slots desk.list → TurnSlots layout (clearing task next post desk told)
+pub clearing_slots : (layout : Layout) (task : Task) (next : Next) (post : Post) (desk : Desk) (told : List Event) → TaskIn layout.config task → NextIn layout.config.slots next → PostIn layout post → ListIn layout.config.slots desk.list → TurnSlots layout (clearing task next post desk told)
 clearing_slots layout task next post desk told t n q l = clearing_by_slots layout task next post desk told (clear_base (scheme_of post) (index_of task)) refl t n q l
 
 clearing_next_by_slots : (layout : Layout) (next : Next) (post : Post) (desk : Desk) (told : List Event) (x : Option Base) → clear_base (scheme_of post) 1 ≡ x → NextIn layout.config.slots next → PostIn layout post → ListIn layout.config.slots desk.list → TurnSlots layout (clearing_next_by next post desk told x)

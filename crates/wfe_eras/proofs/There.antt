@@ -37,8 +37,7 @@ use Rattle.wfe_core.specs.World.{World}
 use Rattle.wfe_core.specs.Calls.{ChangeKept, EnqueueKept, GetAt, FindVersion, FindCount, FindKey, FindValue, ChangeAt, LoadVersion, LoadCount, LoadKey, LoadValue, ExchangeRoot, EnqueueAt, LoadNumber, LoadNext, PassTail, ExchangeNext, ExchangeTail, DequeueAt, LoadTail, SwingTail, TakeNumber, TakeValue, ExchangeHead, Work, Getting, Changing, Enqueuing, Dequeuing, ScanAt, ReadGuard, GiveBack, Why, Phase, Idle, Runs, Scans, Works}
 use Rattle.wfe_eras.specs.Seats.{index_by, is_wfe, allocate_fits, move_fits, scan_fits, Run, PhaseFits, Seats}
 use Rattle.wfe_eras.specs.Eras.{RootNeeds, move_eras, base_eras, PhaseEras, Eras}
-use Rattle.wfe_eras.specs.Slots.{RetireIn, BaseIn, GetIn, WorkIn, ScanIn, PhaseIn, Slots}
-use Rattle.wfe_eras.specs.Code.{base_room, get_room, change_room, work_room, phase_room}
+use Rattle.wfe_eras.specs.Slots.{RowIn, RetireIn, BaseIn, GetIn, WorkIn, ScanIn, PhaseIn, Slots}
 use Rattle.wfe_eras.proofs.Written.{index_few, root_there}
 
 -- a seat with these words is there
@@ -127,23 +126,23 @@ move_there layout clock (HideEra era) post s f e = seat_there post.seat layout.c
 move_there layout clock (HideLate seen) post s f e = seat_there post.seat layout.config.seats s.below
 move_there layout clock (ExchangeClock era) post s f e = refl
 
-written_there : (layout : Layout) (slot : ℕ) (row : RowOf) (place : ℕ) → slot ≤ layout.config.slots → (nat_le (first_written row) place && nat_le place (last_written row)) ≡ true → base_room layout.config (Write slot row place) → has layout (Row slot place) ≡ true
+written_there : (layout : Layout) (slot : ℕ) (row : RowOf) (place : ℕ) → slot ≤ layout.config.slots → (nat_le (first_written row) place && nat_le place (last_written row)) ≡ true → RowIn layout.config row → has layout (Row slot place) ≡ true
 written_there layout slot (MapRow version pairs) place a f m = row_there layout slot place a (grind (arith, nat_tests))
 written_there layout slot (QueueRow number value) place a f m = row_there layout slot place a (grind (arith, nat_tests))
 
-base_there : (layout : Layout) (clock : ℕ) (why : Why) (base : Base) (post : Post) → Seated layout post → Run layout why base post → base_eras layout clock post base → BaseIn layout base → base_room layout.config base
+base_there : (layout : Layout) (clock : ℕ) (why : Why) (base : Base) (post : Post) → Seated layout post → Run layout why base post → base_eras layout clock post base → BaseIn layout base
     → has layout (place_in (base_move base post)) ≡ true
-base_there layout clock why (Begin at) post s r e h m = begin_there layout at post s
-base_there layout clock why (Protect aim index root steps at) post s r e h m = protect_there layout why aim index root steps at post s r h.root_in
-base_there layout clock why (Reload parent index slot era steps) post s r e h m = refl
-base_there layout clock why (Clear index) post s r e h m = index_there layout post.seat index s.below (index_below layout why index s.valid r.shape)
-base_there layout clock why Finish post s r e h m = seat_there post.seat layout.config.seats s.below
-base_there layout clock why Release post s r e h m = seat_there post.seat layout.config.seats s.below
-base_there layout clock why (Allocate at) post s r e h m = allocate_there layout at r.fits
-base_there layout clock why (Write slot row place) post s r e h m = written_there layout slot row place h r.fits m
-base_there layout clock why (GiveUp slot) post s r e h m = claim_there layout slot h
-base_there layout clock why (Retire at) post s r e h m = retire_there layout at h
-base_there layout clock why (Moves at) post s r e h m = move_there layout clock at post s r.fits e
+base_there layout clock why (Begin at) post s r e h = begin_there layout at post s
+base_there layout clock why (Protect aim index root steps at) post s r e h = protect_there layout why aim index root steps at post s r h.root_in
+base_there layout clock why (Reload parent index slot era steps) post s r e h = refl
+base_there layout clock why (Clear index) post s r e h = index_there layout post.seat index s.below (index_below layout why index s.valid r.shape)
+base_there layout clock why Finish post s r e h = seat_there post.seat layout.config.seats s.below
+base_there layout clock why Release post s r e h = seat_there post.seat layout.config.seats s.below
+base_there layout clock why (Allocate at) post s r e h = allocate_there layout at r.fits
+base_there layout clock why (Write slot row place) post s r e h = written_there layout slot row place h.0 r.fits h.1
+base_there layout clock why (GiveUp slot) post s r e h = claim_there layout slot h
+base_there layout clock why (Retire at) post s r e h = retire_there layout at h
+base_there layout clock why (Moves at) post s r e h = move_there layout clock at post s r.fits e
 
 -- guards
 index_at_there : (layout : Layout) (k : ℕ) → 1 ≤ layout.config.indexes → k < layout.config.seats * layout.config.indexes → has layout (guard_place (index_at layout.config k)) ≡ true
@@ -167,51 +166,51 @@ scan_there layout (GiveBack place slot) post s f h = claim_there layout slot h
 three_there : (layout : Layout) (slot place : ℕ) → slot ≤ layout.config.slots → place < 3 → has layout (Row slot place) ≡ true
 three_there layout slot place a b = row_there layout slot place a (omega arith)
 
-get_there : (layout : Layout) (at : GetAt) → GetIn layout.config.slots at → get_room layout.config at → has layout (place_in (get_move at)) ≡ true
-get_there layout (FindVersion slot) h m = three_there layout slot 1 h (omega arith)
-get_there layout (FindCount slot version) h m = three_there layout slot 2 h (omega arith)
-get_there layout (FindKey slot version count pair) h m = row_there layout slot (3 + 2 * pair) h (omega arith)
-get_there layout (FindValue slot version pair) h m = row_there layout slot (4 + 2 * pair) h (omega arith)
+get_there : (layout : Layout) (at : GetAt) → GetIn layout.config at → has layout (place_in (get_move at)) ≡ true
+get_there layout (FindVersion slot) h = three_there layout slot 1 h (omega arith)
+get_there layout (FindCount slot version) h = three_there layout slot 2 h (omega arith)
+get_there layout (FindKey slot version count pair) h = row_there layout slot (3 + 2 * pair) h.0 (let a = h.1 in let b = h.2 in omega arith)
+get_there layout (FindValue slot version pair) h = row_there layout slot (4 + 2 * pair) h.0 (let a = h.1 in omega arith)
 
 bucket_in : (layout : Layout) (post : Post) (key : ℕ) → is_valid layout ≡ true → post.layout ≡ layout → has layout (Bucket (key % post.layout.config.buckets)) ≡ true
 bucket_in layout post key v e = subst (λ (t : Layout). has layout (Bucket (key % t.config.buckets)) ≡ true) (sym e)
     (let b = bounds_of layout v in let c = b.buckets.0 in let d : key % layout.config.buckets < layout.config.buckets = mod-lt key c in grind (arith, nat_tests))
 
-change_there : (layout : Layout) (kept : ChangeKept) (at : ChangeAt) (post : Post) → Seated layout post → WorkIn layout.config.slots (Changing kept at) → change_room layout.config kept at → has layout (place_in (change_move kept at post)) ≡ true
-change_there layout kept (LoadVersion slot) post s h m = three_there layout slot 1 h.1 (omega arith)
-change_there layout kept (LoadCount slot) post s h m = three_there layout slot 2 h.1 (omega arith)
-change_there layout kept (LoadKey slot count) post s h m = row_there layout slot (3 + 2 * length kept.pairs) h.1 (omega arith)
-change_there layout kept (LoadValue slot count key) post s h m = row_there layout slot (4 + 2 * length kept.pairs) h.1 (omega arith)
-change_there layout kept (ExchangeRoot slot) post s h m = bucket_in layout post (key_of kept.change) s.valid s.layout_is
+change_there : (layout : Layout) (kept : ChangeKept) (at : ChangeAt) (post : Post) → Seated layout post → WorkIn layout.config (Changing kept at) → has layout (place_in (change_move kept at post)) ≡ true
+change_there layout kept (LoadVersion slot) post s h = three_there layout slot 1 h.1.0 (omega arith)
+change_there layout kept (LoadCount slot) post s h = three_there layout slot 2 h.1.0 (omega arith)
+change_there layout kept (LoadKey slot count) post s h = row_there layout slot (3 + 2 * length kept.pairs) h.1.0 (let a = h.1.1 in let b = h.1.2 in omega arith)
+change_there layout kept (LoadValue slot count key) post s h = row_there layout slot (4 + 2 * length kept.pairs) h.1.0 (let a = h.1.1 in let b = h.1.2 in omega arith)
+change_there layout kept (ExchangeRoot slot) post s h = bucket_in layout post (key_of kept.change) s.valid s.layout_is
 
-enqueue_there : (layout : Layout) (kept : EnqueueKept) (at : EnqueueAt) → WorkIn layout.config.slots (Enqueuing kept at) → has layout (place_in (enqueue_move kept at)) ≡ true
+enqueue_there : (layout : Layout) (kept : EnqueueKept) (at : EnqueueAt) → WorkIn layout.config (Enqueuing kept at) → has layout (place_in (enqueue_move kept at)) ≡ true
 enqueue_there layout kept LoadNumber h = three_there layout kept.tail 1 h.0.tail (omega arith)
 enqueue_there layout kept LoadNext h = three_there layout kept.tail 0 h.0.tail (omega arith)
 enqueue_there layout kept (PassTail next) h = refl
 enqueue_there layout kept (ExchangeNext slot) h = three_there layout kept.tail 0 h.0.tail (omega arith)
 enqueue_there layout kept (ExchangeTail slot) h = refl
 
-dequeue_there : (layout : Layout) (at : DequeueAt) → WorkIn layout.config.slots (Dequeuing at) → has layout (place_in (dequeue_move at)) ≡ true
+dequeue_there : (layout : Layout) (at : DequeueAt) → WorkIn layout.config (Dequeuing at) → has layout (place_in (dequeue_move at)) ≡ true
 dequeue_there layout (LoadTail head) h = refl
 dequeue_there layout (SwingTail head next) h = refl
 dequeue_there layout (TakeNumber head next) h = three_there layout next 1 h.1 (omega arith)
 dequeue_there layout (TakeValue head next number) h = three_there layout next 2 h.1 (omega arith)
 dequeue_there layout (ExchangeHead head next number value) h = refl
 
-work_there : (layout : Layout) (work : Work) (post : Post) → Seated layout post → WorkIn layout.config.slots work → work_room layout.config work → has layout (place_in (work_move work post)) ≡ true
-work_there layout (Getting key at) post s h m = get_there layout at h m
-work_there layout (Changing kept at) post s h m = change_there layout kept at post s h m
-work_there layout (Enqueuing kept at) post s h m = enqueue_there layout kept at h
-work_there layout (Dequeuing at) post s h m = dequeue_there layout at h
+work_there : (layout : Layout) (work : Work) (post : Post) → Seated layout post → WorkIn layout.config work → has layout (place_in (work_move work post)) ≡ true
+work_there layout (Getting key at) post s h = get_there layout at h
+work_there layout (Changing kept at) post s h = change_there layout kept at post s h
+work_there layout (Enqueuing kept at) post s h = enqueue_there layout kept at h
+work_there layout (Dequeuing at) post s h = dequeue_there layout at h
 
-phase_there : (layout : Layout) (clock : ℕ) (phase : Phase) (post : Post) → Seated layout post → PhaseFits layout post phase → PhaseEras layout clock post phase → PhaseIn layout phase → phase_room layout.config phase
+phase_there : (layout : Layout) (clock : ℕ) (phase : Phase) (post : Post) → Seated layout post → PhaseFits layout post phase → PhaseEras layout clock post phase → PhaseIn layout phase
     → has layout (place_in (phase_move phase post)) ≡ true
-phase_there layout clock Idle post s r e h m = refl
-phase_there layout clock (Runs why base) post s r e h m = base_there layout clock why base post s r e h.1 m
-phase_there layout clock (Scans later at) post s r e h m = scan_there layout at post s r h.1
-phase_there layout clock (Works work) post s r e h m = work_there layout work post s h m
+phase_there layout clock Idle post s r e h = refl
+phase_there layout clock (Runs why base) post s r e h = base_there layout clock why base post s r e h.1
+phase_there layout clock (Scans later at) post s r e h = scan_there layout at post s r h.1
+phase_there layout clock (Works work) post s r e h = work_there layout work post s h
 
 -- a step is on a word of the table
-pub place_there : (w : World) (i : ℕ) → is_valid w.layout ≡ true → i < w.layout.config.seats → Seats w → Eras w → Slots w → phase_room w.layout.config (w.seat i).phase → has w.layout (place_in (move (w.seat i))) ≡ true
-place_there w i v b s e h m = let q = (s.fits i).post in
-    phase_there w.layout (w.mem Clock) (w.seat i).phase (w.seat i).post (record { valid = v; layout_is = q.layout; below = let t = q.seat in omega arith }) (s.fits i).phase (e.seats i).phase (h.seats i).phase m
+pub place_there : (w : World) (i : ℕ) → is_valid w.layout ≡ true → i < w.layout.config.seats → Seats w → Eras w → Slots w → has w.layout (place_in (move (w.seat i))) ≡ true
+place_there w i v b s e h = let q = (s.fits i).post in
+    phase_there w.layout (w.mem Clock) (w.seat i).phase (w.seat i).post (record { valid = v; layout_is = q.layout; below = let t = q.seat in omega arith }) (s.fits i).phase (e.seats i).phase (h.seats i).phase

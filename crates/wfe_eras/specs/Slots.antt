@@ -1,9 +1,11 @@
--- Each link leads to a row of the table or is null, and each slot that a seat knows is a row of it.
-use Rattle.std.specs.Prelude.{ℕ, ◌≡◌, ◌≤◌, ◌<◌, ◌+◌, List, Option, Some, None}
+-- Each link leads to a row of the table or is null, each slot that a seat knows is a row of it, and what a call keeps of rows
+-- that it has read is in range.
+use Rattle.std.specs.Prelude.{ℕ, ◌≡◌, ◌≤◌, ◌<◌, ◌+◌, List, Option, Some, None, [], length}
 use Rattle.std.specs.List.{All}
 use Rattle.wfe_words.specs.Place.{Place}
 use Rattle.wfe_words.specs.Place.Place.{Clock, Helper, Index, Interval, Bucket, Head, Tail, Claim, Life, Row, PlaceOf}
 use Rattle.wfe_words.specs.Place.Place.{Request as RequestOf}
+use Rattle.wfe_words.specs.declared.config.Config.{Config}
 use Rattle.wfe_words.specs.declared.layout.Layout.{Layout}
 use Rattle.wfe_defs.specs.declared.event.Root.{Root}
 use Rattle.wfe_defs.specs.declared.lifetime.Lifetime.{Lifetime}
@@ -16,7 +18,7 @@ use Rattle.wfe_core.specs.declared.ends.ProtectEnd.TheVariants as protect_ends
 use Rattle.wfe_core.specs.declared.post.Post.{Post}
 use Rattle.wfe_core.specs.Memory.{Move, Load, Store, Cas, Or, And}
 use Rattle.wfe_core.specs.Posts.{stands}
-use Rattle.wfe_core.specs.Phases.{ProtectAt, RetireAt, MoveAt, Base, Ending, Outcome, Goes, Ends, Turn}
+use Rattle.wfe_core.specs.Phases.{ProtectAt, RetireAt, MoveAt, Base, Ending, Outcome, Goes, Ends, Turn, RowOf, MapRow, QueueRow}
 use Rattle.wfe_core.specs.Phases.ProtectAt.{CheckClock, CheckOwnClock, AnswerOwn, TakeAnswer, WithdrawRequest, WithdrawHelper, CheckUpper}
 use Rattle.wfe_core.specs.Phases.RetireAt.{LoadLife, LoadRetire, StoreRetired}
 use Rattle.wfe_core.specs.Phases.MoveAt.{CheckEra, AnswerAsked, LoadReserved, HandOver}
@@ -24,7 +26,7 @@ use Rattle.wfe_core.specs.Phases.Base.{Begin, Protect, Reload, Clear, Finish, Re
 use Rattle.wfe_core.specs.Phases.Base.{Move as Moves}
 use Rattle.wfe_core.specs.Phases.Ending.{Done, Protected, Followed, Allocated, Retired, Clocked}
 use Rattle.wfe_core.specs.Calls.{ChangeKept, EnqueueKept, Task, Gets, Changes, Holds, Enqueues, Dequeues, Next, Again, MakeRoom, Answering, Retiring, AfterScan, Answered, Repeated, Counted, GetAt, FindVersion, FindCount, FindKey, FindValue, ChangeAt, LoadVersion, LoadCount, LoadKey, LoadValue, ExchangeRoot, EnqueueAt, LoadNumber, LoadNext, PassTail, ExchangeNext, ExchangeTail, DequeueAt, LoadTail, SwingTail, TakeNumber, TakeValue, ExchangeHead, Work, Getting, Changing, Enqueuing, Dequeuing, ScanAt, ReadGuard, GiveBack, Why, Opens, FollowsHead, Fills, ClearsNext, Clears, Finishes, GivesUp, Retires, Tidies, Advances, Releases, Phase, Idle, Runs, Scans, Works, CallTurn}
-use Rattle.wfe_core.specs.World.{World}
+use Rattle.wfe_core.specs.World.{World, finds}
 use Rattle.wfe_core.specs.Locals.{Local}
 use Rattle.wfe_eras.specs.Frame.{phase_left}
 use Rattle.wfe_eras.specs.Eras.{RootNeeds}
@@ -34,20 +36,33 @@ abbrev pub TakenIn : ℕ → Option ℕ → Type 0
 TakenIn slots None = Unit {0}
 TakenIn slots (Some slot) = slot ≤ slots
 
-pub record ChangeIn (slots : ℕ) (kept : ChangeKept) : Type 0 where
-  pub taken : TakenIn slots kept.taken
-  pub link : kept.link ≤ slots + 1
+-- a change keeps a link, a version and pairs in range
+pub record ChangeIn (config : Config) (kept : ChangeKept) : Type 0 where
+  pub taken : TakenIn config.slots kept.taken
+  pub link : kept.link ≤ config.slots + 1
+  pub version : kept.version ≤ config.last_version
+  pub pairs : length kept.pairs ≤ config.pairs
 
-pub record EnqueueIn (slots : ℕ) (kept : EnqueueKept) : Type 0 where
-  pub taken : TakenIn slots kept.taken
-  pub tail : kept.tail ≤ slots
+-- an enqueue a row and its number
+pub record EnqueueIn (config : Config) (kept : EnqueueKept) : Type 0 where
+  pub taken : TakenIn config.slots kept.taken
+  pub tail : kept.tail ≤ config.slots
+  pub number : kept.number ≤ config.last_version
 
-abbrev pub TaskIn : ℕ → Task → Type 0
-TaskIn slots (Gets key) = Unit {0}
-TaskIn slots (Changes kept) = ChangeIn slots kept
-TaskIn slots (Holds key) = Unit {0}
-TaskIn slots (Enqueues kept) = EnqueueIn slots kept
-TaskIn slots Dequeues = Unit {0}
+abbrev pub TaskIn : Config → Task → Type 0
+TaskIn config (Gets key) = Unit {0}
+TaskIn config (Changes kept) = ChangeIn config kept
+TaskIn config (Holds key) = Unit {0}
+TaskIn config (Enqueues kept) = EnqueueIn config kept
+TaskIn config Dequeues = Unit {0}
+
+-- a row is filled only where another version is left
+abbrev pub FillIn : Config → Task → Type 0
+FillIn config (Gets key) = Unit {0}
+FillIn config (Changes kept) = kept.version < config.last_version
+FillIn config (Holds key) = Unit {0}
+FillIn config (Enqueues kept) = kept.number < config.last_version
+FillIn config Dequeues = Unit {0}
 
 abbrev pub NextIn : ℕ → Next → Type 0
 NextIn slots Again = Unit {0}
@@ -55,24 +70,24 @@ NextIn slots MakeRoom = Unit {0}
 NextIn slots (Answering answer) = Unit {0}
 NextIn slots (Retiring slot answer) = slot ≤ slots
 
-abbrev pub LaterIn : ℕ → AfterScan → Type 0
-LaterIn slots (Answered answer) = Unit {0}
-LaterIn slots (Repeated task) = TaskIn slots task
-LaterIn slots Counted = Unit {0}
+abbrev pub LaterIn : Config → AfterScan → Type 0
+LaterIn config (Answered answer) = Unit {0}
+LaterIn config (Repeated task) = TaskIn config task
+LaterIn config Counted = Unit {0}
 
 -- what comes after a machine
-abbrev pub WhyIn : ℕ → Why → Type 0
-WhyIn slots (Opens task) = TaskIn slots task
-WhyIn slots (FollowsHead head tail) = head ≤ slots
-WhyIn slots (Fills task) = TaskIn slots task
-WhyIn slots (ClearsNext next) = NextIn slots next
-WhyIn slots (Clears task next) = TaskIn slots task × NextIn slots next
-WhyIn slots (Finishes task next) = TaskIn slots task × NextIn slots next
-WhyIn slots (GivesUp answer) = Unit {0}
-WhyIn slots (Retires answer) = Unit {0}
-WhyIn slots (Tidies later) = LaterIn slots later
-WhyIn slots Advances = Unit {0}
-WhyIn slots (Releases key) = Unit {0}
+abbrev pub WhyIn : Config → Why → Type 0
+WhyIn config (Opens task) = TaskIn config task
+WhyIn config (FollowsHead head tail) = head ≤ config.slots
+WhyIn config (Fills task) = TaskIn config task × FillIn config task
+WhyIn config (ClearsNext next) = NextIn config.slots next
+WhyIn config (Clears task next) = TaskIn config task × NextIn config.slots next
+WhyIn config (Finishes task next) = TaskIn config task × NextIn config.slots next
+WhyIn config (GivesUp answer) = Unit {0}
+WhyIn config (Retires answer) = Unit {0}
+WhyIn config (Tidies later) = LaterIn config later
+WhyIn config Advances = Unit {0}
+WhyIn config (Releases key) = Unit {0}
 
 -- the link that a protection has loaded
 abbrev pub ProtectIn : ℕ → ProtectAt → Type 0
@@ -103,6 +118,11 @@ pub record ProtectsIn (layout : Layout) (root : Root) (at : ProtectAt) : Type 0 
   pub root_in : RootNeeds layout root
   pub at_in : ProtectIn layout.config.slots at
 
+-- a row has room for the pairs that are written
+abbrev pub RowIn : Config → RowOf → Type 0
+RowIn config (MapRow version pairs) = length pairs ≤ config.pairs
+RowIn config (QueueRow number value) = Unit {0}
+
 abbrev pub BaseIn : Layout → Base → Type 0
 BaseIn layout (Begin at) = Unit {0}
 BaseIn layout (Protect aim index root steps at) = ProtectsIn layout root at
@@ -111,7 +131,7 @@ BaseIn layout (Clear index) = Unit {0}
 BaseIn layout Finish = Unit {0}
 BaseIn layout Release = Unit {0}
 BaseIn layout (Allocate at) = Unit {0}
-BaseIn layout (Write slot row place) = slot ≤ layout.config.slots
+BaseIn layout (Write slot row place) = (slot ≤ layout.config.slots) × RowIn layout.config row
 BaseIn layout (GiveUp slot) = slot ≤ layout.config.slots
 BaseIn layout (Retire at) = RetireIn layout.config.slots at
 BaseIn layout (Moves at) = MovesIn layout.config.slots at
@@ -138,25 +158,26 @@ EndIn slots (Allocated ending) = AllocateEndIn slots ending
 EndIn slots (Retired life) = life.slot ≤ slots
 EndIn slots (Clocked clock) = Unit {0}
 
-abbrev pub GetIn : ℕ → GetAt → Type 0
-GetIn slots (FindVersion slot) = slot ≤ slots
-GetIn slots (FindCount slot version) = slot ≤ slots
-GetIn slots (FindKey slot version count pair) = slot ≤ slots
-GetIn slots (FindValue slot version pair) = slot ≤ slots
+-- what is read of a row is in range
+abbrev pub GetIn : Config → GetAt → Type 0
+GetIn config (FindVersion slot) = slot ≤ config.slots
+GetIn config (FindCount slot version) = slot ≤ config.slots
+GetIn config (FindKey slot version count pair) = (slot ≤ config.slots) × (pair < count) × (count ≤ config.pairs)
+GetIn config (FindValue slot version pair) = (slot ≤ config.slots) × (pair < config.pairs)
 
-abbrev pub ChangeAtIn : ℕ → ChangeAt → Type 0
-ChangeAtIn slots (LoadVersion slot) = slot ≤ slots
-ChangeAtIn slots (LoadCount slot) = slot ≤ slots
-ChangeAtIn slots (LoadKey slot count) = slot ≤ slots
-ChangeAtIn slots (LoadValue slot count key) = slot ≤ slots
-ChangeAtIn slots (ExchangeRoot slot) = slot ≤ slots
+abbrev pub ChangeAtIn : Config → ChangeKept → ChangeAt → Type 0
+ChangeAtIn config kept (LoadVersion slot) = (slot ≤ config.slots) × (kept.pairs ≡ [])
+ChangeAtIn config kept (LoadCount slot) = (slot ≤ config.slots) × (kept.pairs ≡ [])
+ChangeAtIn config kept (LoadKey slot count) = (slot ≤ config.slots) × (length kept.pairs < count) × (count ≤ config.pairs)
+ChangeAtIn config kept (LoadValue slot count key) = (slot ≤ config.slots) × (length kept.pairs < count) × (count ≤ config.pairs)
+ChangeAtIn config kept (ExchangeRoot slot) = (slot ≤ config.slots) × (kept.version < config.last_version)
 
-abbrev pub EnqueueAtIn : ℕ → EnqueueAt → Type 0
-EnqueueAtIn slots LoadNumber = Unit {0}
-EnqueueAtIn slots LoadNext = Unit {0}
-EnqueueAtIn slots (PassTail next) = (1 ≤ next) × (next ≤ slots + 1)
-EnqueueAtIn slots (ExchangeNext slot) = slot ≤ slots
-EnqueueAtIn slots (ExchangeTail slot) = slot ≤ slots
+abbrev pub EnqueueAtIn : Config → EnqueueKept → EnqueueAt → Type 0
+EnqueueAtIn config kept LoadNumber = Unit {0}
+EnqueueAtIn config kept LoadNext = Unit {0}
+EnqueueAtIn config kept (PassTail next) = (1 ≤ next) × (next ≤ config.slots + 1)
+EnqueueAtIn config kept (ExchangeNext slot) = (slot ≤ config.slots) × (kept.number < config.last_version)
+EnqueueAtIn config kept (ExchangeTail slot) = (slot ≤ config.slots) × (kept.number < config.last_version)
 
 abbrev pub DequeueIn : ℕ → DequeueAt → Type 0
 DequeueIn slots (LoadTail head) = head ≤ slots
@@ -165,11 +186,11 @@ DequeueIn slots (TakeNumber head next) = (head ≤ slots) × (next ≤ slots)
 DequeueIn slots (TakeValue head next number) = (head ≤ slots) × (next ≤ slots)
 DequeueIn slots (ExchangeHead head next number value) = (head ≤ slots) × (next ≤ slots)
 
-abbrev pub WorkIn : ℕ → Work → Type 0
-WorkIn slots (Getting key at) = GetIn slots at
-WorkIn slots (Changing kept at) = ChangeIn slots kept × ChangeAtIn slots at
-WorkIn slots (Enqueuing kept at) = EnqueueIn slots kept × EnqueueAtIn slots at
-WorkIn slots (Dequeuing at) = DequeueIn slots at
+abbrev pub WorkIn : Config → Work → Type 0
+WorkIn config (Getting key at) = GetIn config at
+WorkIn config (Changing kept at) = ChangeIn config kept × ChangeAtIn config kept at
+WorkIn config (Enqueuing kept at) = EnqueueIn config kept × EnqueueAtIn config kept at
+WorkIn config (Dequeuing at) = DequeueIn config.slots at
 
 abbrev pub ScanIn : ℕ → ScanAt → Type 0
 ScanIn slots (ReadGuard number) = Unit {0}
@@ -177,9 +198,9 @@ ScanIn slots (GiveBack place slot) = slot ≤ slots
 
 abbrev pub PhaseIn : Layout → Phase → Type 0
 PhaseIn layout Idle = Unit {0}
-PhaseIn layout (Runs why base) = WhyIn layout.config.slots why × BaseIn layout base
-PhaseIn layout (Scans later at) = LaterIn layout.config.slots later × ScanIn layout.config.slots at
-PhaseIn layout (Works work) = WorkIn layout.config.slots work
+PhaseIn layout (Runs why base) = WhyIn layout.config why × BaseIn layout base
+PhaseIn layout (Scans later at) = LaterIn layout.config later × ScanIn layout.config.slots at
+PhaseIn layout (Works work) = WorkIn layout.config work
 
 -- what stands is a row of the table, at one of the seat's indexes
 abbrev pub StandsIn : Layout → Option ℕ → ℕ → Type 0
@@ -244,3 +265,46 @@ MoveSlots slots (And place bits) = (word : ℕ) → WordSlots slots place word
 pub record Slots (w : World) : Type 0 where
   pub words : (place : Place) → WordSlots w.layout.config.slots place (w.mem place)
   pub seats : (k : ℕ) → SeatSlots w.layout (w.seat k)
+
+-- what the other parts give a step of seat i: what it finds of a row's version, number and count of pairs is in range
+abbrev pub get_finds : Config → GetAt → ℕ → Type 0
+get_finds config (FindVersion slot) found = found ≤ config.last_version
+get_finds config (FindCount slot version) found = found ≤ config.pairs
+get_finds config (FindKey slot version count pair) found = Unit {0}
+get_finds config (FindValue slot version pair) found = Unit {0}
+
+abbrev pub change_finds : Config → ChangeAt → ℕ → Type 0
+change_finds config (LoadVersion slot) found = found ≤ config.last_version
+change_finds config (LoadCount slot) found = found ≤ config.pairs
+change_finds config (LoadKey slot count) found = Unit {0}
+change_finds config (LoadValue slot count key) found = Unit {0}
+change_finds config (ExchangeRoot slot) found = Unit {0}
+
+abbrev pub enqueue_finds : Config → EnqueueAt → ℕ → Type 0
+enqueue_finds config LoadNumber found = found ≤ config.last_version
+enqueue_finds config LoadNext found = Unit {0}
+enqueue_finds config (PassTail next) found = Unit {0}
+enqueue_finds config (ExchangeNext slot) found = Unit {0}
+enqueue_finds config (ExchangeTail slot) found = Unit {0}
+
+abbrev pub dequeue_finds : Config → DequeueAt → ℕ → Type 0
+dequeue_finds config (LoadTail head) found = Unit {0}
+dequeue_finds config (SwingTail head next) found = Unit {0}
+dequeue_finds config (TakeNumber head next) found = found ≤ config.last_version
+dequeue_finds config (TakeValue head next number) found = Unit {0}
+dequeue_finds config (ExchangeHead head next number value) found = Unit {0}
+
+abbrev pub work_finds : Config → Work → ℕ → Type 0
+work_finds config (Getting key at) found = get_finds config at found
+work_finds config (Changing kept at) found = change_finds config at found
+work_finds config (Enqueuing kept at) found = enqueue_finds config at found
+work_finds config (Dequeuing at) found = dequeue_finds config at found
+
+abbrev pub phase_finds : Config → Phase → ℕ → Type 0
+phase_finds config Idle found = Unit {0}
+phase_finds config (Runs why base) found = Unit {0}
+phase_finds config (Scans later at) found = Unit {0}
+phase_finds config (Works work) found = work_finds config work found
+
+abbrev pub SlotsNeeds : World → ℕ → Type 0
+SlotsNeeds w i = phase_finds w.layout.config (w.seat i).phase (finds w i)

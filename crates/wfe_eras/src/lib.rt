@@ -10,7 +10,7 @@ ghost use Rattle.wfe_core.specs.World.{World, start, begin, step};
 ghost use Rattle.wfe_eras.specs.Code.{CodeNeeds, CodeReady};
 ghost use Rattle.wfe_eras.specs.Eras.{Eras, ErasNeeds};
 ghost use Rattle.wfe_eras.specs.Seats.{Seats};
-ghost use Rattle.wfe_eras.specs.Slots.{Slots};
+ghost use Rattle.wfe_eras.specs.Slots.{Slots, SlotsNeeds};
 
 /// Each seat's post and phase have the seat's number, the table's layout and the shape that scheme
 /// and call give, from the start on and over every step and every call that begins.
@@ -29,16 +29,17 @@ pub fn words_decode()
     ensures rises { (w : World) (i : ℕ) → Eras w → w.mem Clock ≤ (step w i).mem Clock }
 {}
 
-/// Each link in a word or a phase is null or leads to a row of the table, and each slot that a seat
-/// knows is such a row, from the start on and over every step and every call that begins.
+/// Each link in a word or a phase is null or leads to a row of the table, each slot that a seat knows
+/// is such a row, and versions, numbers and pairs that a call keeps are in range, from the start on
+/// and over every step and every call that begins.
 pub fn links_stay_within()
     ensures start { (layout : Table) → Slots (start layout) }
     ensures begin { (w : World) (i : ℕ) (call : Call) → Slots w → Slots (begin w i call) }
-    ensures step { (w : World) (i : ℕ) → is_valid w.layout ≡ true → Seats w → Eras w → Slots w → Slots (step w i) }
+    ensures step { (w : World) (i : ℕ) → is_valid w.layout ≡ true → Seats w → Eras w → Slots w → SlotsNeeds w i → Slots (step w i) }
 {}
 
-/// A seat's operation is on a word of the table, its post is valid, and the machine that it runs is
-/// ready for its step and for what that step finds.
+/// A seat's operation is on a word of the table, its post is valid, and what its call stands on and
+/// what its step finds is in range.
 pub fn steps_are_ready()
     ensures ready { (w : World) (i : ℕ) → is_valid w.layout ≡ true → i < w.layout.config.seats → Seats w → Eras w → Slots w → CodeNeeds w i → CodeReady w i }
 {}
