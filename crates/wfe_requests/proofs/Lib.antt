@@ -11,6 +11,7 @@ pub mod Paced
 pub mod Paces
 pub mod Requester
 pub mod Resting
+pub mod Rounds
 pub mod Serving
 pub mod Turns
 pub mod Words

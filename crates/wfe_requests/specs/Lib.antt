@@ -6,6 +6,7 @@ pub mod Known
 pub mod Needs
 pub mod NextDeals
 pub mod Paces
+pub mod Parents
 pub mod Parts
 pub mod Roles
 pub mod Standing
