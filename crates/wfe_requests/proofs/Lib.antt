@@ -13,5 +13,6 @@ pub mod Requester
 pub mod Resting
 pub mod Rounds
 pub mod Serving
+pub mod Standings
 pub mod Turns
 pub mod Words
