@@ -9,6 +9,7 @@ pub mod Known
 pub mod Movers
 pub mod Paced
 pub mod Paces
+pub mod Parents
 pub mod Requester
 pub mod Resting
 pub mod Rounds

@@ -1,5 +1,5 @@
 -- After a machine, and after a call's own step, the parent of a followed link stands.
-use Rattle.std.proofs.Common.{ℕ, ◌≡◌, ◌+◌, Bool, true, false, List, [], ◌∷◌, ◌++◌, length, refl, arith}
+use Rattle.std.proofs.Common.{ℕ, ◌≡◌, ◌+◌, Bool, true, false, List, [], ◌∷◌, ◌++◌, length}
 use Rattle.std.specs.Prelude.{◌==◌, ◌%◌, ◌-◌, nat_lt, Option, Some, None}
 use Rattle.wfe_words.specs.declared.config.SchemeKind.{SchemeKind}
 use Rattle.wfe_words.specs.declared.config.SchemeKind.TheVariants.{He, Ibr, Wfe}
@@ -30,7 +30,7 @@ use Rattle.wfe_core.specs.Enqueue as enqueues
 use Rattle.wfe_core.specs.Dequeue as dequeues
 use Rattle.wfe_core.specs.Scan as scan
 use Rattle.wfe_core.specs.Steps as steps
-use Rattle.wfe_core.specs.Calls.{Task, Gets, Changes, Holds, Enqueues, Dequeues, Next, Again, MakeRoom, Answering, Retiring, AfterScan, Answered, Repeated, Counted, Why, Phase, ChangeKept, EnqueueKept, GetAt, FindVersion, FindCount, FindKey, FindValue, ChangeAt, LoadVersion, LoadCount, LoadKey, LoadValue, ExchangeRoot, EnqueueAt, LoadNumber, LoadNext, PassTail, ExchangeNext, ExchangeTail, DequeueAt, LoadTail, SwingTail, TakeNumber, TakeValue, ExchangeHead, Work, Getting, Changing, Enqueuing, Dequeuing, ScanAt, ReadGuard, GiveBack, Opens, FollowsHead, Fills, ClearsNext, Clears, Finishes, GivesUp, Retires, Tidies, Advances, Releases}
+use Rattle.wfe_core.specs.Calls.{Task, Gets, Changes, Holds, Enqueues, Dequeues, Next, Again, MakeRoom, Answering, Retiring, AfterScan, Answered, Repeated, Counted, Why, ChangeKept, EnqueueKept, GetAt, FindVersion, FindCount, FindKey, FindValue, ChangeAt, LoadVersion, LoadCount, LoadKey, LoadValue, ExchangeRoot, EnqueueAt, LoadNumber, LoadNext, PassTail, ExchangeNext, ExchangeTail, DequeueAt, LoadTail, SwingTail, TakeNumber, TakeValue, ExchangeHead, Work, Getting, Changing, Enqueuing, Dequeuing, ScanAt, ReadGuard, GiveBack, Opens, FollowsHead, Fills, ClearsNext, Clears, Finishes, GivesUp, Retires, Tidies, Advances, Releases}
 use Rattle.wfe_requests.specs.Parents.{protect_stands, phase_stands, head_in, work_stands, ended, why_ended, TurnStands}
 
 protect_starts : (scheme : SchemeKind) (index : ℕ) (post : Post) → protect_stands (protect_at scheme) index post

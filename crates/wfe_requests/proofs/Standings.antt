@@ -1,14 +1,12 @@
 -- Inside a machine the parent of a followed link stands on, and what was protected stands.
-use Rattle.std.proofs.Common.{ℕ, ◌≡◌, ◌≤◌, ◌<◌, ◌+◌, Bool, true, false, List, [], ◌∷◌, length, arith, refl, sym, ap, subst, ◌∙◌}
+use Rattle.std.proofs.Common.{ℕ, ◌≡◌, ◌<◌, ◌+◌, Bool, true, false, List, [], ◌∷◌, length, arith, refl, sym, ap, subst, ◌∙◌}
 use Rattle.std.proofs.lemmas.Bool.Decides.{nat_tests}
 use Rattle.std.proofs.lemmas.List.{get_or-set_same, get_or-set_other}
-use Rattle.std.specs.Prelude.{◌==◌, ◌-◌, ◌++◌, nat_le, if◌then◌else◌, Option, Some, None}
-use Rattle.wfe_words.specs.Place.{is_valid}
+use Rattle.std.specs.Prelude.{◌==◌, ◌-◌, nat_le, if◌then◌else◌, Option, Some, None}
 use Rattle.wfe_words.specs.Packed.{read_request}
 use Rattle.wfe_words.specs.declared.layout.Layout.{Layout}
 use Rattle.wfe_words.specs.declared.packed.Request.{Request}
 use Rattle.wfe_words.specs.declared.packed.Request.TheVariants as requests
-use Rattle.wfe_defs.specs.declared.call.Call.{Call}
 use Rattle.wfe_defs.specs.declared.event.Event.{Event}
 use Rattle.wfe_defs.specs.declared.event.Event.TheVariants as events
 use Rattle.wfe_defs.specs.declared.event.Root.{Root}
@@ -19,19 +17,19 @@ use Rattle.wfe_core.specs.declared.ends.ProtectEnd.TheVariants as protect_ends
 use Rattle.wfe_core.specs.declared.post.Post.{Post}
 use Rattle.wfe_core.specs.Links.{parent_of}
 use Rattle.wfe_core.specs.Memory.{bump}
-use Rattle.wfe_core.specs.Posts.{stands, with_row, with_tag, with_span, tag_of, counted, upper, reserves_index, reserves_helper}
+use Rattle.wfe_core.specs.Posts.{stands, with_row, with_tag, tag_of, upper, reserves_index, reserves_helper}
 use Rattle.wfe_core.specs.Protect.{protect_end, held_post, told_held, concluded, protected, trying, failed_once}
 use Rattle.wfe_core.specs.SlowPath.{answer_in, lost_turn, own_request}
-use Rattle.wfe_core.specs.Phases.{Aim, Alone, Follows, Tries, Endless, Failed, BeginAt, ProtectAt, Base, Ending, Outcome, Goes, Ends, Turn, goes, ends}
+use Rattle.wfe_core.specs.Phases.{Aim, Alone, Follows, Tries, Endless, Failed, ProtectAt, Base, Ending, Outcome, Goes, Ends, Turn, goes, ends}
 use Rattle.wfe_core.specs.Phases.BeginAt.{LoadLower, PublishSpan}
 use Rattle.wfe_core.specs.Phases.ProtectAt.{LoadClock, PublishEra, LoadLink, CheckClock, PublishRequest, LoadOwnClock, PublishHelper, LoadOwnLink, CheckOwnClock, AnswerOwn, LoadAnswer, TakeAnswer, WithdrawRequest, WithdrawHelper, LoadWithin, CheckUpper, RaiseUpper}
 use Rattle.wfe_core.specs.Phases.Base.{Begin, Protect, Reload, Clear, Finish, Release, Allocate, Write, GiveUp, Retire, Move}
-use Rattle.wfe_core.specs.Phases.Ending.{Protected, Followed}
+use Rattle.wfe_core.specs.Phases.Ending.{Followed}
 use Rattle.wfe_core.specs.Machine.{protect_turn, after}
 use Rattle.wfe_core.specs.Rounds.{index_of}
 use Rattle.wfe_core.specs.Calls.{Task, Gets, Changes, Holds, Enqueues, Dequeues, Why, Opens, FollowsHead, Fills, ClearsNext, Clears, Finishes, GivesUp, Retires, Tidies, Advances, Releases}
 use Rattle.wfe_eras.specs.Seats.{PostFits, Run, task_root}
-use Rattle.wfe_requests.specs.Parents.{LinkStands, protect_stands, base_stands, why_stands, protect_ended, ended, why_ended, OutcomeStands, MachineStands}
+use Rattle.wfe_requests.specs.Parents.{LinkStands, protect_stands, base_stands, why_stands, protect_ended, why_ended, OutcomeStands, MachineStands}
 use Rattle.wfe_requests.proofs.Going.{by_test}
 
 -- what stands after a row was held
@@ -92,18 +90,18 @@ open_stands task index root n (PublishEra era tries) post found e r b h = publis
 open_stands task index root n (LoadLink era tries) post found e r b h = tt
 open_stands task index root n (CheckClock era tries link) post found e r b h =
     by_test (found == era) (protected Alone index root n link era post) (goes post [] (Protect Alone index root n (PublishEra found (failed_once tries)))) (MachineStands (Opens task))
-      (λ g. end_stands link era (index_of task) (held_post post index root link) (subst (λ (j : ℕ). LinkStands link j (held_post post index root link)) e (held_stands post index root link b r)))
-      (λ g. tt)
+    (λ g. end_stands link era (index_of task) (held_post post index root link) (subst (λ (j : ℕ). LinkStands link j (held_post post index root link)) e (held_stands post index root link b r)))
+    (λ g. tt)
 open_stands task index root n PublishRequest post found e r b h = tt
 open_stands task index root n LoadOwnClock post found e r b h = tt
 open_stands task index root n (PublishHelper first era last) post found e r b h = tt
 open_stands task index root n (LoadOwnLink first era last) post found e r b h = tt
 open_stands task index root n (CheckOwnClock first era last link) post found e r b h =
     by_test (found == era) (goes post [] (Protect Alone index root n (AnswerOwn first era link))) (goes post [] (Protect Alone index root n (lost_turn first last found))) (MachineStands (Opens task))
-      (λ g. tt) (λ g. lost_free first found last index post)
+    (λ g. tt) (λ g. lost_free first found last index post)
 open_stands task index root n (AnswerOwn first era link) post found e r b h =
     by_test (found == own_request post index root) (goes post [] (Protect Alone index root n (TakeAnswer link era))) (goes post [] (Protect Alone index root n (answer_in (read_request found)))) (MachineStands (Opens task))
-      (λ g. tt) (λ g. answer_free (read_request found) index post)
+    (λ g. tt) (λ g. answer_free (read_request found) index post)
 open_stands task index root n (LoadAnswer first) post found e r b h = answer_free (read_request found) index post
 open_stands task index root n (TakeAnswer link era) post found e r b h = held_stands (with_tag post index (tag_of post index + 1)) index root link b r
 open_stands task index root n (WithdrawRequest link era) post found e r b h = h
@@ -111,8 +109,8 @@ open_stands task index root n (WithdrawHelper link era) post found e r b h = end
 open_stands task index root n LoadWithin post found e r b h = tt
 open_stands task index root n (CheckUpper link) post found e r b h =
     by_test (found == upper post.span) (protected Alone index root n link found post) (goes post [] (Protect Alone index root n (RaiseUpper found))) (MachineStands (Opens task))
-      (λ g. end_stands link found (index_of task) (held_post post index root link) (subst (λ (j : ℕ). LinkStands link j (held_post post index root link)) e (held_stands post index root link b r)))
-      (λ g. tt)
+    (λ g. end_stands link found (index_of task) (held_post post index root link) (subst (λ (j : ℕ). LinkStands link j (held_post post index root link)) e (held_stands post index root link b r)))
+    (λ g. tt)
 open_stands task index root n (RaiseUpper era) post found e r b h = tt
 
 -- the follow leaves what stands at index 0
@@ -127,7 +125,7 @@ follow_keeps aim index parent n (PublishEra era tries) post found = refl
 follow_keeps aim index parent n (LoadLink era tries) post found = refl
 follow_keeps aim index parent n (CheckClock era tries link) post found =
     by_test (found == era) (protected aim index (root_names.Next parent) n link era post) (goes post [] (Protect aim index (root_names.Next parent) n (PublishEra found (failed_once tries)))) (λ (t : Turn). stands t.post 0 ≡ stands post 0)
-      (λ e. ap (λ (p : Post). stands p 0) (concluded_post aim index (root_names.Next parent) n link era post (told_held index (root_names.Next parent) link n))) (λ e. refl)
+    (λ e. ap (λ (p : Post). stands p 0) (concluded_post aim index (root_names.Next parent) n link era post (told_held index (root_names.Next parent) link n))) (λ e. refl)
 follow_keeps aim index parent n PublishRequest post found = refl
 follow_keeps aim index parent n LoadOwnClock post found = refl
 follow_keeps aim index parent n (PublishHelper first era last) post found = refl
@@ -143,7 +141,7 @@ follow_keeps aim index parent n (WithdrawHelper link era) post found = ap (λ (p
 follow_keeps aim index parent n LoadWithin post found = refl
 follow_keeps aim index parent n (CheckUpper link) post found =
     by_test (found == upper post.span) (protected aim index (root_names.Next parent) n link found post) (goes post [] (Protect aim index (root_names.Next parent) n (RaiseUpper found))) (λ (t : Turn). stands t.post 0 ≡ stands post 0)
-      (λ e. ap (λ (p : Post). stands p 0) (concluded_post aim index (root_names.Next parent) n link found post (told_held index (root_names.Next parent) link n))) (λ e. refl)
+    (λ e. ap (λ (p : Post). stands p 0) (concluded_post aim index (root_names.Next parent) n link found post (told_held index (root_names.Next parent) link n))) (λ e. refl)
 follow_keeps aim index parent n (RaiseUpper era) post found = refl
 
 follow_outcome : (head tail : ℕ) (outcome : Outcome) (post : Post) → stands post 0 ≡ Some head → OutcomeStands (FollowsHead head tail) outcome post
@@ -159,10 +157,10 @@ follow_machine : (layout : Layout) (head tail : ℕ) (base : Base) (post : Post)
 follow_machine layout head tail (Begin at) post found r h = absurd (let x = r.suited in cc)
 follow_machine layout head tail (Protect aim index root steps at) post found r h =
     follow_outcome head tail (protect_turn aim index root (bump steps) at post found).outcome (protect_turn aim index root (bump steps) at post found).post
-      (subst (λ (x : Root). stands (protect_turn aim index x (bump steps) at post found).post 0 ≡ stands post 0) (sym r.shape.of) (follow_keeps aim index head (bump steps) at post found) ∙ h)
+    (subst (λ (x : Root). stands (protect_turn aim index x (bump steps) at post found).post 0 ≡ stands post 0) (sym r.shape.of) (follow_keeps aim index head (bump steps) at post found) ∙ h)
 follow_machine layout head tail (Reload parent index slot era steps) post found r h =
     by_test (found == parent + 1) (ends (with_row post index slot) (events.Held index slot (bump steps) ∷ []) (Followed (follow_ends.Followed slot))) (ends post [] (Followed (follow_ends.RootMoved found))) (MachineStands (FollowsHead head tail))
-      (λ e. let x : index ≡ 1 = r.shape.at in row_other post index slot 0 (rw x refl) ∙ h) (λ e. h)
+    (λ e. let x : index ≡ 1 = r.shape.at in row_other post index slot 0 (rw x refl) ∙ h) (λ e. h)
 follow_machine layout head tail (Clear index) post found r h = absurd (let x = r.suited in cc)
 follow_machine layout head tail Finish post found r h = absurd (let x = r.suited in cc)
 follow_machine layout head tail Release post found r h = absurd (let x = r.suited in cc)
@@ -184,7 +182,7 @@ open_machine layout k task (Begin LoadLower) post found q r h = tt
 open_machine layout k task (Begin (PublishSpan era)) post found q r h = tt
 open_machine layout k task (Protect aim index root steps at) post found q r h =
     subst (λ (x : Aim). MachineStands (Opens task) (protect_turn x index root (bump steps) at post found)) (sym r.shape.aimed)
-      (open_stands task index root (bump steps) at post found r.shape.at (ap is_root r.shape.of ∙ task_is_root layout.config.buckets task) (omega (arith, index_small task, r.shape.at, q.standing)) h)
+    (open_stands task index root (bump steps) at post found r.shape.at (ap is_root r.shape.of ∙ task_is_root layout.config.buckets task) (omega (arith, index_small task, r.shape.at, q.standing)) h)
 open_machine layout k task (Reload parent index slot era steps) post found q r h = absurd (let x = r.suited in cc)
 open_machine layout k task (Clear index) post found q r h = absurd (let x = r.suited in cc)
 open_machine layout k task Finish post found q r h = absurd (let x = r.suited in cc)

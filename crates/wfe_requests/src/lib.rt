@@ -13,6 +13,7 @@ ghost use Rattle.wfe_requests.specs.Known.{Known};
 ghost use Rattle.wfe_requests.specs.Needs.{Needs};
 ghost use Rattle.wfe_requests.specs.Paces.{Paces, InTime, MovesOn};
 ghost use Rattle.wfe_requests.specs.NextDeals.{next_deals};
+ghost use Rattle.wfe_requests.specs.Parents.{Parents};
 ghost use Rattle.wfe_requests.specs.Standing.{Requests};
 ghost use Rattle.wfe_requests.specs.Turns.{StandsAfter};
 ghost use Rattle.wfe_requests.specs.Views.{View};
@@ -50,4 +51,12 @@ pub fn protections_end_in_time()
 /// after each.
 pub fn moves_end_in_time()
     ensures { (w : World) (k : ℕ) → is_valid w.layout ≡ true → Seats w → MovesOn w k }
+{}
+
+/// The row whose next link a dequeue follows stands at index 0 of its seat, and what a task has
+/// protected stands at its index.
+pub fn parents_stand()
+    ensures start { (layout : Table) → Parents (start layout) }
+    ensures begin { (w : World) (i : ℕ) (call : Call) → Parents w → Parents (begin w i call) }
+    ensures step { (w : World) (i : ℕ) → Seats w → Parents w → Parents (step w i) }
 {}
