@@ -6,6 +6,7 @@ pub mod Inside
 pub mod Kept
 pub mod Machines
 pub mod Monotone
+pub mod Ready
 pub mod Shapes
 pub mod SlotCalls
 pub mod SlotKept
@@ -13,5 +14,6 @@ pub mod SlotRounds
 pub mod SlotSteps
 pub mod Spans
 pub mod Steps
+pub mod There
 pub mod Works
 pub mod Written

@@ -53,7 +53,7 @@ slots_if layout true t u h g = h
 slots_if layout false t u h g = g
 
 -- what a root leads to
-link_found : (slots word : ℕ) (root : Root) → WordSlots slots (link_place root) word → word ≤ slots + 1
+pub link_found : (slots word : ℕ) (root : Root) → WordSlots slots (link_place root) word → word ≤ slots + 1
 link_found slots word (roots.Bucket bucket) h = h
 link_found slots word roots.Head h = h
 link_found slots word roots.Tail h = h

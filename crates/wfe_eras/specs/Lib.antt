@@ -1,3 +1,4 @@
+pub mod Code
 pub mod Eras
 pub mod Frame
 pub mod Seats

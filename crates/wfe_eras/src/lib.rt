@@ -1,12 +1,13 @@
 //! The parts of the invariant that speak of each seat alone and of eras.
 #![tactic(auto)]
 
-ghost use Rattle.std.specs.Prelude.{ℕ, ◌≡◌, ◌≤◌, true};
+ghost use Rattle.std.specs.Prelude.{ℕ, ◌≡◌, ◌≤◌, ◌<◌, true};
 ghost use Rattle.wfe_words.specs.Place.{is_valid};
 ghost use Rattle.wfe_words.specs.Place.Place.{Clock};
 ghost use Rattle.wfe_words.specs.declared.layout.Layout.{Layout as Table};
 ghost use Rattle.wfe_defs.specs.declared.call.Call.{Call};
 ghost use Rattle.wfe_core.specs.World.{World, start, begin, step};
+ghost use Rattle.wfe_eras.specs.Code.{CodeNeeds, CodeReady};
 ghost use Rattle.wfe_eras.specs.Eras.{Eras, ErasNeeds};
 ghost use Rattle.wfe_eras.specs.Seats.{Seats};
 ghost use Rattle.wfe_eras.specs.Slots.{Slots};
@@ -34,4 +35,10 @@ pub fn links_stay_within()
     ensures start { (layout : Table) → Slots (start layout) }
     ensures begin { (w : World) (i : ℕ) (call : Call) → Slots w → Slots (begin w i call) }
     ensures step { (w : World) (i : ℕ) → is_valid w.layout ≡ true → Seats w → Eras w → Slots w → Slots (step w i) }
+{}
+
+/// A seat's operation is on a word of the table, its post is valid, and the machine that it runs is
+/// ready for its step and for what that step finds.
+pub fn steps_are_ready()
+    ensures ready { (w : World) (i : ℕ) → is_valid w.layout ≡ true → i < w.layout.config.seats → Seats w → Eras w → Slots w → CodeNeeds w i → CodeReady w i }
 {}
