@@ -10,6 +10,7 @@ pub mod Movers
 pub mod Paced
 pub mod Paces
 pub mod Parents
+pub mod Pending
 pub mod Requester
 pub mod Resting
 pub mod Rounds

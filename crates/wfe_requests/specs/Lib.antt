@@ -8,6 +8,7 @@ pub mod NextDeals
 pub mod Paces
 pub mod Parents
 pub mod Parts
+pub mod Pending
 pub mod Roles
 pub mod Standing
 pub mod Turns

@@ -14,6 +14,7 @@ ghost use Rattle.wfe_requests.specs.Needs.{Needs};
 ghost use Rattle.wfe_requests.specs.Paces.{Paces, InTime, MovesOn};
 ghost use Rattle.wfe_requests.specs.NextDeals.{next_deals};
 ghost use Rattle.wfe_requests.specs.Parents.{Parents};
+ghost use Rattle.wfe_requests.specs.Pending.{Pending};
 ghost use Rattle.wfe_requests.specs.Standing.{Requests};
 ghost use Rattle.wfe_requests.specs.Turns.{StandsAfter};
 ghost use Rattle.wfe_requests.specs.Views.{View};
@@ -36,6 +37,13 @@ pub fn requests_hold()
 /// its helper word.
 pub fn requests_tell()
     ensures { (w : World) (v : View) (k : ℕ) → is_valid w.layout ≡ true → Seats w → Requests w v → Known w v.clock k }
+{}
+
+/// While a request is pending the clock is at most one above the first value that its owner loaded
+/// after the publication, and no mover from that value on has passed it.
+pub fn pending_requests_hold_the_clock()
+    ensures { (w : World) (v : View) (k : ℕ) → is_valid w.layout ≡ true → k < w.layout.config.seats → Seats w → Needs w
+        → Requests w v → Pending w k }
 {}
 
 /// The steps that a protection of Wait-Free Eras has made and those that it may still make are at
