@@ -100,7 +100,7 @@ pends index word (Passed t j w l e) h g = cc
 pends index word (Taken t j w l e) h g = cc
 
 -- the word of an answered request is no pending one
-open_by_word : (index word tag : ℕ) (d : Deal) → asked_at index word d ≡ true → tag < 2 ^ 32 → index < 2 ^ 4 → word < 2 ^ 26 → request_of d ≡ pending_word tag index word → is_open d ≡ true
+pub open_by_word : (index word tag : ℕ) (d : Deal) → asked_at index word d ≡ true → tag < 2 ^ 32 → index < 2 ^ 4 → word < 2 ^ 26 → request_of d ≡ pending_word tag index word → is_open d ≡ true
 open_by_word index word tag Quiet h a b c e = cc
 open_by_word index word tag (Open t j w) h a b c e = refl
 open_by_word index word tag (Answered t j w l r m) h a b c e = absurd (pending≢answered tag index word l r a b c (sym e))
@@ -121,7 +121,7 @@ pub record Bits (tag index word : ℕ) : Type 0 where
   pub index_in : index < 2 ^ 4
   pub word_in : word < 2 ^ 26
 
-own_bits : (mem : Place → ℕ) (seat : ℕ → Local) (i : ℕ) (v : View) (why : Why) (aim : Aim) (index : ℕ) (root : Root) (steps : ℕ) (at : ProtectAt) → At mem seat i v → (seat i).phase ≡ Runs why (Protect aim index root steps at) → Bits (tag_of (seat i).post index) index (link_number (seat i).post.layout root)
+pub own_bits : (mem : Place → ℕ) (seat : ℕ → Local) (i : ℕ) (v : View) (why : Why) (aim : Aim) (index : ℕ) (root : Root) (steps : ℕ) (at : ProtectAt) → At mem seat i v → (seat i).phase ≡ Runs why (Protect aim index root steps at) → Bits (tag_of (seat i).post index) index (link_number (seat i).post.layout root)
 own_bits mem seat i v why aim index root steps at a q =
     let b = bounds_of (seat i).post.layout a.valid in
     let h = inside mem seat i v why aim index root steps at a q in

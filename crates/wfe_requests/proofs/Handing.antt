@@ -45,15 +45,11 @@ use Rattle.wfe_requests.proofs.Words.{no_halves, words_deal, words_helper, words
 use Rattle.wfe_requests.proofs.Movers as mover
 use Rattle.wfe_requests.proofs.Turns.{same_deals}
 use Rattle.wfe_requests.proofs.Helping.{next_go, asker_of}
+use Rattle.wfe_requests.proofs.Answering.{Bits}
 use Rattle.wfe_requests.proofs.Serving.{there_of}
 use Rattle.wfe_requests.proofs.Going.{test_equal, equal_test, by_test, either, stands_in, own_post, link_few, go, rest}
 
 -- the numbers of a request that a mover holds fit their bits
-pub record Bits (tag index word : ℕ) : Type 0 where
-  pub tag_in : tag < 2 ^ 32
-  pub index_in : index < 2 ^ 4
-  pub word_in : word < 2 ^ 26
-
 asked_bits : (mem : Place → ℕ) (seat : ℕ → Local) (i : ℕ) (v : View) (e k t j w : ℕ) → At mem seat i v → (nat_lt k (seat i).post.layout.config.seats && (nat_lt j (seat i).post.layout.config.indexes && nat_lt w (2 ^ 26))) ≡ true → nat_lt (t + 1) e ≡ true → e ≤ v.clock → Bits t j w
 asked_bits mem seat i v e k t j w a h s r =
     let b = bounds_of (seat i).post.layout a.valid in

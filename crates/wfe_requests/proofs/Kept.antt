@@ -251,7 +251,7 @@ phase_alone layout (Scans later at) post f h = refl
 phase_alone layout (Works work) post f h = refl
 
 -- a seat of a World that is to step
-at_of : (w : World) (i : ℕ) (v : View) → is_valid w.layout ≡ true → i < w.layout.config.seats → Seats w → Needs w → Facts w.layout w.mem w.seat v → At w.mem w.seat i v
+pub at_of : (w : World) (i : ℕ) (v : View) → is_valid w.layout ≡ true → i < w.layout.config.seats → Seats w → Needs w → Facts w.layout w.mem w.seat v → At w.mem w.seat i v
 at_of w i v y b s n f =
     let e = sym (s.fits i).post.layout in
     record {

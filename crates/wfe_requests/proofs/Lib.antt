@@ -9,8 +9,12 @@ pub mod Known
 pub mod Movers
 pub mod Paced
 pub mod Paces
+pub mod Parents
+pub mod Pending
 pub mod Requester
 pub mod Resting
+pub mod Rounds
 pub mod Serving
+pub mod Standings
 pub mod Turns
 pub mod Words

@@ -1,5 +1,5 @@
 -- The count of a protection's steps, from the start on and over every step.
-use Rattle.std.proofs.Common.{ℕ, ◌≡◌, ◌≤◌, ◌+◌, Bool, true, false, [], ◌∷◌, arith, refl, sym, ap, subst, ◌∙◌}
+use Rattle.std.proofs.Common.{ℕ, ◌≡◌, ◌≤◌, ◌+◌, ◌*◌, Bool, true, false, [], ◌∷◌, arith, refl, sym, ap, subst, ◌∙◌}
 use Rattle.std.proofs.lemmas.Bool.Decides.{nat_tests}
 use Rattle.std.specs.Prelude.{◌==◌, Option, Some, None}
 use Rattle.wfe_words.specs.Place.{is_valid}
@@ -17,7 +17,7 @@ use Rattle.wfe_core.specs.Allocate.{is_claimed, walking, walk_past, next_slot}
 use Rattle.wfe_core.specs.Memory.{bump}
 use Rattle.wfe_core.specs.MoveClock.{moving, next_request, after_hand_over}
 use Rattle.wfe_core.specs.Posts.{counted, with_row}
-use Rattle.wfe_core.specs.Phases.{Endless, Failed, ProtectAt, BeginAt, AllocateAt, RetireAt, MoveAt, Walk, Base, goes, ends}
+use Rattle.wfe_core.specs.Phases.{Tries, Endless, Failed, ProtectAt, BeginAt, AllocateAt, RetireAt, MoveAt, Walk, Base, goes, ends}
 use Rattle.wfe_core.specs.Phases.BeginAt.{LoadLower, PublishSpan}
 use Rattle.wfe_core.specs.Phases.AllocateAt.{LoadBirth, ClaimSlot, StoreLife}
 use Rattle.wfe_core.specs.Phases.RetireAt.{LoadLife, LoadRetire, StoreRetired}
@@ -225,12 +225,24 @@ reloads_in_time c parent index slot era steps p w = reload_in_time (is_wfe c.sch
     reload_in_time true p w = grind (arith, nat_tests)
     reload_in_time false p w = absurd (cc)
 
+tried_in_time : (c : Config) (steps era : ℕ) (tries : Tries) (link : ℕ) → paced c steps (CheckClock era tries link) ≡ true → is_wfe c.scheme ≡ true → protect_fits c.scheme c.tries (CheckClock era tries link) ≡ true → steps + 1 ≤ 3 * c.tries + 1
+tried_in_time c steps era Endless link p w f = absurd (wfe_not_he c.scheme w f)
+tried_in_time c steps era (Failed count) link p w f = grind (arith, nat_tests)
+
+taken_in_time : (c : Config) (steps link era : ℕ) → paced c steps (TakeAnswer link era) ≡ true → steps + 1 ≤ 3 * c.tries + 12
+taken_in_time c steps link era p = grind (arith, nat_tests)
+
 pub in_time : (w : World) (k : ℕ) → Seats w → Paces w → InTime w k
 in_time w k s p = record {
   protects = λ why aim index root steps at h q.
       let x : paced w.layout.config steps at ≡ true = sym (ap (phase_paced w.layout.config) q) ∙ p.paced k in
       let f = subst (PhaseFits w.layout (w.seat k).post) q (s.fits k).phase in
       protects_in_time w.layout.config steps at x h f.fits;
+  tries = λ why aim index root steps era tries link h q.
+      let x : paced w.layout.config steps (CheckClock era tries link) ≡ true = sym (ap (phase_paced w.layout.config) q) ∙ p.paced k in
+      let f = subst (PhaseFits w.layout (w.seat k).post) q (s.fits k).phase in
+      tried_in_time w.layout.config steps era tries link x h f.fits;
+  takes = λ why aim index root steps link era q. taken_in_time w.layout.config steps link era (sym (ap (phase_paced w.layout.config) q) ∙ p.paced k);
   reloads = λ why parent index slot era steps h q.
       let x : base_paced w.layout.config (Reload parent index slot era steps) ≡ true = sym (ap (phase_paced w.layout.config) q) ∙ p.paced k in
       let n = reloads_in_time w.layout.config parent index slot era steps x h in omega arith;

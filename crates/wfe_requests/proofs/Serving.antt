@@ -93,12 +93,6 @@ meet_request mem seat i v why e k t j w shown a q o =
         (ap (move_role (seat i).post.layout) x ∙ ap (λ (word : ℕ). roles.Shows e k t j word) (sym s.is)) (ap (asked_there (seat i).post.layout) x ∙ s.there) refl refl a.facts.words
         (mover.meets_plain-keeps (seat i).post.layout.config v i e k t j w a.below a.facts.parts r o s.below n)
 
--- an answer's numbers are in range
-pub record Timely (clock most link era : ℕ) : Type 0 where
-  pub some : 0 < era
-  pub early : era ≤ clock
-  pub small : link ≤ most
-
 load_request_by : (mem : Place → ℕ) (seat : ℕ → Local) (i : ℕ) (v : View) (why : Why) (e k : ℕ) (shown : Bool) (d : Deal) → At mem seat i v → (seat i).phase ≡ Runs why (bases.Move (LoadRequest e k shown)) → v.deal k ≡ d
     → Made mem seat i (memory.Load (Request k)) (run_turn why (seat i).desk (move_turn (LoadRequest e k shown) (counted (seat i).post) (mem (Request k)))) v.deal
 load_request_by mem seat i v why e k shown Quiet a q o =

@@ -6,7 +6,9 @@ pub mod Known
 pub mod Needs
 pub mod NextDeals
 pub mod Paces
+pub mod Parents
 pub mod Parts
+pub mod Pending
 pub mod Roles
 pub mod Standing
 pub mod Turns

@@ -72,6 +72,11 @@ pub record Paces (w : World) : Type 0 where
 pub record InTime (w : World) (k : ℕ) : Type 0 where
   pub protects : (why : Why) (aim : Aim) (index : ℕ) (root : Root) (steps : ℕ) (at : ProtectAt) → is_wfe w.layout.config.scheme ≡ true
       → (w.seat k).phase ≡ Runs why (Protect aim index root steps at) → steps + 1 ≤ 3 * w.layout.config.tries + 14
+  -- where Held or Null is told with the last try, and with the taking of an answer
+  pub tries : (why : Why) (aim : Aim) (index : ℕ) (root : Root) (steps era : ℕ) (tries : Tries) (link : ℕ) → is_wfe w.layout.config.scheme ≡ true
+      → (w.seat k).phase ≡ Runs why (Protect aim index root steps (CheckClock era tries link)) → steps + 1 ≤ 3 * w.layout.config.tries + 1
+  pub takes : (why : Why) (aim : Aim) (index : ℕ) (root : Root) (steps link era : ℕ)
+      → (w.seat k).phase ≡ Runs why (Protect aim index root steps (TakeAnswer link era)) → steps + 1 ≤ 3 * w.layout.config.tries + 12
   pub reloads : (why : Why) (parent index slot era steps : ℕ) → is_wfe w.layout.config.scheme ≡ true
       → (w.seat k).phase ≡ Runs why (Reload parent index slot era steps) → steps + 1 ≤ 3 * w.layout.config.tries + 15
 

@@ -13,6 +13,8 @@ ghost use Rattle.wfe_requests.specs.Known.{Known};
 ghost use Rattle.wfe_requests.specs.Needs.{Needs};
 ghost use Rattle.wfe_requests.specs.Paces.{Paces, InTime, MovesOn};
 ghost use Rattle.wfe_requests.specs.NextDeals.{next_deals};
+ghost use Rattle.wfe_requests.specs.Parents.{Parents};
+ghost use Rattle.wfe_requests.specs.Pending.{Pending};
 ghost use Rattle.wfe_requests.specs.Standing.{Requests};
 ghost use Rattle.wfe_requests.specs.Turns.{StandsAfter};
 ghost use Rattle.wfe_requests.specs.Views.{View};
@@ -37,6 +39,13 @@ pub fn requests_tell()
     ensures { (w : World) (v : View) (k : ℕ) → is_valid w.layout ≡ true → Seats w → Requests w v → Known w v.clock k }
 {}
 
+/// While a request is pending the clock is at most one above the first value that its owner loaded
+/// after the publication, and no mover from that value on has passed it.
+pub fn pending_requests_hold_the_clock()
+    ensures { (w : World) (v : View) (k : ℕ) → is_valid w.layout ≡ true → k < w.layout.config.seats → Seats w → Needs w
+        → Requests w v → Pending w k }
+{}
+
 /// The steps that a protection of Wait-Free Eras has made and those that it may still make are at
 /// most `3 * tries + 14`, with the reload of a followed link one more.
 pub fn protections_end_in_time()
@@ -50,4 +59,12 @@ pub fn protections_end_in_time()
 /// after each.
 pub fn moves_end_in_time()
     ensures { (w : World) (k : ℕ) → is_valid w.layout ≡ true → Seats w → MovesOn w k }
+{}
+
+/// The row whose next link a dequeue follows stands at index 0 of its seat, and what a task has
+/// protected stands at its index.
+pub fn parents_stand()
+    ensures start { (layout : Table) → Parents (start layout) }
+    ensures begin { (w : World) (i : ℕ) (call : Call) → Parents w → Parents (begin w i call) }
+    ensures step { (w : World) (i : ℕ) → Seats w → Parents w → Parents (step w i) }
 {}
