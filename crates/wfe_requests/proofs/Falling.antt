@@ -106,7 +106,7 @@ moves_on w k y s = record {
   first = λ helps. refl;
 }
 
-head_of : (c : Config) (why : Why) → WhyIn c.slots why → head_fits c why ≡ true
+head_of : (c : Config) (why : Why) → WhyIn c why → head_fits c why ≡ true
 head_of c (Opens task) h = refl
 head_of c (FollowsHead head tail) h = grind (arith, nat_tests)
 head_of c (Fills task) h = refl

@@ -19,7 +19,7 @@ use Rattle.wfe_words.specs.declared.config.Config.{Config}
 use Rattle.wfe_words.specs.declared.packed.Request.TheVariants as requests
 use Rattle.wfe_words.proofs.Parts.{read_request-pending, read_request-answered}
 use Rattle.wfe_core.proofs.Ranges.{bounds_of}
-use Rattle.wfe_core.proofs.Roots.{root_at-number}
+use Rattle.wfe_core.proofs.Roots.{root_at_link}
 use Rattle.wfe_core.specs.Links.{root_at}
 use Rattle.wfe_core.specs.Memory.{Move}
 use Rattle.wfe_core.specs.Phases.MoveAt.{LoadRequest, ShowEra, LoadAsked, CheckEra, AnswerAsked, HideLate}
@@ -78,7 +78,7 @@ meet_request mem seat i v why e k t j w shown a q o =
     let b = bounds_of (seat i).post.layout a.valid in
     let y : t + 1 < v.clock = grind (arith, nat_tests, rw o at (a.facts.parts.timely k)) in
     let z : read_request (mem (Request k)) ≡ Some (requests.Pending t j w) = ap read_request (a.facts.words.requests k ∙ ap request_of o) ∙ read_request-pending t j w (omega (arith, a.facts.parts.clock, b.eras)) (omega (arith, s.below, b.indexes)) n in
-    let u : root_at (seat i).post.layout w ≡ s.root = ap (root_at (seat i).post.layout) s.is ∙ root_at-number (seat i).post.layout s.root s.there in
+    let u : root_at (seat i).post.layout w ≡ s.root = ap (root_at (seat i).post.layout) s.is ∙ root_at_link (seat i).post.layout s.root s.there in
     let x : met (counted (seat i).post) e k shown (read_request (mem (Request k))) ≡ helping e k t j s.root shown = ap (met (counted (seat i).post) e k shown) z ∙ ap (λ (root : Root). helping e k t j root shown) u in
     meet_as shown r s x n
   where
