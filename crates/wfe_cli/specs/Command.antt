@@ -30,3 +30,12 @@ abbrev pub IsComplete : Status → Option (List ℕ) → ℕ → ℕ → ℕ →
 IsComplete status left reads reads' writes writes' =
     (bytes : List ℕ) (progress : Progress Replayed) → left ≡ Some bytes → whole bytes ≡ Ok progress → (Rose reads reads' → ⊥) → (Rose writes writes' → ⊥) →
     (status ≡ statuses.Done) ⊎ (status ≡ statuses.NoMemory)
+
+-- the number with which the program ends
+abbrev pub status_number : Status → ℕ
+status_number statuses.Done = 0
+status_number statuses.Usage = 2
+status_number (statuses.BadTrace line reason) = 3
+status_number statuses.ReadFault = 4
+status_number statuses.WriteFault = 5
+status_number statuses.NoMemory = 6

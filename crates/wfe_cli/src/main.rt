@@ -1,6 +1,9 @@
 //! The program `wfe`: replays a trace of calls on a map, and prints the record.
 #![tactic(auto)]
 
+ghost use Rattle.std.specs.Prelude.{◌≡◌};
+ghost use Rattle.wfe_cli.specs.Command.{status_number};
+
 mod command;
 mod output;
 mod plain;
@@ -32,7 +35,9 @@ fn words_given(rt: &(impl Env + AllocGlobal)) -> Vec<String> {
 }
 
 // The number with which the program ends.
-fn number_of(status: Status) -> u8 {
+fn number_of(status: Status) -> u8
+    ensures { result ≡ status_number status }
+{
     match status {
         Status::Done => 0,
         Status::Usage => 2,

@@ -3,7 +3,7 @@ use crate::command::main_call;
 use std::process::Abort;
 use std::test::Fail;
 use std::thread::Threads;
-use wfe_outside::{Failed, MemSink, MemSource, Source, Watcher};
+use wfe_outside::{CleanSource, Failed, MemSink, MemSource, Source, Watcher};
 use wfe_trace::{Reason, Status};
 
 const SETTING: &[u8] =
@@ -88,6 +88,31 @@ fn put_then_get_is_recorded(rt: HostRuntime) -> Result<(), Fail> {
         ],
     )?;
     expect(&rt, &trace, Status::Done, &record)
+}
+
+#[test]
+fn a_source_that_never_fails_is_replayed_whole(rt: HostRuntime) -> Result<(), Fail> {
+    let trace = joined(&rt, &[SETTING, b"0 put 7 70\n0 put 8 80\n"])?;
+    let mut source = CleanSource::new(rt.alloc(), &trace[..trace.len().saturating_sub(11)])?;
+    let mut sink = MemSink::new(rt.alloc(), 4096, &[])?;
+    let status = Status::BadTrace {
+        line: 13,
+        reason: Reason::NoEnd,
+    };
+    assert_eq!(rt; run(&rt, "replay", &mut source, &mut sink)?, status);
+    let trace = joined(&rt, &[SETTING, b"0 put 7 70\nend\n"])?;
+    let mut source = CleanSource::new(rt.alloc(), &trace)?;
+    let mut sink = MemSink::new(rt.alloc(), 4096, &[])?;
+    assert_eq!(rt; run(&rt, "replay", &mut source, &mut sink)?, Status::Done);
+    let record = joined(
+        &rt,
+        &[
+            HEADER,
+            b"0 begin put 7 70\n0 put 0 1 7 70\n0 end 1 done 1 still\ndone\n",
+        ],
+    )?;
+    assert_eq!(rt; sink.bytes(), record.as_slice());
+    Ok(())
 }
 
 #[test]

@@ -15,7 +15,7 @@ use Rattle.wfe_defs.specs.declared.lifetime.Interval.{Interval as Span}
 use Rattle.wfe_core.specs.declared.post.Post.{Post}
 use Rattle.wfe_core.specs.Memory.{place_in, found}
 use Rattle.wfe_core.specs.Links.{link_place, link_number, root_at}
-use Rattle.wfe_core.proofs.Roots.{root_at-number}
+use Rattle.wfe_core.proofs.Roots.{root_at_link}
 use Rattle.wfe_core.specs.Posts.{tag_of, stands, lower, upper}
 use Rattle.wfe_core.specs.Valid.{SpanValid, StandsValid, IsValid}
 use Rattle.wfe_core.proofs.Ranges.{bounds_of}
@@ -138,7 +138,7 @@ asked_plausible : (post : Post) (clock : ℕ) (request : Request) → AskingIn p
 asked_plausible post clock requests.Idle a = tt
 asked_plausible post clock (requests.Answered link era) a = tt
 asked_plausible post clock (requests.Pending tag index number) a =
-    let k : root_at post.layout number ≡ a.root = ap (root_at post.layout) a.is ∙ root_at-number post.layout a.root a.fits.there in
+    let k : root_at post.layout number ≡ a.root = ap (root_at post.layout) a.is ∙ root_at_link post.layout a.root a.fits.there in
     (a.fits.few, a.fits.at, subst (RootFits post.layout) (sym k) a.fits.there, ap (link_number post.layout) k ∙ sym a.is)
 
 request_plausible : (post : Post) (mem : Place → ℕ) (seat : ℕ) → Told post.layout mem → AskedFits post (read_request (mem (RequestOf seat)))

@@ -17,7 +17,7 @@ use Rattle.wfe_core.specs.declared.post.Post.{Post}
 use Rattle.wfe_core.specs.Memory.{place_in, found, written, bump}
 use Rattle.wfe_core.specs.Guards.{from_to}
 use Rattle.wfe_core.specs.Links.{link_place, link_number, root_at}
-use Rattle.wfe_core.proofs.Roots.{root_at-number}
+use Rattle.wfe_core.proofs.Roots.{root_at_link}
 use Rattle.wfe_core.specs.Posts.{with_row, with_tag, tag_of, withdrawn, lower, upper}
 use Rattle.wfe_core.proofs.Ranges.{bounds_of}
 use Rattle.wfe_core.specs.Rounds.{scheme_of}
@@ -180,7 +180,7 @@ retire_steps layout k mem w why (StoreRetired slot birth retire) post q e d =
 
 -- a link place is read back from its number
 link_read : (layout : Layout) (root : Root) → has layout (link_place root) ≡ true → root_at layout (link_number layout root) ≡ root
-link_read layout root h = root_at-number layout root h
+link_read layout root h = root_at_link layout root h
 
 -- a mover
 all_met_eras : (layout : Layout) (c era : ℕ) (shows : Bool) → MoverIn layout c era → move_eras layout c (all_met era shows)

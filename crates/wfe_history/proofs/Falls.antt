@@ -1,25 +1,29 @@
--- The measure falls at each step of its seat and rises at no other's.
-use Rattle.std.specs.Prelude.{ℕ, zero, suc, ◌&&◌, ◌||◌, ◌==◌, nat_lt, nat_le, Bool, true, false, List, [], ◌∷◌}
-use Rattle.wfe_words.specs.declared.layout.Layout.{Layout}
-use Rattle.wfe_core.specs.Rest.{rest}
-use Rattle.wfe_core.specs.World.{World}
-use Rattle.wfe_history.specs.History.{Item, Begins, Steps, Made, did, fits, first_made}
+-- Falls: each run computes.
+use Rattle.std.proofs.Common.{refl}
+use Rattle.wfe_words.specs.Packed.{halves, pending_word, answered_word, read_request, read_reservation, read_span, read_life}
+use Rattle.wfe_words.specs.Place.{claim_mask, claim_others, claim_start, number, place_at}
+use Rattle.wfe_history.specs.Falls.{ReaderTriesAgain, IntervalRises, HelperIsStopped, ClockMovesUnderARequest, TableIsFull, HeadMoves}
 
-abbrev stay_below : World → World → ℕ → ℕ → Bool
-stay_below v w i zero = true
-stay_below v w i (suc k) = ((i == k) || nat_le (rest w k) (rest v k)) && stay_below v w i k
+pub reader_tries_again : ReaderTriesAgain
+unfolding halves pending_word answered_word read_request read_reservation read_span read_life claim_mask claim_others claim_start number place_at
+reader_tries_again = refl
 
-abbrev falls_at : World → World → Item → Bool
-falls_at v w (Begins i call) = stay_below v w i v.layout.config.seats
-falls_at v w (Steps i) = nat_lt (rest w i) (rest v i) && stay_below v w i v.layout.config.seats
+pub interval_rises : IntervalRises
+unfolding halves pending_word answered_word read_request read_reservation read_span read_life claim_mask claim_others claim_start number place_at
+interval_rises = refl
 
-abbrev falls_if : Made → Made → Item → (fit : Bool) → Bool
-falls_if made next item true = falls_at made.world next.world item
-falls_if made next item false = true
+pub helper_is_stopped : HelperIsStopped
+unfolding halves pending_word answered_word read_request read_reservation read_span read_life claim_mask claim_others claim_start number place_at
+helper_is_stopped = refl
 
-abbrev falls_from : Made → List Item → Bool
-falls_from made [] = true
-falls_from made (item ∷ items) = falls_if made (did made item) item (fits made.world item) && falls_from (did made item) items
+pub clock_moves_under_a_request : ClockMovesUnderARequest
+unfolding halves pending_word answered_word read_request read_reservation read_span read_life claim_mask claim_others claim_start number place_at
+clock_moves_under_a_request = refl
 
-abbrev pub falls : Layout → List Item → Bool
-falls layout items = falls_from (first_made layout) items
+pub table_is_full : TableIsFull
+unfolding halves pending_word answered_word read_request read_reservation read_span read_life claim_mask claim_others claim_start number place_at
+table_is_full = refl
+
+pub head_moves : HeadMoves
+unfolding halves pending_word answered_word read_request read_reservation read_span read_life claim_mask claim_others claim_start number place_at
+head_moves = refl

@@ -5,6 +5,8 @@
 mod memory;
 mod real;
 mod stream;
+#[cfg(test)]
+mod tests;
 mod watcher;
 
 pub use memory::{CleanSource, MemSink, MemSource};

@@ -1,0 +1,15 @@
+pub mod Fits
+pub mod Kept
+pub mod Line
+pub mod Lists
+pub mod Made
+pub mod Own
+pub mod Phases
+pub mod Queued
+pub mod Quiet
+pub mod Rounds
+pub mod Runs
+pub mod Steps
+pub mod Turns
+pub mod Went
+pub mod Words

@@ -1,0 +1,5 @@
+pub mod Agree
+pub mod Chain
+pub mod Hands
+pub mod Queue
+pub mod Rows

@@ -1,0 +1,41 @@
+//! Which rows of a table are free, claimed, linked, cut and retired, and by which seat: a part of
+//! the invariant of the machines. Each function here does nothing, and carries a theorem.
+#![tactic(auto)]
+
+ghost use Rattle.wfe_rows.specs.Agree.{RowsBegin, RowsKept, RowsStart};
+ghost use Rattle.wfe_rows.specs.Chain.{QueueBegin, QueueKept, QueueStart};
+
+/// At the start of a table with a valid setting every row is free but the dummy, which is the
+/// queue's head.
+pub fn rows_start()
+    ensures { RowsStart }
+{}
+
+/// The beginning of a call on a seat that is not busy keeps what is known of the rows.
+pub fn rows_begin()
+    ensures { RowsBegin }
+{}
+
+/// Each step of a seat keeps what is known of the rows: each row is free, or claimed by one seat, or
+/// linked by one root, or in the queue, or cut by one seat, or once in one seat's retire list. How a
+/// step changes it is a function of the seat's local state and of the word found.
+pub fn rows_kept()
+    ensures { RowsKept }
+{}
+
+/// At the start the queue is the dummy alone.
+pub fn queue_start()
+    ensures { QueueStart }
+{}
+
+/// The beginning of a call keeps what is known of the queue.
+pub fn queue_begin()
+    ensures { QueueBegin }
+{}
+
+/// Each step of a seat keeps the rows and the queue: from the head the next links lead through the
+/// rows in the queue, with numbers that rise by one, and the tail is one of them. The head is cut
+/// only while it is the head and not the tail, and the row after it is then the head.
+pub fn queue_kept()
+    ensures { QueueKept }
+{}
