@@ -12,6 +12,7 @@ use Rattle.wfe_words.specs.declared.layout.Layout.{Layout}
 use Rattle.wfe_defs.specs.declared.call.Call.{Call}
 use Rattle.wfe_defs.specs.declared.event.Root.{Root}
 use Rattle.wfe_core.specs.declared.post.Post.{Post}
+use Rattle.wfe_core.specs.Desks.{Desk}
 use Rattle.wfe_core.specs.Memory.{Move, place_in, found, written}
 use Rattle.wfe_core.specs.Posts.{counted}
 use Rattle.wfe_core.proofs.Ranges.{bounds_of}
@@ -144,14 +145,14 @@ base_given layout mem (Retire at) h l = l
 base_given layout mem (Moves at) h l = move_given layout at h
 
 -- what a step takes of the slots
-phase_given : (layout : Layout) (mem : Place → ℕ) (phase : Phase) → PhaseIn layout phase → life_needs phase mem → phase_needs phase layout mem
-phase_given layout mem Idle h l = tt
-phase_given layout mem (Runs why base) h l = base_given layout mem base h.1 l
-phase_given layout mem (Scans later at) h l = tt
-phase_given layout mem (Works work) h l = tt
+phase_given : (layout : Layout) (mem : Place → ℕ) (desk : Desk) (phase : Phase) → PhaseIn layout desk phase → life_needs phase mem → phase_needs phase layout mem
+phase_given layout mem desk Idle h l = tt
+phase_given layout mem desk (Runs why base) h l = base_given layout mem base h.1 l
+phase_given layout mem desk (Scans later at) h l = tt
+phase_given layout mem desk (Works work) h l = tt
 
 pub eras_step : (w : World) (i : ℕ) → is_valid w.layout ≡ true → Seats w → Slots w → Eras w → ErasNeeds w i → Eras (step w i)
-eras_step w i v s o e n = let d = phase_given w.layout w.mem (w.seat i).phase (o.seats i).phase n.life in let c = clock_next w i e in let a = e.some in let b = c.rises in
+eras_step w i v s o e n = let d = phase_given w.layout w.mem (w.seat i).desk (w.seat i).phase (o.seats i).phase n.life in let c = clock_next w i e in let a = e.some in let b = c.rises in
     record {
       some = omega arith;
       most = c.most;
@@ -162,7 +163,7 @@ eras_step w i v s o e n = let d = phase_given w.layout w.mem (w.seat i).phase (o
   where
     at : (k : ℕ) (x : Bool) → (k == i) ≡ x → Seated (PostEras w.layout k (w.mem Clock) ((step w i).mem (Interval k))) (PhaseEras w.layout (w.mem Clock)) ((step w i).seat k)
     at k true h = let same : i ≡ k = grind (arith, nat_tests) in
-        subst (λ (j : ℕ). Seated (PostEras w.layout j (w.mem Clock) ((step w i).mem (Interval j))) (PhaseEras w.layout (w.mem Clock)) ((step w i).seat j)) same (own_eras w i v s e (phase_given w.layout w.mem (w.seat i).phase (o.seats i).phase n.life))
+        subst (λ (j : ℕ). Seated (PostEras w.layout j (w.mem Clock) ((step w i).mem (Interval j))) (PhaseEras w.layout (w.mem Clock)) ((step w i).seat j)) same (own_eras w i v s e (phase_given w.layout w.mem (w.seat i).desk (w.seat i).phase (o.seats i).phase n.life))
     at k false h = other_eras w i k s e h
 
 pub eras_begin : (w : World) (i : ℕ) (call : Call) → is_valid w.layout ≡ true → Eras w → Eras (begin w i call)

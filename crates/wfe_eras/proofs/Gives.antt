@@ -19,7 +19,7 @@ use Rattle.wfe_eras.proofs.SlotSteps.{link_found}
 pub gives_guards : (w : World) → is_valid w.layout ≡ true → Seats w → Slots w → GivesGuards w
 gives_guards w v s h k why aim index root steps at e =
     let r = subst (PhaseFits w.layout (w.seat k).post) e (s.fits k).phase in
-    let p = subst (PhaseIn w.layout) e (h.seats k).phase in
+    let p = subst (PhaseIn w.layout (w.seat k).desk) e (h.seats k).phase in
     let b = bounds_of w.layout v in
     record { below = index_below w.layout why index v r.shape.at; there = root_there w.layout why root b.buckets.0 r.shape.of p.1.root_in }
 

@@ -1,7 +1,9 @@
 -- Each machine is ready at its step, and what it finds is plausible.
 use Rattle.std.proofs.Common.{refl, ℕ, ◌≡◌, ◌≤◌, ◌<◌, true, Option, Some, None, ap, sym, subst, ◌∙◌, arith}
 use Rattle.std.proofs.lemmas.Bool.Decides.{nat_tests}
-use Rattle.std.specs.Prelude.{◌&&◌, nat_lt, nat_le, is_some}
+use Rattle.std.proofs.lemmas.Grind.{common_steps}
+use Rattle.std.proofs.lemmas.Option.{slice_get_within}
+use Rattle.std.specs.Prelude.{◌&&◌, nat_lt, nat_le, is_some, List, length, slice_get}
 use Rattle.wfe_words.specs.Place.{Place, is_valid}
 use Rattle.wfe_words.specs.Place.Place.{Clock, Tail, Row}
 use Rattle.wfe_words.specs.Place.Place.{Request as RequestOf}
@@ -12,6 +14,7 @@ use Rattle.wfe_words.specs.declared.packed.Request.{Request}
 use Rattle.wfe_words.specs.declared.packed.Request.TheVariants as requests
 use Rattle.wfe_defs.specs.declared.event.Root.{Root}
 use Rattle.wfe_defs.specs.declared.lifetime.Interval.{Interval as Span}
+use Rattle.wfe_defs.specs.declared.lifetime.Lifetime.{Lifetime}
 use Rattle.wfe_core.specs.declared.post.Post.{Post}
 use Rattle.wfe_core.specs.Memory.{place_in, found}
 use Rattle.wfe_core.specs.Links.{link_place, link_number, root_at}
@@ -31,7 +34,7 @@ use Rattle.wfe_core.specs.Machine.{begin_move, protect_move, allocate_move, reti
 use Rattle.wfe_core.specs.Ready.{EraFits, FailedFits, TryFits, RootFits, AskFits, AskedFits, RowFits, IsReady, Plausible, begin_ready, protect_ready, allocate_ready, retire_ready, move_ready, begin_plausible, protect_plausible, allocate_plausible, retire_plausible, move_plausible}
 use Rattle.wfe_core.specs.Steps.{work_move, phase_move}
 use Rattle.wfe_core.specs.Calls.{ChangeKept, EnqueueKept, Task, Gets, Changes, Holds, Enqueues, Dequeues, AfterScan, Answered, Repeated, Counted, GetAt, FindVersion, FindCount, FindKey, FindValue, ChangeAt, LoadVersion, LoadCount, LoadKey, LoadValue, ExchangeRoot, EnqueueAt, LoadNumber, LoadNext, PassTail, ExchangeNext, ExchangeTail, DequeueAt, LoadTail, SwingTail, TakeNumber, TakeValue, ExchangeHead, Work, Getting, Changing, Enqueuing, Dequeuing, ScanAt, ReadGuard, GiveBack, Why, Opens, FollowsHead, Fills, ClearsNext, Clears, Finishes, GivesUp, Retires, Tidies, Advances, Releases, Phase, Idle, Runs, Scans, Works}
-use Rattle.wfe_core.specs.CallReady.{TakenFits, TaskFits, FillFits, LaterFits, why_ready, get_ready, change_ready, enqueue_ready, dequeue_ready, work_ready, scan_ready, IsCallReady, get_plausible, change_plausible, enqueue_plausible, dequeue_plausible, work_plausible, IsCallPlausible}
+use Rattle.wfe_core.specs.CallReady.{TakenFits, TaskFits, FillFits, LaterFits, why_ready, get_ready, change_ready, enqueue_ready, dequeue_ready, work_ready, scan_ready, IsCallReady, get_plausible, change_plausible, enqueue_plausible, dequeue_plausible, work_plausible, IsCallPlausible, BackFits, slots_of}
 use Rattle.wfe_core.specs.Desks.{Desk}
 use Rattle.wfe_core.specs.Enqueue.{enqueue_move}
 use Rattle.wfe_core.specs.Dequeue.{dequeue_move}
@@ -39,8 +42,9 @@ use Rattle.wfe_core.specs.World.{World}
 use Rattle.wfe_eras.specs.Frame.{SpanStands}
 use Rattle.wfe_eras.specs.Seats.{is_wfe, tries_fit, try_fits, protect_fits, allocate_fits, move_fits, Run, PostFits, PhaseFits, Seats, scan_fits}
 use Rattle.wfe_eras.specs.Eras.{SpanIn, AskIn, AskingIn, begin_eras, protect_eras, allocate_eras, retire_eras, move_eras, base_eras, PhaseEras, Eras}
-use Rattle.wfe_eras.specs.Slots.{ProtectIn, RetireIn, MovesIn, BaseIn, StandsIn, PostIn, PhaseIn, Slots, RowIn, TakenIn, TaskIn, FillIn, LaterIn, WhyIn, GetIn, ChangeAtIn, EnqueueAtIn, DequeueIn, WorkIn, ScanIn, get_finds, change_finds, enqueue_finds, dequeue_finds, work_finds, phase_finds}
-use Rattle.wfe_eras.specs.Code.{protect_rises, base_rises, phase_rises, why_lists, scan_lists, phase_lists, CodeNeeds, CodeReady}
+use Rattle.wfe_eras.specs.Slots.{ProtectIn, RetireIn, MovesIn, BaseIn, StandsIn, PostIn, PhaseIn, Slots, RowIn, TakenIn, TaskIn, FillIn, LaterIn, WhyIn, GetIn, ChangeAtIn, EnqueueAtIn, DequeueIn, WorkIn, ScanIn, get_finds, change_finds, enqueue_finds, dequeue_finds, work_finds, phase_finds, BackIn}
+use Rattle.wfe_eras.specs.Code.{protect_rises, base_rises, phase_rises, why_lists, scan_entry, phase_lists, CodeNeeds}
+use Rattle.wfe_core.specs.MayStep.{MayStep}
 use Rattle.wfe_eras.proofs.Finds.{request_read}
 use Rattle.wfe_eras.proofs.Steps.{Told}
 use Rattle.wfe_eras.proofs.SlotSteps.{Linked, link_found}
@@ -296,9 +300,15 @@ work_is_ready post (Changing kept at) h = (record { taken = taken_ready post kep
 work_is_ready post (Enqueuing kept at) h = (record { taken = taken_ready post kept.taken h.0.taken; tail = h.0.tail; number = h.0.number }, enqueue_is_ready post kept at h.1)
 work_is_ready post (Dequeuing at) h = dequeue_is_ready post at h
 
-scan_is_ready : (post : Post) (desk : Desk) (at : ScanAt) → scan_fits post.layout.config at ≡ true → ScanIn post.layout.config.slots at → scan_lists at post desk → scan_ready at post desk
-scan_is_ready post desk (ReadGuard number) f h n = (grind (arith, nat_tests), n)
-scan_is_ready post desk (GiveBack place slot) f h n = (h, n)
+slots_many : (lives : List Lifetime) → length (slots_of lives) ≡ length lives
+slots_many lives = grind (arith, common_steps)
+
+back_ready : (post : Post) (desk : Desk) (place slot : ℕ) → BackIn post.layout.config.slots desk slot → slice_get (slots_of desk.list) place ≡ Some slot → BackFits post desk place slot
+back_ready post desk place slot h e = let a = slice_get_within (slots_of desk.list) place slot e in let b = slots_many desk.list in let c = h.room in record { entry = e; back = omega arith }
+
+scan_is_ready : (post : Post) (desk : Desk) (at : ScanAt) → scan_fits post.layout.config at ≡ true → ScanIn post.layout.config.slots desk at → scan_entry at desk → scan_ready at post desk
+scan_is_ready post desk (ReadGuard number) f h n = (grind (arith, nat_tests), h)
+scan_is_ready post desk (GiveBack place slot) f h n = (h.slot_in, back_ready post desk place slot h n)
 
 -- what a call finds
 get_is_plausible : (post : Post) (found : ℕ) (at : GetAt) → get_finds post.layout.config at found → get_plausible at post found
@@ -334,21 +344,21 @@ work_is_plausible post mem (Changing kept at) w f = change_is_plausible post _ a
 work_is_plausible post mem (Enqueuing kept at) w f = enqueue_is_plausible post mem kept at w f
 work_is_plausible post mem (Dequeuing at) w f = dequeue_is_plausible post mem at w f
 
-phase_ready : (post : Post) (desk : Desk) (clock : ℕ) (phase : Phase) → is_valid post.layout ≡ true → PhaseFits post.layout post phase → SpanIn clock post.span → PhaseEras post.layout clock post phase → PhaseIn post.layout phase → phase_rises phase post → phase_lists phase post desk
+phase_ready : (post : Post) (desk : Desk) (clock : ℕ) (phase : Phase) → is_valid post.layout ≡ true → PhaseFits post.layout post phase → SpanIn clock post.span → PhaseEras post.layout clock post phase → PhaseIn post.layout desk phase → phase_rises phase post → phase_lists phase desk
     → IsCallReady phase post desk
 phase_ready post desk clock Idle v r p e h u n = tt
 phase_ready post desk clock (Runs why base) v r p e h u n = (base_is_ready post clock why base v r p e h.1 u, why_is_ready post why base desk h.0 n)
 phase_ready post desk clock (Scans later at) v r p e h u n = (later_ready post later h.0, scan_is_ready post desk at r h.1 n)
 phase_ready post desk clock (Works work) v r p e h u n = work_is_ready post work h
 
-phase_plausible : (post : Post) (mem : Place → ℕ) (phase : Phase) → Linked post.layout mem → phase_finds post.layout.config phase (found (phase_move phase post) (mem (place_in (phase_move phase post)))) → IsCallPlausible phase post (found (phase_move phase post) (mem (place_in (phase_move phase post))))
-phase_plausible post mem Idle w f = tt
-phase_plausible post mem (Runs why base) w f = base_is_plausible post mem base w
-phase_plausible post mem (Scans later at) w f = tt
-phase_plausible post mem (Works work) w f = work_is_plausible post mem work w f
+phase_plausible : (post : Post) (mem : Place → ℕ) (desk : Desk) (phase : Phase) → Linked post.layout mem → phase_finds post.layout.config desk phase (found (phase_move phase post) (mem (place_in (phase_move phase post)))) → IsCallPlausible phase post (found (phase_move phase post) (mem (place_in (phase_move phase post))))
+phase_plausible post mem desk Idle w f = tt
+phase_plausible post mem desk (Runs why base) w f = base_is_plausible post mem base w
+phase_plausible post mem desk (Scans later at) w f = tt
+phase_plausible post mem desk (Works work) w f = work_is_plausible post mem work w f
 
 -- a seat of a table with these words
-record Sits (layout : Layout) (mem : Place → ℕ) (seat : ℕ) (post : Post) (phase : Phase) : Type 0 where
+record Sits (layout : Layout) (mem : Place → ℕ) (seat : ℕ) (post : Post) (desk : Desk) (phase : Phase) : Type 0 where
   linked : Linked layout mem
   below : seat < layout.config.seats
   fits : PostFits layout seat post
@@ -356,25 +366,25 @@ record Sits (layout : Layout) (mem : Place → ℕ) (seat : ℕ) (post : Post) (
   span : SpanIn (mem Clock) post.span
   eras : PhaseEras layout (mem Clock) post phase
   stand : PostIn layout post
-  slots : PhaseIn layout phase
-  finds : phase_finds layout.config phase (found (phase_move phase post) (mem (place_in (phase_move phase post))))
+  slots : PhaseIn layout desk phase
+  finds : phase_finds layout.config desk phase (found (phase_move phase post) (mem (place_in (phase_move phase post))))
 
 record CodeAt (post : Post) (desk : Desk) (mem : Place → ℕ) (phase : Phase) : Type 0 where
   valid : IsValid post
   ready : IsCallReady phase post desk
   plausible : IsCallPlausible phase post (found (phase_move phase post) (mem (place_in (phase_move phase post))))
 
-code_at : (post : Post) (desk : Desk) (mem : Place → ℕ) (seat : ℕ) (phase : Phase) → Sits post.layout mem seat post phase → ((index : ℕ) → tag_of post index < 4294967295) → phase_rises phase post → phase_lists phase post desk → CodeAt post desk mem phase
+code_at : (post : Post) (desk : Desk) (mem : Place → ℕ) (seat : ℕ) (phase : Phase) → Sits post.layout mem seat post desk phase → ((index : ℕ) → tag_of post index < 4294967295) → phase_rises phase post → phase_lists phase desk → CodeAt post desk mem phase
 code_at post desk mem seat phase s t u n = record {
   valid = post_valid post seat (mem Clock) s.linked.told.valid s.below s.fits s.span s.stand t;
   ready = phase_ready post desk (mem Clock) phase s.linked.told.valid s.shape s.span s.eras s.slots u n;
-  plausible = phase_plausible post mem phase s.linked s.finds;
+  plausible = phase_plausible post mem desk phase s.linked s.finds;
 }
 
-pub code_ready : (w : World) (i : ℕ) → is_valid w.layout ≡ true → i < w.layout.config.seats → Seats w → Eras w → Slots w → CodeNeeds w i → CodeReady w i
+pub code_ready : (w : World) (i : ℕ) → is_valid w.layout ≡ true → i < w.layout.config.seats → Seats w → Eras w → Slots w → CodeNeeds w i → MayStep w i
 code_ready w i v b s e h n =
     let l = w.seat i in let q = (s.fits i).post in
-    let a : Sits w.layout w.mem i l.post l.phase = record {
+    let a : Sits w.layout w.mem i l.post l.desk l.phase = record {
       linked = record { told = told_of w v e; links = h.words };
       below = b;
       fits = q;
@@ -385,5 +395,5 @@ code_ready w i v b s e h n =
       slots = (h.seats i).phase;
       finds = n.reads;
     } in
-    let c = code_at l.post l.desk w.mem i l.phase (subst (λ (t : Layout). Sits t w.mem i l.post l.phase) (sym q.layout) a) n.tags n.rises n.lists in
+    let c = code_at l.post l.desk w.mem i l.phase (subst (λ (t : Layout). Sits t w.mem i l.post l.desk l.phase) (sym q.layout) a) n.tags n.rises n.lists in
     record { there = place_there w i v b s e h; valid = c.valid; ready = c.ready; noted = n.noted; plausible = c.plausible }

@@ -1,6 +1,7 @@
 -- Slots and links through the steps of calls and scans, and through what comes after a machine.
-use Rattle.std.proofs.Common.{ℕ, suc, ◌≡◌, ◌≤◌, ◌+◌, ◌-◌, Bool, true, false, List, [], ◌∷◌, ◌++◌, length, take, drop, Option, Some, None, refl, arith, ap, length-append, sym, subst, ◌<◌}
+use Rattle.std.proofs.Common.{ℕ, suc, ◌≡◌, ◌≤◌, ◌+◌, ◌-◌, Bool, true, false, List, [], ◌∷◌, ◌++◌, length, take, drop, Option, Some, None, refl, arith, ap, length-append, sym, subst, ◌<◌, add-one}
 use Rattle.std.proofs.lemmas.Bool.Decides.{nat_tests}
+use Rattle.std.proofs.lemmas.List.Edits.{length-remove}
 use Rattle.std.proofs.lemmas.List.Elements.{All-append, All-push, All-head, All-tail, All-take, All-drop}
 use Rattle.std.specs.Prelude.{◌==◌, ◌%◌, nat_lt, if◌then◌else◌, ◌&&◌, not, is_some}
 use Rattle.std.specs.List.{remove}
@@ -27,7 +28,7 @@ use Rattle.wfe_core.specs.declared.ends.FollowEnd.{FollowEnd}
 use Rattle.wfe_core.specs.declared.ends.FollowEnd.TheVariants as follow_ends
 use Rattle.wfe_core.specs.declared.ends.ProtectEnd.TheVariants as protect_ends
 use Rattle.wfe_core.specs.declared.post.Post.{Post}
-use Rattle.wfe_core.specs.Desks.{Desk, Seen, with_life}
+use Rattle.wfe_core.specs.Desks.{Desk, Report, Seen, with_life}
 use Rattle.wfe_core.specs.Guards.{guards, guard_at, published}
 use Rattle.wfe_core.specs.Posts.{stands}
 use Rattle.wfe_core.specs.Phases.{Ending}
@@ -40,7 +41,7 @@ use Rattle.wfe_core.specs.Dequeue as dequeues
 use Rattle.wfe_core.specs.Scan as scan
 use Rattle.wfe_core.specs.Steps as steps
 use Rattle.wfe_core.specs.Calls.{Task, Gets, Changes, Holds, Enqueues, Dequeues, Again, Answering, Retiring, AfterScan, Answered, Repeated, Counted, ChangeKept, EnqueueKept, GetAt, FindVersion, FindCount, FindKey, FindValue, ChangeAt, LoadVersion, LoadCount, LoadKey, LoadValue, ExchangeRoot, EnqueueAt, LoadNumber, LoadNext, PassTail, ExchangeNext, ExchangeTail, DequeueAt, LoadTail, SwingTail, TakeNumber, TakeValue, ExchangeHead, Work, Getting, Changing, Enqueuing, Dequeuing, ScanAt, ReadGuard, GiveBack, Why, Opens, FollowsHead, Fills, ClearsNext, Clears, Finishes, GivesUp, Retires, Tidies, Advances, Releases, Runs}
-use Rattle.wfe_eras.specs.Slots.{AllocateEndIn, BaseIn, ChangeIn, EndIn, EnqueueIn, FillIn, FollowEndIn, GetIn, LaterIn, ListIn, NextIn, PhaseIn, PostIn, TakenIn, TaskIn, TurnSlots, WhyIn, WorkIn, change_finds, enqueue_finds, get_finds, work_finds}
+use Rattle.wfe_eras.specs.Slots.{AllocateEndIn, BaseIn, ChangeIn, EndIn, EnqueueIn, FillIn, FollowEndIn, GetIn, LaterIn, ListIn, NextIn, PhaseIn, PostIn, TakenIn, TaskIn, TurnSlots, WhyIn, WorkIn, change_finds, enqueue_finds, get_finds, work_finds, ScanIn, scan_lists}
 use Rattle.wfe_eras.proofs.SlotRounds.{at_first, opening_slots, round_slots, closed_slots, finishing_slots, clearing_slots, clearing_next_slots}
 
 -- what an enqueue finds of a link
@@ -126,14 +127,14 @@ decided : (config : Config) (version : ℕ) (ps : List Pair) (c : Change) → al
 decided config version ps (changes.Put key value) n m k = put_decided config version ps key value (version == config.last_version) (not (alters.has_key ps key) && length ps == config.pairs) refl refl n m k
 decided config version ps (changes.Removed key) n m k = removed_decided config version ps key (not (alters.has_key ps key)) (version == config.last_version) refl n m k
 
-filling_slots : (layout : Layout) (kept : ChangeKept) (x : Option ℕ) → ChangeIn layout.config kept → kept.version < layout.config.last_version → TakenIn layout.config.slots x → PhaseIn layout (Runs (Fills (Changes kept)) (alters.filling_by kept x))
-filling_slots layout kept None t v x = ((t, v), tt)
-filling_slots layout kept (Some slot) t v x = ((t, v), (x, t.pairs))
+filling_slots : (layout : Layout) (desk : Desk) (kept : ChangeKept) (x : Option ℕ) → ChangeIn layout.config kept → kept.version < layout.config.last_version → TakenIn layout.config.slots x → PhaseIn layout desk (Runs (Fills (Changes kept)) (alters.filling_by kept x))
+filling_slots layout desk kept None t v x = ((t, v), tt)
+filling_slots layout desk kept (Some slot) t v x = ((t, v), (x, t.pairs))
 
 deciding_by_slots : (layout : Layout) (kept : ChangeKept) (post : Post) (desk : Desk) (told : List Event) (x : Option Answer) → alters.refusal layout.config kept.version kept.pairs kept.change ≡ x → ChangeIn layout.config kept → PostIn layout post → ListIn layout.config.slots desk.list → TurnSlots layout (alters.deciding_by kept post desk told x)
 deciding_by_slots layout kept post desk told (Some answer) e c q l = clearing_slots layout (Changes kept) (Answering answer) post desk told c tt q l
 deciding_by_slots layout kept post desk told None e c q l = let d = decided layout.config kept.version kept.pairs kept.change e c.version c.pairs in
-    record { post = q; list = l; phase = filling_slots layout (alters.with_change kept) kept.taken (record { taken = c.taken; link = c.link; version = c.version; pairs = d.1 }) d.0 c.taken }
+    record { post = q; list = l; phase = filling_slots layout desk (alters.with_change kept) kept.taken (record { taken = c.taken; link = c.link; version = c.version; pairs = d.1 }) d.0 c.taken }
 
 deciding_slots : (layout : Layout) (kept : ChangeKept) (post : Post) (desk : Desk) (told : List Event) → post.layout ≡ layout → ChangeIn layout.config kept → PostIn layout post → ListIn layout.config.slots desk.list → TurnSlots layout (alters.deciding kept post desk told)
 deciding_slots layout kept post desk told p c q l = deciding_by_slots layout kept post desk told (alters.refusal post.layout.config kept.version kept.pairs kept.change) (ap (λ (t : Layout). alters.refusal t.config kept.version kept.pairs kept.change) (sym p)) c q l
@@ -169,13 +170,13 @@ change_slots layout kept (LoadValue slot count key) post desk found f p w q l =
     reading_slots layout (alters.with_read kept key found) slot count post desk (nat_lt (length kept.pairs + 1) count) (λ e. grind (arith, nat_tests)) b w.1.0 p (record { taken = w.0.taken; link = w.0.link; version = w.0.version; pairs = omega arith }) q l
 change_slots layout kept (ExchangeRoot slot) post desk found f p w q l = exchanged_slots layout kept slot post desk (found == kept.link) w.0 q l
 
-item_slots : (layout : Layout) (kept : EnqueueKept) (x : Option ℕ) → EnqueueIn layout.config kept → kept.number < layout.config.last_version → TakenIn layout.config.slots x → PhaseIn layout (Runs (Fills (Enqueues kept)) (enqueues.filling_by kept x))
-item_slots layout kept None t v x = ((t, v), tt)
-item_slots layout kept (Some slot) t v x = ((t, v), (x, tt))
+item_slots : (layout : Layout) (desk : Desk) (kept : EnqueueKept) (x : Option ℕ) → EnqueueIn layout.config kept → kept.number < layout.config.last_version → TakenIn layout.config.slots x → PhaseIn layout desk (Runs (Fills (Enqueues kept)) (enqueues.filling_by kept x))
+item_slots layout desk kept None t v x = ((t, v), tt)
+item_slots layout desk kept (Some slot) t v x = ((t, v), (x, tt))
 
 appending_slots : (layout : Layout) (kept : EnqueueKept) (post : Post) (desk : Desk) (spent : Bool) → (kept.number == layout.config.last_version) ≡ spent → EnqueueIn layout.config kept → PostIn layout post → ListIn layout.config.slots desk.list → TurnSlots layout (enqueues.appending kept post desk spent)
 appending_slots layout kept post desk true e c q l = clearing_slots layout (Enqueues kept) (Answering (the_answers.Spent kept.number)) post desk [] c tt q l
-appending_slots layout kept post desk false e c q l = record { post = q; list = l; phase = item_slots layout kept kept.taken c (let n = c.number in grind (arith, nat_tests)) c.taken }
+appending_slots layout kept post desk false e c q l = record { post = q; list = l; phase = item_slots layout desk kept kept.taken c (let n = c.number in grind (arith, nat_tests)) c.taken }
 
 at_next_slots : (layout : Layout) (kept : EnqueueKept) (next : ℕ) (post : Post) (desk : Desk) (none : Bool) → (next == 0) ≡ none → next ≤ layout.config.slots + 1 → post.layout ≡ layout → EnqueueIn layout.config kept → PostIn layout post → ListIn layout.config.slots desk.list → TurnSlots layout (enqueues.at_next kept next post desk none)
 at_next_slots layout kept next post desk true e m p c q l = appending_slots layout kept post desk (kept.number == post.layout.config.last_version) (ap (λ (t : Layout). kept.number == t.config.last_version) (sym p)) c q l
@@ -237,25 +238,61 @@ unmet_slots slots read place (life ∷ lives) h =
 
 scanned_slots : (layout : Layout) (later : AfterScan) (post : Post) (desk : Desk) (told : List Event) → LaterIn layout.config later → PostIn layout post → ListIn layout.config.slots desk.list → TurnSlots layout (scan.scanned later post desk told)
 scanned_slots layout (Answered answer) post desk told t q l = record { post = q; list = l; phase = tt }
-scanned_slots layout (Repeated task) post desk told t q l = record { post = q; list = l; phase = round_slots layout task post t }
+scanned_slots layout (Repeated task) post desk told t q l = record { post = q; list = l; phase = round_slots layout task post desk t }
 scanned_slots layout Counted post desk told t q l = record { post = q; list = l; phase = tt }
 
-giving_back_slots : (layout : Layout) (later : AfterScan) (post : Post) (desk : Desk) (told : List Event) (x : Option scan.Entry) → entry_in layout.config.slots x → LaterIn layout.config later → PostIn layout post → ListIn layout.config.slots desk.list → TurnSlots layout (scan.giving_back later post desk told x)
-giving_back_slots layout later post desk told None e t q l = scanned_slots layout later post (scan.with_kept desk) told t q l
-giving_back_slots layout later post desk told (Some entry) e t q l = record { post = q; list = l; phase = (t, e) }
+giving_back_slots : (layout : Layout) (later : AfterScan) (post : Post) (desk : Desk) (told : List Event) (x : Option scan.Entry)
+    → entry_in layout.config.slots x
+    → desk.report.back + length desk.list ≤ layout.config.slots + 1
+    → LaterIn layout.config later
+    → PostIn layout post
+    → ListIn layout.config.slots desk.list
+    → TurnSlots layout (scan.giving_back later post desk told x)
+giving_back_slots layout later post desk told None e m t q l = scanned_slots layout later post (scan.with_kept desk) told t q l
+giving_back_slots layout later post desk told (Some entry) e m t q l = record { post = q; list = l; phase = (t, record { slot_in = e; room = m }) }
 
-guard_slots : (layout : Layout) (later : AfterScan) (number : ℕ) (post : Post) (desk : Desk) (told : List Event) (more : Bool) → LaterIn layout.config later → PostIn layout post → ListIn layout.config.slots desk.list → TurnSlots layout (scan.reading later number post desk told more)
-guard_slots layout later number post desk told true t q l = record { post = q; list = l; phase = (t, tt) }
-guard_slots layout later number post desk told false t q l = giving_back_slots layout later post desk told (scan.unmet_from desk 0) (unmet_slots layout.config.slots desk.report.read 0 (drop 0 desk.list) (All-drop (λ (life : Lifetime). life.slot ≤ layout.config.slots) 0 desk.list l)) t q l
+read_more : (report : Report) (number : ℕ) → scan.read_before report (number + 1) ≡ report.read
+read_more report number = rw add-one refl
+
+guard_slots : (layout : Layout) (later : AfterScan) (number : ℕ) (post : Post) (desk : Desk) (told : List Event) (more : Bool)
+    → length desk.report.read ≡ number + 1
+    → desk.report.back + length desk.list ≤ layout.config.slots + 1
+    → LaterIn layout.config later
+    → PostIn layout post
+    → ListIn layout.config.slots desk.list
+    → TurnSlots layout (scan.reading later number post desk told more)
+guard_slots layout later number post desk told true r m t q l =
+    record { post = q; list = l; phase = (t, subst (λ (seen : List Seen). length seen ≡ number + 1) (sym (read_more desk.report number)) r) }
+guard_slots layout later number post desk told false r m t q l =
+    giving_back_slots layout later post desk told (scan.unmet_from desk 0)
+    (unmet_slots layout.config.slots desk.report.read 0 (drop 0 desk.list) (All-drop (λ (life : Lifetime). life.slot ≤ layout.config.slots) 0 desk.list l)) m t q l
 
 removed_in : (slots : ℕ) (lives : List Lifetime) (place : ℕ) → ListIn slots lives → ListIn slots (remove lives place)
-removed_in slots lives place h = All-append (λ (life : Lifetime). life.slot ≤ slots) (take place lives) (drop (suc place) lives) (All-take (λ (life : Lifetime). life.slot ≤ slots) place lives h) (All-drop (λ (life : Lifetime). life.slot ≤ slots) (suc place) lives h)
+removed_in slots lives place h =
+    All-append (λ (life : Lifetime). life.slot ≤ slots) (take place lives) (drop (suc place) lives)
+    (All-take (λ (life : Lifetime). life.slot ≤ slots) place lives h) (All-drop (λ (life : Lifetime). life.slot ≤ slots) (suc place) lives h)
 
-pub scan_slots : (layout : Layout) (later : AfterScan) (at : ScanAt) (post : Post) (desk : Desk) (found : ℕ) → LaterIn layout.config later → PostIn layout post → ListIn layout.config.slots desk.list → TurnSlots layout (scan.scan_turn later at post desk found)
-scan_slots layout later (ReadGuard number) post desk found t q l = guard_slots layout later number post (scan.with_read desk number (guard_at post.layout.config number, published (guard_at post.layout.config number) found)) _ (nat_lt (number + 1) (guards post.layout.config)) t q l
-scan_slots layout later (GiveBack place slot) post desk found t q l = let r = removed_in layout.config.slots desk.list place l in
-    giving_back_slots layout later post (scan.with_back desk place) _ (scan.unmet_from (scan.with_back desk place) place)
-    (unmet_slots layout.config.slots desk.report.read place (drop place (remove desk.list place)) (All-drop (λ (life : Lifetime). life.slot ≤ layout.config.slots) place (remove desk.list place) r)) t q r
+one_seen : (read : List Seen) (seen : Seen) (number : ℕ) → length read ≡ number → length (read ++ seen ∷ []) ≡ number + 1
+one_seen read seen number e = rw (length-append read (seen ∷ [])) (rw e refl)
+
+pub scan_slots : (layout : Layout) (later : AfterScan) (at : ScanAt) (post : Post) (desk : Desk) (found : ℕ)
+    → scan_lists layout.config desk at
+    → ScanIn layout.config.slots desk at
+    → LaterIn layout.config later
+    → PostIn layout post
+    → ListIn layout.config.slots desk.list
+    → TurnSlots layout (scan.scan_turn later at post desk found)
+scan_slots layout later (ReadGuard number) post desk found f h t q l =
+    let seen : Seen = (guard_at post.layout.config number, published (guard_at post.layout.config number) found) in
+    guard_slots layout later number post (scan.with_read desk number seen) (events.Read seen.0 seen.1 ∷ []) (nat_lt (number + 1) (guards post.layout.config))
+    (one_seen (scan.read_before desk.report number) seen number h) (omega arith) t q l
+scan_slots layout later (GiveBack place slot) post desk found f h t q l =
+    let r = removed_in layout.config.slots desk.list place l in
+    let n = length-remove desk.list place f in
+    let m = h.room in
+    giving_back_slots layout later post (scan.with_back desk place) (events.Back slot ∷ []) (scan.unmet_from (scan.with_back desk place) place)
+    (unmet_slots layout.config.slots desk.report.read place (drop place (remove desk.list place))
+    (All-drop (λ (life : Lifetime). life.slot ≤ layout.config.slots) place (remove desk.list place) r)) (omega arith) t q r
 
 -- what comes after a machine
 opened_row_slots : (layout : Layout) (task : Task) (slot : ℕ) (post : Post) (desk : Desk) (told : List Event) → slot ≤ layout.config.slots → TaskIn layout.config task → PostIn layout post → ListIn layout.config.slots desk.list → TurnSlots layout (steps.opened_row task slot post desk told)
@@ -275,11 +312,11 @@ opened_null_slots layout Dequeues post desk told p t q l = clearing_slots layout
 opened_slots : (layout : Layout) (task : Task) (ending : Ending) (post : Post) (desk : Desk) (told : List Event) → EndIn layout.config.slots ending → post.layout ≡ layout → TaskIn layout.config task → PostIn layout post → ListIn layout.config.slots desk.list → TurnSlots layout (steps.opened task ending post desk told)
 opened_slots layout task (Protected (protect_ends.Held slot era)) post desk told e p t q l = opened_row_slots layout task slot post desk told e t q l
 opened_slots layout task (Protected protect_ends.Null) post desk told e p t q l = opened_null_slots layout task post desk told p t q l
-opened_slots layout task Done post desk told e p t q l = record { post = q; list = l; phase = opening_slots layout task post t }
-opened_slots layout task (Followed end) post desk told e p t q l = record { post = q; list = l; phase = opening_slots layout task post t }
-opened_slots layout task (Allocated end) post desk told e p t q l = record { post = q; list = l; phase = opening_slots layout task post t }
-opened_slots layout task (Retired life) post desk told e p t q l = record { post = q; list = l; phase = opening_slots layout task post t }
-opened_slots layout task (Clocked clock) post desk told e p t q l = record { post = q; list = l; phase = opening_slots layout task post t }
+opened_slots layout task Done post desk told e p t q l = record { post = q; list = l; phase = opening_slots layout task post desk t }
+opened_slots layout task (Followed end) post desk told e p t q l = record { post = q; list = l; phase = opening_slots layout task post desk t }
+opened_slots layout task (Allocated end) post desk told e p t q l = record { post = q; list = l; phase = opening_slots layout task post desk t }
+opened_slots layout task (Retired life) post desk told e p t q l = record { post = q; list = l; phase = opening_slots layout task post desk t }
+opened_slots layout task (Clocked clock) post desk told e p t q l = record { post = q; list = l; phase = opening_slots layout task post desk t }
 
 no_room_slots : (slots : ℕ) (walked : Bool) → NextIn slots (alters.no_room walked)
 no_room_slots slots true = tt
@@ -342,12 +379,12 @@ moved_later config (Repeated task) clock t = t
 moved_later config Counted clock t = tt
 
 tidied_slots : (layout : Layout) (later : AfterScan) (ending : Ending) (post : Post) (desk : Desk) (told : List Event) → LaterIn layout.config later → PostIn layout post → ListIn layout.config.slots desk.list → TurnSlots layout (steps.tidied later ending post desk told)
-tidied_slots layout later (Clocked clock) post desk told t q l = record { post = q; list = l; phase = (moved_later layout.config later clock t, tt) }
-tidied_slots layout later Done post desk told t q l = record { post = q; list = l; phase = (t, tt) }
-tidied_slots layout later (Protected end) post desk told t q l = record { post = q; list = l; phase = (t, tt) }
-tidied_slots layout later (Followed end) post desk told t q l = record { post = q; list = l; phase = (t, tt) }
-tidied_slots layout later (Allocated end) post desk told t q l = record { post = q; list = l; phase = (t, tt) }
-tidied_slots layout later (Retired life) post desk told t q l = record { post = q; list = l; phase = (t, tt) }
+tidied_slots layout later (Clocked clock) post desk told t q l = record { post = q; list = l; phase = (moved_later layout.config later clock t, refl) }
+tidied_slots layout later Done post desk told t q l = record { post = q; list = l; phase = (t, refl) }
+tidied_slots layout later (Protected end) post desk told t q l = record { post = q; list = l; phase = (t, refl) }
+tidied_slots layout later (Followed end) post desk told t q l = record { post = q; list = l; phase = (t, refl) }
+tidied_slots layout later (Allocated end) post desk told t q l = record { post = q; list = l; phase = (t, refl) }
+tidied_slots layout later (Retired life) post desk told t q l = record { post = q; list = l; phase = (t, refl) }
 
 advanced_slots : (layout : Layout) (ending : Ending) (post : Post) (desk : Desk) (told : List Event) → PostIn layout post → ListIn layout.config.slots desk.list → TurnSlots layout (steps.advanced ending post desk told)
 advanced_slots layout (Clocked clock) post desk told q l = record { post = q; list = l; phase = tt }
@@ -359,7 +396,7 @@ advanced_slots layout (Retired life) post desk told q l = record { post = q; lis
 
 released_slots : (layout : Layout) (key : Option ℕ) (post : Post) (desk : Desk) (told : List Event) → PostIn layout post → ListIn layout.config.slots desk.list → TurnSlots layout (steps.released key post desk told)
 released_slots layout None post desk told q l = record { post = q; list = l; phase = tt }
-released_slots layout (Some key) post desk told q l = record { post = q; list = l; phase = round_slots layout (Holds key) post tt }
+released_slots layout (Some key) post desk told q l = record { post = q; list = l; phase = round_slots layout (Holds key) post desk tt }
 
 pub resume_slots : (layout : Layout) (why : Why) (ending : Ending) (post : Post) (desk : Desk) (told : List Event) → WhyIn layout.config why → EndIn layout.config.slots ending → post.layout ≡ layout → PostIn layout post → ListIn layout.config.slots desk.list → TurnSlots layout (steps.resume why ending post desk told)
 resume_slots layout (Opens task) ending post desk told y e p q l = opened_slots layout task ending post desk told e p y q l
@@ -380,17 +417,17 @@ release_slots layout He = tt
 release_slots layout Ibr = tt
 release_slots layout Wfe = tt
 
-holding_slots : (layout : Layout) (key : ℕ) (post : Post) (x : Option ℕ) → PhaseIn layout (steps.holding key post x)
-holding_slots layout key post None = round_slots layout (Holds key) post tt
-holding_slots layout key post (Some slot) = (tt, release_slots layout (scheme_of post))
+holding_slots : (layout : Layout) (key : ℕ) (post : Post) (desk : Desk) (x : Option ℕ) → PhaseIn layout desk (steps.holding key post x)
+holding_slots layout key post desk None = round_slots layout (Holds key) post desk tt
+holding_slots layout key post desk (Some slot) = (tt, release_slots layout (scheme_of post))
 
-pub first_slots : (layout : Layout) (call : Call) (post : Post) → PhaseIn layout (steps.first_phase call post)
-first_slots layout (names.Get key) post = round_slots layout (Gets key) post tt
-first_slots layout (names.Put key value) post = round_slots layout _ post (record { taken = tt; link = omega arith; version = omega arith; pairs = omega arith })
-first_slots layout (names.Remove key) post = round_slots layout _ post (record { taken = tt; link = omega arith; version = omega arith; pairs = omega arith })
-first_slots layout (names.Enqueue value) post = round_slots layout _ post (record { taken = tt; tail = omega arith; number = omega arith })
-first_slots layout names.Dequeue post = round_slots layout Dequeues post tt
-first_slots layout (names.Hold key) post = holding_slots layout key post (stands post 2)
-first_slots layout names.Release post = (tt, release_slots layout (scheme_of post))
-first_slots layout names.Advance post = (tt, tt)
-first_slots layout names.Scan post = (tt, tt)
+pub first_slots : (layout : Layout) (call : Call) (post : Post) (desk : Desk) → PhaseIn layout desk (steps.first_phase call post)
+first_slots layout (names.Get key) post desk = round_slots layout (Gets key) post desk tt
+first_slots layout (names.Put key value) post desk = round_slots layout _ post desk (record { taken = tt; link = omega arith; version = omega arith; pairs = omega arith })
+first_slots layout (names.Remove key) post desk = round_slots layout _ post desk (record { taken = tt; link = omega arith; version = omega arith; pairs = omega arith })
+first_slots layout (names.Enqueue value) post desk = round_slots layout _ post desk (record { taken = tt; tail = omega arith; number = omega arith })
+first_slots layout names.Dequeue post desk = round_slots layout Dequeues post desk tt
+first_slots layout (names.Hold key) post desk = holding_slots layout key post desk (stands post 2)
+first_slots layout names.Release post desk = (tt, release_slots layout (scheme_of post))
+first_slots layout names.Advance post desk = (tt, tt)
+first_slots layout names.Scan post desk = (tt, refl)

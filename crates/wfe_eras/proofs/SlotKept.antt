@@ -33,13 +33,13 @@ use Rattle.wfe_core.specs.Enqueue.{enqueue_move}
 use Rattle.wfe_core.specs.Dequeue.{dequeue_move}
 use Rattle.wfe_core.specs.Scan.{scan_move}
 use Rattle.wfe_core.specs.Steps.{resumed, work_move, phase_move, phase_turn}
-use Rattle.wfe_core.specs.Locals.{Local, move, after, settled_by, settled, told_by, rounds_told, begun_post, fresh}
+use Rattle.wfe_core.specs.Locals.{Local, move, after, settled_by, settled, told_by, rounds_told, begun_post, begun, fresh}
 use Rattle.wfe_core.specs.Calls.{ChangeKept, EnqueueKept, GetAt, FindVersion, ChangeAt, ExchangeRoot, EnqueueAt, LoadNumber, LoadNext, PassTail, ExchangeNext, ExchangeTail, DequeueAt, LoadTail, SwingTail, TakeNumber, TakeValue, ExchangeHead, Work, Getting, Changing, Enqueuing, Dequeuing, ScanAt, ReadGuard, GiveBack, Why, Phase, Idle, Runs, Scans, Works, CallTurn, CallOutcome, GoesOn, Answers}
 use Rattle.wfe_core.specs.World.{World, first_word, start, begin, step}
 use Rattle.wfe_eras.specs.Frame.{phase_left}
 use Rattle.wfe_eras.specs.Seats.{Run, PostFits, PhaseFits, Seats}
 use Rattle.wfe_eras.specs.Eras.{Eras}
-use Rattle.wfe_eras.specs.Slots.{RowLink, WordSlots, MoveSlots, WorkIn, PhaseIn, PostIn, ListIn, WhyIn, OutcomeIn, TurnSlots, SeatSlots, Slots, phase_finds, SlotsNeeds}
+use Rattle.wfe_eras.specs.Slots.{RowLink, WordSlots, MoveSlots, WorkIn, PhaseIn, PostIn, ListIn, WhyIn, OutcomeIn, TurnSlots, SeatSlots, Slots, phase_finds, SlotsNeeds, ScanIn}
 use Rattle.wfe_eras.proofs.Frame.{seat_stays, seat_steps, begin_stays, begin_begins, finds_counted}
 use Rattle.wfe_eras.proofs.Kept.{counted_fits, run_counted, one_moves}
 use Rattle.wfe_eras.proofs.Decode.{told_of}
@@ -142,11 +142,11 @@ scan_writes : (slots : ℕ) (at : ScanAt) (post : Post) → MoveSlots slots (sca
 scan_writes slots (ReadGuard number) post = tt
 scan_writes slots (GiveBack place slot) post = λ word. tt
 
-phase_writes : (layout : Layout) (phase : Phase) (post : Post) → PhaseFits layout post phase → PhaseIn layout phase → MoveSlots layout.config.slots (phase_move phase post)
-phase_writes layout Idle post r h = tt
-phase_writes layout (Runs why base) post r h = base_writes layout why base post r
-phase_writes layout (Scans later at) post r h = scan_writes layout.config.slots at post
-phase_writes layout (Works work) post r h = work_writes layout.config work post h
+phase_writes : (layout : Layout) (desk : Desk) (phase : Phase) (post : Post) → PhaseFits layout post phase → PhaseIn layout desk phase → MoveSlots layout.config.slots (phase_move phase post)
+phase_writes layout desk Idle post r h = tt
+phase_writes layout desk (Runs why base) post r h = base_writes layout why base post r
+phase_writes layout desk (Scans later at) post r h = scan_writes layout.config.slots at post
+phase_writes layout desk (Works work) post r h = work_writes layout.config work post h
 
 -- the seat that steps
 resumed_slots : (layout : Layout) (why : Why) (desk : Desk) (post : Post) (told : List Event) (outcome : Outcome) → WhyIn layout.config why → OutcomeIn layout outcome → post.layout ≡ layout → PostIn layout post → ListIn layout.config.slots desk.list → TurnSlots layout (resumed why desk post told outcome)
@@ -163,31 +163,42 @@ work_found slots mem (Enqueuing kept (ExchangeNext slot)) post h = tt
 work_found slots mem (Enqueuing kept (ExchangeTail slot)) post h = tt
 work_found slots mem (Dequeuing at) post h = tt
 
-turn_slots : (layout : Layout) (mem : Place → ℕ) (k : ℕ) → Linked layout mem → (phase : Phase) (post : Post) (desk : Desk) → PostFits layout k (counted post) → PhaseFits layout post phase → PhaseIn layout phase → PostIn layout post → ListIn layout.config.slots desk.list
-    → phase_finds layout.config phase (found (phase_move phase (counted post)) (mem (place_in (phase_move phase (counted post)))))
+turn_slots : (layout : Layout) (mem : Place → ℕ) (k : ℕ) → Linked layout mem → (phase : Phase) (post : Post) (desk : Desk) → PostFits layout k (counted post) → PhaseFits layout post phase → PhaseIn layout desk phase → PostIn layout post → ListIn layout.config.slots desk.list
+    → phase_finds layout.config desk phase (found (phase_move phase (counted post)) (mem (place_in (phase_move phase (counted post)))))
     → TurnSlots layout (phase_turn phase (counted post) desk (found (phase_move phase (counted post)) (mem (place_in (phase_move phase (counted post))))))
 turn_slots layout mem k w Idle post desk p r h q l f = record { post = q; list = l; phase = tt }
 turn_slots layout mem k w (Runs why base) post desk p r h q l f = let run = run_counted layout why base post r in let m = machine_slots layout mem w why base (counted post) run h.1 q in
     resumed_slots layout why desk _ _ _ h.0 m.outcome (shape_moves layout k w.told.valid why base (counted post) _ p run).post.layout m.post l
-turn_slots layout mem k w (Scans later at) post desk p r h q l f = scan_slots layout later at (counted post) desk _ h.0 q l
+turn_slots layout mem k w (Scans later at) post desk p r h q l f = scan_slots layout later at (counted post) desk _ f h.1 h.0 q l
 turn_slots layout mem k w (Works work) post desk p r h q l f = work_slots layout work (counted post) desk _ f (work_found layout.config.slots mem work (counted post) w.links) p.layout h q l
 
-settled_by_slots : (layout : Layout) (l : Local) (post : Post) (desk : Desk) (rounds : ℕ) (outcome : CallOutcome) → PostIn layout post → ListIn layout.config.slots desk.list → PhaseIn layout (phase_left outcome) → SeatSlots layout (settled_by l post desk rounds outcome)
+settled_by_slots : (layout : Layout) (l : Local) (post : Post) (desk : Desk) (rounds : ℕ) (outcome : CallOutcome) → PostIn layout post → ListIn layout.config.slots desk.list → PhaseIn layout desk (phase_left outcome) → SeatSlots layout (settled_by l post desk rounds outcome)
 settled_by_slots layout l post desk rounds (GoesOn phase) q s p = record { post = q; list = s; phase = p }
 settled_by_slots layout l post desk rounds (Answers answer) q s p = record { post = q; list = s; phase = p }
 
+-- what is noted changes no report and no list
+noting_scan : (slots : ℕ) (desk : Desk) (told : List Event) (at : ScanAt) → ScanIn slots desk at → ScanIn slots (noting desk told) at
+noting_scan slots desk told (ReadGuard number) h = h
+noting_scan slots desk told (GiveBack place slot) h = record { slot_in = h.slot_in; room = h.room }
+
+noting_slots : (layout : Layout) (desk : Desk) (told : List Event) (phase : Phase) → PhaseIn layout desk phase → PhaseIn layout (noting desk told) phase
+noting_slots layout desk told Idle h = tt
+noting_slots layout desk told (Runs why base) h = h
+noting_slots layout desk told (Scans later at) h = (h.0, noting_scan layout.config.slots desk told at h.1)
+noting_slots layout desk told (Works work) h = h
+
 settled_slots : (layout : Layout) (l : Local) (t : CallTurn) → TurnSlots layout t → SeatSlots layout (settled l t)
-settled_slots layout l t h = settled_by_slots layout l t.post (noting t.desk (told_by t)) (rounds_told l.rounds (told_by t)) t.outcome h.post h.list h.phase
+settled_slots layout l t h = settled_by_slots layout l t.post (noting t.desk (told_by t)) (rounds_told l.rounds (told_by t)) t.outcome h.post h.list (noting_slots layout t.desk (told_by t) (phase_left t.outcome) h.phase)
 
 own_slots : (w : World) (i : ℕ) → is_valid w.layout ≡ true → Seats w → Eras w → Slots w → SlotsNeeds w i → SeatSlots w.layout ((step w i).seat i)
 own_slots w i v s e h n = let l = w.seat i in let g = h.seats i in
     subst (SeatSlots w.layout) (sym (seat_steps w i))
     (subst (λ (f : ℕ). SeatSlots w.layout (after l f)) (finds_counted w i)
-    (settled_slots w.layout l _ (turn_slots w.layout w.mem i (record { told = told_of w v e; links = h.words }) l.phase l.post l.desk (counted_fits w.layout i l.post (s.fits i).post) (s.fits i).phase g.phase g.post g.list (subst (phase_finds w.layout.config l.phase) (sym (finds_counted w i)) n))))
+    (settled_slots w.layout l _ (turn_slots w.layout w.mem i (record { told = told_of w v e; links = h.words }) l.phase l.post l.desk (counted_fits w.layout i l.post (s.fits i).post) (s.fits i).phase g.phase g.post g.list (subst (phase_finds w.layout.config l.desk l.phase) (sym (finds_counted w i)) n))))
 
 pub slots_step : (w : World) (i : ℕ) → is_valid w.layout ≡ true → Seats w → Eras w → Slots w → SlotsNeeds w i → Slots (step w i)
 slots_step w i v s e h n = record {
-  words = slots_written w.layout.config.slots w.mem (move (w.seat i)) (phase_writes w.layout (w.seat i).phase (w.seat i).post (s.fits i).phase (h.seats i).phase) h.words;
+  words = slots_written w.layout.config.slots w.mem (move (w.seat i)) (phase_writes w.layout (w.seat i).desk (w.seat i).phase (w.seat i).post (s.fits i).phase (h.seats i).phase) h.words;
   seats = one_moves (λ k l. SeatSlots w.layout l) w.seat (step w i).seat i h.seats (seat_stays w i) (own_slots w i v s e h n);
 }
 
@@ -195,7 +206,7 @@ pub slots_begin : (w : World) (i : ℕ) (call : Call) → Slots w → Slots (beg
 slots_begin w i call h = record {
   words = h.words;
   seats = one_moves (λ k l. SeatSlots w.layout l) w.seat (begin w i call).seat i h.seats (λ k. begin_stays w i k call)
-      (subst (SeatSlots w.layout) (sym (begin_begins w i call)) (record { post = (h.seats i).post; list = (h.seats i).list; phase = first_slots w.layout call (begun_post (w.seat i).post) }));
+      (subst (SeatSlots w.layout) (sym (begin_begins w i call)) (record { post = (h.seats i).post; list = (h.seats i).list; phase = first_slots w.layout call (begun_post (w.seat i).post) (begun (w.seat i) call).desk }));
 }
 
 -- the start

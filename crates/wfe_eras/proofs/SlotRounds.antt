@@ -41,24 +41,24 @@ at_first He slots = tt
 at_first Ibr slots = tt
 at_first Wfe slots = tt
 
-pub opening_slots : (layout : Layout) (task : Task) (post : Post) → TaskIn layout.config task → PhaseIn layout (opening task post)
-opening_slots layout (Gets key) post t = (t, record { root_in = tt; at_in = at_first (scheme_of post) layout.config.slots })
-opening_slots layout (Changes kept) post t = (t, record { root_in = tt; at_in = at_first (scheme_of post) layout.config.slots })
-opening_slots layout (Holds key) post t = (t, record { root_in = tt; at_in = at_first (scheme_of post) layout.config.slots })
-opening_slots layout (Enqueues kept) post t = (t, record { root_in = tt; at_in = at_first (scheme_of post) layout.config.slots })
-opening_slots layout Dequeues post t = (t, record { root_in = tt; at_in = at_first (scheme_of post) layout.config.slots })
+pub opening_slots : (layout : Layout) (task : Task) (post : Post) (desk : Desk) → TaskIn layout.config task → PhaseIn layout desk (opening task post)
+opening_slots layout (Gets key) post desk t = (t, record { root_in = tt; at_in = at_first (scheme_of post) layout.config.slots })
+opening_slots layout (Changes kept) post desk t = (t, record { root_in = tt; at_in = at_first (scheme_of post) layout.config.slots })
+opening_slots layout (Holds key) post desk t = (t, record { root_in = tt; at_in = at_first (scheme_of post) layout.config.slots })
+opening_slots layout (Enqueues kept) post desk t = (t, record { root_in = tt; at_in = at_first (scheme_of post) layout.config.slots })
+opening_slots layout Dequeues post desk t = (t, record { root_in = tt; at_in = at_first (scheme_of post) layout.config.slots })
 
-begun_by : (layout : Layout) (task : Task) (post : Post) (x : Option Interval) → TaskIn layout.config task → PhaseIn layout (round_by task post (begin_span x))
-begun_by layout task post None t = (t, tt)
-begun_by layout task post (Some span) t = opening_slots layout task post t
+begun_by : (layout : Layout) (task : Task) (post : Post) (desk : Desk) (x : Option Interval) → TaskIn layout.config task → PhaseIn layout desk (round_by task post (begin_span x))
+begun_by layout task post desk None t = (t, tt)
+begun_by layout task post desk (Some span) t = opening_slots layout task post desk t
 
-round_at : (layout : Layout) (task : Task) (post : Post) (s : SchemeKind) → TaskIn layout.config task → PhaseIn layout (round_by task post (begin_base s post))
-round_at layout task post He t = opening_slots layout task post t
-round_at layout task post Ibr t = begun_by layout task post post.span t
-round_at layout task post Wfe t = opening_slots layout task post t
+round_at : (layout : Layout) (task : Task) (post : Post) (desk : Desk) (s : SchemeKind) → TaskIn layout.config task → PhaseIn layout desk (round_by task post (begin_base s post))
+round_at layout task post desk He t = opening_slots layout task post desk t
+round_at layout task post desk Ibr t = begun_by layout task post desk post.span t
+round_at layout task post desk Wfe t = opening_slots layout task post desk t
 
-pub round_slots : (layout : Layout) (task : Task) (post : Post) → TaskIn layout.config task → PhaseIn layout (round task post)
-round_slots layout task post t = round_at layout task post (scheme_of post) t
+pub round_slots : (layout : Layout) (task : Task) (post : Post) (desk : Desk) → TaskIn layout.config task → PhaseIn layout desk (round task post)
+round_slots layout task post desk t = round_at layout task post desk (scheme_of post) t
 
 -- a task's row
 task_taken : (config : Config) (task : Task) → TaskIn config task → TakenIn config.slots (taken_of task)
@@ -73,7 +73,7 @@ given_up_slots layout answer post desk told None t q l = record { post = q; list
 given_up_slots layout answer post desk told (Some slot) t q l = record { post = q; list = l; phase = (tt, t) }
 
 pub closed_slots : (layout : Layout) (task : Task) (next : Next) (post : Post) (desk : Desk) (told : List Event) → TaskIn layout.config task → NextIn layout.config.slots next → PostIn layout post → ListIn layout.config.slots desk.list → TurnSlots layout (closed task next post desk told)
-closed_slots layout task Again post desk told t n q l = record { post = q; list = l; phase = round_slots layout task post t }
+closed_slots layout task Again post desk told t n q l = record { post = q; list = l; phase = round_slots layout task post desk t }
 closed_slots layout task MakeRoom post desk told t n q l = record { post = q; list = l; phase = (t, tt) }
 closed_slots layout task (Answering answer) post desk told t n q l = given_up_slots layout answer post desk told (taken_of task) (task_taken layout.config task t) q l
 closed_slots layout task (Retiring slot answer) post desk told t n q l = record { post = q; list = l; phase = (tt, n) }

@@ -11,6 +11,7 @@ use Rattle.wfe_words.specs.declared.layout.Layout.{Layout}
 use Rattle.wfe_defs.specs.declared.event.Guard.TheVariants as guard_names
 use Rattle.wfe_defs.specs.declared.event.Root.{Root}
 use Rattle.wfe_core.specs.declared.post.Post.{Post}
+use Rattle.wfe_core.specs.Desks.{Desk}
 use Rattle.wfe_core.specs.Memory.{place_in}
 use Rattle.wfe_core.specs.Guards.{index_at, guard_by, guard_at, guards_by, guard_place}
 use Rattle.wfe_core.specs.Links.{link_place}
@@ -157,10 +158,10 @@ guard_there layout k Wfe b h = by (nat_lt k layout.config.seats) refl
     by true e = e
     by false e = index_at_there layout (k - layout.config.seats) b (grind (arith, nat_tests))
 
-scan_there : (layout : Layout) (at : ScanAt) (post : Post) → Seated layout post → scan_fits layout.config at ≡ true → ScanIn layout.config.slots at → has layout (place_in (scan_move at post)) ≡ true
-scan_there layout (ReadGuard number) post s f h = let b = bounds_of layout s.valid in
+scan_there : (layout : Layout) (desk : Desk) (at : ScanAt) (post : Post) → Seated layout post → scan_fits layout.config at ≡ true → ScanIn layout.config.slots desk at → has layout (place_in (scan_move at post)) ≡ true
+scan_there layout desk (ReadGuard number) post s f h = let b = bounds_of layout s.valid in
     subst (λ (t : Layout). has layout (guard_place (guard_at t.config number)) ≡ true) (sym s.layout_is) (guard_there layout number layout.config.scheme (let i = b.indexes.0 in omega arith) (grind (arith, nat_tests)))
-scan_there layout (GiveBack place slot) post s f h = claim_there layout slot h
+scan_there layout desk (GiveBack place slot) post s f h = claim_there layout slot h.slot_in
 
 -- a row has more than its first three words
 three_there : (layout : Layout) (slot place : ℕ) → slot ≤ layout.config.slots → place < 3 → has layout (Row slot place) ≡ true
@@ -203,14 +204,14 @@ work_there layout (Changing kept at) post s h = change_there layout kept at post
 work_there layout (Enqueuing kept at) post s h = enqueue_there layout kept at h
 work_there layout (Dequeuing at) post s h = dequeue_there layout at h
 
-phase_there : (layout : Layout) (clock : ℕ) (phase : Phase) (post : Post) → Seated layout post → PhaseFits layout post phase → PhaseEras layout clock post phase → PhaseIn layout phase
+phase_there : (layout : Layout) (clock : ℕ) (desk : Desk) (phase : Phase) (post : Post) → Seated layout post → PhaseFits layout post phase → PhaseEras layout clock post phase → PhaseIn layout desk phase
     → has layout (place_in (phase_move phase post)) ≡ true
-phase_there layout clock Idle post s r e h = refl
-phase_there layout clock (Runs why base) post s r e h = base_there layout clock why base post s r e h.1
-phase_there layout clock (Scans later at) post s r e h = scan_there layout at post s r h.1
-phase_there layout clock (Works work) post s r e h = work_there layout work post s h
+phase_there layout clock desk Idle post s r e h = refl
+phase_there layout clock desk (Runs why base) post s r e h = base_there layout clock why base post s r e h.1
+phase_there layout clock desk (Scans later at) post s r e h = scan_there layout desk at post s r h.1
+phase_there layout clock desk (Works work) post s r e h = work_there layout work post s h
 
 -- a step is on a word of the table
 pub place_there : (w : World) (i : ℕ) → is_valid w.layout ≡ true → i < w.layout.config.seats → Seats w → Eras w → Slots w → has w.layout (place_in (move (w.seat i))) ≡ true
 place_there w i v b s e h = let q = (s.fits i).post in
-    phase_there w.layout (w.mem Clock) (w.seat i).phase (w.seat i).post (record { valid = v; layout_is = q.layout; below = let t = q.seat in omega arith }) (s.fits i).phase (e.seats i).phase (h.seats i).phase
+    phase_there w.layout (w.mem Clock) (w.seat i).desk (w.seat i).phase (w.seat i).post (record { valid = v; layout_is = q.layout; below = let t = q.seat in omega arith }) (s.fits i).phase (e.seats i).phase (h.seats i).phase

@@ -1,20 +1,14 @@
--- What code is owed at each step: its operation is on a word of the table, what it knows is in range, and so is the word
--- that it finds.
-use Rattle.std.specs.Prelude.{ℕ, ◌≡◌, ◌<◌, ◌+◌, true, length}
-use Rattle.wfe_words.specs.Place.{has}
+-- What the code of a step takes of other parts besides.
+use Rattle.std.specs.Prelude.{ℕ, ◌≡◌, ◌<◌, ◌+◌, slice_get, Some}
 use Rattle.wfe_core.specs.declared.post.Post.{Post}
-use Rattle.wfe_core.specs.CallReady.{RetireFits, BackFits, NotesFit, IsCallReady, IsCallPlausible}
+use Rattle.wfe_core.specs.CallReady.{RetireFits, NotesFit, slots_of}
 use Rattle.wfe_core.specs.Desks.{Desk}
-use Rattle.wfe_core.specs.Locals.{move}
-use Rattle.wfe_core.specs.Memory.{place_in}
 use Rattle.wfe_core.specs.Posts.{tag_of}
 use Rattle.wfe_core.specs.Phases.{ProtectAt, Base}
 use Rattle.wfe_core.specs.Phases.ProtectAt.{TakeAnswer}
 use Rattle.wfe_core.specs.Phases.Base.{Protect}
-use Rattle.wfe_core.specs.Scan.{read_before}
-use Rattle.wfe_core.specs.Valid.{IsValid}
 use Rattle.wfe_core.specs.Calls.{Why, Retires, ScanAt, ReadGuard, GiveBack, Phase, Idle, Runs, Scans, Works}
-use Rattle.wfe_core.specs.World.{World, finds}
+use Rattle.wfe_core.specs.World.{World}
 use Rattle.wfe_eras.specs.Slots.{SlotsNeeds}
 
 -- a tag that is about to rise may rise once more
@@ -35,32 +29,24 @@ abbrev pub why_lists : Why → Base → Desk → Type 0
 why_lists (Retires answer) base desk = RetireFits base desk
 why_lists why base desk = Unit {0}
 
--- a scan has read as many guards as it went by, and gives back an entry of the list
-abbrev pub scan_lists : ScanAt → Post → Desk → Type 0
-scan_lists (ReadGuard number) post desk = length (read_before desk.report number) ≡ number
-scan_lists (GiveBack place slot) post desk = BackFits post desk place slot
+-- a scan gives back an entry of the list
+abbrev pub scan_entry : ScanAt → Desk → Type 0
+scan_entry (ReadGuard number) desk = Unit {0}
+scan_entry (GiveBack place slot) desk = slice_get (slots_of desk.list) place ≡ Some slot
 
-abbrev pub phase_lists : Phase → Post → Desk → Type 0
-phase_lists Idle post desk = Unit {0}
-phase_lists (Runs why base) post desk = why_lists why base desk
-phase_lists (Scans later at) post desk = scan_lists at post desk
-phase_lists (Works work) post desk = Unit {0}
+abbrev pub phase_lists : Phase → Desk → Type 0
+phase_lists Idle desk = Unit {0}
+phase_lists (Runs why base) desk = why_lists why base desk
+phase_lists (Scans later at) desk = scan_entry at desk
+phase_lists (Works work) desk = Unit {0}
 
 -- what the other parts give besides
 pub record CodeNeeds (w : World) (i : ℕ) : Type 0 where
   -- tags have 32 bits, and may rise
   pub tags : (index : ℕ) → tag_of (w.seat i).post index < 4294967295
   pub rises : phase_rises (w.seat i).phase (w.seat i).post
-  -- the list and the report are right, and so few rows went back
-  pub lists : phase_lists (w.seat i).phase (w.seat i).post (w.seat i).desk
+  -- a row that is retired is not on the list, one that goes back is, and so few rows went back
+  pub lists : phase_lists (w.seat i).phase (w.seat i).desk
   pub noted : NotesFit (w.seat i).post (w.seat i).desk
   -- what a call reads of a row is in range
   pub reads : SlotsNeeds w i
-
--- all that the code of a step may rest on
-pub record CodeReady (w : World) (i : ℕ) : Type 0 where
-  pub there : has w.layout (place_in (move (w.seat i))) ≡ true
-  pub valid : IsValid (w.seat i).post
-  pub ready : IsCallReady (w.seat i).phase (w.seat i).post (w.seat i).desk
-  pub noted : NotesFit (w.seat i).post (w.seat i).desk
-  pub plausible : IsCallPlausible (w.seat i).phase (w.seat i).post (finds w i)

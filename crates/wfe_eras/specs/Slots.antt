@@ -17,6 +17,8 @@ use Rattle.wfe_core.specs.declared.ends.ProtectEnd.{ProtectEnd}
 use Rattle.wfe_core.specs.declared.ends.ProtectEnd.TheVariants as protect_ends
 use Rattle.wfe_core.specs.declared.post.Post.{Post}
 use Rattle.wfe_core.specs.Memory.{Move, Load, Store, Cas, Or, And}
+use Rattle.wfe_core.specs.Desks.{Desk}
+use Rattle.wfe_core.specs.Scan.{read_before}
 use Rattle.wfe_core.specs.Posts.{stands}
 use Rattle.wfe_core.specs.Phases.{ProtectAt, RetireAt, MoveAt, Base, Ending, Outcome, Goes, Ends, Turn, RowOf, MapRow, QueueRow}
 use Rattle.wfe_core.specs.Phases.ProtectAt.{CheckClock, CheckOwnClock, AnswerOwn, TakeAnswer, WithdrawRequest, WithdrawHelper, CheckUpper}
@@ -192,15 +194,21 @@ WorkIn config (Changing kept at) = ChangeIn config kept × ChangeAtIn config kep
 WorkIn config (Enqueuing kept at) = EnqueueIn config kept × EnqueueAtIn config kept at
 WorkIn config (Dequeuing at) = DequeueIn config.slots at
 
-abbrev pub ScanIn : ℕ → ScanAt → Type 0
-ScanIn slots (ReadGuard number) = Unit {0}
-ScanIn slots (GiveBack place slot) = slot ≤ slots
+-- what goes back and what is left are no more than the rows
+pub record BackIn (slots : ℕ) (desk : Desk) (slot : ℕ) : Type 0 where
+  pub slot_in : slot ≤ slots
+  pub room : desk.report.back + length desk.list ≤ slots + 1
 
-abbrev pub PhaseIn : Layout → Phase → Type 0
-PhaseIn layout Idle = Unit {0}
-PhaseIn layout (Runs why base) = WhyIn layout.config why × BaseIn layout base
-PhaseIn layout (Scans later at) = LaterIn layout.config later × ScanIn layout.config.slots at
-PhaseIn layout (Works work) = WorkIn layout.config work
+-- a scan has read as many guards as it went by
+abbrev pub ScanIn : ℕ → Desk → ScanAt → Type 0
+ScanIn slots desk (ReadGuard number) = length (read_before desk.report number) ≡ number
+ScanIn slots desk (GiveBack place slot) = BackIn slots desk slot
+
+abbrev pub PhaseIn : Layout → Desk → Phase → Type 0
+PhaseIn layout desk Idle = Unit {0}
+PhaseIn layout desk (Runs why base) = WhyIn layout.config why × BaseIn layout base
+PhaseIn layout desk (Scans later at) = LaterIn layout.config later × ScanIn layout.config.slots desk at
+PhaseIn layout desk (Works work) = WorkIn layout.config work
 
 -- what stands is a row of the table, at one of the seat's indexes
 abbrev pub StandsIn : Layout → Option ℕ → ℕ → Type 0
@@ -218,13 +226,13 @@ ListIn slots lives = All (λ (life : Lifetime). life.slot ≤ slots) lives
 pub record TurnSlots (layout : Layout) (t : CallTurn) : Type 0 where
   pub post : PostIn layout t.post
   pub list : ListIn layout.config.slots t.desk.list
-  pub phase : PhaseIn layout (phase_left t.outcome)
+  pub phase : PhaseIn layout t.desk (phase_left t.outcome)
 
 -- and of a seat
 pub record SeatSlots (layout : Layout) (l : Local) : Type 0 where
   pub post : PostIn layout l.post
   pub list : ListIn layout.config.slots l.desk.list
-  pub phase : PhaseIn layout l.phase
+  pub phase : PhaseIn layout l.desk l.phase
 
 -- a machine's step
 abbrev pub OutcomeIn : Layout → Outcome → Type 0
@@ -300,11 +308,16 @@ work_finds config (Changing kept at) found = change_finds config at found
 work_finds config (Enqueuing kept at) found = enqueue_finds config at found
 work_finds config (Dequeuing at) found = dequeue_finds config at found
 
-abbrev pub phase_finds : Config → Phase → ℕ → Type 0
-phase_finds config Idle found = Unit {0}
-phase_finds config (Runs why base) found = Unit {0}
-phase_finds config (Scans later at) found = Unit {0}
-phase_finds config (Works work) found = work_finds config work found
+-- the list is no longer than the rows when a scan ends reading, and has the entry that goes back
+abbrev pub scan_lists : Config → Desk → ScanAt → Type 0
+scan_lists config desk (ReadGuard number) = length desk.list ≤ config.slots + 1
+scan_lists config desk (GiveBack place slot) = place < length desk.list
+
+abbrev pub phase_finds : Config → Desk → Phase → ℕ → Type 0
+phase_finds config desk Idle found = Unit {0}
+phase_finds config desk (Runs why base) found = Unit {0}
+phase_finds config desk (Scans later at) found = scan_lists config desk at
+phase_finds config desk (Works work) found = work_finds config work found
 
 abbrev pub SlotsNeeds : World → ℕ → Type 0
-SlotsNeeds w i = phase_finds w.layout.config (w.seat i).phase (finds w i)
+SlotsNeeds w i = phase_finds w.layout.config (w.seat i).desk (w.seat i).phase (finds w i)

@@ -6,8 +6,9 @@ ghost use Rattle.wfe_words.specs.Place.{is_valid};
 ghost use Rattle.wfe_words.specs.Place.Place.{Clock};
 ghost use Rattle.wfe_words.specs.declared.layout.Layout.{Layout as Table};
 ghost use Rattle.wfe_defs.specs.declared.call.Call.{Call};
+ghost use Rattle.wfe_core.specs.MayStep.{MayStep};
 ghost use Rattle.wfe_core.specs.World.{World, start, begin, step};
-ghost use Rattle.wfe_eras.specs.Code.{CodeNeeds, CodeReady};
+ghost use Rattle.wfe_eras.specs.Code.{CodeNeeds};
 ghost use Rattle.wfe_eras.specs.Eras.{Eras, ErasNeeds};
 ghost use Rattle.wfe_eras.specs.Gives.{GivesGuards, GivesClears, GivesWalks, GivesBirths, GivesLinks};
 ghost use Rattle.wfe_eras.specs.Seats.{Seats};
@@ -42,7 +43,7 @@ pub fn links_stay_within()
 /// A seat's operation is on a word of the table, its post is valid, and what its call stands on and
 /// what its step finds is in range.
 pub fn steps_are_ready()
-    ensures ready { (w : World) (i : ℕ) → is_valid w.layout ≡ true → i < w.layout.config.seats → Seats w → Eras w → Slots w → CodeNeeds w i → CodeReady w i }
+    ensures ready { (w : World) (i : ℕ) → is_valid w.layout ≡ true → i < w.layout.config.seats → Seats w → Eras w → Slots w → CodeNeeds w i → MayStep w i }
 {}
 
 /// What the shape of seats, the eras and the links give to the parts that speak of rows and of
