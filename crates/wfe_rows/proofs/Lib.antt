@@ -1,3 +1,4 @@
+pub mod Facts
 pub mod Fits
 pub mod Kept
 pub mod Line

@@ -440,7 +440,7 @@ not_head : (numbers : ℕ → ℕ) (head next : ℕ) (same : Bool) → (next == 
 not_head numbers head next true e h = let one : next ≡ head = grind (arith, nat_tests) in absurd (omega (arith, ap numbers one))
 not_head numbers head next false e h = refl
 
-queue_needs : (slots : ℕ) (mem : Place → ℕ) (v : View) (l : Line) (phase : Phase) (outcome : Base → Outcome) → PhaseNeeds slots mem v l phase outcome → mem Head ≡ v.head → LineIn v l mem → WalksIn phase v l mem → Needs slots mem v phase
+pub queue_needs : (slots : ℕ) (mem : Place → ℕ) (v : View) (l : Line) (phase : Phase) (outcome : Base → Outcome) → PhaseNeeds slots mem v l phase outcome → mem Head ≡ v.head → LineIn v l mem → WalksIn phase v l mem → Needs slots mem v phase
 queue_needs slots mem v l phase outcome n c g w = record {
   walks = n.walks;
   births = n.births;

@@ -1,5 +1,6 @@
 pub mod Agree
 pub mod Chain
+pub mod Facts
 pub mod Hands
 pub mod Queue
 pub mod Rows
