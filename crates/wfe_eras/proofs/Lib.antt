@@ -1,0 +1,13 @@
+pub mod Decode
+pub mod Finds
+pub mod Frame
+pub mod Growth
+pub mod Inside
+pub mod Kept
+pub mod Machines
+pub mod Monotone
+pub mod Shapes
+pub mod Spans
+pub mod Steps
+pub mod Works
+pub mod Written

@@ -1,0 +1,3 @@
+pub mod Eras
+pub mod Frame
+pub mod Seats
