@@ -1,3 +1,4 @@
+mod Before
 mod Fresh
 mod Rows
 mod Scans
