@@ -1,4 +1,5 @@
 mod Before
 mod Fresh
+mod Kept
 mod Rows
 mod Scans

@@ -9,11 +9,16 @@ use Rattle.wfe_defs.specs.declared.event.Guard.TheVariants.{Helper, Index, Whole
 use Rattle.wfe_defs.specs.declared.lifetime.Interval.{Interval}
 use Rattle.wfe_defs.specs.declared.lifetime.Lifetime.{Lifetime}
 use Rattle.wfe_core.specs.Desks.{Desk, Report, Seen}
-use Rattle.wfe_core.specs.Guards.{guards, guard_place, published}
+use Rattle.wfe_core.specs.Guards.{guards, guard_at, guard_place, published}
 use Rattle.wfe_core.specs.Scan.{meets_any, read_before}
 use Rattle.wfe_core.specs.Calls.{ScanAt, ReadGuard, GiveBack, Phase, Idle, Runs, Scans, Works, CallTurn, CallOutcome, GoesOn, Answers}
 use Rattle.wfe_core.specs.Locals.{Local}
-use Rattle.wfe_core.specs.World.{World, finds}
+use Rattle.wfe_core.specs.World.{World, start, step, begin, finds}
+use Rattle.wfe_rows.specs.Hands.{row_move}
+use Rattle.wfe_rows.specs.Agree.{Agree, RowsNeeds, rows_after}
+use Rattle.wfe_words.specs.declared.layout.Layout.{Layout}
+use Rattle.wfe_words.specs.Place.Place.{Clock}
+use Rattle.wfe_defs.specs.declared.call.Call.{Call}
 use Rattle.wfe_rows.specs.Rows.{Status, View, RowMove}
 use Rattle.wfe_rows.specs.Rows.Status.{Free, Claimed, Born, Linked, InQueue, Cut, Sealed, Listed}
 use Rattle.wfe_rows.specs.Rows.RowMove.{Stays, Claims, Bears, Drops, Links, Replaces, Appends, Pops, Reads, Seals, Lists, Returns}
@@ -176,3 +181,68 @@ frees (Reads slot birth) s = false
 frees (Seals slot birth retire) s = false
 frees (Lists slot birth retire) s = false
 frees (Returns slot) s = s == slot
+
+-- the row that a move makes free, or claims
+abbrev pub takes_or_frees : RowMove → ℕ → Bool
+takes_or_frees Stays s = false
+takes_or_frees (Claims slot) s = s == slot
+takes_or_frees (Bears slot birth) s = s == slot
+takes_or_frees (Drops slot) s = s == slot
+takes_or_frees (Links bucket slot) s = s == slot
+takes_or_frees (Replaces bucket slot old) s = s == slot
+takes_or_frees (Appends slot) s = s == slot
+takes_or_frees (Pops slot next) s = false
+takes_or_frees (Reads slot birth) s = false
+takes_or_frees (Seals slot birth retire) s = false
+takes_or_frees (Lists slot birth retire) s = false
+takes_or_frees (Returns slot) s = s == slot
+
+-- a guard of the table: a scan reads it, under its number
+pub record GuardFits (config : Config) (guard : Guard) : Type 0 where
+  pub below : number_of config guard < guards config
+  pub is : guard_at config (number_of config guard) ≡ guard
+
+-- an interval that covers at least what another covers
+abbrev pub Widens : Option Interval → Option Interval → Type 0
+Widens None new = Unit {0}
+Widens (Some old) None = false ≡ true
+Widens (Some old) (Some new) = (new.lo ≤ old.lo) × (old.hi ≤ new.hi)
+
+-- what a step needs of the other parts of the invariant: what is known of the rows, that each seat's post has the table's
+-- layout, and that no interval begins after the clock
+pub record CoversNeeds (w : World) (i : ℕ) (v : View) : Type 0 where
+  pub rows : Agree w v
+  pub needs : RowsNeeds w i v
+  pub layouts : (k : ℕ) → (w.seat k).post.layout ≡ w.layout
+  pub eras : (guard : Guard) → NotBefore (shown w guard) (w.mem Clock)
+
+-- a row that a guard covers stays covered by it over each step that does not take from the guard's interval
+abbrev pub CoversKept : Type 0
+CoversKept =
+    (w : World) (i : ℕ) (v : View) (guard : Guard) (slot : ℕ)
+    → CoversNeeds w i v
+    → Scanning w
+    → GuardFits w.layout.config guard
+    → Widens (shown w guard) (shown (step w i) guard)
+    → Covers w v guard slot
+    → Covers (step w i) (rows_after w i v) guard slot
+
+-- no step makes a covered row free: neither does a scan give it back, nor is it given up; and no step claims it
+abbrev pub NotReused : Type 0
+NotReused =
+    (w : World) (i : ℕ) (v : View) (guard : Guard) (slot : ℕ)
+    → CoversNeeds w i v
+    → Scanning w
+    → GuardFits w.layout.config guard
+    → Covers w v guard slot
+    → takes_or_frees (row_move (w.seat i).phase (w.seat i).post (finds w i)) slot ≡ false
+
+-- what a scan gives back meets nothing that it read: so from the start on, and over each beginning of a call and each step
+abbrev pub ScansStart : Type 0
+ScansStart = (layout : Layout) → Scanning (start layout)
+
+abbrev pub ScansBegin : Type 0
+ScansBegin = (w : World) (i : ℕ) (call : Call) → Scanning w → Scanning (begin w i call)
+
+abbrev pub ScansKept : Type 0
+ScansKept = (w : World) (i : ℕ) → Scanning w → Scanning (step w i)
