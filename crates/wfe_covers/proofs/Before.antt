@@ -1,10 +1,10 @@
 -- Where a row is before the move that a step makes of it.
-use Rattle.std.proofs.Common.{ℕ, ◌≤◌, ◌+◌, ◌-◌, ◌<◌, ◌/◌, ◌%◌, ◌≡◌, ◌∙◌, sym, subst, ap, true, false, arith, refl, Bool, Option, Some, None, List, []}
+use Rattle.std.proofs.Common.{ℕ, ◌≤◌, ◌+◌, ◌-◌, ◌/◌, ◌%◌, ◌≡◌, ◌∙◌, sym, ap, true, false, arith, refl, Bool, Option, Some, None, List, []}
 use Rattle.std.proofs.lemmas.Bool.Decides.{nat_tests}
 use Rattle.std.specs.Prelude.{◌==◌, if◌then◌else◌}
 use Rattle.std.specs.Int.{bit_at}
 use Rattle.wfe_words.specs.Place.{Place, claim_word}
-use Rattle.wfe_words.specs.Place.Place.{Clock, Bucket, Head, Claim, Life, Row}
+use Rattle.wfe_words.specs.Place.Place.{Bucket, Head, Claim, Row}
 use Rattle.wfe_core.specs.declared.post.Post.{Post}
 use Rattle.wfe_core.specs.Allocate.{is_claimed}
 use Rattle.wfe_core.specs.Memory.{found, place_in}
@@ -15,12 +15,12 @@ use Rattle.wfe_core.specs.Phases.RetireAt.{LoadLife, LoadRetire, StoreRetired}
 use Rattle.wfe_core.specs.Phases.Base.{Begin, Protect, Reload, Clear, Finish, Release, Allocate, Write, GiveUp, Retire, Move}
 use Rattle.wfe_core.specs.Machine.{base_move}
 use Rattle.wfe_core.specs.Steps.{phase_move, work_move}
-use Rattle.wfe_core.specs.Calls.{ChangeKept, EnqueueKept, Task, Gets, Changes, Holds, Enqueues, Dequeues, Why, Opens, FollowsHead, Fills, ClearsNext, Clears, Finishes, GivesUp, Retires, Tidies, Advances, Releases, ScanAt, ReadGuard, GiveBack, ChangeAt, LoadVersion, LoadCount, LoadKey, LoadValue, ExchangeRoot, EnqueueAt, LoadNumber, LoadNext, PassTail, ExchangeNext, ExchangeTail, DequeueAt, LoadTail, SwingTail, TakeNumber, TakeValue, ExchangeHead, Work, Getting, Changing, Enqueuing, Dequeuing, Phase, Idle, Runs, Scans, Works}
-use Rattle.wfe_rows.specs.Rows.{Status, View, Good, Hand, RowMove, is_taken, status_in, names}
+use Rattle.wfe_core.specs.Calls.{ChangeKept, EnqueueKept, Task, Why, Opens, FollowsHead, Fills, ClearsNext, Clears, Finishes, GivesUp, Retires, Tidies, Advances, Releases, ReadGuard, GiveBack, ChangeAt, LoadVersion, LoadCount, LoadKey, LoadValue, ExchangeRoot, EnqueueAt, LoadNumber, LoadNext, PassTail, ExchangeNext, ExchangeTail, DequeueAt, LoadTail, SwingTail, TakeNumber, TakeValue, ExchangeHead, Work, Getting, Changing, Enqueuing, Dequeuing, Phase, Idle, Runs, Scans, Works}
+use Rattle.wfe_rows.specs.Rows.{Status, View, Good, is_taken}
 use Rattle.wfe_rows.specs.Rows.Status.{Free, Claimed, Born, Linked, InQueue, Cut, Sealed, Listed}
-use Rattle.wfe_rows.specs.Rows.Hand.{Empty, New, Taken, Old, Known, Dated}
+use Rattle.wfe_rows.specs.Rows.Hand.{New, Taken, Known, Dated}
 use Rattle.wfe_rows.specs.Rows.RowMove.{Stays, Claims, Links, Replaces, Appends, Pops}
-use Rattle.wfe_rows.specs.Hands.{hand_of, hand_in, holds_slot, is_plain, is_right, is_giving_up, is_retiring, runs_right, task_fills, fills_right, base_row, linked_row, work_row, row_move}
+use Rattle.wfe_rows.specs.Hands.{hand_of, hand_in, holds_slot, is_plain, is_right, is_giving_up, is_retiring, runs_right, base_row, linked_row, work_row, row_move}
 use Rattle.wfe_defs.specs.declared.call.Answer.{Answer}
 use Rattle.wfe_defs.specs.declared.lifetime.Lifetime.{Lifetime}
 use Rattle.wfe_rows.specs.Agree.{Words, Plays, Needs, claim_of}

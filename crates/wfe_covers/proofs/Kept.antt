@@ -1,5 +1,5 @@
 -- A covered row stays covered, and no scan gives it back.
-use Rattle.std.proofs.Common.{ℕ, zero, suc, ◌≤◌, ◌+◌, ◌-◌, ◌<◌, ◌≡◌, ◌∙◌, sym, subst, ap, true, false, arith, refl, Bool, Option, Some, None, List, [], ◌∷◌, not}
+use Rattle.std.proofs.Common.{ℕ, zero, suc, ◌+◌, ◌-◌, ◌<◌, ◌≡◌, ◌∙◌, sym, subst, ap, true, false, arith, refl, Bool, Option, Some, None, List, [], ◌∷◌}
 use Rattle.std.proofs.lemmas.Bool.Decides.{nat_tests}
 use Rattle.std.specs.Prelude.{◌==◌, if◌then◌else◌}
 use Rattle.wfe_words.specs.declared.layout.Layout.{Layout}
@@ -24,20 +24,24 @@ use Rattle.wfe_defs.specs.declared.event.Event.{Event}
 use Rattle.wfe_words.specs.Place.{claim_word}
 use Rattle.wfe_words.specs.Place.Place.{Bucket, Head, Claim, Row}
 use Rattle.wfe_core.specs.Machine as machine
-use Rattle.wfe_core.specs.Scan.{meets_any, meets_span, scan_turn}
-use Rattle.wfe_core.specs.Steps.{phase_turn, phase_move, resumed, run_turn}
-use Rattle.wfe_core.specs.Calls.{AfterScan, ScanAt, ReadGuard, GiveBack, Why, ChangeAt, LoadVersion, LoadCount, LoadKey, LoadValue, ExchangeRoot, EnqueueAt, LoadNumber, LoadNext, PassTail, ExchangeNext, ExchangeTail, DequeueAt, LoadTail, SwingTail, TakeNumber, TakeValue, ExchangeHead, Work, Getting, Changing, Enqueuing, Dequeuing, Phase, Idle, Runs, Scans, Works, CallTurn, CallOutcome, GoesOn, Answers}
-use Rattle.wfe_core.specs.Locals.{Local, turn, after, settled, settled_by, told_by, rounds_told}
+use Rattle.wfe_core.specs.Scan.{meets_any, meets_span}
+use Rattle.wfe_core.specs.Steps.{phase_turn, phase_move, resumed, run_turn, work_turn, holding, first_phase}
+use Rattle.wfe_defs.specs.declared.call.Call.{Call}
+use Rattle.wfe_defs.specs.declared.call.Call.TheVariants as names
+use Rattle.wfe_core.specs.Posts.{stands}
+use Rattle.wfe_core.specs.Rounds.{round}
+use Rattle.wfe_core.specs.Calls.{Gets, Changes, Holds, Enqueues, Dequeues, AfterScan, ScanAt, ReadGuard, GiveBack, Why, LoadVersion, LoadCount, LoadKey, LoadValue, ExchangeRoot, LoadNumber, LoadNext, PassTail, ExchangeNext, ExchangeTail, LoadTail, SwingTail, TakeNumber, TakeValue, ExchangeHead, Work, Getting, Changing, Enqueuing, Dequeuing, Phase, Idle, Runs, Scans, Works, CallTurn, CallOutcome, GoesOn, Answers}
+use Rattle.wfe_core.specs.Locals.{begun, begun_post, Local, turn, after, settled, settled_by, told_by, rounds_told}
 use Rattle.wfe_core.specs.World.{World, step, finds}
 use Rattle.wfe_rows.specs.Rows.{Status, View, Good, RowMove, made}
 use Rattle.wfe_rows.specs.Rows.Status.{Free, Claimed, Born, Linked, InQueue, Cut, Sealed, Listed}
 use Rattle.wfe_rows.specs.Rows.RowMove.{Stays, Claims, Bears, Drops, Links, Replaces, Appends, Pops, Reads, Seals, Lists, Returns}
-use Rattle.wfe_rows.specs.Hands.{in_list, stands_at, base_row, work_row, row_move, is_right}
-use Rattle.wfe_rows.specs.Agree.{Agree, Plays, rows_after}
+use Rattle.wfe_rows.specs.Hands.{in_list, stands_at, base_row, work_row, scan_row, row_move}
+use Rattle.wfe_rows.specs.Agree.{Plays, rows_after}
 use Rattle.wfe_eras.specs.Frame.{phase_left}
 use Rattle.wfe_eras.proofs.Frame.{seat_stays, seat_steps}
-use Rattle.wfe_covers.specs.Covers.{is_past, until, spans, Before, NotBefore, Late, frees, takes_or_frees, upto, read_in, has_met, life_of, number_of, shown, Covers, unmet_at, is_unmet, is_fresh, GuardFits, Widens, CoversNeeds, Scanning, NotReused}
-use Rattle.wfe_covers.proofs.Fresh.{work_fresh, resume_fresh}
+use Rattle.wfe_covers.specs.Covers.{is_past, spans, Before, NotBefore, Late, frees, takes_or_frees, has_met, life_of, number_of, shown, Covers, unmet_at, is_unmet, is_fresh, GuardFits, Widens, CoversNeeds, NotReused, CoversKept, ScansStart, ScansBegin, ScansKept}
+use Rattle.wfe_covers.proofs.Fresh.{round_fresh, work_fresh, resume_fresh}
 use Rattle.wfe_covers.proofs.Rows.{spans_kept, birth_kept, listed_other}
 use Rattle.wfe_covers.proofs.Scans.{fresh_met, fresh_unmet, scan_met, scan_unmet_kept}
 use Rattle.wfe_covers.proofs.Before.{phase_before}
@@ -279,10 +283,144 @@ resumed_fresh why desk post told (Ends ending) = resume_fresh why ending post de
 run_fresh : (why : Why) (desk : Desk) (t : Turn) → is_fresh (phase_left (run_turn why desk t).outcome) ≡ true
 run_fresh why desk t = resumed_fresh why desk t.post t.told t.outcome
 
--- what a scan has met of the life of a row that is on the seat's list, before and after a step of it
-turn_met : (phase : Phase) (post : Post) (desk : Desk) (x number : ℕ) (life : Lifetime) → ((later : AfterScan) (n : ℕ) → phase ≡ Scans later (ReadGuard n) → number ≡ n → meets_span life (published (guard_at post.layout.config n) x) ≡ true) → has_met (guards post.layout.config) phase desk.report number life ≡ true
-    → has_met (guards post.layout.config) (phase_left (phase_turn phase post desk x).outcome) (phase_turn phase post desk x).desk.report number life ≡ true
-turn_met Idle post desk x number life e h = fresh_met (guards post.layout.config) Idle desk.report number life refl
-turn_met (Runs why base) post desk x number life e h = fresh_met (guards post.layout.config) (phase_left (phase_turn (Runs why base) post desk x).outcome) (phase_turn (Runs why base) post desk x).desk.report number life (run_fresh why desk (machine.after base post x))
-turn_met (Scans later at) post desk x number life e h = scan_met later at post desk x number life (λ n q. e later n (ap (Scans later) q)) h
-turn_met (Works work) post desk x number life e h = fresh_met (guards post.layout.config) (phase_left (phase_turn (Works work) post desk x).outcome) (phase_turn (Works work) post desk x).desk.report number life (work_fresh work post desk x)
+-- what a scan knows of the life of a row that is on its list, and of the guard that it reads
+record Knows (phase : Phase) (post : Post) (report : Report) (mem : Place → ℕ) (guard : Guard) (life : Lifetime) : Type 0 where
+  met : has_met (guards post.layout.config) phase report (number_of post.layout.config guard) life ≡ true
+  meets : meets_span life (published guard (mem (guard_place guard))) ≡ true
+
+read_meets : (mem : Place → ℕ) (config : Config) (guard : Guard) (n : ℕ) (life : Lifetime) → GuardFits config guard → number_of config guard ≡ n → meets_span life (published guard (mem (guard_place guard))) ≡ true → meets_span life (published (guard_at config n) (mem (guard_place (guard_at config n)))) ≡ true
+read_meets mem config guard n life f e h =
+    subst (λ (g : Guard). meets_span life (published g (mem (guard_place g))) ≡ true) (sym f.is ∙ ap (guard_at config) e) h
+
+read_meets_at : (mem : Place → ℕ) (config : Config) (guard : Guard) (n m : ℕ) (life : Lifetime) → GuardFits config guard → n ≡ m → number_of config guard ≡ m → meets_span life (published guard (mem (guard_place guard))) ≡ true → meets_span life (published (guard_at config m) (mem (guard_place (guard_at config n)))) ≡ true
+read_meets_at mem config guard n m life f s e h = subst (λ (k : ℕ). meets_span life (published (guard_at config m) (mem (guard_place (guard_at config k)))) ≡ true) (sym s) (read_meets mem config guard m life f e h)
+
+-- a step of the seat whose list has the row
+turn_met : (phase : Phase) (post : Post) (desk : Desk) (mem : Place → ℕ) (guard : Guard) (life : Lifetime) → GuardFits post.layout.config guard → ((later : AfterScan) (at : ScanAt) → phase ≡ Scans later at → Knows phase post desk.report mem guard life)
+    → has_met (guards post.layout.config) (phase_left (phase_turn phase (counted post) desk (found (phase_move phase post) (mem (place_in (phase_move phase post))))).outcome) (phase_turn phase (counted post) desk (found (phase_move phase post) (mem (place_in (phase_move phase post))))).desk.report (number_of post.layout.config guard) life ≡ true
+turn_met Idle post desk mem guard life f k = fresh_met (guards post.layout.config) Idle desk.report (number_of post.layout.config guard) life refl
+turn_met (Runs why base) post desk mem guard life f k =
+    let x : ℕ = found (phase_move (Runs why base) post) (mem (place_in (phase_move (Runs why base) post))) in
+    let t : CallTurn = run_turn why desk (machine.after base (counted post) x) in
+    fresh_met (guards post.layout.config) (phase_left t.outcome) t.desk.report (number_of post.layout.config guard) life (run_fresh why desk (machine.after base (counted post) x))
+turn_met (Scans later (ReadGuard n)) post desk mem guard life f k =
+    let y = k later (ReadGuard n) refl in
+    scan_met later (ReadGuard n) (counted post) desk (mem (guard_place (guard_at post.layout.config n))) (number_of post.layout.config guard) life (λ m q e. let s : n ≡ m = cc in read_meets_at mem post.layout.config guard n m life f s e y.meets) y.met
+turn_met (Scans later (GiveBack place slot)) post desk mem guard life f k =
+    let y = k later (GiveBack place slot) refl in
+    scan_met later (GiveBack place slot) (counted post) desk (found (phase_move (Scans later (GiveBack place slot)) post) (mem (place_in (phase_move (Scans later (GiveBack place slot)) post)))) (number_of post.layout.config guard) life (λ m q e. absurd (cc)) y.met
+turn_met (Works work) post desk mem guard life f k =
+    let x : ℕ = found (phase_move (Works work) post) (mem (place_in (phase_move (Works work) post))) in
+    let t : CallTurn = work_turn work (counted post) desk x in
+    fresh_met (guards post.layout.config) (phase_left t.outcome) t.desk.report (number_of post.layout.config guard) life (work_fresh work (counted post) desk x)
+
+-- the same of the seat's state
+settled_by_met : (all : ℕ) (l : Local) (post : Post) (desk : Desk) (told : List Event) (rounds number : ℕ) (life : Lifetime) (outcome : CallOutcome) → has_met all (phase_left outcome) desk.report number life ≡ true → has_met all (settled_by l post (noting desk told) rounds outcome).phase (settled_by l post (noting desk told) rounds outcome).desk.report number life ≡ true
+settled_by_met all l post desk told rounds number life (GoesOn phase) h = h
+settled_by_met all l post desk told rounds number life (Answers answer) h = h
+
+settled_met : (all : ℕ) (l : Local) (t : CallTurn) (number : ℕ) (life : Lifetime) → has_met all (phase_left t.outcome) t.desk.report number life ≡ true → has_met all (settled l t).phase (settled l t).desk.report number life ≡ true
+settled_met all l t number life h = settled_by_met all l t.post t.desk (told_by t) (rounds_told l.rounds (told_by t)) number life t.outcome h
+
+-- a row that is on the list after a step of the scan was on it before
+listed_scan : (i k r : ℕ) (v : View) (at : ScanAt) (s : ℕ) → (made i v (scan_row at)).status s ≡ Listed k r → v.status s ≡ Listed k r
+listed_scan i k r v (ReadGuard n) s h = h
+listed_scan i k r v (GiveBack place slot) s h = grind (arith, nat_tests)
+
+listed_phase : (i k r : ℕ) (v : View) (phase : Phase) (post : Post) (x s : ℕ) (later : AfterScan) (at : ScanAt) → phase ≡ Scans later at → (made i v (row_move phase post x)).status s ≡ Listed k r → v.status s ≡ Listed k r
+listed_phase i k r v phase post x s later at e h = listed_scan i k r v at s (rw e at h)
+
+met_own : (w : World) (i : ℕ) (v : View) (guard : Guard) (s r : ℕ) → CoversNeeds w i v → GuardFits w.layout.config guard → Covers w v guard s → (rows_after w i v).status s ≡ Listed i r
+    → has_met (guards w.layout.config) ((step w i).seat i).phase ((step w i).seat i).desk.report (number_of w.layout.config guard) (life_of s (v.birth s) r) ≡ true
+met_own w i v guard s r n f c h =
+    let l : Local = w.seat i in
+    let life : Lifetime = life_of s (v.birth s) r in
+    let e : l.post.layout ≡ w.layout = n.layouts i in
+    let g : GuardFits l.post.layout.config guard = subst (λ (layout : Layout). GuardFits layout.config guard) (sym e) f in
+    let m = turn_met l.phase l.post l.desk w.mem guard life g (λ later at q. let st : v.status s ≡ Listed i r = listed_phase i i r v l.phase l.post (finds w i) s later at q h in record {
+      met = subst (λ (layout : Layout). has_met (guards layout.config) l.phase l.desk.report (number_of layout.config guard) life ≡ true) (sym e) (c.scans i r st);
+      meets = spans_meets (shown w guard) s (v.birth s) i r (rw st at c.spans);
+    }) in
+    let b = settled_met (guards l.post.layout.config) l (turn l (finds w i)) (number_of l.post.layout.config guard) life m in
+    rw (seat_steps w i) (subst (λ (layout : Layout). has_met (guards layout.config) (after l (finds w i)).phase (after l (finds w i)).desk.report (number_of layout.config guard) life ≡ true) e b)
+
+met_other : (w : World) (i k : ℕ) (v : View) (guard : Guard) (s r : ℕ) → (k == i) ≡ false → Covers w v guard s → (rows_after w i v).status s ≡ Listed k r
+    → has_met (guards w.layout.config) ((step w i).seat k).phase ((step w i).seat k).desk.report (number_of w.layout.config guard) (life_of s (v.birth s) r) ≡ true
+met_other w i k v guard s r e c h =
+    rw (seat_stays w i k e) (c.scans k r (listed_other i k r v (row_move (w.seat i).phase (w.seat i).post (finds w i)) s e h))
+
+met_at : (w : World) (i k : ℕ) (v : View) (guard : Guard) (s r : ℕ) (same : Bool) → (k == i) ≡ same → CoversNeeds w i v → GuardFits w.layout.config guard → Covers w v guard s → (rows_after w i v).status s ≡ Listed k r
+    → has_met (guards w.layout.config) ((step w i).seat k).phase ((step w i).seat k).desk.report (number_of w.layout.config guard) (life_of s (v.birth s) r) ≡ true
+met_at w i k v guard s r true e n f c h =
+    let q : i ≡ k = grind (arith, nat_tests) in
+    subst (λ (j : ℕ). (rows_after w i v).status s ≡ Listed j r → has_met (guards w.layout.config) ((step w i).seat j).phase ((step w i).seat j).desk.report (number_of w.layout.config guard) (life_of s (v.birth s) r) ≡ true) q (met_own w i v guard s r n f c) h
+met_at w i k v guard s r false e n f c h = met_other w i k v guard s r e c h
+
+pub covers_kept : CoversKept
+covers_kept w i v guard s n u f wide c =
+    let m : RowMove = row_move (w.seat i).phase (w.seat i).post (finds w i) in
+    let b : Before i v m = before_at w i v n in
+    let p : is_past (v.status s) ≡ true = spans_past (shown w guard) (v.birth s) (v.status s) c.spans in
+    let y : (rows_after w i v).birth s ≡ v.birth s = birth_kept i v m s b p in
+    let late : Late (shown w guard) m = seals_late (shown w guard) w.mem (w.seat i).phase (w.seat i).post (n.eras guard) in
+    let stays = spans_kept i v m s (shown w guard) b late (takes_frees m s (not_reused w i v guard s n u f c)) c.spans in
+    record {
+      spans = widens_spans (shown w guard) (shown (step w i) guard) ((rows_after w i v).birth s) ((rows_after w i v).status s) wide stays;
+      scans = λ k r h. rw y (met_at w i k v guard s r (k == i) refl n f c h);
+    }
+
+-- what a scan gives back, over a step
+turn_unmet : (phase : Phase) (post : Post) (desk : Desk) (x : ℕ) → is_unmet (phase_left (phase_turn phase post desk x).outcome) (phase_turn phase post desk x).desk ≡ true
+turn_unmet Idle post desk x = refl
+turn_unmet (Runs why base) post desk x = fresh_unmet (phase_left (run_turn why desk (machine.after base post x)).outcome) (run_turn why desk (machine.after base post x)).desk (run_fresh why desk (machine.after base post x))
+turn_unmet (Scans later at) post desk x = scan_unmet_kept later at post desk x
+turn_unmet (Works work) post desk x = fresh_unmet (phase_left (work_turn work post desk x).outcome) (work_turn work post desk x).desk (work_fresh work post desk x)
+
+noted_unmet : (phase : Phase) (desk : Desk) (told : List Event) → is_unmet phase desk ≡ true → is_unmet phase (noting desk told) ≡ true
+noted_unmet Idle desk told h = refl
+noted_unmet (Runs why base) desk told h = refl
+noted_unmet (Scans later (ReadGuard n)) desk told h = refl
+noted_unmet (Scans later (GiveBack place slot)) desk told h = h
+noted_unmet (Works work) desk told h = refl
+
+settled_by_unmet : (l : Local) (post : Post) (desk : Desk) (rounds : ℕ) (outcome : CallOutcome) → is_unmet (phase_left outcome) desk ≡ true → is_unmet (settled_by l post desk rounds outcome).phase (settled_by l post desk rounds outcome).desk ≡ true
+settled_by_unmet l post desk rounds (GoesOn phase) h = h
+settled_by_unmet l post desk rounds (Answers answer) h = h
+
+settled_unmet : (l : Local) (t : CallTurn) → is_unmet (phase_left t.outcome) t.desk ≡ true → is_unmet (settled l t).phase (settled l t).desk ≡ true
+settled_unmet l t h = settled_by_unmet l t.post (noting t.desk (told_by t)) (rounds_told l.rounds (told_by t)) t.outcome (noted_unmet (phase_left t.outcome) t.desk (told_by t) h)
+
+abbrev UnmetOf : Local → Type 0
+UnmetOf l = is_unmet l.phase l.desk ≡ true
+
+unmet_pick : (old new : Local) (same : Bool) → UnmetOf old → UnmetOf new → UnmetOf (if same then new else old)
+unmet_pick old new true a b = b
+unmet_pick old new false a b = a
+
+pub scans_kept : ScansKept
+scans_kept w i u = record {
+  unmet = λ k. unmet_pick (w.seat k) (after (w.seat i) (finds w i)) (k == i) (u.unmet k) (settled_unmet (w.seat i) (turn (w.seat i) (finds w i)) (turn_unmet (w.seat i).phase (counted (w.seat i).post) (w.seat i).desk (finds w i)));
+}
+
+pub scans_start : ScansStart
+scans_start layout = record { unmet = λ k. refl }
+
+holding_unmet : (key : ℕ) (post : Post) (x : Option ℕ) (desk : Desk) → is_unmet (holding key post x) desk ≡ true
+holding_unmet key post None desk = fresh_unmet (round (Holds key) post) desk (round_fresh (Holds key) post)
+holding_unmet key post (Some slot) desk = refl
+
+first_unmet : (call : Call) (post : Post) (desk : Desk) → is_unmet (first_phase call post) desk ≡ true
+first_unmet (names.Get key) post desk = fresh_unmet (round (Gets key) post) desk (round_fresh (Gets key) post)
+first_unmet (names.Put key value) post desk = fresh_unmet (first_phase (names.Put key value) post) desk (round_fresh (Changes _) post)
+first_unmet (names.Remove key) post desk = fresh_unmet (first_phase (names.Remove key) post) desk (round_fresh (Changes _) post)
+first_unmet (names.Enqueue value) post desk = fresh_unmet (first_phase (names.Enqueue value) post) desk (round_fresh (Enqueues _) post)
+first_unmet names.Dequeue post desk = fresh_unmet (round Dequeues post) desk (round_fresh Dequeues post)
+first_unmet (names.Hold key) post desk = holding_unmet key post (stands post 2) desk
+first_unmet names.Release post desk = refl
+first_unmet names.Advance post desk = refl
+first_unmet names.Scan post desk = refl
+
+pub scans_begin : ScansBegin
+scans_begin w i call u = record {
+  unmet = λ k. unmet_pick (w.seat k) (begun (w.seat i) call) (k == i) (u.unmet k) (first_unmet call (begun_post (w.seat i).post) (begun (w.seat i) call).desk);
+}

@@ -1,12 +1,12 @@
 -- A move of rows leaves a row that was linked in its life: the interval that spans it spans it still, unless it goes back.
-use Rattle.std.proofs.Common.{ℕ, ◌≤◌, ◌+◌, ◌<◌, ◌≡◌, true, false, arith, refl, Bool, Option, Some, None}
+use Rattle.std.proofs.Common.{ℕ, ◌≡◌, true, false, arith, refl, Option, Some, None}
 use Rattle.std.proofs.lemmas.Bool.Decides.{nat_tests}
 use Rattle.std.specs.Prelude.{◌==◌}
 use Rattle.wfe_defs.specs.declared.lifetime.Interval.{Interval}
-use Rattle.wfe_rows.specs.Rows.{Status, View, RowMove, made}
-use Rattle.wfe_rows.specs.Rows.Status.{Free, Claimed, Born, Linked, InQueue, Cut, Sealed, Listed}
+use Rattle.wfe_rows.specs.Rows.{View, RowMove, made}
+use Rattle.wfe_rows.specs.Rows.Status.{Listed}
 use Rattle.wfe_rows.specs.Rows.RowMove.{Stays, Claims, Bears, Drops, Links, Replaces, Appends, Pops, Reads, Seals, Lists, Returns}
-use Rattle.wfe_covers.specs.Covers.{is_past, until, spans, Before, NotBefore, Late, frees}
+use Rattle.wfe_covers.specs.Covers.{is_past, until, spans, Before, Late, frees}
 
 -- a row that was linked keeps its birth and is not free, unless it goes back
 pub past_kept : (i : ℕ) (v : View) (m : RowMove) (s : ℕ) → Before i v m → frees m s ≡ false → is_past (v.status s) ≡ true → is_past ((made i v m).status s) ≡ true

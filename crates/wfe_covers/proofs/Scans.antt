@@ -1,12 +1,9 @@
 -- A scan: what it has met it has met ever after, and what it gives back meets nothing that it read.
-use Rattle.std.proofs.Common.{ℕ, zero, suc, ◌≤◌, ◌+◌, ◌<◌, ◌≡◌, true, false, arith, refl, ◌∙◌, ap, sym, Bool, Option, Some, None, List, [], ◌∷◌, ◌++◌, suc-add, zero-add, add-one, not, ◌||◌}
+use Rattle.std.proofs.Common.{ℕ, zero, suc, ◌≤◌, ◌+◌, ◌<◌, ◌≡◌, true, false, arith, refl, ◌∙◌, ap, sym, Bool, Option, Some, None, List, [], ◌∷◌, ◌++◌, suc-add, zero-add, add-one, ◌||◌}
 use Rattle.std.proofs.lemmas.Bool.Decides.{nat_tests}
-use Rattle.std.specs.Prelude.{◌==◌, nat_lt, drop}
-use Rattle.std.specs.List.{remove}
+use Rattle.std.specs.Prelude.{nat_lt, drop}
 use Rattle.wfe_defs.specs.declared.event.Event.{Event}
 use Rattle.wfe_defs.specs.declared.event.Event.TheVariants as events
-use Rattle.wfe_defs.specs.declared.event.Guard.{Guard}
-use Rattle.wfe_defs.specs.declared.lifetime.Interval.{Interval}
 use Rattle.wfe_defs.specs.declared.lifetime.Lifetime.{Lifetime}
 use Rattle.wfe_core.specs.declared.post.Post.{Post}
 use Rattle.wfe_core.specs.Desks.{Desk, Report, Seen}
@@ -14,7 +11,7 @@ use Rattle.wfe_core.specs.Guards.{guards, guard_at, published}
 use Rattle.wfe_core.specs.Scan.{meets_span, meets_any, read_before, Entry, first_unmet, unmet_from, scanned, giving_back, reading, with_kept, with_read, with_back, scan_turn}
 use Rattle.wfe_core.specs.Calls.{AfterScan, Answered, Repeated, Counted, ScanAt, ReadGuard, GiveBack, Phase, Idle, Runs, Scans, Works}
 use Rattle.wfe_eras.specs.Frame.{phase_left}
-use Rattle.wfe_covers.specs.Covers.{upto, read_in, has_met, unmet_at, is_unmet, is_fresh}
+use Rattle.wfe_covers.specs.Covers.{has_met, unmet_at, is_unmet, is_fresh}
 use Rattle.wfe_covers.proofs.Fresh.{round_fresh}
 
 fresh_number : (number : ℕ) (later : AfterScan) → is_fresh (Scans later (ReadGuard number)) ≡ true → number ≡ 0

@@ -11,8 +11,7 @@ use Rattle.wfe_defs.specs.declared.lifetime.Lifetime.{Lifetime}
 use Rattle.wfe_core.specs.Desks.{Desk, Report, Seen}
 use Rattle.wfe_core.specs.Guards.{guards, guard_at, guard_place, published}
 use Rattle.wfe_core.specs.Scan.{meets_any, read_before}
-use Rattle.wfe_core.specs.Calls.{ScanAt, ReadGuard, GiveBack, Phase, Idle, Runs, Scans, Works, CallTurn, CallOutcome, GoesOn, Answers}
-use Rattle.wfe_core.specs.Locals.{Local}
+use Rattle.wfe_core.specs.Calls.{ScanAt, ReadGuard, GiveBack, Phase, Idle, Runs, Scans, Works}
 use Rattle.wfe_core.specs.World.{World, start, step, begin, finds}
 use Rattle.wfe_rows.specs.Hands.{row_move}
 use Rattle.wfe_rows.specs.Agree.{Agree, RowsNeeds, rows_after}
