@@ -278,7 +278,7 @@ seals_late span mem (Works (Dequeuing (ExchangeHead head next number value))) po
 
 resumed_fresh : (why : Why) (desk : Desk) (post : Post) (told : List Event) (outcome : Outcome) → is_fresh (phase_left (resumed why desk post told outcome).outcome) ≡ true
 resumed_fresh why desk post told (Goes base) = refl
-resumed_fresh why desk post told (Ends ending) = resume_fresh why ending post desk told
+resumed_fresh why desk post told (Ends ending) = (resume_fresh why ending post desk told).fresh
 
 run_fresh : (why : Why) (desk : Desk) (t : Turn) → is_fresh (phase_left (run_turn why desk t).outcome) ≡ true
 run_fresh why desk t = resumed_fresh why desk t.post t.told t.outcome
@@ -312,7 +312,7 @@ turn_met (Scans later (GiveBack place slot)) post desk mem guard life f k =
 turn_met (Works work) post desk mem guard life f k =
     let x : ℕ = found (phase_move (Works work) post) (mem (place_in (phase_move (Works work) post))) in
     let t : CallTurn = work_turn work (counted post) desk x in
-    fresh_met (guards post.layout.config) (phase_left t.outcome) t.desk.report (number_of post.layout.config guard) life (work_fresh work (counted post) desk x)
+    fresh_met (guards post.layout.config) (phase_left t.outcome) t.desk.report (number_of post.layout.config guard) life (work_fresh work (counted post) desk x).fresh
 
 -- the same of the seat's state
 settled_by_met : (all : ℕ) (l : Local) (post : Post) (desk : Desk) (told : List Event) (rounds number : ℕ) (life : Lifetime) (outcome : CallOutcome) → has_met all (phase_left outcome) desk.report number life ≡ true → has_met all (settled_by l post (noting desk told) rounds outcome).phase (settled_by l post (noting desk told) rounds outcome).desk.report number life ≡ true
@@ -374,7 +374,7 @@ turn_unmet : (phase : Phase) (post : Post) (desk : Desk) (x : ℕ) → is_unmet 
 turn_unmet Idle post desk x = refl
 turn_unmet (Runs why base) post desk x = fresh_unmet (phase_left (run_turn why desk (machine.after base post x)).outcome) (run_turn why desk (machine.after base post x)).desk (run_fresh why desk (machine.after base post x))
 turn_unmet (Scans later at) post desk x = scan_unmet_kept later at post desk x
-turn_unmet (Works work) post desk x = fresh_unmet (phase_left (work_turn work post desk x).outcome) (work_turn work post desk x).desk (work_fresh work post desk x)
+turn_unmet (Works work) post desk x = fresh_unmet (phase_left (work_turn work post desk x).outcome) (work_turn work post desk x).desk (work_fresh work post desk x).fresh
 
 noted_unmet : (phase : Phase) (desk : Desk) (told : List Event) → is_unmet phase desk ≡ true → is_unmet phase (noting desk told) ≡ true
 noted_unmet Idle desk told h = refl
@@ -406,15 +406,15 @@ pub scans_start : ScansStart
 scans_start layout = record { unmet = λ k. refl }
 
 holding_unmet : (key : ℕ) (post : Post) (x : Option ℕ) (desk : Desk) → is_unmet (holding key post x) desk ≡ true
-holding_unmet key post None desk = fresh_unmet (round (Holds key) post) desk (round_fresh (Holds key) post)
+holding_unmet key post None desk = fresh_unmet (round (Holds key) post) desk (round_fresh (Holds key) post).fresh
 holding_unmet key post (Some slot) desk = refl
 
 first_unmet : (call : Call) (post : Post) (desk : Desk) → is_unmet (first_phase call post) desk ≡ true
-first_unmet (names.Get key) post desk = fresh_unmet (round (Gets key) post) desk (round_fresh (Gets key) post)
-first_unmet (names.Put key value) post desk = fresh_unmet (first_phase (names.Put key value) post) desk (round_fresh (Changes _) post)
-first_unmet (names.Remove key) post desk = fresh_unmet (first_phase (names.Remove key) post) desk (round_fresh (Changes _) post)
-first_unmet (names.Enqueue value) post desk = fresh_unmet (first_phase (names.Enqueue value) post) desk (round_fresh (Enqueues _) post)
-first_unmet names.Dequeue post desk = fresh_unmet (round Dequeues post) desk (round_fresh Dequeues post)
+first_unmet (names.Get key) post desk = fresh_unmet (round (Gets key) post) desk (round_fresh (Gets key) post).fresh
+first_unmet (names.Put key value) post desk = fresh_unmet (first_phase (names.Put key value) post) desk (round_fresh (Changes _) post).fresh
+first_unmet (names.Remove key) post desk = fresh_unmet (first_phase (names.Remove key) post) desk (round_fresh (Changes _) post).fresh
+first_unmet (names.Enqueue value) post desk = fresh_unmet (first_phase (names.Enqueue value) post) desk (round_fresh (Enqueues _) post).fresh
+first_unmet names.Dequeue post desk = fresh_unmet (round Dequeues post) desk (round_fresh Dequeues post).fresh
 first_unmet (names.Hold key) post desk = holding_unmet key post (stands post 2) desk
 first_unmet names.Release post desk = refl
 first_unmet names.Advance post desk = refl

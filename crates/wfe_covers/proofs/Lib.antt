@@ -3,3 +3,4 @@ mod Fresh
 mod Kept
 mod Rows
 mod Scans
+mod Stands

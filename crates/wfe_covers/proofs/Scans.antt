@@ -36,7 +36,7 @@ fresh_unmet (Works work) desk h = refl
 -- after a scan nothing of it is left
 scanned_fresh : (later : AfterScan) (post : Post) (desk : Desk) (told : List Event) → is_fresh (phase_left (scanned later post desk told).outcome) ≡ true
 scanned_fresh (Answered answer) post desk told = refl
-scanned_fresh (Repeated task) post desk told = round_fresh task post
+scanned_fresh (Repeated task) post desk told = (round_fresh task post).fresh
 scanned_fresh Counted post desk told = refl
 
 -- one guard more
