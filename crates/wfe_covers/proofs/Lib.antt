@@ -4,3 +4,4 @@ mod Kept
 mod Rows
 mod Scans
 mod Stands
+mod Words
