@@ -4,4 +4,5 @@ mod Kept
 mod Rows
 mod Scans
 mod Stands
+mod Stood
 mod Words
