@@ -5,4 +5,5 @@ mod Rows
 mod Scans
 mod Stands
 mod Stood
+mod Tried
 mod Words
