@@ -208,7 +208,7 @@ returns_other slots i v all number (Works work) post x s slot desk g p u b c e =
 own_met : (w : World) (i : ℕ) (v : View) (guard : Guard) (s : ℕ) → Covers w v guard s → (k r : ℕ) → v.status s ≡ Listed k r → k ≡ i → has_met (guards w.layout.config) (w.seat i).phase (w.seat i).desk.report (number_of w.layout.config guard) (life_of s (v.birth s) r) ≡ true
 own_met w i v guard s c k r h e = subst (λ (j : ℕ). has_met (guards w.layout.config) (w.seat j).phase (w.seat j).desk.report (number_of w.layout.config guard) (life_of s (v.birth s) r) ≡ true) e (c.scans k r h)
 
-before_at : (w : World) (i : ℕ) (v : View) → CoversNeeds w i v → Before i v (row_move (w.seat i).phase (w.seat i).post (finds w i))
+pub before_at : (w : World) (i : ℕ) (v : View) → CoversNeeds w i v → Before i v (row_move (w.seat i).phase (w.seat i).post (finds w i))
 before_at w i v n = phase_before w.layout.config.slots i w.mem v (w.seat i).phase (w.seat i).post (w.seat i).desk.list n.needs n.rows.good n.rows.words (n.rows.plays i)
 
 pub not_reused : NotReused

@@ -1,5 +1,6 @@
 mod Before
 mod Fresh
+mod Held
 mod Kept
 mod Rows
 mod Scans

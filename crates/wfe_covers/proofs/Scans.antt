@@ -12,6 +12,7 @@ use Rattle.wfe_core.specs.Scan.{meets_span, meets_any, read_before, Entry, first
 use Rattle.wfe_core.specs.Calls.{AfterScan, Answered, Repeated, Counted, ScanAt, ReadGuard, GiveBack, Phase, Idle, Runs, Scans, Works}
 use Rattle.wfe_eras.specs.Frame.{phase_left}
 use Rattle.wfe_covers.specs.Covers.{has_met, unmet_at, is_unmet, is_fresh}
+use Rattle.wfe_covers.specs.Tries.{is_start, Shrinks}
 use Rattle.wfe_covers.proofs.Fresh.{round_fresh}
 
 fresh_number : (number : ℕ) (later : AfterScan) → is_fresh (Scans later (ReadGuard number)) ≡ true → number ≡ 0
@@ -132,3 +133,40 @@ scan_unmet_kept later (ReadGuard n) post desk found =
     reading_unmet later n post (with_read desk n (guard_at post.layout.config n, published (guard_at post.layout.config n) found)) (events.Read (guard_at post.layout.config n) (published (guard_at post.layout.config n) found) ∷ []) (nat_lt (n + 1) (guards post.layout.config))
 scan_unmet_kept later (GiveBack place slot) post desk found =
     back_unmet later post (with_back desk place) (events.Back slot ∷ []) (unmet_from (with_back desk place) place) (unmet_found (with_back desk place) place)
+
+-- what stands after a scan's step stood before, and no try is under way
+scanned_starts : (later : AfterScan) (post : Post) (desk : Desk) (told : List Event) → is_start (phase_left (scanned later post desk told).outcome) ≡ true
+scanned_starts (Answered answer) post desk told = refl
+scanned_starts (Repeated task) post desk told = (round_fresh task post).starts
+scanned_starts Counted post desk told = refl
+
+back_starts : (later : AfterScan) (post : Post) (desk : Desk) (told : List Event) (x : Option Entry) → is_start (phase_left (giving_back later post desk told x).outcome) ≡ true
+back_starts later post desk told None = scanned_starts later post (with_kept desk) told
+back_starts later post desk told (Some entry) = refl
+
+reading_starts : (later : AfterScan) (n : ℕ) (post : Post) (desk : Desk) (told : List Event) (more : Bool) → is_start (phase_left (reading later n post desk told more).outcome) ≡ true
+reading_starts later n post desk told true = refl
+reading_starts later n post desk told false = back_starts later post desk told (unmet_from desk 0)
+
+pub scan_starts : (later : AfterScan) (at : ScanAt) (post : Post) (desk : Desk) (found : ℕ) → is_start (phase_left (scan_turn later at post desk found).outcome) ≡ true
+scan_starts later (ReadGuard n) post desk found =
+    reading_starts later n post (with_read desk n (guard_at post.layout.config n, published (guard_at post.layout.config n) found)) (events.Read (guard_at post.layout.config n) (published (guard_at post.layout.config n) found) ∷ []) (nat_lt (n + 1) (guards post.layout.config))
+scan_starts later (GiveBack place slot) post desk found = back_starts later post (with_back desk place) (events.Back slot ∷ []) (unmet_from (with_back desk place) place)
+
+scanned_shrinks : (later : AfterScan) (post : Post) (desk : Desk) (told : List Event) → Shrinks post (scanned later post desk told).post
+scanned_shrinks (Answered answer) post desk told j s h = h
+scanned_shrinks (Repeated task) post desk told j s h = h
+scanned_shrinks Counted post desk told j s h = h
+
+back_shrinks : (later : AfterScan) (post : Post) (desk : Desk) (told : List Event) (x : Option Entry) → Shrinks post (giving_back later post desk told x).post
+back_shrinks later post desk told None j s h = scanned_shrinks later post (with_kept desk) told j s h
+back_shrinks later post desk told (Some entry) j s h = h
+
+reading_shrinks : (later : AfterScan) (n : ℕ) (post : Post) (desk : Desk) (told : List Event) (more : Bool) → Shrinks post (reading later n post desk told more).post
+reading_shrinks later n post desk told true j s h = h
+reading_shrinks later n post desk told false j s h = back_shrinks later post desk told (unmet_from desk 0) j s h
+
+pub scan_shrinks : (later : AfterScan) (at : ScanAt) (post : Post) (desk : Desk) (found : ℕ) → Shrinks post (scan_turn later at post desk found).post
+scan_shrinks later (ReadGuard n) post desk found j s h =
+    reading_shrinks later n post (with_read desk n (guard_at post.layout.config n, published (guard_at post.layout.config n) found)) (events.Read (guard_at post.layout.config n) (published (guard_at post.layout.config n) found) ∷ []) (nat_lt (n + 1) (guards post.layout.config)) j s h
+scan_shrinks later (GiveBack place slot) post desk found j s h = back_shrinks later post (with_back desk place) (events.Back slot ∷ []) (unmet_from (with_back desk place) place) j s h
