@@ -1,7 +1,6 @@
 -- What a call's own step leaves, and what comes after a machine: no scan that has read something, no try that has loaded a
 -- link, and nothing stands that did not stand before.
-use Rattle.std.proofs.Common.{ℕ, ◌≡◌, ◌+◌, Bool, true, false, List, [], ◌∷◌, ◌++◌, length, Option, Some, None, refl, ap, sym, ◌∙◌, ◌≢◌, arith, not}
-use Rattle.std.proofs.lemmas.Bool.Decides.{nat_tests}
+use Rattle.std.proofs.Common.{ℕ, ◌+◌, Bool, true, false, List, [], ◌∷◌, ◌++◌, length, Option, Some, None, refl}
 use Rattle.std.specs.Prelude.{◌==◌, ◌%◌, ◌-◌, nat_lt}
 use Rattle.wfe_defs.specs.declared.call.Answer.{Answer}
 use Rattle.wfe_defs.specs.declared.call.Answer.TheVariants as the_answers
@@ -25,21 +24,17 @@ use Rattle.wfe_core.specs.Enqueue as enqueues
 use Rattle.wfe_core.specs.Dequeue as dequeues
 use Rattle.wfe_core.specs.Steps as steps
 use Rattle.wfe_core.specs.Calls.{Task, Gets, Changes, Holds, Enqueues, Dequeues, Again, Answering, Retiring, AfterScan, Why, Phase, ChangeKept, EnqueueKept, GetAt, FindVersion, FindCount, FindKey, FindValue, ChangeAt, LoadVersion, LoadCount, LoadKey, LoadValue, ExchangeRoot, EnqueueAt, LoadNumber, LoadNext, PassTail, ExchangeNext, ExchangeTail, DequeueAt, LoadTail, SwingTail, TakeNumber, TakeValue, ExchangeHead, Work, Getting, Changing, Enqueuing, Dequeuing, Opens, FollowsHead, Fills, ClearsNext, Clears, Finishes, GivesUp, Retires, Tidies, Advances, Releases}
-use Rattle.wfe_core.specs.Phases.{Base}
 use Rattle.wfe_core.specs.Rounds.{scheme_of, index_of, taken_of, begin_base, clear_base, clear_post, clear_told, finish_base, round_by, round, given_up, closed, finishing_by, finishing, clearing_by, clearing, clearing_next_by, clearing_next}
 use Rattle.wfe_core.specs.Calls.{Next, MakeRoom}
-use Rattle.wfe_eras.specs.Frame.{phase_left}
 use Rattle.wfe_words.specs.declared.config.SchemeKind.{SchemeKind}
 use Rattle.wfe_words.specs.declared.config.SchemeKind.TheVariants.{He, Ibr, Wfe}
 use Rattle.wfe_defs.specs.declared.lifetime.Interval.{Interval}
-use Rattle.wfe_core.specs.Posts.{stands, withdrawn}
-use Rattle.wfe_core.specs.Phases.Base.{Clear}
+use Rattle.wfe_core.specs.Posts.{stands}
 use Rattle.wfe_core.specs.Rounds.{begin_span, finish_span, protect_base, opening, root_of}
 use Rattle.wfe_core.specs.Calls.{CallTurn}
 use Rattle.wfe_defs.specs.declared.event.Root.{Root}
 use Rattle.wfe_covers.proofs.Stands.{withdrawn_shrinks}
-use Rattle.wfe_covers.specs.Covers.{is_fresh}
-use Rattle.wfe_covers.specs.Tries.{is_start, Begins, Leaves, Shrinks}
+use Rattle.wfe_covers.specs.Tries.{Begins, Leaves, Shrinks}
 
 opening_at : (task : Task) (post : Post) (index : ℕ) (root : Root) (scheme : SchemeKind) → Begins (Phase.Runs (Opens task) (protect_base scheme index root))
 opening_at task post index root He = record { fresh = refl; starts = refl }

@@ -1,12 +1,10 @@
 -- What guards hold stays held over each step, under Hazard Eras and 2GE.
-use Rattle.std.proofs.Common.{ℕ, ◌≤◌, ◌<◌, ◌+◌, ◌-◌, ◌≡◌, ◌∙◌, sym, subst, ap, true, false, arith, refl, Bool, Option, Some, None, not, ◌&&◌, ◌⊎◌, inl, inr, length, List, [], ◌∷◌}
+use Rattle.std.proofs.Common.{ℕ, ◌≤◌, ◌+◌, ◌≡◌, ◌∙◌, sym, subst, ap, true, false, arith, refl, Bool, Option, Some, None, ◌⊎◌, inl, inr, List}
 use Rattle.std.proofs.lemmas.Bool.Decides.{nat_tests}
-use Rattle.std.specs.Prelude.{◌==◌, if◌then◌else◌}
-use Rattle.wfe_words.specs.Place.{Place, same}
-use Rattle.wfe_words.specs.Place.Place.{Clock, Bucket, Head, Tail, Row}
-use Rattle.wfe_words.specs.Place.Place.{Index as IndexOf, Interval as IntervalOf}
-use Rattle.wfe_words.specs.declared.layout.Layout.{Layout}
-use Rattle.wfe_words.specs.declared.config.Config.{Config}
+use Rattle.std.specs.Prelude.{◌==◌}
+use Rattle.wfe_words.specs.Place.{Place}
+use Rattle.wfe_words.specs.Place.Place.{Clock, Head}
+use Rattle.wfe_words.specs.Place.Place.{Index as IndexOf}
 use Rattle.wfe_words.specs.declared.config.SchemeKind.{SchemeKind}
 use Rattle.wfe_words.specs.declared.config.SchemeKind.TheVariants.{He, Ibr, Wfe}
 use Rattle.wfe_defs.specs.declared.event.Event.{Event}
@@ -17,40 +15,40 @@ use Rattle.wfe_defs.specs.declared.event.Root.TheVariants as roots
 use Rattle.wfe_defs.specs.declared.lifetime.Interval.{Interval}
 use Rattle.wfe_core.specs.declared.post.Post.{Post}
 use Rattle.wfe_core.specs.Desks.{Desk, noting}
-use Rattle.wfe_core.specs.Guards.{guards, guard_place, from_to}
+use Rattle.wfe_core.specs.Guards.{guard_place, from_to}
 use Rattle.wfe_core.specs.Links.{link_place, parent_of}
-use Rattle.wfe_core.specs.Memory.{found, place_in, written}
+use Rattle.wfe_core.specs.Memory.{found, place_in, written, bump}
 use Rattle.wfe_core.specs.Memory as memory
 use Rattle.wfe_core.specs.Posts.{index_word}
-use Rattle.wfe_core.specs.Posts.{stands, upper, lower, withdrawn, counted}
-use Rattle.wfe_core.specs.Phases.{Aim, Alone, Follows, Tries, BeginAt, ProtectAt, Base, Outcome, Goes, Ends, Turn}
+use Rattle.wfe_core.specs.Posts.{stands, upper, lower, counted}
+use Rattle.wfe_core.specs.Phases.{Aim, Alone, Follows, Tries, Endless, Failed, ProtectAt, Base, Outcome, Goes, Ends, Turn}
 use Rattle.wfe_core.specs.Phases.BeginAt.{LoadLower, PublishSpan}
 use Rattle.wfe_core.specs.Phases.ProtectAt.{LoadClock, PublishEra, LoadLink, CheckClock, PublishRequest, LoadOwnClock, PublishHelper, LoadOwnLink, CheckOwnClock, AnswerOwn, LoadAnswer, TakeAnswer, WithdrawRequest, WithdrawHelper, LoadWithin, CheckUpper, RaiseUpper}
 use Rattle.wfe_core.specs.Phases.Base.{Begin, Protect, Reload, Clear, Finish, Release, Allocate, Write, GiveUp, Retire, Move}
-use Rattle.wfe_core.specs.Machine.{base_move}
+use Rattle.wfe_core.specs.Machine.{protect_move, base_move}
 use Rattle.wfe_core.specs.Machine as machine
-use Rattle.wfe_core.specs.Steps.{phase_turn, phase_move, resumed, run_turn, work_turn}
+use Rattle.wfe_core.specs.Steps.{phase_turn, phase_move, resumed, work_turn}
 use Rattle.wfe_core.specs.Scan.{scan_turn}
-use Rattle.wfe_core.specs.Calls.{AfterScan, ScanAt, Work, Why, Phase, Idle, Runs, Scans, Works, CallTurn, CallOutcome, GoesOn, Answers}
-use Rattle.wfe_core.specs.Locals.{Local, move, turn, after, settled, settled_by, told_by, rounds_told}
+use Rattle.wfe_core.specs.Calls.{Why, Phase, Idle, Runs, Scans, Works, CallTurn, CallOutcome, GoesOn, Answers}
+use Rattle.wfe_core.specs.Locals.{Local, move, turn, settled_by, told_by, rounds_told}
 use Rattle.wfe_core.specs.World.{World, step, finds}
-use Rattle.wfe_rows.specs.Rows.{Status, View, Good, RowMove, made}
+use Rattle.wfe_rows.specs.Rows.{Status, View, made}
 use Rattle.wfe_rows.specs.Rows.Status.{Free, Claimed, Born, Linked, InQueue, Cut, Sealed, Listed}
 use Rattle.wfe_rows.specs.Hands.{row_move}
 use Rattle.wfe_rows.specs.Agree.{Agree, rows_after}
 use Rattle.wfe_eras.specs.Frame.{phase_left, is_ibr}
-use Rattle.wfe_eras.specs.Seats.{is_wfe, is_he, base_fits}
+use Rattle.wfe_eras.specs.Seats.{is_wfe, protect_fits, base_fits}
 use Rattle.wfe_eras.proofs.Frame.{seat_stays, seat_steps}
-use Rattle.wfe_covers.specs.Covers.{is_past, until, spans, shown, Covers, GuardFits, Widens, CoversNeeds, Scanning, Before}
-use Rattle.wfe_covers.specs.Tries.{is_start, starts_base, Shrinks}
-use Rattle.wfe_covers.specs.Held.{own_guard, leads, is_queued, under, tries_protect, tries_base, index_base, Holds, Held, follows_row, era_base, rests_base, BaseNeeds, HeldNeeds, HeldKept}
+use Rattle.wfe_covers.specs.Covers.{is_past, spans, shown, Covers, Widens}
+use Rattle.wfe_covers.specs.Tries.{is_start, starts_base}
+use Rattle.wfe_covers.specs.Held.{own_guard, is_queued, under, tries_protect, tries_base, index_base, Holds, Held, Followed, follows_row, rests_base, BaseNeeds, HeldNeeds, HeldKept}
 use Rattle.wfe_covers.proofs.Fresh.{work_fresh, resume_fresh}
-use Rattle.wfe_covers.proofs.Kept.{covers_kept, before_at}
+use Rattle.wfe_covers.proofs.Kept.{covers_kept, before_at, spans_past}
 use Rattle.wfe_covers.proofs.Scans.{scan_shrinks, scan_starts}
 use Rattle.wfe_covers.proofs.Stands.{withdrawn_apart}
 use Rattle.wfe_covers.proofs.Stood.{Was, base_stood}
-use Rattle.wfe_covers.proofs.Tried.{out_tries, out_index, loads_link, Goes_on, protect_tries, start_untried, queued_back, tries_back}
-use Rattle.wfe_covers.proofs.Words.{keeps, shown_kept, widens_refl, widens_same, stores_guard, base_other, base_quiet, scan_quiet, work_quiet}
+use Rattle.wfe_covers.proofs.Tried.{out_tries, out_index, loads_link, protect_tries, other_tries, is_protect, tried_quiet, loaded_quiet, protect_clock, start_untried, queued_back, tries_back}
+use Rattle.wfe_covers.proofs.Words.{keeps, shown_kept, widens_same, stores_guard, base_other, base_quiet, scan_quiet, work_quiet}
 
 cc_false : false ≡ true → ⊥
 cc_false h = cc
@@ -300,3 +298,227 @@ own_from w i v (Works work) j s f n h e y =
 own_stood : (w : World) (i : ℕ) (v : View) (j s : ℕ) → is_wfe w.layout.config.scheme ≡ false → HeldNeeds w i v → Held w v → stands ((step w i).seat i).post j ≡ Some s → Holds (step w i) (rows_after w i v) (own_guard w.layout.config.scheme i j) s
 own_stood w i v j s f n h y =
     own_from w i v (w.seat i).phase j s f n h refl (turn_from (w.seat i).phase (w.seat i).post (w.seat i).desk (finds w i) j s (subst (λ (p : Post). stands p j ≡ Some s) (stepped_post w i) y))
+
+-- the machine of the seat that steps: what it comes to
+out_start : (clock : ℕ) (status : ℕ → Status) (post : Post) (phase : Phase) (why : Why) (base : Base) (s : ℕ) → is_start phase ≡ true → phase ≡ Runs why base → tries_base clock status post base s ≡ true → false ≡ true
+out_start clock status post phase why base s st e h =
+    let b : starts_base base ≡ true = subst (λ (p : Phase). is_start p ≡ true) e st in
+    sym (start_untried clock status post base s b) ∙ h
+
+-- what an outcome leaves
+record Comes (clock : ℕ) (status : ℕ → Status) (post : Post) (outcome : Outcome) (base : Base) (s : ℕ) : Type 0 where
+  tried : out_tries clock status post outcome s ≡ true
+  at : out_index outcome ≡ index_base base
+
+same_run : (why other : Why) (one two : Base) → Runs why one ≡ Runs other two → one ≡ two
+same_run why other one two e = cc
+
+resumed_comes : (clock : ℕ) (status : ℕ → Status) (next : Post) (why : Why) (desk : Desk) (post : Post) (told : List Event) (outcome : Outcome) (other : Why) (base : Base) (s : ℕ) → phase_left (resumed why desk post told outcome).outcome ≡ Runs other base → tries_base clock status next base s ≡ true → Comes clock status next outcome base s
+resumed_comes clock status next why desk post told (Goes one) other base s e h =
+    let q = same_run why other one base e in record { tried = rw q h; at = ap index_base q }
+resumed_comes clock status next why desk post told (Ends ending) other base s e h =
+    absurd (cc_false (out_start clock status next (phase_left (resumed why desk post told (Ends ending)).outcome) other base s (resume_fresh why ending post desk told).starts e h))
+
+-- a try is not of 2GE
+try_not_ibr : (scheme : SchemeKind) (most era : ℕ) (tries : Tries) → protect_fits scheme most (LoadLink era tries) ≡ true → is_ibr scheme ≡ false
+try_not_ibr He most era tries h = refl
+try_not_ibr Ibr most era Endless h = absurd (cc)
+try_not_ibr Ibr most era (Failed count) h = absurd (grind (arith, nat_tests))
+try_not_ibr Wfe most era tries h = refl
+
+-- the interval reaches up to the clock
+whole_covers : (w : World) (i : ℕ) (v : View) (s : ℕ) → HeldNeeds w i v → (x : Option Interval) → shown w (Whole i) ≡ x → 1 ≤ w.mem Clock → w.mem Clock ≡ upper x → is_live (v.status s) ≡ true → Covers w v (Whole i) s
+whole_covers w i v s n None e o c l = absurd (omega (arith, o, c))
+whole_covers w i v s n (Some span) e o c l = live_covers w i v (Whole i) span.lo span.hi s n e (omega (arith, c)) l
+
+-- the link that a try loads is covered by the own guard
+loaded_covers : (w : World) (i : ℕ) (v : View) (why : Why) (aim : Aim) (index : ℕ) (root : Root) (steps : ℕ) (at : ProtectAt) (s : ℕ) → HeldNeeds w i v → (w.seat i).phase ≡ Runs why (Protect aim index root steps at) → is_wfe w.layout.config.scheme ≡ false → loads_link (w.mem Clock) v.status w.mem (w.seat i).post root at s ≡ true
+    → Covers w v (own_guard w.layout.config.scheme i index) s
+loaded_covers w i v why aim index root steps (LoadLink era tries) s n e f h =
+    let b = n.base why (Protect aim index root steps (LoadLink era tries)) e in
+    let l : w.mem (link_place root) ≡ s + 1 = grind (arith, nat_tests) in
+    let u : under v.status root ≡ true = grind (arith, nat_tests) in
+    let c : w.mem Clock ≤ era = grind (arith, nat_tests) in
+    let g = he_guard w.layout.config.scheme i index (try_not_ibr w.layout.config.scheme w.layout.config.tries era tries b.fits) in
+    rw g (live_covers w i v (Index i index) era era s n (b.published aim index root steps era tries refl) c (root_live w i v root s n l u))
+loaded_covers w i v why aim index root steps LoadWithin s n e f h =
+    let b = n.base why (Protect aim index root steps LoadWithin) e in
+    let l : w.mem (link_place root) ≡ s + 1 = grind (arith, nat_tests) in
+    let u : under v.status root ≡ true = grind (arith, nat_tests) in
+    let c : w.mem Clock ≡ upper (w.seat i).post.span = grind (arith, nat_tests) in
+    let g = ibr_guard w.layout.config.scheme i index b.fits in
+    rw g (whole_covers w i v s n (w.seat i).post.span (n.spans b.fits) n.some c (root_live w i v root s n l u))
+loaded_covers w i v why aim index root steps (LoadClock tries) s n e f h = absurd (cc)
+loaded_covers w i v why aim index root steps (PublishEra era tries) s n e f h = absurd (cc)
+loaded_covers w i v why aim index root steps (CheckClock era tries link) s n e f h = absurd (cc)
+loaded_covers w i v why aim index root steps PublishRequest s n e f h = absurd (cc)
+loaded_covers w i v why aim index root steps LoadOwnClock s n e f h = absurd (cc)
+loaded_covers w i v why aim index root steps (PublishHelper first era last) s n e f h = absurd (cc)
+loaded_covers w i v why aim index root steps (LoadOwnLink first era last) s n e f h = absurd (cc)
+loaded_covers w i v why aim index root steps (CheckOwnClock first era last link) s n e f h = absurd (cc)
+loaded_covers w i v why aim index root steps (AnswerOwn first era link) s n e f h = absurd (cc)
+loaded_covers w i v why aim index root steps (LoadAnswer first) s n e f h = absurd (cc)
+loaded_covers w i v why aim index root steps (TakeAnswer link era) s n e f h = absurd (cc)
+loaded_covers w i v why aim index root steps (WithdrawRequest link era) s n e f h = absurd (cc)
+loaded_covers w i v why aim index root steps (WithdrawHelper link era) s n e f h = absurd (cc)
+loaded_covers w i v why aim index root steps (CheckUpper link) s n e f h = absurd (cc)
+loaded_covers w i v why aim index root steps (RaiseUpper era) s n e f h = absurd (cc)
+
+-- a try of the seat that steps
+tried_holds : (w : World) (i : ℕ) (v : View) (why : Why) (aim : Aim) (index : ℕ) (root : Root) (steps : ℕ) (at : ProtectAt) (s : ℕ) → HeldNeeds w i v → Held w v → (w.seat i).phase ≡ Runs why (Protect aim index root steps at) → is_wfe w.layout.config.scheme ≡ false → (tries_protect (w.mem Clock) v.status (w.seat i).post root at s ≡ true) ⊎ (loads_link (w.mem Clock) v.status w.mem (w.seat i).post root at s ≡ true)
+    → Holds (step w i) (rows_after w i v) (own_guard w.layout.config.scheme i index) s
+tried_holds w i v why aim index root steps at s n h e f (inl x) =
+    let b = n.base why (Protect aim index root steps at) e in
+    holds_kept w i v (own_guard w.layout.config.scheme i index) s n (quiet_widens w i why (Protect aim index root steps at) index f e b.fits (tried_quiet (w.mem Clock) v.status (w.seat i).post root at s x)) (h.tried i why (Protect aim index root steps at) s e x)
+tried_holds w i v why aim index root steps at s n h e f (inr x) =
+    let b = n.base why (Protect aim index root steps at) e in
+    holds_kept w i v (own_guard w.layout.config.scheme i index) s n (quiet_widens w i why (Protect aim index root steps at) index f e b.fits (loaded_quiet (w.mem Clock) v.status w.mem (w.seat i).post root at s x)) (record { fits = b.guard; covers = loaded_covers w i v why aim index root steps at s n e f x })
+
+-- a protection comes to a try
+follows_next : (aim : Aim) (index : ℕ) (root : Root) (steps : ℕ) (at : ProtectAt) → Followed (Protect aim index root steps at) → aim ≡ Follows → root ≡ roots.Next (parent_of root)
+follows_next Alone index root steps at f e = absurd (cc)
+follows_next Follows index root steps at f e = f
+
+counted_tries : (clock : ℕ) (status : ℕ → Status) (mem : Place → ℕ) (post : Post) (root : Root) (at : ProtectAt) (s : ℕ) → (tries_protect clock status (counted post) root at s ≡ true) ⊎ (loads_link clock status mem (counted post) root at s ≡ true) → (tries_protect clock status post root at s ≡ true) ⊎ (loads_link clock status mem post root at s ≡ true)
+counted_tries clock status mem post root (LoadClock tries) s h = h
+counted_tries clock status mem post root (PublishEra era tries) s h = h
+counted_tries clock status mem post root (LoadLink era tries) s h = h
+counted_tries clock status mem post root (CheckClock era tries link) s h = h
+counted_tries clock status mem post root PublishRequest s h = h
+counted_tries clock status mem post root LoadOwnClock s h = h
+counted_tries clock status mem post root (PublishHelper first era last) s h = h
+counted_tries clock status mem post root (LoadOwnLink first era last) s h = h
+counted_tries clock status mem post root (CheckOwnClock first era last link) s h = h
+counted_tries clock status mem post root (AnswerOwn first era link) s h = h
+counted_tries clock status mem post root (LoadAnswer first) s h = h
+counted_tries clock status mem post root (TakeAnswer link era) s h = h
+counted_tries clock status mem post root (WithdrawRequest link era) s h = h
+counted_tries clock status mem post root (WithdrawHelper link era) s h = h
+counted_tries clock status mem post root LoadWithin s h = h
+counted_tries clock status mem post root (CheckUpper link) s h = h
+counted_tries clock status mem post root (RaiseUpper era) s h = h
+
+-- what comes of a machine's step
+turn_out : (w : World) (i : ℕ) (reason : Why) (one : Base) (why : Why) (base : Base) (clock : ℕ) (status : ℕ → Status) (s : ℕ)
+    → phase_left (phase_turn (Runs reason one) (counted (w.seat i).post) (w.seat i).desk (finds w i)).outcome ≡ Runs why base
+    → tries_base clock status ((step w i).seat i).post base s ≡ true
+    → Comes clock status ((step w i).seat i).post (machine.after one (counted (w.seat i).post) (finds w i)).outcome base s
+turn_out w i reason one why base clock status s o t =
+    let u : Turn = machine.after one (counted (w.seat i).post) (finds w i) in
+    resumed_comes clock status ((step w i).seat i).post reason (w.seat i).desk u.post u.told u.outcome why base s o t
+
+other_comes : (clock : ℕ) (status : ℕ → Status) (next post : Post) (one base : Base) (x s : ℕ) → is_protect one ≡ false → Comes clock status next (machine.after one post x).outcome base s → false ≡ true
+other_comes clock status next post one base x s p c = sym (other_tries clock status one post next x s p) ∙ c.tried
+
+-- a protection that loads or checks leaves the clock and the rows
+protect_stays : (w : World) (i : ℕ) (why : Why) (aim : Aim) (index : ℕ) (root : Root) (steps : ℕ) (at : ProtectAt) → (w.seat i).phase ≡ Runs why (Protect aim index root steps at) → (step w i).mem Clock ≡ w.mem Clock
+protect_stays w i why aim index root steps at e =
+    ap (λ (m : memory.Move). written w.mem m Clock) (move_is w i (Runs why (Protect aim index root steps at)) e) ∙ protect_clock w.mem index root at (w.seat i).post
+
+protect_rows : (w : World) (i : ℕ) (v : View) (why : Why) (aim : Aim) (index : ℕ) (root : Root) (steps : ℕ) (at : ProtectAt) → (w.seat i).phase ≡ Runs why (Protect aim index root steps at) → rows_after w i v ≡ v
+protect_rows w i v why aim index root steps at e = ap (λ (p : Phase). made i v (row_move p (w.seat i).post (finds w i))) e
+
+-- under 2GE a link is loaded with the interval that stands
+load_span : (w : World) (i : ℕ) (why : Why) (aim : Aim) (index : ℕ) (root : Root) (steps : ℕ) (at : ProtectAt) → (w.seat i).phase ≡ Runs why (Protect aim index root steps at) → at ≡ LoadWithin → ((step w i).seat i).post.span ≡ (w.seat i).post.span
+load_span w i why aim index root steps at e q =
+    let z : (w.seat i).phase ≡ Runs why (Protect aim index root steps LoadWithin) = subst (λ (a : ProtectAt). (w.seat i).phase ≡ Runs why (Protect aim index root steps a)) q e in
+    ap (λ (p : Post). p.span) (turned_post w i (Runs why (Protect aim index root steps LoadWithin)) z)
+
+protect_comes : (w : World) (i : ℕ) (v : View) (why : Why) (aim : Aim) (index : ℕ) (root : Root) (steps : ℕ) (at : ProtectAt) (base : Base) (s : ℕ) → HeldNeeds w i v → Held w v → (w.seat i).phase ≡ Runs why (Protect aim index root steps at) → is_wfe w.layout.config.scheme ≡ false
+    → Comes (w.mem Clock) v.status ((step w i).seat i).post (machine.after (Protect aim index root steps at) (counted (w.seat i).post) (finds w i)).outcome base s
+    → Holds (step w i) (rows_after w i v) (own_guard w.layout.config.scheme i (index_base base)) s
+protect_comes w i v why aim index root steps at base s n h e f c =
+    let b = n.base why (Protect aim index root steps at) e in
+    let x = finds_at w i (Runs why (Protect aim index root steps at)) e in
+    let z : Comes (w.mem Clock) v.status ((step w i).seat i).post (machine.after (Protect aim index root steps at) (counted (w.seat i).post) (found (protect_move index root at (w.seat i).post) (w.mem (place_in (protect_move index root at (w.seat i).post))))).outcome base s = subst (λ (k : ℕ). Comes (w.mem Clock) v.status ((step w i).seat i).post (machine.after (Protect aim index root steps at) (counted (w.seat i).post) k).outcome base s) x c in
+    let g = protect_tries (w.mem Clock) v.status w.layout.config.scheme w.layout.config.tries w.mem aim index root (bump steps) at (counted (w.seat i).post) (w.seat i).post ((step w i).seat i).post s refl f b.fits (follows_next aim index root steps at b.followed) (load_span w i why aim index root steps at e) z.tried in
+    rw (sym z.at ∙ g.0) (tried_holds w i v why aim index root steps at s n h e f (counted_tries (w.mem Clock) v.status w.mem (w.seat i).post root at s g.1))
+
+run_comes : (w : World) (i : ℕ) (v : View) (reason : Why) (one : Base) (why : Why) (base : Base) (s : ℕ) → HeldNeeds w i v → Held w v → is_wfe w.layout.config.scheme ≡ false → (w.seat i).phase ≡ Runs reason one
+    → phase_left (phase_turn (Runs reason one) (counted (w.seat i).post) (w.seat i).desk (finds w i)).outcome ≡ Runs why base
+    → tries_base ((step w i).mem Clock) (rows_after w i v).status ((step w i).seat i).post base s ≡ true
+    → Holds (step w i) (rows_after w i v) (own_guard w.layout.config.scheme i (index_base base)) s
+run_comes w i v reason (Protect aim index root steps at) why base s n h f e o t =
+    let c = protect_stays w i reason aim index root steps at e in
+    let r = protect_rows w i v reason aim index root steps at e in
+    let t1 : tries_base (w.mem Clock) (rows_after w i v).status ((step w i).seat i).post base s ≡ true = subst (λ (k : ℕ). tries_base k (rows_after w i v).status ((step w i).seat i).post base s ≡ true) c t in
+    let t2 : tries_base (w.mem Clock) v.status ((step w i).seat i).post base s ≡ true = subst (λ (y : View). tries_base (w.mem Clock) y.status ((step w i).seat i).post base s ≡ true) r t1 in
+    protect_comes w i v reason aim index root steps at base s n h e f (turn_out w i reason (Protect aim index root steps at) why base (w.mem Clock) v.status s o t2)
+run_comes w i v reason (Begin at) why base s n h f e o t =
+    absurd (cc_false (other_comes ((step w i).mem Clock) (rows_after w i v).status ((step w i).seat i).post (counted (w.seat i).post) (Begin at) base (finds w i) s refl (turn_out w i reason (Begin at) why base ((step w i).mem Clock) (rows_after w i v).status s o t)))
+run_comes w i v reason (Reload parent index slot era steps) why base s n h f e o t =
+    absurd (cc_false (other_comes ((step w i).mem Clock) (rows_after w i v).status ((step w i).seat i).post (counted (w.seat i).post) (Reload parent index slot era steps) base (finds w i) s refl (turn_out w i reason (Reload parent index slot era steps) why base ((step w i).mem Clock) (rows_after w i v).status s o t)))
+run_comes w i v reason (Clear index) why base s n h f e o t =
+    absurd (cc_false (other_comes ((step w i).mem Clock) (rows_after w i v).status ((step w i).seat i).post (counted (w.seat i).post) (Clear index) base (finds w i) s refl (turn_out w i reason (Clear index) why base ((step w i).mem Clock) (rows_after w i v).status s o t)))
+run_comes w i v reason Finish why base s n h f e o t =
+    absurd (cc_false (other_comes ((step w i).mem Clock) (rows_after w i v).status ((step w i).seat i).post (counted (w.seat i).post) Finish base (finds w i) s refl (turn_out w i reason Finish why base ((step w i).mem Clock) (rows_after w i v).status s o t)))
+run_comes w i v reason Release why base s n h f e o t =
+    absurd (cc_false (other_comes ((step w i).mem Clock) (rows_after w i v).status ((step w i).seat i).post (counted (w.seat i).post) Release base (finds w i) s refl (turn_out w i reason Release why base ((step w i).mem Clock) (rows_after w i v).status s o t)))
+run_comes w i v reason (Allocate at) why base s n h f e o t =
+    absurd (cc_false (other_comes ((step w i).mem Clock) (rows_after w i v).status ((step w i).seat i).post (counted (w.seat i).post) (Allocate at) base (finds w i) s refl (turn_out w i reason (Allocate at) why base ((step w i).mem Clock) (rows_after w i v).status s o t)))
+run_comes w i v reason (Write slot row place) why base s n h f e o t =
+    absurd (cc_false (other_comes ((step w i).mem Clock) (rows_after w i v).status ((step w i).seat i).post (counted (w.seat i).post) (Write slot row place) base (finds w i) s refl (turn_out w i reason (Write slot row place) why base ((step w i).mem Clock) (rows_after w i v).status s o t)))
+run_comes w i v reason (GiveUp slot) why base s n h f e o t =
+    absurd (cc_false (other_comes ((step w i).mem Clock) (rows_after w i v).status ((step w i).seat i).post (counted (w.seat i).post) (GiveUp slot) base (finds w i) s refl (turn_out w i reason (GiveUp slot) why base ((step w i).mem Clock) (rows_after w i v).status s o t)))
+run_comes w i v reason (Retire at) why base s n h f e o t =
+    absurd (cc_false (other_comes ((step w i).mem Clock) (rows_after w i v).status ((step w i).seat i).post (counted (w.seat i).post) (Retire at) base (finds w i) s refl (turn_out w i reason (Retire at) why base ((step w i).mem Clock) (rows_after w i v).status s o t)))
+run_comes w i v reason (Move at) why base s n h f e o t =
+    absurd (cc_false (other_comes ((step w i).mem Clock) (rows_after w i v).status ((step w i).seat i).post (counted (w.seat i).post) (Move at) base (finds w i) s refl (turn_out w i reason (Move at) why base ((step w i).mem Clock) (rows_after w i v).status s o t)))
+
+-- the turn of the seat that steps comes to a try
+turn_comes : (w : World) (i : ℕ) (v : View) (phase : Phase) (why : Why) (base : Base) (s : ℕ) → HeldNeeds w i v → Held w v → is_wfe w.layout.config.scheme ≡ false → (w.seat i).phase ≡ phase
+    → phase_left (phase_turn phase (counted (w.seat i).post) (w.seat i).desk (finds w i)).outcome ≡ Runs why base
+    → tries_base ((step w i).mem Clock) (rows_after w i v).status ((step w i).seat i).post base s ≡ true
+    → Holds (step w i) (rows_after w i v) (own_guard w.layout.config.scheme i (index_base base)) s
+turn_comes w i v Idle why base s n h f e o t = absurd (cc)
+turn_comes w i v (Scans later at) why base s n h f e o t =
+    absurd (cc_false (out_start ((step w i).mem Clock) (rows_after w i v).status ((step w i).seat i).post (phase_left (scan_turn later at (counted (w.seat i).post) (w.seat i).desk (finds w i)).outcome) why base s (scan_starts later at (counted (w.seat i).post) (w.seat i).desk (finds w i)) o t))
+turn_comes w i v (Works work) why base s n h f e o t =
+    absurd (cc_false (out_start ((step w i).mem Clock) (rows_after w i v).status ((step w i).seat i).post (phase_left (work_turn work (counted (w.seat i).post) (w.seat i).desk (finds w i)).outcome) why base s (work_fresh work (counted (w.seat i).post) (w.seat i).desk (finds w i)).starts o t))
+turn_comes w i v (Runs reason one) why base s n h f e o t = run_comes w i v reason one why base s n h f e o t
+
+own_tried : (w : World) (i : ℕ) (v : View) (why : Why) (base : Base) (s : ℕ) → is_wfe w.layout.config.scheme ≡ false → HeldNeeds w i v → Held w v → ((step w i).seat i).phase ≡ Runs why base → tries_base ((step w i).mem Clock) (rows_after w i v).status ((step w i).seat i).post base s ≡ true
+    → Holds (step w i) (rows_after w i v) (own_guard w.layout.config.scheme i (index_base base)) s
+own_tried w i v why base s f n h e t = turn_comes w i v (w.seat i).phase why base s n h f refl (sym (stepped_phase w i) ∙ e) t
+
+-- the other seats
+other_keeps : (w : World) (i k j : ℕ) (v : View) (phase : Phase) → (k == i) ≡ false → is_wfe w.layout.config.scheme ≡ false → HeldNeeds w i v → (w.seat i).phase ≡ phase → keeps (phase_move phase (w.seat i).post) (guard_place (own_guard w.layout.config.scheme k j)) ≡ true
+other_keeps w i k j v Idle o f n e = refl
+other_keeps w i k j v (Runs why base) o f n e = base_other w.layout.config.scheme k j w.layout.config base (w.seat i).post f (n.base why base e).fits (rw n.seat o)
+other_keeps w i k j v (Scans later at) o f n e = scan_quiet w.layout.config.scheme k j at (w.seat i).post
+other_keeps w i k j v (Works work) o f n e = work_quiet w.layout.config.scheme k j work (w.seat i).post
+
+other_holds : (w : World) (i k j : ℕ) (v : View) (s : ℕ) → (k == i) ≡ false → is_wfe w.layout.config.scheme ≡ false → HeldNeeds w i v → Holds w v (own_guard w.layout.config.scheme k j) s → Holds (step w i) (rows_after w i v) (own_guard w.layout.config.scheme k j) s
+other_holds w i k j v s o f n h = holds_kept w i v (own_guard w.layout.config.scheme k j) s n (kept_widens w i (own_guard w.layout.config.scheme k j) (other_keeps w i k j v (w.seat i).phase o f n refl)) h
+
+parent_back : (w : World) (i k : ℕ) (v : View) (why : Why) (base : Base) (p : ℕ) → HeldNeeds w i v → Held w v → (w.seat k).phase ≡ Runs why base → follows_row base p ≡ true → is_queued ((rows_after w i v).status p) ≡ true → is_queued (v.status p) ≡ true
+parent_back w i k v why base p n h e r q =
+    let c = (h.stood k 0 p (n.parents k why base p e r)).covers in
+    queued_back i v (row_move (w.seat i).phase (w.seat i).post (finds w i)) p (before_at w i v n.covers) (spans_past (shown w (own_guard w.layout.config.scheme k 0)) (v.birth p) (v.status p) c.spans) q
+
+other_tried : (w : World) (i k : ℕ) (v : View) (why : Why) (base : Base) (s : ℕ) → (k == i) ≡ false → is_wfe w.layout.config.scheme ≡ false → HeldNeeds w i v → Held w v → (w.seat k).phase ≡ Runs why base → tries_base ((step w i).mem Clock) (rows_after w i v).status (w.seat k).post base s ≡ true
+    → Holds (step w i) (rows_after w i v) (own_guard w.layout.config.scheme k (index_base base)) s
+other_tried w i k v why base s o f n h e t =
+    other_holds w i k (index_base base) v s o f n (h.tried k why base s e (tries_back (w.mem Clock) ((step w i).mem Clock) v.status (rows_after w i v).status (w.seat k).post base s n.clock (n.eras k why base e) (λ p r q. parent_back w i k v why base p n h e r q) t))
+
+-- each seat, by whether it is the one that steps
+stood_at : (w : World) (i k j s : ℕ) (v : View) (own : Bool) → (k == i) ≡ own → is_wfe w.layout.config.scheme ≡ false → HeldNeeds w i v → Held w v → stands ((step w i).seat k).post j ≡ Some s → Holds (step w i) (rows_after w i v) (own_guard w.layout.config.scheme k j) s
+stood_at w i k j s v true o f n h y =
+    let q : k ≡ i = grind (arith, nat_tests) in
+    subst (λ (m : ℕ). stands ((step w i).seat m).post j ≡ Some s → Holds (step w i) (rows_after w i v) (own_guard w.layout.config.scheme m j) s) (sym q) (own_stood w i v j s f n h) y
+stood_at w i k j s v false o f n h y =
+    other_holds w i k j v s o f n (h.stood k j s (subst (λ (l : Local). stands l.post j ≡ Some s) (seat_stays w i k o) y))
+
+tried_at : (w : World) (i k : ℕ) (v : View) (why : Why) (base : Base) (s : ℕ) (own : Bool) → (k == i) ≡ own → is_wfe w.layout.config.scheme ≡ false → HeldNeeds w i v → Held w v → ((step w i).seat k).phase ≡ Runs why base → tries_base ((step w i).mem Clock) (rows_after w i v).status ((step w i).seat k).post base s ≡ true
+    → Holds (step w i) (rows_after w i v) (own_guard w.layout.config.scheme k (index_base base)) s
+tried_at w i k v why base s true o f n h e t =
+    let q : k ≡ i = grind (arith, nat_tests) in
+    subst (λ (m : ℕ). ((step w i).seat m).phase ≡ Runs why base → tries_base ((step w i).mem Clock) (rows_after w i v).status ((step w i).seat m).post base s ≡ true → Holds (step w i) (rows_after w i v) (own_guard w.layout.config.scheme m (index_base base)) s) (sym q) (own_tried w i v why base s f n h) e t
+tried_at w i k v why base s false o f n h e t =
+    other_tried w i k v why base s o f n h (sym (ap (λ (l : Local). l.phase) (seat_stays w i k o)) ∙ e) (subst (λ (l : Local). tries_base ((step w i).mem Clock) (rows_after w i v).status l.post base s ≡ true) (seat_stays w i k o) t)
+
+pub held_kept : HeldKept
+held_kept w i v f n h = record {
+  stood = λ k j s y. stood_at w i k j s v (k == i) refl f n h y;
+  tried = λ k why base s e t. tried_at w i k v why base s (k == i) refl f n h e t;
+}

@@ -64,7 +64,7 @@ spans_meets : (span : Option Interval) (slot birth k r : ℕ) → spans span bir
 spans_meets None slot birth k r h = absurd (cc)
 spans_meets (Some span) slot birth k r h = grind (arith, nat_tests)
 
-spans_past : (span : Option Interval) (birth : ℕ) (status : Status) → spans span birth status ≡ true → is_past status ≡ true
+pub spans_past : (span : Option Interval) (birth : ℕ) (status : Status) → spans span birth status ≡ true → is_past status ≡ true
 spans_past None birth status h = absurd (cc)
 spans_past (Some span) birth status h = grind (arith, nat_tests)
 

@@ -1,4 +1,5 @@
 mod Before
+mod Begun
 mod Fresh
 mod Held
 mod Kept

@@ -1,5 +1,5 @@
 -- What stands after a step of a machine stood before, or was loaded by the try that the step concludes.
-use Rattle.std.proofs.Common.{ℕ, ◌≤◌, ◌<◌, ◌+◌, ◌-◌, ◌≡◌, ◌∙◌, sym, subst, ap, true, false, arith, refl, Bool, Option, Some, None, not, ◌&&◌, ◌⊎◌, inl, inr, length, List, [], ◌∷◌}
+use Rattle.std.proofs.Common.{ℕ, ◌<◌, ◌+◌, ◌-◌, ◌≡◌, subst, true, false, arith, refl, Bool, Option, Some, None, ◌&&◌, ◌⊎◌, inl, inr, length, List, [], ◌∷◌}
 use Rattle.std.proofs.lemmas.Bool.Decides.{nat_tests}
 use Rattle.std.specs.Prelude.{◌==◌, if◌then◌else◌}
 use Rattle.wfe_words.specs.Place.{Place}
@@ -10,9 +10,9 @@ use Rattle.wfe_defs.specs.declared.event.Root.{Root}
 use Rattle.wfe_defs.specs.declared.event.Root.TheVariants as roots
 use Rattle.wfe_core.specs.declared.post.Post.{Post}
 use Rattle.wfe_core.specs.Memory.{found, place_in, bump}
-use Rattle.wfe_core.specs.Posts.{stands, upper, with_row, withdrawn}
+use Rattle.wfe_core.specs.Posts.{stands, upper, with_row}
 use Rattle.wfe_core.specs.Allocate.{walking, walk_past, is_claimed}
-use Rattle.wfe_core.specs.Phases.{Aim, Alone, Follows, Walk, Tries, BeginAt, ProtectAt, AllocateAt, RetireAt, MoveAt, Base, RowOf, Turn}
+use Rattle.wfe_core.specs.Phases.{Aim, Alone, Follows, Walk, Tries, BeginAt, ProtectAt, AllocateAt, RetireAt, MoveAt, Base, RowOf}
 use Rattle.wfe_core.specs.Phases.BeginAt.{LoadLower, PublishSpan}
 use Rattle.wfe_core.specs.Phases.ProtectAt.{LoadClock, PublishEra, LoadLink, CheckClock, PublishRequest, LoadOwnClock, PublishHelper, LoadOwnLink, CheckOwnClock, AnswerOwn, LoadAnswer, TakeAnswer, WithdrawRequest, WithdrawHelper, LoadWithin, CheckUpper, RaiseUpper}
 use Rattle.wfe_core.specs.Phases.AllocateAt.{LoadBirth, ClaimSlot, StoreLife}

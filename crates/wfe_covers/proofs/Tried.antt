@@ -1,9 +1,9 @@
 -- What a try has loaded after a step it had loaded before, or loads in this step.
-use Rattle.std.proofs.Common.{ℕ, ◌≤◌, ◌<◌, ◌+◌, ◌-◌, ◌≡◌, ◌∙◌, sym, subst, ap, true, false, arith, refl, Bool, Option, Some, None, not, ◌&&◌, ◌⊎◌, inl, inr, length, List, [], ◌∷◌}
+use Rattle.std.proofs.Common.{ℕ, ◌≤◌, ◌+◌, ◌≡◌, sym, subst, true, false, arith, refl, Bool, Option, Some, None, ◌&&◌, ◌⊎◌, inl, inr, List, [], ◌∷◌}
 use Rattle.std.proofs.lemmas.Bool.Decides.{nat_tests}
 use Rattle.std.specs.Prelude.{◌==◌, if◌then◌else◌, nat_le}
-use Rattle.wfe_words.specs.Place.{Place, same}
-use Rattle.wfe_words.specs.Place.Place.{Clock, Head}
+use Rattle.wfe_words.specs.Place.{Place}
+use Rattle.wfe_words.specs.Place.Place.{Clock}
 use Rattle.wfe_words.specs.declared.config.SchemeKind.{SchemeKind}
 use Rattle.wfe_defs.specs.declared.event.Event.{Event}
 use Rattle.wfe_defs.specs.declared.event.Root.{Root}
@@ -16,9 +16,20 @@ use Rattle.wfe_core.specs.Phases.{Aim, Alone, Follows, Tries, Endless, Failed, P
 use Rattle.wfe_core.specs.Phases.ProtectAt.{LoadClock, PublishEra, LoadLink, CheckClock, PublishRequest, LoadOwnClock, PublishHelper, LoadOwnLink, CheckOwnClock, AnswerOwn, LoadAnswer, TakeAnswer, WithdrawRequest, WithdrawHelper, LoadWithin, CheckUpper, RaiseUpper}
 use Rattle.wfe_core.specs.Phases.Base.{Begin, Protect, Reload, Clear, Finish, Release, Allocate, Write, GiveUp, Retire, Move}
 use Rattle.wfe_core.specs.Protect.{held_post, told_held, failed_once, trying, concluded, protected}
-use Rattle.wfe_core.specs.Machine.{protect_move, protect_turn}
+use Rattle.wfe_core.specs.Machine.{protect_move, begin_turn, protect_turn, allocate_turn, retire_turn, move_turn, after}
+use Rattle.wfe_core.specs.Phases.{Walk, BeginAt, AllocateAt, RetireAt, MoveAt, Turn}
+use Rattle.wfe_core.specs.Phases.BeginAt.{LoadLower, PublishSpan}
+use Rattle.wfe_core.specs.Phases.AllocateAt.{LoadBirth, ClaimSlot, StoreLife}
+use Rattle.wfe_core.specs.Phases.RetireAt.{LoadLife, LoadRetire, StoreRetired}
+use Rattle.wfe_core.specs.Phases.MoveAt.{LoadEra, LoadRequest, ShowEra, LoadAsked, CheckEra, AnswerAsked, LoadReserved, HandOver, HideEra, HideLate, ExchangeClock}
+use Rattle.wfe_core.specs.Allocate.{walking, walk_past, is_claimed, next_slot}
+use Rattle.wfe_core.specs.MoveClock.{after_hand_over}
+use Rattle.wfe_core.specs.SlowPath.{asking}
+use Rattle.wfe_core.specs.WriteRow.{last_written}
+use Rattle.wfe_words.specs.Packed.{reservation_word, read_reservation}
+use Rattle.wfe_defs.specs.declared.event.Event.TheVariants as events
+use Rattle.wfe_covers.proofs.Words.{stores_protect}
 use Rattle.wfe_rows.specs.Rows.{Status, View, RowMove, made}
-use Rattle.wfe_rows.specs.Rows.Status.{Free, Claimed, Born, Linked, InQueue, Cut, Sealed, Listed}
 use Rattle.wfe_rows.specs.Rows.RowMove.{Stays, Claims, Bears, Drops, Links, Replaces, Appends, Pops, Reads, Seals, Lists, Returns}
 use Rattle.wfe_eras.specs.Seats.{is_wfe, protect_fits}
 use Rattle.wfe_covers.specs.Covers.{is_past, Before}
@@ -76,7 +87,7 @@ trying_none clock status config post root era (Failed count) s = by_more (nat_le
   by_more true = refl
   by_more false = refl
 
-pub protect_tries : (clock : ℕ) (status : ℕ → Status) (scheme : SchemeKind) (most : ℕ) (mem : Place → ℕ) (aim : Aim) (index : ℕ) (root : Root) (n : ℕ) (at : ProtectAt) (post last next : Post) (s : ℕ) → clock ≡ mem Clock → is_wfe scheme ≡ false → protect_fits scheme most at ≡ true → (aim ≡ Follows → root ≡ roots.Next (parent_of root)) → next.span ≡ post.span
+pub protect_tries : (clock : ℕ) (status : ℕ → Status) (scheme : SchemeKind) (most : ℕ) (mem : Place → ℕ) (aim : Aim) (index : ℕ) (root : Root) (n : ℕ) (at : ProtectAt) (post last next : Post) (s : ℕ) → clock ≡ mem Clock → is_wfe scheme ≡ false → protect_fits scheme most at ≡ true → (aim ≡ Follows → root ≡ roots.Next (parent_of root)) → (at ≡ LoadWithin → next.span ≡ post.span)
     → out_tries clock status next (protect_turn aim index root n at post (found (protect_move index root at last) (mem (place_in (protect_move index root at last))))).outcome s ≡ true
     → Goes_on clock status mem post index root at (protect_turn aim index root n at post (found (protect_move index root at last) (mem (place_in (protect_move index root at last))))).outcome s
 protect_tries clock status scheme most mem aim index root n (LoadClock tries) post last next s c w f g e h = absurd (cc)
@@ -94,7 +105,7 @@ protect_tries clock status scheme most mem aim index root n (LoadAnswer first) p
 protect_tries clock status scheme most mem aim index root n (TakeAnswer link era) post last next s c w f g e h = absurd (grind (arith, nat_tests))
 protect_tries clock status scheme most mem aim index root n (WithdrawRequest link era) post last next s c w f g e h = absurd (grind (arith, nat_tests))
 protect_tries clock status scheme most mem aim index root n (WithdrawHelper link era) post last next s c w f g e h = absurd (grind (arith, nat_tests))
-protect_tries clock status scheme most mem aim index root n LoadWithin post last next s c w f g e h = (refl, inr (rw (sym e) h))
+protect_tries clock status scheme most mem aim index root n LoadWithin post last next s c w f g e h = (refl, inr (rw (sym (e refl)) h))
 protect_tries clock status scheme most mem aim index root n (CheckUpper link) post last next s c w f g e h =
     let q = upper_tries (mem Clock) status mem aim index root n link post next s (mem Clock == upper post.span) refl g (rw c at h) in (q.0, inl (rw c (q.1)))
 protect_tries clock status scheme most mem aim index root n (RaiseUpper era) post last next s c w f g e h = absurd (cc)
@@ -185,3 +196,80 @@ tries_back clock later old new post (Write slot row place) s l m f h = absurd (c
 tries_back clock later old new post (GiveUp slot) s l m f h = absurd (cc)
 tries_back clock later old new post (Retire at) s l m f h = absurd (cc)
 tries_back clock later old new post (Move at) s l m f h = absurd (cc)
+
+-- other machines come to no try
+tries_if : (clock : ℕ) (status : ℕ → Status) (post : Post) (one two : Turn) (s : ℕ) (same : Bool) → out_tries clock status post one.outcome s ≡ false → out_tries clock status post two.outcome s ≡ false → out_tries clock status post (if same then one else two).outcome s ≡ false
+tries_if clock status post one two s true a b = a
+tries_if clock status post one two s false a b = b
+
+walk_tries : (clock : ℕ) (status : ℕ → Status) (birth : ℕ) (post next : Post) (x : Option Walk) (s : ℕ) → out_tries clock status next (walking birth post x).outcome s ≡ false
+walk_tries clock status birth post next None s = refl
+walk_tries clock status birth post next (Some walk) s = refl
+
+allocate_tries : (clock : ℕ) (status : ℕ → Status) (at : AllocateAt) (post next : Post) (found s : ℕ) → out_tries clock status next (allocate_turn at post found).outcome s ≡ false
+allocate_tries clock status LoadBirth post next found s = refl
+allocate_tries clock status (ClaimSlot birth walk) post next found s = by_shown (is_claimed found walk.slot) where
+  by_shown : (shown : Bool) → out_tries clock status next (if shown then walking birth post (walk_past post.layout.config.slots walk found) else goes (record post { cursor = next_slot post.layout.config.slots walk.slot }) (events.Give walk.slot birth ∷ []) (Allocate (StoreLife birth walk.slot))).outcome s ≡ false
+  by_shown true = walk_tries clock status birth post next (walk_past post.layout.config.slots walk found) s
+  by_shown false = refl
+allocate_tries clock status (StoreLife birth slot) post next found s = refl
+
+retire_tries : (clock : ℕ) (status : ℕ → Status) (at : RetireAt) (post next : Post) (found s : ℕ) → out_tries clock status next (retire_turn at post found).outcome s ≡ false
+retire_tries clock status (LoadLife slot) post next found s = refl
+retire_tries clock status (LoadRetire slot birth) post next found s = refl
+retire_tries clock status (StoreRetired slot birth retire) post next found s = refl
+
+begin_tries : (clock : ℕ) (status : ℕ → Status) (at : BeginAt) (post next : Post) (found s : ℕ) → out_tries clock status next (begin_turn at post found).outcome s ≡ false
+begin_tries clock status LoadLower post next found s = refl
+begin_tries clock status (PublishSpan era) post next found s = refl
+
+handed_tries : (clock : ℕ) (status : ℕ → Status) (era seat tag index old : ℕ) (post next : Post) (s : ℕ) (same : Bool) → out_tries clock status next (after_hand_over era seat tag index old post same).outcome s ≡ false
+handed_tries clock status era seat tag index old post next s true = refl
+handed_tries clock status era seat tag index old post next s false = refl
+
+move_tries : (clock : ℕ) (status : ℕ → Status) (at : MoveAt) (post next : Post) (found s : ℕ) → out_tries clock status next (move_turn at post found).outcome s ≡ false
+move_tries clock status (LoadEra helps) post next found s = tries_if clock status next _ _ s (found == post.layout.config.last_era) refl refl
+move_tries clock status (LoadRequest era seat shows) post next found s = refl
+move_tries clock status (ShowEra era seat tag index root) post next found s = refl
+move_tries clock status (LoadAsked era seat tag index root) post next found s = refl
+move_tries clock status (CheckEra era seat tag index root link) post next found s = tries_if clock status next _ _ s (found == era) refl refl
+move_tries clock status (AnswerAsked era seat tag index root link) post next found s = tries_if clock status next _ _ s (found == asking post.layout tag index root) refl refl
+move_tries clock status (LoadReserved era seat tag index root link) post next found s = tries_if clock status next _ _ s ((read_reservation found).tag == tag) refl refl
+move_tries clock status (HandOver era seat tag index root link old) post next found s = handed_tries clock status era seat tag index old post next s (found == reservation_word (record { era = old; tag = tag }))
+move_tries clock status (HideEra era) post next found s = refl
+move_tries clock status (HideLate seen) post next found s = refl
+move_tries clock status (ExchangeClock era) post next found s = tries_if clock status next _ _ s (found == era) refl refl
+
+abbrev pub is_protect : Base → Bool
+is_protect (Protect aim index root steps at) = true
+is_protect base = false
+
+pub other_tries : (clock : ℕ) (status : ℕ → Status) (base : Base) (post next : Post) (found s : ℕ) → is_protect base ≡ false → out_tries clock status next (after base post found).outcome s ≡ false
+other_tries clock status (Begin at) post next found s p = begin_tries clock status at post next found s
+other_tries clock status (Protect aim index root steps at) post next found s p = absurd (cc)
+other_tries clock status (Reload parent index slot era steps) post next found s p = tries_if clock status next _ _ s (found == parent + 1) refl refl
+other_tries clock status (Clear index) post next found s p = refl
+other_tries clock status Finish post next found s p = refl
+other_tries clock status Release post next found s p = refl
+other_tries clock status (Allocate at) post next found s p = allocate_tries clock status at post next found s
+other_tries clock status (Write slot row place) post next found s p = tries_if clock status next _ _ s (place == last_written row) refl refl
+other_tries clock status (GiveUp slot) post next found s p = refl
+other_tries clock status (Retire at) post next found s p = retire_tries clock status at post next found s
+other_tries clock status (Move at) post next found s p = move_tries clock status at post next found s
+
+-- a try that had loaded its link, or loads it, takes from no guard, and leaves the clock
+pub tried_quiet : (clock : ℕ) (status : ℕ → Status) (post : Post) (root : Root) (at : ProtectAt) (s : ℕ) → tries_protect clock status post root at s ≡ true → stores_protect at ≡ false
+tried_quiet clock status post root (PublishEra era tries) s h = absurd (cc)
+tried_quiet clock status post root (TakeAnswer link era) s h = absurd (cc)
+tried_quiet clock status post root (RaiseUpper era) s h = absurd (cc)
+tried_quiet clock status post root at s h = refl
+
+pub loaded_quiet : (clock : ℕ) (status : ℕ → Status) (mem : Place → ℕ) (post : Post) (root : Root) (at : ProtectAt) (s : ℕ) → loads_link clock status mem post root at s ≡ true → stores_protect at ≡ false
+loaded_quiet clock status mem post root (PublishEra era tries) s h = absurd (cc)
+loaded_quiet clock status mem post root (TakeAnswer link era) s h = absurd (cc)
+loaded_quiet clock status mem post root (RaiseUpper era) s h = absurd (cc)
+loaded_quiet clock status mem post root at s h = refl
+
+pub protect_clock : (mem : Place → ℕ) (index : ℕ) (root : Root) (at : ProtectAt) (post : Post) → written mem (protect_move index root at post) Clock ≡ mem Clock
+protect_clock mem index root (LoadClock tries) post = refl
+protect_clock mem index root at post = refl

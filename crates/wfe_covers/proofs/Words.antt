@@ -1,5 +1,5 @@
 -- Which guards' words a step leaves as they are.
-use Rattle.std.proofs.Common.{ℕ, ◌≤◌, ◌≡◌, ◌∙◌, sym, subst, ap, true, false, arith, refl, Bool, Option, Some, None, not, ◌&&◌}
+use Rattle.std.proofs.Common.{ℕ, ◌≡◌, sym, subst, ap, true, false, arith, refl, Bool, Option, Some, None, not}
 use Rattle.std.proofs.lemmas.Bool.Decides.{nat_tests}
 use Rattle.std.specs.Prelude.{◌==◌}
 use Rattle.wfe_words.specs.Place.{Place, same}
@@ -12,10 +12,10 @@ use Rattle.wfe_defs.specs.declared.event.Root.{Root}
 use Rattle.wfe_defs.specs.declared.lifetime.Interval.{Interval as Span}
 use Rattle.wfe_core.specs.declared.post.Post.{Post}
 use Rattle.wfe_core.specs.Guards.{guard_place, published}
-use Rattle.wfe_core.specs.Memory.{Move as Act, Load, Store, Cas, Or, And, place_in, written}
+use Rattle.wfe_core.specs.Memory.{Move as Act, Load, Store, Cas, Or, And, written}
 use Rattle.wfe_core.specs.Phases.{BeginAt, ProtectAt, AllocateAt, RetireAt, MoveAt, Base}
 use Rattle.wfe_core.specs.Phases.BeginAt.{LoadLower, PublishSpan}
-use Rattle.wfe_core.specs.Phases.ProtectAt.{LoadClock, PublishEra, TakeAnswer, RaiseUpper}
+use Rattle.wfe_core.specs.Phases.ProtectAt.{PublishEra, TakeAnswer, RaiseUpper}
 use Rattle.wfe_core.specs.Phases.AllocateAt.{LoadBirth}
 use Rattle.wfe_core.specs.Phases.RetireAt.{LoadLife}
 use Rattle.wfe_core.specs.Phases.MoveAt.{LoadEra, HandOver}
@@ -26,8 +26,8 @@ use Rattle.wfe_core.specs.Get.{get_move}
 use Rattle.wfe_core.specs.Change.{change_move}
 use Rattle.wfe_core.specs.Enqueue.{enqueue_move}
 use Rattle.wfe_core.specs.Dequeue.{dequeue_move}
-use Rattle.wfe_core.specs.Steps.{work_move, phase_move}
-use Rattle.wfe_core.specs.Calls.{ChangeKept, EnqueueKept, ScanAt, ReadGuard, GiveBack, GetAt, FindVersion, ChangeAt, LoadVersion, EnqueueAt, LoadNumber, DequeueAt, LoadTail, Work, Getting, Changing, Enqueuing, Dequeuing, Phase, Idle, Runs, Scans, Works}
+use Rattle.wfe_core.specs.Steps.{work_move}
+use Rattle.wfe_core.specs.Calls.{ChangeKept, EnqueueKept, ScanAt, ReadGuard, GiveBack, GetAt, FindVersion, ChangeAt, LoadVersion, EnqueueAt, LoadNumber, DequeueAt, LoadTail, Work, Getting, Changing, Enqueuing, Dequeuing}
 use Rattle.wfe_core.specs.Locals.{move}
 use Rattle.wfe_core.specs.World.{World, step}
 use Rattle.wfe_eras.specs.Seats.{is_wfe, move_fits, base_fits}

@@ -1,6 +1,5 @@
 -- What guards hold: what stands at an index, and what a try has loaded while its era is still the clock, is covered.
-use Rattle.std.specs.Prelude.{ℕ, ◌≡◌, ◌≤◌, ◌<◌, ◌+◌, ◌==◌, ◌&&◌, not, Bool, true, false, length, Option, Some, None}
-use Rattle.wfe_words.specs.Place.{Place}
+use Rattle.std.specs.Prelude.{ℕ, ◌≡◌, ◌≤◌, ◌<◌, ◌+◌, ◌==◌, ◌&&◌, not, Bool, true, false, length, Some, None}
 use Rattle.wfe_words.specs.Place.Place.{Clock, Tail, Row}
 use Rattle.wfe_words.specs.declared.config.SchemeKind.{SchemeKind}
 use Rattle.wfe_words.specs.declared.config.SchemeKind.TheVariants.{He, Ibr, Wfe}
@@ -12,17 +11,20 @@ use Rattle.wfe_core.specs.declared.post.Post.{Post}
 use Rattle.wfe_core.specs.Guards.{from_to}
 use Rattle.wfe_core.specs.Links.{parent_of}
 use Rattle.wfe_core.specs.Posts.{stands, upper}
-use Rattle.wfe_core.specs.Phases.{Aim, Alone, Follows, Tries, BeginAt, ProtectAt, Base}
+use Rattle.wfe_core.specs.Phases.{Aim, Follows, Tries, ProtectAt, Base}
 use Rattle.wfe_core.specs.Phases.ProtectAt.{LoadClock, PublishEra, LoadLink, CheckClock, PublishRequest, LoadOwnClock, PublishHelper, LoadOwnLink, CheckOwnClock, AnswerOwn, LoadAnswer, TakeAnswer, WithdrawRequest, WithdrawHelper, LoadWithin, CheckUpper, RaiseUpper}
 use Rattle.wfe_core.specs.Phases.Base.{Begin, Protect, Reload, Clear, Finish, Release, Allocate, Write, GiveUp, Retire, Move}
-use Rattle.wfe_core.specs.Calls.{Why, Phase, Idle, Runs, Scans, Works}
-use Rattle.wfe_core.specs.World.{World, step}
+use Rattle.wfe_core.specs.Calls.{Why, Runs}
+use Rattle.wfe_core.specs.World.{World, start, step, begin, finds}
+use Rattle.wfe_words.specs.declared.layout.Layout.{Layout}
+use Rattle.wfe_defs.specs.declared.call.Call.{Call}
+use Rattle.wfe_rows.specs.Hands.{row_move}
 use Rattle.wfe_rows.specs.Rows.{Status, View}
 use Rattle.wfe_rows.specs.Rows.Status.{Free, Claimed, Born, Linked, InQueue, Cut, Sealed, Listed}
 use Rattle.wfe_rows.specs.Agree.{rows_after}
 use Rattle.wfe_eras.specs.Frame.{is_ibr}
 use Rattle.wfe_eras.specs.Seats.{is_wfe, base_fits}
-use Rattle.wfe_covers.specs.Covers.{is_past, shown, GuardFits, Covers, CoversNeeds, Scanning}
+use Rattle.wfe_covers.specs.Covers.{is_past, shown, takes_or_frees, GuardFits, Covers, CoversNeeds, Scanning}
 
 -- the guard of a seat's index: its own word, or under 2GE the seat's interval word
 abbrev pub own_guard : SchemeKind → ℕ → ℕ → Guard
@@ -190,8 +192,9 @@ pub record HeldNeeds (w : World) (i : ℕ) (v : View) : Type 0 where
   -- under 2GE an interval word has the seat's interval, before and after the step
   pub spans : is_ibr w.layout.config.scheme ≡ true → shown w (Whole i) ≡ (w.seat i).post.span
   pub spans_next : is_ibr w.layout.config.scheme ≡ true → shown (step w i) (Whole i) ≡ ((step w i).seat i).post.span
-  -- the era of a try is at most the clock, and the clock never falls
+  -- the era of a try is at most the clock, and the clock is positive and never falls
   pub eras : (k : ℕ) (why : Why) (base : Base) → (w.seat k).phase ≡ Runs why base → era_base (w.seat k).post base ≤ w.mem Clock
+  pub some : 1 ≤ w.mem Clock
   pub clock : w.mem Clock ≤ (step w i).mem Clock
   -- the row whose next link is followed stands at index 0
   pub parents : (k : ℕ) (why : Why) (base : Base) (p : ℕ) → (w.seat k).phase ≡ Runs why base → follows_row base p ≡ true
@@ -205,3 +208,21 @@ HeldKept =
     → HeldNeeds w i v
     → Held w v
     → Held (step w i) (rows_after w i v)
+
+-- nothing is held at the start
+abbrev pub HeldStart : Type 0
+HeldStart = (layout : Layout) (v : View) → Held (start layout) v
+
+-- where a call begins all stays held
+abbrev pub HeldBegin : Type 0
+HeldBegin = (w : World) (i : ℕ) (call : Call) (v : View) → Held w v → Held (begin w i call) v
+
+-- where a row stands at an index of a seat, no step of any seat makes it free, and none claims it
+abbrev pub StandingStays : Type 0
+StandingStays =
+    (w : World) (i k j slot : ℕ) (v : View)
+    → CoversNeeds w i v
+    → Scanning w
+    → Held w v
+    → stands (w.seat k).post j ≡ Some slot
+    → takes_or_frees (row_move (w.seat i).phase (w.seat i).post (finds w i)) slot ≡ false

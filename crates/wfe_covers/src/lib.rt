@@ -3,6 +3,7 @@
 #![tactic(auto)]
 
 ghost use Rattle.wfe_covers.specs.Covers.{CoversKept, NotReused, ScansBegin, ScansKept, ScansStart};
+ghost use Rattle.wfe_covers.specs.Held.{HeldBegin, HeldKept, HeldStart, StandingStays};
 
 /// A row that a guard covers stays covered by it over each step of any seat that does not take from
 /// what the guard publishes: the row's life meets the guard's interval, and each scan that has the
@@ -22,4 +23,18 @@ pub fn scans_give_back_unmet()
     ensures start { ScansStart }
     ensures begin { ScansBegin }
     ensures step { ScansKept }
+{}
+
+/// Under Hazard Eras and 2GE what stands at an index of a seat is covered by the guard of that index,
+/// and so is what a try has loaded while its era is the clock: from the start on, and over every step
+/// and every call that begins.
+pub fn rows_are_held()
+    ensures start { HeldStart }
+    ensures begin { HeldBegin }
+    ensures step { HeldKept }
+{}
+
+/// Where a row stands at an index of a seat, no step of any seat makes it free, and none claims it.
+pub fn standing_rows_stay()
+    ensures { StandingStays }
 {}
