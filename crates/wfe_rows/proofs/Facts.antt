@@ -146,4 +146,4 @@ rows_show w v k a =
     }
 
 pub queue_shows : QueueShows
-queue_shows w i v l n b = queue_needs w.layout.config.slots w.mem v l (w.seat i).phase (λ base. (machine.after base (counted (w.seat i).post) (finds w i)).outcome) n.own b.rows.words.head b.queue.line (b.queue.walks i)
+queue_shows w i v l n b = queue_needs w.layout.config.slots w.mem v l (w.seat i).phase (λ base. (machine.after base (counted (w.seat i).post) (finds w i)).outcome) (finds w i) n.own b.rows.words.head b.queue.line (b.queue.walks i)
