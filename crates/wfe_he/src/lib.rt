@@ -1,0 +1,9 @@
+//! Hazard Eras (Ramalhete and Correia 2017): a protection publishes an era and tries until the clock
+//! has not moved since, and a clear withdraws it.
+#![tactic(auto)]
+
+mod clear;
+mod protect;
+
+pub use clear::HeClear;
+pub use protect::HeProtect;
