@@ -14,6 +14,7 @@ use Rattle.wfe_defs.specs.declared.call.ClockMove.TheVariants as moves
 use Rattle.wfe_defs.specs.declared.event.Event.TheVariants as events
 use Rattle.wfe_defs.specs.declared.event.Root.{Root}
 use Rattle.wfe_defs.specs.declared.event.Root.TheVariants as root_names
+use Rattle.wfe_core.specs.Desks.{Desk}
 use Rattle.wfe_core.specs.declared.post.Post.{Post}
 use Rattle.wfe_core.proofs.Ranges.{bounds_of}
 use Rattle.wfe_core.specs.Links.{link_place, root_at}
@@ -119,11 +120,11 @@ head_of c (Tidies later) h = refl
 head_of c Advances h = refl
 head_of c (Releases key) h = refl
 
-heads_of : (layout : Layout) (phase : Phase) → PhaseIn layout phase → heads_fit layout.config phase ≡ true
-heads_of layout Idle h = refl
-heads_of layout (Runs why base) h = head_of layout.config why h.0
-heads_of layout (Scans later at) h = refl
-heads_of layout (Works work) h = refl
+heads_of : (layout : Layout) (desk : Desk) (phase : Phase) → PhaseIn layout desk phase → heads_fit layout.config phase ≡ true
+heads_of layout desk Idle h = refl
+heads_of layout desk (Runs why base) h = head_of layout.config why h.0
+heads_of layout desk (Scans later at) h = refl
+heads_of layout desk (Works work) h = refl
 
 links_of : (w : World) (root : Root) → Slots w → w.mem (link_place root) ≤ w.layout.config.slots + 1
 links_of w (root_names.Bucket bucket) s = s.words (Bucket bucket)
@@ -133,4 +134,4 @@ links_of w (root_names.Next slot) s = s.words (Row slot 0) refl
 
 -- links and slots that stay within the table are all that is needed
 pub needs_of : (w : World) → Slots w → Needs w
-needs_of w s = record { links = λ root h. links_of w root s; heads = λ k. heads_of w.layout (w.seat k).phase (s.seats k).phase }
+needs_of w s = record { links = λ root h. links_of w root s; heads = λ k. heads_of w.layout (w.seat k).desk (w.seat k).phase (s.seats k).phase }

@@ -1,4 +1,6 @@
+pub mod Facts
 pub mod Fits
+pub mod Follow
 pub mod Kept
 pub mod Line
 pub mod Lists

@@ -4,6 +4,7 @@ use Rattle.std.proofs.lemmas.Bool.Decides.{nat_tests}
 use Rattle.std.specs.Prelude.{◌==◌}
 use Rattle.wfe_core.specs.Memory.{upd}
 use Rattle.wfe_core.specs.Calls.{Opens, FollowsHead, Fills, ClearsNext, Clears, Finishes, GivesUp, Retires, Tidies, Advances, Releases, LoadNumber, LoadNext, PassTail, ExchangeNext, ExchangeTail, LoadTail, SwingTail, TakeNumber, TakeValue, ExchangeHead, Getting, Changing, Enqueuing, Dequeuing, Phase, Idle, Runs, Scans, Works}
+use Rattle.wfe_rows.proofs.Follow.{loads_stay}
 use Rattle.wfe_rows.specs.Queue.{Line, InLine, Walks, stands_on, heads_on, follows_in, leads_in, blanks_in, moved_line}
 use Rattle.wfe_rows.specs.Queue.LineMove.{Joins, Leaves}
 
@@ -163,6 +164,12 @@ lead_heads (Works (Dequeuing (TakeNumber head next))) h e = e
 lead_heads (Works (Dequeuing (TakeValue head next number))) h e = e
 lead_heads (Works (Dequeuing (ExchangeHead head next number value))) h e = e
 
+upd_lined : (next : ℕ → ℕ) (lined : ℕ → Bool) (slot word h : ℕ) → lined slot ≡ false → lined h ≡ true → upd next slot word h ≡ next h
+upd_lined next lined slot word h n e = grind (arith, nat_tests, n, e)
+
+upd_other : (next : ℕ → ℕ) (last word h : ℕ) → next last ≡ 0 → (next h == 0) ≡ false → upd next last word h ≡ next h
+upd_other next last word h n e = grind (arith, nat_tests, n, e)
+
 pub calm_walks : (phase : Phase) (q q2 : ℕ → Bool) (l : Line) (next : ℕ → ℕ) (head tail : ℕ) → Walks phase q l next head tail → ((s : ℕ) → q2 s ≡ q s) → Walks phase q2 l next head tail
 calm_walks phase q q2 l next head tail w f = record {
   stood = λ h u1. grind (arith, nat_tests, w.stood h);
@@ -172,6 +179,7 @@ calm_walks phase q q2 l next head tail w f = record {
   leads = λ h u1 u2. grind (arith, nat_tests, w.leads h);
   blank = λ s u1. grind (arith, nat_tests, w.blank s);
   items = w.items;
+  loads = w.loads;
 }
 
 pub free_walks : (phase : Phase) (q q2 : ℕ → Bool) (l : Line) (next : ℕ → ℕ) (head tail slot : ℕ) → Walks phase q l next head tail → ((s : ℕ) → q2 s ≡ q s) → stands_on phase slot ≡ false → Walks phase q2 (moved_line l (Leaves slot)) next head tail
@@ -183,6 +191,7 @@ free_walks phase q q2 l next head tail slot w f n = record {
   leads = λ h u1 u2. grind (arith, nat_tests, w.leads h);
   blank = λ s u1. grind (arith, nat_tests, w.blank s);
   items = w.items;
+  loads = w.loads;
 }
 
 pub write_walks : (phase : Phase) (q : ℕ → Bool) (l : Line) (next : ℕ → ℕ) (head tail slot word : ℕ) → Walks phase q l next head tail → l.lined slot ≡ false → blanks_in phase slot ≡ false → Walks phase q l (upd next slot word) head tail
@@ -194,6 +203,7 @@ write_walks phase q l next head tail slot word w n b = record {
   leads = λ h u1 u2. grind (arith, nat_tests, w.leads h);
   blank = λ s u1. grind (arith, nat_tests, w.blank s);
   items = w.items;
+  loads = loads_stay phase next (upd next slot word) (λ h u o. upd_lined next l.lined slot word h n (w.stood h u)) w.loads;
 }
 
 pub join_walks : (phase : Phase) (q q2 : ℕ → Bool) (l : Line) (next : ℕ → ℕ) (head tail last slot : ℕ) → Walks phase q l next head tail → next last ≡ 0 → l.lined last ≡ true → l.lined slot ≡ false → ((s : ℕ) → q2 s ≡ upd q slot true s) → ((s : ℕ) → blanks_in phase s ≡ true → l.lined s ≡ false) → Walks phase q2 (moved_line l (Joins last slot)) (upd next last (slot + 1)) head tail
@@ -205,6 +215,7 @@ join_walks phase q q2 l next head tail last slot w n d o f b = record {
   leads = λ h u1 u2. grind (arith, nat_tests, w.leads h);
   blank = λ s u1. grind (arith, nat_tests, w.blank s, b s);
   items = w.items;
+  loads = loads_stay phase next (upd next last (slot + 1)) (λ h u z. upd_other next last (slot + 1) h n z) w.loads;
 }
 
 pub pop_walks : (phase : Phase) (q past q2 : ℕ → Bool) (l : Line) (next : ℕ → ℕ) (head tail slot row : ℕ) → InLine q past l next head tail → Walks phase q l next head tail → head ≡ slot + 1 → next slot ≡ row + 1 → ((s : ℕ) → q2 s ≡ upd q slot false s) → Walks phase q2 l next (row + 1) tail
@@ -216,6 +227,7 @@ pop_walks phase q past q2 l next head tail slot row g w n d f = record {
   leads = λ h u1 u2. grind (arith, nat_tests, w.leads h, w.heads h, lead_heads phase h, g.first slot, g.links slot row, g.rises slot row);
   blank = λ s u1. grind (arith, nat_tests, w.blank s);
   items = w.items;
+  loads = w.loads;
 }
 
 pub swing_walks : (phase : Phase) (q past : ℕ → Bool) (l : Line) (next : ℕ → ℕ) (head tail slot link : ℕ) → InLine q past l next head tail → Walks phase q l next head tail → tail ≡ slot + 1 → next slot ≡ link → Walks phase q l next head link
@@ -227,6 +239,7 @@ swing_walks phase q past l next head tail slot link g w n d = record {
   leads = λ h u1 u2. grind (arith, nat_tests, w.leads h, g.rises slot h, g.least slot h, g.reached slot);
   blank = λ s u1. grind (arith, nat_tests, w.blank s);
   items = w.items;
+  loads = w.loads;
 }
 
 -- the same of functions that agree
@@ -254,4 +267,5 @@ same_walks phase q q2 l next n2 head h2 tail t2 w e n a b = record {
   leads = λ h u1 u2. grind (arith, nat_tests, w.leads h);
   blank = λ s u1. grind (arith, nat_tests, w.blank s, n s);
   items = w.items;
+  loads = loads_stay phase next n2 (λ h u z. n h) w.loads;
 }

@@ -49,6 +49,7 @@ use Rattle.wfe_core.specs.Phases.{MapRow, QueueRow, goes, ends}
 use Rattle.wfe_core.specs.Allocate.{walk_from}
 use Rattle.wfe_core.specs.WriteRow.{row_word}
 use Rattle.wfe_rows.specs.Chain.{next_of}
+use Rattle.wfe_rows.specs.Follow.{LoadsBase}
 use Rattle.wfe_rows.proofs.Steps.{no_fill}
 use Rattle.wfe_rows.proofs.Quiet.{phase_of, is_quiet, quiet_task, quiet_walks, clearing_quiet, clearing_next_quiet, closed_quiet, finishing_quiet, opened_null_quiet, tidied_quiet, advanced_quiet, released_quiet, retired_quiet, filled_quiet}
 
@@ -193,6 +194,7 @@ pub record Gives (why : Why) (outcome : Outcome) (q : ℕ → Bool) (l : Line) (
   pub tails : (kept : EnqueueKept) (slot era : ℕ) → why ≡ Opens (Enqueues kept) → outcome ≡ Ends (Protected (protect_ends.Held slot era)) → l.lined slot ≡ true
   pub heads : (slot era : ℕ) → why ≡ Opens Dequeues → outcome ≡ Ends (Protected (protect_ends.Held slot era)) → l.lined slot ≡ true
   pub leads : (slot era : ℕ) → why ≡ Opens Dequeues → outcome ≡ Ends (Protected (protect_ends.Held slot era)) → q slot ≡ true → head ≡ slot + 1
+  pub loads : (parent tail : ℕ) (more : Base) → why ≡ FollowsHead parent tail → outcome ≡ Goes more → LoadsBase parent more (next parent)
   pub follows : (parent tail slot : ℕ) → why ≡ FollowsHead parent tail → outcome ≡ Ends (Followed (follow_ends.Followed slot)) → next parent ≡ slot + 1
 
 abbrev pub Left : CallTurn → (ℕ → Bool) → Line → (ℕ → ℕ) → ℕ → ℕ → Type 0
@@ -200,7 +202,7 @@ Left t q l next head tail = Walks (phase_of t.outcome) q l next head tail
 
 enqueue_opens : (kept : EnqueueKept) (ending : Ending) (post : Post) (desk : Desk) (told : List Event) (q : ℕ → Bool) (l : Line) (next : ℕ → ℕ) (head tail : ℕ) → ((slot era : ℕ) → ending ≡ Protected (protect_ends.Held slot era) → l.lined slot ≡ true) → Left (steps.opened (Enqueues kept) ending post desk told) q l next head tail
 enqueue_opens kept (Protected (protect_ends.Held slot era)) post desk told q l next head tail f =
-    record { stood = λ h e. grind (arith, nat_tests, f slot era refl); heads = λ h e k. cc; follows = λ h link e. cc; some = λ h link e. cc; leads = λ h e k. cc; blank = λ s e. cc; items = refl }
+    record { stood = λ h e. grind (arith, nat_tests, f slot era refl); heads = λ h e k. cc; follows = λ h link e. cc; some = λ h link e. cc; leads = λ h e k. cc; blank = λ s e. cc; items = refl; loads = tt }
 enqueue_opens kept (Protected protect_ends.Null) post desk told q l next head tail f =
     quiet_walks (phase_of (steps.opened_null (Enqueues kept) post desk told).outcome) q l next head tail (opened_null_quiet (Enqueues kept) post desk told)
 enqueue_opens kept Done post desk told q l next head tail f = quiet_walks (phase_of (steps.opened (Enqueues kept) Done post desk told).outcome) q l next head tail refl
@@ -211,7 +213,7 @@ enqueue_opens kept (Clocked clock) post desk told q l next head tail f = quiet_w
 
 dequeue_opens : (ending : Ending) (post : Post) (desk : Desk) (told : List Event) (q : ℕ → Bool) (l : Line) (next : ℕ → ℕ) (head tail : ℕ) → ((slot era : ℕ) → ending ≡ Protected (protect_ends.Held slot era) → l.lined slot ≡ true) → ((slot era : ℕ) → ending ≡ Protected (protect_ends.Held slot era) → q slot ≡ true → head ≡ slot + 1) → Left (steps.opened Dequeues ending post desk told) q l next head tail
 dequeue_opens (Protected (protect_ends.Held slot era)) post desk told q l next head tail f g =
-    record { stood = λ h e. grind (arith, nat_tests, f slot era refl); heads = λ h e k. head_is h e k; follows = λ h link e. cc; some = λ h link e. cc; leads = λ h e k. cc; blank = λ s e. cc; items = refl }
+    record { stood = λ h e. grind (arith, nat_tests, f slot era refl); heads = λ h e k. head_is h e k; follows = λ h link e. cc; some = λ h link e. cc; leads = λ h e k. cc; blank = λ s e. cc; items = refl; loads = tt }
   where
     head_is : (h : ℕ) → (slot == h) ≡ true → q h ≡ true → head ≡ h + 1
     head_is h e k = let same : slot ≡ h = grind (arith, nat_tests) in subst (λ (x : ℕ). head ≡ x + 1) same (g slot era refl (subst (λ (x : ℕ). q x ≡ true) (sym same) k))
@@ -250,9 +252,9 @@ opened_quiet task (Clocked clock) post desk told h = refl
 -- the head's next row was followed
 followed_row_walks : (parent last slot : ℕ) (base : Base) (post : Post) (desk : Desk) (told : List Event) (lags : Bool) (q : ℕ → Bool) (l : Line) (next : ℕ → ℕ) (head tail : ℕ) → (last == parent + 1) ≡ lags → Walks (Runs (FollowsHead parent last) base) q l next head tail → next parent ≡ slot + 1 → Left (dequeues.followed_row parent slot post desk told lags) q l next head tail
 followed_row_walks parent last slot base post desk told true q l next head tail e w f =
-    record { stood = w.stood; heads = w.heads; follows = λ h link u. grind (arith, nat_tests, f); some = λ h link u. grind (arith, nat_tests); leads = λ h u k. cc; blank = λ s u. cc; items = refl }
+    record { stood = w.stood; heads = w.heads; follows = λ h link u. grind (arith, nat_tests, f); some = λ h link u. grind (arith, nat_tests); leads = λ h u k. cc; blank = λ s u. cc; items = refl; loads = tt }
 followed_row_walks parent last slot base post desk told false q l next head tail e w f =
-    record { stood = w.stood; heads = w.heads; follows = λ h link u. grind (arith, nat_tests, f); some = λ h link u. grind (arith, nat_tests); leads = λ h u k. w.leads h (lags_on h u) k; blank = λ s u. cc; items = refl }
+    record { stood = w.stood; heads = w.heads; follows = λ h link u. grind (arith, nat_tests, f); some = λ h link u. grind (arith, nat_tests); leads = λ h u k. w.leads h (lags_on h u) k; blank = λ s u. cc; items = refl; loads = tt }
   where
     lags_on : (h : ℕ) → (parent == h) ≡ true → leads_in (Runs (FollowsHead parent last) base) h ≡ true
     lags_on h u = rw (u, e) refl
@@ -313,7 +315,7 @@ resumed_walks (Opens (Enqueues kept)) base desk post told (Goes more) q l next h
 resumed_walks (Opens (Enqueues kept)) base desk post told (Ends ending) q l next head tail h w g = enqueue_opens kept ending post desk told q l next head tail (λ slot era e. g.tails kept slot era refl (ap Ends e))
 resumed_walks (Opens Dequeues) base desk post told (Goes more) q l next head tail h w g = quiet_walks (Runs (Opens Dequeues) more) q l next head tail refl
 resumed_walks (Opens Dequeues) base desk post told (Ends ending) q l next head tail h w g = dequeue_opens ending post desk told q l next head tail (λ slot era e. g.heads slot era refl (ap Ends e)) (λ slot era e. g.leads slot era refl (ap Ends e))
-resumed_walks (FollowsHead parent last) base desk post told (Goes more) q l next head tail h w g = record { stood = w.stood; heads = w.heads; follows = λ x link e. cc; some = λ x link e. cc; leads = w.leads; blank = λ s e. cc; items = refl }
+resumed_walks (FollowsHead parent last) base desk post told (Goes more) q l next head tail h w g = record { stood = w.stood; heads = w.heads; follows = λ x link e. cc; some = λ x link e. cc; leads = w.leads; blank = λ s e. cc; items = refl; loads = g.loads parent last more refl refl }
 resumed_walks (FollowsHead parent last) base desk post told (Ends ending) q l next head tail h w g = follow_ends_walks parent last base ending post desk told q l next head tail w (λ slot e. g.follows parent last slot refl (ap Ends e))
 resumed_walks (Fills task) base desk post told outcome q l next head tail h w g = absurd (no_fill h)
 
@@ -324,7 +326,7 @@ fills_quiet task desk post told (Ends ending) h = filled_quiet task ending post 
 
 -- where an enqueue takes a row
 enqueue_goes : (kept : EnqueueKept) (at more : AllocateAt) (q : ℕ → Bool) (l : Line) (next : ℕ → ℕ) (head tail : ℕ) → Walks (Runs (Fills (Enqueues kept)) (Allocate at)) q l next head tail → Walks (Runs (Fills (Enqueues kept)) (Allocate more)) q l next head tail
-enqueue_goes kept at more q l next head tail w = record { stood = w.stood; heads = λ h e k. cc; follows = λ h link e. cc; some = λ h link e. cc; leads = λ h e k. cc; blank = λ s e. cc; items = refl }
+enqueue_goes kept at more q l next head tail w = record { stood = w.stood; heads = λ h e k. cc; follows = λ h link e. cc; some = λ h link e. cc; leads = λ h e k. cc; blank = λ s e. cc; items = refl; loads = tt }
 
 enqueue_walks : (kept : EnqueueKept) (birth : ℕ) (at : AllocateAt) (post : Post) (desk : Desk) (x : Option Walk) (q : ℕ → Bool) (l : Line) (next : ℕ → ℕ) (head tail : ℕ) → Walks (Runs (Fills (Enqueues kept)) (Allocate at)) q l next head tail → Left (run_turn (Fills (Enqueues kept)) desk (walking birth post x)) q l next head tail
 enqueue_walks kept birth at post desk None q l next head tail w =
@@ -355,7 +357,7 @@ enqueue_takes kept (ClaimSlot birth walk) post desk found q l next head tail w =
     tail
     w
 enqueue_takes kept (StoreLife birth slot) post desk found q l next head tail w =
-    record { stood = w.stood; heads = λ h e k. cc; follows = λ h link e. cc; some = λ h link e. cc; leads = λ h e k. cc; blank = λ s e. absurd (grind (arith, nat_tests)); items = refl }
+    record { stood = w.stood; heads = λ h e k. cc; follows = λ h link e. cc; some = λ h link e. cc; leads = λ h e k. cc; blank = λ s e. absurd (grind (arith, nat_tests)); items = refl; loads = tt }
 
 pub takes_walks : (task : Task) (at : AllocateAt) (post : Post) (desk : Desk) (found : ℕ) (q : ℕ → Bool) (l : Line) (next : ℕ → ℕ) (head tail : ℕ) → Walks (Runs (Fills task) (Allocate at)) q l next head tail → Left (run_turn (Fills task) desk (machine.after (Allocate at) post found)) q l next head tail
 takes_walks (Enqueues kept) at post desk found q l next head tail w = enqueue_takes kept at post desk found q l next head tail w
@@ -374,12 +376,12 @@ blank_after mem slot number value place f = grind (arith, nat_tests, f)
 -- where an enqueue writes its row
 item_last : (kept : EnqueueKept) (slot number value place word : ℕ) (post : Post) (desk : Desk) (last : Bool) (q : ℕ → Bool) (l : Line) (next n2 : ℕ → ℕ) (head tail : ℕ) → (place == 2) ≡ last → holds_slot kept.taken slot ≡ true → n2 slot ≡ 0 → Walks (Runs (Fills (Enqueues kept)) (Write slot (QueueRow number value) place)) q l next head tail → Left (run_turn (Fills (Enqueues kept)) desk (if last then ends post [] Done else goes post [] (Write slot (QueueRow number value) (place + 1)))) q l n2 head tail
 item_last kept slot number value place word post desk true q l next n2 head tail e t b w =
-    record { stood = w.stood; heads = λ h u k. cc; follows = λ h link u. cc; some = λ h link u. cc; leads = λ h u k. cc; blank = λ s u. blank_at s u; items = refl }
+    record { stood = w.stood; heads = λ h u k. cc; follows = λ h link u. cc; some = λ h link u. cc; leads = λ h u k. cc; blank = λ s u. blank_at s u; items = refl; loads = tt }
   where
     blank_at : (s : ℕ) → (steps.slot_in kept.taken == s) ≡ true → n2 s ≡ 0
     blank_at s u = let own : steps.slot_in kept.taken ≡ slot = taken_in kept.taken slot t in let same : slot ≡ s = grind (arith, nat_tests) in subst (λ (x : ℕ). n2 x ≡ 0) same b
 item_last kept slot number value place word post desk false q l next n2 head tail e t b w =
-    record { stood = w.stood; heads = λ h u k. cc; follows = λ h link u. cc; some = λ h link u. cc; leads = λ h u k. cc; blank = λ s u. grind (arith, nat_tests, b); items = refl }
+    record { stood = w.stood; heads = λ h u k. cc; follows = λ h link u. cc; some = λ h link u. cc; leads = λ h u k. cc; blank = λ s u. grind (arith, nat_tests, b); items = refl; loads = tt }
 
 item_writes : (kept : EnqueueKept) (slot : ℕ) (row : RowOf) (place : ℕ) (post : Post) (desk : Desk) (q : ℕ → Bool) (l : Line) (mem : Place → ℕ) (head tail : ℕ) → holds_slot kept.taken slot ≡ true → Walks (Runs (Fills (Enqueues kept)) (Write slot row place)) q l (next_of mem) head tail → Left (run_turn (Fills (Enqueues kept)) desk (machine.after (Write slot row place) post 0)) q l (next_of (written mem (Store (Row slot place) (row_word row place)))) head tail
 item_writes kept slot (MapRow version pairs) place post desk q l mem head tail t w = absurd (no_fill w.items)

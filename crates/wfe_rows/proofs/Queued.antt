@@ -52,6 +52,10 @@ use Rattle.wfe_rows.proofs.Phases.{taken_as}
 use Rattle.wfe_rows.proofs.Fits.{MoveFits, phase_fits, is_calm, calm_made}
 use Rattle.wfe_rows.proofs.Quiet.{phase_of, is_quiet, quiet_walks, clearing_quiet, clearing_next_quiet, change_quiet, scan_quiet, get_quiet, round_quiet}
 use Rattle.wfe_rows.proofs.Own.{is_linking, is_write, base_links, Left, fills_none, resumed_walks, takes_walks, writes_walks}
+use Rattle.wfe_core.specs.Phases.{Goes}
+use Rattle.wfe_rows.specs.Follow.{LoadsBase, WhyLoads}
+use Rattle.wfe_rows.proofs.Follow.{OutLoads, base_loads, base_follows, follow_begins}
+use Rattle.wfe_core.specs.Rounds.{scheme_of}
 use Rattle.wfe_rows.proofs.Went.{Far, Others, Went, LineIn, WalksIn, both_same, calm_self, went_same, went_calm, went_returns, went_writes_by, went_swings, went_joins, went_pops, born_unlined}
 use Rattle.wfe_rows.proofs.Kept.{rows_kept}
 use Rattle.wfe_rows.specs.Agree.{RowsNeeds, rows_after, first_rows}
@@ -167,7 +171,16 @@ finds_base mem base post = memory.found (base_move base post) (mem (place_in (ba
 abbrev base_turn : (Place → ℕ) → Base → Post → Post → Turn
 base_turn mem base post next = machine.after base next (finds_base mem base post)
 
-went_runs : (slots i : ℕ) (mem : Place → ℕ) (v : View) (l : Line) (why : Why) (base : Base) (post next : Post) (desk : Desk) → fills_none why ≡ true → PhaseNeeds slots mem v l (Runs why base) (λ other. (machine.after other next (finds_base mem base post)).outcome) → mem Head ≡ v.head → runs_right why base ≡ true → MoveFits i v (base_row base (finds_base mem base post)) → LineIn v l mem → WalksIn (Runs why base) v l mem
+goes_loads : (h next : ℕ) (outcome : Outcome) (more : Base) → outcome ≡ Goes more → OutLoads h next outcome → LoadsBase h more next
+goes_loads h next outcome more e l = let P : Outcome → Type 0 = λ y. OutLoads h next y in subst P e l
+
+why_loads : (why : Why) (parent tail : ℕ) (base : Base) (next : ℕ → ℕ) → why ≡ FollowsHead parent tail → WhyLoads why base next → LoadsBase parent base (next parent)
+why_loads why parent tail base next e l = let P : Why → Type 0 = λ y. WhyLoads y base next in subst P e l
+
+runs_same : (why other : Why) (base more : Base) → why ≡ other → base ≡ more → Runs why base ≡ Runs other more
+runs_same why other base more e o = cc
+
+went_runs : (slots i : ℕ) (mem : Place → ℕ) (v : View) (l : Line) (why : Why) (base : Base) (post next : Post) (desk : Desk) → fills_none why ≡ true → PhaseNeeds slots mem v l (Runs why base) (λ other. (machine.after other next (finds_base mem base post)).outcome) (finds_base mem base post) → mem Head ≡ v.head → runs_right why base ≡ true → MoveFits i v (base_row base (finds_base mem base post)) → LineIn v l mem → WalksIn (Runs why base) v l mem
     → Went i v (made i v (base_row base (finds_base mem base post))) l Keeps mem (written mem (base_move base post)) (run_turn why desk (base_turn mem base post next))
 went_runs slots i mem v l why base post next desk h n c r f g w =
     let t : Turn = base_turn mem base post next in
@@ -200,7 +213,8 @@ went_runs slots i mem v l why base post next desk h n c r f g w =
       tails = λ kept slot era e o. n.tails kept base slot era (ap (λ (y : Why). Runs y base) e) o;
       heads = λ slot era e o. n.heads base slot era (ap (λ (y : Why). Runs y base) e) o;
       leads = λ slot era e o q. sym c ∙ n.leads base slot era (ap (λ (y : Why). Runs y base) e) o q;
-      follows = λ parent tail slot e o. n.follows parent tail slot base (ap (λ (y : Why). Runs y base) e) o;
+      loads = λ parent tail more e o. goes_loads parent (mem (Row parent 0)) (machine.after base next (finds_base mem base post)).outcome more o (base_loads mem parent base post next (λ aim index root steps at q. n.answers parent tail aim index root steps at (runs_same why (FollowsHead parent tail) base (Protect aim index root steps at) e q)) (why_loads why parent tail base (next_of mem) e w.loads));
+      follows = λ parent tail slot e o. base_follows mem parent base next (finds_base mem base post) slot (why_loads why parent tail base (next_of mem) e w.loads) o;
     }))
 
 went_takes : (i : ℕ) (mem : Place → ℕ) (v : View) (l : Line) (task : Task) (at : AllocateAt) (post next : Post) (desk : Desk) → MoveFits i v (base_row (Allocate at) (finds_base mem (Allocate at) post)) → LineIn v l mem → WalksIn (Runs (Fills task) (Allocate at)) v l mem
@@ -247,7 +261,7 @@ went_fills slots i mem v l task (GiveUp slot) post next desk d p r f g w = absur
 went_fills slots i mem v l task (Retire at) post next desk d p r f g w = absurd (no_fill (only_fills task (Retire at) r))
 went_fills slots i mem v l task (Move at) post next desk d p r f g w = absurd (no_fill (only_fills task (Move at) r))
 
-run_went : (slots i : ℕ) (mem : Place → ℕ) (v : View) (l : Line) (why : Why) (base : Base) (post next : Post) (desk : Desk) → PhaseNeeds slots mem v l (Runs why base) (λ other. (machine.after other next (finds_base mem base post)).outcome) → Good slots v → Words slots mem v → Plays i (Runs why base) desk.list v → MoveFits i v (base_row base (finds_base mem base post)) → LineIn v l mem → WalksIn (Runs why base) v l mem
+run_went : (slots i : ℕ) (mem : Place → ℕ) (v : View) (l : Line) (why : Why) (base : Base) (post next : Post) (desk : Desk) → PhaseNeeds slots mem v l (Runs why base) (λ other. (machine.after other next (finds_base mem base post)).outcome) (finds_base mem base post) → Good slots v → Words slots mem v → Plays i (Runs why base) desk.list v → MoveFits i v (base_row base (finds_base mem base post)) → LineIn v l mem → WalksIn (Runs why base) v l mem
     → Went i v (made i v (base_row base (finds_base mem base post))) l Keeps mem (written mem (base_move base post)) (run_turn why desk (base_turn mem base post next))
 run_went slots i mem v l (Fills task) base post next desk n d c p f g w = went_fills slots i mem v l task base post next desk d p.hand p.right f g w
 run_went slots i mem v l (Opens task) base post next desk n d c p f g w = went_runs slots i mem v l (Opens task) base post next desk refl n c.head p.right f g w
@@ -296,17 +310,17 @@ found_some found last h link e u = grind (arith, nat_tests)
 last_walks : (kept : EnqueueKept) (post : Post) (desk : Desk) (spent : Bool) (q : ℕ → Bool) (l : Line) (next : ℕ → ℕ) (head tail : ℕ) → Walks (Works (Enqueuing kept LoadNext)) q l next head tail → Left (enqueues.appending kept post desk spent) q l next head tail
 last_walks kept post desk true q l next head tail w = quiet_walks (phase_of (enqueues.appending kept post desk true).outcome) q l next head tail (clearing_quiet (Enqueues kept) (Answering (the_answers.Spent kept.number)) post desk [])
 last_walks kept post desk false q l next head tail w =
-    record { stood = w.stood; heads = λ h u k. cc; follows = λ h link u. cc; some = λ h link u. cc; leads = λ h u k. cc; blank = λ s u. absurd (filling_blank kept kept.taken s u); items = filling_items kept kept.taken }
+    record { stood = w.stood; heads = λ h u k. cc; follows = λ h link u. cc; some = λ h link u. cc; leads = λ h u k. cc; blank = λ s u. absurd (filling_blank kept kept.taken s u); items = filling_items kept kept.taken; loads = tt }
 
 next_walks : (kept : EnqueueKept) (post : Post) (desk : Desk) (none : Bool) (q : ℕ → Bool) (l : Line) (next : ℕ → ℕ) (head tail : ℕ) → (next kept.tail == 0) ≡ none → Walks (Works (Enqueuing kept LoadNext)) q l next head tail → Left (enqueues.at_next kept (next kept.tail) post desk none) q l next head tail
 next_walks kept post desk true q l next head tail e w = last_walks kept post desk (kept.number == post.layout.config.last_version) q l next head tail w
 next_walks kept post desk false q l next head tail e w =
-    record { stood = w.stood; heads = λ h u k. cc; follows = λ h link u. found_follows next kept.tail h link u; some = λ h link u. found_some (next kept.tail) kept.tail h link e u; leads = λ h u k. cc; blank = λ s u. cc; items = refl }
+    record { stood = w.stood; heads = λ h u k. cc; follows = λ h link u. found_follows next kept.tail h link u; some = λ h link u. found_some (next kept.tail) kept.tail h link e u; leads = λ h u k. cc; blank = λ s u. cc; items = refl; loads = tt }
 
 enqueue_went : (slots i : ℕ) (mem : Place → ℕ) (v : View) (l : Line) (kept : EnqueueKept) (at : EnqueueAt) (next : Post) (desk : Desk) → Good slots v → Plays i (Works (Enqueuing kept at)) desk.list v → LineIn v l mem → WalksIn (Works (Enqueuing kept at)) v l mem
     → Went i v (made i v (enqueue_row at (memory.found (enqueues.enqueue_move kept at) (mem (place_in (enqueues.enqueue_move kept at)))))) l (enqueue_line kept at (memory.found (enqueues.enqueue_move kept at) (mem (place_in (enqueues.enqueue_move kept at))))) mem (written mem (enqueues.enqueue_move kept at)) (enqueues.enqueue_turn kept at next desk (memory.found (enqueues.enqueue_move kept at) (mem (place_in (enqueues.enqueue_move kept at)))))
 enqueue_went slots i mem v l kept LoadNumber next desk d p g w =
-    load_went i v l mem (enqueues.enqueue_turn kept LoadNumber next desk (mem (Row kept.tail 1))) g (record { stood = w.stood; heads = λ h u k. cc; follows = λ h link u. cc; some = λ h link u. cc; leads = λ h u k. cc; blank = λ s u. cc; items = refl })
+    load_went i v l mem (enqueues.enqueue_turn kept LoadNumber next desk (mem (Row kept.tail 1))) g (record { stood = w.stood; heads = λ h u k. cc; follows = λ h link u. cc; some = λ h link u. cc; leads = λ h u k. cc; blank = λ s u. cc; items = refl; loads = tt })
 enqueue_went slots i mem v l kept LoadNext next desk d p g w =
     load_went i v l mem (enqueues.enqueue_turn kept LoadNext next desk (mem (Row kept.tail 0))) g (next_walks kept next desk (mem (Row kept.tail 0) == 0) (queue_of v) l (next_of mem) v.head (mem Tail) refl w)
 enqueue_went slots i mem v l kept (PassTail link) next desk d p g w =
@@ -322,13 +336,13 @@ tail_loaded mem parent h u = grind (arith, nat_tests)
 dequeue_went : (slots i : ℕ) (mem : Place → ℕ) (v : View) (l : Line) (at : DequeueAt) (next : Post) (desk : Desk) → mem Head ≡ v.head → LineIn v l mem → WalksIn (Works (Dequeuing at)) v l mem
     → Went i v (made i v (dequeue_row at (memory.found (dequeues.dequeue_move at) (mem (place_in (dequeues.dequeue_move at)))))) l Keeps mem (written mem (dequeues.dequeue_move at)) (dequeues.dequeue_turn at next desk (memory.found (dequeues.dequeue_move at) (mem (place_in (dequeues.dequeue_move at)))))
 dequeue_went slots i mem v l (LoadTail parent) next desk c g w =
-    load_went i v l mem (dequeues.dequeue_turn (LoadTail parent) next desk (mem Tail)) g (record { stood = w.stood; heads = w.heads; follows = λ h link u. cc; some = λ h link u. cc; leads = λ h u k. tail_loaded mem parent h u; blank = λ s u. cc; items = refl })
+    load_went i v l mem (dequeues.dequeue_turn (LoadTail parent) next desk (mem Tail)) g (record { stood = w.stood; heads = w.heads; follows = λ h link u. cc; some = λ h link u. cc; leads = λ h u k. tail_loaded mem parent h u; blank = λ s u. cc; items = refl; loads = follow_begins (scheme_of next) parent (mem (Row parent 0)) })
 dequeue_went slots i mem v l (SwingTail parent row) next desk c g w =
     went_swings i v l mem parent (row + 1) (dequeues.dequeue_turn (SwingTail parent row) next desk (mem Tail)) (mem Tail == parent + 1) refl (w.follows parent (row + 1) (both_same parent (row + 1))) (omega arith) g (clearing_next_quiet Again next desk (enqueues.told_link roots.Tail row (mem Tail == parent + 1)))
 dequeue_went slots i mem v l (TakeNumber parent row) next desk c g w =
-    load_went i v l mem (dequeues.dequeue_turn (TakeNumber parent row) next desk (mem (Row row 1))) g (record { stood = w.stood; heads = w.heads; follows = w.follows; some = w.some; leads = w.leads; blank = λ s u. cc; items = refl })
+    load_went i v l mem (dequeues.dequeue_turn (TakeNumber parent row) next desk (mem (Row row 1))) g (record { stood = w.stood; heads = w.heads; follows = w.follows; some = w.some; leads = w.leads; blank = λ s u. cc; items = refl; loads = tt })
 dequeue_went slots i mem v l (TakeValue parent row number) next desk c g w =
-    load_went i v l mem (dequeues.dequeue_turn (TakeValue parent row number) next desk (mem (Row row 2))) g (record { stood = w.stood; heads = w.heads; follows = w.follows; some = w.some; leads = w.leads; blank = λ s u. cc; items = refl })
+    load_went i v l mem (dequeues.dequeue_turn (TakeValue parent row number) next desk (mem (Row row 2))) g (record { stood = w.stood; heads = w.heads; follows = w.follows; some = w.some; leads = w.leads; blank = λ s u. cc; items = refl; loads = tt })
 dequeue_went slots i mem v l (ExchangeHead parent row number value) next desk c g w =
     went_pops i v l mem parent row number value next desk (mem Head == parent + 1) refl c g w
 
@@ -353,7 +367,7 @@ scan_went i mem v l later (GiveBack place slot) post next desk f g =
 abbrev finds_phase : (Place → ℕ) → Phase → Post → ℕ
 finds_phase mem phase post = memory.found (phase_move phase post) (mem (place_in (phase_move phase post)))
 
-pub phase_went : (slots i : ℕ) (mem : Place → ℕ) (v : View) (l : Line) (phase : Phase) (post next : Post) (desk : Desk) → PhaseNeeds slots mem v l phase (λ other. (machine.after other next (finds_phase mem phase post)).outcome) → Good slots v → Words slots mem v → Plays i phase desk.list v → MoveFits i v (row_move phase post (finds_phase mem phase post)) → LineIn v l mem → WalksIn phase v l mem
+pub phase_went : (slots i : ℕ) (mem : Place → ℕ) (v : View) (l : Line) (phase : Phase) (post next : Post) (desk : Desk) → PhaseNeeds slots mem v l phase (λ other. (machine.after other next (finds_phase mem phase post)).outcome) (finds_phase mem phase post) → Good slots v → Words slots mem v → Plays i phase desk.list v → MoveFits i v (row_move phase post (finds_phase mem phase post)) → LineIn v l mem → WalksIn phase v l mem
     → Went i v (made i v (row_move phase post (finds_phase mem phase post))) l (line_move phase (finds_phase mem phase post)) mem (written mem (phase_move phase post)) (phase_turn phase next desk (finds_phase mem phase post))
 phase_went slots i mem v l Idle post next desk n d c p f g w =
     load_went i v l mem (phase_turn Idle next desk (mem Clock)) g (quiet_walks Idle (queue_of v) l (next_of mem) v.head (mem Tail) refl)
@@ -440,8 +454,8 @@ not_head : (numbers : ℕ → ℕ) (head next : ℕ) (same : Bool) → (next == 
 not_head numbers head next true e h = let one : next ≡ head = grind (arith, nat_tests) in absurd (omega (arith, ap numbers one))
 not_head numbers head next false e h = refl
 
-queue_needs : (slots : ℕ) (mem : Place → ℕ) (v : View) (l : Line) (phase : Phase) (outcome : Base → Outcome) → PhaseNeeds slots mem v l phase outcome → mem Head ≡ v.head → LineIn v l mem → WalksIn phase v l mem → Needs slots mem v phase
-queue_needs slots mem v l phase outcome n c g w = record {
+pub queue_needs : (slots : ℕ) (mem : Place → ℕ) (v : View) (l : Line) (phase : Phase) (outcome : Base → Outcome) (found : ℕ) → PhaseNeeds slots mem v l phase outcome found → mem Head ≡ v.head → LineIn v l mem → WalksIn phase v l mem → Needs slots mem v phase
+queue_needs slots mem v l phase outcome found n c g w = record {
   walks = n.walks;
   births = n.births;
   follows = λ head next number value e h. queue_is (v.status next) (g.links head next (g.first head (sym c ∙ h)) (after_head mem v l phase head next number value w e));
@@ -477,7 +491,7 @@ far_of w i k v l (Works (Dequeuing at)) n e found = tt
 pub queue_kept : QueueKept
 queue_kept w i v l n b =
     let own : Local = w.seat i in
-    let needs : RowsNeeds w i v = queue_needs (SlotsOf w) w.mem v l own.phase (λ base. (machine.after base (counted own.post) (finds w i)).outcome) n.own b.rows.words.head b.queue.line (b.queue.walks i) in
+    let needs : RowsNeeds w i v = queue_needs (SlotsOf w) w.mem v l own.phase (λ base. (machine.after base (counted own.post) (finds w i)).outcome) (finds w i) n.own b.rows.words.head b.queue.line (b.queue.walks i) in
     let fits : MoveFits i v (row_move own.phase own.post (finds w i)) = phase_fits (SlotsOf w) i w.mem v own.phase own.post own.desk.list needs b.rows.good b.rows.words (b.rows.plays i) in
     let t : CallTurn = turn own (finds w i) in
     let went : Went i v (rows_after w i v) l (line_move own.phase (finds w i)) w.mem (step w i).mem (turn own (finds w i)) = phase_went (SlotsOf w) i w.mem v l own.phase own.post (counted own.post) own.desk n.own b.rows.good b.rows.words (b.rows.plays i) fits b.queue.line (b.queue.walks i) in

@@ -67,25 +67,25 @@ Quiet t = is_quiet (phase_of t.outcome) ≡ true
 
 -- such a phase has nothing to keep
 pub quiet_walks : (phase : Phase) (q : ℕ → Bool) (l : Line) (next : ℕ → ℕ) (head tail : ℕ) → is_quiet phase ≡ true → Walks phase q l next head tail
-quiet_walks Idle q l next head tail h = record { stood = λ h e. cc; heads = λ h e k. cc; follows = λ h link e. cc; some = λ h link e. cc; leads = λ h e k. cc; blank = λ s e. cc; items = refl }
-quiet_walks (Runs (Opens task) base) q l next head tail h = record { stood = λ h e. cc; heads = λ h e k. cc; follows = λ h link e. cc; some = λ h link e. cc; leads = λ h e k. cc; blank = λ s e. cc; items = refl }
+quiet_walks Idle q l next head tail h = record { stood = λ h e. cc; heads = λ h e k. cc; follows = λ h link e. cc; some = λ h link e. cc; leads = λ h e k. cc; blank = λ s e. cc; items = refl; loads = tt }
+quiet_walks (Runs (Opens task) base) q l next head tail h = record { stood = λ h e. cc; heads = λ h e k. cc; follows = λ h link e. cc; some = λ h link e. cc; leads = λ h e k. cc; blank = λ s e. cc; items = refl; loads = tt }
 quiet_walks (Runs (FollowsHead parent last) base) q l next head tail h = absurd (cc)
-quiet_walks (Runs (ClearsNext after) base) q l next head tail h = record { stood = λ h e. cc; heads = λ h e k. cc; follows = λ h link e. cc; some = λ h link e. cc; leads = λ h e k. cc; blank = λ s e. cc; items = refl }
-quiet_walks (Runs (Clears task after) base) q l next head tail h = record { stood = λ h e. cc; heads = λ h e k. cc; follows = λ h link e. cc; some = λ h link e. cc; leads = λ h e k. cc; blank = λ s e. cc; items = refl }
-quiet_walks (Runs (Finishes task after) base) q l next head tail h = record { stood = λ h e. cc; heads = λ h e k. cc; follows = λ h link e. cc; some = λ h link e. cc; leads = λ h e k. cc; blank = λ s e. cc; items = refl }
-quiet_walks (Runs (GivesUp answer) base) q l next head tail h = record { stood = λ h e. cc; heads = λ h e k. cc; follows = λ h link e. cc; some = λ h link e. cc; leads = λ h e k. cc; blank = λ s e. cc; items = refl }
-quiet_walks (Runs (Retires answer) base) q l next head tail h = record { stood = λ h e. cc; heads = λ h e k. cc; follows = λ h link e. cc; some = λ h link e. cc; leads = λ h e k. cc; blank = λ s e. cc; items = refl }
-quiet_walks (Runs (Tidies later) base) q l next head tail h = record { stood = λ h e. cc; heads = λ h e k. cc; follows = λ h link e. cc; some = λ h link e. cc; leads = λ h e k. cc; blank = λ s e. cc; items = refl }
-quiet_walks (Runs Advances base) q l next head tail h = record { stood = λ h e. cc; heads = λ h e k. cc; follows = λ h link e. cc; some = λ h link e. cc; leads = λ h e k. cc; blank = λ s e. cc; items = refl }
-quiet_walks (Runs (Releases key) base) q l next head tail h = record { stood = λ h e. cc; heads = λ h e k. cc; follows = λ h link e. cc; some = λ h link e. cc; leads = λ h e k. cc; blank = λ s e. cc; items = refl }
-quiet_walks (Runs (Fills (Gets key)) base) q l next head tail h = record { stood = λ h e. cc; heads = λ h e k. cc; follows = λ h link e. cc; some = λ h link e. cc; leads = λ h e k. cc; blank = λ s e. cc; items = refl }
-quiet_walks (Runs (Fills (Changes kept)) base) q l next head tail h = record { stood = λ h e. cc; heads = λ h e k. cc; follows = λ h link e. cc; some = λ h link e. cc; leads = λ h e k. cc; blank = λ s e. cc; items = refl }
-quiet_walks (Runs (Fills (Holds key)) base) q l next head tail h = record { stood = λ h e. cc; heads = λ h e k. cc; follows = λ h link e. cc; some = λ h link e. cc; leads = λ h e k. cc; blank = λ s e. cc; items = refl }
+quiet_walks (Runs (ClearsNext after) base) q l next head tail h = record { stood = λ h e. cc; heads = λ h e k. cc; follows = λ h link e. cc; some = λ h link e. cc; leads = λ h e k. cc; blank = λ s e. cc; items = refl; loads = tt }
+quiet_walks (Runs (Clears task after) base) q l next head tail h = record { stood = λ h e. cc; heads = λ h e k. cc; follows = λ h link e. cc; some = λ h link e. cc; leads = λ h e k. cc; blank = λ s e. cc; items = refl; loads = tt }
+quiet_walks (Runs (Finishes task after) base) q l next head tail h = record { stood = λ h e. cc; heads = λ h e k. cc; follows = λ h link e. cc; some = λ h link e. cc; leads = λ h e k. cc; blank = λ s e. cc; items = refl; loads = tt }
+quiet_walks (Runs (GivesUp answer) base) q l next head tail h = record { stood = λ h e. cc; heads = λ h e k. cc; follows = λ h link e. cc; some = λ h link e. cc; leads = λ h e k. cc; blank = λ s e. cc; items = refl; loads = tt }
+quiet_walks (Runs (Retires answer) base) q l next head tail h = record { stood = λ h e. cc; heads = λ h e k. cc; follows = λ h link e. cc; some = λ h link e. cc; leads = λ h e k. cc; blank = λ s e. cc; items = refl; loads = tt }
+quiet_walks (Runs (Tidies later) base) q l next head tail h = record { stood = λ h e. cc; heads = λ h e k. cc; follows = λ h link e. cc; some = λ h link e. cc; leads = λ h e k. cc; blank = λ s e. cc; items = refl; loads = tt }
+quiet_walks (Runs Advances base) q l next head tail h = record { stood = λ h e. cc; heads = λ h e k. cc; follows = λ h link e. cc; some = λ h link e. cc; leads = λ h e k. cc; blank = λ s e. cc; items = refl; loads = tt }
+quiet_walks (Runs (Releases key) base) q l next head tail h = record { stood = λ h e. cc; heads = λ h e k. cc; follows = λ h link e. cc; some = λ h link e. cc; leads = λ h e k. cc; blank = λ s e. cc; items = refl; loads = tt }
+quiet_walks (Runs (Fills (Gets key)) base) q l next head tail h = record { stood = λ h e. cc; heads = λ h e k. cc; follows = λ h link e. cc; some = λ h link e. cc; leads = λ h e k. cc; blank = λ s e. cc; items = refl; loads = tt }
+quiet_walks (Runs (Fills (Changes kept)) base) q l next head tail h = record { stood = λ h e. cc; heads = λ h e k. cc; follows = λ h link e. cc; some = λ h link e. cc; leads = λ h e k. cc; blank = λ s e. cc; items = refl; loads = tt }
+quiet_walks (Runs (Fills (Holds key)) base) q l next head tail h = record { stood = λ h e. cc; heads = λ h e k. cc; follows = λ h link e. cc; some = λ h link e. cc; leads = λ h e k. cc; blank = λ s e. cc; items = refl; loads = tt }
 quiet_walks (Runs (Fills (Enqueues kept)) base) q l next head tail h = absurd (cc)
-quiet_walks (Runs (Fills Dequeues) base) q l next head tail h = record { stood = λ h e. cc; heads = λ h e k. cc; follows = λ h link e. cc; some = λ h link e. cc; leads = λ h e k. cc; blank = λ s e. cc; items = refl }
-quiet_walks (Scans later at) q l next head tail h = record { stood = λ h e. cc; heads = λ h e k. cc; follows = λ h link e. cc; some = λ h link e. cc; leads = λ h e k. cc; blank = λ s e. cc; items = refl }
-quiet_walks (Works (Getting key at)) q l next head tail h = record { stood = λ h e. cc; heads = λ h e k. cc; follows = λ h link e. cc; some = λ h link e. cc; leads = λ h e k. cc; blank = λ s e. cc; items = refl }
-quiet_walks (Works (Changing kept at)) q l next head tail h = record { stood = λ h e. cc; heads = λ h e k. cc; follows = λ h link e. cc; some = λ h link e. cc; leads = λ h e k. cc; blank = λ s e. cc; items = refl }
+quiet_walks (Runs (Fills Dequeues) base) q l next head tail h = record { stood = λ h e. cc; heads = λ h e k. cc; follows = λ h link e. cc; some = λ h link e. cc; leads = λ h e k. cc; blank = λ s e. cc; items = refl; loads = tt }
+quiet_walks (Scans later at) q l next head tail h = record { stood = λ h e. cc; heads = λ h e k. cc; follows = λ h link e. cc; some = λ h link e. cc; leads = λ h e k. cc; blank = λ s e. cc; items = refl; loads = tt }
+quiet_walks (Works (Getting key at)) q l next head tail h = record { stood = λ h e. cc; heads = λ h e k. cc; follows = λ h link e. cc; some = λ h link e. cc; leads = λ h e k. cc; blank = λ s e. cc; items = refl; loads = tt }
+quiet_walks (Works (Changing kept at)) q l next head tail h = record { stood = λ h e. cc; heads = λ h e k. cc; follows = λ h link e. cc; some = λ h link e. cc; leads = λ h e k. cc; blank = λ s e. cc; items = refl; loads = tt }
 quiet_walks (Works (Enqueuing kept at)) q l next head tail h = absurd (cc)
 quiet_walks (Works (Dequeuing at)) q l next head tail h = absurd (cc)
 

@@ -206,7 +206,7 @@ of_new slots v i slot g h = grind (arith, nat_tests, g.hands i slot)
 pub of_taken : (slots : ℕ) (v : View) (i slot : ℕ) → Good slots v → v.hand i ≡ Taken slot → v.status slot ≡ Born i
 of_taken slots v i slot g h = grind (arith, nat_tests, g.hands i slot)
 
-of_old : (slots : ℕ) (v : View) (i slot : ℕ) → Good slots v → v.hand i ≡ Old slot → v.status slot ≡ Cut i
+pub of_old : (slots : ℕ) (v : View) (i slot : ℕ) → Good slots v → v.hand i ≡ Old slot → v.status slot ≡ Cut i
 of_old slots v i slot g h = grind (arith, nat_tests, g.hands i slot)
 
 pub of_known : (slots : ℕ) (v : View) (i slot birth : ℕ) → Good slots v → v.hand i ≡ Known slot birth → v.status slot ≡ Cut i
@@ -315,10 +315,10 @@ taken_listed slots v i slot birth retire g h = rw (g.listed i slot birth retire 
 read_born : (birth : ℕ) → 0 < birth → birth_in (read_life (halves birth 0)) ≡ birth
 read_born birth h = rw (read_life-open birth h) refl
 
-old_life : (x : Status) (i birth word : ℕ) → x ≡ Cut i → word ≡ life_word (record { birth = birth; retire = retire_in x }) → word ≡ halves birth 0
+pub old_life : (x : Status) (i birth word : ℕ) → x ≡ Cut i → word ≡ life_word (record { birth = birth; retire = retire_in x }) → word ≡ halves birth 0
 old_life x i birth word e h = rw e at h
 
-life_cut : (x : Status) (i : ℕ) → x ≡ Cut i → has_life x ≡ true
+pub life_cut : (x : Status) (i : ℕ) → x ≡ Cut i → has_life x ≡ true
 life_cut x i e = rw e refl
 
 born_read : (slots : ℕ) (mem : Place → ℕ) (v : View) (i slot : ℕ) → Good slots v → Words slots mem v → v.hand i ≡ Old slot → birth_in (read_life (mem (Life slot))) ≡ v.birth slot

@@ -196,6 +196,7 @@ went_joins i v l mem kept slot post desk true e b g w =
         leads = λ h u k. cc;
         blank = λ s u. cc;
         items = refl;
+        loads = tt;
       };
       others = λ phase k far x. same_walks phase (queue_of (made i v (Appends slot))) (queue_of (made i v (Appends slot))) (moved_line l (Joins kept.tail slot)) (upd (next_of mem) kept.tail (slot + 1)) (next_of (written mem (memory.Cas (Row kept.tail 0) 0 (slot + 1)))) v.head v.head (mem Tail) (mem Tail) (join_walks phase (queue_of v) (queue_of (made i v (Appends slot))) l (next_of mem) v.head (mem Tail) kept.tail slot k null lined out q x.unlined) (λ s. refl) n refl refl;
     }

@@ -4,15 +4,18 @@ use Rattle.wfe_words.specs.Place.{Place, is_valid}
 use Rattle.wfe_words.specs.Place.Place.{Head, Tail, Row}
 use Rattle.wfe_words.specs.declared.layout.Layout.{Layout}
 use Rattle.wfe_defs.specs.declared.call.Call.{Call}
-use Rattle.wfe_core.specs.declared.ends.FollowEnd.TheVariants as follow_ends
 use Rattle.wfe_core.specs.declared.ends.ProtectEnd.TheVariants as protect_ends
-use Rattle.wfe_core.specs.Phases.{Base, Walk, Outcome, Ends, Protected, Followed}
+use Rattle.wfe_core.specs.Phases.{Base, Walk, Outcome, Ends, Protected}
 use Rattle.wfe_core.specs.Phases.AllocateAt.{ClaimSlot, StoreLife}
 use Rattle.wfe_core.specs.Phases.Base.{Allocate}
 use Rattle.wfe_core.specs.Posts.{counted}
 use Rattle.wfe_core.specs.Machine.{after}
 use Rattle.wfe_core.specs.Calls.{Why, EnqueueKept, Enqueues, Dequeues, Opens, FollowsHead, AfterScan, GiveBack, Phase, Runs, Scans}
 use Rattle.wfe_core.specs.World.{World, start, step, begin, finds}
+use Rattle.wfe_defs.specs.declared.event.Root.{Root}
+use Rattle.wfe_core.specs.Phases.{Aim, ProtectAt}
+use Rattle.wfe_core.specs.Phases.Base.{Protect}
+use Rattle.wfe_rows.specs.Follow.{AnswersFit}
 use Rattle.wfe_rows.specs.Rows.{View}
 use Rattle.wfe_rows.specs.Agree.{Agree, rows_after, first_rows}
 use Rattle.wfe_rows.specs.Queue.{Line, InLine, Walks, in_queue, is_past, stands_on, line_move, moved_line}
@@ -32,7 +35,7 @@ pub record Queue (w : World) (v : View) (l : Line) : Type 0 where
   pub walks : (k : ℕ) → Walks (w.seat k).phase (queue_of v) l (next_of w.mem) v.head (w.mem Tail)
 
 -- what a step of a seat needs of the other parts, where `outcome` is that of its machine, if one runs
-pub record PhaseNeeds (slots : ℕ) (mem : Place → ℕ) (v : View) (l : Line) (phase : Phase) (outcome : Base → Outcome) : Type 0 where
+pub record PhaseNeeds (slots : ℕ) (mem : Place → ℕ) (v : View) (l : Line) (phase : Phase) (outcome : Base → Outcome) (found : ℕ) : Type 0 where
   -- a walk stays within the table, and the birth era that is stored is positive
   pub walks : (why : Why) (birth : ℕ) (walk : Walk) → phase ≡ Runs why (Allocate (ClaimSlot birth walk)) → walk.slot ≤ slots
   pub births : (why : Why) (birth slot : ℕ) → phase ≡ Runs why (Allocate (StoreLife birth slot)) → 0 < birth
@@ -41,11 +44,13 @@ pub record PhaseNeeds (slots : ℕ) (mem : Place → ℕ) (v : View) (l : Line) 
   pub heads : (base : Base) (slot era : ℕ) → phase ≡ Runs (Opens Dequeues) base → outcome base ≡ Ends (Protected (protect_ends.Held slot era)) → l.lined slot ≡ true
   -- and where that row is still in the queue, it is still the head
   pub leads : (base : Base) (slot era : ℕ) → phase ≡ Runs (Opens Dequeues) base → outcome base ≡ Ends (Protected (protect_ends.Held slot era)) → in_queue (v.status slot) ≡ true → mem Head ≡ slot + 1
-  -- a row that was followed is the one after the head
-  pub follows : (head tail slot : ℕ) (base : Base) → phase ≡ Runs (FollowsHead head tail) base → outcome base ≡ Ends (Followed (follow_ends.Followed slot)) → mem (Row head 0) ≡ slot + 1
+  -- an answer that the seat's request has, where it follows the head's next link, is that link or null
+  pub answers :
+      (head tail : ℕ) (aim : Aim) (index : ℕ) (root : Root) (steps : ℕ) (at : ProtectAt) → phase ≡ Runs (FollowsHead head tail) (Protect aim index root steps at)
+      → AnswersFit at found (mem (Row head 0))
 
 pub record QueueNeeds (w : World) (i : ℕ) (v : View) (l : Line) : Type 0 where
-  pub own : PhaseNeeds w.layout.config.slots w.mem v l (w.seat i).phase (λ base. (after base (counted (w.seat i).post) (finds w i)).outcome)
+  pub own : PhaseNeeds w.layout.config.slots w.mem v l (w.seat i).phase (λ base. (after base (counted (w.seat i).post) (finds w i)).outcome) (finds w i)
   -- no seat works on a queue's row that is given back
   pub backs : (later : AfterScan) (place slot k : ℕ) → (w.seat i).phase ≡ Scans later (GiveBack place slot) → stands_on (w.seat k).phase slot ≡ false
 

@@ -5,6 +5,7 @@ use Rattle.wfe_core.specs.Memory.{upd}
 use Rattle.wfe_core.specs.Phases.{RowOf, MapRow, QueueRow, Base}
 use Rattle.wfe_core.specs.Phases.Base.{Begin, Protect, Reload, Clear, Finish, Release, Allocate, Write, GiveUp, Retire, Move}
 use Rattle.wfe_core.specs.Calls.{EnqueueKept, Task, Gets, Changes, Holds, Enqueues, Dequeues, Why, Opens, FollowsHead, Fills, ClearsNext, Clears, Finishes, GivesUp, Retires, Tidies, Advances, Releases, ScanAt, ReadGuard, GiveBack, EnqueueAt, LoadNumber, LoadNext, PassTail, ExchangeNext, ExchangeTail, DequeueAt, LoadTail, SwingTail, TakeNumber, TakeValue, ExchangeHead, Work, Getting, Changing, Enqueuing, Dequeuing, Phase, Idle, Runs, Scans, Works}
+use Rattle.wfe_rows.specs.Follow.{Loads}
 use Rattle.wfe_rows.specs.Rows.{Status}
 use Rattle.wfe_rows.specs.Rows.Status.{Free, Claimed, Born, Linked, InQueue, Cut, Sealed, Listed}
 
@@ -283,6 +284,7 @@ pub record Walks (phase : Phase) (q : ℕ → Bool) (l : Line) (next : ℕ → �
   pub leads : (h : ℕ) → leads_in phase h ≡ true → head ≡ h + 1 → (tail == h + 1) ≡ false
   pub blank : (s : ℕ) → blanks_in phase s ≡ true → next s ≡ 0
   pub items : items_in phase ≡ true
+  pub loads : Loads phase next
 
 -- how a step changes what no word shows: a row joins the queue after another, or is free again
 pub data LineMove : Type 0 where

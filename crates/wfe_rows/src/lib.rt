@@ -4,6 +4,7 @@
 
 ghost use Rattle.wfe_rows.specs.Agree.{RowsBegin, RowsKept, RowsStart};
 ghost use Rattle.wfe_rows.specs.Chain.{QueueBegin, QueueKept, QueueStart};
+ghost use Rattle.wfe_rows.specs.Facts.{QueueShows, RowsShow};
 
 /// At the start of a table with a valid setting every row is free but the dummy, which is the
 /// queue's head.
@@ -38,4 +39,15 @@ pub fn queue_begin()
 /// only while it is the head and not the tail, and the row after it is then the head.
 pub fn queue_kept()
     ensures { QueueKept }
+{}
+
+/// What the rows give the code of a seat's step: no row is twice in its list, a row that it retires
+/// is not on it and its lifetime was stored, and a scan gives back the entry at its place.
+pub fn rows_show()
+    ensures { RowsShow }
+{}
+
+/// What the rows need of the queue follows from it.
+pub fn queue_shows()
+    ensures { QueueShows }
 {}

@@ -1,0 +1,11 @@
+mod Before
+mod Begun
+mod Fresh
+mod Held
+mod Kept
+mod Rows
+mod Scans
+mod Stands
+mod Stood
+mod Tried
+mod Words

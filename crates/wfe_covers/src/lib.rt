@@ -1,0 +1,40 @@
+//! The covers of rows: while a guard covers a row no step makes it free. Each function here does
+//! nothing, and carries a theorem.
+#![tactic(auto)]
+
+ghost use Rattle.wfe_covers.specs.Covers.{CoversKept, NotReused, ScansBegin, ScansKept, ScansStart};
+ghost use Rattle.wfe_covers.specs.Held.{HeldBegin, HeldKept, HeldStart, StandingStays};
+
+/// A row that a guard covers stays covered by it over each step of any seat that does not take from
+/// what the guard publishes: the row's life meets the guard's interval, and each scan that has the
+/// row on its list has met that life or has not come to the guard.
+pub fn covers_stay()
+    ensures { CoversKept }
+{}
+
+/// No step makes a row free that a guard covers, and no step claims it.
+pub fn covered_rows_stay()
+    ensures { NotReused }
+{}
+
+/// What a scan gives back meets nothing that it read, from the start on and over every step and every
+/// call that begins.
+pub fn scans_give_back_unmet()
+    ensures start { ScansStart }
+    ensures begin { ScansBegin }
+    ensures step { ScansKept }
+{}
+
+/// Under Hazard Eras and 2GE what stands at an index of a seat is covered by the guard of that index,
+/// and so is what a try has loaded while its era is the clock: from the start on, and over every step
+/// and every call that begins.
+pub fn rows_are_held()
+    ensures start { HeldStart }
+    ensures begin { HeldBegin }
+    ensures step { HeldKept }
+{}
+
+/// Where a row stands at an index of a seat, no step of any seat makes it free, and none claims it.
+pub fn standing_rows_stay()
+    ensures { StandingStays }
+{}

@@ -1,0 +1,32 @@
+-- What the code of a seat's step may rest on, because of what is known of the rows.
+use Rattle.std.specs.Prelude.{ℕ, ◌≡◌, ◌<◌, ◌+◌, ◌==◌, true, slice_get, Some}
+use Rattle.std.specs.List.{IsDistinct, list_any}
+use Rattle.wfe_words.specs.Place.Place.{Life}
+use Rattle.wfe_defs.specs.declared.call.Answer.{Answer}
+use Rattle.wfe_core.specs.CallReady.{slots_of, RetireFits}
+use Rattle.wfe_core.specs.Phases.{Base}
+use Rattle.wfe_core.specs.Phases.RetireAt.{LoadLife}
+use Rattle.wfe_core.specs.Phases.Base.{Retire}
+use Rattle.wfe_core.specs.Calls.{Why, Retires, AfterScan, GiveBack, Runs, Scans}
+use Rattle.wfe_core.specs.World.{World}
+use Rattle.wfe_rows.specs.Rows.{View}
+use Rattle.wfe_rows.specs.Agree.{Agree, RowsNeeds}
+use Rattle.wfe_rows.specs.Queue.{Line}
+use Rattle.wfe_rows.specs.Chain.{Both, QueueNeeds}
+
+pub record SeatShows (w : World) (k : ℕ) : Type 0 where
+  -- no row is twice in the seat's list, and each is one of the table's
+  pub apart : IsDistinct ◌==◌ (slots_of (w.seat k).desk.list)
+  pub below : (slot : ℕ) → list_any (◌==◌ slot) (slots_of (w.seat k).desk.list) ≡ true → slot < w.layout.config.slots + 1
+  -- a row that is being retired is not on it, and its lifetime was stored
+  pub retires : (answer : Answer) (base : Base) → (w.seat k).phase ≡ Runs (Retires answer) base → RetireFits base (w.seat k).desk
+  pub lives : (why : Why) (slot : ℕ) → (w.seat k).phase ≡ Runs why (Retire (LoadLife slot)) → 0 < w.mem (Life slot)
+  -- a scan gives back the entry at its place
+  pub backs : (later : AfterScan) (place slot : ℕ) → (w.seat k).phase ≡ Scans later (GiveBack place slot) → slice_get (slots_of (w.seat k).desk.list) place ≡ Some slot
+
+abbrev pub RowsShow : Type 0
+RowsShow = (w : World) (v : View) (k : ℕ) → Agree w v → SeatShows w k
+
+-- the queue gives what the rows need of it
+abbrev pub QueueShows : Type 0
+QueueShows = (w : World) (i : ℕ) (v : View) (l : Line) → QueueNeeds w i v l → Both w v l → RowsNeeds w i v
