@@ -17,6 +17,7 @@ pub mod SlotRounds
 pub mod SlotSteps
 pub mod Spans
 pub mod Steps
+pub mod Takes
 pub mod There
 pub mod Works
 pub mod Written

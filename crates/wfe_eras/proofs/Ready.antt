@@ -302,7 +302,7 @@ work_is_ready post (Changing kept at) h = (record { taken = taken_ready post kep
 work_is_ready post (Enqueuing kept at) h = (record { taken = taken_ready post kept.taken h.0.taken; tail = h.0.tail; number = h.0.number }, enqueue_is_ready post kept at h.1)
 work_is_ready post (Dequeuing at) h = dequeue_is_ready post at h
 
-slots_many : (lives : List Lifetime) → length (slots_of lives) ≡ length lives
+pub slots_many : (lives : List Lifetime) → length (slots_of lives) ≡ length lives
 slots_many lives = grind (arith, common_steps)
 
 back_ready : (post : Post) (desk : Desk) (place slot : ℕ) → BackIn post.layout.config.slots desk slot → slice_get (slots_of desk.list) place ≡ Some slot → BackFits post desk place slot
