@@ -1,3 +1,4 @@
+pub mod Backs
 pub mod Decode
 pub mod Finds
 pub mod Frame
@@ -7,6 +8,7 @@ pub mod Inside
 pub mod Kept
 pub mod Machines
 pub mod Monotone
+pub mod Quiet
 pub mod Ready
 pub mod Shapes
 pub mod SlotCalls
@@ -15,6 +17,7 @@ pub mod SlotRounds
 pub mod SlotSteps
 pub mod Spans
 pub mod Steps
+pub mod Takes
 pub mod There
 pub mod Works
 pub mod Written

@@ -45,6 +45,8 @@ use Rattle.wfe_eras.specs.Eras.{SpanIn, AskIn, AskingIn, begin_eras, protect_era
 use Rattle.wfe_eras.specs.Slots.{ProtectIn, RetireIn, MovesIn, BaseIn, StandsIn, PostIn, PhaseIn, Slots, RowIn, TakenIn, TaskIn, FillIn, LaterIn, WhyIn, GetIn, ChangeAtIn, EnqueueAtIn, DequeueIn, WorkIn, ScanIn, get_finds, change_finds, enqueue_finds, dequeue_finds, work_finds, phase_finds, BackIn}
 use Rattle.wfe_eras.specs.Code.{protect_rises, base_rises, phase_rises, why_lists, scan_entry, phase_lists, CodeNeeds}
 use Rattle.wfe_core.specs.MayStep.{MayStep}
+use Rattle.wfe_eras.specs.Noted.{Noted}
+use Rattle.wfe_eras.proofs.Quiet.{noted_fits}
 use Rattle.wfe_eras.proofs.Finds.{request_read}
 use Rattle.wfe_eras.proofs.Steps.{Told}
 use Rattle.wfe_eras.proofs.SlotSteps.{Linked, link_found}
@@ -300,7 +302,7 @@ work_is_ready post (Changing kept at) h = (record { taken = taken_ready post kep
 work_is_ready post (Enqueuing kept at) h = (record { taken = taken_ready post kept.taken h.0.taken; tail = h.0.tail; number = h.0.number }, enqueue_is_ready post kept at h.1)
 work_is_ready post (Dequeuing at) h = dequeue_is_ready post at h
 
-slots_many : (lives : List Lifetime) → length (slots_of lives) ≡ length lives
+pub slots_many : (lives : List Lifetime) → length (slots_of lives) ≡ length lives
 slots_many lives = grind (arith, common_steps)
 
 back_ready : (post : Post) (desk : Desk) (place slot : ℕ) → BackIn post.layout.config.slots desk slot → slice_get (slots_of desk.list) place ≡ Some slot → BackFits post desk place slot
@@ -381,8 +383,8 @@ code_at post desk mem seat phase s t u n = record {
   plausible = phase_plausible post mem desk phase s.linked s.finds;
 }
 
-pub code_ready : (w : World) (i : ℕ) → is_valid w.layout ≡ true → i < w.layout.config.seats → Seats w → Eras w → Slots w → CodeNeeds w i → MayStep w i
-code_ready w i v b s e h n =
+pub code_ready : (w : World) (i : ℕ) → is_valid w.layout ≡ true → i < w.layout.config.seats → Seats w → Eras w → Slots w → Noted w → CodeNeeds w i → MayStep w i
+code_ready w i v b s e h o n =
     let l = w.seat i in let q = (s.fits i).post in
     let a : Sits w.layout w.mem i l.post l.desk l.phase = record {
       linked = record { told = told_of w v e; links = h.words };
@@ -396,4 +398,4 @@ code_ready w i v b s e h n =
       finds = n.reads;
     } in
     let c = code_at l.post l.desk w.mem i l.phase (subst (λ (t : Layout). Sits t w.mem i l.post l.desk l.phase) (sym q.layout) a) n.tags n.rises n.lists in
-    record { there = place_there w i v b s e h; valid = c.valid; ready = c.ready; noted = n.noted; plausible = c.plausible }
+    record { there = place_there w i v b s e h; valid = c.valid; ready = c.ready; noted = noted_fits w i q.layout o; plausible = c.plausible }

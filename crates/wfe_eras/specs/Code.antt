@@ -1,7 +1,7 @@
 -- What the code of a step takes of other parts besides.
 use Rattle.std.specs.Prelude.{ℕ, ◌≡◌, ◌<◌, ◌+◌, slice_get, Some}
 use Rattle.wfe_core.specs.declared.post.Post.{Post}
-use Rattle.wfe_core.specs.CallReady.{RetireFits, NotesFit, slots_of}
+use Rattle.wfe_core.specs.CallReady.{RetireFits, slots_of}
 use Rattle.wfe_core.specs.Desks.{Desk}
 use Rattle.wfe_core.specs.Posts.{tag_of}
 use Rattle.wfe_core.specs.Phases.{ProtectAt, Base}
@@ -45,8 +45,7 @@ pub record CodeNeeds (w : World) (i : ℕ) : Type 0 where
   -- tags have 32 bits, and may rise
   pub tags : (index : ℕ) → tag_of (w.seat i).post index < 4294967295
   pub rises : phase_rises (w.seat i).phase (w.seat i).post
-  -- a row that is retired is not on the list, one that goes back is, and so few rows went back
+  -- a row that is retired is not on the list, one that goes back is
   pub lists : phase_lists (w.seat i).phase (w.seat i).desk
-  pub noted : NotesFit (w.seat i).post (w.seat i).desk
   -- what a call reads of a row is in range
   pub reads : SlotsNeeds w i

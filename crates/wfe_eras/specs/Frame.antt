@@ -90,12 +90,13 @@ pub record Moves (Q : Post → Type 0) (P : Post → Phase → Type 0) (why : Wh
   pub post : Q t.post
   pub phase : Passed P why t.post t.outcome
 
--- what a property owes at one step of a seat that has counted it: inside a machine its own steps, elsewhere Q of the post,
--- and within a call's own steps that an interval stands
+-- Q holds of the post, and an interval stands
 pub record Owned (Q : Post → Type 0) (left : Post) : Type 0 where
   pub post : Q left
   pub span : SpanStands left
 
+-- what a property owes at one step of a seat that has counted it: inside a machine its own steps, elsewhere Q of the post,
+-- and within a call's own steps that an interval stands
 abbrev pub Owes : (Post → Type 0) → (Post → Phase → Type 0) → Post → ℕ → Phase → Type 0
 Owes Q P post found Idle = Q post
 Owes Q P post found (Runs why base) = Moves Q P why (after base post found)

@@ -1,7 +1,7 @@
 //! The parts of the invariant that speak of each seat alone and of eras.
 #![tactic(auto)]
 
-ghost use Rattle.std.specs.Prelude.{ℕ, ◌≡◌, ◌≤◌, ◌<◌, true};
+ghost use Rattle.std.specs.Prelude.{ℕ, ◌≡◌, ◌≤◌, ◌<◌, ◌+◌, length, true};
 ghost use Rattle.wfe_words.specs.Place.{is_valid};
 ghost use Rattle.wfe_words.specs.Place.Place.{Clock};
 ghost use Rattle.wfe_words.specs.declared.layout.Layout.{Layout as Table};
@@ -11,6 +11,7 @@ ghost use Rattle.wfe_core.specs.World.{World, start, begin, step};
 ghost use Rattle.wfe_eras.specs.Code.{CodeNeeds};
 ghost use Rattle.wfe_eras.specs.Eras.{Eras, ErasNeeds};
 ghost use Rattle.wfe_eras.specs.Gives.{GivesGuards, GivesClears, GivesWalks, GivesBirths, GivesLinks};
+ghost use Rattle.wfe_eras.specs.Noted.{Noted};
 ghost use Rattle.wfe_eras.specs.Seats.{Seats};
 ghost use Rattle.wfe_eras.specs.Slots.{Slots, SlotsNeeds};
 
@@ -40,10 +41,18 @@ pub fn links_stay_within()
     ensures step { (w : World) (i : ℕ) → is_valid w.layout ≡ true → Seats w → Eras w → Slots w → SlotsNeeds w i → Slots (step w i) }
 {}
 
+/// The rows that a call has sent back are, with those on the seat's list, no more than the table's
+/// rows, and one more once the call has retired one; so they are no more than two scans may send.
+pub fn few_go_back()
+    ensures start { (layout : Table) → Noted (start layout) }
+    ensures begin { (w : World) (i : ℕ) (call : Call) → length (w.seat i).desk.list ≤ w.layout.config.slots + 1 → Noted w → Noted (begin w i call) }
+    ensures step { (w : World) (i : ℕ) → SlotsNeeds w i → Noted w → Noted (step w i) }
+{}
+
 /// A seat's operation is on a word of the table, its post is valid, and what its call stands on and
 /// what its step finds is in range.
 pub fn steps_are_ready()
-    ensures ready { (w : World) (i : ℕ) → is_valid w.layout ≡ true → i < w.layout.config.seats → Seats w → Eras w → Slots w → CodeNeeds w i → MayStep w i }
+    ensures ready { (w : World) (i : ℕ) → is_valid w.layout ≡ true → i < w.layout.config.seats → Seats w → Eras w → Slots w → Noted w → CodeNeeds w i → MayStep w i }
 {}
 
 /// What the shape of seats, the eras and the links give to the parts that speak of rows and of
