@@ -1,0 +1,7 @@
+//! Moves of the clock. Under Wait-Free Eras (Nikolaev and Ravindran 2020) a mover first answers each
+//! request that it sees pending, and hands its own reservation over to the reader.
+#![tactic(auto)]
+
+mod move_clock;
+
+pub use move_clock::MoveClock;

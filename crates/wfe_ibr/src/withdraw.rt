@@ -1,0 +1,89 @@
+// An interval is withdrawn: at the end of a call, or with the row that is held.
+ghost use Rattle.std.specs.Prelude.{◌≡◌};
+ghost use Rattle.wfe_core.specs.Phases.Base.{Finish, Release};
+ghost use Rattle.wfe_ibr.specs.Phases.{finish_phase, release_phase};
+
+use wfe_core::{Machine, Op, Post, Told};
+use wfe_defs::{Event, Guard};
+
+/// Withdraws the seat's interval, in one step.
+#[derive(Drop)]
+pub struct IbrFinish {}
+
+impl IbrFinish {
+    pub fn new() -> IbrFinish
+        ensures { finish_phase result ≡ Finish }
+    {
+        IbrFinish {}
+    }
+}
+
+impl Machine for IbrFinish {
+    ghost use Rattle.wfe_core.specs.Phases.Ending.{Done};
+    ghost use Rattle.wfe_ibr.specs.Phases.{finish_phase};
+
+    type End = ();
+
+    ghost phase = { finish_phase };
+
+    ghost ending = { λ _. Done };
+
+    fn next_op(&self, post: &Post) -> Op {
+        Op::Store {
+            word: post.layout.interval(post.seat),
+            value: 0,
+        }
+    }
+
+    fn take(&mut self, post: &mut Post, _found: u64, told: &mut Told) -> Option<()> {
+        post.span = None;
+        told.push(Event::Reserve {
+            guard: Guard::Whole { seat: post.seat },
+            span: None,
+        });
+        Some(())
+    }
+}
+
+/// Withdraws the seat's interval and lets go of the row that is held at index 2, in one step.
+#[derive(Drop)]
+pub struct IbrRelease {}
+
+impl IbrRelease {
+    pub fn new() -> IbrRelease
+        ensures { release_phase result ≡ Release }
+    {
+        IbrRelease {}
+    }
+}
+
+impl Machine for IbrRelease {
+    ghost use Rattle.wfe_core.specs.Phases.Ending.{Done};
+    ghost use Rattle.wfe_ibr.specs.Phases.{release_phase};
+
+    type End = ();
+
+    ghost phase = { release_phase };
+
+    ghost ending = { λ _. Done };
+
+    fn next_op(&self, post: &Post) -> Op {
+        Op::Store {
+            word: post.layout.interval(post.seat),
+            value: 0,
+        }
+    }
+
+    fn take(&mut self, post: &mut Post, _found: u64, told: &mut Told) -> Option<()> {
+        if let Some(slot) = post.standing[2] {
+            told.push(Event::Clear { index: 2, slot });
+        }
+        post.standing[2] = None;
+        post.span = None;
+        told.push(Event::Reserve {
+            guard: Guard::Whole { seat: post.seat },
+            span: None,
+        });
+        Some(())
+    }
+}
