@@ -4,7 +4,7 @@
 
 ghost use Rattle.wfe_rows.specs.Agree.{RowsBegin, RowsKept, RowsStart};
 ghost use Rattle.wfe_rows.specs.Chain.{QueueBegin, QueueKept, QueueStart};
-ghost use Rattle.wfe_rows.specs.Facts.{QueueShows, RowsShow};
+ghost use Rattle.wfe_rows.specs.Facts.{LinedStays, QueueEnds, QueueShows, RowsShow};
 
 /// At the start of a table with a valid setting every row is free but the dummy, which is the
 /// queue's head.
@@ -50,4 +50,15 @@ pub fn rows_show()
 /// What the rows need of the queue follows from it.
 pub fn queue_shows()
     ensures { QueueShows }
+{}
+
+/// A row that was in the queue since it was claimed last stays so over each step that does not give
+/// it back. If it was the head or cut it is so still, and its next link, once not null, stays.
+pub fn lined_stays()
+    ensures { LinedStays }
+{}
+
+/// The head and the tail lead to rows of the queue.
+pub fn queue_ends()
+    ensures { QueueEnds }
 {}
