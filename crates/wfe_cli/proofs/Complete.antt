@@ -1,6 +1,6 @@
 -- A trace in the grammar is replayed whole, where nothing fails.
-use Rattle.std.proofs.Common.{ℕ, ◌≡◌, ◌⊎◌, inl, inr, List, [], ◌++◌, Option, Some, None, Result, Ok, Err, refl, sym, ap, ◌∙◌, append-nil}
-use Rattle.std.specs.Io.KnownBytes.{Consumes, IsAtEnd}
+use Rattle.std.proofs.Common.{ℕ, ◌≡◌, ◌⊎◌, inl, inr, List, [], ◌++◌, Option, Some, None, Ok, Err, refl, sym, ap, ◌∙◌, append-nil}
+use Rattle.std.specs.Io.KnownBytes.{Consumes}
 use Rattle.wfe_trace.specs.declared.item.Mode.TheVariants as modes
 use Rattle.wfe_trace.specs.declared.reason.BadLine.{BadLine}
 use Rattle.wfe_trace.specs.declared.reason.Status.{Status}

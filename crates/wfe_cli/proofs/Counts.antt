@@ -6,7 +6,7 @@ use Rattle.wfe_trace.specs.declared.item.Item.TheVariants as items
 use Rattle.wfe_trace.specs.declared.reason.BadLine.{BadLine}
 use Rattle.wfe_trace.specs.declared.reason.Reason.{Reason}
 use Rattle.wfe_defs.specs.declared.command.Command.{Command}
-use Rattle.wfe_cli.specs.Trace.{Engine, Progress, command_taken, item_taken, line_taken, line_item, line_read, counted, bad_line, after_good_byte, after_byte, byte_refused, after_bytes, ◌>>=◌}
+use Rattle.wfe_cli.specs.Trace.{Engine, Progress, command_taken, item_taken, line_taken, line_item, line_read, counted, after_good_byte, after_byte, byte_refused, after_bytes}
 use Rattle.wfe_cli.proofs.Bytes.{after_bytes-bad}
 
 count_command : {S : Type 0} (E : Engine S) (p : Progress S) (c : Command) (o : Option S) → (command_taken E p c o).count ≡ p.count

@@ -1,5 +1,5 @@
 -- The status of a run says what it owes, however the run ended.
-use Rattle.std.proofs.Common.{ℕ, ◌≡◌, ◌⊎◌, inl, inr, List, [], ◌++◌, Option, Result, Ok, Err, refl, sym, ap, ◌∙◌, subst, append-nil, codes}
+use Rattle.std.proofs.Common.{ℕ, ◌≡◌, inl, inr, List, ◌++◌, Option, Ok, Err, sym, ap, ◌∙◌, subst, append-nil, codes}
 use Rattle.std.specs.Io.KnownBytes.{Appends, IsAtEnd}
 use Rattle.std.proofs.KnownBytes.{Appends-trans}
 use Rattle.wfe_trace.specs.declared.item.Mode.TheVariants as modes
@@ -10,14 +10,12 @@ use Rattle.wfe_trace.specs.Record.{bad_line as bad_text}
 use Rattle.wfe_cli.specs.declared.output.Fault.TheVariants as faults
 use Rattle.wfe_cli.specs.declared.output.Stop.{Stop}
 use Rattle.wfe_cli.specs.declared.output.Stop.TheVariants as stops
-use Rattle.wfe_cli.specs.declared.replay.Ending.{Ending}
-use Rattle.wfe_cli.specs.declared.replay.Ending.TheVariants as endings
 use Rattle.wfe_cli.specs.Plain.{Plain}
 use Rattle.wfe_cli.specs.PlainEngine.{plain}
-use Rattle.wfe_cli.specs.Run.{Ends, Closes, StopCloses, PlainSays, PlainReplays}
+use Rattle.wfe_cli.specs.Run.{Closes, StopCloses, PlainSays}
 use Rattle.wfe_cli.specs.Some.{AppendsSome}
 use Rattle.wfe_cli.specs.Sunk.{StopsAt}
-use Rattle.wfe_cli.specs.Trace.{Progress, progress_start, after_bytes, bytes_output, last_output, finished, after_trace, trace_output, closing_line, output_of, ◌>>=◌}
+use Rattle.wfe_cli.specs.Trace.{Progress, progress_start, after_bytes, bytes_output, last_output, finished, trace_output, closing_line, output_of, ◌>>=◌}
 use Rattle.wfe_cli.proofs.Known.{AppendsSome-first, AppendsSome-then}
 
 -- what the bytes of a trace print

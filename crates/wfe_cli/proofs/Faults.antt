@@ -1,7 +1,7 @@
 -- Counts of faults over two pieces of work.
-use Rattle.std.proofs.Common.{ℕ, ◌≤◌, ◌+◌, ◌==◌, arith}
+use Rattle.std.proofs.Common.{ℕ, ◌≤◌, arith}
 use Rattle.std.proofs.lemmas.Bool.Decides.{nat_tests}
-use Rattle.wfe_outside.specs.Faults.{Rose, one_more}
+use Rattle.wfe_outside.specs.Faults.{Rose}
 
 -- it rose in the first
 pub Rose-later : (before mid now : ℕ) → Rose before mid → mid ≤ now → Rose before now

@@ -1,15 +1,15 @@
 -- Where a trace ends, under the map and under the keeper of its history.
-use Rattle.std.proofs.Common.{ℕ, ◌≡◌, ◌==◌, ◌+◌, ◌++◌, if◌then◌else◌, Bool, true, false, List, [], ◌∷◌, length, Option, Some, None, is_some, Result, Ok, Err, refl, sym, ap, ap₂, subst, ◌∙◌, true≢false}
+use Rattle.std.proofs.Common.{ℕ, ◌≡◌, ◌+◌, ◌++◌, if◌then◌else◌, Bool, true, false, List, Option, Some, None, is_some, Result, Ok, Err, refl, sym, ap, ap₂, subst, ◌∙◌, true≢false}
 use Rattle.wfe_trace.specs.declared.item.Mode.{Mode}
 use Rattle.wfe_trace.specs.declared.reason.BadLine.{BadLine}
 use Rattle.wfe_trace.specs.declared.reason.Reason.TheVariants as reasons
 use Rattle.wfe_cli.specs.Plain.{Plain}
 use Rattle.wfe_cli.specs.PlainEngine.{plain}
 use Rattle.wfe_cli.specs.Replayed.{Replayed, keeper, replayed_text, partial_text, IsLawful}
-use Rattle.wfe_cli.specs.Trace.{Engine, Progress, progress_start, bad_line, after_bytes, bytes_output, output_of, after_last, last_output, at_end, finished, after_trace, lines_output, closing_line, trace_output, ◌>>=◌}
+use Rattle.wfe_cli.specs.Trace.{Progress, progress_start, bad_line, after_bytes, output_of, after_last, last_output, at_end, finished, after_trace, lines_output, closing_line, trace_output, ◌>>=◌}
 use Rattle.wfe_cli.proofs.Lines.{good-is_lawful}
-use Rattle.wfe_cli.proofs.Steps.{mapped, mapped_result, GoodIn, Sound, Follows}
-use Rattle.wfe_cli.proofs.Streams.{SoundIn, Shows, LastLine, last-line, start-sound, after_bytes-mapped, bytes_output-mapped, after_bytes-sound}
+use Rattle.wfe_cli.proofs.Steps.{mapped, mapped_result, GoodIn, Follows}
+use Rattle.wfe_cli.proofs.Streams.{SoundIn, Shows, last-line, start-sound, after_bytes-mapped, bytes_output-mapped, after_bytes-sound}
 
 -- whether the line `end` came
 ended-mapped : (p : Progress Replayed) (bad : BadLine) (ended : Bool) → (if ended then Ok (mapped p) else Err bad) ≡ mapped_result (if ended then Ok p else Err bad)
@@ -41,7 +41,7 @@ lines_output-mapped : (mode : Mode) (bytes : List ℕ) → lines_output plain mo
 lines_output-mapped mode bytes =
     ap₂ (λ (xs ys : List ℕ). xs ++ ys) (bytes_output-mapped (Ok (progress_start mode)) bytes (start-sound mode))
     (ap (output_of (last_output plain)) (after_bytes-mapped (Ok (progress_start mode)) bytes (start-sound mode))
-      ∙ last-mapped (after_bytes keeper (Ok (progress_start mode)) bytes) (after_bytes-sound (Ok (progress_start mode)) bytes (start-sound mode)))
+    ∙ last-mapped (after_bytes keeper (Ok (progress_start mode)) bytes) (after_bytes-sound (Ok (progress_start mode)) bytes (start-sound mode)))
 
 pub trace_output-mapped : (mode : Mode) (bytes : List ℕ) → trace_output plain mode bytes ≡ trace_output keeper mode bytes
 trace_output-mapped mode bytes =

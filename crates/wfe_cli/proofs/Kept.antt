@@ -1,13 +1,12 @@
 -- The map on a plain list prints what the keeper of the history prints, and that history is lawful.
-use Rattle.std.proofs.Common.{ℕ, ◌≡◌, ◌++◌, List, [], Option, Some, Result, Ok, Err, refl, sym, ap, ap₂, ◌∙◌}
-use Rattle.std.specs.Prelude.{codes}
+use Rattle.std.proofs.Common.{ℕ, ◌≡◌, ◌++◌, List, [], Some, Ok, Err, refl, sym, ap, ap₂, ◌∙◌}
 use Rattle.wfe_trace.specs.declared.item.Mode.TheVariants as modes
 use Rattle.wfe_trace.specs.declared.reason.BadLine.{BadLine}
 use Rattle.wfe_cli.specs.Plain.{Plain}
 use Rattle.wfe_cli.specs.PlainEngine.{plain}
 use Rattle.wfe_cli.specs.Replay.{came, came_output, whole, whole_output}
 use Rattle.wfe_cli.specs.Replayed.{Replayed, keeper, full_text, IsLawful}
-use Rattle.wfe_cli.specs.Trace.{Engine, Progress, progress_start, after_bytes, bytes_output, output_of, last_output, closing_line, after_trace, trace_output}
+use Rattle.wfe_cli.specs.Trace.{Progress, progress_start, after_bytes, bytes_output, output_of, last_output, closing_line, after_trace, trace_output}
 use Rattle.wfe_cli.proofs.Finishes.{AtEnd, was_good, was_bad, after_trace-mapped, trace_output-mapped, end-kept}
 use Rattle.wfe_cli.proofs.Streams.{start-sound, after_bytes-mapped, bytes_output-mapped, after_bytes-sound, after_bytes-shows}
 

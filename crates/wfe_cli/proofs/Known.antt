@@ -1,5 +1,5 @@
 -- A part of what is to be written was written, where known bytes grow by one write after another.
-use Rattle.std.proofs.Common.{◌≡◌, ◌+◌, ◌≤◌, ℕ, List, ◌++◌, length, take, drop, min, Option, refl, sym, ◌∙◌, ap, append_assoc, arith, Result, Ok, Err, OnErr, subst, take-append-drop}
+use Rattle.std.proofs.Common.{◌≡◌, ◌+◌, ℕ, List, ◌++◌, length, take, drop, min, Option, sym, ◌∙◌, ap, append_assoc, arith, Result, Ok, Err, OnErr, subst, take-append-drop}
 use Rattle.std.specs.Io.KnownBytes.{Appends, Keeps}
 use Rattle.std.proofs.KnownBytes.{Appends-nil, Appends-trans, Appends-kept}
 use Rattle.std.proofs.Math.Seq.{take-append-add, take-length}

@@ -1,9 +1,8 @@
 -- What a line of the body does to a history and to the map: the history stays lawful, and both tell the same.
 use Rattle.std.proofs.Common.{ℕ, zero, suc, ◌≡◌, ◌≢◌, ◌==◌, ◌&&◌, ◌+◌, ◌<◌, ◌≤◌, ◌++◌, nat_le, Bool, true, false, not, if◌then◌else◌, List, [], ◌∷◌, length, take, Option, Some, None, ◌⊎◌, inl, inr, refl, sym, ap, ap₂, subst, ◌∙◌, arith, append_assoc, append-nil, take_all, le_refl, le_trans, subst₂, true≢false, is_some}
-use Rattle.std.proofs.lemmas.Bool.Decides.{nat_tests, Decides-eqb, leb_tells}
+use Rattle.std.proofs.lemmas.Bool.Decides.{nat_tests, Decides-eqb}
 use Rattle.std.proofs.lemmas.List.{length_push}
 use Rattle.wfe_words.specs.declared.config.Config.{Config}
-use Rattle.wfe_defs.specs.declared.call.Answer.TheVariants as answers
 use Rattle.wfe_defs.specs.declared.call.Call.{Call}
 use Rattle.wfe_defs.specs.declared.call.Call.TheVariants as calls
 use Rattle.wfe_defs.specs.declared.command.Command.{Command}
@@ -17,7 +16,7 @@ use Rattle.wfe_defs.specs.Pairs.{pairs_after, value_in}
 use Rattle.wfe_laws.specs.AnswerLaw.{answer_ok, is_got_of, is_put_of}
 use Rattle.wfe_laws.specs.MapLaw.{map_ok, same_value}
 use Rattle.wfe_laws.specs.Record.{Past, Each, tells_of}
-use Rattle.wfe_laws.specs.Schedule.{History, record_of, is_busy, CountsTurns, Runs, Gives, GivesAll}
+use Rattle.wfe_laws.specs.Schedule.{History, record_of, is_busy, CountsTurns, Gives, GivesAll}
 use Rattle.wfe_laws.proofs.Entries.{entries_of_each}
 use Rattle.wfe_laws.specs.StateAt.{call_of, changes_of, count_of, bucket_of, value_at}
 use Rattle.wfe_trace.specs.Built.{is_built_call, is_built_command}
@@ -26,7 +25,7 @@ use Rattle.wfe_trace.specs.Record.{event_line}
 use Rattle.wfe_cli.specs.Plain.{Plain, PlainRow, next_version, plain_turn, after_turn}
 use Rattle.wfe_cli.specs.PlainEngine.{plain, plain_after, plain_told}
 use Rattle.wfe_cli.specs.Replayed.{Replayed, keeper, IsLawful, turn_of, with_run, with_line, entries_of, run_entries, line_entries, CallsAreTurns, record_text}
-use Rattle.wfe_cli.specs.Trace.{Engine, entries_text, is_refused}
+use Rattle.wfe_cli.specs.Trace.{entries_text, is_refused}
 use Rattle.wfe_cli.specs.Turn.{get_events, put_events}
 use Rattle.wfe_cli.proofs.Rows.{plain_of, rows_after, row_after, length-rows_after, row_of-rows_after, rows_after-put}
 
@@ -192,8 +191,8 @@ put-rows : (buckets most : ℕ) (g : History) (key value : ℕ) → 0 < buckets 
 put-rows buckets most g key value some bound l =
     ap (λ (rows : List PlainRow). let map : Plain = record { rows = rows; pending = None } in map)
     (rows_after-put buckets (record_of (putting g key value)) (record_of (with_run buckets 0 (putting g key value))) key value most some (l.few (bucket_of buckets key)) bound
-      (when_true (bucket_of buckets key == bucket_of buckets key) _ _ (eq_self (bucket_of buckets key)))
-      (λ b away. when_false (b == bucket_of buckets key) _ _ (apart b (bucket_of buckets key) away)))
+    (when_true (bucket_of buckets key == bucket_of buckets key) _ _ (eq_self (bucket_of buckets key)))
+    (λ b away. when_false (b == bucket_of buckets key) _ _ (apart b (bucket_of buckets key) away)))
 
 run-put : (buckets most : ℕ) (g : History) (key value : ℕ) → 0 < buckets → most < 18446744073709551615 → Lawful buckets most (putting g key value) →
     Keeps buckets most (commands.Run 0) (putting g key value) (with_run buckets 0 (putting g key value)) (run_entries buckets 0 (putting g key value))
@@ -310,7 +309,7 @@ pub record Taken (most : ℕ) (c : Command) (s : Replayed) : Type 0 where
 pub taken : (most : ℕ) (c : Command) (s : Replayed) → most < 18446744073709551615 → is_built_command c ≡ true → IsCommandWithin 1 c → is_refused keeper c s ≡ false → Good most s → Taken most c s
 taken most c s bound built within free g =
     let k : Keeps s.config.buckets most c s.history (with_line s.config.buckets c s.history) (line_entries s.config.buckets c s.history) =
-      keeps-line s.config.buckets most c s g.some bound built within free g.lawful g.stands in
+    keeps-line s.config.buckets most c s g.some bound built within free g.lawful g.stands in
     record {
       good = record {
         seats = g.seats;

@@ -1,14 +1,14 @@
 -- The map on a plain list that a record leaves.
-use Rattle.std.proofs.Common.{ℕ, zero, suc, ◌≡◌, ◌≢◌, ◌==◌, ◌+◌, ◌<◌, ◌≤◌, ◌++◌, min, List, [], ◌∷◌, length, get_or, slice_set, slice_index_or, replicate, refl, sym, ap, ap₂, ◌∙◌, arith, mod-lt, length-append}
+use Rattle.std.proofs.Common.{ℕ, zero, suc, ◌≡◌, ◌≢◌, ◌+◌, ◌<◌, ◌≤◌, ◌++◌, List, [], ◌∷◌, length, get_or, slice_set, slice_index_or, replicate, refl, sym, ap, ap₂, ◌∙◌, arith, mod-lt}
 use Rattle.std.proofs.lemmas.List.{length_push}
 use Rattle.wfe_defs.specs.declared.fold.Change.{Change}
 use Rattle.wfe_defs.specs.declared.fold.Change.TheVariants as changes
-use Rattle.wfe_defs.specs.Pairs.{Pair, with_pair, changed, pairs_from, pairs_after}
+use Rattle.wfe_defs.specs.Pairs.{Pair, pairs_after}
 use Rattle.wfe_defs.proofs.Values.{pairs_from-append}
 use Rattle.wfe_laws.specs.Record.{Past}
 use Rattle.wfe_laws.specs.Schedule.{record_of}
 use Rattle.wfe_laws.specs.StateAt.{call_of, changes_of, count_of, bucket_of}
-use Rattle.wfe_cli.specs.Plain.{Plain, PlainRow, blank_row, next_version, put_row, row_of}
+use Rattle.wfe_cli.specs.Plain.{Plain, PlainRow, blank_row, put_row, row_of}
 use Rattle.wfe_cli.specs.Replayed.{Replayed}
 
 -- what a function gives at so many numbers in a row
@@ -77,6 +77,6 @@ pub rows_after-put : (buckets : ℕ) (p q : Past) (key value n : ℕ) → 0 < bu
 rows_after-put buckets p q key value n some few bound here other =
     ap₂ (λ (b : ℕ) (row : PlainRow). slice_set (rows_after buckets p) b (put_row row key value)) (ap (λ m. bucket_of m key) (length-rows_after buckets p)) (row_of-rows_after buckets p key some)
     ∙ set-each_from (λ b. row_after (changes_of b p)) (λ b. row_after (changes_of b q)) 0 buckets (bucket_of buckets key) (put_row (row_after (changes_of (bucket_of buckets key) p)) key value)
-      (mod-lt key some)
-      (put_row-row_after (changes_of (bucket_of buckets key) p) key value n few bound ∙ ap row_after (sym here) ∙ ap (λ b. row_after (changes_of b q)) (omega arith))
-      (λ b away. ap row_after (sym (other b (omega arith))))
+    (mod-lt key some)
+    (put_row-row_after (changes_of (bucket_of buckets key) p) key value n few bound ∙ ap row_after (sym here) ∙ ap (λ b. row_after (changes_of b q)) (omega arith))
+    (λ b away. ap row_after (sym (other b (omega arith))))

@@ -1,15 +1,14 @@
 -- A run over a source goes on where another ended.
-use Rattle.std.proofs.Common.{ℕ, ◌≡◌, ◌≤◌, List, [], ◌++◌, Option, Ok, Err, refl, sym, ap, ◌∙◌, subst}
-use Rattle.std.specs.Io.KnownBytes.{Appends, Consumes, IsAtEnd}
+use Rattle.std.proofs.Common.{ℕ, ◌≡◌, List, [], ◌++◌, Option, Ok, refl, sym, ap, ◌∙◌, subst}
+use Rattle.std.specs.Io.KnownBytes.{Appends}
 use Rattle.std.proofs.KnownBytes.{Appends-nil, Appends-trans, Consumes-nil, Consumes-trans}
-use Rattle.wfe_trace.specs.declared.reason.BadLine.{BadLine}
 use Rattle.wfe_cli.specs.declared.output.Stop.{Stop}
 use Rattle.wfe_cli.specs.declared.output.Stop.TheVariants as stops
 use Rattle.wfe_cli.specs.declared.replay.Ending.{Ending}
 use Rattle.wfe_cli.specs.declared.replay.Ending.TheVariants as endings
 use Rattle.wfe_cli.specs.Plain.{Plain}
 use Rattle.wfe_cli.specs.PlainEngine.{plain}
-use Rattle.wfe_cli.specs.Run.{Goes, Stops, Ends}
+use Rattle.wfe_cli.specs.Run.{Goes, Ends}
 use Rattle.wfe_cli.specs.Some.{AppendsSome}
 use Rattle.wfe_cli.specs.Sunk.{StopsAt}
 use Rattle.wfe_cli.specs.Trace.{Progress, after_bytes, bytes_output}

@@ -1,13 +1,13 @@
 -- What the map on a plain list printed is the record of the one history that the lines give.
-use Rattle.std.proofs.Common.{ℕ, ◌≡◌, ◌⊎◌, inl, inr, List, Option, Ok, Err, sym, ◌∙◌, subst}
-use Rattle.std.specs.Io.KnownBytes.{Appends, Consumes, IsAtEnd}
+use Rattle.std.proofs.Common.{ℕ, ◌≡◌, ◌⊎◌, inl, inr, List, Option, Ok, Err, ◌∙◌, subst}
+use Rattle.std.specs.Io.KnownBytes.{Appends, IsAtEnd}
 use Rattle.wfe_trace.specs.declared.reason.BadLine.{BadLine}
 use Rattle.wfe_trace.specs.declared.reason.Status.{Status}
 use Rattle.wfe_trace.specs.declared.reason.Status.TheVariants as statuses
 use Rattle.wfe_trace.specs.declared.item.Mode.TheVariants as modes
 use Rattle.wfe_cli.specs.PlainEngine.{plain}
 use Rattle.wfe_cli.specs.Trace.{progress_start, after_bytes}
-use Rattle.wfe_cli.specs.Replay.{Says, Replays, came, whole, IsReplayed, IsRefused, IsCutOff}
+use Rattle.wfe_cli.specs.Replay.{Says, Replays, came}
 use Rattle.wfe_cli.specs.Run.{PlainSays, PlainReplays}
 use Rattle.wfe_cli.specs.Some.{AppendsSome}
 use Rattle.wfe_cli.proofs.Kept.{came_output-plain, whole_output-plain, came-ok, came-bad, whole-bad, whole-ok}

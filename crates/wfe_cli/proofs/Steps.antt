@@ -1,23 +1,20 @@
 -- A trace under the map and under the keeper of its history: a line, a byte and the end do the same to both.
-use Rattle.std.proofs.Common.{ℕ, zero, suc, ◌≡◌, ◌==◌, ◌+◌, ◌<◌, ◌≤◌, ◌++◌, nat_le, if◌then◌else◌, Bool, true, false, List, [], ◌∷◌, length, Option, Some, None, is_some, Result, Ok, Err, refl, sym, ap, subst, ◌∙◌, arith, append_assoc, append-nil, true≢false}
-use Rattle.std.proofs.lemmas.Bool.Decides.{nat_tests}
+use Rattle.std.proofs.Common.{ℕ, ◌≡◌, ◌+◌, ◌<◌, ◌++◌, if◌then◌else◌, Bool, true, false, List, [], Option, Some, None, is_some, Result, Ok, Err, refl, sym, ap, subst, ◌∙◌, append_assoc, append-nil, true≢false}
 use Rattle.wfe_words.specs.declared.config.Config.{Config}
 use Rattle.wfe_defs.specs.declared.command.Command.{Command}
-use Rattle.wfe_defs.specs.declared.command.Command.TheVariants as commands
 use Rattle.wfe_trace.specs.declared.item.Item.{Item}
 use Rattle.wfe_trace.specs.declared.item.Item.TheVariants as items
 use Rattle.wfe_trace.specs.declared.reason.BadLine.{BadLine}
 use Rattle.wfe_trace.specs.declared.reason.Reason.{Reason}
 use Rattle.wfe_trace.specs.declared.reason.Reason.TheVariants as reasons
 use Rattle.wfe_trace.specs.Body.{IsCommandWithin}
-use Rattle.wfe_trace.specs.Built.{is_built_command}
-use Rattle.wfe_trace.specs.Reading.{Reading, judged, stage_after, reading_after}
+use Rattle.wfe_trace.specs.Reading.{Reading, judged, reading_after}
 use Rattle.wfe_trace.specs.Record.{header_line}
-use Rattle.wfe_trace.proofs.Judged.{Held, IsRead, IsBuilt, is_body, judged-read}
+use Rattle.wfe_trace.proofs.Judged.{Held, IsRead, is_body, judged-read}
 use Rattle.wfe_cli.specs.Plain.{Plain, PlainRow}
 use Rattle.wfe_cli.specs.PlainEngine.{plain}
-use Rattle.wfe_cli.specs.Replayed.{Replayed, keeper, replayed_text, partial_text, record_text}
-use Rattle.wfe_cli.specs.Trace.{Engine, Progress, is_end, is_refused, entries_text, judged_item, line_item, line_taken, line_told, refuses, bad_line}
+use Rattle.wfe_cli.specs.Replayed.{Replayed, keeper, partial_text}
+use Rattle.wfe_cli.specs.Trace.{Progress, is_end, is_refused, entries_text, judged_item, line_item, line_taken, line_told, bad_line}
 use Rattle.wfe_cli.proofs.Lines.{Good, good-later, good-opened, Taken, taken, refused_same}
 use Rattle.wfe_cli.proofs.Rows.{plain_of, rows_after-start}
 

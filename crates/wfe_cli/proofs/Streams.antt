@@ -1,5 +1,5 @@
 -- The bytes of a trace under the map and under the keeper of its history.
-use Rattle.std.proofs.Common.{ℕ, zero, suc, ◌≡◌, ◌==◌, ◌+◌, ◌<◌, ◌≤◌, ◌++◌, nat_le, if◌then◌else◌, Bool, true, false, List, [], ◌∷◌, length, Option, Some, None, is_some, Result, Ok, Err, refl, sym, ap, ap₂, subst, ◌∙◌, arith, append_assoc, append-nil, true≢false}
+use Rattle.std.proofs.Common.{ℕ, ◌≡◌, ◌==◌, ◌<◌, ◌≤◌, ◌++◌, nat_le, if◌then◌else◌, Bool, true, false, List, [], ◌∷◌, length, Option, Some, None, Result, Ok, Err, refl, sym, ap, ap₂, subst, ◌∙◌, arith, append_assoc, append-nil, true≢false}
 use Rattle.std.proofs.lemmas.Bool.Decides.{nat_tests}
 use Rattle.wfe_trace.specs.declared.item.Mode.{Mode}
 use Rattle.wfe_trace.specs.declared.reason.BadLine.{BadLine}
@@ -8,7 +8,7 @@ use Rattle.wfe_trace.specs.declared.reason.Reason.TheVariants as reasons
 use Rattle.wfe_cli.specs.Plain.{Plain}
 use Rattle.wfe_cli.specs.PlainEngine.{plain}
 use Rattle.wfe_cli.specs.Replayed.{Replayed, keeper, partial_text}
-use Rattle.wfe_cli.specs.Trace.{Engine, Progress, progress_start, line_item, line_taken, line_told, after_line, line_output, byte_refused, counted, bad_line, after_good_byte, after_byte, good_byte_output, byte_output, after_bytes, bytes_output, output_of, after_last, last_output, at_end, ◌>>=◌}
+use Rattle.wfe_cli.specs.Trace.{Progress, progress_start, line_item, after_line, line_output, byte_refused, counted, after_good_byte, after_byte, good_byte_output, byte_output, after_bytes, bytes_output, output_of, after_last, last_output, ◌>>=◌}
 use Rattle.wfe_cli.proofs.Steps.{mapped, mapped_result, good_in-later, Sound, Follows, OneLine, one-line}
 
 -- so far the keeper is good
@@ -17,23 +17,23 @@ pub record IsSound (p : Progress Replayed) : Type 0 where
   pub sound : Sound p.count p
 
 -- the keeper is good still, and its text has what was printed
-abbrev pub Goes : Progress Replayed → List ℕ → Result (Progress Replayed) BadLine → Type 0
-Goes p out (Err bad) = Unit {0}
-Goes p out (Ok q) = IsSound q × (partial_text q.engine ≡ partial_text p.engine ++ out)
+abbrev pub FollowsByte : Progress Replayed → List ℕ → Result (Progress Replayed) BadLine → Type 0
+FollowsByte p out (Err bad) = Unit {0}
+FollowsByte p out (Ok q) = IsSound q × (partial_text q.engine ≡ partial_text p.engine ++ out)
 
 -- where each stands after a byte, what each printed, and that both did the same
 pub record OneByte (p : Progress Replayed) (map_after : Result (Progress Plain) BadLine) (keeper_after : Result (Progress Replayed) BadLine) (map_out keeper_out : List ℕ) : Type 0 where
   pub after : map_after ≡ mapped_result keeper_after
   pub output : map_out ≡ keeper_out
-  pub goes : Goes p keeper_out keeper_after
+  pub follows : FollowsByte p keeper_out keeper_after
 
 -- a byte more came
 sound-counted : (most : ℕ) (p : Progress Replayed) → Sound most p → Sound most (counted p)
 sound-counted most p s = record { held = s.held; opened = s.opened; ended = s.ended; good = s.good }
 
-goes-line : (p : Progress Replayed) (out : List ℕ) (r : Result (Progress Replayed) BadLine) → p.count < 16777216 → Follows p.count (counted p) out r → Goes p out r
-goes-line p out (Err bad) few f = tt
-goes-line p out (Ok q) few f = (
+follows-line : (p : Progress Replayed) (out : List ℕ) (r : Result (Progress Replayed) BadLine) → p.count < 16777216 → Follows p.count (counted p) out r → FollowsByte p out r
+follows-line p out (Err bad) few f = tt
+follows-line p out (Ok q) few f = (
   record { few = omega (arith, f.1); sound = subst (λ n. Sound n q) (sym f.1) f.0 },
   f.2,
 )
@@ -44,11 +44,11 @@ good-byte : (p : Progress Replayed) (b : ℕ) (ends : Bool) → p.count < 167772
     (if ends then line_output plain (counted (mapped p)) else []) (if ends then line_output keeper (counted p) else [])
 good-byte p b true few s =
     let l : OneLine p.count (counted p) (line_item plain (mapped (counted p))) (line_item keeper (counted p)) = one-line p.count (counted p) (omega arith) (sound-counted p.count p s) in
-    record { after = l.after; output = l.output; goes = goes-line p (line_output keeper (counted p)) (after_line keeper (counted p)) few l.follows }
+    record { after = l.after; output = l.output; follows = follows-line p (line_output keeper (counted p)) (after_line keeper (counted p)) few l.follows }
 good-byte p b false few s = record {
   after = refl;
   output = refl;
-  goes = (
+  follows = (
     record { few = omega arith; sound = record { held = s.held; opened = s.opened; ended = s.ended; good = good_in-later p.count p.engine s.good } },
     sym (append-nil (partial_text p.engine)),
   );
@@ -61,7 +61,7 @@ count-few n false later is none = grind (arith, nat_tests)
 
 judged-byte : (p : Progress Replayed) (b : ℕ) (refused : Option Reason) → byte_refused p b ≡ refused → IsSound p →
     OneByte p (after_good_byte plain (mapped p) b refused) (after_good_byte keeper p b refused) (good_byte_output plain (mapped p) b refused) (good_byte_output keeper p b refused)
-judged-byte p b (Some reason) is s = record { after = refl; output = refl; goes = tt }
+judged-byte p b (Some reason) is s = record { after = refl; output = refl; follows = tt }
 judged-byte p b None is s = good-byte p b (b == 10) (count-few p.count (nat_le 16777216 p.count) _ refl is) s.sound
 
 one-byte : (p : Progress Replayed) (b : ℕ) → IsSound p → OneByte p (after_byte plain (mapped p) b) (after_byte keeper p b) (byte_output plain (mapped p) b) (byte_output keeper p b)
@@ -76,13 +76,13 @@ abbrev pub Shows : List ℕ → Result (Progress Replayed) BadLine → Type 0
 Shows text (Ok p) = partial_text p.engine ≡ text
 Shows text (Err bad) = Unit {0}
 
-goes-sound : (p : Progress Replayed) (out : List ℕ) (r : Result (Progress Replayed) BadLine) → Goes p out r → SoundIn r
-goes-sound p out (Ok q) g = g.0
-goes-sound p out (Err bad) g = tt
+follows-sound : (p : Progress Replayed) (out : List ℕ) (r : Result (Progress Replayed) BadLine) → FollowsByte p out r → SoundIn r
+follows-sound p out (Ok q) g = g.0
+follows-sound p out (Err bad) g = tt
 
-goes-shows : (p : Progress Replayed) (out text : List ℕ) (r : Result (Progress Replayed) BadLine) → partial_text p.engine ≡ text → Goes p out r → Shows (text ++ out) r
-goes-shows p out text (Ok q) is g = g.1 ∙ ap (λ (t : List ℕ). t ++ out) is
-goes-shows p out text (Err bad) is g = tt
+follows-shows : (p : Progress Replayed) (out text : List ℕ) (r : Result (Progress Replayed) BadLine) → partial_text p.engine ≡ text → FollowsByte p out r → Shows (text ++ out) r
+follows-shows p out text (Ok q) is g = g.1 ∙ ap (λ (t : List ℕ). t ++ out) is
+follows-shows p out text (Err bad) is g = tt
 
 -- one byte more, after bytes of which one may be bad
 after-mapped : (r : Result (Progress Replayed) BadLine) (b : ℕ) → SoundIn r → (mapped_result r >>= (λ p. after_byte plain p b)) ≡ mapped_result (r >>= (λ p. after_byte keeper p b))
@@ -94,11 +94,11 @@ output-mapped (Ok p) b s = (one-byte p b s).output
 output-mapped (Err bad) b s = refl
 
 after-sound : (r : Result (Progress Replayed) BadLine) (b : ℕ) → SoundIn r → SoundIn (r >>= (λ p. after_byte keeper p b))
-after-sound (Ok p) b s = goes-sound p (byte_output keeper p b) (after_byte keeper p b) (one-byte p b s).goes
+after-sound (Ok p) b s = follows-sound p (byte_output keeper p b) (after_byte keeper p b) (one-byte p b s).follows
 after-sound (Err bad) b s = tt
 
 after-shows : (r : Result (Progress Replayed) BadLine) (b : ℕ) (text : List ℕ) → SoundIn r → Shows text r → Shows (text ++ output_of (λ p. byte_output keeper p b) r) (r >>= (λ p. after_byte keeper p b))
-after-shows (Ok p) b text s is = goes-shows p (byte_output keeper p b) text (after_byte keeper p b) is (one-byte p b s).goes
+after-shows (Ok p) b text s is = follows-shows p (byte_output keeper p b) text (after_byte keeper p b) is (one-byte p b s).follows
 after-shows (Err bad) b text s is = tt
 
 -- over bytes in a row

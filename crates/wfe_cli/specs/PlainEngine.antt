@@ -1,6 +1,5 @@
 -- The map on a plain list as an engine, for a trace of one seat.
-use Rattle.std.specs.Prelude.{ℕ, List, [], ◌∷◌, Option, Some, None, is_some, replicate}
-use Rattle.wfe_defs.specs.declared.call.Call.{Call}
+use Rattle.std.specs.Prelude.{List, [], ◌∷◌, Some, None, is_some, replicate}
 use Rattle.wfe_defs.specs.declared.command.Command.{Command}
 use Rattle.wfe_defs.specs.declared.command.Command.TheVariants as commands
 use Rattle.wfe_defs.specs.declared.event.Event.TheVariants as events

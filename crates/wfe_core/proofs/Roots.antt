@@ -13,11 +13,11 @@ use Rattle.wfe_core.specs.Links.{link_number, root_in, root_at}
 use Rattle.wfe_core.specs.Ready.{RootFits}
 
 -- a root is read back from its word's number
-pub root_at-number : (layout : Layout) (root : Root) → RootFits layout root → root_at layout (link_number layout root) ≡ root
-root_at-number layout (roots.Bucket bucket) h = ap root_in (place_at-number layout (Bucket bucket) h)
-root_at-number layout roots.Head h = ap root_in (place_at-number layout Head h)
-root_at-number layout roots.Tail h = ap root_in (place_at-number layout Tail h)
-root_at-number layout (roots.Next slot) h = ap root_in (place_at-number layout (Row slot 0) h)
+pub root_at_link : (layout : Layout) (root : Root) → RootFits layout root → root_at layout (link_number layout root) ≡ root
+root_at_link layout (roots.Bucket bucket) h = ap root_in (place_at-number layout (Bucket bucket) h)
+root_at_link layout roots.Head h = ap root_in (place_at-number layout Head h)
+root_at_link layout roots.Tail h = ap root_in (place_at-number layout Tail h)
+root_at_link layout (roots.Next slot) h = ap root_in (place_at-number layout (Row slot 0) h)
 
 -- the root of a word number, by the groups of numbers
 abbrev pub root_by : Layout → ℕ → Root

@@ -31,3 +31,5 @@ pub mod CallReady
 pub mod Held
 pub mod DeskHeld
 pub mod Rest
+pub mod Frames
+pub mod MayStep

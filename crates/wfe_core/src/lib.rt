@@ -6,6 +6,7 @@ mod call;
 mod desk;
 mod ends;
 mod hold_link;
+mod laws;
 mod links;
 mod machine;
 mod op;
@@ -16,8 +17,12 @@ pub use call::CallMachine;
 pub use desk::{Desk, Notes, RetireList, ScanReport};
 pub use ends::{AllocateEnd, FollowEnd, ProtectEnd};
 pub use hold_link::{hold, index_word, one_era, protect_end};
+pub use laws::seats_stay_in_place;
 pub use links::{link_word_number, root_at};
 pub use machine::Machine;
 pub use op::Op;
 pub use post::Post;
 pub use told::Told;
+
+#[cfg(test)]
+mod tests;

@@ -8,10 +8,12 @@ use wfe_defs::Root;
 use wfe_words::Layout;
 
 /// The number of a root's word. A row's next link is place 0 of the row.
+#[tactic(auto, using(crate::proofs::Roots::root_at_link))]
 pub fn link_word_number(layout: Layout, root: Root) -> u32
     requires valid { IsTrue (is_valid layout) }
     requires there { RootFits layout root }
-    ensures { result ≡ link_number layout root }
+    ensures number { result ≡ link_number layout root }
+    ensures back { root_of layout result ≡ root }
 {
     match root {
         Root::Bucket(bucket) => layout.bucket(bucket),

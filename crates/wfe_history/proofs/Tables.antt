@@ -1,5 +1,5 @@
 -- Calls that take rows and give them back.
-use Rattle.std.proofs.Common.{◌≡◌, refl, [], ◌∷◌, ◌++◌}
+use Rattle.std.proofs.Common.{ℕ, zero, suc, List, ◌≡◌, refl, [], ◌∷◌, ◌++◌}
 use Rattle.std.specs.Prelude.{Some, None}
 use Rattle.wfe_words.specs.declared.config.SchemeKind.TheVariants.{He}
 use Rattle.wfe_words.specs.Packed.{halves, pending_word, answered_word, read_request, read_reservation, read_span, read_life}
@@ -13,7 +13,7 @@ use Rattle.wfe_defs.specs.declared.event.Root.TheVariants as roots
 use Rattle.wfe_laws.specs.Record.{tells_of}
 use Rattle.wfe_laws.specs.Record.Past.{Start}
 use Rattle.wfe_core.specs.Guards.{from_to}
-use Rattle.wfe_history.specs.History.{record_of}
+use Rattle.wfe_history.specs.History.{Item, record_of}
 use Rattle.wfe_history.proofs.Among.{call, to_end, said, setting, entries, left_over}
 
 -- a put retires the row that it replaced, and its own scan gives that row back
@@ -144,3 +144,14 @@ pub last_version :
     ≡ []
 unfolding halves pending_word answered_word read_request read_reservation read_span read_life claim_mask claim_others claim_start number place_at
 last_version = refl
+
+-- so many calls of a seat, one after another, each with a row of its own
+abbrev enqueues : ℕ → List Item
+enqueues zero = []
+enqueues (suc n) = call 0 (calls.Enqueue n) ++ to_end 0 ++ enqueues n
+
+-- the rows of two claim words are all taken: a walk of two steps, twice
+pub walks_read_whole_claim_words :
+    left_over (said 0 (events.End 25 answers.Full) ∷ []) (entries (record_of (setting He 1 70 2 1 100 100) (enqueues 71)) []) ≡ []
+unfolding halves pending_word answered_word read_request read_reservation read_span read_life claim_mask claim_others claim_start number place_at
+walks_read_whole_claim_words = refl

@@ -1,6 +1,5 @@
 -- A law by recursion on the record is the law wherever the record is cut.
-use Rattle.std.proofs.Common.{ℕ, ◌≡◌, Bool, true, List, [], ◌∷◌, ◌++◌, refl, ap, sym, subst, ◌∙◌}
-use Rattle.wfe_defs.specs.declared.event.Event.{Event}
+use Rattle.std.proofs.Common.{◌≡◌, List, [], ◌∷◌, ◌++◌, refl, ap, sym, subst, ◌∙◌}
 use Rattle.wfe_defs.specs.Entry.{Entry}
 use Rattle.wfe_laws.specs.Record.{Past, Test, Each, EachEntry, tells}
 

@@ -1,6 +1,5 @@
 -- The law of the map.
 use Rattle.std.specs.Prelude.{ℕ, ◌==◌, ◌&&◌, ◌+◌, nat_le, Bool, true, false, Option, Some, None}
-use Rattle.wfe_defs.specs.declared.event.Event.{Event}
 use Rattle.wfe_defs.specs.declared.event.Event.TheVariants as events
 use Rattle.wfe_laws.specs.Record.{Past, Test, EachEntry, begins, value_since}
 use Rattle.wfe_laws.specs.StateAt.{count_of, bucket_of, value_at}

@@ -1,7 +1,6 @@
 -- What sources and sinks in memory are seen as.
-use Rattle.std.specs.Prelude.{ℕ, ◌==◌, ◌&&◌, ◌||◌, not, Bool, List, length}
+use Rattle.std.specs.Prelude.{ℕ, ◌==◌, ◌&&◌, not, Bool, List, length}
 use Rattle.std.specs.List.{list_any}
-use Rattle.wfe_outside.specs.Faults.{one_more}
 
 -- a source: the bytes left, the numbers of the calls that fail, how many calls there were, and how many failed
 pub record Reader : Type 0 where

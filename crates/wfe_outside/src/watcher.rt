@@ -16,11 +16,16 @@ pub struct WatchRow {
 /// Who is told each event. A watcher stands for lists of seats and events: one that keeps its
 /// events for just that list, a counter for each list with its counts.
 pub trait Watcher: Drop {
+    ghost use Rattle.wfe_outside.specs.declared.watcher.WatchRow.{WatchRow};
+
     /// The lists for which it stands.
     ghost stands: { Self → List Entry → Type 0 };
 
     /// How many rows it shows.
     ghost shown: { Self → ℕ };
+
+    /// Its rows, by their places.
+    ghost shows: { Self → ℕ → WatchRow };
 
     /// Tells one more event. Without memory the watcher stays as it was.
     fn note(&mut self, seat: u32, event: &Event) -> Result<(), NoMemory>
@@ -33,5 +38,6 @@ pub trait Watcher: Drop {
 
     /// One of its rows.
     fn row(&self, place: u64) -> WatchRow
-        requires { place < shown self.now };
+        requires { place < shown self.now }
+        ensures { result ≡ shows self.now place };
 }

@@ -1,5 +1,5 @@
 -- What holds of a trace's line that is not bad.
-use Rattle.std.proofs.Common.{ℕ, zero, suc, ◌≡◌, ◌==◌, ◌&&◌, ◌<◌, ◌≤◌, if◌then◌else◌, nat_lt, nat_le, Bool, true, false, List, [], ◌∷◌, length, Option, Some, None, Result, Ok, Err, refl, sym, ap, subst, ◌∙◌, arith, true≢false}
+use Rattle.std.proofs.Common.{ℕ, ◌≡◌, ◌<◌, if◌then◌else◌, nat_lt, nat_le, Bool, true, false, List, [], ◌∷◌, length, Option, Result, Ok, Err, refl, sym, subst, arith, true≢false}
 use Rattle.std.specs.Prelude.{codes}
 use Rattle.std.specs.Result.{result_unwrap_or}
 use Rattle.std.specs.Str.{bytes_eq}
@@ -7,9 +7,8 @@ use Rattle.std.proofs.lemmas.Bool.Decides.{nat_tests}
 use Rattle.wfe_words.specs.declared.config.Config.{Config}
 use Rattle.wfe_words.specs.declared.config.Field.{Field}
 use Rattle.wfe_words.specs.declared.config.Field.TheVariants as fields
-use Rattle.wfe_words.specs.Config.{allows, number_of, within}
+use Rattle.wfe_words.specs.Config.{allows, number_of}
 use Rattle.wfe_defs.specs.declared.command.Command.{Command}
-use Rattle.wfe_defs.specs.declared.command.Command.TheVariants as commands
 use Rattle.wfe_trace.specs.declared.body.Numbers.{Numbers}
 use Rattle.wfe_trace.specs.declared.body.Places.{Places}
 use Rattle.wfe_trace.specs.declared.body.Places.TheVariants as places
@@ -24,7 +23,7 @@ use Rattle.wfe_trace.specs.declared.reason.Reason.{Reason}
 use Rattle.wfe_trace.specs.declared.reason.Reason.TheVariants as reasons
 use Rattle.wfe_trace.specs.Body.{verb_in, in_form, numbers_in, is_for, seat_of, command_of, judged_line, command_in, IsCommandWithin}
 use Rattle.wfe_trace.specs.Built.{is_built_number, is_built_verb, is_built_command}
-use Rattle.wfe_trace.specs.Reading.{Reading, judged_at, judged, stage_after, config_after, reading_after}
+use Rattle.wfe_trace.specs.Reading.{Reading, judged_at, judged, stage_after, config_after}
 use Rattle.wfe_trace.specs.Setting.{word_after, field_name, scheme_line, number_line, with_number}
 use Rattle.wfe_trace.specs.Words.{words, number_in, need, or_number, ◌>>=◌}
 

@@ -1,4 +1,4 @@
-use Rattle.std.proofs.Common.{arith, rules}
+use Rattle.std.proofs.Common.{rules}
 use Rattle.std.proofs.lemmas.List.{take_rest}
 use Rattle.wfe_cli.proofs.Known.{AppendsSome-front, Appends-front, on_err}
 use Rattle.wfe_cli.proofs.output.write_all.Goals as goal

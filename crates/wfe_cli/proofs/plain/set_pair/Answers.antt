@@ -1,5 +1,4 @@
-use Rattle.std.proofs.Common.{arith, sym, ◌∙◌, ap, rules, ◌≡◌}
-use Rattle.wfe_cli.specs.Places.{place_in}
+use Rattle.std.proofs.Common.{arith}
 use Rattle.wfe_cli.proofs.Places.{with_pair-there, with_pair-new}
 use Rattle.wfe_cli.proofs.plain.set_pair.Goals as goal
 

@@ -1,7 +1,3 @@
-use Rattle.std.proofs.Common.{Option, List, ℕ, ◌≡◌}
-use Rattle.wfe_trace.specs.declared.item.Mode.TheVariants as modes
-use Rattle.wfe_cli.specs.Run.{Ends, PlainReplays}
-use Rattle.wfe_cli.specs.Trace.{progress_start}
 use Rattle.wfe_cli.proofs.Endings.{says-stopped, says-done, says-last}
 use Rattle.wfe_cli.proofs.replay.conclude.Goals as goal
 

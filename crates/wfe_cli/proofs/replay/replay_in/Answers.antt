@@ -1,4 +1,4 @@
-use Rattle.std.proofs.Common.{◌⊎◌, inl, inr}
+use Rattle.std.proofs.Common.{inl, inr}
 use Rattle.wfe_outside.specs.Faults.{Rose}
 use Rattle.wfe_cli.proofs.Faults.{Rose-later, Rose-earlier}
 use Rattle.wfe_cli.proofs.replay.replay_in.Goals as goal

@@ -1,5 +1,4 @@
-use Rattle.std.proofs.Common.{ℕ, ◌≡◌, ◌==◌, true, List, Option, Result, None, Some, rules, arith, sym, subst}
-use Rattle.wfe_trace.specs.declared.reason.BadLine.{BadLine}
+use Rattle.std.proofs.Common.{ℕ, ◌≡◌, ◌==◌, true, List, Option, Result, None, rules, arith, sym}
 use Rattle.wfe_cli.specs.declared.output.Stop.{Stop}
 use Rattle.wfe_cli.specs.Plain.{Plain}
 use Rattle.wfe_cli.specs.PlainEngine.{plain}
