@@ -15,3 +15,4 @@ pub mod Steps
 pub mod Turns
 pub mod Went
 pub mod Words
+pub mod Writers

@@ -1,5 +1,5 @@
 -- What the code of a seat's step may rest on, because of what is known of the rows.
-use Rattle.std.specs.Prelude.{ℕ, ◌≡◌, ◌<◌, ◌+◌, ◌==◌, true, false, slice_get, Some}
+use Rattle.std.specs.Prelude.{Bool, ℕ, ◌≡◌, ◌<◌, ◌+◌, ◌==◌, true, false, slice_get, Some}
 use Rattle.std.specs.List.{IsDistinct, list_any}
 use Rattle.wfe_words.specs.Place.Place.{Head, Tail, Life, Row}
 use Rattle.wfe_defs.specs.declared.call.Answer.{Answer}
@@ -9,7 +9,8 @@ use Rattle.wfe_core.specs.Phases.RetireAt.{LoadLife}
 use Rattle.wfe_core.specs.Phases.Base.{Retire}
 use Rattle.wfe_core.specs.Calls.{Why, Retires, AfterScan, GiveBack, Runs, Scans}
 use Rattle.wfe_core.specs.World.{World, step}
-use Rattle.wfe_rows.specs.Rows.{View}
+use Rattle.wfe_rows.specs.Rows.{Status, View}
+use Rattle.wfe_rows.specs.Rows.Status.{Free, Claimed, Born, Linked, InQueue, Cut, Sealed, Listed}
 use Rattle.wfe_rows.specs.Agree.{Agree, RowsNeeds, rows_after}
 use Rattle.wfe_rows.specs.Queue.{Line, in_queue}
 use Rattle.wfe_rows.specs.Chain.{Both, QueueNeeds, line_after}
@@ -52,3 +53,19 @@ pub record EndsLined (w : World) (v : View) (l : Line) (s : ℕ) : Type 0 where
 
 abbrev pub QueueEnds : Type 0
 QueueEnds = (w : World) (v : View) (l : Line) (s : ℕ) → Both w v l → EndsLined w v l s
+
+abbrev pub is_born_by : ℕ → Status → Bool
+is_born_by seat Free = false
+is_born_by seat (Claimed by) = false
+is_born_by seat (Born by) = by == seat
+is_born_by seat (Linked bucket) = false
+is_born_by seat InQueue = false
+is_born_by seat (Cut by) = false
+is_born_by seat (Sealed by retire) = false
+is_born_by seat (Listed by retire) = false
+
+-- the words of a row, but for its next link, are changed by no step but those of the seat that has it in hand and unlinked
+abbrev pub RowWordsStay : Type 0
+RowWordsStay =
+    (w : World) (i : ℕ) (v : View) (s place : ℕ) → Agree w v → (place == 0) ≡ false → is_born_by i (v.status s) ≡ false
+    → (step w i).mem (Row s place) ≡ w.mem (Row s place)

@@ -4,7 +4,7 @@
 
 ghost use Rattle.wfe_rows.specs.Agree.{RowsBegin, RowsKept, RowsStart};
 ghost use Rattle.wfe_rows.specs.Chain.{QueueBegin, QueueKept, QueueStart};
-ghost use Rattle.wfe_rows.specs.Facts.{LinedStays, QueueEnds, QueueShows, RowsShow};
+ghost use Rattle.wfe_rows.specs.Facts.{LinedStays, QueueEnds, QueueShows, RowWordsStay, RowsShow};
 
 /// At the start of a table with a valid setting every row is free but the dummy, which is the
 /// queue's head.
@@ -61,4 +61,10 @@ pub fn lined_stays()
 /// The head and the tail lead to rows of the queue.
 pub fn queue_ends()
     ensures { QueueEnds }
+{}
+
+/// The words of a row, but for its next link, are changed by no step but those of the seat that has
+/// the row in hand and has not linked it.
+pub fn row_words_stay()
+    ensures { RowWordsStay }
 {}
