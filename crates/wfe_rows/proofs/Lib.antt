@@ -12,6 +12,7 @@ pub mod Quiet
 pub mod Rounds
 pub mod Runs
 pub mod Steps
+pub mod Tries
 pub mod Turns
 pub mod Went
 pub mod Words
