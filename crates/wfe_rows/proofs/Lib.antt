@@ -5,6 +5,7 @@ pub mod Kept
 pub mod Line
 pub mod Lists
 pub mod Made
+pub mod Opened
 pub mod Own
 pub mod Phases
 pub mod Queued

@@ -226,7 +226,7 @@ dequeue_opens (endings.Retired life) post desk told q l next head tail f g = qui
 dequeue_opens (Clocked clock) post desk told q l next head tail f g = quiet_walks (phase_of (steps.opened Dequeues (Clocked clock) post desk told).outcome) q l next head tail (opening_quiet Dequeues post)
 
 -- another task's root
-abbrev opens_quiet : Task → Bool
+abbrev pub opens_quiet : Task → Bool
 opens_quiet (Gets key) = true
 opens_quiet (Changes kept) = true
 opens_quiet (Holds key) = true
@@ -240,7 +240,7 @@ opened_row_quiet (Holds key) slot post desk told h = refl
 opened_row_quiet (Enqueues kept) slot post desk told h = absurd (no_fill h)
 opened_row_quiet Dequeues slot post desk told h = absurd (no_fill h)
 
-opened_quiet : (task : Task) (ending : Ending) (post : Post) (desk : Desk) (told : List Event) → opens_quiet task ≡ true → is_quiet (phase_of (steps.opened task ending post desk told).outcome) ≡ true
+pub opened_quiet : (task : Task) (ending : Ending) (post : Post) (desk : Desk) (told : List Event) → opens_quiet task ≡ true → is_quiet (phase_of (steps.opened task ending post desk told).outcome) ≡ true
 opened_quiet task (Protected (protect_ends.Held slot era)) post desk told h = opened_row_quiet task slot post desk told h
 opened_quiet task (Protected protect_ends.Null) post desk told h = opened_null_quiet task post desk told
 opened_quiet task Done post desk told h = opening_quiet task post

@@ -519,7 +519,7 @@ holding_quiet : (key : ℕ) (post : Post) (x : Option ℕ) → is_quiet (holding
 holding_quiet key post None = round_quiet (Holds key) post
 holding_quiet key post (Some slot) = refl
 
-first_quiet : (call : Call) (post : Post) → is_quiet (first_phase call post) ≡ true
+pub first_quiet : (call : Call) (post : Post) → is_quiet (first_phase call post) ≡ true
 first_quiet (names.Get key) post = round_quiet (Gets key) post
 first_quiet (names.Put key value) post = round_quiet (Changes _) post
 first_quiet (names.Remove key) post = round_quiet (Changes _) post

@@ -156,3 +156,39 @@ PhaseTries Idle clock upto q l head = Unit {0}
 PhaseTries (Runs why base) clock upto q l head = WhyTries why clock upto base q l head
 PhaseTries (Scans later at) clock upto q l head = Unit {0}
 PhaseTries (Works work) clock upto q l head = Unit {0}
+
+-- the rows, the queue, and what protections of its ends have found
+pub record Whole (w : World) (v : View) (l : Line) : Type 0 where
+  pub both : Both w v l
+  pub tries : (k : ℕ) → PhaseTries (w.seat k).phase (w.mem Clock) (upper (w.seat k).post.span) (queue_of v) l v.head
+
+abbrev pub EraIn : Phase → ℕ → ℕ → Type 0
+EraIn Idle clock upto = Unit {0}
+EraIn (Runs why base) clock upto = base_era upto base ≤ clock
+EraIn (Scans later at) clock upto = Unit {0}
+EraIn (Works work) clock upto = Unit {0}
+
+-- what a step of a seat needs of the other parts
+pub record WholeNeeds (w : World) (i : ℕ) (v : View) (l : Line) : Type 0 where
+  -- a walk stays within the table, and the birth era that is stored is positive
+  pub walks : (why : Why) (birth : ℕ) (walk : Walk) → (w.seat i).phase ≡ Runs why (Allocate (ClaimSlot birth walk)) → walk.slot ≤ w.layout.config.slots
+  pub births : (why : Why) (birth slot : ℕ) → (w.seat i).phase ≡ Runs why (Allocate (StoreLife birth slot)) → 0 < birth
+  -- eras are at most the clock, which never falls
+  pub eras : (k : ℕ) → EraIn (w.seat k).phase (w.mem Clock) (upper (w.seat k).post.span)
+  pub rises : w.mem Clock ≤ (step w i).mem Clock
+  -- no seat works on a queue's row that is given back, and no try leads to it
+  pub backs : (later : AfterScan) (place slot k : ℕ) → (w.seat i).phase ≡ Scans later (GiveBack place slot) → stands_on (w.seat k).phase slot ≡ false
+  pub untried : (later : AfterScan) (place slot k : ℕ) (task : Task) (base : Base) → (w.seat i).phase ≡ Scans later (GiveBack place slot) → (w.seat k).phase ≡ Runs (Opens task) base → base_tries (w.mem Clock) (upper (w.seat k).post.span) base slot ≡ false
+  -- an answer that the seat's request has: the head's next link, or null, where it follows that; else a row of the queue
+  pub answers : (head tail : ℕ) (aim : Aim) (index : ℕ) (root : Root) (steps : ℕ) (at : ProtectAt) → (w.seat i).phase ≡ Runs (FollowsHead head tail) (Protect aim index root steps at) → AnswersFit at (finds w i) (w.mem (Row head 0))
+  pub asks : (task : Task) (aim : Aim) (index : ℕ) (root : Root) (steps : ℕ) (at : ProtectAt) (link era s : ℕ) → (w.seat i).phase ≡ Runs (Opens task) (Protect aim index root steps at) → at_asks at ≡ true → read_request (finds w i) ≡ Some (requests.Answered link era) → link ≡ s + 1 → is_tail root ≡ true → l.lined s ≡ true
+  pub heads : (task : Task) (aim : Aim) (index : ℕ) (root : Root) (steps : ℕ) (at : ProtectAt) (link era s : ℕ) → (w.seat i).phase ≡ Runs (Opens task) (Protect aim index root steps at) → at_asks at ≡ true → read_request (finds w i) ≡ Some (requests.Answered link era) → link ≡ s + 1 → is_head root ≡ true → FromHead (queue_of v) l v.head s
+
+abbrev pub WholeKept : Type 0
+WholeKept = (w : World) (i : ℕ) (v : View) (l : Line) → WholeNeeds w i v l → Whole w v l → Whole (step w i) (rows_after w i v) (line_after w i l)
+
+abbrev pub WholeBegin : Type 0
+WholeBegin = (w : World) (i : ℕ) (call : Call) (v : View) (l : Line) → is_busy w i ≡ false → Whole w v l → Whole (begin w i call) v l
+
+abbrev pub WholeStart : Type 0
+WholeStart = (layout : Layout) → is_valid layout ≡ true → Whole (start layout) (first_rows layout) (first_line layout)
