@@ -16,5 +16,6 @@ pub mod Steps
 pub mod Tries
 pub mod Turns
 pub mod Went
+pub mod Whole
 pub mod Words
 pub mod Writers

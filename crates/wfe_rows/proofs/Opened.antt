@@ -107,7 +107,7 @@ use Rattle.wfe_rows.proofs.Facts.{lined_stays, queue_ends}
 use Rattle.wfe_rows.proofs.Tries.{EndTries, TryOut, AsksFit, base_out, quiet_tries, others_tries, Keeps, EraFits}
 
 -- where a machine has ended
-abbrev WhyOut : Why → Outcome → ℕ → ℕ → (ℕ → Bool) → Line → ℕ → Type 0
+abbrev pub WhyOut : Why → Outcome → ℕ → ℕ → (ℕ → Bool) → Line → ℕ → Type 0
 WhyOut (Opens (Gets key)) outcome clock upto q l head = Unit {0}
 WhyOut (Opens (Changes kept)) outcome clock upto q l head = Unit {0}
 WhyOut (Opens (Holds key)) outcome clock upto q l head = Unit {0}
@@ -124,10 +124,10 @@ WhyOut (Tidies later) outcome clock upto q l head = Unit {0}
 WhyOut Advances outcome clock upto q l head = Unit {0}
 WhyOut (Releases key) outcome clock upto q l head = Unit {0}
 
-abbrev NewTries : CallTurn → ℕ → ℕ → (ℕ → Bool) → Line → ℕ → Type 0
+abbrev pub NewTries : CallTurn → ℕ → ℕ → (ℕ → Bool) → Line → ℕ → Type 0
 NewTries t clock upto q l head = PhaseTries (phase_of t.outcome) clock upto q l head
 
-by_quiet : (t : CallTurn) (clock upto : ℕ) (q : ℕ → Bool) (l : Line) (head : ℕ) → is_quiet (phase_of t.outcome) ≡ true → NewTries t clock upto q l head
+pub by_quiet : (t : CallTurn) (clock upto : ℕ) (q : ℕ → Bool) (l : Line) (head : ℕ) → is_quiet (phase_of t.outcome) ≡ true → NewTries t clock upto q l head
 by_quiet t clock upto q l head h = quiet_tries (phase_of t.outcome) clock upto q l head h
 
 opened_tries : (task : Task) (ending : Ending) (post : Post) (desk : Desk) (told : List Event) (clock upto : ℕ) (q : ℕ → Bool) (l : Line) (head : ℕ) → NewTries (steps.opened task ending post desk told) clock upto q l head
@@ -170,7 +170,7 @@ fill_tries (Enqueues kept) (Followed end) post desk told clock upto q l head = t
 fill_tries (Enqueues kept) (endings.Retired life) post desk told clock upto q l head = tt
 fill_tries (Enqueues kept) (Clocked clocked) post desk told clock upto q l head = tt
 
-resumed_tries : (why : Why) (desk : Desk) (post : Post) (told : List Event) (outcome : Outcome) (clock upto : ℕ) (q : ℕ → Bool) (l : Line) (head : ℕ) → WhyOut why outcome clock upto q l head → NewTries (steps.resumed why desk post told outcome) clock upto q l head
+pub resumed_tries : (why : Why) (desk : Desk) (post : Post) (told : List Event) (outcome : Outcome) (clock upto : ℕ) (q : ℕ → Bool) (l : Line) (head : ℕ) → WhyOut why outcome clock upto q l head → NewTries (steps.resumed why desk post told outcome) clock upto q l head
 resumed_tries (Opens (Gets key)) desk post told (Goes more) clock upto q l head o = tt
 resumed_tries (Opens (Changes kept)) desk post told (Goes more) clock upto q l head o = tt
 resumed_tries (Opens (Holds key)) desk post told (Goes more) clock upto q l head o = tt
@@ -214,7 +214,7 @@ popped_tries : (parent row number value : ℕ) (post : Post) (desk : Desk) (same
 popped_tries parent row number value post desk true clock upto q l head = by_quiet (dequeues.taken parent row number value post desk true) clock upto q l head (clearing_next_quiet (Retiring parent (the_answers.Taken number value clock_moves.Still)) post desk (events.Link roots.Head row ∷ events.Cut parent ∷ events.Taken number value ∷ []))
 popped_tries parent row number value post desk false clock upto q l head = by_quiet (dequeues.taken parent row number value post desk false) clock upto q l head (clearing_next_quiet Again post desk [])
 
-work_tries : (work : Work) (post : Post) (desk : Desk) (found clock upto : ℕ) (q : ℕ → Bool) (l : Line) (head : ℕ) → NewTries (work_turn work post desk found) clock upto q l head
+pub work_tries : (work : Work) (post : Post) (desk : Desk) (found clock upto : ℕ) (q : ℕ → Bool) (l : Line) (head : ℕ) → NewTries (work_turn work post desk found) clock upto q l head
 work_tries (Getting key at) post desk found clock upto q l head = by_quiet (gets.get_turn key at post desk found) clock upto q l head (get_quiet key at post desk found)
 work_tries (Changing kept at) post desk found clock upto q l head = by_quiet (alters.change_turn kept at post desk found) clock upto q l head (change_quiet kept at post desk found)
 work_tries (Enqueuing kept LoadNumber) post desk found clock upto q l head = tt

@@ -5,6 +5,7 @@
 ghost use Rattle.wfe_rows.specs.Agree.{RowsBegin, RowsKept, RowsStart};
 ghost use Rattle.wfe_rows.specs.Chain.{QueueBegin, QueueKept, QueueStart};
 ghost use Rattle.wfe_rows.specs.Facts.{LinedStays, QueueEnds, QueueShows, RowWordsStay, RowsShow};
+ghost use Rattle.wfe_rows.specs.Tries.{WholeBegin, WholeKept, WholeStart};
 
 /// At the start of a table with a valid setting every row is free but the dummy, which is the
 /// queue's head.
@@ -67,4 +68,22 @@ pub fn queue_ends()
 /// the row in hand and has not linked it.
 pub fn row_words_stay()
     ensures { RowWordsStay }
+{}
+
+/// At the start the rows, the queue and the protections of its ends are known.
+pub fn whole_start()
+    ensures { WholeStart }
+{}
+
+/// The beginning of a call keeps all of it.
+pub fn whole_begin()
+    ensures { WholeBegin }
+{}
+
+/// Each step of a seat keeps all of it: the rows, the queue, and that what a protection of the
+/// queue's tail or head has found was in the queue since it was claimed last. Of other parts the
+/// step needs eras and walks in range, that no row is given back which a guard covers, and what the
+/// answers to requests lead to.
+pub fn whole_kept()
+    ensures { WholeKept }
 {}
