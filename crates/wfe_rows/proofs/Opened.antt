@@ -1,28 +1,15 @@
 -- What a step leaves of the protections of the queue's ends, and that each step keeps all that is known of rows and queue.
-use Rattle.std.proofs.Common.{ℕ, zero, suc, ◌≤◌, ◌+◌, ◌-◌, ◌<◌, ◌/◌, ◌%◌, ◌≡◌, ◌≢◌, Bool, true, false, arith, refl, ap, ◌&&◌, ◌||◌, ◌∙◌, sym, subst, List, [], ◌∷◌, ◌++◌, length}
-use Rattle.std.proofs.lemmas.Bool.Decides.{nat_tests}
-use Rattle.std.specs.Prelude.{◌==◌, not, nat_lt, nat_le, if◌then◌else◌, Option, Some, None}
-use Rattle.wfe_words.specs.declared.config.SchemeKind.{SchemeKind}
-use Rattle.wfe_words.specs.declared.config.SchemeKind.TheVariants.{He, Ibr, Wfe}
-use Rattle.wfe_defs.specs.declared.call.Answer.{Answer}
+use Rattle.std.proofs.Common.{ℕ, ◌+◌, ◌-◌, ◌≡◌, Bool, true, false, refl, List, [], ◌∷◌}
+use Rattle.std.specs.Prelude.{◌==◌}
 use Rattle.wfe_defs.specs.declared.call.Answer.TheVariants as the_answers
 use Rattle.wfe_defs.specs.declared.event.Event.TheVariants as events
-use Rattle.wfe_defs.specs.declared.call.Call.{Call}
-use Rattle.wfe_defs.specs.declared.call.Call.TheVariants as names
-use Rattle.wfe_defs.specs.declared.call.ClockMove.{ClockMove}
 use Rattle.wfe_defs.specs.declared.event.Event.{Event}
-use Rattle.wfe_defs.specs.declared.lifetime.Interval.{Interval}
-use Rattle.wfe_defs.specs.declared.lifetime.Lifetime.{Lifetime}
-use Rattle.wfe_core.specs.declared.ends.AllocateEnd.{AllocateEnd}
 use Rattle.wfe_core.specs.declared.ends.AllocateEnd.TheVariants as allocate_ends
-use Rattle.wfe_core.specs.declared.ends.FollowEnd.{FollowEnd}
 use Rattle.wfe_core.specs.declared.ends.FollowEnd.TheVariants as follow_ends
-use Rattle.wfe_core.specs.declared.ends.ProtectEnd.{ProtectEnd}
 use Rattle.wfe_core.specs.declared.ends.ProtectEnd.TheVariants as protect_ends
 use Rattle.wfe_core.specs.declared.post.Post.{Post}
-use Rattle.wfe_core.specs.Desks.{Desk, with_life}
-use Rattle.wfe_core.specs.Posts.{stands}
-use Rattle.wfe_core.specs.Phases.{Base, Ending}
+use Rattle.wfe_core.specs.Desks.{Desk}
+use Rattle.wfe_core.specs.Phases.{Ending}
 use Rattle.wfe_core.specs.Phases.Ending.{Done, Protected, Followed, Allocated, Clocked}
 use Rattle.wfe_core.specs.Phases.{Ending as endings}
 use Rattle.wfe_core.specs.Rounds as rounds
@@ -31,80 +18,18 @@ use Rattle.wfe_core.specs.Get as gets
 use Rattle.wfe_core.specs.Change as alters
 use Rattle.wfe_core.specs.Enqueue as enqueues
 use Rattle.wfe_core.specs.Dequeue as dequeues
-use Rattle.wfe_core.specs.Scan as scan
 use Rattle.wfe_core.specs.Steps as steps
-use Rattle.wfe_core.specs.Calls.{ChangeKept, EnqueueKept, Task, Gets, Changes, Holds, Enqueues, Dequeues, Next, Again, MakeRoom, Answering, Retiring, AfterScan, Answered, Repeated, Counted, Why, Opens, FollowsHead, Fills, ClearsNext, Clears, Finishes, GivesUp, Retires, Tidies, Advances, Releases, ScanAt, ReadGuard, GiveBack, GetAt, FindVersion, FindCount, FindKey, FindValue, ChangeAt, LoadVersion, LoadCount, LoadKey, LoadValue, ExchangeRoot, EnqueueAt, LoadNumber, LoadNext, PassTail, ExchangeNext, ExchangeTail, DequeueAt, LoadTail, SwingTail, TakeNumber, TakeValue, ExchangeHead, Work, Getting, Changing, Enqueuing, Dequeuing, Phase, Idle, Runs, Scans, Works, CallTurn, CallOutcome, GoesOn}
-use Rattle.wfe_core.specs.Locals as locals
-use Rattle.wfe_rows.specs.Rows.{Hand}
-use Rattle.wfe_rows.specs.Rows.Hand.{Empty, New, Taken, Old, Known, Dated}
-use Rattle.std.specs.Prelude.{bit_or}
-use Rattle.std.specs.Int.{bit_at}
-use Rattle.std.specs.List.{remove}
-use Rattle.std.proofs.lemmas.Nat.Bits.{bit_at-lt}
-use Rattle.wfe_words.specs.Place.{Place, claim_word, claim_mask, claim_others}
-use Rattle.wfe_words.specs.Place.Place.{Clock, Bucket, Head, Tail, Claim, Life, Row}
-use Rattle.wfe_words.specs.Packed.{read_life, life_word, halves}
-use Rattle.wfe_words.proofs.Parts.{read_life-open}
-use Rattle.wfe_core.specs.Memory as memory
-use Rattle.wfe_core.specs.Memory.{place_in, written, upd}
-use Rattle.wfe_core.specs.Phases.{goes, ends, AllocateAt, RetireAt, RowOf, Walk, Outcome, Goes, Ends, Turn}
-use Rattle.wfe_core.specs.Phases.AllocateAt.{LoadBirth, ClaimSlot, StoreLife}
-use Rattle.wfe_core.specs.Phases.RetireAt.{LoadLife, LoadRetire, StoreRetired}
-use Rattle.wfe_core.specs.Phases.Base.{Begin, Protect, Reload, Clear, Finish, Release, Allocate, Write, GiveUp, Retire, Move}
-use Rattle.wfe_core.specs.Machine as machine
-use Rattle.wfe_core.specs.Machine.{base_move}
-use Rattle.wfe_core.specs.Allocate.{is_claimed, walking, walk_past, walk_from, next_slot}
-use Rattle.wfe_core.specs.Guards as the_guards
-use Rattle.wfe_core.specs.WriteRow.{last_written, row_word}
-use Rattle.wfe_core.specs.Retire.{birth_in}
+use Rattle.wfe_core.specs.Calls.{EnqueueKept, Task, Gets, Changes, Holds, Enqueues, Dequeues, Again, Answering, Retiring, Why, Opens, FollowsHead, Fills, ClearsNext, Clears, Finishes, GivesUp, Retires, Tidies, Advances, Releases, LoadNumber, LoadNext, PassTail, ExchangeNext, ExchangeTail, LoadTail, SwingTail, TakeNumber, TakeValue, ExchangeHead, Work, Getting, Changing, Enqueuing, Dequeuing, CallTurn}
+use Rattle.wfe_core.specs.Phases.{Outcome, Goes, Ends}
 use Rattle.wfe_core.specs.Steps.{run_turn, phase_move, phase_turn, work_move, work_turn}
-use Rattle.wfe_rows.specs.Rows.{Status, View, Good, RowMove, made, is_taken, has_life, retire_in, names, knows, status_in}
-use Rattle.wfe_rows.specs.Rows.Status.{Free, Claimed, Born, Linked, InQueue, Cut, Sealed, Listed}
-use Rattle.wfe_rows.specs.Rows.RowMove.{Stays, Claims, Bears, Drops, Links, Replaces, Appends, Pops, Reads, Seals, Lists, Returns}
-use Rattle.wfe_rows.specs.Hands.{hand_why, hand_left, right_left, in_list, no_entry, each_once, stands_at, runs_right, is_giving_up, is_retiring, task_fills, base_row, row_move, linked_row, change_row, enqueue_row, dequeue_row, work_row, scan_row}
-use Rattle.wfe_rows.specs.Agree.{Words, Plays, Needs, bit_of, claim_of}
-use Rattle.wfe_rows.proofs.Made.{claims_good, bears_good, drops_good, links_good, replaces_good, appends_good, pops_good, reads_good, seals_good, lists_good, returns_good}
-use Rattle.wfe_rows.proofs.Words.{is_writing, words_plain, words_missed, words_shown, words_claims, words_bears, words_drops, words_returns, words_lists, words_seals, words_links, words_replaces, words_appends, words_pops, words_hand}
-use Rattle.wfe_rows.proofs.Lists.{no_entry_from, in_list_last, once_last, once_remove, in_list_remove, Entered, stands_entered}
-use Rattle.wfe_rows.proofs.Rounds.{leaves_along, get_leaves, reading_leaves, at_next_leaves, clearing_leaves, clearing_next_leaves}
-use Rattle.wfe_rows.proofs.Turns.{linked_leaves, replaced_leaves, missed_leaves, appended_leaves, unappended_leaves, popped_leaves, unpopped_leaves, read_leaves, back_leaves}
-use Rattle.wfe_rows.proofs.Runs.{is_plain_why, plain_goes, plain_writes, plain_leaves, spent_leaves, given_leaves, written_leaves, retired_leaves, is_filling, only_fills}
 use Rattle.std.proofs.Common.{◌-◌}
-use Rattle.wfe_words.specs.declared.config.Config.{Config}
-use Rattle.wfe_words.specs.declared.packed.Request.{Request}
-use Rattle.wfe_words.specs.declared.packed.Request.TheVariants as requests
-use Rattle.wfe_words.specs.Packed.{read_request}
-use Rattle.wfe_defs.specs.declared.event.Root.{Root}
 use Rattle.wfe_defs.specs.declared.event.Root.TheVariants as roots
-use Rattle.wfe_core.specs.Phases.{Aim, Alone, Follows, Tries, Endless, Failed, BeginAt, ProtectAt, goes, ends}
-use Rattle.wfe_core.specs.Phases.BeginAt.{LoadLower, PublishSpan}
-use Rattle.wfe_core.specs.Phases.ProtectAt.{LoadClock, PublishEra, LoadLink, CheckClock, PublishRequest, LoadOwnClock, PublishHelper, LoadOwnLink, CheckOwnClock, AnswerOwn, LoadAnswer, TakeAnswer, WithdrawRequest, WithdrawHelper, LoadWithin, CheckUpper, RaiseUpper}
-use Rattle.wfe_core.specs.Memory.{bump}
-use Rattle.wfe_core.specs.Protect as protects
-use Rattle.wfe_core.specs.SlowPath as slow
-use Rattle.wfe_core.specs.Posts.{counted, upper, reserves_helper}
-use Rattle.wfe_core.specs.Links.{link_place}
-use Rattle.wfe_rows.specs.Queue.{Line, in_queue, stands_on}
-use Rattle.wfe_rows.specs.Follow.{at_asks}
-use Rattle.wfe_rows.specs.Tries.{at_tries, base_tries, at_era, base_era, is_alone, is_tail, is_head, opens_by, FromTail, FromHead, TriesBase, TaskTries, WhyTries, PhaseTries}
-use Rattle.wfe_rows.proofs.Steps.{no_fill}
-use Rattle.wfe_rows.proofs.Quiet.{phase_of, is_quiet, starts_by, at_starts, clearing_quiet, clearing_next_quiet, closed_quiet, finishing_quiet, opened_null_quiet, opening_quiet, tidied_quiet, advanced_quiet, released_quiet, retired_quiet, filled_quiet, change_quiet, scan_quiet, get_quiet, round_quiet, quiet_task}
+use Rattle.wfe_rows.specs.Queue.{Line}
+use Rattle.wfe_rows.specs.Tries.{is_tail, is_head, FromTail, FromHead, PhaseTries}
+use Rattle.wfe_rows.proofs.Quiet.{phase_of, is_quiet, clearing_quiet, clearing_next_quiet, closed_quiet, finishing_quiet, opened_null_quiet, opening_quiet, tidied_quiet, advanced_quiet, released_quiet, retired_quiet, filled_quiet, change_quiet, get_quiet}
 use Rattle.wfe_defs.specs.declared.call.ClockMove.TheVariants as clock_moves
-use Rattle.wfe_core.specs.Desks.{noting}
 use Rattle.wfe_core.specs.Steps.{first_phase}
-use Rattle.wfe_core.specs.Calls.{Answers}
-use Rattle.wfe_core.specs.Locals.{Local, turn, settled, settled_by, told_by, rounds_told, begun, begun_post}
-use Rattle.wfe_core.specs.World.{World, start, step, begin, is_busy, finds}
-use Rattle.wfe_rows.specs.Agree.{rows_after, first_rows}
-use Rattle.wfe_rows.specs.Chain.{Both, Queue, QueueNeeds, PhaseNeeds, line_after, first_line, queue_of}
-use Rattle.wfe_rows.specs.Tries.{Whole, WholeNeeds, WholeKept, WholeBegin, WholeStart, EraIn}
-use Rattle.wfe_rows.specs.Facts.{RowStays}
-use Rattle.wfe_rows.specs.Follow.{AnswersFit}
-use Rattle.wfe_rows.proofs.Own.{opened_quiet, opens_quiet}
-use Rattle.wfe_rows.proofs.Queued.{queue_kept, queue_begin, queue_start, first_quiet}
-use Rattle.wfe_rows.proofs.Kept.{rows_begin, rows_start}
-use Rattle.wfe_rows.proofs.Facts.{lined_stays, queue_ends}
-use Rattle.wfe_rows.proofs.Tries.{EndTries, TryOut, AsksFit, base_out, quiet_tries, others_tries, Keeps, EraFits}
+use Rattle.wfe_rows.proofs.Tries.{TryOut, quiet_tries}
 
 -- where a machine has ended
 abbrev pub WhyOut : Why → Outcome → ℕ → ℕ → (ℕ → Bool) → Line → ℕ → Type 0

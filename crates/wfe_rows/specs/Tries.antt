@@ -1,15 +1,14 @@
 -- A call that opens the queue protects its tail or its head: a row to which a try leads, whose era is still the clock, or to
 -- which an answer leads, was in the queue since it was claimed last, and one from the head is the head while it is there.
-use Rattle.std.specs.Prelude.{ℕ, ◌≡◌, ◌≤◌, ◌<◌, ◌+◌, ◌==◌, ◌&&◌, Bool, true, false, Option, Some}
+use Rattle.std.specs.Prelude.{ℕ, ◌≡◌, ◌≤◌, ◌<◌, ◌+◌, ◌==◌, ◌&&◌, Bool, true, false, Some}
 use Rattle.wfe_words.specs.Place.{is_valid}
-use Rattle.wfe_words.specs.Place.Place.{Clock, Head, Row}
+use Rattle.wfe_words.specs.Place.Place.{Clock, Row}
 use Rattle.wfe_words.specs.Packed.{read_request}
 use Rattle.wfe_words.specs.declared.layout.Layout.{Layout}
 use Rattle.wfe_words.specs.declared.packed.Request.TheVariants as requests
 use Rattle.wfe_defs.specs.declared.call.Call.{Call}
 use Rattle.wfe_defs.specs.declared.event.Root.{Root}
 use Rattle.wfe_defs.specs.declared.event.Root.TheVariants as roots
-use Rattle.wfe_core.specs.declared.post.Post.{Post}
 use Rattle.wfe_core.specs.Posts.{upper}
 use Rattle.wfe_core.specs.Phases.{Aim, Alone, Follows, ProtectAt, Base, Walk}
 use Rattle.wfe_core.specs.Phases.ProtectAt.{LoadClock, PublishEra, LoadLink, CheckClock, PublishRequest, LoadOwnClock, PublishHelper, LoadOwnLink, CheckOwnClock, AnswerOwn, LoadAnswer, TakeAnswer, WithdrawRequest, WithdrawHelper, LoadWithin, CheckUpper, RaiseUpper}
@@ -19,7 +18,7 @@ use Rattle.wfe_core.specs.Calls.{Task, Gets, Changes, Holds, Enqueues, Dequeues,
 use Rattle.wfe_core.specs.World.{World, start, step, begin, is_busy, finds}
 use Rattle.wfe_rows.specs.Rows.{View}
 use Rattle.wfe_rows.specs.Agree.{rows_after, first_rows}
-use Rattle.wfe_rows.specs.Queue.{Line, in_queue, stands_on}
+use Rattle.wfe_rows.specs.Queue.{Line, stands_on}
 use Rattle.wfe_rows.specs.Chain.{Both, line_after, first_line, queue_of}
 use Rattle.wfe_rows.specs.Follow.{at_asks, AnswersFit}
 
