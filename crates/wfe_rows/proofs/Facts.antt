@@ -26,7 +26,16 @@ use Rattle.wfe_rows.specs.Facts.{RowsShow, QueueShows}
 use Rattle.wfe_rows.proofs.Lists.{no_entry_from}
 use Rattle.wfe_rows.proofs.Runs.{only_fills}
 use Rattle.wfe_rows.proofs.Steps.{no_fill, of_old, of_known, of_dated, life_cut, old_life}
-use Rattle.wfe_rows.proofs.Queued.{queue_needs}
+use Rattle.std.proofs.Common.{None, ◌&&◌}
+use Rattle.wfe_rows.proofs.Queued.{queue_needs, far_by, world_went}
+use Rattle.wfe_rows.proofs.Went.{Others, Went, same_number, both_same}
+use Rattle.wfe_rows.specs.Queue.{Line, in_queue, blanks_in, line_move}
+use Rattle.wfe_rows.specs.Agree.{rows_after}
+use Rattle.wfe_rows.specs.Facts.{LinedStays, QueueEnds}
+use Rattle.wfe_core.specs.Calls.{EnqueueKept, LoadNumber, PassTail, LoadTail, Enqueuing, Dequeuing, Works}
+use Rattle.wfe_core.specs.World.{step}
+use Rattle.wfe_core.specs.Locals.{turn}
+use Rattle.wfe_words.specs.Place.Place.{Row}
 
 -- the list as contracts see it
 not_listed : (s : ℕ) (lives : List Lifetime) → no_entry s lives ≡ true → list_any (◌==◌ s) (slots_of lives) ≡ false
@@ -147,3 +156,38 @@ rows_show w v k a =
 
 pub queue_shows : QueueShows
 queue_shows w i v l n b = queue_needs w.layout.config.slots w.mem v l (w.seat i).phase (λ base. (machine.after base (counted (w.seat i).post) (finds w i)).outcome) (finds w i) n.own b.rows.words.head b.queue.line (b.queue.walks i)
+
+-- a row of the queue, as if a seat worked on it
+abbrev tail_kept : ℕ → EnqueueKept
+tail_kept s = record { value = 0; taken = None; walked = false; tail = s; number = 0 }
+
+alone : (i : ℕ) (v : View) (l : Line) (phase : Phase) → ((s : ℕ) → blanks_in phase s ≡ false) → Others i v l phase
+alone i v l phase f = record { unlined = λ s u. absurd (no_fill (sym (f s) ∙ u)); apart = λ s b. f s }
+
+at_row : (f : ℕ → Bool) (s h : ℕ) → f s ≡ true → (s == h) ≡ true → f h ≡ true
+at_row f s h e u = let same : s ≡ h = grind (arith, nat_tests) in subst (λ (x : ℕ). f x ≡ true) same e
+
+head_row : (head s h : ℕ) (q : ℕ → Bool) → (q s ≡ true → head ≡ s + 1) → (s == h) ≡ true → q h ≡ true → head ≡ h + 1
+head_row head s h q f u k = let same : h ≡ s = grind (arith, nat_tests) in let back : q s ≡ true = subst (λ (x : ℕ). q x ≡ true) same k in omega (arith, f back, same)
+
+link_row : (next : ℕ → ℕ) (s link h x : ℕ) → next s ≡ link → (s == h && (link == x)) ≡ true → next h ≡ x
+link_row next s link h x o u = let here : s ≡ h = grind (arith, nat_tests) in let same : link ≡ x = grind (arith, nat_tests) in sym (ap next here) ∙ o ∙ same
+
+link_some : (s link h x : ℕ) → 0 < link → (s == h && (link == x)) ≡ true → 0 < x
+link_some s link h x p u = grind (arith, nat_tests)
+
+pub lined_stays : LinedStays
+lined_stays w i v l s n b far e =
+    let went : Went i v (rows_after w i v) l (line_move (w.seat i).phase (finds w i)) w.mem (step w i).mem (turn (w.seat i) (finds w i)) = world_went w i v l n b in
+    record {
+      lined = (went.others (Works (Enqueuing (tail_kept s) LoadNumber)) (record { stood = λ h u. at_row l.lined s h e u; heads = λ h u k. cc; follows = λ h link u. cc; some = λ h link u. cc; leads = λ h u k. cc; blank = λ x u. cc; items = refl; loads = tt }) (far_by (w.seat i).phase (Works (Enqueuing (tail_kept s) LoadNumber)) (finds w i) far) (alone i v l (Works (Enqueuing (tail_kept s) LoadNumber)) (λ x. refl))).stood s (same_number s);
+      heads = λ f q. (went.others (Works (Dequeuing (LoadTail s))) (record { stood = λ h u. at_row l.lined s h e u; heads = λ h u k. head_row v.head s h (λ y. in_queue (v.status y)) f u k; follows = λ h link u. cc; some = λ h link u. cc; leads = λ h u k. cc; blank = λ x u. cc; items = refl; loads = tt }) (far_by (w.seat i).phase (Works (Dequeuing (LoadTail s))) (finds w i) far) (alone i v l (Works (Dequeuing (LoadTail s))) (λ x. refl))).heads s (same_number s) q;
+      next = λ link o p. (went.others (Works (Enqueuing (tail_kept s) (PassTail link))) (record { stood = λ h u. at_row l.lined s h e u; heads = λ h u k. cc; follows = λ h x u. link_row (λ y. w.mem (Row y 0)) s link h x o u; some = λ h x u. link_some s link h x p u; leads = λ h u k. cc; blank = λ x u. cc; items = refl; loads = tt }) (far_by (w.seat i).phase (Works (Enqueuing (tail_kept s) (PassTail link))) (finds w i) far) (alone i v l (Works (Enqueuing (tail_kept s) (PassTail link))) (λ x. refl))).follows s link (both_same s link);
+    }
+
+pub queue_ends : QueueEnds
+queue_ends w v l s b = record {
+  head = λ e. b.queue.line.lined s (b.queue.line.first s (sym b.rows.words.head ∙ e));
+  tail = λ e. b.queue.line.lined s (b.queue.line.reached s e);
+  first = λ e. sym b.rows.words.head ∙ e;
+}

@@ -5,6 +5,7 @@ pub mod Kept
 pub mod Line
 pub mod Lists
 pub mod Made
+pub mod Opened
 pub mod Own
 pub mod Phases
 pub mod Queued
@@ -12,6 +13,9 @@ pub mod Quiet
 pub mod Rounds
 pub mod Runs
 pub mod Steps
+pub mod Tries
 pub mod Turns
 pub mod Went
+pub mod Whole
 pub mod Words
+pub mod Writers

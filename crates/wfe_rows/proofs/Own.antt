@@ -51,7 +51,7 @@ use Rattle.wfe_core.specs.WriteRow.{row_word}
 use Rattle.wfe_rows.specs.Chain.{next_of}
 use Rattle.wfe_rows.specs.Follow.{LoadsBase}
 use Rattle.wfe_rows.proofs.Steps.{no_fill}
-use Rattle.wfe_rows.proofs.Quiet.{phase_of, is_quiet, quiet_task, quiet_walks, clearing_quiet, clearing_next_quiet, closed_quiet, finishing_quiet, opened_null_quiet, tidied_quiet, advanced_quiet, released_quiet, retired_quiet, filled_quiet}
+use Rattle.wfe_rows.proofs.Quiet.{opening_quiet, phase_of, is_quiet, quiet_task, quiet_walks, clearing_quiet, clearing_next_quiet, closed_quiet, finishing_quiet, opened_null_quiet, tidied_quiet, advanced_quiet, released_quiet, retired_quiet, filled_quiet}
 
 -- an operation that may change a next link or the tail
 abbrev pub is_link_place : Place → Bool
@@ -205,11 +205,11 @@ enqueue_opens kept (Protected (protect_ends.Held slot era)) post desk told q l n
     record { stood = λ h e. grind (arith, nat_tests, f slot era refl); heads = λ h e k. cc; follows = λ h link e. cc; some = λ h link e. cc; leads = λ h e k. cc; blank = λ s e. cc; items = refl; loads = tt }
 enqueue_opens kept (Protected protect_ends.Null) post desk told q l next head tail f =
     quiet_walks (phase_of (steps.opened_null (Enqueues kept) post desk told).outcome) q l next head tail (opened_null_quiet (Enqueues kept) post desk told)
-enqueue_opens kept Done post desk told q l next head tail f = quiet_walks (phase_of (steps.opened (Enqueues kept) Done post desk told).outcome) q l next head tail refl
-enqueue_opens kept (Followed end) post desk told q l next head tail f = quiet_walks (phase_of (steps.opened (Enqueues kept) (Followed end) post desk told).outcome) q l next head tail refl
-enqueue_opens kept (Allocated end) post desk told q l next head tail f = quiet_walks (phase_of (steps.opened (Enqueues kept) (Allocated end) post desk told).outcome) q l next head tail refl
-enqueue_opens kept (endings.Retired life) post desk told q l next head tail f = quiet_walks (phase_of (steps.opened (Enqueues kept) (endings.Retired life) post desk told).outcome) q l next head tail refl
-enqueue_opens kept (Clocked clock) post desk told q l next head tail f = quiet_walks (phase_of (steps.opened (Enqueues kept) (Clocked clock) post desk told).outcome) q l next head tail refl
+enqueue_opens kept Done post desk told q l next head tail f = quiet_walks (phase_of (steps.opened (Enqueues kept) Done post desk told).outcome) q l next head tail (opening_quiet (Enqueues kept) post)
+enqueue_opens kept (Followed end) post desk told q l next head tail f = quiet_walks (phase_of (steps.opened (Enqueues kept) (Followed end) post desk told).outcome) q l next head tail (opening_quiet (Enqueues kept) post)
+enqueue_opens kept (Allocated end) post desk told q l next head tail f = quiet_walks (phase_of (steps.opened (Enqueues kept) (Allocated end) post desk told).outcome) q l next head tail (opening_quiet (Enqueues kept) post)
+enqueue_opens kept (endings.Retired life) post desk told q l next head tail f = quiet_walks (phase_of (steps.opened (Enqueues kept) (endings.Retired life) post desk told).outcome) q l next head tail (opening_quiet (Enqueues kept) post)
+enqueue_opens kept (Clocked clock) post desk told q l next head tail f = quiet_walks (phase_of (steps.opened (Enqueues kept) (Clocked clock) post desk told).outcome) q l next head tail (opening_quiet (Enqueues kept) post)
 
 dequeue_opens : (ending : Ending) (post : Post) (desk : Desk) (told : List Event) (q : ℕ → Bool) (l : Line) (next : ℕ → ℕ) (head tail : ℕ) → ((slot era : ℕ) → ending ≡ Protected (protect_ends.Held slot era) → l.lined slot ≡ true) → ((slot era : ℕ) → ending ≡ Protected (protect_ends.Held slot era) → q slot ≡ true → head ≡ slot + 1) → Left (steps.opened Dequeues ending post desk told) q l next head tail
 dequeue_opens (Protected (protect_ends.Held slot era)) post desk told q l next head tail f g =
@@ -219,14 +219,14 @@ dequeue_opens (Protected (protect_ends.Held slot era)) post desk told q l next h
     head_is h e k = let same : slot ≡ h = grind (arith, nat_tests) in subst (λ (x : ℕ). head ≡ x + 1) same (g slot era refl (subst (λ (x : ℕ). q x ≡ true) (sym same) k))
 dequeue_opens (Protected protect_ends.Null) post desk told q l next head tail f g =
     quiet_walks (phase_of (steps.opened_null Dequeues post desk told).outcome) q l next head tail (opened_null_quiet Dequeues post desk told)
-dequeue_opens Done post desk told q l next head tail f g = quiet_walks (phase_of (steps.opened Dequeues Done post desk told).outcome) q l next head tail refl
-dequeue_opens (Followed end) post desk told q l next head tail f g = quiet_walks (phase_of (steps.opened Dequeues (Followed end) post desk told).outcome) q l next head tail refl
-dequeue_opens (Allocated end) post desk told q l next head tail f g = quiet_walks (phase_of (steps.opened Dequeues (Allocated end) post desk told).outcome) q l next head tail refl
-dequeue_opens (endings.Retired life) post desk told q l next head tail f g = quiet_walks (phase_of (steps.opened Dequeues (endings.Retired life) post desk told).outcome) q l next head tail refl
-dequeue_opens (Clocked clock) post desk told q l next head tail f g = quiet_walks (phase_of (steps.opened Dequeues (Clocked clock) post desk told).outcome) q l next head tail refl
+dequeue_opens Done post desk told q l next head tail f g = quiet_walks (phase_of (steps.opened Dequeues Done post desk told).outcome) q l next head tail (opening_quiet Dequeues post)
+dequeue_opens (Followed end) post desk told q l next head tail f g = quiet_walks (phase_of (steps.opened Dequeues (Followed end) post desk told).outcome) q l next head tail (opening_quiet Dequeues post)
+dequeue_opens (Allocated end) post desk told q l next head tail f g = quiet_walks (phase_of (steps.opened Dequeues (Allocated end) post desk told).outcome) q l next head tail (opening_quiet Dequeues post)
+dequeue_opens (endings.Retired life) post desk told q l next head tail f g = quiet_walks (phase_of (steps.opened Dequeues (endings.Retired life) post desk told).outcome) q l next head tail (opening_quiet Dequeues post)
+dequeue_opens (Clocked clock) post desk told q l next head tail f g = quiet_walks (phase_of (steps.opened Dequeues (Clocked clock) post desk told).outcome) q l next head tail (opening_quiet Dequeues post)
 
 -- another task's root
-abbrev opens_quiet : Task → Bool
+abbrev pub opens_quiet : Task → Bool
 opens_quiet (Gets key) = true
 opens_quiet (Changes kept) = true
 opens_quiet (Holds key) = true
@@ -240,14 +240,14 @@ opened_row_quiet (Holds key) slot post desk told h = refl
 opened_row_quiet (Enqueues kept) slot post desk told h = absurd (no_fill h)
 opened_row_quiet Dequeues slot post desk told h = absurd (no_fill h)
 
-opened_quiet : (task : Task) (ending : Ending) (post : Post) (desk : Desk) (told : List Event) → opens_quiet task ≡ true → is_quiet (phase_of (steps.opened task ending post desk told).outcome) ≡ true
+pub opened_quiet : (task : Task) (ending : Ending) (post : Post) (desk : Desk) (told : List Event) → opens_quiet task ≡ true → is_quiet (phase_of (steps.opened task ending post desk told).outcome) ≡ true
 opened_quiet task (Protected (protect_ends.Held slot era)) post desk told h = opened_row_quiet task slot post desk told h
 opened_quiet task (Protected protect_ends.Null) post desk told h = opened_null_quiet task post desk told
-opened_quiet task Done post desk told h = refl
-opened_quiet task (Followed end) post desk told h = refl
-opened_quiet task (Allocated end) post desk told h = refl
-opened_quiet task (endings.Retired life) post desk told h = refl
-opened_quiet task (Clocked clock) post desk told h = refl
+opened_quiet task Done post desk told h = opening_quiet task post
+opened_quiet task (Followed end) post desk told h = opening_quiet task post
+opened_quiet task (Allocated end) post desk told h = opening_quiet task post
+opened_quiet task (endings.Retired life) post desk told h = opening_quiet task post
+opened_quiet task (Clocked clock) post desk told h = opening_quiet task post
 
 -- the head's next row was followed
 followed_row_walks : (parent last slot : ℕ) (base : Base) (post : Post) (desk : Desk) (told : List Event) (lags : Bool) (q : ℕ → Bool) (l : Line) (next : ℕ → ℕ) (head tail : ℕ) → (last == parent + 1) ≡ lags → Walks (Runs (FollowsHead parent last) base) q l next head tail → next parent ≡ slot + 1 → Left (dequeues.followed_row parent slot post desk told lags) q l next head tail
@@ -311,9 +311,9 @@ resumed_walks Advances base desk post told (Goes more) q l next head tail h w g 
 resumed_walks Advances base desk post told (Ends ending) q l next head tail h w g = quiet_walks (phase_of (steps.resume Advances ending post desk told).outcome) q l next head tail (advanced_quiet ending post desk told)
 resumed_walks (Releases key) base desk post told (Goes more) q l next head tail h w g = quiet_walks (Runs (Releases key) more) q l next head tail refl
 resumed_walks (Releases key) base desk post told (Ends ending) q l next head tail h w g = quiet_walks (phase_of (steps.resume (Releases key) ending post desk told).outcome) q l next head tail (released_quiet key post desk told)
-resumed_walks (Opens (Enqueues kept)) base desk post told (Goes more) q l next head tail h w g = quiet_walks (Runs (Opens (Enqueues kept)) more) q l next head tail refl
+resumed_walks (Opens (Enqueues kept)) base desk post told (Goes more) q l next head tail h w g = record { stood = λ h e. cc; heads = λ h e k. cc; follows = λ h link e. cc; some = λ h link e. cc; leads = λ h e k. cc; blank = λ s e. cc; items = refl; loads = tt }
 resumed_walks (Opens (Enqueues kept)) base desk post told (Ends ending) q l next head tail h w g = enqueue_opens kept ending post desk told q l next head tail (λ slot era e. g.tails kept slot era refl (ap Ends e))
-resumed_walks (Opens Dequeues) base desk post told (Goes more) q l next head tail h w g = quiet_walks (Runs (Opens Dequeues) more) q l next head tail refl
+resumed_walks (Opens Dequeues) base desk post told (Goes more) q l next head tail h w g = record { stood = λ h e. cc; heads = λ h e k. cc; follows = λ h link e. cc; some = λ h link e. cc; leads = λ h e k. cc; blank = λ s e. cc; items = refl; loads = tt }
 resumed_walks (Opens Dequeues) base desk post told (Ends ending) q l next head tail h w g = dequeue_opens ending post desk told q l next head tail (λ slot era e. g.heads slot era refl (ap Ends e)) (λ slot era e. g.leads slot era refl (ap Ends e))
 resumed_walks (FollowsHead parent last) base desk post told (Goes more) q l next head tail h w g = record { stood = w.stood; heads = w.heads; follows = λ x link e. cc; some = λ x link e. cc; leads = w.leads; blank = λ s e. cc; items = refl; loads = g.loads parent last more refl refl }
 resumed_walks (FollowsHead parent last) base desk post told (Ends ending) q l next head tail h w g = follow_ends_walks parent last base ending post desk told q l next head tail w (λ slot e. g.follows parent last slot refl (ap Ends e))

@@ -53,6 +53,8 @@ use Rattle.wfe_rows.proofs.Fits.{MoveFits, phase_fits, is_calm, calm_made}
 use Rattle.wfe_rows.proofs.Quiet.{phase_of, is_quiet, quiet_walks, clearing_quiet, clearing_next_quiet, change_quiet, scan_quiet, get_quiet, round_quiet}
 use Rattle.wfe_rows.proofs.Own.{is_linking, is_write, base_links, Left, fills_none, resumed_walks, takes_walks, writes_walks}
 use Rattle.wfe_core.specs.Phases.{Goes}
+use Rattle.wfe_rows.specs.Queue.{stands_on}
+use Rattle.wfe_rows.specs.Chain.{Both}
 use Rattle.wfe_rows.specs.Follow.{LoadsBase, WhyLoads}
 use Rattle.wfe_rows.proofs.Follow.{OutLoads, base_loads, base_follows, follow_begins}
 use Rattle.wfe_core.specs.Rounds.{scheme_of}
@@ -474,33 +476,41 @@ walks_at i k v l mem old new false e p q = q e
 abbrev SlotsOf : World → ℕ
 SlotsOf w = w.layout.config.slots
 
-far_of : (w : World) (i k : ℕ) (v : View) (l : Line) (phase : Phase) → QueueNeeds w i v l → (w.seat i).phase ≡ phase → (found : ℕ) → Far (line_move phase found) (w.seat k).phase
-far_of w i k v l Idle n e found = tt
-far_of w i k v l (Runs why base) n e found = tt
-far_of w i k v l (Scans later (ReadGuard number)) n e found = tt
-far_of w i k v l (Scans later (GiveBack place slot)) n e found = n.backs later place slot k e
-far_of w i k v l (Works (Getting key at)) n e found = tt
-far_of w i k v l (Works (Changing kept at)) n e found = tt
-far_of w i k v l (Works (Enqueuing kept LoadNumber)) n e found = tt
-far_of w i k v l (Works (Enqueuing kept LoadNext)) n e found = tt
-far_of w i k v l (Works (Enqueuing kept (PassTail next))) n e found = tt
-far_of w i k v l (Works (Enqueuing kept (ExchangeNext slot))) n e found = far_joins kept.tail slot (w.seat k).phase (found == 0)
-far_of w i k v l (Works (Enqueuing kept (ExchangeTail slot))) n e found = tt
-far_of w i k v l (Works (Dequeuing at)) n e found = tt
+-- no seat works on a row that is given back: so of the phase that stands, whatever it finds
+pub far_by : (phase other : Phase) (found : ℕ) → ((later : AfterScan) (place slot : ℕ) → phase ≡ Scans later (GiveBack place slot) → stands_on other slot ≡ false) → Far (line_move phase found) other
+far_by Idle other found f = tt
+far_by (Runs why base) other found f = tt
+far_by (Scans later (ReadGuard number)) other found f = tt
+far_by (Scans later (GiveBack place slot)) other found f = f later place slot refl
+far_by (Works (Getting key at)) other found f = tt
+far_by (Works (Changing kept at)) other found f = tt
+far_by (Works (Enqueuing kept LoadNumber)) other found f = tt
+far_by (Works (Enqueuing kept LoadNext)) other found f = tt
+far_by (Works (Enqueuing kept (PassTail next))) other found f = tt
+far_by (Works (Enqueuing kept (ExchangeNext slot))) other found f = far_joins kept.tail slot other (found == 0)
+far_by (Works (Enqueuing kept (ExchangeTail slot))) other found f = tt
+far_by (Works (Dequeuing at)) other found f = tt
+
+-- the queue after a step of the World
+pub world_went : (w : World) (i : ℕ) (v : View) (l : Line) → QueueNeeds w i v l → Both w v l → Went i v (rows_after w i v) l (line_move (w.seat i).phase (finds w i)) w.mem (step w i).mem (turn (w.seat i) (finds w i))
+world_went w i v l n b =
+    let own : Local = w.seat i in
+    let needs : RowsNeeds w i v = queue_needs (SlotsOf w) w.mem v l own.phase (λ base. (machine.after base (counted own.post) (finds w i)).outcome) (finds w i) n.own b.rows.words.head b.queue.line (b.queue.walks i) in
+    let fits : MoveFits i v (row_move own.phase own.post (finds w i)) = phase_fits (SlotsOf w) i w.mem v own.phase own.post own.desk.list needs b.rows.good b.rows.words (b.rows.plays i) in
+    phase_went (SlotsOf w) i w.mem v l own.phase own.post (counted own.post) own.desk n.own b.rows.good b.rows.words (b.rows.plays i) fits b.queue.line (b.queue.walks i)
 
 pub queue_kept : QueueKept
 queue_kept w i v l n b =
     let own : Local = w.seat i in
     let needs : RowsNeeds w i v = queue_needs (SlotsOf w) w.mem v l own.phase (λ base. (machine.after base (counted own.post) (finds w i)).outcome) (finds w i) n.own b.rows.words.head b.queue.line (b.queue.walks i) in
-    let fits : MoveFits i v (row_move own.phase own.post (finds w i)) = phase_fits (SlotsOf w) i w.mem v own.phase own.post own.desk.list needs b.rows.good b.rows.words (b.rows.plays i) in
     let t : CallTurn = turn own (finds w i) in
-    let went : Went i v (rows_after w i v) l (line_move own.phase (finds w i)) w.mem (step w i).mem (turn own (finds w i)) = phase_went (SlotsOf w) i w.mem v l own.phase own.post (counted own.post) own.desk n.own b.rows.good b.rows.words (b.rows.plays i) fits b.queue.line (b.queue.walks i) in
+    let went : Went i v (rows_after w i v) l (line_move own.phase (finds w i)) w.mem (step w i).mem (turn own (finds w i)) = world_went w i v l n b in
     let P : Phase → Type 0 = λ y. WalksIn y (rows_after w i v) (line_after w i l) (step w i).mem in
     record {
       rows = rows_kept w i v needs b.rows;
       queue = record {
         line = went.line;
-        walks = λ k. walks_at i k (rows_after w i v) (line_after w i l) (step w i).mem (w.seat k) (settled own t) (k == i) refl (subst P (settled_phase own t.post (noting t.desk (told_by t)) (rounds_told own.rounds (told_by t)) t.outcome) went.own) (λ e. went.others (w.seat k).phase (b.queue.walks k) (far_of w i k v l own.phase n refl (finds w i)) (others_of (SlotsOf w) k i v l w.mem (w.seat k).phase (w.seat k).desk.list e b.rows.good (b.rows.plays k) b.queue.line));
+        walks = λ k. walks_at i k (rows_after w i v) (line_after w i l) (step w i).mem (w.seat k) (settled own t) (k == i) refl (subst P (settled_phase own t.post (noting t.desk (told_by t)) (rounds_told own.rounds (told_by t)) t.outcome) went.own) (λ e. went.others (w.seat k).phase (b.queue.walks k) (far_by own.phase (w.seat k).phase (finds w i) (λ later place slot q. n.backs later place slot k q)) (others_of (SlotsOf w) k i v l w.mem (w.seat k).phase (w.seat k).desk.list e b.rows.good (b.rows.plays k) b.queue.line));
       };
     }
 
@@ -509,7 +519,7 @@ holding_quiet : (key : ℕ) (post : Post) (x : Option ℕ) → is_quiet (holding
 holding_quiet key post None = round_quiet (Holds key) post
 holding_quiet key post (Some slot) = refl
 
-first_quiet : (call : Call) (post : Post) → is_quiet (first_phase call post) ≡ true
+pub first_quiet : (call : Call) (post : Post) → is_quiet (first_phase call post) ≡ true
 first_quiet (names.Get key) post = round_quiet (Gets key) post
 first_quiet (names.Put key value) post = round_quiet (Changes _) post
 first_quiet (names.Remove key) post = round_quiet (Changes _) post

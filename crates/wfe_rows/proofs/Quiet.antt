@@ -1,4 +1,13 @@
 -- Phases in which a call has found nothing of the queue, and the turns that lead to them.
+use Rattle.std.proofs.Common.{◌&&◌}
+use Rattle.wfe_words.specs.declared.config.SchemeKind.{SchemeKind}
+use Rattle.wfe_words.specs.declared.config.SchemeKind.TheVariants.{He, Ibr, Wfe}
+use Rattle.wfe_defs.specs.declared.event.Root.{Root}
+use Rattle.wfe_core.specs.Phases.{BeginAt, ProtectAt}
+use Rattle.wfe_core.specs.Phases.BeginAt.{LoadLower}
+use Rattle.wfe_core.specs.Phases.ProtectAt.{LoadClock, PublishEra, LoadLink, CheckClock, PublishRequest, LoadOwnClock, PublishHelper, LoadOwnLink, CheckOwnClock, AnswerOwn, LoadAnswer, TakeAnswer, WithdrawRequest, WithdrawHelper, LoadWithin, CheckUpper, RaiseUpper}
+use Rattle.wfe_core.specs.Phases.Base.{Begin, Protect, Reload, Clear, Finish, Release, Allocate, Write, GiveUp, Retire, Move}
+use Rattle.wfe_rows.specs.Tries.{is_alone, is_tail, is_head}
 use Rattle.std.proofs.Common.{ℕ, ◌+◌, ◌%◌, ◌≡◌, Bool, true, false, refl, List, [], ◌∷◌, ◌++◌, length}
 use Rattle.std.specs.Prelude.{◌==◌, nat_lt, Option, Some, None}
 use Rattle.wfe_defs.specs.declared.call.Answer.{Answer}
@@ -32,18 +41,58 @@ quiet_task (Holds key) = true
 quiet_task (Enqueues kept) = false
 quiet_task Dequeues = true
 
-abbrev pub quiet_why : Why → Bool
-quiet_why (Opens task) = true
-quiet_why (FollowsHead head tail) = false
-quiet_why (Fills task) = quiet_task task
-quiet_why (ClearsNext next) = true
-quiet_why (Clears task next) = true
-quiet_why (Finishes task next) = true
-quiet_why (GivesUp answer) = true
-quiet_why (Retires answer) = true
-quiet_why (Tidies later) = true
-quiet_why Advances = true
-quiet_why (Releases key) = true
+abbrev pub at_starts : ProtectAt → Bool
+at_starts (LoadClock tries) = true
+at_starts (PublishEra era tries) = false
+at_starts (LoadLink era tries) = false
+at_starts (CheckClock era tries link) = false
+at_starts PublishRequest = false
+at_starts LoadOwnClock = false
+at_starts (PublishHelper first era last) = false
+at_starts (LoadOwnLink first era last) = false
+at_starts (CheckOwnClock first era last link) = false
+at_starts (AnswerOwn first era link) = false
+at_starts (LoadAnswer first) = false
+at_starts (TakeAnswer link era) = false
+at_starts (WithdrawRequest link era) = false
+at_starts (WithdrawHelper link era) = false
+at_starts LoadWithin = true
+at_starts (CheckUpper link) = false
+at_starts (RaiseUpper era) = false
+
+-- a protection of such a root begins
+abbrev pub starts_by : (Root → Bool) → Base → Bool
+starts_by wanted (Begin at) = true
+starts_by wanted (Protect aim index root steps at) = is_alone aim && (wanted root && at_starts at)
+starts_by wanted (Reload parent index slot era steps) = false
+starts_by wanted (Clear index) = false
+starts_by wanted Finish = false
+starts_by wanted Release = false
+starts_by wanted (Allocate at) = false
+starts_by wanted (Write slot row place) = false
+starts_by wanted (GiveUp slot) = false
+starts_by wanted (Retire at) = false
+starts_by wanted (Move at) = false
+
+abbrev pub task_starts : Task → Base → Bool
+task_starts (Gets key) base = true
+task_starts (Changes kept) base = true
+task_starts (Holds key) base = true
+task_starts (Enqueues kept) base = starts_by is_tail base
+task_starts Dequeues base = starts_by is_head base
+
+abbrev pub quiet_why : Why → Base → Bool
+quiet_why (Opens task) base = task_starts task base
+quiet_why (FollowsHead head tail) base = false
+quiet_why (Fills task) base = quiet_task task
+quiet_why (ClearsNext next) base = true
+quiet_why (Clears task next) base = true
+quiet_why (Finishes task next) base = true
+quiet_why (GivesUp answer) base = true
+quiet_why (Retires answer) base = true
+quiet_why (Tidies later) base = true
+quiet_why Advances base = true
+quiet_why (Releases key) base = true
 
 abbrev pub quiet_work : Work → Bool
 quiet_work (Getting key at) = true
@@ -54,7 +103,7 @@ quiet_work (Dequeuing at) = false
 -- the phase has found nothing of the queue
 abbrev pub is_quiet : Phase → Bool
 is_quiet Idle = true
-is_quiet (Runs why base) = quiet_why why
+is_quiet (Runs why base) = quiet_why why base
 is_quiet (Scans later at) = true
 is_quiet (Works work) = quiet_work work
 
@@ -89,12 +138,36 @@ quiet_walks (Works (Changing kept at)) q l next head tail h = record { stood = �
 quiet_walks (Works (Enqueuing kept at)) q l next head tail h = absurd (cc)
 quiet_walks (Works (Dequeuing at)) q l next head tail h = absurd (cc)
 
-round_by_quiet : (task : Task) (post : Post) (x : Option Base) → is_quiet (round_by task post x) ≡ true
-round_by_quiet task post None = refl
-round_by_quiet task post (Some base) = refl
+starts_at : (scheme : SchemeKind) → at_starts (rounds.protect_at scheme) ≡ true
+starts_at He = refl
+starts_at Ibr = refl
+starts_at Wfe = refl
+
+pub opening_quiet : (task : Task) (post : Post) → is_quiet (rounds.opening task post) ≡ true
+opening_quiet (Gets key) post = refl
+opening_quiet (Changes kept) post = refl
+opening_quiet (Holds key) post = refl
+opening_quiet (Enqueues kept) post = starts_at (scheme_of post)
+opening_quiet Dequeues post = starts_at (scheme_of post)
+
+begins_quiet : (task : Task) (at : BeginAt) → is_quiet (Runs (Opens task) (Begin at)) ≡ true
+begins_quiet (Gets key) at = refl
+begins_quiet (Changes kept) at = refl
+begins_quiet (Holds key) at = refl
+begins_quiet (Enqueues kept) at = refl
+begins_quiet Dequeues at = refl
+
+span_round : (task : Task) (post : Post) (x : Option Interval) → is_quiet (round_by task post (rounds.begin_span x)) ≡ true
+span_round task post None = begins_quiet task LoadLower
+span_round task post (Some span) = opening_quiet task post
+
+scheme_round : (task : Task) (post : Post) (scheme : SchemeKind) → is_quiet (round_by task post (begin_base scheme post)) ≡ true
+scheme_round task post He = opening_quiet task post
+scheme_round task post Ibr = span_round task post post.span
+scheme_round task post Wfe = opening_quiet task post
 
 pub round_quiet : (task : Task) (post : Post) → is_quiet (round task post) ≡ true
-round_quiet task post = round_by_quiet task post (begin_base (scheme_of post) post)
+round_quiet task post = scheme_round task post (scheme_of post)
 
 given_up_quiet : (answer : Answer) (post : Post) (desk : Desk) (told : List Event) (x : Option ℕ) → Quiet (given_up answer post desk told x)
 given_up_quiet answer post desk told None = refl

@@ -5,3 +5,4 @@ pub mod Follow
 pub mod Hands
 pub mod Queue
 pub mod Rows
+pub mod Tries

@@ -4,7 +4,8 @@
 
 ghost use Rattle.wfe_rows.specs.Agree.{RowsBegin, RowsKept, RowsStart};
 ghost use Rattle.wfe_rows.specs.Chain.{QueueBegin, QueueKept, QueueStart};
-ghost use Rattle.wfe_rows.specs.Facts.{QueueShows, RowsShow};
+ghost use Rattle.wfe_rows.specs.Facts.{LinedStays, QueueEnds, QueueShows, RowWordsStay, RowsShow};
+ghost use Rattle.wfe_rows.specs.Tries.{WholeBegin, WholeKept, WholeStart};
 
 /// At the start of a table with a valid setting every row is free but the dummy, which is the
 /// queue's head.
@@ -50,4 +51,39 @@ pub fn rows_show()
 /// What the rows need of the queue follows from it.
 pub fn queue_shows()
     ensures { QueueShows }
+{}
+
+/// A row that was in the queue since it was claimed last stays so over each step that does not give
+/// it back. If it was the head or cut it is so still, and its next link, once not null, stays.
+pub fn lined_stays()
+    ensures { LinedStays }
+{}
+
+/// The head and the tail lead to rows of the queue.
+pub fn queue_ends()
+    ensures { QueueEnds }
+{}
+
+/// The words of a row, but for its next link, are changed by no step but those of the seat that has
+/// the row in hand and has not linked it.
+pub fn row_words_stay()
+    ensures { RowWordsStay }
+{}
+
+/// At the start the rows, the queue and the protections of its ends are known.
+pub fn whole_start()
+    ensures { WholeStart }
+{}
+
+/// The beginning of a call keeps all of it.
+pub fn whole_begin()
+    ensures { WholeBegin }
+{}
+
+/// Each step of a seat keeps all of it: the rows, the queue, and that what a protection of the
+/// queue's tail or head has found was in the queue since it was claimed last. Of other parts the
+/// step needs eras and walks in range, that no row is given back which a guard covers, and what the
+/// answers to requests lead to.
+pub fn whole_kept()
+    ensures { WholeKept }
 {}
