@@ -1,6 +1,7 @@
 mod Before
 mod Begun
 mod Fresh
+mod Guards
 mod Held
 mod Kept
 mod Rows

@@ -4,7 +4,8 @@ use Rattle.wfe_words.specs.Place.Place.{Clock, Tail, Row}
 use Rattle.wfe_words.specs.declared.config.SchemeKind.{SchemeKind}
 use Rattle.wfe_words.specs.declared.config.SchemeKind.TheVariants.{He, Ibr, Wfe}
 use Rattle.wfe_defs.specs.declared.event.Guard.{Guard}
-use Rattle.wfe_defs.specs.declared.event.Guard.TheVariants.{Index, Whole}
+use Rattle.wfe_defs.specs.declared.event.Guard.TheVariants.{Helper, Index, Whole}
+use Rattle.wfe_words.specs.declared.config.Config.{Config}
 use Rattle.wfe_defs.specs.declared.event.Root.{Root}
 use Rattle.wfe_defs.specs.declared.event.Root.TheVariants as roots
 use Rattle.wfe_core.specs.declared.post.Post.{Post}
@@ -226,3 +227,20 @@ StandingStays =
     → Held w v
     → stands (w.seat k).post j ≡ Some slot
     → takes_or_frees (row_move (w.seat i).phase (w.seat i).post (finds w i)) slot ≡ false
+
+-- a scan reads the guard of each index of each seat, and under Wait-Free Eras each helper word
+abbrev pub GuardsFit : Type 0
+GuardsFit = (config : Config) (k j : ℕ) → k < config.seats → j < config.indexes → GuardFits config (own_guard config.scheme k j)
+
+abbrev pub HelpersFit : Type 0
+HelpersFit = (config : Config) (k : ℕ) → is_wfe config.scheme ≡ true → k < config.seats → GuardFits config (Helper k)
+
+-- what a helper word covers, any index word covers that publishes the same: a scan reads helper words first
+abbrev pub HandedCovers : Type 0
+HandedCovers =
+    (w : World) (v : View) (m k j slot : ℕ)
+    → is_wfe w.layout.config.scheme ≡ true
+    → m < w.layout.config.seats
+    → shown w (Index k j) ≡ shown w (Helper m)
+    → Covers w v (Helper m) slot
+    → Covers w v (Index k j) slot

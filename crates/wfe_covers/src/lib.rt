@@ -3,7 +3,7 @@
 #![tactic(auto)]
 
 ghost use Rattle.wfe_covers.specs.Covers.{CoversKept, NotReused, ScansBegin, ScansKept, ScansStart};
-ghost use Rattle.wfe_covers.specs.Held.{HeldBegin, HeldKept, HeldStart, StandingStays};
+ghost use Rattle.wfe_covers.specs.Held.{GuardsFit, HandedCovers, HeldBegin, HeldKept, HeldStart, HelpersFit, StandingStays};
 
 /// A row that a guard covers stays covered by it over each step of any seat that does not take from
 /// what the guard publishes: the row's life meets the guard's interval, and each scan that has the
@@ -37,4 +37,13 @@ pub fn rows_are_held()
 /// Where a row stands at an index of a seat, no step of any seat makes it free, and none claims it.
 pub fn standing_rows_stay()
     ensures { StandingStays }
+{}
+
+/// A scan reads the guard of each index of each seat of the table, under its number, and under
+/// Wait-Free Eras each helper word, before all index words: what a helper word covers an index word
+/// covers that publishes the same.
+pub fn guards_are_read()
+    ensures own { GuardsFit }
+    ensures helpers { HelpersFit }
+    ensures handed { HandedCovers }
 {}

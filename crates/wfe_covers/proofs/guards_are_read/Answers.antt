@@ -1,0 +1,11 @@
+use Rattle.wfe_covers.proofs.Guards.{guards_fit, helpers_fit, handed_covers}
+use Rattle.wfe_covers.proofs.guards_are_read.Goals as goal
+
+pub returns-clause-own : goal.returns-clause-own
+returns-clause-own c = guards_fit
+
+pub returns-clause-helpers : goal.returns-clause-helpers
+returns-clause-helpers c = helpers_fit
+
+pub returns-clause-handed : goal.returns-clause-handed
+returns-clause-handed c = handed_covers
