@@ -4,9 +4,12 @@ mod Fresh
 mod Guards
 mod Held
 mod Kept
+mod Resting
+mod Rests
 mod Rows
 mod Scans
 mod Stands
 mod Stood
 mod Tried
+mod Vacant
 mod Words

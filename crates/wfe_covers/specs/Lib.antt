@@ -1,3 +1,4 @@
 pub mod Covers
 pub mod Held
+pub mod Rests
 pub mod Tries

@@ -4,6 +4,7 @@
 
 ghost use Rattle.wfe_covers.specs.Covers.{CoversKept, NotReused, ScansBegin, ScansKept, ScansStart};
 ghost use Rattle.wfe_covers.specs.Held.{GuardsFit, HandedCovers, HeldBegin, HeldKept, HeldStart, HelpersFit, StandingStays};
+ghost use Rattle.wfe_covers.specs.Rests.{RestsBegin, RestsGive, RestsKept, RestsStart};
 
 /// A row that a guard covers stays covered by it over each step of any seat that does not take from
 /// what the guard publishes: the row's life meets the guard's interval, and each scan that has the
@@ -46,4 +47,13 @@ pub fn guards_are_read()
     ensures own { GuardsFit }
     ensures helpers { HelpersFit }
     ensures handed { HandedCovers }
+{}
+
+/// Under Hazard Eras and 2GE nothing stands at an index whose guard publishes something else in the
+/// next step, from the start on, and over every step and every call that begins.
+pub fn guards_rest()
+    ensures start { RestsStart }
+    ensures begin { RestsBegin }
+    ensures step { RestsKept }
+    ensures gives { RestsGive }
 {}
