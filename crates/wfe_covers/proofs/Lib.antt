@@ -1,9 +1,11 @@
 mod Before
 mod Begun
+mod Following
 mod Fresh
 mod Guards
 mod Held
 mod Kept
+mod Parents
 mod Resting
 mod Rests
 mod Rows

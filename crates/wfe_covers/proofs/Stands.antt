@@ -7,10 +7,10 @@ use Rattle.wfe_core.specs.declared.post.Post.{Post}
 use Rattle.wfe_core.specs.Posts.{stands, with_row, withdrawn}
 use Rattle.wfe_covers.specs.Tries.{Shrinks}
 
-with_row_other : (post : Post) (index slot other : ℕ) → other ≢ index → stands (with_row post index slot) other ≡ stands post other
+pub with_row_other : (post : Post) (index slot other : ℕ) → other ≢ index → stands (with_row post index slot) other ≡ stands post other
 with_row_other post index slot other h = grind (arith, common_steps)
 
-with_row_same : (post : Post) (index slot : ℕ) → index < length post.standing → stands (with_row post index slot) index ≡ Some slot
+pub with_row_same : (post : Post) (index slot : ℕ) → index < length post.standing → stands (with_row post index slot) index ≡ Some slot
 with_row_same post index slot h = grind (arith, common_steps)
 
 pub withdrawn_same : (post : Post) (index : ℕ) → stands (withdrawn post index) index ≡ None

@@ -4,6 +4,7 @@
 
 ghost use Rattle.wfe_covers.specs.Covers.{CoversKept, NotReused, ScansBegin, ScansKept, ScansStart};
 ghost use Rattle.wfe_covers.specs.Held.{GuardsFit, HandedCovers, HeldBegin, HeldKept, HeldStart, HelpersFit, StandingStays};
+ghost use Rattle.wfe_covers.specs.Parents.{ParentsBegin, ParentsGive, ParentsKept, ParentsStart};
 ghost use Rattle.wfe_covers.specs.Rests.{RestsBegin, RestsGive, RestsKept, RestsStart};
 
 /// A row that a guard covers stays covered by it over each step of any seat that does not take from
@@ -56,4 +57,13 @@ pub fn guards_rest()
     ensures begin { RestsBegin }
     ensures step { RestsKept }
     ensures gives { RestsGive }
+{}
+
+/// Under Hazard Eras and 2GE the row whose next link is followed stands at index 0, from the start on,
+/// and over every step and every call that begins.
+pub fn followed_rows_stand()
+    ensures start { ParentsStart }
+    ensures begin { ParentsBegin }
+    ensures step { ParentsKept }
+    ensures gives { ParentsGive }
 {}
