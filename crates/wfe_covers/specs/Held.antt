@@ -10,7 +10,7 @@ use Rattle.wfe_defs.specs.declared.event.Root.{Root}
 use Rattle.wfe_defs.specs.declared.event.Root.TheVariants as roots
 use Rattle.wfe_core.specs.declared.post.Post.{Post}
 use Rattle.wfe_core.specs.Guards.{from_to}
-use Rattle.wfe_core.specs.Links.{parent_of}
+use Rattle.wfe_core.specs.Links.{link_place, parent_of}
 use Rattle.wfe_core.specs.Posts.{stands, upper}
 use Rattle.wfe_core.specs.Phases.{Aim, Follows, Tries, ProtectAt, Base}
 use Rattle.wfe_core.specs.Phases.ProtectAt.{LoadClock, PublishEra, LoadLink, CheckClock, PublishRequest, LoadOwnClock, PublishHelper, LoadOwnLink, CheckOwnClock, AnswerOwn, LoadAnswer, TakeAnswer, WithdrawRequest, WithdrawHelper, LoadWithin, CheckUpper, RaiseUpper}
@@ -22,7 +22,7 @@ use Rattle.wfe_defs.specs.declared.call.Call.{Call}
 use Rattle.wfe_rows.specs.Hands.{row_move}
 use Rattle.wfe_rows.specs.Rows.{Status, View}
 use Rattle.wfe_rows.specs.Rows.Status.{Free, Claimed, Born, Linked, InQueue, Cut, Sealed, Listed}
-use Rattle.wfe_rows.specs.Agree.{rows_after}
+use Rattle.wfe_rows.specs.Agree.{Agree, rows_after}
 use Rattle.wfe_eras.specs.Frame.{is_ibr}
 use Rattle.wfe_eras.specs.Seats.{is_wfe, base_fits}
 use Rattle.wfe_covers.specs.Covers.{is_past, shown, takes_or_frees, GuardFits, Covers, CoversNeeds, Scanning}
@@ -180,16 +180,33 @@ pub record BaseNeeds (w : World) (i : ℕ) (base : Base) : Type 0 where
   pub published : (aim : Aim) (index : ℕ) (root : Root) (steps era : ℕ) (tries : Tries) → base ≡ Protect aim index root steps (LoadLink era tries)
       → shown w (Index i index) ≡ from_to era era
 
+-- what is needed of the other parts where a link is loaded: what is known of the rows; births are at most the clock; the
+-- tail's row is in the queue, and so is the row after one that is
+pub record RootsNeeds (w : World) (v : View) : Type 0 where
+  pub rows : Agree w v
+  pub births : (s : ℕ) → is_past (v.status s) ≡ true → v.birth s ≤ w.mem Clock
+  pub tail : (s : ℕ) → w.mem Tail ≡ s + 1 → v.status s ≡ InQueue
+  pub nexts : (p s : ℕ) → v.status p ≡ InQueue → w.mem (Row p 0) ≡ s + 1 → v.status s ≡ InQueue
+
+-- the row of a link that is loaded is covered by each guard that publishes an interval up to the clock, where the link is
+-- a root, or the next link of a row that is still in the queue
+abbrev pub LoadsCover : Type 0
+LoadsCover =
+    (w : World) (v : View) (guard : Guard) (root : Root) (lo hi slot : ℕ)
+    → RootsNeeds w v
+    → shown w guard ≡ from_to lo hi
+    → w.mem Clock ≤ hi
+    → w.mem (link_place root) ≡ slot + 1
+    → under v.status root ≡ true
+    → Covers w v guard slot
+
 -- what a step needs of the other parts
 pub record HeldNeeds (w : World) (i : ℕ) (v : View) : Type 0 where
   pub covers : CoversNeeds w i v
   pub scans : Scanning w
   pub seat : (w.seat i).post.seat ≡ i
   pub base : (why : Why) (base : Base) → (w.seat i).phase ≡ Runs why base → BaseNeeds w i base
-  -- births are at most the clock; the tail's row is in the queue, and so is the row after one that is
-  pub births : (s : ℕ) → is_past (v.status s) ≡ true → v.birth s ≤ w.mem Clock
-  pub tail : (s : ℕ) → w.mem Tail ≡ s + 1 → v.status s ≡ InQueue
-  pub nexts : (p s : ℕ) → v.status p ≡ InQueue → w.mem (Row p 0) ≡ s + 1 → v.status s ≡ InQueue
+  pub roots : RootsNeeds w v
   -- under 2GE an interval word has the seat's interval, before and after the step
   pub spans : is_ibr w.layout.config.scheme ≡ true → shown w (Whole i) ≡ (w.seat i).post.span
   pub spans_next : is_ibr w.layout.config.scheme ≡ true → shown (step w i) (Whole i) ≡ ((step w i).seat i).post.span

@@ -3,7 +3,7 @@
 #![tactic(auto)]
 
 ghost use Rattle.wfe_covers.specs.Covers.{CoversKept, NotReused, ScansBegin, ScansKept, ScansStart};
-ghost use Rattle.wfe_covers.specs.Held.{GuardsFit, HandedCovers, HeldBegin, HeldKept, HeldStart, HelpersFit, StandingStays};
+ghost use Rattle.wfe_covers.specs.Held.{GuardsFit, HandedCovers, HeldBegin, HeldKept, HeldStart, HelpersFit, LoadsCover, StandingStays};
 ghost use Rattle.wfe_covers.specs.Parents.{ParentsBegin, ParentsGive, ParentsKept, ParentsStart};
 ghost use Rattle.wfe_covers.specs.Rests.{RestsBegin, RestsGive, RestsKept, RestsStart};
 
@@ -66,4 +66,10 @@ pub fn followed_rows_stand()
     ensures begin { ParentsBegin }
     ensures step { ParentsKept }
     ensures gives { ParentsGive }
+{}
+
+/// The row of a link that is loaded is covered by each guard that publishes an interval up to the
+/// clock, under every scheme: where the link is a root, or the next link of a row in the queue.
+pub fn loads_cover()
+    ensures { LoadsCover }
 {}
