@@ -15,7 +15,10 @@ use Rattle.wfe_core.specs.Desks.{Report}
 use Rattle.wfe_core.specs.Calls.{Phase}
 use Rattle.wfe_eras.specs.Seats.{is_wfe}
 use Rattle.wfe_covers.specs.Covers.{has_met, number_by, life_of}
-use Rattle.wfe_covers.specs.Held.{own_guard, GuardsFit, HelpersFit, HandedCovers}
+use Rattle.wfe_core.specs.World.{step}
+use Rattle.wfe_rows.specs.Agree.{rows_after}
+use Rattle.wfe_covers.proofs.Kept.{covers_kept}
+use Rattle.wfe_covers.specs.Held.{own_guard, GuardsFit, HelpersFit, HandedCovers, HandedKept}
 
 record Fits (scheme : SchemeKind) (config : Config) (guard : Guard) : Type 0 where
   below : number_by scheme config guard < guards_by scheme config
@@ -67,3 +70,7 @@ handed_covers w v m k j slot f b e c = record {
   spans = rw e c.spans;
   scans = λ i r h. met_later (guards w.layout.config) (number_by w.layout.config.scheme w.layout.config (Helper m)) (number_by w.layout.config.scheme w.layout.config (Index k j)) (w.seat i).phase (w.seat i).desk.report (life_of slot (v.birth slot) r) (helpers_first w.layout.config.scheme w.layout.config m k j f b) (c.scans i r h);
 }
+
+pub handed_kept : HandedKept
+handed_kept w i v m k j slot f n u b d e c =
+    handed_covers (step w i) (rows_after w i v) m k j slot f b e (covers_kept w i v (Helper m) slot n u (helpers_fit w.layout.config m f b) d c)

@@ -25,7 +25,7 @@ use Rattle.wfe_rows.specs.Rows.Status.{Free, Claimed, Born, Linked, InQueue, Cut
 use Rattle.wfe_rows.specs.Agree.{Agree, rows_after}
 use Rattle.wfe_eras.specs.Frame.{is_ibr}
 use Rattle.wfe_eras.specs.Seats.{is_wfe, base_fits}
-use Rattle.wfe_covers.specs.Covers.{is_past, shown, takes_or_frees, GuardFits, Covers, CoversNeeds, Scanning}
+use Rattle.wfe_covers.specs.Covers.{is_past, Widens, shown, takes_or_frees, GuardFits, Covers, CoversNeeds, Scanning}
 
 -- the guard of a seat's index: its own word, or under 2GE the seat's interval word
 abbrev pub own_guard : SchemeKind → ℕ → ℕ → Guard
@@ -261,3 +261,17 @@ HandedCovers =
     → shown w (Index k j) ≡ shown w (Helper m)
     → Covers w v (Helper m) slot
     → Covers w v (Index k j) slot
+
+-- the same over the step that stores or exchanges the index word: what the helper word of a seat covered before, the index
+-- word covers after
+abbrev pub HandedKept : Type 0
+HandedKept =
+    (w : World) (i : ℕ) (v : View) (m k j slot : ℕ)
+    → is_wfe w.layout.config.scheme ≡ true
+    → CoversNeeds w i v
+    → Scanning w
+    → m < w.layout.config.seats
+    → Widens (shown w (Helper m)) (shown (step w i) (Helper m))
+    → shown (step w i) (Index k j) ≡ shown (step w i) (Helper m)
+    → Covers w v (Helper m) slot
+    → Covers (step w i) (rows_after w i v) (Index k j) slot

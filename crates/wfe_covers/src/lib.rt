@@ -3,7 +3,7 @@
 #![tactic(auto)]
 
 ghost use Rattle.wfe_covers.specs.Covers.{CoversKept, NotReused, ScansBegin, ScansKept, ScansStart};
-ghost use Rattle.wfe_covers.specs.Held.{GuardsFit, HandedCovers, HeldBegin, HeldKept, HeldStart, HelpersFit, LoadsCover, StandingStays};
+ghost use Rattle.wfe_covers.specs.Held.{GuardsFit, HandedCovers, HandedKept, HeldBegin, HeldKept, HeldStart, HelpersFit, LoadsCover, StandingStays};
 ghost use Rattle.wfe_covers.specs.Parents.{ParentsBegin, ParentsGive, ParentsKept, ParentsStart};
 ghost use Rattle.wfe_covers.specs.Rests.{RestsBegin, RestsGive, RestsKept, RestsStart};
 
@@ -48,6 +48,7 @@ pub fn guards_are_read()
     ensures own { GuardsFit }
     ensures helpers { HelpersFit }
     ensures handed { HandedCovers }
+    ensures kept { HandedKept }
 {}
 
 /// Under Hazard Eras and 2GE nothing stands at an index whose guard publishes something else in the
