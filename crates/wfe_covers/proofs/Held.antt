@@ -41,7 +41,7 @@ use Rattle.wfe_eras.specs.Seats.{is_wfe, protect_fits, base_fits}
 use Rattle.wfe_eras.proofs.Frame.{seat_stays, seat_steps}
 use Rattle.wfe_covers.specs.Covers.{is_past, spans, shown, Covers, Widens}
 use Rattle.wfe_covers.specs.Tries.{is_start, starts_base}
-use Rattle.wfe_covers.specs.Held.{own_guard, is_queued, under, tries_protect, tries_base, index_base, Holds, Held, Followed, follows_row, rests_base, BaseNeeds, HeldNeeds, HeldKept}
+use Rattle.wfe_covers.specs.Held.{own_guard, is_queued, under, tries_protect, tries_base, index_base, Holds, Held, Followed, follows_row, rests_base, BaseNeeds, RootsNeeds, LoadsCover, HeldNeeds, HeldKept}
 use Rattle.wfe_covers.proofs.Fresh.{work_fresh, resume_fresh}
 use Rattle.wfe_covers.proofs.Kept.{covers_kept, before_at, spans_past}
 use Rattle.wfe_covers.proofs.Scans.{scan_shrinks, scan_starts}
@@ -95,21 +95,24 @@ queued_is (Sealed by retire) h = absurd (cc)
 queued_is (Listed by retire) h = absurd (cc)
 
 -- the row of a link that was loaded
-pub root_live : (w : World) (i : ℕ) (v : View) (root : Root) (s : ℕ) → HeldNeeds w i v → w.mem (link_place root) ≡ s + 1 → under v.status root ≡ true → is_live (v.status s) ≡ true
-root_live w i v (roots.Bucket bucket) s n l u = let e : v.status s ≡ Linked bucket = n.covers.rows.good.roots bucket s (sym (n.covers.rows.words.roots bucket) ∙ l) in rw e refl
-root_live w i v roots.Head s n l u = let e : v.status s ≡ InQueue = n.covers.rows.good.queue s (sym n.covers.rows.words.head ∙ l) in rw e refl
-root_live w i v roots.Tail s n l u = let e : v.status s ≡ InQueue = n.tail s l in rw e refl
-root_live w i v (roots.Next parent) s n l u = let e : v.status s ≡ InQueue = n.nexts parent s (queued_is (v.status parent) u) l in rw e refl
+pub root_live : (w : World) (v : View) (root : Root) (s : ℕ) → RootsNeeds w v → w.mem (link_place root) ≡ s + 1 → under v.status root ≡ true → is_live (v.status s) ≡ true
+root_live w v (roots.Bucket bucket) s n l u = let e : v.status s ≡ Linked bucket = n.rows.good.roots bucket s (sym (n.rows.words.roots bucket) ∙ l) in rw e refl
+root_live w v roots.Head s n l u = let e : v.status s ≡ InQueue = n.rows.good.queue s (sym n.rows.words.head ∙ l) in rw e refl
+root_live w v roots.Tail s n l u = let e : v.status s ≡ InQueue = n.tail s l in rw e refl
+root_live w v (roots.Next parent) s n l u = let e : v.status s ≡ InQueue = n.nexts parent s (queued_is (v.status parent) u) l in rw e refl
 
 not_listed : (status : Status) (k r : ℕ) → is_live status ≡ true → status ≡ Listed k r → false ≡ true
 not_listed status k r h e = absurd (cc)
 
 -- a guard that publishes an interval up to the clock covers the row of a link that is loaded
-pub live_covers : (w : World) (i : ℕ) (v : View) (guard : Guard) (lo hi s : ℕ) → HeldNeeds w i v → shown w guard ≡ from_to lo hi → w.mem Clock ≤ hi → is_live (v.status s) ≡ true → Covers w v guard s
-live_covers w i v guard lo hi s n e c l = record {
+pub live_covers : (w : World) (v : View) (guard : Guard) (lo hi s : ℕ) → RootsNeeds w v → shown w guard ≡ from_to lo hi → w.mem Clock ≤ hi → is_live (v.status s) ≡ true → Covers w v guard s
+live_covers w v guard lo hi s n e c l = record {
   spans = rw e (live_spans lo hi (v.birth s) (v.status s) l (let b = n.births s (live_past (v.status s) l) in omega (arith, b, c)));
   scans = λ k r h. absurd (cc_false (not_listed (v.status s) k r l h));
 }
+
+pub loads_cover : LoadsCover
+loads_cover w v guard root lo hi slot n e c l u = live_covers w v guard lo hi slot n e c (root_live w v root slot n l u)
 
 -- what is held stays held
 pub holds_kept : (w : World) (i : ℕ) (v : View) (guard : Guard) (s : ℕ) → HeldNeeds w i v → Widens (shown w guard) (shown (step w i) guard) → Holds w v guard s → Holds (step w i) (rows_after w i v) guard s
@@ -329,7 +332,7 @@ try_not_ibr Wfe most era tries h = refl
 -- the interval reaches up to the clock
 whole_covers : (w : World) (i : ℕ) (v : View) (s : ℕ) → HeldNeeds w i v → (x : Option Interval) → shown w (Whole i) ≡ x → 1 ≤ w.mem Clock → w.mem Clock ≡ upper x → is_live (v.status s) ≡ true → Covers w v (Whole i) s
 whole_covers w i v s n None e o c l = absurd (omega (arith, o, c))
-whole_covers w i v s n (Some span) e o c l = live_covers w i v (Whole i) span.lo span.hi s n e (omega (arith, c)) l
+whole_covers w i v s n (Some span) e o c l = live_covers w v (Whole i) span.lo span.hi s n.roots e (omega (arith, c)) l
 
 -- the link that a try loads is covered by the own guard
 loaded_covers : (w : World) (i : ℕ) (v : View) (why : Why) (aim : Aim) (index : ℕ) (root : Root) (steps : ℕ) (at : ProtectAt) (s : ℕ) → HeldNeeds w i v → (w.seat i).phase ≡ Runs why (Protect aim index root steps at) → is_wfe w.layout.config.scheme ≡ false → loads_link (w.mem Clock) v.status w.mem (w.seat i).post root at s ≡ true
@@ -340,14 +343,14 @@ loaded_covers w i v why aim index root steps (LoadLink era tries) s n e f h =
     let u : under v.status root ≡ true = grind (arith, nat_tests) in
     let c : w.mem Clock ≤ era = grind (arith, nat_tests) in
     let g = he_guard w.layout.config.scheme i index (try_not_ibr w.layout.config.scheme w.layout.config.tries era tries b.fits) in
-    rw g (live_covers w i v (Index i index) era era s n (b.published aim index root steps era tries refl) c (root_live w i v root s n l u))
+    rw g (live_covers w v (Index i index) era era s n.roots (b.published aim index root steps era tries refl) c (root_live w v root s n.roots l u))
 loaded_covers w i v why aim index root steps LoadWithin s n e f h =
     let b = n.base why (Protect aim index root steps LoadWithin) e in
     let l : w.mem (link_place root) ≡ s + 1 = grind (arith, nat_tests) in
     let u : under v.status root ≡ true = grind (arith, nat_tests) in
     let c : w.mem Clock ≡ upper (w.seat i).post.span = grind (arith, nat_tests) in
     let g = ibr_guard w.layout.config.scheme i index b.fits in
-    rw g (whole_covers w i v s n (w.seat i).post.span (n.spans b.fits) n.some c (root_live w i v root s n l u))
+    rw g (whole_covers w i v s n (w.seat i).post.span (n.spans b.fits) n.some c (root_live w v root s n.roots l u))
 loaded_covers w i v why aim index root steps (LoadClock tries) s n e f h = absurd (cc)
 loaded_covers w i v why aim index root steps (PublishEra era tries) s n e f h = absurd (cc)
 loaded_covers w i v why aim index root steps (CheckClock era tries link) s n e f h = absurd (cc)

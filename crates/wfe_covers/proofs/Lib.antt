@@ -1,11 +1,17 @@
 mod Before
 mod Begun
+mod Following
 mod Fresh
+mod Guards
 mod Held
 mod Kept
+mod Parents
+mod Resting
+mod Rests
 mod Rows
 mod Scans
 mod Stands
 mod Stood
 mod Tried
+mod Vacant
 mod Words

@@ -7,16 +7,16 @@ use Rattle.wfe_core.specs.declared.post.Post.{Post}
 use Rattle.wfe_core.specs.Posts.{stands, with_row, withdrawn}
 use Rattle.wfe_covers.specs.Tries.{Shrinks}
 
-with_row_other : (post : Post) (index slot other : ℕ) → other ≢ index → stands (with_row post index slot) other ≡ stands post other
+pub with_row_other : (post : Post) (index slot other : ℕ) → other ≢ index → stands (with_row post index slot) other ≡ stands post other
 with_row_other post index slot other h = grind (arith, common_steps)
 
-with_row_same : (post : Post) (index slot : ℕ) → index < length post.standing → stands (with_row post index slot) index ≡ Some slot
+pub with_row_same : (post : Post) (index slot : ℕ) → index < length post.standing → stands (with_row post index slot) index ≡ Some slot
 with_row_same post index slot h = grind (arith, common_steps)
 
-withdrawn_same : (post : Post) (index : ℕ) → stands (withdrawn post index) index ≡ None
+pub withdrawn_same : (post : Post) (index : ℕ) → stands (withdrawn post index) index ≡ None
 withdrawn_same post index = grind (arith, common_steps)
 
-withdrawn_other : (post : Post) (index other : ℕ) → other ≢ index → stands (withdrawn post index) other ≡ stands post other
+pub withdrawn_other : (post : Post) (index other : ℕ) → other ≢ index → stands (withdrawn post index) other ≡ stands post other
 withdrawn_other post index other h = grind (arith, common_steps)
 
 no_row : (post : Post) (index s : ℕ) → stands (withdrawn post index) index ≡ Some s → false ≡ true

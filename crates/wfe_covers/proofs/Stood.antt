@@ -138,16 +138,16 @@ claim_stood : (birth : ℕ) (walk : Walk) (found : ℕ) (post : Post) (j s : ℕ
 claim_stood birth walk found post j s true e h = walk_stood birth post (walk_past post.layout.config.slots walk found) j s (rw e at h)
 claim_stood birth walk found post j s false e h = rw e at h
 
-allocate_stood : (at : AllocateAt) (found : ℕ) (post : Post) (j s : ℕ) → stands (allocate_turn at post found).post j ≡ Some s → stands post j ≡ Some s
+pub allocate_stood : (at : AllocateAt) (found : ℕ) (post : Post) (j s : ℕ) → stands (allocate_turn at post found).post j ≡ Some s → stands post j ≡ Some s
 allocate_stood LoadBirth found post j s h = h
 allocate_stood (ClaimSlot birth walk) found post j s h = claim_stood birth walk found post j s (is_claimed found walk.slot) refl h
 allocate_stood (StoreLife birth slot) found post j s h = h
 
-write_stood : (slot : ℕ) (row : RowOf) (place : ℕ) (post : Post) (j s : ℕ) (last : Bool) → (place == last_written row) ≡ last → stands (after_write slot row place post).post j ≡ Some s → stands post j ≡ Some s
+pub write_stood : (slot : ℕ) (row : RowOf) (place : ℕ) (post : Post) (j s : ℕ) (last : Bool) → (place == last_written row) ≡ last → stands (after_write slot row place post).post j ≡ Some s → stands post j ≡ Some s
 write_stood slot row place post j s true e h = rw e at h
 write_stood slot row place post j s false e h = rw e at h
 
-retire_stood : (at : RetireAt) (found : ℕ) (post : Post) (j s : ℕ) → stands (retire_turn at post found).post j ≡ Some s → stands post j ≡ Some s
+pub retire_stood : (at : RetireAt) (found : ℕ) (post : Post) (j s : ℕ) → stands (retire_turn at post found).post j ≡ Some s → stands post j ≡ Some s
 retire_stood (LoadLife slot) found post j s h = h
 retire_stood (LoadRetire slot birth) found post j s h = h
 retire_stood (StoreRetired slot birth retire) found post j s h = h
@@ -165,7 +165,7 @@ exchange_stood : (era found : ℕ) (post : Post) (j s : ℕ) (same : Bool) → (
 exchange_stood era found post j s true e h = rw e at h
 exchange_stood era found post j s false e h = rw e at h
 
-move_stood : (scheme : SchemeKind) (seats : ℕ) (at : MoveAt) (found : ℕ) (post : Post) (j s : ℕ) → is_wfe scheme ≡ false → move_fits scheme seats at ≡ true → stands (move_turn at post found).post j ≡ Some s → stands post j ≡ Some s
+pub move_stood : (scheme : SchemeKind) (seats : ℕ) (at : MoveAt) (found : ℕ) (post : Post) (j s : ℕ) → is_wfe scheme ≡ false → move_fits scheme seats at ≡ true → stands (move_turn at post found).post j ≡ Some s → stands post j ≡ Some s
 move_stood scheme seats (LoadEra helps) found post j s w f h = load_era_stood helps found post j s (found == post.layout.config.last_era) refl h
 move_stood scheme seats (LoadRequest era seat shows) found post j s w f h = h
 move_stood scheme seats (ShowEra era seat tag index root) found post j s w f h = h
@@ -178,7 +178,7 @@ move_stood scheme seats (HideEra era) found post j s w f h = h
 move_stood scheme seats (HideLate seen) found post j s w f h = h
 move_stood scheme seats (ExchangeClock era) found post j s w f h = exchange_stood era found post j s (found == era) refl h
 
-begin_stood : (at : BeginAt) (found : ℕ) (post : Post) (j s : ℕ) → stands (begin_turn at post found).post j ≡ Some s → stands post j ≡ Some s
+pub begin_stood : (at : BeginAt) (found : ℕ) (post : Post) (j s : ℕ) → stands (begin_turn at post found).post j ≡ Some s → stands post j ≡ Some s
 begin_stood LoadLower found post j s h = h
 begin_stood (PublishSpan era) found post j s h = h
 

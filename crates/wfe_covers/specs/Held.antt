@@ -4,12 +4,13 @@ use Rattle.wfe_words.specs.Place.Place.{Clock, Tail, Row}
 use Rattle.wfe_words.specs.declared.config.SchemeKind.{SchemeKind}
 use Rattle.wfe_words.specs.declared.config.SchemeKind.TheVariants.{He, Ibr, Wfe}
 use Rattle.wfe_defs.specs.declared.event.Guard.{Guard}
-use Rattle.wfe_defs.specs.declared.event.Guard.TheVariants.{Index, Whole}
+use Rattle.wfe_defs.specs.declared.event.Guard.TheVariants.{Helper, Index, Whole}
+use Rattle.wfe_words.specs.declared.config.Config.{Config}
 use Rattle.wfe_defs.specs.declared.event.Root.{Root}
 use Rattle.wfe_defs.specs.declared.event.Root.TheVariants as roots
 use Rattle.wfe_core.specs.declared.post.Post.{Post}
 use Rattle.wfe_core.specs.Guards.{from_to}
-use Rattle.wfe_core.specs.Links.{parent_of}
+use Rattle.wfe_core.specs.Links.{link_place, parent_of}
 use Rattle.wfe_core.specs.Posts.{stands, upper}
 use Rattle.wfe_core.specs.Phases.{Aim, Follows, Tries, ProtectAt, Base}
 use Rattle.wfe_core.specs.Phases.ProtectAt.{LoadClock, PublishEra, LoadLink, CheckClock, PublishRequest, LoadOwnClock, PublishHelper, LoadOwnLink, CheckOwnClock, AnswerOwn, LoadAnswer, TakeAnswer, WithdrawRequest, WithdrawHelper, LoadWithin, CheckUpper, RaiseUpper}
@@ -21,10 +22,10 @@ use Rattle.wfe_defs.specs.declared.call.Call.{Call}
 use Rattle.wfe_rows.specs.Hands.{row_move}
 use Rattle.wfe_rows.specs.Rows.{Status, View}
 use Rattle.wfe_rows.specs.Rows.Status.{Free, Claimed, Born, Linked, InQueue, Cut, Sealed, Listed}
-use Rattle.wfe_rows.specs.Agree.{rows_after}
+use Rattle.wfe_rows.specs.Agree.{Agree, rows_after}
 use Rattle.wfe_eras.specs.Frame.{is_ibr}
 use Rattle.wfe_eras.specs.Seats.{is_wfe, base_fits}
-use Rattle.wfe_covers.specs.Covers.{is_past, shown, takes_or_frees, GuardFits, Covers, CoversNeeds, Scanning}
+use Rattle.wfe_covers.specs.Covers.{is_past, Widens, shown, takes_or_frees, GuardFits, Covers, CoversNeeds, Scanning}
 
 -- the guard of a seat's index: its own word, or under 2GE the seat's interval word
 abbrev pub own_guard : SchemeKind → ℕ → ℕ → Guard
@@ -179,16 +180,33 @@ pub record BaseNeeds (w : World) (i : ℕ) (base : Base) : Type 0 where
   pub published : (aim : Aim) (index : ℕ) (root : Root) (steps era : ℕ) (tries : Tries) → base ≡ Protect aim index root steps (LoadLink era tries)
       → shown w (Index i index) ≡ from_to era era
 
+-- what is needed of the other parts where a link is loaded: what is known of the rows; births are at most the clock; the
+-- tail's row is in the queue, and so is the row after one that is
+pub record RootsNeeds (w : World) (v : View) : Type 0 where
+  pub rows : Agree w v
+  pub births : (s : ℕ) → is_past (v.status s) ≡ true → v.birth s ≤ w.mem Clock
+  pub tail : (s : ℕ) → w.mem Tail ≡ s + 1 → v.status s ≡ InQueue
+  pub nexts : (p s : ℕ) → v.status p ≡ InQueue → w.mem (Row p 0) ≡ s + 1 → v.status s ≡ InQueue
+
+-- the row of a link that is loaded is covered by each guard that publishes an interval up to the clock, where the link is
+-- a root, or the next link of a row that is still in the queue
+abbrev pub LoadsCover : Type 0
+LoadsCover =
+    (w : World) (v : View) (guard : Guard) (root : Root) (lo hi slot : ℕ)
+    → RootsNeeds w v
+    → shown w guard ≡ from_to lo hi
+    → w.mem Clock ≤ hi
+    → w.mem (link_place root) ≡ slot + 1
+    → under v.status root ≡ true
+    → Covers w v guard slot
+
 -- what a step needs of the other parts
 pub record HeldNeeds (w : World) (i : ℕ) (v : View) : Type 0 where
   pub covers : CoversNeeds w i v
   pub scans : Scanning w
   pub seat : (w.seat i).post.seat ≡ i
   pub base : (why : Why) (base : Base) → (w.seat i).phase ≡ Runs why base → BaseNeeds w i base
-  -- births are at most the clock; the tail's row is in the queue, and so is the row after one that is
-  pub births : (s : ℕ) → is_past (v.status s) ≡ true → v.birth s ≤ w.mem Clock
-  pub tail : (s : ℕ) → w.mem Tail ≡ s + 1 → v.status s ≡ InQueue
-  pub nexts : (p s : ℕ) → v.status p ≡ InQueue → w.mem (Row p 0) ≡ s + 1 → v.status s ≡ InQueue
+  pub roots : RootsNeeds w v
   -- under 2GE an interval word has the seat's interval, before and after the step
   pub spans : is_ibr w.layout.config.scheme ≡ true → shown w (Whole i) ≡ (w.seat i).post.span
   pub spans_next : is_ibr w.layout.config.scheme ≡ true → shown (step w i) (Whole i) ≡ ((step w i).seat i).post.span
@@ -226,3 +244,34 @@ StandingStays =
     → Held w v
     → stands (w.seat k).post j ≡ Some slot
     → takes_or_frees (row_move (w.seat i).phase (w.seat i).post (finds w i)) slot ≡ false
+
+-- a scan reads the guard of each index of each seat, and under Wait-Free Eras each helper word
+abbrev pub GuardsFit : Type 0
+GuardsFit = (config : Config) (k j : ℕ) → k < config.seats → j < config.indexes → GuardFits config (own_guard config.scheme k j)
+
+abbrev pub HelpersFit : Type 0
+HelpersFit = (config : Config) (k : ℕ) → is_wfe config.scheme ≡ true → k < config.seats → GuardFits config (Helper k)
+
+-- what a helper word covers, any index word covers that publishes the same: a scan reads helper words first
+abbrev pub HandedCovers : Type 0
+HandedCovers =
+    (w : World) (v : View) (m k j slot : ℕ)
+    → is_wfe w.layout.config.scheme ≡ true
+    → m < w.layout.config.seats
+    → shown w (Index k j) ≡ shown w (Helper m)
+    → Covers w v (Helper m) slot
+    → Covers w v (Index k j) slot
+
+-- the same over the step that stores or exchanges the index word: what the helper word of a seat covered before, the index
+-- word covers after
+abbrev pub HandedKept : Type 0
+HandedKept =
+    (w : World) (i : ℕ) (v : View) (m k j slot : ℕ)
+    → is_wfe w.layout.config.scheme ≡ true
+    → CoversNeeds w i v
+    → Scanning w
+    → m < w.layout.config.seats
+    → Widens (shown w (Helper m)) (shown (step w i) (Helper m))
+    → shown (step w i) (Index k j) ≡ shown (step w i) (Helper m)
+    → Covers w v (Helper m) slot
+    → Covers (step w i) (rows_after w i v) (Index k j) slot

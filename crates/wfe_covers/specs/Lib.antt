@@ -1,3 +1,5 @@
 pub mod Covers
 pub mod Held
+pub mod Parents
+pub mod Rests
 pub mod Tries

@@ -3,7 +3,9 @@
 #![tactic(auto)]
 
 ghost use Rattle.wfe_covers.specs.Covers.{CoversKept, NotReused, ScansBegin, ScansKept, ScansStart};
-ghost use Rattle.wfe_covers.specs.Held.{HeldBegin, HeldKept, HeldStart, StandingStays};
+ghost use Rattle.wfe_covers.specs.Held.{GuardsFit, HandedCovers, HandedKept, HeldBegin, HeldKept, HeldStart, HelpersFit, LoadsCover, StandingStays};
+ghost use Rattle.wfe_covers.specs.Parents.{ParentsBegin, ParentsGive, ParentsKept, ParentsStart};
+ghost use Rattle.wfe_covers.specs.Rests.{RestsBegin, RestsGive, RestsKept, RestsStart};
 
 /// A row that a guard covers stays covered by it over each step of any seat that does not take from
 /// what the guard publishes: the row's life meets the guard's interval, and each scan that has the
@@ -37,4 +39,38 @@ pub fn rows_are_held()
 /// Where a row stands at an index of a seat, no step of any seat makes it free, and none claims it.
 pub fn standing_rows_stay()
     ensures { StandingStays }
+{}
+
+/// A scan reads the guard of each index of each seat of the table, under its number, and under
+/// Wait-Free Eras each helper word, before all index words: what a helper word covers an index word
+/// covers that publishes the same.
+pub fn guards_are_read()
+    ensures own { GuardsFit }
+    ensures helpers { HelpersFit }
+    ensures handed { HandedCovers }
+    ensures kept { HandedKept }
+{}
+
+/// Under Hazard Eras and 2GE nothing stands at an index whose guard publishes something else in the
+/// next step, from the start on, and over every step and every call that begins.
+pub fn guards_rest()
+    ensures start { RestsStart }
+    ensures begin { RestsBegin }
+    ensures step { RestsKept }
+    ensures gives { RestsGive }
+{}
+
+/// Under Hazard Eras and 2GE the row whose next link is followed stands at index 0, from the start on,
+/// and over every step and every call that begins.
+pub fn followed_rows_stand()
+    ensures start { ParentsStart }
+    ensures begin { ParentsBegin }
+    ensures step { ParentsKept }
+    ensures gives { ParentsGive }
+{}
+
+/// The row of a link that is loaded is covered by each guard that publishes an interval up to the
+/// clock, under every scheme: where the link is a root, or the next link of a row in the queue.
+pub fn loads_cover()
+    ensures { LoadsCover }
 {}

@@ -1,0 +1,150 @@
+-- Where nothing stands, by where a call stands.
+use Rattle.std.specs.Prelude.{ℕ, ◌≡◌, ◌==◌, ◌&&◌, not, Bool, true, false, Option, Some, None}
+use Rattle.wfe_core.specs.declared.post.Post.{Post}
+use Rattle.wfe_core.specs.Posts.{stands}
+use Rattle.wfe_core.specs.Rounds.{index_of}
+use Rattle.wfe_core.specs.Calls.{Task, Gets, Changes, Holds, Enqueues, Dequeues, AfterScan, Answered, Repeated, Counted, Why, Opens, FollowsHead, Fills, ClearsNext, Clears, Finishes, GivesUp, Retires, Tidies, Advances, Releases, DequeueAt, LoadTail, SwingTail, TakeNumber, TakeValue, ExchangeHead, Work, Getting, Changing, Enqueuing, Dequeuing, Phase, Idle, Runs, Scans, Works}
+use Rattle.wfe_core.specs.Phases.Ending.{Done, Protected, Followed, Allocated, Retired, Clocked}
+use Rattle.wfe_core.specs.Phases.{Ending}
+use Rattle.wfe_core.specs.World.{World, start, begin, step, is_busy}
+use Rattle.wfe_core.specs.Phases.{Base}
+use Rattle.wfe_words.specs.declared.layout.Layout.{Layout}
+use Rattle.wfe_defs.specs.declared.call.Call.{Call}
+use Rattle.wfe_rows.specs.Hands.{runs_right}
+use Rattle.wfe_eras.specs.Seats.{is_wfe, Run}
+use Rattle.wfe_covers.specs.Held.{rests_base}
+
+-- between rounds only what is held stands
+abbrev pub spare : ℕ → Bool
+spare j = not (j == 2)
+
+-- where a round of a task begins; nothing is held where a key is to be held
+abbrev pub bare : Task → ℕ → Bool
+bare (Gets key) j = spare j
+bare (Changes kept) j = spare j
+bare (Holds key) j = true
+bare (Enqueues kept) j = spare j
+bare Dequeues j = spare j
+
+-- the same but for the task's index
+abbrev pub beside : Task → ℕ → Bool
+beside task j = bare task j && not (j == index_of task)
+
+-- within a round, and once a dequeue holds the next row
+abbrev pub within : ℕ → Bool
+within j = spare j && not (j == 0)
+
+abbrev pub deep : ℕ → Bool
+deep j = within j && not (j == 1)
+
+abbrev pub vacant_later : AfterScan → ℕ → Bool
+vacant_later (Answered answer) j = spare j
+vacant_later (Repeated task) j = bare task j
+vacant_later Counted j = spare j
+
+abbrev pub vacant_why : Why → ℕ → Bool
+vacant_why (Opens task) j = bare task j
+vacant_why (FollowsHead head tail) j = within j
+vacant_why (Fills task) j = within j
+vacant_why (ClearsNext next) j = deep j
+vacant_why (Clears task next) j = beside task j
+vacant_why (Finishes task next) j = true
+vacant_why (GivesUp answer) j = spare j
+vacant_why (Retires answer) j = spare j
+vacant_why (Tidies later) j = vacant_later later j
+vacant_why Advances j = spare j
+vacant_why (Releases key) j = spare j
+
+abbrev pub vacant_dequeue : DequeueAt → ℕ → Bool
+vacant_dequeue (LoadTail head) j = within j
+vacant_dequeue (SwingTail head next) j = deep j
+vacant_dequeue (TakeNumber head next) j = deep j
+vacant_dequeue (TakeValue head next number) j = deep j
+vacant_dequeue (ExchangeHead head next number value) j = deep j
+
+abbrev pub vacant_work : Work → ℕ → Bool
+vacant_work (Getting key at) j = within j
+vacant_work (Changing kept at) j = within j
+vacant_work (Enqueuing kept at) j = within j
+vacant_work (Dequeuing at) j = vacant_dequeue at j
+
+-- the indexes at which nothing stands
+abbrev pub vacant : Phase → ℕ → Bool
+vacant Idle j = spare j
+vacant (Runs why base) j = vacant_why why j
+vacant (Scans later at) j = vacant_later later j
+vacant (Works work) j = vacant_work work j
+
+abbrev pub Vacant : (ℕ → Bool) → Post → Type 0
+Vacant f post = (j : ℕ) → f j ≡ true → stands post j ≡ None
+
+-- nothing stands where the phase of a seat says so
+pub record Rests (w : World) : Type 0 where
+  pub vacant : (k : ℕ) → Vacant (vacant (w.seat k).phase) (w.seat k).post
+
+-- where nothing may stand once a machine has ended, by what comes after it
+abbrev pub vacant_filled : Task → ℕ → Bool
+vacant_filled (Gets key) j = spare j
+vacant_filled (Changes kept) j = within j
+vacant_filled (Holds key) j = true
+vacant_filled (Enqueues kept) j = within j
+vacant_filled Dequeues j = spare j
+
+abbrev pub vacant_opened : Task → Ending → ℕ → Bool
+vacant_opened task Done j = bare task j
+vacant_opened task (Protected end) j = beside task j
+vacant_opened task (Followed end) j = bare task j
+vacant_opened task (Allocated end) j = bare task j
+vacant_opened task (Retired life) j = bare task j
+vacant_opened task (Clocked clock) j = bare task j
+
+abbrev pub vacant_followed : Ending → ℕ → Bool
+vacant_followed Done j = spare j
+vacant_followed (Protected end) j = spare j
+vacant_followed (Followed end) j = deep j
+vacant_followed (Allocated end) j = spare j
+vacant_followed (Retired life) j = spare j
+vacant_followed (Clocked clock) j = spare j
+
+abbrev pub vacant_released : Option ℕ → ℕ → Bool
+vacant_released None j = spare j
+vacant_released (Some key) j = true
+
+abbrev pub vacant_after : Why → Ending → ℕ → Bool
+vacant_after (Opens task) ending j = vacant_opened task ending j
+vacant_after (FollowsHead head tail) ending j = vacant_followed ending j
+vacant_after (Fills task) ending j = vacant_filled task j
+vacant_after (ClearsNext next) ending j = within j
+vacant_after (Clears task next) ending j = bare task j
+vacant_after (Finishes task next) ending j = bare task j
+vacant_after (GivesUp answer) ending j = spare j
+vacant_after (Retires answer) ending j = spare j
+vacant_after (Tidies later) ending j = vacant_later later j
+vacant_after Advances ending j = spare j
+vacant_after (Releases key) ending j = vacant_released key j
+
+-- what the part takes from others of the seat that steps: the shape of its phase, and that only a change or an enqueue
+-- fills a row
+pub record RestsNeeds (w : World) (i : ℕ) : Type 0 where
+  pub shape : (why : Why) (base : Base) → (w.seat i).phase ≡ Runs why base → Run w.layout why base (w.seat i).post
+  pub right : (why : Why) (base : Base) → (w.seat i).phase ≡ Runs why base → runs_right why base ≡ true
+
+abbrev pub RestsStart : Type 0
+RestsStart = (layout : Layout) → Rests (start layout)
+
+abbrev pub RestsBegin : Type 0
+RestsBegin = (w : World) (i : ℕ) (call : Call) → is_busy w i ≡ false → Rests w → Rests (begin w i call)
+
+-- under Hazard Eras and 2GE
+abbrev pub RestsKept : Type 0
+RestsKept = (w : World) (i : ℕ) → is_wfe w.layout.config.scheme ≡ false → RestsNeeds w i → Rests w → Rests (step w i)
+
+-- nothing stands where a step takes from what a guard publishes
+abbrev pub RestsGive : Type 0
+RestsGive =
+    (w : World) (i : ℕ) (why : Why) (base : Base) (j : ℕ)
+    → RestsNeeds w i
+    → Rests w
+    → (w.seat i).phase ≡ Runs why base
+    → rests_base base j ≡ true
+    → stands (w.seat i).post j ≡ None
