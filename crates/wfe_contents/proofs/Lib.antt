@@ -1,7 +1,10 @@
 pub mod Lasts
 pub mod Lists
 pub mod Machines
+pub mod Phases
 pub mod Reading
 pub mod Rounds
+pub mod Steps
 pub mod Told
 pub mod Turns
+pub mod Views

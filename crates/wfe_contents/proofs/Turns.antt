@@ -102,7 +102,7 @@ read_decided g kept slot link root version pairs = record {
 }
 
 -- there is no row
-null_decided : (g : Ground) (kept : ChangeKept) → Decided g (alters.with_change (alters.at_link kept 0))
+pub null_decided : (g : Ground) (kept : ChangeKept) → Decided g (alters.with_change (alters.at_link kept 0))
 null_decided g kept = record {
   fresh = λ e. refl;
   none = λ e. refl;
