@@ -4,6 +4,7 @@ pub mod Machines
 pub mod Phases
 pub mod Reading
 pub mod Rounds
+pub mod Shelves
 pub mod Steps
 pub mod Told
 pub mod Turns
