@@ -1,4 +1,6 @@
+pub mod Kept
 pub mod Lasts
+pub mod Links
 pub mod Lists
 pub mod Machines
 pub mod Phases
