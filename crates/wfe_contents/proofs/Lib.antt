@@ -1,3 +1,4 @@
+pub mod Begun
 pub mod Kept
 pub mod Lasts
 pub mod Links
