@@ -1,14 +1,11 @@
 -- Each step keeps what rows of the map show, and what seats know of them.
-use Rattle.std.proofs.Common.{ℕ, ◌+◌, ◌-◌, ◌*◌, ◌%◌, ◌<◌, ◌≤◌, ◌≡◌, Bool, true, false, arith, refl, ap, ◌∙◌, sym, subst, List, [], ◌∷◌, ◌++◌, length}
+use Rattle.std.proofs.Common.{ℕ, ◌+◌, ◌*◌, ◌≡◌, Bool, true, false, arith, refl, ap, ◌∙◌, sym, subst, List, ◌++◌, length}
 use Rattle.std.proofs.lemmas.Bool.Decides.{nat_tests}
 use Rattle.std.proofs.lemmas.List.{append_assoc}
-use Rattle.std.specs.Prelude.{◌==◌, if◌then◌else◌, Option, Some, None}
+use Rattle.std.specs.Prelude.{◌==◌, if◌then◌else◌, None}
 use Rattle.wfe_words.specs.Place.{Place}
 use Rattle.wfe_words.specs.Place.Place.{Bucket, Row}
-use Rattle.wfe_words.specs.declared.layout.Layout.{Layout}
 use Rattle.wfe_defs.specs.declared.event.Event.{Event}
-use Rattle.wfe_defs.specs.declared.event.Event.TheVariants as events
-use Rattle.wfe_defs.specs.declared.event.Root.TheVariants as roots
 use Rattle.wfe_defs.specs.declared.lifetime.Lifetime.{Lifetime}
 use Rattle.wfe_core.specs.declared.post.Post.{Post}
 use Rattle.wfe_core.specs.Book.{Book, booked_all}
@@ -16,32 +13,31 @@ use Rattle.wfe_core.specs.Change as alters
 use Rattle.wfe_core.specs.Enqueue as enqueues
 use Rattle.wfe_core.specs.Desks.{Desk, noting}
 use Rattle.wfe_core.specs.Machine as machine
-use Rattle.wfe_core.specs.Memory as memory
 use Rattle.wfe_core.specs.Memory.{place_in, found, written}
 use Rattle.wfe_core.specs.Posts.{counted}
 use Rattle.wfe_core.specs.Steps.{phase_move, phase_turn}
 use Rattle.wfe_core.specs.Locals.{Local, turn, settled, settled_by, told_by, told_end, rounds_told}
-use Rattle.wfe_core.specs.World.{World, step, finds}
-use Rattle.wfe_core.specs.Calls.{ChangeKept, EnqueueKept, Changes, ChangeAt, LoadVersion, LoadCount, LoadKey, LoadValue, ExchangeRoot, EnqueueAt, LoadNumber, LoadNext, PassTail, ExchangeNext, ExchangeTail, Work, Getting, Changing, Enqueuing, Dequeuing, Phase, Idle, Runs, Scans, Works, CallTurn, CallOutcome, GoesOn, Answers}
-use Rattle.wfe_rows.specs.Rows.{View, Good, RowMove, made}
+use Rattle.wfe_core.specs.World.{step, finds}
+use Rattle.wfe_core.specs.Calls.{ChangeKept, EnqueueKept, Changes, ChangeAt, LoadVersion, LoadCount, LoadKey, LoadValue, ExchangeRoot, EnqueueAt, LoadNumber, LoadNext, PassTail, ExchangeNext, ExchangeTail, Getting, Changing, Enqueuing, Dequeuing, Phase, Idle, Runs, Scans, Works, CallTurn, CallOutcome, GoesOn, Answers}
+use Rattle.wfe_rows.specs.Rows.{View, Good, made}
 use Rattle.wfe_rows.specs.Rows.Status.{Born}
 use Rattle.wfe_rows.specs.Rows.RowMove.{Stays, Appends}
-use Rattle.wfe_rows.specs.Hands.{row_move, linked_row, is_right}
-use Rattle.wfe_rows.specs.Agree.{Agree, Words, Plays, Needs, RowsNeeds, rows_after}
-use Rattle.wfe_rows.proofs.Fits.{MoveFits, phase_fits}
+use Rattle.wfe_rows.specs.Hands.{row_move, linked_row}
+use Rattle.wfe_rows.specs.Agree.{Words, Plays, Needs, rows_after}
+use Rattle.wfe_rows.proofs.Fits.{phase_fits}
 use Rattle.wfe_rows.proofs.Phases.{taken_as}
 use Rattle.wfe_rows.proofs.Steps.{of_taken}
 use Rattle.wfe_eras.specs.Frame.{phase_left}
 use Rattle.wfe_contents.specs.Shelf.{Shelf, shelf_of, is_settled, Filled}
-use Rattle.wfe_contents.specs.Knows.{Ground, Knows, Ready, reads_in, owns_in}
-use Rattle.wfe_contents.specs.Contents.{Shelved, Contents, ContentsNeeds, ContentsKept}
+use Rattle.wfe_contents.specs.Knows.{Ground, Knows, Ready, reads_in}
+use Rattle.wfe_contents.specs.Contents.{Shelved, ContentsKept}
 use Rattle.wfe_contents.proofs.Told.{all_calm, calm_append, SameBook, SameSlot, calm_book, booked_append, same_slot}
 use Rattle.wfe_contents.proofs.Lasts.{on, knows_lasts}
 use Rattle.wfe_contents.proofs.Links.{exchange_linking, exchange_latest}
-use Rattle.wfe_contents.proofs.Machines.{writes_in, rows_stay}
+use Rattle.wfe_contents.proofs.Machines.{rows_stay}
 use Rattle.wfe_contents.proofs.Phases.{links_in, RootsHeld, phase_turns}
 use Rattle.wfe_contents.proofs.Rounds.{Adds, Turns, plain_knows, clearing_adds}
-use Rattle.wfe_contents.proofs.Shelves.{WordsStay, calm_shelved, keeps_all, joined, joined_far, joined_shelved, exchanged_book, linked_booked, exchanged_far, Linking, Latest, exchanged_shelved}
+use Rattle.wfe_contents.proofs.Shelves.{WordsStay, calm_shelved, keeps_all, joined_far, joined_shelved, exchanged_book, linked_booked, exchanged_far, Linking, Latest, exchanged_shelved}
 use Rattle.wfe_contents.proofs.Turns.{Shown}
 use Rattle.wfe_contents.proofs.Views.{Keeps, keeps_made, unlinks, settled_stays, owned_stays}
 
@@ -203,36 +199,36 @@ contents_kept w i v needs owed agree c =
     let slots : ℕ = w.layout.config.slots in
     let t : CallTurn = turn l (finds w i) in
     let d : Did n w.book (step w i).book v (rows_after w i v) (step w i).mem (phase_left t.outcome) =
-      phase_did
-      n
-      slots
-      w.book
-      v
-      w.mem
-      i
-      l.phase
-      l.post
-      l.desk
-      (links_in l.phase (finds w i))
-      refl
-      needs
-      agree.good
-      agree.words
-      (agree.plays i)
-      (record { gets = λ key base e slot era o. owed.gets key slot era base e o; changes = λ kept base e slot era o. owed.changes kept slot era base e o })
-      (λ s b y r. c.rows.shows s b (owed.held i s y) r)
-      (c.seats i)
-      c.rows in
+    phase_did
+    n
+    slots
+    w.book
+    v
+    w.mem
+    i
+    l.phase
+    l.post
+    l.desk
+    (links_in l.phase (finds w i))
+    refl
+    needs
+    agree.good
+    agree.words
+    (agree.plays i)
+    (record { gets = λ key base e slot era o. owed.gets key slot era base e o; changes = λ kept base e slot era o. owed.changes kept slot era base e o })
+    (λ s b y r. c.rows.shows s b (owed.held i s y) r)
+    (c.seats i)
+    c.rows in
     record {
       rows = d.rows;
       seats = λ k. knows_at
-        (on n (shelf_of (step w i).book) (step w i).mem)
-        i
-        k
-        (w.seat k)
-        (settled l t)
-        (k == i)
-        refl
-        (λ e. knows_lasts n (shelf_of w.book) (shelf_of (step w i).book) w.mem (step w i).mem (w.seat k).phase (λ s y. d.far s (owed.held k s y)) (λ s q y low. rows_stay w.mem l.phase l.post s q (owned_stays slots v i k l.phase (w.seat k).phase l.desk.list (w.seat k).desk.list s e agree.good (agree.plays i) (agree.plays k) y) low) (c.seats k))
-        (subst (λ (phase : Phase). Knows (on n (shelf_of (step w i).book) (step w i).mem) phase) (sym (settled_phase l t.post (noting t.desk (told_by t)) (rounds_told l.rounds (told_by t)) t.outcome)) d.own);
+          (on n (shelf_of (step w i).book) (step w i).mem)
+          i
+          k
+          (w.seat k)
+          (settled l t)
+          (k == i)
+          refl
+          (λ e. knows_lasts n (shelf_of w.book) (shelf_of (step w i).book) w.mem (step w i).mem (w.seat k).phase (λ s y. d.far s (owed.held k s y)) (λ s q y low. rows_stay w.mem l.phase l.post s q (owned_stays slots v i k l.phase (w.seat k).phase l.desk.list (w.seat k).desk.list s e agree.good (agree.plays i) (agree.plays k) y) low) (c.seats k))
+          (subst (λ (phase : Phase). Knows (on n (shelf_of (step w i).book) (step w i).mem) phase) (sym (settled_phase l t.post (noting t.desk (told_by t)) (rounds_told l.rounds (told_by t)) t.outcome)) d.own);
     }

@@ -1,14 +1,14 @@
 -- What a seat knows lasts while the rows that it reads show the same, and the words of its own row stay.
-use Rattle.std.proofs.Common.{ℕ, ◌+◌, ◌*◌, ◌≤◌, ◌≡◌, Bool, true, false, arith, refl, ap, ◌∙◌, sym, subst, length}
+use Rattle.std.proofs.Common.{ℕ, ◌+◌, ◌≤◌, ◌≡◌, Bool, true, arith, ◌∙◌, sym}
 use Rattle.std.proofs.lemmas.Bool.Decides.{nat_tests}
 use Rattle.std.specs.Prelude.{◌==◌}
 use Rattle.wfe_words.specs.Place.{Place}
 use Rattle.wfe_words.specs.Place.Place.{Row}
 use Rattle.wfe_core.specs.Phases.{Base}
 use Rattle.wfe_core.specs.Phases.Base.{Begin, Protect, Reload, Clear, Finish, Release, Allocate, Write, GiveUp, Retire, Move}
-use Rattle.wfe_core.specs.Calls.{ChangeKept, Task, Gets, Changes, Holds, Enqueues, Dequeues, Why, Opens, FollowsHead, Fills, ClearsNext, Clears, Finishes, GivesUp, Retires, Tidies, Advances, Releases, GetAt, FindVersion, FindCount, FindKey, FindValue, ChangeAt, LoadVersion, LoadCount, LoadKey, LoadValue, ExchangeRoot, Work, Getting, Changing, Enqueuing, Dequeuing, Phase, Idle, Runs, Scans, Works}
+use Rattle.wfe_core.specs.Calls.{ChangeKept, Gets, Changes, Holds, Enqueues, Dequeues, Opens, FollowsHead, Fills, ClearsNext, Clears, Finishes, GivesUp, Retires, Tidies, Advances, Releases, GetAt, FindVersion, FindCount, FindKey, FindValue, ChangeAt, LoadVersion, LoadCount, LoadKey, LoadValue, ExchangeRoot, Getting, Changing, Enqueuing, Dequeuing, Phase, Idle, Runs, Scans, Works}
 use Rattle.wfe_contents.specs.Shelf.{Shelf}
-use Rattle.wfe_contents.specs.Knows.{Ground, Knows, GetKnows, ChangeKnows, FillKnows, TaskKnows, WhyKnows, WorkKnows, FoundRow, AtRow, AtCount, AtKey, Decided, reads_in, get_reads, owns_in, base_owns, change_owns}
+use Rattle.wfe_contents.specs.Knows.{Ground, Knows, GetKnows, ChangeKnows, FillKnows, FoundRow, AtRow, AtKey, Decided, reads_in, get_reads, owns_in, base_owns, change_owns}
 use Rattle.wfe_contents.proofs.Told.{SameSlot}
 
 abbrev pub on : ℕ → Shelf → (Place → ℕ) → Ground

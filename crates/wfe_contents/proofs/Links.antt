@@ -1,10 +1,9 @@
 -- A step that links a row: the exchange of a bucket's root, and a row that joins the queue.
-use Rattle.std.proofs.Common.{ℕ, ◌+◌, ◌-◌, ◌*◌, ◌%◌, ◌<◌, ◌≤◌, ◌≡◌, Bool, true, false, arith, refl, ap, ◌∙◌, sym, subst, List, [], ◌∷◌, ◌++◌, length}
+use Rattle.std.proofs.Common.{ℕ, ◌+◌, ◌-◌, ◌≡◌, Bool, true, false, arith, refl, ap, ◌∙◌, sym, subst, List, [], ◌∷◌, length}
 use Rattle.std.proofs.lemmas.Bool.Decides.{nat_tests}
 use Rattle.std.proofs.lemmas.List.{take_all}
-use Rattle.std.specs.Prelude.{◌==◌, if◌then◌else◌, take}
+use Rattle.std.specs.Prelude.{◌==◌, if◌then◌else◌}
 use Rattle.wfe_words.specs.Place.{Place}
-use Rattle.wfe_words.specs.Place.Place.{Bucket}
 use Rattle.wfe_defs.specs.Pairs.{Pair, changed, pairs_after}
 use Rattle.wfe_defs.specs.declared.event.Root.{Root}
 use Rattle.wfe_defs.specs.declared.event.Root.TheVariants as roots
@@ -13,11 +12,11 @@ use Rattle.wfe_core.specs.Book.{Book}
 use Rattle.wfe_core.specs.Memory.{upd}
 use Rattle.wfe_core.specs.Calls.{ChangeKept}
 use Rattle.wfe_rows.specs.Rows.{Status, View, Good, made}
-use Rattle.wfe_rows.specs.Rows.Status.{Born, Linked, InQueue, Cut}
+use Rattle.wfe_rows.specs.Rows.Status.{Born, Linked, Cut}
 use Rattle.wfe_rows.specs.Rows.RowMove.{Links, Replaces}
 use Rattle.wfe_rows.specs.Hands.{linked_row}
-use Rattle.wfe_contents.specs.Shelf.{Shelf, shelf_of, pairs_by, is_settled}
-use Rattle.wfe_contents.specs.Knows.{Decided, changes_in}
+use Rattle.wfe_contents.specs.Shelf.{shelf_of, pairs_by, is_settled}
+use Rattle.wfe_contents.specs.Knows.{Decided}
 use Rattle.wfe_contents.specs.Contents.{Shelved}
 use Rattle.wfe_contents.proofs.Lasts.{on}
 use Rattle.wfe_contents.proofs.Shelves.{Linking, Latest}
@@ -61,6 +60,7 @@ uncut i v b slot old s c y = by_false (s == old) (λ e. no_link i c (sym (is_cut
   where
     no_link : (k d : ℕ) → Cut k ≡ Linked d → ⊥
     no_link k d z = cc
+
     is_cut : (s == old) ≡ true → replaced i v b slot old s ≡ Cut i
     is_cut e = ap (λ (n : ℕ). replaced i v b slot old n) (number_is s old e) ∙ upd_own (upd v.status slot (Linked b)) old (Cut i)
 

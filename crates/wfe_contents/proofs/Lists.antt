@@ -1,8 +1,6 @@
 -- Pairs read one by one, and changes that grow.
-use Rattle.std.proofs.Common.{ℕ, zero, suc, ◌+◌, ◌-◌, ◌*◌, ◌/◌, ◌%◌, ◌<◌, ◌≤◌, ◌≡◌, Bool, true, false, arith, refl, ap, ◌∙◌, sym, List, [], ◌∷◌, ◌++◌, length}
-use Rattle.std.proofs.lemmas.Bool.Decides.{nat_tests}
-use Rattle.std.specs.Prelude.{◌==◌, take, drop, slice_index_or, Option, Some, None}
-use Rattle.std.proofs.lemmas.List.{append-nil, append_assoc, length-append, take-append-le, take_all}
+use Rattle.std.proofs.Common.{ℕ, zero, suc, ◌+◌, ◌<◌, ◌≡◌, true, false, arith, refl, ap, ◌∙◌, List, [], ◌∷◌, ◌++◌, length}
+use Rattle.std.specs.Prelude.{◌==◌, take, drop, Some}
 use Rattle.wfe_defs.specs.Pairs.{Pair, changed, pairs_from, pairs_after, value_in}
 use Rattle.wfe_defs.specs.declared.fold.Change.{Change}
 use Rattle.wfe_contents.specs.Knows.{pair_at}

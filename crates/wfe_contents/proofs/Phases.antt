@@ -5,7 +5,6 @@ use Rattle.wfe_words.specs.Place.{Place}
 use Rattle.wfe_words.specs.Place.Place.{Bucket}
 use Rattle.wfe_defs.specs.declared.event.Root.TheVariants as roots
 use Rattle.wfe_defs.specs.declared.lifetime.Lifetime.{Lifetime}
-use Rattle.wfe_core.specs.declared.ends.ProtectEnd.TheVariants as protect_ends
 use Rattle.wfe_core.specs.declared.post.Post.{Post}
 use Rattle.wfe_core.specs.Desks.{Desk}
 use Rattle.wfe_core.specs.Machine as machine
@@ -17,15 +16,14 @@ use Rattle.wfe_core.specs.Change as alters
 use Rattle.wfe_core.specs.Enqueue as enqueues
 use Rattle.wfe_core.specs.Dequeue as dequeues
 use Rattle.wfe_core.specs.Scan as scan
-use Rattle.wfe_core.specs.Steps as steps
 use Rattle.wfe_core.specs.Steps.{run_turn, phase_move, phase_turn, work_move, work_turn}
-use Rattle.wfe_core.specs.Calls.{ChangeKept, EnqueueKept, Task, Gets, Changes, Holds, Enqueues, Dequeues, Why, Opens, FollowsHead, Fills, ClearsNext, Clears, Finishes, GivesUp, Retires, Tidies, Advances, Releases, GetAt, FindVersion, FindCount, FindKey, FindValue, ChangeAt, LoadVersion, LoadCount, LoadKey, LoadValue, ExchangeRoot, Work, Getting, Changing, Enqueuing, Dequeuing, Phase, Idle, Runs, Scans, Works, CallTurn}
+use Rattle.wfe_core.specs.Calls.{ChangeKept, Task, Gets, Changes, Holds, Enqueues, Dequeues, Why, Opens, FollowsHead, Fills, ClearsNext, Clears, Finishes, GivesUp, Retires, Tidies, Advances, Releases, GetAt, FindVersion, FindCount, FindKey, FindValue, ChangeAt, LoadVersion, LoadCount, LoadKey, LoadValue, ExchangeRoot, Work, Getting, Changing, Enqueuing, Dequeuing, Phase, Idle, Runs, Scans, Works}
 use Rattle.wfe_rows.specs.Hands.{is_right, runs_right, task_fills}
 use Rattle.wfe_contents.specs.Shelf.{Shelf}
 use Rattle.wfe_contents.specs.Knows.{Ground, Knows, TaskKnows, WhyKnows, WorkKnows, ChangeKnows, reads_in, changes_in, work_reads}
 use Rattle.wfe_contents.proofs.Lasts.{on}
-use Rattle.wfe_contents.proofs.Rounds.{Turns, task_plain, scan_turns}
-use Rattle.wfe_contents.proofs.Turns.{Shown, is_reading, get_turns, change_turns, missed_turns}
+use Rattle.wfe_contents.proofs.Rounds.{Turns, scan_turns}
+use Rattle.wfe_contents.proofs.Turns.{Shown, get_turns, change_turns, missed_turns}
 use Rattle.wfe_contents.proofs.Steps.{joins, Holding, plain_turns, get_resumed, change_resumed, fill_turns, enqueue_turns, dequeue_turns}
 use Rattle.wfe_contents.proofs.Machines.{base_calm}
 

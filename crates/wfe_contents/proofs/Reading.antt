@@ -1,10 +1,9 @@
 -- The words of a row that shows its pairs, as a call reads them, and a row written word by word.
-use Rattle.std.proofs.Common.{ℕ, ◌+◌, ◌-◌, ◌*◌, ◌/◌, ◌%◌, ◌<◌, ◌≤◌, ◌≡◌, Bool, true, false, ◌&&◌, arith, refl, ap, ◌∙◌, sym, List, [], ◌∷◌, ◌++◌, length}
+use Rattle.std.proofs.Common.{ℕ, ◌+◌, ◌-◌, ◌*◌, ◌/◌, ◌%◌, ◌<◌, ◌≤◌, ◌≡◌, Bool, true, false, ◌&&◌, arith, refl, ap, ◌∙◌, sym, List, length}
 use Rattle.std.proofs.lemmas.Bool.Decides.{nat_tests}
-use Rattle.std.specs.Prelude.{◌==◌, if◌then◌else◌, slice_index_or}
-use Rattle.wfe_words.specs.Place.{Place, same}
+use Rattle.std.specs.Prelude.{◌==◌}
+use Rattle.wfe_words.specs.Place.{Place}
 use Rattle.wfe_words.specs.Place.Place.{Row}
-use Rattle.wfe_words.proofs.Places.{same_self}
 use Rattle.wfe_defs.specs.Pairs.{Pair}
 use Rattle.wfe_core.specs.Get.{key_place, value_place}
 use Rattle.wfe_core.specs.Memory.{put}

@@ -1,7 +1,7 @@
 -- The end of a round, and what comes after it: events that the book does not mind, and a phase that knows nothing.
-use Rattle.std.proofs.Common.{ℕ, ◌+◌, ◌%◌, ◌≡◌, Bool, true, false, arith, refl, ap, ◌∙◌, sym, subst, List, [], ◌∷◌, ◌++◌, length}
+use Rattle.std.proofs.Common.{ℕ, ◌+◌, ◌≡◌, Bool, true, false, refl, ◌∙◌, sym, subst, List, [], ◌∷◌, ◌++◌}
 use Rattle.std.proofs.lemmas.List.{append-nil, append_assoc}
-use Rattle.std.specs.Prelude.{◌==◌, nat_lt, Option, Some, None}
+use Rattle.std.specs.Prelude.{nat_lt, Option, Some, None}
 use Rattle.wfe_defs.specs.declared.call.Answer.{Answer}
 use Rattle.wfe_defs.specs.declared.call.Answer.TheVariants as the_answers
 use Rattle.wfe_defs.specs.declared.event.Event.TheVariants as events
@@ -11,7 +11,7 @@ use Rattle.wfe_defs.specs.declared.lifetime.Interval.{Interval}
 use Rattle.wfe_words.specs.declared.config.SchemeKind.{SchemeKind}
 use Rattle.wfe_words.specs.declared.config.SchemeKind.TheVariants.{He, Ibr, Wfe}
 use Rattle.wfe_core.specs.declared.post.Post.{Post}
-use Rattle.wfe_core.specs.Desks.{Desk, with_life}
+use Rattle.wfe_core.specs.Desks.{Desk}
 use Rattle.wfe_core.specs.Posts.{stands, cleared}
 use Rattle.wfe_core.specs.Phases.{Base}
 use Rattle.wfe_core.specs.Guards as the_guards
@@ -20,7 +20,7 @@ use Rattle.wfe_core.specs.Rounds.{scheme_of, taken_of, round, round_by, begin_ba
 use Rattle.wfe_core.specs.Get as gets
 use Rattle.wfe_core.specs.Scan as scan
 use Rattle.wfe_core.specs.Steps as steps
-use Rattle.wfe_core.specs.Calls.{ChangeKept, EnqueueKept, Task, Gets, Changes, Holds, Enqueues, Dequeues, Next, Again, MakeRoom, Answering, Retiring, AfterScan, Answered, Repeated, Counted, Why, Opens, FollowsHead, Fills, ClearsNext, Clears, Finishes, GivesUp, Retires, Tidies, Advances, Releases, ScanAt, ReadGuard, GiveBack, Work, Getting, Changing, Enqueuing, Dequeuing, Phase, Idle, Runs, Scans, Works, CallTurn, CallOutcome, GoesOn}
+use Rattle.wfe_core.specs.Calls.{Task, Gets, Changes, Holds, Enqueues, Dequeues, Next, Again, MakeRoom, Answering, Retiring, AfterScan, Answered, Repeated, Counted, Why, Opens, FollowsHead, Fills, ClearsNext, Clears, Finishes, GivesUp, Retires, Tidies, Advances, Releases, ScanAt, ReadGuard, GiveBack, Work, Getting, Changing, Enqueuing, Dequeuing, Phase, Idle, Runs, Scans, Works, CallTurn}
 use Rattle.wfe_eras.specs.Frame.{phase_left}
 use Rattle.wfe_contents.specs.Knows.{Ground, Knows}
 use Rattle.wfe_contents.proofs.Told.{all_calm, calm_append}
@@ -197,4 +197,3 @@ scan_turns g later (GiveBack place slot) post desk found =
 pub tidying_adds : (answer : Answer) (post : Post) (desk : Desk) (told : List Event) (due : Bool) → Adds told (steps.tidying answer post desk told due)
 tidying_adds answer post desk told true = adds_none told (steps.tidying answer post desk told true) refl refl
 tidying_adds answer post desk told false = adds_none told (steps.tidying answer post desk told false) refl refl
-

@@ -1,5 +1,5 @@
 -- What rows show after a step that links no row, after a row joins the queue, and after a bucket's root is exchanged.
-use Rattle.std.proofs.Common.{ℕ, ◌+◌, ◌-◌, ◌*◌, ◌%◌, ◌<◌, ◌≤◌, ◌≡◌, Bool, true, false, arith, refl, ap, ◌∙◌, sym, subst, List, [], ◌∷◌, ◌++◌, length}
+use Rattle.std.proofs.Common.{ℕ, ◌+◌, ◌*◌, ◌≤◌, ◌≡◌, Bool, true, false, arith, refl, ap, ◌∙◌, sym, subst, List, [], ◌∷◌, ◌++◌, length}
 use Rattle.std.proofs.lemmas.Bool.Decides.{nat_tests}
 use Rattle.std.proofs.lemmas.List.{length-append, take-append-le, take_all}
 use Rattle.std.specs.Prelude.{◌==◌, if◌then◌else◌, take}
@@ -13,16 +13,14 @@ use Rattle.wfe_defs.specs.declared.event.Root.TheVariants as roots
 use Rattle.wfe_defs.specs.declared.fold.Change.{Change}
 use Rattle.wfe_defs.specs.declared.fold.Change.TheVariants as changes
 use Rattle.wfe_core.specs.declared.post.Post.{Post}
-use Rattle.wfe_core.specs.Book.{Book, RowBook, booked, booked_all, booked_link, with_row, with_change}
+use Rattle.wfe_core.specs.Book.{Book, RowBook, booked_all, booked_link, with_change}
 use Rattle.wfe_core.specs.Change.{told_linked, told_cut, told_change, changed_bucket, new_row}
 use Rattle.wfe_core.specs.Memory.{upd}
-use Rattle.wfe_core.specs.Phases.{RowOf, MapRow}
 use Rattle.wfe_core.specs.Calls.{ChangeKept}
-use Rattle.wfe_rows.specs.Rows.{Status, View, Good, made}
-use Rattle.wfe_rows.specs.Rows.Status.{Born, Linked, InQueue, Cut}
-use Rattle.wfe_rows.specs.Rows.RowMove.{Links, Replaces, Appends}
+use Rattle.wfe_rows.specs.Rows.{Status, View, made}
+use Rattle.wfe_rows.specs.Rows.Status.{Linked, InQueue}
+use Rattle.wfe_rows.specs.Rows.RowMove.{Appends}
 use Rattle.wfe_contents.specs.Shelf.{Shelf, shelf_of, pairs_by, is_settled, Filled, Shows}
-use Rattle.wfe_contents.specs.Knows.{Ground, Decided, Ready, changes_in}
 use Rattle.wfe_contents.specs.Contents.{Shelved}
 use Rattle.wfe_contents.proofs.Told.{SameBook, SameSlot, same_slot}
 use Rattle.wfe_contents.proofs.Lasts.{on}
@@ -248,13 +246,16 @@ exchanged_shelved n a v u mem after b slot kept k t w f h = record {
   where
     new : NewRow a b slot kept.change (shelf_of (exchanged_book a b slot kept.change))
     new = new_row_is a b slot kept.change
+
     far : (s : ℕ) → (s == slot) ≡ false → is_settled (v.status s) ≡ true → SameSlot (shelf_of a) (shelf_of (exchanged_book a b slot kept.change)) s
     far s e y = exchanged_far a b slot kept.change s e (λ c r. h.within s c y r)
+
     by_shows : (s c : ℕ) (x : Bool) → (s == slot) ≡ x → is_settled (u.status s) ≡ true → ((exchanged_book a b slot kept.change).row s).root ≡ roots.Bucket c → Shows after s ((shelf_of (exchanged_book a b slot kept.change)).version s) ((shelf_of (exchanged_book a b slot kept.change)).pairs s)
     by_shows s c true e y r = subst (λ (j : ℕ). Shows after j ((shelf_of (exchanged_book a b slot kept.change)).version j) ((shelf_of (exchanged_book a b slot kept.change)).pairs j)) (sym (number_is s slot e)) (new_shows after (a.changes b) kept slot (shelf_of (exchanged_book a b slot kept.change)) new.version new.pairs t f)
     by_shows s c false e y r =
         let z : is_settled (v.status s) ≡ true = k.settled s e y in
         shows_same (shelf_of a) (shelf_of (exchanged_book a b slot kept.change)) mem after s (far s e z) (λ q low. w s q z low) (h.shows s c z (sym (far s e z).root ∙ r))
+
     by_within : (s c : ℕ) (x : Bool) → (s == slot) ≡ x → is_settled (u.status s) ≡ true → ((exchanged_book a b slot kept.change).row s).root ≡ roots.Bucket c → ((exchanged_book a b slot kept.change).row s).version ≤ length ((exchanged_book a b slot kept.change).changes c)
     by_within s c true e y r =
         let is : s ≡ slot = number_is s slot e in
@@ -265,13 +266,17 @@ exchanged_shelved n a v u mem after b slot kept k t w f h = record {
     by_within s c false e y r =
         let z : is_settled (v.status s) ≡ true = k.settled s e y in
         subst (λ (j : ℕ). j ≤ length ((exchanged_book a b slot kept.change).changes c)) (sym (far s e z).version) (grown_within a b slot kept.change c (a.row s).version (h.within s c z (sym (far s e z).root ∙ r)))
+
     own_bucket : (s c : ℕ) → (s == slot) ≡ true → u.status s ≡ Linked c → b ≡ c
     own_bucket s c e y = same_status (u.status slot) b c k.own (subst (λ (j : ℕ). u.status j ≡ Linked c) (number_is s slot e) y)
+
     settled_of : (s c : ℕ) → v.status s ≡ Linked c → is_settled (v.status s) ≡ true
     settled_of s c y = rw y refl
+
     by_root : (s c : ℕ) (x : Bool) → (s == slot) ≡ x → u.status s ≡ Linked c → ((exchanged_book a b slot kept.change).row s).root ≡ roots.Bucket c
     by_root s c true e y = ap (λ (j : ℕ). ((exchanged_book a b slot kept.change).row j).root) (number_is s slot e) ∙ new.root ∙ ap (λ (j : ℕ). roots.Bucket j) (own_bucket s c e y)
     by_root s c false e y = (far s e (settled_of s c (k.linked s c e y))).root ∙ h.root s c (k.linked s c e y)
+
     by_latest : (s c : ℕ) (x : Bool) → (s == slot) ≡ x → u.status s ≡ Linked c → ((exchanged_book a b slot kept.change).row s).version ≡ length ((exchanged_book a b slot kept.change).changes c)
     by_latest s c true e y =
         let long : length ((exchanged_book a b slot kept.change).changes b) ≡ length (a.changes b) + 1 = ap (λ (l : List Change). length l) (changes_own a b slot kept.change) ∙ grown_length (a.changes b) kept.change in

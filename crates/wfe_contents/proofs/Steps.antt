@@ -1,5 +1,5 @@
 -- Each step of a seat that links no row: what it tells, and what the phase that it leaves knows.
-use Rattle.std.proofs.Common.{ℕ, ◌+◌, ◌-◌, ◌*◌, ◌%◌, ◌<◌, ◌≤◌, ◌≡◌, Bool, true, false, arith, refl, ap, ◌∙◌, sym, subst, List, [], ◌∷◌, ◌++◌, length}
+use Rattle.std.proofs.Common.{ℕ, ◌+◌, ◌-◌, ◌*◌, ◌%◌, ◌≡◌, Bool, true, false, arith, refl, sym, subst, List, [], ◌∷◌, length}
 use Rattle.std.proofs.lemmas.Bool.Decides.{nat_tests}
 use Rattle.std.specs.Prelude.{◌==◌, if◌then◌else◌, Option, Some, None}
 use Rattle.wfe_words.specs.Place.{Place}
@@ -14,36 +14,33 @@ use Rattle.wfe_core.specs.declared.ends.AllocateEnd.{AllocateEnd}
 use Rattle.wfe_core.specs.declared.ends.AllocateEnd.TheVariants as allocate_ends
 use Rattle.wfe_core.specs.declared.ends.FollowEnd.{FollowEnd}
 use Rattle.wfe_core.specs.declared.ends.FollowEnd.TheVariants as follow_ends
-use Rattle.wfe_core.specs.declared.ends.ProtectEnd.{ProtectEnd}
 use Rattle.wfe_core.specs.declared.ends.ProtectEnd.TheVariants as protect_ends
 use Rattle.wfe_core.specs.declared.post.Post.{Post}
-use Rattle.wfe_core.specs.Allocate.{is_claimed, walking, walk_past, next_slot}
+use Rattle.wfe_core.specs.Allocate.{is_claimed, walking, walk_past}
 use Rattle.wfe_core.specs.Desks.{Desk, with_life}
 use Rattle.wfe_core.specs.Machine as machine
 use Rattle.wfe_core.specs.Machine.{base_move}
-use Rattle.wfe_core.specs.Memory as memory
 use Rattle.wfe_core.specs.Memory.{place_in, found, put, written}
-use Rattle.wfe_core.specs.Phases.{RowOf, MapRow, Base, Walk, AllocateAt, Ending, Outcome, Goes, Ends, Turn, goes, ends}
+use Rattle.wfe_core.specs.Phases.{RowOf, Base, Walk, AllocateAt, Ending, Outcome, Goes, Ends, Turn, goes, ends}
 use Rattle.wfe_core.specs.Phases.Ending.{Done, Protected, Followed, Allocated, Retired, Clocked}
 use Rattle.wfe_core.specs.Phases.AllocateAt.{LoadBirth, ClaimSlot, StoreLife}
 use Rattle.wfe_core.specs.Phases.Base.{Begin, Protect, Reload, Clear, Finish, Release, Allocate, Write, GiveUp, Retire, Move}
-use Rattle.wfe_core.specs.Rounds.{clearing, clearing_next, opening, scheme_of}
-use Rattle.wfe_core.specs.Get as gets
+use Rattle.wfe_core.specs.Rounds.{clearing_next, opening}
 use Rattle.wfe_core.specs.Change as alters
 use Rattle.wfe_core.specs.Enqueue as enqueues
 use Rattle.wfe_core.specs.Dequeue as dequeues
 use Rattle.wfe_core.specs.Steps as steps
 use Rattle.wfe_core.specs.WriteRow.{row_word, last_written}
-use Rattle.wfe_core.specs.Calls.{ChangeKept, EnqueueKept, Task, Gets, Changes, Holds, Enqueues, Dequeues, Next, Again, MakeRoom, Answering, Retiring, AfterScan, Why, Opens, FollowsHead, Fills, ClearsNext, Clears, Finishes, GivesUp, Retires, Tidies, Advances, Releases, ChangeAt, LoadVersion, LoadCount, LoadKey, LoadValue, ExchangeRoot, EnqueueAt, LoadNumber, LoadNext, PassTail, ExchangeNext, ExchangeTail, DequeueAt, LoadTail, SwingTail, TakeNumber, TakeValue, ExchangeHead, Work, Getting, Changing, Enqueuing, Dequeuing, Phase, Idle, Runs, Scans, Works, CallTurn, goes_on}
+use Rattle.wfe_core.specs.Calls.{ChangeKept, EnqueueKept, Task, Gets, Changes, Holds, Enqueues, Dequeues, Next, Again, Answering, Retiring, AfterScan, Why, Opens, FollowsHead, Fills, ClearsNext, Clears, Finishes, GivesUp, Retires, Tidies, Advances, Releases, EnqueueAt, LoadNumber, LoadNext, PassTail, ExchangeNext, ExchangeTail, DequeueAt, LoadTail, SwingTail, TakeNumber, TakeValue, ExchangeHead, Runs, goes_on}
 use Rattle.wfe_rows.specs.Hands.{fills_right, holds_slot}
 use Rattle.wfe_contents.specs.Shelf.{Shelf, Filled}
-use Rattle.wfe_contents.specs.Knows.{Ground, Knows, FillKnows, Decided, Writing, Ready, reads_in, changes_in}
+use Rattle.wfe_contents.specs.Knows.{Ground, FillKnows, Decided, Writing, changes_in}
 use Rattle.wfe_contents.proofs.Told.{all_calm}
 use Rattle.wfe_contents.proofs.Lasts.{on}
 use Rattle.wfe_contents.proofs.Machines.{base_calm}
 use Rattle.wfe_contents.proofs.Reading.{filled_next}
-use Rattle.wfe_contents.proofs.Rounds.{Adds, Turns, turns_adds, adds_none, adds_first, plain_knows, why_plain, task_plain, round_plain, closed_adds, finishing_adds, clearing_adds, clearing_next_adds, got_adds, tidying_adds, scan_turns}
-use Rattle.wfe_contents.proofs.Turns.{Shown, got_turns, clearing_turns, deciding_turns, null_decided, get_turns, change_turns, missed_turns}
+use Rattle.wfe_contents.proofs.Rounds.{Adds, Turns, turns_adds, adds_none, plain_knows, why_plain, task_plain, round_plain, closed_adds, finishing_adds, clearing_adds, clearing_next_adds, tidying_adds}
+use Rattle.wfe_contents.proofs.Turns.{got_turns, clearing_turns, deciding_turns, null_decided}
 
 -- the queue's ends are moved
 told_link_calm : (tail : Bool) (slot : ℕ) (same : Bool) → all_calm (enqueues.told_link (if tail then roots.Tail else roots.Head) slot same) ≡ true

@@ -1,41 +1,28 @@
 -- What each step of a call tells, and what the phase that it leaves knows.
-use Rattle.std.proofs.Common.{ℕ, ◌+◌, ◌-◌, ◌*◌, ◌%◌, ◌<◌, ◌≤◌, ◌≡◌, Bool, true, false, arith, refl, ap, ◌∙◌, sym, subst, List, [], ◌∷◌, ◌++◌, length}
+use Rattle.std.proofs.Common.{ℕ, ◌+◌, ◌%◌, ◌<◌, ◌≤◌, ◌≡◌, Bool, true, false, arith, refl, ap, ◌∙◌, sym, subst, List, [], ◌∷◌, ◌++◌, length}
 use Rattle.std.proofs.lemmas.Bool.Decides.{nat_tests}
 use Rattle.std.proofs.lemmas.List.{length-append, take_all}
-use Rattle.std.specs.Prelude.{◌==◌, nat_lt, if◌then◌else◌, take, drop, Option, Some, None}
+use Rattle.std.specs.Prelude.{◌==◌, nat_lt, take, drop, Option, Some, None}
 use Rattle.wfe_words.specs.Place.{Place}
-use Rattle.wfe_words.specs.Place.Place.{Bucket, Row}
+use Rattle.wfe_words.specs.Place.Place.{Row}
 use Rattle.wfe_defs.specs.Pairs.{Pair, changed, value_in}
 use Rattle.wfe_defs.specs.declared.call.Answer.{Answer}
-use Rattle.wfe_defs.specs.declared.call.Answer.TheVariants as the_answers
 use Rattle.wfe_defs.specs.declared.event.Event.{Event}
-use Rattle.wfe_defs.specs.declared.event.Event.TheVariants as events
 use Rattle.wfe_defs.specs.declared.event.Root.TheVariants as roots
-use Rattle.wfe_core.specs.declared.ends.AllocateEnd.{AllocateEnd}
-use Rattle.wfe_core.specs.declared.ends.AllocateEnd.TheVariants as allocate_ends
-use Rattle.wfe_core.specs.declared.ends.FollowEnd.{FollowEnd}
-use Rattle.wfe_core.specs.declared.ends.FollowEnd.TheVariants as follow_ends
-use Rattle.wfe_core.specs.declared.ends.ProtectEnd.{ProtectEnd}
-use Rattle.wfe_core.specs.declared.ends.ProtectEnd.TheVariants as protect_ends
 use Rattle.wfe_core.specs.declared.post.Post.{Post}
-use Rattle.wfe_core.specs.Desks.{Desk, with_life}
-use Rattle.wfe_core.specs.Phases.{RowOf, Base, Walk, Ending, Outcome, Goes, Ends, Turn}
-use Rattle.wfe_core.specs.Phases.Ending.{Done, Protected, Followed, Allocated, Retired, Clocked}
+use Rattle.wfe_core.specs.Desks.{Desk}
 use Rattle.wfe_core.specs.Memory.{place_in, found}
-use Rattle.wfe_core.specs.Rounds.{clearing, clearing_next}
+use Rattle.wfe_core.specs.Rounds.{clearing}
 use Rattle.wfe_core.specs.Get as gets
 use Rattle.wfe_core.specs.Change as alters
-use Rattle.wfe_core.specs.Enqueue as enqueues
-use Rattle.wfe_core.specs.Dequeue as dequeues
-use Rattle.wfe_core.specs.Steps as steps
-use Rattle.wfe_core.specs.Calls.{ChangeKept, EnqueueKept, Task, Gets, Changes, Holds, Enqueues, Dequeues, Next, Again, MakeRoom, Answering, Retiring, AfterScan, Answered, Repeated, Counted, Why, Opens, FollowsHead, Fills, ClearsNext, Clears, Finishes, GivesUp, Retires, Tidies, Advances, Releases, GetAt, FindVersion, FindCount, FindKey, FindValue, ChangeAt, LoadVersion, LoadCount, LoadKey, LoadValue, ExchangeRoot, EnqueueAt, LoadNumber, LoadNext, PassTail, ExchangeNext, ExchangeTail, DequeueAt, LoadTail, SwingTail, TakeNumber, TakeValue, ExchangeHead, Works, Getting, Changing, Enqueuing, Dequeuing, CallTurn}
+use Rattle.wfe_core.specs.Calls.{ChangeKept, Task, Changes, Next, Again, Answering, GetAt, FindVersion, FindCount, FindKey, FindValue, ChangeAt, LoadVersion, LoadCount, LoadKey, LoadValue, ExchangeRoot}
 use Rattle.wfe_contents.specs.Shelf.{Shelf, Shows}
-use Rattle.wfe_contents.specs.Knows.{Ground, pair_at, FoundRow, FoundKeys, FoundOwn, GetKnows, AtRow, AtCount, AtKey, AtValue, Decided, Ready, Writing, ChangeKnows, FillKnows, changes_in, get_reads}
+use Rattle.wfe_contents.specs.Knows.{Ground, pair_at, FoundRow, FoundKeys, GetKnows, AtCount, AtValue, Decided, ChangeKnows, FillKnows, changes_in, get_reads}
 use Rattle.wfe_contents.proofs.Told.{all_calm}
 use Rattle.wfe_contents.proofs.Lasts.{on, same_number, is_number}
 use Rattle.wfe_contents.proofs.Lists.{take_next, value_next, value_here}
 use Rattle.wfe_contents.proofs.Reading.{version_shown, count_shown, key_shown, value_shown}
-use Rattle.wfe_contents.proofs.Rounds.{Adds, Turns, turns_adds, adds_none, round_plain, closed_adds, finishing_adds, clearing_adds, clearing_next_adds, got_adds, tidying_adds}
+use Rattle.wfe_contents.proofs.Rounds.{Turns, turns_adds, clearing_adds, got_adds}
 
 -- rows that a call reads show what they should
 abbrev pub Shown : (ℕ → Bool) → Shelf → (Place → ℕ) → Type 0

@@ -1,22 +1,21 @@
 -- Which seat may write the words of a row, and what a step that links no row leaves of the rows.
-use Rattle.std.proofs.Common.{ℕ, ◌+◌, ◌-◌, ◌≡◌, Bool, true, false, arith, refl, ap, ◌∙◌, sym, subst, List}
+use Rattle.std.proofs.Common.{ℕ, ◌+◌, ◌≡◌, Bool, true, false, arith, refl, ap, ◌∙◌, sym, subst, List}
 use Rattle.std.proofs.lemmas.Bool.Decides.{nat_tests}
-use Rattle.std.specs.Prelude.{◌==◌, if◌then◌else◌, Option, Some, None}
+use Rattle.std.specs.Prelude.{◌==◌, if◌then◌else◌}
 use Rattle.wfe_defs.specs.declared.lifetime.Lifetime.{Lifetime}
 use Rattle.wfe_core.specs.declared.post.Post.{Post}
 use Rattle.wfe_core.specs.Allocate.{is_claimed}
-use Rattle.wfe_core.specs.Change.{changed_bucket}
 use Rattle.wfe_core.specs.Memory.{upd}
 use Rattle.wfe_core.specs.Phases.{AllocateAt, RetireAt, Base}
 use Rattle.wfe_core.specs.Phases.AllocateAt.{LoadBirth, ClaimSlot, StoreLife}
 use Rattle.wfe_core.specs.Phases.RetireAt.{LoadLife, LoadRetire, StoreRetired}
 use Rattle.wfe_core.specs.Phases.Base.{Begin, Protect, Reload, Clear, Finish, Release, Allocate, Write, GiveUp, Retire, Move}
-use Rattle.wfe_core.specs.Calls.{ChangeKept, EnqueueKept, Task, Why, Opens, FollowsHead, Fills, ClearsNext, Clears, Finishes, GivesUp, Retires, Tidies, Advances, Releases, ScanAt, ReadGuard, GiveBack, ChangeAt, LoadVersion, LoadCount, LoadKey, LoadValue, ExchangeRoot, EnqueueAt, LoadNumber, LoadNext, PassTail, ExchangeNext, ExchangeTail, DequeueAt, LoadTail, SwingTail, TakeNumber, TakeValue, ExchangeHead, Work, Getting, Changing, Enqueuing, Dequeuing, Phase, Idle, Runs, Scans, Works}
+use Rattle.wfe_core.specs.Calls.{ChangeKept, Why, Opens, FollowsHead, Fills, ClearsNext, Clears, Finishes, GivesUp, Retires, Tidies, Advances, Releases, ScanAt, ReadGuard, GiveBack, ChangeAt, LoadVersion, LoadCount, LoadKey, LoadValue, ExchangeRoot, EnqueueAt, LoadNumber, LoadNext, PassTail, ExchangeNext, ExchangeTail, DequeueAt, LoadTail, SwingTail, TakeNumber, TakeValue, ExchangeHead, Work, Getting, Changing, Enqueuing, Dequeuing, Phase, Idle, Runs, Scans, Works}
 use Rattle.wfe_rows.specs.Rows.{Status, View, Good, RowMove, made}
 use Rattle.wfe_rows.specs.Rows.Hand.{Taken}
 use Rattle.wfe_rows.specs.Rows.Status.{Free, Claimed, Born, Linked, InQueue, Cut, Sealed, Listed}
 use Rattle.wfe_rows.specs.Rows.RowMove.{Stays, Claims, Bears, Drops, Links, Replaces, Appends, Pops, Reads, Seals, Lists, Returns}
-use Rattle.wfe_rows.specs.Hands.{is_plain, is_giving_up, is_retiring, runs_right, hand_base, base_row, allocate_row, retire_row, scan_row, row_move, linked_row, change_row, enqueue_row, dequeue_row, work_row}
+use Rattle.wfe_rows.specs.Hands.{is_plain, runs_right, hand_base, base_row, allocate_row, retire_row, scan_row, row_move, change_row, enqueue_row, dequeue_row, work_row}
 use Rattle.wfe_rows.specs.Agree.{Plays}
 use Rattle.wfe_rows.proofs.Fits.{MoveFits}
 use Rattle.wfe_rows.proofs.Phases.{taken_as}

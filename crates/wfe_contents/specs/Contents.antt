@@ -1,5 +1,5 @@
 -- What rows of the map show in a World, what a step owes to the other parts of the invariant for it, and that steps keep it.
-use Rattle.std.specs.Prelude.{ℕ, ◌≡◌, ◌≤◌, ◌==◌, ◌%◌, Bool, true, false, length}
+use Rattle.std.specs.Prelude.{ℕ, ◌≡◌, ◌≤◌, ◌==◌, ◌%◌, true, length}
 use Rattle.wfe_words.specs.Place.{is_valid}
 use Rattle.wfe_words.specs.declared.layout.Layout.{Layout}
 use Rattle.wfe_defs.specs.declared.call.Call.{Call}
@@ -15,7 +15,7 @@ use Rattle.wfe_core.specs.World.{World, start, step, begin, finds}
 use Rattle.wfe_rows.specs.Rows.{View}
 use Rattle.wfe_rows.specs.Rows.Status.{Linked}
 use Rattle.wfe_rows.specs.Agree.{Agree, RowsNeeds, rows_after, first_rows}
-use Rattle.wfe_contents.specs.Shelf.{Shelf, shelf_of, is_settled, Shows}
+use Rattle.wfe_contents.specs.Shelf.{shelf_of, is_settled, Shows}
 use Rattle.wfe_contents.specs.Knows.{Ground, Knows, reads_in}
 
 abbrev pub ground_of : World → Ground

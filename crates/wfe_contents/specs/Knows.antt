@@ -1,9 +1,9 @@
 -- What a seat's phase knows of rows of the map: what it has read of a row that stands, and what it has written of its own.
-use Rattle.std.specs.Prelude.{ℕ, ◌≡◌, ◌<◌, ◌+◌, ◌*◌, ◌%◌, ◌==◌, Bool, true, false, List, [], length, take, drop, slice_index_or, Option, Some, None}
+use Rattle.std.specs.Prelude.{ℕ, ◌≡◌, ◌<◌, ◌+◌, ◌*◌, ◌%◌, ◌==◌, Bool, false, List, [], length, take, drop, slice_index_or, Some}
 use Rattle.wfe_words.specs.Place.{Place}
 use Rattle.wfe_defs.specs.Pairs.{Pair, changed, value_in}
 use Rattle.wfe_defs.specs.declared.event.Root.TheVariants as roots
-use Rattle.wfe_core.specs.Phases.{AllocateAt, RetireAt, RowOf, Base}
+use Rattle.wfe_core.specs.Phases.{RowOf, Base}
 use Rattle.wfe_core.specs.Phases.Base.{Begin, Protect, Reload, Clear, Finish, Release, Allocate, Write, GiveUp, Retire, Move}
 use Rattle.wfe_core.specs.Rounds.{key_of}
 use Rattle.wfe_core.specs.Change.{new_row}
