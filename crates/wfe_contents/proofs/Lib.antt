@@ -1,0 +1,14 @@
+pub mod Begun
+pub mod Kept
+pub mod Lasts
+pub mod Links
+pub mod Lists
+pub mod Machines
+pub mod Phases
+pub mod Reading
+pub mod Rounds
+pub mod Shelves
+pub mod Steps
+pub mod Told
+pub mod Turns
+pub mod Views

@@ -1,0 +1,118 @@
+-- What steps tell the book of: most events change neither the changes of a bucket nor where a row was linked.
+use Rattle.std.proofs.Common.{ℕ, ◌≡◌, Bool, true, false, ◌&&◌, arith, refl, ap, ◌∙◌, sym, List, [], ◌∷◌, ◌++◌}
+use Rattle.std.proofs.lemmas.Bool.Decides.{nat_tests}
+use Rattle.std.specs.Prelude.{◌==◌}
+use Rattle.wfe_defs.specs.declared.event.Event.{Event}
+use Rattle.wfe_defs.specs.declared.event.Event.TheVariants as events
+use Rattle.wfe_defs.specs.declared.event.Root.{Root}
+use Rattle.wfe_defs.specs.declared.event.Root.TheVariants as roots
+use Rattle.wfe_core.specs.Book.{Book, RowBook, booked, booked_all, with_row}
+use Rattle.wfe_core.specs.Memory.{upd}
+use Rattle.wfe_contents.specs.Shelf.{Shelf, shelf_of, pairs_by}
+
+abbrev pub is_end : Root → Bool
+is_end (roots.Bucket bucket) = false
+is_end (roots.Next parent) = false
+is_end roots.Head = true
+is_end roots.Tail = true
+
+-- the event leaves changes and rows of the map
+abbrev pub is_calm : Event → Bool
+is_calm (events.Link root slot) = is_end root
+is_calm (events.Put bucket version key value) = false
+is_calm (events.Removed bucket version key) = false
+is_calm event = true
+
+abbrev pub all_calm : List Event → Bool
+all_calm [] = true
+all_calm (event ∷ told) = is_calm event && all_calm told
+
+first_calm : (x y : Bool) → (x && y) ≡ true → x ≡ true
+first_calm true y h = refl
+first_calm false y h = h
+
+rest_calm : (x y : Bool) → (x && y) ≡ true → y ≡ true
+rest_calm true y h = h
+rest_calm false y h = absurd (cc)
+
+both_calm : (x y : Bool) → x ≡ true → y ≡ true → (x && y) ≡ true
+both_calm true y h k = k
+both_calm false y h k = h
+
+pub calm_append : (a b : List Event) → all_calm a ≡ true → all_calm b ≡ true → all_calm (a ++ b) ≡ true
+calm_append [] b h k = k
+calm_append (event ∷ a) b h k = both_calm (is_calm event) (all_calm (a ++ b)) (first_calm (is_calm event) (all_calm a) h) (calm_append a b (rest_calm (is_calm event) (all_calm a) h) k)
+
+-- two books have the same changes and rows of the map
+pub record SameBook (a b : Book) : Type 0 where
+  pub changes : (bucket : ℕ) → b.changes bucket ≡ a.changes bucket
+  pub roots : (s : ℕ) → (b.row s).root ≡ (a.row s).root
+  pub versions : (s : ℕ) → (b.row s).version ≡ (a.row s).version
+
+same_book : (a : Book) → SameBook a a
+same_book a = record { changes = λ b. refl; roots = λ s. refl; versions = λ s. refl }
+
+same_then : (a b c : Book) → SameBook a b → SameBook b c → SameBook a c
+same_then a b c h k = record {
+  changes = λ x. k.changes x ∙ h.changes x;
+  roots = λ s. k.roots s ∙ h.roots s;
+  versions = λ s. k.versions s ∙ h.versions s;
+}
+
+row_root : (f : ℕ → RowBook) (slot : ℕ) (row : RowBook) (s : ℕ) → row.root ≡ (f slot).root → (upd f slot row s).root ≡ (f s).root
+row_root f slot row s h = by_slot (s == slot) refl
+  where
+    by_slot : (x : Bool) → (s == slot) ≡ x → (upd f slot row s).root ≡ (f s).root
+    by_slot true e = let same : s ≡ slot = grind (arith, nat_tests) in rw e (h ∙ ap (λ (n : ℕ). (f n).root) (sym same))
+    by_slot false e = rw e refl
+
+row_version : (f : ℕ → RowBook) (slot : ℕ) (row : RowBook) (s : ℕ) → row.version ≡ (f slot).version → (upd f slot row s).version ≡ (f s).version
+row_version f slot row s h = by_slot (s == slot) refl
+  where
+    by_slot : (x : Bool) → (s == slot) ≡ x → (upd f slot row s).version ≡ (f s).version
+    by_slot true e = let same : s ≡ slot = grind (arith, nat_tests) in rw e (h ∙ ap (λ (n : ℕ). (f n).version) (sym same))
+    by_slot false e = rw e refl
+
+same_row : (a : Book) (slot : ℕ) (row : RowBook) → row.root ≡ (a.row slot).root → row.version ≡ (a.row slot).version → SameBook a (with_row a slot row)
+same_row a slot row h k = record { changes = λ b. refl; roots = λ s. row_root a.row slot row s h; versions = λ s. row_version a.row slot row s k }
+
+calm_booked : (a : Book) (event : Event) → is_calm event ≡ true → SameBook a (booked a event)
+calm_booked a (events.Give slot birth) h = same_row a slot (record (a.row slot) { birth = birth; retire = 0 }) refl refl
+calm_booked a (events.Retire slot birth retire) h = same_row a slot (record (a.row slot) { birth = birth; retire = retire }) refl refl
+calm_booked a (events.Link (roots.Bucket bucket) slot) h = absurd (cc)
+calm_booked a (events.Link (roots.Next parent) slot) h = absurd (cc)
+calm_booked a (events.Link roots.Head slot) h = same_book a
+calm_booked a (events.Link roots.Tail slot) h = same_book a
+calm_booked a (events.Put bucket version key value) h = absurd (cc)
+calm_booked a (events.Removed bucket version key) h = absurd (cc)
+calm_booked a (events.Queued number value) h = record { changes = λ b. refl; roots = λ s. refl; versions = λ s. refl }
+calm_booked a (events.Taken number value) h = record { changes = λ b. refl; roots = λ s. refl; versions = λ s. refl }
+calm_booked a event h = same_book a
+
+pub calm_book : (told : List Event) (a : Book) → all_calm told ≡ true → SameBook a (booked_all a told)
+calm_book [] a h = same_book a
+calm_book (event ∷ told) a h =
+    same_then a (booked a event) (booked_all (booked a event) told) (calm_booked a event (first_calm (is_calm event) (all_calm told) h)) (calm_book told (booked a event) (rest_calm (is_calm event) (all_calm told) h))
+
+pub booked_append : (told more : List Event) (a : Book) → booked_all a (told ++ more) ≡ booked_all (booked_all a told) more
+booked_append [] more a = refl
+booked_append (event ∷ told) more a = booked_append told more (booked a event)
+
+-- rows show the same
+pub record SameSlot (a b : Shelf) (s : ℕ) : Type 0 where
+  pub root : b.root s ≡ a.root s
+  pub version : b.version s ≡ a.version s
+  pub pairs : b.pairs s ≡ a.pairs s
+
+pub pairs_same : (a b : Book) (root : Root) (version : ℕ) → ((x : ℕ) → b.changes x ≡ a.changes x) → pairs_by b.changes root version ≡ pairs_by a.changes root version
+pairs_same a b (roots.Bucket bucket) version h = rw (h bucket) refl
+pairs_same a b (roots.Next parent) version h = refl
+pairs_same a b roots.Head version h = refl
+pairs_same a b roots.Tail version h = refl
+
+pub same_slot : (a b : Book) (s : ℕ) → SameBook a b → SameSlot (shelf_of a) (shelf_of b) s
+same_slot a b s h = record {
+  root = h.roots s;
+  version = h.versions s;
+  pairs = rw (h.roots s, h.versions s) (pairs_same a b (a.row s).root (a.row s).version h.changes);
+}

@@ -1,0 +1,52 @@
+-- What rows of the map show in a World, what a step owes to the other parts of the invariant for it, and that steps keep it.
+use Rattle.std.specs.Prelude.{ℕ, ◌≡◌, ◌≤◌, ◌==◌, ◌%◌, true, length}
+use Rattle.wfe_words.specs.Place.{is_valid}
+use Rattle.wfe_words.specs.declared.layout.Layout.{Layout}
+use Rattle.wfe_defs.specs.declared.call.Call.{Call}
+use Rattle.wfe_defs.specs.declared.event.Root.TheVariants as roots
+use Rattle.wfe_core.specs.declared.ends.ProtectEnd.TheVariants as protect_ends
+use Rattle.wfe_core.specs.Phases.{Base, Ends, Protected}
+use Rattle.wfe_core.specs.Posts.{counted}
+use Rattle.wfe_core.specs.Machine.{after}
+use Rattle.wfe_core.specs.Rounds.{key_of}
+use Rattle.wfe_core.specs.Calls.{ChangeKept, Gets, Changes, Opens, Runs}
+use Rattle.wfe_core.specs.Book.{Book}
+use Rattle.wfe_core.specs.World.{World, start, step, begin, finds}
+use Rattle.wfe_rows.specs.Rows.{View}
+use Rattle.wfe_rows.specs.Rows.Status.{Linked}
+use Rattle.wfe_rows.specs.Agree.{Agree, RowsNeeds, rows_after, first_rows}
+use Rattle.wfe_contents.specs.Shelf.{shelf_of, is_settled, Shows}
+use Rattle.wfe_contents.specs.Knows.{Ground, Knows, reads_in}
+
+abbrev pub ground_of : World → Ground
+ground_of w = record { buckets = w.layout.config.buckets; shelf = shelf_of w.book; mem = w.mem }
+
+-- rows and book agree: a row that a bucket's root leads to or led to shows its version and the pairs at that version, which
+-- is one of the bucket's; the row that the root leads to shows the last; and the root is null while nothing was changed
+pub record Shelved (g : Ground) (book : Book) (v : View) : Type 0 where
+  pub shows : (s b : ℕ) → is_settled (v.status s) ≡ true → g.shelf.root s ≡ roots.Bucket b → Shows g.mem s (g.shelf.version s) (g.shelf.pairs s)
+  pub within : (s b : ℕ) → is_settled (v.status s) ≡ true → g.shelf.root s ≡ roots.Bucket b → g.shelf.version s ≤ length (book.changes b)
+  pub root : (s b : ℕ) → v.status s ≡ Linked b → g.shelf.root s ≡ roots.Bucket b
+  pub latest : (s b : ℕ) → v.status s ≡ Linked b → g.shelf.version s ≡ length (book.changes b)
+  pub empty : (b : ℕ) → (v.root b == 0) ≡ (length (book.changes b) == 0)
+
+pub record Contents (w : World) (v : View) : Type 0 where
+  pub rows : Shelved (ground_of w) w.book v
+  pub seats : (k : ℕ) → Knows (ground_of w) (w.seat k).phase
+
+-- what a step of seat i needs of the other parts of the invariant
+pub record ContentsNeeds (w : World) (i : ℕ) (v : View) : Type 0 where
+  -- a row of which a seat has read is not given back
+  pub held : (k s : ℕ) → reads_in (w.seat k).phase s ≡ true → is_settled (v.status s) ≡ true
+  -- a row that was protected from a bucket's root was linked there last
+  pub gets : (key slot era : ℕ) (base : Base) → (w.seat i).phase ≡ Runs (Opens (Gets key)) base → (after base (counted (w.seat i).post) (finds w i)).outcome ≡ Ends (Protected (protect_ends.Held slot era)) → (w.book.row slot).root ≡ roots.Bucket (key % w.layout.config.buckets)
+  pub changes : (kept : ChangeKept) (slot era : ℕ) (base : Base) → (w.seat i).phase ≡ Runs (Opens (Changes kept)) base → (after base (counted (w.seat i).post) (finds w i)).outcome ≡ Ends (Protected (protect_ends.Held slot era)) → (w.book.row slot).root ≡ roots.Bucket (key_of kept.change % w.layout.config.buckets)
+
+abbrev pub ContentsStart : Type 0
+ContentsStart = (layout : Layout) → is_valid layout ≡ true → Contents (start layout) (first_rows layout)
+
+abbrev pub ContentsBegin : Type 0
+ContentsBegin = (w : World) (i : ℕ) (call : Call) (v : View) → Contents w v → Contents (begin w i call) v
+
+abbrev pub ContentsKept : Type 0
+ContentsKept = (w : World) (i : ℕ) (v : View) → RowsNeeds w i v → ContentsNeeds w i v → Agree w v → Contents w v → Contents (step w i) (rows_after w i v)

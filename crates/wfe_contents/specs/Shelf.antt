@@ -1,0 +1,53 @@
+-- What the book says that each row of the map shows, and when the words of a row show it.
+use Rattle.std.specs.Prelude.{ℕ, ◌≡◌, ◌≤◌, ◌<◌, ◌+◌, ◌*◌, Bool, true, false, List, [], length, take}
+use Rattle.wfe_words.specs.Place.{Place}
+use Rattle.wfe_words.specs.Place.Place.{Row}
+use Rattle.wfe_defs.specs.Pairs.{Pair, pairs_after}
+use Rattle.wfe_defs.specs.declared.event.Root.{Root}
+use Rattle.wfe_defs.specs.declared.event.Root.TheVariants as roots
+use Rattle.wfe_defs.specs.declared.fold.Change.{Change}
+use Rattle.wfe_core.specs.Book.{Book}
+use Rattle.wfe_core.specs.Phases.{RowOf, MapRow}
+use Rattle.wfe_core.specs.WriteRow.{row_word}
+use Rattle.wfe_rows.specs.Rows.{Status}
+use Rattle.wfe_rows.specs.Rows.Status.{Free, Claimed, Born, Linked, InQueue, Cut, Sealed, Listed}
+
+-- by slot: the root and the version under which the row was linked last, and the pairs of the bucket at that version
+pub record Shelf : Type 0 where
+  pub root : ℕ → Root
+  pub version : ℕ → ℕ
+  pub pairs : ℕ → List Pair
+
+-- the pairs of a root at a version; only buckets have pairs
+abbrev pub pairs_by : (ℕ → List Change) → Root → ℕ → List Pair
+pairs_by changes (roots.Bucket bucket) version = pairs_after (take version (changes bucket))
+pairs_by changes (roots.Next parent) version = []
+pairs_by changes roots.Head version = []
+pairs_by changes roots.Tail version = []
+
+abbrev pub shelf_of : Book → Shelf
+shelf_of book =
+    record {
+      root = λ s. (book.row s).root;
+      version = λ s. (book.row s).version;
+      pairs = λ s. pairs_by book.changes (book.row s).root (book.row s).version;
+    }
+
+-- a row that is linked, or was cut and is not given back: no seat writes its words
+abbrev pub is_settled : Status → Bool
+is_settled Free = false
+is_settled (Claimed by) = false
+is_settled (Born by) = false
+is_settled (Linked bucket) = true
+is_settled InQueue = true
+is_settled (Cut by) = true
+is_settled (Sealed by retire) = true
+is_settled (Listed by retire) = true
+
+-- the words of a slot from place 1 up to below a place are those of a row
+abbrev pub Filled : (Place → ℕ) → ℕ → RowOf → ℕ → Type 0
+Filled mem slot row place = (q : ℕ) → 1 ≤ q → q < place → mem (Row slot q) ≡ row_word row q
+
+-- a slot shows a version and pairs: the version, the count of the pairs, and each key and value
+abbrev pub Shows : (Place → ℕ) → ℕ → ℕ → List Pair → Type 0
+Shows mem slot version pairs = Filled mem slot (MapRow version pairs) (3 + 2 * length pairs)

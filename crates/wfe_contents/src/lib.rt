@@ -1,0 +1,25 @@
+//! What the rows of the map show, and what calls know of it: a part of the invariant of the
+//! machines. Each function here does nothing, and carries a theorem.
+#![tactic(auto)]
+
+ghost use Rattle.wfe_contents.specs.Contents.{ContentsBegin, ContentsKept, ContentsStart};
+
+/// At the start of a table each bucket is empty, and no seat knows anything of a row.
+pub fn contents_start()
+    ensures { ContentsStart }
+{}
+
+/// The beginning of a call keeps what rows of the map show, and what seats know of them.
+pub fn contents_begin()
+    ensures { ContentsBegin }
+{}
+
+/// Each step of a seat keeps it: a row that a bucket's root leads to, or led to until it was cut,
+/// shows the version under which it was linked and the bucket's pairs at that version; the root
+/// leads to the row of the last version, and is null while nothing was changed. What a get or a
+/// change has read of a row is what the row shows, what a change writes are the pairs that it read
+/// with the change, and where it exchanges the root they are those of the bucket's last version
+/// with the change.
+pub fn contents_kept()
+    ensures { ContentsKept }
+{}
