@@ -4,4 +4,4 @@
 
 mod move_clock;
 
-pub use move_clock::MoveClock;
+pub use move_clock::{MoveClock, asking_word};

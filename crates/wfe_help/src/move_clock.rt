@@ -3,7 +3,7 @@ ghost use Rattle.std.specs.Prelude.{◌≡◌, ◌<◌, ◌≤◌};
 ghost use Rattle.wfe_core.specs.MoveClock.{next_request as request_after, met as met_at, moving};
 ghost use Rattle.wfe_core.specs.Phases.Base.{Move};
 ghost use Rattle.wfe_core.specs.Phases.MoveAt.{LoadEra};
-ghost use Rattle.wfe_core.specs.Ready.{AskFits, AskedFits, LinkFits};
+ghost use Rattle.wfe_core.specs.Ready.{AskedFits, RootFits};
 ghost use Rattle.wfe_core.specs.SlowPath.{asking};
 ghost use Rattle.wfe_core.specs.Valid.{IsValid};
 ghost use Rattle.wfe_words.specs.Packed.{read_request as request_in};
@@ -93,16 +93,19 @@ impl MoveClock {
     }
 }
 
-// The request word while the request is pending.
-fn asking_word(post: &Post, asked: Asked) -> u64
+/// A seat's request word while its request for a link, at an index and under the index's tag, is
+/// pending.
+pub fn asking_word(post: &Post, tag: u32, index: u32, root: Root) -> u64
     requires valid { IsValid post.now }
-    requires fits { AskFits post.now asked.seat asked.tag asked.index asked.root }
-    ensures { result ≡ asking post.now.layout asked.tag asked.index asked.root }
+    requires tag { tag < 4294967295 }
+    requires index { index < post.now.layout.config.indexes }
+    requires root { RootFits post.now.layout root }
+    ensures { result ≡ asking post.now.layout tag index root }
 {
     request_word(Request::Pending {
-        tag: asked.tag,
-        index: asked.index,
-        word: link_word_number(post.layout, asked.root),
+        tag,
+        index,
+        word: link_word_number(post.layout, root),
     })
 }
 
@@ -177,7 +180,7 @@ impl Machine for MoveClock {
             },
             At::AnswerAsked { era, asked, link } => Op::Cas {
                 word: post.layout.request(asked.seat),
-                old: asking_word(post, asked),
+                old: asking_word(post, asked.tag, asked.index, asked.root),
                 new: request_word(Request::Answered { link, era }),
             },
             At::LoadReserved { asked, .. } => Op::Load {
@@ -251,7 +254,7 @@ impl Machine for MoveClock {
                 }
             }
             At::AnswerAsked { era, asked, link } => {
-                self.at = if found == asking_word(post, asked) {
+                self.at = if found == asking_word(post, asked.tag, asked.index, asked.root) {
                     At::LoadReserved { era, asked, link }
                 } else {
                     next_request(post, era, asked.seat, true)

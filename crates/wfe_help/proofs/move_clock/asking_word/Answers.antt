@@ -7,6 +7,6 @@ use Rattle.wfe_help.proofs.move_clock.asking_word.Goals as goal
 
 pub request_word-requires : goal.request_word-requires
 request_word-requires c =
-    let below = number_below c.args.post.now.layout (link_place c.args.asked.root) c.requires.fits.root_in in
+    let below = number_below c.args.post.now.layout (link_place c.args.root) c.requires.root in
     let few = words_few c.args.post.now.layout c.requires.valid.layout in
-    grind (arith, nat_tests, common_steps, below, few, c.requires.valid.bounds.indexes.1, c.requires.fits.index_in, c.link_word_number.ensures.number)
+    grind (arith, nat_tests, common_steps, below, few, c.requires.valid.bounds.indexes.1, c.requires.index, c.link_word_number.ensures.number)
