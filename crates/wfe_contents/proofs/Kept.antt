@@ -5,6 +5,7 @@ use Rattle.std.proofs.lemmas.List.{append_assoc}
 use Rattle.std.specs.Prelude.{◌==◌, if◌then◌else◌, None}
 use Rattle.wfe_words.specs.Place.{Place}
 use Rattle.wfe_words.specs.Place.Place.{Bucket, Row}
+use Rattle.wfe_words.specs.declared.layout.Layout.{Layout}
 use Rattle.wfe_defs.specs.declared.event.Event.{Event}
 use Rattle.wfe_defs.specs.declared.lifetime.Lifetime.{Lifetime}
 use Rattle.wfe_core.specs.declared.post.Post.{Post}
@@ -31,14 +32,14 @@ use Rattle.wfe_eras.specs.Frame.{phase_left}
 use Rattle.wfe_contents.specs.Shelf.{Shelf, shelf_of, is_settled, Filled}
 use Rattle.wfe_contents.specs.Knows.{Ground, Knows, Ready, reads_in}
 use Rattle.wfe_contents.specs.Contents.{Shelved, ContentsKept}
-use Rattle.wfe_contents.proofs.Told.{all_calm, calm_append, SameBook, SameSlot, calm_book, booked_append, same_slot}
+use Rattle.wfe_contents.proofs.Told.{all_calm, calm_append, SameBook, SameSlot, calm_book, booked_append, same_slot, claimed_book, claimed_append, calm_claimed}
 use Rattle.wfe_contents.proofs.Lasts.{on, knows_lasts}
 use Rattle.wfe_contents.proofs.Links.{exchange_linking, exchange_latest}
 use Rattle.wfe_contents.proofs.Machines.{rows_stay}
 use Rattle.wfe_contents.proofs.Phases.{links_in, RootsHeld, phase_turns}
 use Rattle.wfe_contents.proofs.Rounds.{Adds, Turns, plain_knows, clearing_adds}
 use Rattle.wfe_contents.proofs.Shelves.{WordsStay, calm_shelved, keeps_all, joined_far, joined_shelved, exchanged_book, linked_booked, exchanged_far, Linking, Latest, exchanged_shelved}
-use Rattle.wfe_contents.proofs.Turns.{Shown}
+use Rattle.wfe_contents.proofs.Turns.{GetOwes, Shown}
 use Rattle.wfe_contents.proofs.Views.{Keeps, keeps_made, unlinks, settled_stays, owned_stays}
 
 number_is : (a b : ℕ) → (a == b) ≡ true → a ≡ b
@@ -68,7 +69,7 @@ did_then n a b c v u after left e d = record {
 -- a step that links no row
 calm_did : (n : ℕ) (a : Book) (v u : View) (mem after : Place → ℕ) (t : CallTurn) → Turns (on n (shelf_of a) after) t → Keeps v u → WordsStay v mem after → Shelved (on n (shelf_of a) mem) a v → Did n a (booked_all a (told_by t)) v u after (phase_left t.outcome)
 calm_did n a v u mem after t h k w c =
-    let same : SameBook a (booked_all a (told_by t)) = calm_book (told_by t) a (calm_append t.told (told_end t.post t.outcome) h.calm (end_calm t.post t.outcome)) in
+    let same : SameBook a (booked_all a (told_by t)) = claimed_book (shelf_of a) (told_by t) a (claimed_append (shelf_of a) t.told (told_end t.post t.outcome) h.calm (calm_claimed (shelf_of a) (told_end t.post t.outcome) (end_calm t.post t.outcome))) in
     record {
       rows = calm_shelved n a (booked_all a (told_by t)) v u mem after same k w c;
       own = knows_lasts n (shelf_of a) (shelf_of (booked_all a (told_by t))) after after (phase_left t.outcome) (λ s y. same_slot a (booked_all a (told_by t)) s same) (λ s q y low. refl) h.knows;
@@ -164,11 +165,11 @@ linking_did n slots a v mem after i (Works (Enqueuing kept at)) post desk list y
 linking_did n slots a v mem after i (Works (Dequeuing at)) post desk list y e g x p w h c = absurd (cc)
 
 phase_did : (n slots : ℕ) (a : Book) (v : View) (mem : Place → ℕ) (i : ℕ) (phase : Phase) (post : Post) (desk : Desk) (links : Bool) → links_in phase (found (phase_move phase post) (mem (place_in (phase_move phase post)))) ≡ links → Needs slots mem v phase → Good slots v → Words slots mem v → Plays i phase desk.list v
-    → RootsHeld n (shelf_of a) phase (λ b. (machine.after b (counted post) (found (phase_move phase post) (mem (place_in (phase_move phase post))))).outcome) → Shown (reads_in phase) (shelf_of a) mem → Knows (on n (shelf_of a) mem) phase → Shelved (on n (shelf_of a) mem) a v
+    → RootsHeld n (shelf_of a) phase (λ b. (machine.after b (counted post) (found (phase_move phase post) (mem (place_in (phase_move phase post))))).outcome) → GetOwes n (shelf_of a) (counted post) (reads_in phase) → Shown (reads_in phase) (shelf_of a) mem → Knows (on n (shelf_of a) mem) phase → Shelved (on n (shelf_of a) mem) a v
     → Did n a (booked_all a (told_by (phase_turn phase (counted post) desk (found (phase_move phase post) (mem (place_in (phase_move phase post))))))) v (made i v (row_move phase post (found (phase_move phase post) (mem (place_in (phase_move phase post)))))) (written mem (phase_move phase post)) (phase_left (phase_turn phase (counted post) desk (found (phase_move phase post) (mem (place_in (phase_move phase post))))).outcome)
-phase_did n slots a v mem i phase post desk true y needs g x p r shown h c =
+phase_did n slots a v mem i phase post desk true y needs g x p r o shown h c =
     linking_did n slots a v mem (written mem (phase_move phase post)) i phase post desk desk.list y refl g x p (λ s q z low. rows_stay mem phase post s q (settled_stays slots v i phase desk.list s g p z) low) h c
-phase_did n slots a v mem i phase post desk false y needs g x p r shown h c =
+phase_did n slots a v mem i phase post desk false y needs g x p r o shown h c =
     let word : ℕ = found (phase_move phase post) (mem (place_in (phase_move phase post))) in
     calm_did
     n
@@ -178,7 +179,7 @@ phase_did n slots a v mem i phase post desk false y needs g x p r shown h c =
     mem
     (written mem (phase_move phase post))
     (phase_turn phase (counted post) desk word)
-    (phase_turns n (shelf_of a) mem phase post (counted post) desk desk.list p.right y r shown h)
+    (phase_turns n (shelf_of a) mem phase post (counted post) desk desk.list p.right y r o shown h)
     (keeps_made i v (row_move phase post word) (phase_fits slots i mem v phase post desk.list needs g x p) (unlinks phase post word y))
     (λ s q z low. rows_stay mem phase post s q (settled_stays slots v i phase desk.list s g p z) low)
     c
@@ -216,6 +217,7 @@ contents_kept w i v needs owed agree c =
     agree.words
     (agree.plays i)
     (record { gets = λ key base e slot era o. owed.gets key slot era base e o; changes = λ kept base e slot era o. owed.changes kept slot era base e o })
+    (record { buckets = ap (λ (layout : Layout). layout.config.buckets) owed.post; lows = λ s b y r. c.rows.within s b (owed.held i s y) r })
     (λ s b y r. c.rows.shows s b (owed.held i s y) r)
     (c.seats i)
     c.rows in
