@@ -6,6 +6,7 @@ pub mod Lists
 pub mod Machines
 pub mod Phases
 pub mod Reading
+pub mod Right
 pub mod Rounds
 pub mod Shelves
 pub mod Steps

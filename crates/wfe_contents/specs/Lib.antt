@@ -1,3 +1,4 @@
 pub mod Shelf
 pub mod Knows
 pub mod Contents
+pub mod Told

@@ -3,6 +3,7 @@
 #![tactic(auto)]
 
 ghost use Rattle.wfe_contents.specs.Contents.{ContentsBegin, ContentsKept, ContentsStart};
+ghost use Rattle.wfe_contents.specs.Told.{ContentsTold};
 
 /// At the start of a table each bucket is empty, and no seat knows anything of a row.
 pub fn contents_start()
@@ -22,4 +23,11 @@ pub fn contents_begin()
 /// with the change.
 pub fn contents_kept()
     ensures { ContentsKept }
+{}
+
+/// What a step tells of the map is right by the changes told before it: a get tells a version that
+/// there was, and its key's value among the pairs at that version; a put or a remove tells the next
+/// version of its key's bucket.
+pub fn contents_told()
+    ensures { ContentsTold }
 {}
