@@ -1,4 +1,5 @@
 pub mod Begun
+pub mod Buckets
 pub mod Kept
 pub mod Lasts
 pub mod Links

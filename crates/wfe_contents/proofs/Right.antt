@@ -1,12 +1,10 @@
 -- What steps tell of the map is right by the book.
 use Rattle.std.proofs.Common.{ℕ, ◌+◌, ◌%◌, ◌≤◌, ◌≡◌, Bool, true, false, arith, refl, ap, ◌∙◌, sym, subst, List, [], ◌∷◌, ◌++◌, length}
-use Rattle.std.proofs.lemmas.Bool.Decides.{nat_tests}
-use Rattle.std.specs.Prelude.{◌==◌, take, Option, Some, None}
-use Rattle.wfe_defs.specs.Pairs.{Pair, pairs_after, value_in}
+use Rattle.std.specs.Prelude.{◌==◌, take, Option}
+use Rattle.wfe_defs.specs.Pairs.{pairs_after, value_in}
 use Rattle.wfe_defs.specs.declared.event.Event.{Event}
 use Rattle.wfe_defs.specs.declared.event.Event.TheVariants as events
 use Rattle.wfe_defs.specs.declared.event.Root.{Root}
-use Rattle.wfe_defs.specs.declared.event.Root.TheVariants as roots
 use Rattle.wfe_defs.specs.declared.fold.Change.{Change}
 use Rattle.wfe_defs.specs.declared.fold.Change.TheVariants as changes
 use Rattle.wfe_core.specs.declared.post.Post.{Post}
@@ -14,9 +12,9 @@ use Rattle.wfe_core.specs.Book.{Book}
 use Rattle.wfe_core.specs.Change.{told_linked, told_cut, told_change, changed_bucket}
 use Rattle.wfe_core.specs.Rounds.{key_of}
 use Rattle.wfe_core.specs.Calls.{ChangeKept}
-use Rattle.wfe_contents.specs.Shelf.{Shelf, shelf_of, pairs_by}
+use Rattle.wfe_contents.specs.Shelf.{shelf_of, pairs_by}
 use Rattle.wfe_contents.specs.Told.{GotRight, NextChange, TellsRight, AllRight}
-use Rattle.wfe_contents.proofs.Told.{is_calm, Claims, Claimed, GotFrom, FromNone, FromRow}
+use Rattle.wfe_contents.proofs.Told.{Claims, Claimed, GotFrom, FromNone, FromRow}
 use Rattle.wfe_contents.proofs.Shelves.{Latest}
 
 got_right : (a : Book) (b version key : ℕ) (value : Option ℕ) → GotFrom (shelf_of a) b version key value → GotRight a b version key value
