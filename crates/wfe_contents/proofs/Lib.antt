@@ -1,4 +1,5 @@
 pub mod Begun
+pub mod Buckets
 pub mod Kept
 pub mod Lasts
 pub mod Links
@@ -6,6 +7,7 @@ pub mod Lists
 pub mod Machines
 pub mod Phases
 pub mod Reading
+pub mod Right
 pub mod Rounds
 pub mod Shelves
 pub mod Steps

@@ -122,7 +122,7 @@ null_latest n a mem v kept b r l h d =
       pairs = d.none l ∙ ap (λ (cs : List Change). changed (pairs_after cs) kept.change) (sym (empty_changes (a.changes b) none));
     }
 
-all_pairs : (f : ℕ → List Change) (b : ℕ) → pairs_by f (roots.Bucket b) (length (f b)) ≡ pairs_after (f b)
+pub all_pairs : (f : ℕ → List Change) (b : ℕ) → pairs_by f (roots.Bucket b) (length (f b)) ≡ pairs_after (f b)
 all_pairs f b = ap (λ (l : List Change). pairs_after l) (take_all (length (f b)) (f b) (omega arith))
 
 row_latest : (n slots : ℕ) (a : Book) (mem : Place → ℕ) (v : View) (kept : ChangeKept) (b s : ℕ) → Good slots v → v.root b ≡ s + 1 → kept.link ≡ s + 1 → Shelved (on n (shelf_of a) mem) a v → Decided (on n (shelf_of a) mem) kept → Latest (a.changes b) kept

@@ -23,7 +23,7 @@ use Rattle.wfe_contents.specs.Shelf.{Shelf}
 use Rattle.wfe_contents.specs.Knows.{Ground, Knows, TaskKnows, WhyKnows, WorkKnows, ChangeKnows, reads_in, changes_in, work_reads}
 use Rattle.wfe_contents.proofs.Lasts.{on}
 use Rattle.wfe_contents.proofs.Rounds.{Turns, scan_turns}
-use Rattle.wfe_contents.proofs.Turns.{Shown, get_turns, change_turns, missed_turns}
+use Rattle.wfe_contents.proofs.Turns.{GetOwes, Shown, get_turns, change_turns, missed_turns}
 use Rattle.wfe_contents.proofs.Steps.{joins, Holding, plain_turns, get_resumed, change_resumed, fill_turns, enqueue_turns, dequeue_turns}
 use Rattle.wfe_contents.proofs.Machines.{base_calm}
 
@@ -99,18 +99,18 @@ changing_turns n a mem kept (LoadKey slot count) post next desk l r h = change_t
 changing_turns n a mem kept (LoadValue slot count key) post next desk l r h = change_turns n a mem kept (LoadValue slot count key) post next desk refl r h
 changing_turns n a mem kept (ExchangeRoot slot) post next desk l r h = no_exchange (on n a (written mem (alters.change_move kept (ExchangeRoot slot) post))) kept slot next desk (mem (Bucket (alters.changed_bucket kept post)) == kept.link) l
 
-works_turns : (n : ℕ) (a : Shelf) (mem : Place → ℕ) (work : Work) (post next : Post) (desk : Desk) → work_links work (found (work_move work post) (mem (place_in (work_move work post)))) ≡ false → Shown (work_reads work) a mem → WorkKnows (on n a mem) work
+works_turns : (n : ℕ) (a : Shelf) (mem : Place → ℕ) (work : Work) (post next : Post) (desk : Desk) → work_links work (found (work_move work post) (mem (place_in (work_move work post)))) ≡ false → GetOwes n a next (work_reads work) → Shown (work_reads work) a mem → WorkKnows (on n a mem) work
     → Turns (on n a (written mem (work_move work post))) (work_turn work next desk (found (work_move work post) (mem (place_in (work_move work post)))))
-works_turns n a mem (Getting key at) post next desk l r h =
-    subst (λ (m : Place → ℕ). Turns (on n a m) (gets.get_turn key at next desk (found (gets.get_move at) (mem (place_in (gets.get_move at)))))) (sym (get_loads mem at)) (get_turns n a mem key at next desk r h)
-works_turns n a mem (Changing kept at) post next desk l r h = changing_turns n a mem kept at post next desk l r h
-works_turns n a mem (Enqueuing kept at) post next desk l r h = enqueue_turns (on n a (written mem (enqueues.enqueue_move kept at))) kept at next desk (found (enqueues.enqueue_move kept at) (mem (place_in (enqueues.enqueue_move kept at)))) l
-works_turns n a mem (Dequeuing at) post next desk l r h = dequeue_turns (on n a (written mem (dequeues.dequeue_move at))) at next desk (found (dequeues.dequeue_move at) (mem (place_in (dequeues.dequeue_move at))))
+works_turns n a mem (Getting key at) post next desk l o r h =
+    subst (λ (m : Place → ℕ). Turns (on n a m) (gets.get_turn key at next desk (found (gets.get_move at) (mem (place_in (gets.get_move at)))))) (sym (get_loads mem at)) (get_turns n a mem key at next desk o r h)
+works_turns n a mem (Changing kept at) post next desk l o r h = changing_turns n a mem kept at post next desk l r h
+works_turns n a mem (Enqueuing kept at) post next desk l o r h = enqueue_turns (on n a (written mem (enqueues.enqueue_move kept at))) kept at next desk (found (enqueues.enqueue_move kept at) (mem (place_in (enqueues.enqueue_move kept at)))) l
+works_turns n a mem (Dequeuing at) post next desk l o r h = dequeue_turns (on n a (written mem (dequeues.dequeue_move at))) at next desk (found (dequeues.dequeue_move at) (mem (place_in (dequeues.dequeue_move at))))
 
 pub phase_turns : (n : ℕ) (a : Shelf) (mem : Place → ℕ) (phase : Phase) (post next : Post) (desk : Desk) (list : List Lifetime) → is_right phase list ≡ true → links_in phase (found (phase_move phase post) (mem (place_in (phase_move phase post)))) ≡ false
-    → RootsHeld n a phase (λ b. (machine.after b next (found (phase_move phase post) (mem (place_in (phase_move phase post))))).outcome) → Shown (reads_in phase) a mem → Knows (on n a mem) phase
+    → RootsHeld n a phase (λ b. (machine.after b next (found (phase_move phase post) (mem (place_in (phase_move phase post))))).outcome) → GetOwes n a next (reads_in phase) → Shown (reads_in phase) a mem → Knows (on n a mem) phase
     → Turns (on n a (written mem (phase_move phase post))) (phase_turn phase next desk (found (phase_move phase post) (mem (place_in (phase_move phase post)))))
-phase_turns n a mem Idle post next desk list y l g r h = record { calm = refl; knows = tt }
-phase_turns n a mem (Runs why base) post next desk list y l g r h = runs_turns n a mem why base post next desk y g h
-phase_turns n a mem (Scans later at) post next desk list y l g r h = scan_turns (on n a (written mem (scan.scan_move at post))) later at next desk (found (scan.scan_move at post) (mem (place_in (scan.scan_move at post))))
-phase_turns n a mem (Works work) post next desk list y l g r h = works_turns n a mem work post next desk l r h
+phase_turns n a mem Idle post next desk list y l g o r h = record { calm = tt; knows = tt }
+phase_turns n a mem (Runs why base) post next desk list y l g o r h = runs_turns n a mem why base post next desk y g h
+phase_turns n a mem (Scans later at) post next desk list y l g o r h = scan_turns (on n a (written mem (scan.scan_move at post))) later at next desk (found (scan.scan_move at post) (mem (place_in (scan.scan_move at post))))
+phase_turns n a mem (Works work) post next desk list y l g o r h = works_turns n a mem work post next desk l o r h

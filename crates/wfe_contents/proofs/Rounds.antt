@@ -23,7 +23,7 @@ use Rattle.wfe_core.specs.Steps as steps
 use Rattle.wfe_core.specs.Calls.{Task, Gets, Changes, Holds, Enqueues, Dequeues, Next, Again, MakeRoom, Answering, Retiring, AfterScan, Answered, Repeated, Counted, Why, Opens, FollowsHead, Fills, ClearsNext, Clears, Finishes, GivesUp, Retires, Tidies, Advances, Releases, ScanAt, ReadGuard, GiveBack, Work, Getting, Changing, Enqueuing, Dequeuing, Phase, Idle, Runs, Scans, Works, CallTurn}
 use Rattle.wfe_eras.specs.Frame.{phase_left}
 use Rattle.wfe_contents.specs.Knows.{Ground, Knows}
-use Rattle.wfe_contents.proofs.Told.{all_calm, calm_append}
+use Rattle.wfe_contents.proofs.Told.{all_calm, calm_append, Claimed, GotFrom, calm_claimed, claimed_append}
 
 abbrev pub task_plain : Task → Bool
 task_plain (Gets key) = true
@@ -104,12 +104,12 @@ adds_first told first t h a = record {
 
 -- the events of a turn, and what the phase that it leaves knows
 pub record Turns (g : Ground) (t : CallTurn) : Type 0 where
-  pub calm : all_calm t.told ≡ true
+  pub calm : Claimed g.shelf t.told
   pub knows : Knows g (phase_left t.outcome)
 
 pub turns_adds : (g : Ground) (told : List Event) (t : CallTurn) → all_calm told ≡ true → Adds told t → Turns g t
 turns_adds g told t h a = record {
-  calm = subst (λ (l : List Event). all_calm l ≡ true) (sym a.adds) (calm_append told a.more h a.calm);
+  calm = subst (λ (l : List Event). Claimed g.shelf l) (sym a.adds) (claimed_append g.shelf told a.more (calm_claimed g.shelf told h) (calm_claimed g.shelf a.more a.calm));
   knows = plain_knows g (phase_left t.outcome) a.plain;
 }
 
@@ -165,9 +165,15 @@ clearing_next_by_adds next post desk told (Some base) = adds_none told (clearing
 pub clearing_next_adds : (next : Next) (post : Post) (desk : Desk) (told : List Event) → Adds told (clearing_next next post desk told)
 clearing_next_adds next post desk told = clearing_next_by_adds next post desk told (clear_base (scheme_of post) 1)
 
-pub got_adds : (key version : ℕ) (value : Option ℕ) (post : Post) (desk : Desk) (told : List Event) → Adds told (gets.got key version value post desk told)
-got_adds key version value post desk told =
-    adds_first told (events.Got (rounds.bucket_of post key) version key value ∷ []) (gets.got key version value post desk told) refl (clearing_adds (Gets key) (Answering (the_answers.Got version value)) post desk (told ++ events.Got (rounds.bucket_of post key) version key value ∷ []))
+-- a get tells the value
+pub got_turns : (g : Ground) (key version : ℕ) (value : Option ℕ) (post : Post) (desk : Desk) (told : List Event) → all_calm told ≡ true → GotFrom g.shelf (rounds.bucket_of post key) version key value → Turns g (gets.got key version value post desk told)
+got_turns g key version value post desk told h from =
+    let got : List Event = events.Got (rounds.bucket_of post key) version key value ∷ [] in
+    let a : Adds (told ++ got) (gets.got key version value post desk told) = clearing_adds (Gets key) (Answering (the_answers.Got version value)) post desk (told ++ got) in
+    record {
+      calm = subst (λ (l : List Event). Claimed g.shelf l) (sym a.adds) (claimed_append g.shelf (told ++ got) a.more (claimed_append g.shelf told got (calm_claimed g.shelf told h) (from, tt)) (calm_claimed g.shelf a.more a.calm));
+      knows = plain_knows g (phase_left (gets.got key version value post desk told).outcome) a.plain;
+    }
 
 -- a scan
 scanned_adds : (later : AfterScan) (post : Post) (desk : Desk) (told : List Event) → Adds told (scan.scanned later post desk told)

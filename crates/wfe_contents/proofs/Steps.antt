@@ -39,8 +39,9 @@ use Rattle.wfe_contents.proofs.Told.{all_calm}
 use Rattle.wfe_contents.proofs.Lasts.{on}
 use Rattle.wfe_contents.proofs.Machines.{base_calm}
 use Rattle.wfe_contents.proofs.Reading.{filled_next}
-use Rattle.wfe_contents.proofs.Rounds.{Adds, Turns, turns_adds, adds_none, plain_knows, why_plain, task_plain, round_plain, closed_adds, finishing_adds, clearing_adds, clearing_next_adds, tidying_adds}
-use Rattle.wfe_contents.proofs.Turns.{got_turns, clearing_turns, deciding_turns, null_decided}
+use Rattle.wfe_contents.proofs.Rounds.{got_turns, Adds, Turns, turns_adds, adds_none, plain_knows, why_plain, task_plain, round_plain, closed_adds, finishing_adds, clearing_adds, clearing_next_adds, tidying_adds}
+use Rattle.wfe_contents.proofs.Told.{calm_claimed, FromNone}
+use Rattle.wfe_contents.proofs.Turns.{clearing_turns, deciding_turns, null_decided}
 
 -- the queue's ends are moved
 told_link_calm : (tail : Bool) (slot : ℕ) (same : Bool) → all_calm (enqueues.told_link (if tail then roots.Tail else roots.Head) slot same) ≡ true
@@ -52,11 +53,11 @@ told_link_calm false slot false = refl
 -- an enqueue that appends no row
 appending_turns : (g : Ground) (kept : EnqueueKept) (post : Post) (desk : Desk) (spent : Bool) → Turns g (enqueues.appending kept post desk spent)
 appending_turns g kept post desk true = clearing_turns g (Enqueues kept) (Answering (the_answers.Spent kept.number)) post desk [] refl
-appending_turns g kept post desk false = record { calm = refl; knows = tt }
+appending_turns g kept post desk false = record { calm = tt; knows = tt }
 
 at_next_turns : (g : Ground) (kept : EnqueueKept) (next : ℕ) (post : Post) (desk : Desk) (none : Bool) → Turns g (enqueues.at_next kept next post desk none)
 at_next_turns g kept next post desk true = appending_turns g kept post desk (kept.number == post.layout.config.last_version)
-at_next_turns g kept next post desk false = record { calm = refl; knows = tt }
+at_next_turns g kept next post desk false = record { calm = tt; knows = tt }
 
 abbrev pub joins : EnqueueAt → ℕ → Bool
 joins LoadNumber found = false
@@ -66,7 +67,7 @@ joins (ExchangeNext slot) found = found == 0
 joins (ExchangeTail slot) found = false
 
 pub enqueue_turns : (g : Ground) (kept : EnqueueKept) (at : EnqueueAt) (post : Post) (desk : Desk) (word : ℕ) → joins at word ≡ false → Turns g (enqueues.enqueue_turn kept at post desk word)
-enqueue_turns g kept LoadNumber post desk word h = record { calm = refl; knows = tt }
+enqueue_turns g kept LoadNumber post desk word h = record { calm = tt; knows = tt }
 enqueue_turns g kept LoadNext post desk word h = at_next_turns g kept word post desk (word == 0)
 enqueue_turns g kept (PassTail next) post desk word h = clearing_turns g (Enqueues kept) Again post desk (enqueues.told_link roots.Tail (next - 1) (word == kept.tail + 1)) (told_link_calm true (next - 1) (word == kept.tail + 1))
 enqueue_turns g kept (ExchangeNext slot) post desk word h = rw h (clearing_turns g (Enqueues kept) Again post desk [] refl)
@@ -80,10 +81,10 @@ taken_turns g head next number value post desk true = next_turns g (Retiring hea
 taken_turns g head next number value post desk false = next_turns g Again post desk [] refl
 
 pub dequeue_turns : (g : Ground) (at : DequeueAt) (post : Post) (desk : Desk) (word : ℕ) → Turns g (dequeues.dequeue_turn at post desk word)
-dequeue_turns g (LoadTail head) post desk word = record { calm = refl; knows = tt }
+dequeue_turns g (LoadTail head) post desk word = record { calm = tt; knows = tt }
 dequeue_turns g (SwingTail head next) post desk word = next_turns g Again post desk (enqueues.told_link roots.Tail next (word == head + 1)) (told_link_calm true next (word == head + 1))
-dequeue_turns g (TakeNumber head next) post desk word = record { calm = refl; knows = tt }
-dequeue_turns g (TakeValue head next number) post desk word = record { calm = refl; knows = tt }
+dequeue_turns g (TakeNumber head next) post desk word = record { calm = tt; knows = tt }
+dequeue_turns g (TakeValue head next number) post desk word = record { calm = tt; knows = tt }
 dequeue_turns g (ExchangeHead head next number value) post desk word = taken_turns g head next number value post desk (word == head + 1)
 
 -- what comes after a machine, for tasks that know nothing of rows of the map
@@ -218,7 +219,7 @@ resume_adds Advances ending post desk told h = advanced_adds ending post desk to
 resume_adds (Releases key) ending post desk told h = released_adds key post desk told
 
 resumed_turns : (g : Ground) (why : Why) (desk : Desk) (post : Post) (told : List Event) (outcome : Outcome) → resumes_plain why ≡ true → why_plain why ≡ true → all_calm told ≡ true → Turns g (steps.resumed why desk post told outcome)
-resumed_turns g why desk post told (Goes base) h p c = record { calm = c; knows = plain_knows g (Runs why base) p }
+resumed_turns g why desk post told (Goes base) h p c = record { calm = calm_claimed g.shelf told c; knows = plain_knows g (Runs why base) p }
 resumed_turns g why desk post told (Ends ending) h p c = turns_adds g told (steps.resume why ending post desk told) c (resume_adds why ending post desk told h)
 
 pub plain_turns : (g : Ground) (why : Why) (base : Base) (desk : Desk) (next : Post) (word : ℕ) → resumes_plain why ≡ true → why_plain why ≡ true → Turns g (steps.run_turn why desk (machine.after base next word))
@@ -231,30 +232,30 @@ abbrev pub Holding : Outcome → (ℕ → Type 0) → Type 0
 Holding outcome p = (slot era : ℕ) → outcome ≡ Ends (Protected (protect_ends.Held slot era)) → p slot
 
 opened_get : (g : Ground) (key : ℕ) (ending : Ending) (post : Post) (desk : Desk) (told : List Event) → all_calm told ≡ true → Holding (Ends ending) (λ s. g.shelf.root s ≡ roots.Bucket (key % g.buckets)) → Turns g (steps.opened (Gets key) ending post desk told)
-opened_get g key (Protected (protect_ends.Held slot era)) post desk told c h = record { calm = c; knows = h slot era refl }
-opened_get g key (Protected protect_ends.Null) post desk told c h = got_turns g key 0 None post desk told c
-opened_get g key Done post desk told c h = record { calm = c; knows = tt }
-opened_get g key (Followed ending) post desk told c h = record { calm = c; knows = tt }
-opened_get g key (Allocated ending) post desk told c h = record { calm = c; knows = tt }
-opened_get g key (Retired life) post desk told c h = record { calm = c; knows = tt }
-opened_get g key (Clocked clock) post desk told c h = record { calm = c; knows = tt }
+opened_get g key (Protected (protect_ends.Held slot era)) post desk told c h = record { calm = calm_claimed g.shelf told c; knows = h slot era refl }
+opened_get g key (Protected protect_ends.Null) post desk told c h = got_turns g key 0 None post desk told c (FromNone refl refl)
+opened_get g key Done post desk told c h = record { calm = calm_claimed g.shelf told c; knows = tt }
+opened_get g key (Followed ending) post desk told c h = record { calm = calm_claimed g.shelf told c; knows = tt }
+opened_get g key (Allocated ending) post desk told c h = record { calm = calm_claimed g.shelf told c; knows = tt }
+opened_get g key (Retired life) post desk told c h = record { calm = calm_claimed g.shelf told c; knows = tt }
+opened_get g key (Clocked clock) post desk told c h = record { calm = calm_claimed g.shelf told c; knows = tt }
 
 pub get_resumed : (g : Ground) (key : ℕ) (desk : Desk) (post : Post) (told : List Event) (outcome : Outcome) → all_calm told ≡ true → Holding outcome (λ s. g.shelf.root s ≡ roots.Bucket (key % g.buckets)) → Turns g (steps.resumed (Opens (Gets key)) desk post told outcome)
-get_resumed g key desk post told (Goes base) c h = record { calm = c; knows = tt }
+get_resumed g key desk post told (Goes base) c h = record { calm = calm_claimed g.shelf told c; knows = tt }
 get_resumed g key desk post told (Ends ending) c h = opened_get g key ending post desk told c h
 
 -- a change's root is protected
 opened_change : (g : Ground) (kept : ChangeKept) (ending : Ending) (post : Post) (desk : Desk) (told : List Event) → all_calm told ≡ true → Holding (Ends ending) (λ s. g.shelf.root s ≡ roots.Bucket (changes_in g kept)) → Turns g (steps.opened (Changes kept) ending post desk told)
-opened_change g kept (Protected (protect_ends.Held slot era)) post desk told c h = record { calm = c; knows = record { link = refl; root = h slot era refl; none = refl } }
+opened_change g kept (Protected (protect_ends.Held slot era)) post desk told c h = record { calm = calm_claimed g.shelf told c; knows = record { link = refl; root = h slot era refl; none = refl } }
 opened_change g kept (Protected protect_ends.Null) post desk told c h = deciding_turns g (alters.at_link kept 0) post desk told c (null_decided g kept)
-opened_change g kept Done post desk told c h = record { calm = c; knows = tt }
-opened_change g kept (Followed ending) post desk told c h = record { calm = c; knows = tt }
-opened_change g kept (Allocated ending) post desk told c h = record { calm = c; knows = tt }
-opened_change g kept (Retired life) post desk told c h = record { calm = c; knows = tt }
-opened_change g kept (Clocked clock) post desk told c h = record { calm = c; knows = tt }
+opened_change g kept Done post desk told c h = record { calm = calm_claimed g.shelf told c; knows = tt }
+opened_change g kept (Followed ending) post desk told c h = record { calm = calm_claimed g.shelf told c; knows = tt }
+opened_change g kept (Allocated ending) post desk told c h = record { calm = calm_claimed g.shelf told c; knows = tt }
+opened_change g kept (Retired life) post desk told c h = record { calm = calm_claimed g.shelf told c; knows = tt }
+opened_change g kept (Clocked clock) post desk told c h = record { calm = calm_claimed g.shelf told c; knows = tt }
 
 pub change_resumed : (g : Ground) (kept : ChangeKept) (desk : Desk) (post : Post) (told : List Event) (outcome : Outcome) → all_calm told ≡ true → Holding outcome (λ s. g.shelf.root s ≡ roots.Bucket (changes_in g kept)) → Turns g (steps.resumed (Opens (Changes kept)) desk post told outcome)
-change_resumed g kept desk post told (Goes base) c h = record { calm = c; knows = tt }
+change_resumed g kept desk post told (Goes base) c h = record { calm = calm_claimed g.shelf told c; knows = tt }
 change_resumed g kept desk post told (Ends ending) c h = opened_change g kept ending post desk told c h
 
 -- a change fills its row
@@ -266,22 +267,22 @@ taken_decided : (g : Ground) (kept : ChangeKept) (slot : ℕ) → Decided g kept
 taken_decided g kept slot h = record { fresh = h.fresh; none = h.none; root = h.root; version = h.version; pairs = h.pairs }
 
 given_turns : (g : Ground) (kept : ChangeKept) (ending : AllocateEnd) (post : Post) (desk : Desk) → Decided g kept → Turns g (steps.resumed (Fills (Changes kept)) desk post [] (Ends (Allocated ending)))
-given_turns g kept (allocate_ends.Given slot birth) post desk h = record { calm = refl; knows = record { decided = taken_decided g kept slot h; same = refl; words = λ q low high. absurd (omega arith) } }
+given_turns g kept (allocate_ends.Given slot birth) post desk h = record { calm = tt; knows = record { decided = taken_decided g kept slot h; same = refl; words = λ q low high. absurd (omega arith) } }
 given_turns g kept allocate_ends.Full post desk h = clearing_turns g (Changes (alters.with_walked kept)) (alters.no_room kept.walked) post desk [] refl
 
 walking_turns : (g : Ground) (kept : ChangeKept) (birth : ℕ) (post : Post) (desk : Desk) (x : Option Walk) → Decided g kept → Turns g (steps.run_turn (Fills (Changes kept)) desk (walking birth post x))
 walking_turns g kept birth post desk None h = given_turns g kept allocate_ends.Full post desk h
-walking_turns g kept birth post desk (Some walk) h = record { calm = refl; knows = h }
+walking_turns g kept birth post desk (Some walk) h = record { calm = tt; knows = h }
 
 claiming_turns : (g : Ground) (kept : ChangeKept) (birth : ℕ) (walk : Walk) (post : Post) (desk : Desk) (word : ℕ) → Decided g kept → Turns g (steps.run_turn (Fills (Changes kept)) desk (machine.allocate_turn (ClaimSlot birth walk) post word))
 claiming_turns g kept birth walk post desk word h = by_shown (is_claimed word walk.slot) refl
   where
     by_shown : (x : Bool) → is_claimed word walk.slot ≡ x → Turns g (steps.run_turn (Fills (Changes kept)) desk (machine.allocate_turn (ClaimSlot birth walk) post word))
     by_shown true e = rw e (walking_turns g kept birth post desk (walk_past post.layout.config.slots walk word) h)
-    by_shown false e = rw e (record { calm = refl; knows = h })
+    by_shown false e = rw e (record { calm = (refl, tt); knows = h })
 
 allocate_turns : (g : Ground) (kept : ChangeKept) (at : AllocateAt) (post : Post) (desk : Desk) (word : ℕ) → Decided g kept → Turns g (steps.run_turn (Fills (Changes kept)) desk (machine.allocate_turn at post word))
-allocate_turns g kept LoadBirth post desk word h = record { calm = refl; knows = h }
+allocate_turns g kept LoadBirth post desk word h = record { calm = tt; knows = h }
 allocate_turns g kept (ClaimSlot birth walk) post desk word h = claiming_turns g kept birth walk post desk word h
 allocate_turns g kept (StoreLife birth slot) post desk word h = given_turns g kept (allocate_ends.Given slot birth) post desk h
 
@@ -301,13 +302,13 @@ last_place row place kept e h =
 write_turns : (n : ℕ) (a : Shelf) (mem : Place → ℕ) (kept : ChangeKept) (slot : ℕ) (row : RowOf) (place : ℕ) (post : Post) (desk : Desk) (last : Bool) → (place == last_written row) ≡ last → holds_slot kept.taken slot ≡ true → Writing (on n a mem) kept slot row place
     → Turns (on n a (put mem (Row slot place) (row_word row place))) (steps.run_turn (Fills (Changes kept)) desk (if last then ends post [] Done else goes post [] (Write slot row (place + 1))))
 write_turns n a mem kept slot row place post desk false e t h =
-    record { calm = refl; knows = record { decided = decided_on n a mem (put mem (Row slot place) (row_word row place)) kept h.decided; same = h.same; words = filled_next mem slot row place h.words } }
+    record { calm = tt; knows = record { decided = decided_on n a mem (put mem (Row slot place) (row_word row place)) kept h.decided; same = h.same; words = filled_next mem slot row place h.words } }
 write_turns n a mem kept slot row place post desk true e t h =
     let after : Place → ℕ = put mem (Row slot place) (row_word row place) in
     let all : Filled after slot row (place + 1) = filled_next mem slot row place h.words in
     let last : place + 1 ≡ 3 + 2 * length kept.pairs = last_place row place kept e h.same in
     record {
-      calm = refl;
+      calm = tt;
       knows = record {
         decided = decided_on n a mem after kept h.decided;
         words = subst (λ (s : ℕ). Filled after s (alters.new_row kept) (3 + 2 * length kept.pairs)) (sym (held_slot kept.taken slot t)) (subst (λ (k : ℕ). Filled after slot (alters.new_row kept) k) last (subst (λ (r : RowOf). Filled after slot r (place + 1)) h.same all));

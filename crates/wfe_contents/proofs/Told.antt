@@ -1,7 +1,8 @@
 -- What steps tell the book of: most events change neither the changes of a bucket nor where a row was linked.
-use Rattle.std.proofs.Common.{ℕ, ◌≡◌, Bool, true, false, ◌&&◌, arith, refl, ap, ◌∙◌, sym, List, [], ◌∷◌, ◌++◌}
+use Rattle.std.proofs.Common.{◌≤◌, ℕ, ◌≡◌, Bool, true, false, ◌&&◌, arith, refl, ap, ◌∙◌, sym, List, [], ◌∷◌, ◌++◌}
 use Rattle.std.proofs.lemmas.Bool.Decides.{nat_tests}
-use Rattle.std.specs.Prelude.{◌==◌}
+use Rattle.std.specs.Prelude.{◌==◌, Option, None}
+use Rattle.wfe_defs.specs.Pairs.{value_in}
 use Rattle.wfe_defs.specs.declared.event.Event.{Event}
 use Rattle.wfe_defs.specs.declared.event.Event.TheVariants as events
 use Rattle.wfe_defs.specs.declared.event.Root.{Root}
@@ -16,11 +17,12 @@ is_end (roots.Next parent) = false
 is_end roots.Head = true
 is_end roots.Tail = true
 
--- the event leaves changes and rows of the map
+-- the event leaves changes and rows of the map, and tells nothing of a bucket's pairs
 abbrev pub is_calm : Event → Bool
 is_calm (events.Link root slot) = is_end root
 is_calm (events.Put bucket version key value) = false
 is_calm (events.Removed bucket version key) = false
+is_calm (events.Got bucket version key value) = false
 is_calm event = true
 
 abbrev pub all_calm : List Event → Bool
@@ -85,6 +87,7 @@ calm_booked a (events.Link roots.Head slot) h = same_book a
 calm_booked a (events.Link roots.Tail slot) h = same_book a
 calm_booked a (events.Put bucket version key value) h = absurd (cc)
 calm_booked a (events.Removed bucket version key) h = absurd (cc)
+calm_booked a (events.Got bucket version key value) h = absurd (cc)
 calm_booked a (events.Queued number value) h = record { changes = λ b. refl; roots = λ s. refl; versions = λ s. refl }
 calm_booked a (events.Taken number value) h = record { changes = λ b. refl; roots = λ s. refl; versions = λ s. refl }
 calm_booked a event h = same_book a
@@ -116,3 +119,37 @@ same_slot a b s h = record {
   version = h.versions s;
   pairs = rw (h.roots s, h.versions s) (pairs_same a b (a.row s).root (a.row s).version h.changes);
 }
+
+-- where the value comes from that a get tells: there was no row, or a row showed it
+pub data GotFrom (a : Shelf) (b version key : ℕ) (value : Option ℕ) : Type 0 where
+  FromNone : version ≡ 0 → value ≡ None → GotFrom a b version key value
+  FromRow : (s : ℕ) → a.root s ≡ roots.Bucket b → a.version s ≤ a.count b → version ≡ a.version s → value ≡ value_in (a.pairs s) key → GotFrom a b version key value
+
+-- what a step tells that links no row
+abbrev pub Claims : Shelf → Event → Type 0
+Claims a (events.Got bucket version key value) = GotFrom a bucket version key value
+Claims a event = is_calm event ≡ true
+
+abbrev pub Claimed : Shelf → List Event → Type 0
+Claimed a [] = Unit {0}
+Claimed a (event ∷ told) = Claims a event × Claimed a told
+
+claims_of : (a : Shelf) (event : Event) → is_calm event ≡ true → Claims a event
+claims_of a (events.Got bucket version key value) h = absurd (cc)
+claims_of a event h = h
+
+pub calm_claimed : (a : Shelf) (told : List Event) → all_calm told ≡ true → Claimed a told
+calm_claimed a [] h = tt
+calm_claimed a (event ∷ told) h = (claims_of a event (first_calm (is_calm event) (all_calm told) h), calm_claimed a told (rest_calm (is_calm event) (all_calm told) h))
+
+pub claimed_append : (a : Shelf) (told more : List Event) → Claimed a told → Claimed a more → Claimed a (told ++ more)
+claimed_append a [] more h k = k
+claimed_append a (event ∷ told) more h k = (h.0, claimed_append a told more h.1 k)
+
+claims_booked : (k : Shelf) (a : Book) (event : Event) → Claims k event → SameBook a (booked a event)
+claims_booked k a (events.Got bucket version key value) h = same_book a
+claims_booked k a event h = calm_booked a event h
+
+pub claimed_book : (k : Shelf) (told : List Event) (a : Book) → Claimed k told → SameBook a (booked_all a told)
+claimed_book k [] a h = same_book a
+claimed_book k (event ∷ told) a h = same_then a (booked a event) (booked_all (booked a event) told) (claims_booked k a event h.0) (claimed_book k told (booked a event) h.1)

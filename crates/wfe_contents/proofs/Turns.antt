@@ -1,7 +1,7 @@
 -- What each step of a call tells, and what the phase that it leaves knows.
 use Rattle.std.proofs.Common.{ℕ, ◌+◌, ◌%◌, ◌<◌, ◌≤◌, ◌≡◌, Bool, true, false, arith, refl, ap, ◌∙◌, sym, subst, List, [], ◌∷◌, ◌++◌, length}
 use Rattle.std.proofs.lemmas.Bool.Decides.{nat_tests}
-use Rattle.std.proofs.lemmas.List.{length-append, take_all}
+use Rattle.std.proofs.lemmas.List.{length-append, take_all, drop_all}
 use Rattle.std.specs.Prelude.{◌==◌, nat_lt, take, drop, Option, Some, None}
 use Rattle.wfe_words.specs.Place.{Place}
 use Rattle.wfe_words.specs.Place.Place.{Row}
@@ -12,7 +12,7 @@ use Rattle.wfe_defs.specs.declared.event.Root.TheVariants as roots
 use Rattle.wfe_core.specs.declared.post.Post.{Post}
 use Rattle.wfe_core.specs.Desks.{Desk}
 use Rattle.wfe_core.specs.Memory.{place_in, found}
-use Rattle.wfe_core.specs.Rounds.{clearing}
+use Rattle.wfe_core.specs.Rounds.{bucket_of, clearing}
 use Rattle.wfe_core.specs.Get as gets
 use Rattle.wfe_core.specs.Change as alters
 use Rattle.wfe_core.specs.Calls.{ChangeKept, Task, Changes, Next, Again, Answering, GetAt, FindVersion, FindCount, FindKey, FindValue, ChangeAt, LoadVersion, LoadCount, LoadKey, LoadValue, ExchangeRoot}
@@ -22,45 +22,60 @@ use Rattle.wfe_contents.proofs.Told.{all_calm}
 use Rattle.wfe_contents.proofs.Lasts.{on, same_number, is_number}
 use Rattle.wfe_contents.proofs.Lists.{take_next, value_next, value_here}
 use Rattle.wfe_contents.proofs.Reading.{version_shown, count_shown, key_shown, value_shown}
-use Rattle.wfe_contents.proofs.Rounds.{Turns, turns_adds, clearing_adds, got_adds}
+use Rattle.wfe_contents.proofs.Told.{calm_claimed, FromRow}
+use Rattle.wfe_contents.proofs.Rounds.{Turns, turns_adds, clearing_adds, got_turns}
 
 -- rows that a call reads show what they should
 abbrev pub Shown : (ℕ → Bool) → Shelf → (Place → ℕ) → Type 0
 Shown reads a mem = (s b : ℕ) → reads s ≡ true → a.root s ≡ roots.Bucket b → Shows mem s (a.version s) (a.pairs s)
 
-pub got_turns : (g : Ground) (key version : ℕ) (value : Option ℕ) (post : Post) (desk : Desk) (told : List Event) → all_calm told ≡ true → Turns g (gets.got key version value post desk told)
-got_turns g key version value post desk told h = turns_adds g told (gets.got key version value post desk told) h (got_adds key version value post desk told)
+-- what a get's step owes for what it tells: its buckets are the table's, and a row that it reads has a version that there was
+pub record GetOwes (n : ℕ) (a : Shelf) (post : Post) (reads : ℕ → Bool) : Type 0 where
+  pub buckets : post.layout.config.buckets ≡ n
+  pub lows : (s b : ℕ) → reads s ≡ true → a.root s ≡ roots.Bucket b → a.version s ≤ a.count b
+
+got_row : (n : ℕ) (a : Shelf) (mem : Place → ℕ) (key slot version : ℕ) (value : Option ℕ) (post : Post) (desk : Desk) → post.layout.config.buckets ≡ n → a.version slot ≤ a.count (key % n) → FoundRow (on n a mem) key slot version → value ≡ value_in (a.pairs slot) key → Turns (on n a mem) (gets.got key version value post desk [])
+got_row n a mem key slot version value post desk p low row v =
+    let same : key % n ≡ bucket_of post key = ap (λ (k : ℕ). key % k) (sym p) in
+    got_turns (on n a mem) key version value post desk [] refl (FromRow slot (row.root ∙ ap (λ (k : ℕ). roots.Bucket k) same) (subst (λ (k : ℕ). a.version slot ≤ a.count k) same low) row.shown v)
+
+none_left : (ps : List Pair) (pair key : ℕ) → length ps ≤ pair → value_in (drop pair ps) key ≡ None
+none_left ps pair key h = ap (λ (l : List Pair). value_in l key) (drop_all pair ps h)
 
 pub clearing_turns : (g : Ground) (task : Task) (next : Next) (post : Post) (desk : Desk) (told : List Event) → all_calm told ≡ true → Turns g (clearing task next post desk told)
 clearing_turns g task next post desk told h = turns_adds g told (clearing task next post desk told) h (clearing_adds task next post desk told)
 
 -- a get
-finding_turns : (n : ℕ) (a : Shelf) (mem : Place → ℕ) (key slot version count : ℕ) (post : Post) (desk : Desk) (more : Bool) (pair : ℕ) → nat_lt pair count ≡ more → FoundRow (on n a mem) key slot version → count ≡ length (a.pairs slot) → value_in (a.pairs slot) key ≡ value_in (drop pair (a.pairs slot)) key → Turns (on n a mem) (gets.finding key slot version count post desk more pair)
-finding_turns n a mem key slot version count post desk true pair e row counted value =
-    record { calm = refl; knows = record { row = row; counted = counted; more = grind (arith, nat_tests); value = value } }
-finding_turns n a mem key slot version count post desk false pair e row counted value = got_turns (on n a mem) key version None post desk [] refl
+finding_turns : (n : ℕ) (a : Shelf) (mem : Place → ℕ) (key slot version count : ℕ) (post : Post) (desk : Desk) (more : Bool) (pair : ℕ) → nat_lt pair count ≡ more → FoundRow (on n a mem) key slot version → count ≡ length (a.pairs slot) → value_in (a.pairs slot) key ≡ value_in (drop pair (a.pairs slot)) key → post.layout.config.buckets ≡ n → a.version slot ≤ a.count (key % n) → Turns (on n a mem) (gets.finding key slot version count post desk more pair)
+finding_turns n a mem key slot version count post desk true pair e row counted value p low =
+    record { calm = tt; knows = record { row = row; counted = counted; more = grind (arith, nat_tests); value = value } }
+finding_turns n a mem key slot version count post desk false pair e row counted value p low =
+    let over : length (a.pairs slot) ≤ pair = grind (arith, nat_tests) in
+    got_row n a mem key slot version None post desk p low row (sym (value ∙ none_left (a.pairs slot) pair key over))
 
-found_key_turns : (n : ℕ) (a : Shelf) (mem : Place → ℕ) (key slot version count pair found : ℕ) (post : Post) (desk : Desk) (own : Bool) → (found == key) ≡ own → found ≡ (pair_at (a.pairs slot) pair).0 → FoundKeys (on n a mem) key slot version count pair → Turns (on n a mem) (gets.found_key key slot version count pair post desk own)
-found_key_turns n a mem key slot version count pair found post desk true e f h =
+found_key_turns : (n : ℕ) (a : Shelf) (mem : Place → ℕ) (key slot version count pair found : ℕ) (post : Post) (desk : Desk) (own : Bool) → (found == key) ≡ own → found ≡ (pair_at (a.pairs slot) pair).0 → FoundKeys (on n a mem) key slot version count pair → post.layout.config.buckets ≡ n → a.version slot ≤ a.count (key % n) → Turns (on n a mem) (gets.found_key key slot version count pair post desk own)
+found_key_turns n a mem key slot version count pair found post desk true e f h p low =
     let lt : pair < length (a.pairs slot) = subst (λ (c : ℕ). pair < c) h.counted h.more in
     let own : ((pair_at (a.pairs slot) pair).0 == key) ≡ true = subst (λ (x : ℕ). (x == key) ≡ true) f e in
-    record { calm = refl; knows = record { row = h.row; more = lt; value = h.value ∙ value_here (a.pairs slot) pair key lt own } }
-found_key_turns n a mem key slot version count pair found post desk false e f h =
+    record { calm = tt; knows = record { row = h.row; more = lt; value = h.value ∙ value_here (a.pairs slot) pair key lt own } }
+found_key_turns n a mem key slot version count pair found post desk false e f h p low =
     let lt : pair < length (a.pairs slot) = subst (λ (c : ℕ). pair < c) h.counted h.more in
     let other : ((pair_at (a.pairs slot) pair).0 == key) ≡ false = subst (λ (x : ℕ). (x == key) ≡ false) f e in
-    finding_turns n a mem key slot version count post desk (nat_lt (pair + 1) count) (pair + 1) refl h.row h.counted (h.value ∙ value_next (a.pairs slot) pair key lt other)
+    finding_turns n a mem key slot version count post desk (nat_lt (pair + 1) count) (pair + 1) refl h.row h.counted (h.value ∙ value_next (a.pairs slot) pair key lt other) p low
 
-pub get_turns : (n : ℕ) (a : Shelf) (mem : Place → ℕ) (key : ℕ) (at : GetAt) (post : Post) (desk : Desk) → Shown (get_reads at) a mem → GetKnows (on n a mem) key at
+pub get_turns : (n : ℕ) (a : Shelf) (mem : Place → ℕ) (key : ℕ) (at : GetAt) (post : Post) (desk : Desk) → GetOwes n a post (get_reads at) → Shown (get_reads at) a mem → GetKnows (on n a mem) key at
     → Turns (on n a mem) (gets.get_turn key at post desk (found (gets.get_move at) (mem (place_in (gets.get_move at)))))
-get_turns n a mem key (FindVersion slot) post desk r h =
-    record { calm = refl; knows = record { root = h; shown = version_shown mem slot (a.version slot) (a.pairs slot) (r slot (key % n) (same_number slot) h) } }
-get_turns n a mem key (FindCount slot version) post desk r h =
-    finding_turns n a mem key slot version (mem (Row slot 2)) post desk (nat_lt 0 (mem (Row slot 2))) 0 refl h (count_shown mem slot (a.version slot) (a.pairs slot) (r slot (key % n) (same_number slot) h.root)) refl
-get_turns n a mem key (FindKey slot version count pair) post desk r h =
+get_turns n a mem key (FindVersion slot) post desk o r h =
+    record { calm = tt; knows = record { root = h; shown = version_shown mem slot (a.version slot) (a.pairs slot) (r slot (key % n) (same_number slot) h) } }
+get_turns n a mem key (FindCount slot version) post desk o r h =
+    finding_turns n a mem key slot version (mem (Row slot 2)) post desk (nat_lt 0 (mem (Row slot 2))) 0 refl h (count_shown mem slot (a.version slot) (a.pairs slot) (r slot (key % n) (same_number slot) h.root)) refl o.buckets (o.lows slot (key % n) (same_number slot) h.root)
+get_turns n a mem key (FindKey slot version count pair) post desk o r h =
     let lt : pair < length (a.pairs slot) = subst (λ (c : ℕ). pair < c) h.counted h.more in
     let word : mem (Row slot (gets.key_place pair)) ≡ (pair_at (a.pairs slot) pair).0 = key_shown mem slot (a.version slot) (a.pairs slot) pair lt (r slot (key % n) (same_number slot) h.row.root) in
-    found_key_turns n a mem key slot version count pair (mem (Row slot (gets.key_place pair))) post desk (mem (Row slot (gets.key_place pair)) == key) refl word h
-get_turns n a mem key (FindValue slot version pair) post desk r h = got_turns (on n a mem) key version (Some (mem (Row slot (gets.value_place pair)))) post desk [] refl
+    found_key_turns n a mem key slot version count pair (mem (Row slot (gets.key_place pair))) post desk (mem (Row slot (gets.key_place pair)) == key) refl word h o.buckets (o.lows slot (key % n) (same_number slot) h.row.root)
+get_turns n a mem key (FindValue slot version pair) post desk o r h =
+    let word : mem (Row slot (gets.value_place pair)) ≡ (pair_at (a.pairs slot) pair).1 = value_shown mem slot (a.version slot) (a.pairs slot) pair h.more (r slot (key % n) (same_number slot) h.row.root) in
+    got_row n a mem key slot version (Some (mem (Row slot (gets.value_place pair)))) post desk o.buckets (o.lows slot (key % n) (same_number slot) h.row.root) h.row (ap (λ (x : ℕ). Some x) word ∙ sym h.value)
 
 -- a put or a remove
 
@@ -70,7 +85,7 @@ filling_knows g kept (Some slot) h = record { decided = h; same = refl; words = 
 
 deciding_by_turns : (g : Ground) (kept : ChangeKept) (post : Post) (desk : Desk) (told : List Event) (x : Option Answer) → all_calm told ≡ true → Decided g (alters.with_change kept) → Turns g (alters.deciding_by kept post desk told x)
 deciding_by_turns g kept post desk told (Some answer) c h = clearing_turns g (Changes kept) (Answering answer) post desk told c
-deciding_by_turns g kept post desk told None c h = record { calm = c; knows = filling_knows g (alters.with_change kept) kept.taken h }
+deciding_by_turns g kept post desk told None c h = record { calm = calm_claimed g.shelf told c; knows = filling_knows g (alters.with_change kept) kept.taken h }
 
 pub deciding_turns : (g : Ground) (kept : ChangeKept) (post : Post) (desk : Desk) (told : List Event) → all_calm told ≡ true → Decided g (alters.with_change kept) → Turns g (alters.deciding kept post desk told)
 deciding_turns g kept post desk told c h = deciding_by_turns g kept post desk told (alters.refusal post.layout.config kept.version kept.pairs kept.change) c h
@@ -106,7 +121,7 @@ counting_turns : (n : ℕ) (a : Shelf) (mem : Place → ℕ) (kept : ChangeKept)
 counting_turns n a mem kept slot count post desk true e c h =
     let zero_read : length kept.pairs ≡ 0 = ap (λ (ps : List Pair). length ps) h.row.none in
     let positive : 0 < count = grind (arith, nat_tests) in
-    record { calm = refl; knows = record { link = h.row.link; root = h.row.root; version = h.version; counted = c; more = omega arith; pairs = h.row.none ∙ sym (ap (λ (k : ℕ). take k (a.pairs slot)) zero_read) } }
+    record { calm = tt; knows = record { link = h.row.link; root = h.row.root; version = h.version; counted = c; more = omega arith; pairs = h.row.none ∙ sym (ap (λ (k : ℕ). take k (a.pairs slot)) zero_read) } }
 counting_turns n a mem kept slot count post desk false e c h =
     let none : length (a.pairs slot) ≡ 0 = grind (arith, nat_tests) in
     deciding_turns (on n a mem) kept post desk [] refl (read_decided (on n a mem) kept slot h.row.link h.row.root h.version (h.row.none ∙ sym (empty_list (a.pairs slot) none)))
@@ -125,7 +140,7 @@ reading_turns n a mem kept slot count key value post desk true e v h =
     let long : length (kept.pairs ++ (key, value) ∷ []) ≡ length kept.pairs + 1 = read_length kept key value in
     let under : length kept.pairs + 1 < count = grind (arith, nat_tests) in
     record {
-      calm = refl;
+      calm = tt;
       knows = record {
         link = h.row.link;
         root = h.row.root;
@@ -155,12 +170,12 @@ is_reading (ExchangeRoot slot) = false
 pub change_turns : (n : ℕ) (a : Shelf) (mem : Place → ℕ) (kept : ChangeKept) (at : ChangeAt) (post next : Post) (desk : Desk) → is_reading at ≡ true → Shown (λ s. kept.link == s + 1) a mem → ChangeKnows (on n a mem) kept at
     → Turns (on n a mem) (alters.change_turn kept at next desk (found (alters.change_move kept at post) (mem (place_in (alters.change_move kept at post)))))
 change_turns n a mem kept (LoadVersion slot) post next desk y r h =
-    record { calm = refl; knows = record { row = record { link = h.link; root = h.root; none = h.none }; version = version_shown mem slot (a.version slot) (a.pairs slot) (r slot (changes_in (on n a mem) kept) (is_number kept.link (slot + 1) h.link) h.root) } }
+    record { calm = tt; knows = record { row = record { link = h.link; root = h.root; none = h.none }; version = version_shown mem slot (a.version slot) (a.pairs slot) (r slot (changes_in (on n a mem) kept) (is_number kept.link (slot + 1) h.link) h.root) } }
 change_turns n a mem kept (LoadCount slot) post next desk y r h =
     counting_turns n a mem kept slot (mem (Row slot 2)) next desk (nat_lt 0 (mem (Row slot 2))) refl (count_shown mem slot (a.version slot) (a.pairs slot) (r slot (changes_in (on n a mem) kept) (is_number kept.link (slot + 1) h.row.link) h.row.root)) h
 change_turns n a mem kept (LoadKey slot count) post next desk y r h =
     let lt : length kept.pairs < length (a.pairs slot) = subst (λ (c : ℕ). length kept.pairs < c) h.counted h.more in
-    record { calm = refl; knows = record { row = h; own = key_shown mem slot (a.version slot) (a.pairs slot) (length kept.pairs) lt (r slot (changes_in (on n a mem) kept) (is_number kept.link (slot + 1) h.link) h.root) } }
+    record { calm = tt; knows = record { row = h; own = key_shown mem slot (a.version slot) (a.pairs slot) (length kept.pairs) lt (r slot (changes_in (on n a mem) kept) (is_number kept.link (slot + 1) h.link) h.root) } }
 change_turns n a mem kept (LoadValue slot count key) post next desk y r h =
     let lt : length kept.pairs < length (a.pairs slot) = subst (λ (c : ℕ). length kept.pairs < c) h.row.counted h.row.more in
     reading_turns n a mem kept slot count key (mem (Row slot (gets.value_place (length kept.pairs)))) next desk (nat_lt (length kept.pairs + 1) count) refl (value_shown mem slot (a.version slot) (a.pairs slot) (length kept.pairs) lt (r slot (changes_in (on n a mem) kept) (is_number kept.link (slot + 1) h.row.link) h.row.root)) h

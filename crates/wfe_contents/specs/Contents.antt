@@ -36,6 +36,8 @@ pub record Contents (w : World) (v : View) : Type 0 where
 
 -- what a step of seat i needs of the other parts of the invariant
 pub record ContentsNeeds (w : World) (i : ℕ) (v : View) : Type 0 where
+  -- the seat's post is of this table
+  pub post : (w.seat i).post.layout ≡ w.layout
   -- a row of which a seat has read is not given back
   pub held : (k s : ℕ) → reads_in (w.seat k).phase s ≡ true → is_settled (v.status s) ≡ true
   -- a row that was protected from a bucket's root was linked there last

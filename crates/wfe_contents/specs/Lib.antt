@@ -1,3 +1,5 @@
 pub mod Shelf
 pub mod Knows
+pub mod Buckets
 pub mod Contents
+pub mod Told

@@ -12,11 +12,13 @@ use Rattle.wfe_core.specs.WriteRow.{row_word}
 use Rattle.wfe_rows.specs.Rows.{Status}
 use Rattle.wfe_rows.specs.Rows.Status.{Free, Claimed, Born, Linked, InQueue, Cut, Sealed, Listed}
 
--- by slot: the root and the version under which the row was linked last, and the pairs of the bucket at that version
+-- by slot: the root and the version under which the row was linked last, and the pairs of the bucket at that version; by
+-- bucket how often it was changed
 pub record Shelf : Type 0 where
   pub root : ℕ → Root
   pub version : ℕ → ℕ
   pub pairs : ℕ → List Pair
+  pub count : ℕ → ℕ
 
 -- the pairs of a root at a version; only buckets have pairs
 abbrev pub pairs_by : (ℕ → List Change) → Root → ℕ → List Pair
@@ -31,6 +33,7 @@ shelf_of book =
       root = λ s. (book.row s).root;
       version = λ s. (book.row s).version;
       pairs = λ s. pairs_by book.changes (book.row s).root (book.row s).version;
+      count = λ b. length (book.changes b);
     }
 
 -- a row that is linked, or was cut and is not given back: no seat writes its words

@@ -2,7 +2,9 @@
 //! machines. Each function here does nothing, and carries a theorem.
 #![tactic(auto)]
 
+ghost use Rattle.wfe_contents.specs.Buckets.{BucketsShow, ChangesKnow};
 ghost use Rattle.wfe_contents.specs.Contents.{ContentsBegin, ContentsKept, ContentsStart};
+ghost use Rattle.wfe_contents.specs.Told.{ContentsTold};
 
 /// At the start of a table each bucket is empty, and no seat knows anything of a row.
 pub fn contents_start()
@@ -22,4 +24,24 @@ pub fn contents_begin()
 /// with the change.
 pub fn contents_kept()
     ensures { ContentsKept }
+{}
+
+/// What a step tells of the map is right by the changes told before it: a get tells a version that
+/// there was, and its key's value among the pairs at that version; a put or a remove tells the next
+/// version of its key's bucket.
+pub fn contents_told()
+    ensures { ContentsTold }
+{}
+
+/// A bucket's root is null exactly while the bucket was not changed. Else the row that it leads to
+/// has the number of the changes as its version, the number of the pairs that they make, and at the
+/// places of the n-th key and value those of the n-th pair.
+pub fn buckets_show()
+    ensures { BucketsShow }
+{}
+
+/// A change that has read a row, or found none, and whose link is still in the root, has decided
+/// upon the bucket's last version and its pairs with the change.
+pub fn changes_know()
+    ensures { ChangesKnow }
 {}
