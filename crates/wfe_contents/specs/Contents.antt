@@ -46,9 +46,9 @@ pub record ContentsNeeds (w : World) (i : ℕ) (v : View) : Type 0 where
   pub held : (k s : ℕ) → reads_in (w.seat k).phase s ≡ true → is_settled (v.status s) ≡ true
   -- a row that was protected from a bucket's root was linked there last
   pub gets : (key slot era : ℕ) (base : Base) → (w.seat i).phase ≡ Runs (Opens (Gets key)) base → (after base (counted (w.seat i).post) (finds w i)).outcome ≡ Ends (Protected (protect_ends.Held slot era)) → (w.book.row slot).root ≡ roots.Bucket (key % w.layout.config.buckets)
+  pub changes : (kept : ChangeKept) (slot era : ℕ) (base : Base) → (w.seat i).phase ≡ Runs (Opens (Changes kept)) base → (after base (counted (w.seat i).post) (finds w i)).outcome ≡ Ends (Protected (protect_ends.Held slot era)) → (w.book.row slot).root ≡ roots.Bucket (key_of kept.change % w.layout.config.buckets)
   -- an enqueue that finds the tail's next link null has read the last row's number
   pub last : (kept : EnqueueKept) (slot : ℕ) → (w.seat i).phase ≡ Works (Enqueuing kept (ExchangeNext slot)) → w.mem (Row kept.tail 0) ≡ 0 → kept.number ≡ length w.book.queued
-  pub changes : (kept : ChangeKept) (slot era : ℕ) (base : Base) → (w.seat i).phase ≡ Runs (Opens (Changes kept)) base → (after base (counted (w.seat i).post) (finds w i)).outcome ≡ Ends (Protected (protect_ends.Held slot era)) → (w.book.row slot).root ≡ roots.Bucket (key_of kept.change % w.layout.config.buckets)
 
 abbrev pub ContentsStart : Type 0
 ContentsStart = (layout : Layout) → is_valid layout ≡ true → Contents (start layout) (first_rows layout)
