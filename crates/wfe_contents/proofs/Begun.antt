@@ -18,6 +18,9 @@ use Rattle.wfe_contents.proofs.Rounds.{is_plain, plain_knows, round_plain}
 no_bucket : (b : ℕ) → roots.Head ≡ roots.Bucket b → ⊥
 no_bucket b h = cc
 
+no_next : (p : ℕ) → roots.Head ≡ roots.Next p → ⊥
+no_next p h = cc
+
 unlinked : (slots s b : ℕ) → first_status slots s ≡ Linked b → ⊥
 unlinked slots s b = by_slot (s == slots)
   where
@@ -32,6 +35,8 @@ contents_start layout valid = record {
     within = λ s b y r. absurd (no_bucket b r);
     root = λ s b y. absurd (unlinked layout.config.slots s b y);
     latest = λ s b y. absurd (unlinked layout.config.slots s b y);
+    items = λ s p y r. absurd (no_next p r);
+    queued = λ s p y r. absurd (no_next p r);
     empty = λ b. refl;
   };
   seats = λ k. tt;

@@ -1,5 +1,5 @@
 -- Each step keeps what rows of the map show, and what seats know of them.
-use Rattle.std.proofs.Common.{ℕ, ◌+◌, ◌*◌, ◌≡◌, Bool, true, false, arith, refl, ap, ◌∙◌, sym, subst, List, ◌++◌, length}
+use Rattle.std.proofs.Common.{ℕ, ◌≤◌, ◌+◌, ◌*◌, ◌≡◌, Bool, true, false, arith, refl, ap, ◌∙◌, sym, subst, List, ◌++◌, length}
 use Rattle.std.proofs.lemmas.Bool.Decides.{nat_tests}
 use Rattle.std.proofs.lemmas.List.{append_assoc}
 use Rattle.std.specs.Prelude.{◌==◌, if◌then◌else◌, None}
@@ -37,7 +37,7 @@ use Rattle.wfe_contents.proofs.Right.{claimed_right, right_append, linked_right}
 use Rattle.wfe_contents.proofs.Told.{all_calm, calm_append, SameBook, SameSlot, calm_book, booked_append, same_slot, claimed_book, claimed_append, calm_claimed}
 use Rattle.wfe_contents.proofs.Lasts.{on, knows_lasts}
 use Rattle.wfe_contents.proofs.Links.{exchange_linking, exchange_latest}
-use Rattle.wfe_contents.proofs.Machines.{rows_stay}
+use Rattle.wfe_contents.proofs.Machines.{enqueue_stays, rows_stay}
 use Rattle.wfe_contents.proofs.Phases.{links_in, RootsHeld, phase_turns}
 use Rattle.wfe_contents.proofs.Rounds.{Adds, Turns, plain_knows, clearing_adds}
 use Rattle.wfe_contents.proofs.Shelves.{WordsStay, calm_shelved, keeps_all, joined_far, joined_shelved, exchanged_book, linked_booked, exchanged_far, Linking, Latest, exchanged_shelved}
@@ -60,7 +60,7 @@ end_calm post (GoesOn phase) = refl
 end_calm post (Answers answer) = refl
 
 slot_then : (a b c : Shelf) (s : ℕ) → SameSlot a b s → SameSlot b c s → SameSlot a c s
-slot_then a b c s h k = record { root = k.root ∙ h.root; version = k.version ∙ h.version; pairs = k.pairs ∙ h.pairs }
+slot_then a b c s h k = record { root = k.root ∙ h.root; version = k.version ∙ h.version; pairs = k.pairs ∙ h.pairs; value = k.value ∙ h.value }
 
 did_then : (n : ℕ) (a b c : Book) (v u : View) (after : Place → ℕ) (left : Phase) (told : List Event) → SameBook b c → Did n a b v u after left told → Did n a c v u after left told
 did_then n a b c v u after left told e d = record {
@@ -136,14 +136,14 @@ exchange_did n slots a v mem after i kept slot post desk true y p root born g w 
     })
 
 -- a row joins the queue
-join_did : (n : ℕ) (a : Book) (v : View) (mem after : Place → ℕ) (i : ℕ) (kept : EnqueueKept) (slot : ℕ) (post : Post) (desk : Desk) (same : Bool) → same ≡ true → v.status slot ≡ Born i → WordsStay v mem after → Shelved (on n (shelf_of a) mem) a v
+join_did : (n : ℕ) (a : Book) (v : View) (mem after : Place → ℕ) (i : ℕ) (kept : EnqueueKept) (slot : ℕ) (post : Post) (desk : Desk) (same : Bool) → same ≡ true → kept.number ≡ length a.queued → Filled after slot (enqueues.new_item kept) 3 → v.status slot ≡ Born i → WordsStay v mem after → Shelved (on n (shelf_of a) mem) a v
     → Did n a (booked_all a (told_by (enqueues.appended kept slot post desk same))) v (made i v (if same then Appends slot else Stays)) after (phase_left (enqueues.appended kept slot post desk same).outcome) (told_by (enqueues.appended kept slot post desk same))
-join_did n a v mem after i kept slot post desk false y born w c = absurd (cc)
-join_did n a v mem after i kept slot post desk true y born w c = record {
-  rows = joined_shelved n a v mem after i kept.tail slot (kept.number + 1) kept.value w c;
+join_did n a v mem after i kept slot post desk false y e f born w c = absurd (cc)
+join_did n a v mem after i kept slot post desk true y e f born w c = record {
+  rows = joined_shelved n a v mem after i kept.tail slot (kept.number + 1) kept.value (ap (λ (k : ℕ). k + 1) e) f w c;
   own = tt;
-  far = λ s z. joined_far a kept.tail slot (kept.number + 1) kept.value s (settled_apart v i s slot born z);
-  right = (tt, (tt, tt));
+  far = λ s z. joined_far a kept.tail slot (kept.number + 1) kept.value s (settled_apart v i s slot born z) (λ p r. c.queued s p z r);
+  right = (tt, (ap (λ (k : ℕ). k + 1) e, tt));
 }
 
 -- a step of a seat that links a row
@@ -159,31 +159,34 @@ change_did n slots a v mem after i kept (ExchangeRoot slot) post desk list y u e
     let born : v.status slot ≡ Born i = of_taken slots v i slot g (p.hand ∙ taken_as kept.taken slot p.right) in
     exchange_did n slots a v mem after i kept slot post desk (mem (Bucket b) == kept.link) y u root born g w (λ q low high. ap (λ (m : Place → ℕ). m (Row slot q)) e ∙ h.words q low high) h c
 
-enqueue_did : (n slots : ℕ) (a : Book) (v : View) (mem after : Place → ℕ) (i : ℕ) (kept : EnqueueKept) (at : EnqueueAt) (post : Post) (desk : Desk) (list : List Lifetime) → links_in (Works (Enqueuing kept at)) (found (enqueues.enqueue_move kept at) (mem (place_in (enqueues.enqueue_move kept at)))) ≡ true → Good slots v → Plays i (Works (Enqueuing kept at)) list v → WordsStay v mem after → Shelved (on n (shelf_of a) mem) a v
+row_after : (mem : Place → ℕ) (kept : EnqueueKept) (slot k : ℕ) → 1 ≤ k → written mem (enqueues.enqueue_move kept (ExchangeNext slot)) (Row slot k) ≡ mem (Row slot k)
+row_after mem kept slot k low = enqueue_stays mem kept (ExchangeNext slot) slot k low
+
+enqueue_did : (n slots : ℕ) (a : Book) (v : View) (mem after : Place → ℕ) (i : ℕ) (kept : EnqueueKept) (at : EnqueueAt) (post : Post) (desk : Desk) (list : List Lifetime) → links_in (Works (Enqueuing kept at)) (found (enqueues.enqueue_move kept at) (mem (place_in (enqueues.enqueue_move kept at)))) ≡ true → ((k : EnqueueKept) (slot : ℕ) → Works (Enqueuing kept at) ≡ Works (Enqueuing k (ExchangeNext slot)) → mem (Row k.tail 0) ≡ 0 → k.number ≡ length a.queued) → after ≡ written mem (enqueues.enqueue_move kept at) → Knows (on n (shelf_of a) mem) (Works (Enqueuing kept at)) → Good slots v → Plays i (Works (Enqueuing kept at)) list v → WordsStay v mem after → Shelved (on n (shelf_of a) mem) a v
     → Did n a (booked_all a (told_by (phase_turn (Works (Enqueuing kept at)) (counted post) desk (found (enqueues.enqueue_move kept at) (mem (place_in (enqueues.enqueue_move kept at))))))) v (made i v (row_move (Works (Enqueuing kept at)) post (found (enqueues.enqueue_move kept at) (mem (place_in (enqueues.enqueue_move kept at)))))) after (phase_left (phase_turn (Works (Enqueuing kept at)) (counted post) desk (found (enqueues.enqueue_move kept at) (mem (place_in (enqueues.enqueue_move kept at))))).outcome) (told_by (phase_turn (Works (Enqueuing kept at)) (counted post) desk (found (enqueues.enqueue_move kept at) (mem (place_in (enqueues.enqueue_move kept at))))))
-enqueue_did n slots a v mem after i kept LoadNumber post desk list y g p w c = absurd (cc)
-enqueue_did n slots a v mem after i kept LoadNext post desk list y g p w c = absurd (cc)
-enqueue_did n slots a v mem after i kept (PassTail next) post desk list y g p w c = absurd (cc)
-enqueue_did n slots a v mem after i kept (ExchangeTail slot) post desk list y g p w c = absurd (cc)
-enqueue_did n slots a v mem after i kept (ExchangeNext slot) post desk list y g p w c =
-    join_did n a v mem after i kept slot (counted post) desk (mem (Row kept.tail 0) == 0) y (of_taken slots v i slot g (p.hand ∙ taken_as kept.taken slot p.right)) w c
+enqueue_did n slots a v mem after i kept LoadNumber post desk list y last q f g p w c = absurd (cc)
+enqueue_did n slots a v mem after i kept LoadNext post desk list y last q f g p w c = absurd (cc)
+enqueue_did n slots a v mem after i kept (PassTail next) post desk list y last q f g p w c = absurd (cc)
+enqueue_did n slots a v mem after i kept (ExchangeTail slot) post desk list y last q f g p w c = absurd (cc)
+enqueue_did n slots a v mem after i kept (ExchangeNext slot) post desk list y last q f g p w c =
+    join_did n a v mem after i kept slot (counted post) desk (mem (Row kept.tail 0) == 0) y (last kept slot refl (number_is (mem (Row kept.tail 0)) 0 y)) (λ k low high. ap (λ (m : Place → ℕ). m (Row slot k)) q ∙ row_after mem kept slot k low ∙ f k low high) (of_taken slots v i slot g (p.hand ∙ taken_as kept.taken slot p.right)) w c
 
-linking_did : (n slots : ℕ) (a : Book) (v : View) (mem after : Place → ℕ) (i : ℕ) (phase : Phase) (post : Post) (desk : Desk) (list : List Lifetime) → links_in phase (found (phase_move phase post) (mem (place_in (phase_move phase post)))) ≡ true → post.layout.config.buckets ≡ n → after ≡ written mem (phase_move phase post) → Good slots v → Words slots mem v → Plays i phase list v → WordsStay v mem after → Knows (on n (shelf_of a) mem) phase → Shelved (on n (shelf_of a) mem) a v
+linking_did : (n slots : ℕ) (a : Book) (v : View) (mem after : Place → ℕ) (i : ℕ) (phase : Phase) (post : Post) (desk : Desk) (list : List Lifetime) → links_in phase (found (phase_move phase post) (mem (place_in (phase_move phase post)))) ≡ true → post.layout.config.buckets ≡ n → ((k : EnqueueKept) (slot : ℕ) → phase ≡ Works (Enqueuing k (ExchangeNext slot)) → mem (Row k.tail 0) ≡ 0 → k.number ≡ length a.queued) → after ≡ written mem (phase_move phase post) → Good slots v → Words slots mem v → Plays i phase list v → WordsStay v mem after → Knows (on n (shelf_of a) mem) phase → Shelved (on n (shelf_of a) mem) a v
     → Did n a (booked_all a (told_by (phase_turn phase (counted post) desk (found (phase_move phase post) (mem (place_in (phase_move phase post))))))) v (made i v (row_move phase post (found (phase_move phase post) (mem (place_in (phase_move phase post)))))) after (phase_left (phase_turn phase (counted post) desk (found (phase_move phase post) (mem (place_in (phase_move phase post))))).outcome) (told_by (phase_turn phase (counted post) desk (found (phase_move phase post) (mem (place_in (phase_move phase post))))))
-linking_did n slots a v mem after i Idle post desk list y u e g x p w h c = absurd (cc)
-linking_did n slots a v mem after i (Runs why base) post desk list y u e g x p w h c = absurd (cc)
-linking_did n slots a v mem after i (Scans later at) post desk list y u e g x p w h c = absurd (cc)
-linking_did n slots a v mem after i (Works (Getting key at)) post desk list y u e g x p w h c = absurd (cc)
-linking_did n slots a v mem after i (Works (Changing kept at)) post desk list y u e g x p w h c = change_did n slots a v mem after i kept at post desk list y u e g x p w h c
-linking_did n slots a v mem after i (Works (Enqueuing kept at)) post desk list y u e g x p w h c = enqueue_did n slots a v mem after i kept at post desk list y g p w c
-linking_did n slots a v mem after i (Works (Dequeuing at)) post desk list y u e g x p w h c = absurd (cc)
+linking_did n slots a v mem after i Idle post desk list y u last e g x p w h c = absurd (cc)
+linking_did n slots a v mem after i (Runs why base) post desk list y u last e g x p w h c = absurd (cc)
+linking_did n slots a v mem after i (Scans later at) post desk list y u last e g x p w h c = absurd (cc)
+linking_did n slots a v mem after i (Works (Getting key at)) post desk list y u last e g x p w h c = absurd (cc)
+linking_did n slots a v mem after i (Works (Changing kept at)) post desk list y u last e g x p w h c = change_did n slots a v mem after i kept at post desk list y u e g x p w h c
+linking_did n slots a v mem after i (Works (Enqueuing kept at)) post desk list y u last e g x p w h c = enqueue_did n slots a v mem after i kept at post desk list y last e h g p w c
+linking_did n slots a v mem after i (Works (Dequeuing at)) post desk list y u last e g x p w h c = absurd (cc)
 
-phase_did : (n slots : ℕ) (a : Book) (v : View) (mem : Place → ℕ) (i : ℕ) (phase : Phase) (post : Post) (desk : Desk) (links : Bool) → links_in phase (found (phase_move phase post) (mem (place_in (phase_move phase post)))) ≡ links → Needs slots mem v phase → Good slots v → Words slots mem v → Plays i phase desk.list v
+phase_did : (n slots : ℕ) (a : Book) (v : View) (mem : Place → ℕ) (i : ℕ) (phase : Phase) (post : Post) (desk : Desk) (links : Bool) → links_in phase (found (phase_move phase post) (mem (place_in (phase_move phase post)))) ≡ links → ((k : EnqueueKept) (slot : ℕ) → phase ≡ Works (Enqueuing k (ExchangeNext slot)) → mem (Row k.tail 0) ≡ 0 → k.number ≡ length a.queued) → Needs slots mem v phase → Good slots v → Words slots mem v → Plays i phase desk.list v
     → RootsHeld n (shelf_of a) phase (λ b. (machine.after b (counted post) (found (phase_move phase post) (mem (place_in (phase_move phase post))))).outcome) → GetOwes n (shelf_of a) (counted post) (reads_in phase) → Shown (reads_in phase) (shelf_of a) mem → Knows (on n (shelf_of a) mem) phase → Shelved (on n (shelf_of a) mem) a v
     → Did n a (booked_all a (told_by (phase_turn phase (counted post) desk (found (phase_move phase post) (mem (place_in (phase_move phase post))))))) v (made i v (row_move phase post (found (phase_move phase post) (mem (place_in (phase_move phase post)))))) (written mem (phase_move phase post)) (phase_left (phase_turn phase (counted post) desk (found (phase_move phase post) (mem (place_in (phase_move phase post))))).outcome) (told_by (phase_turn phase (counted post) desk (found (phase_move phase post) (mem (place_in (phase_move phase post))))))
-phase_did n slots a v mem i phase post desk true y needs g x p r o shown h c =
-    linking_did n slots a v mem (written mem (phase_move phase post)) i phase post desk desk.list y o.buckets refl g x p (λ s q z low. rows_stay mem phase post s q (settled_stays slots v i phase desk.list s g p z) low) h c
-phase_did n slots a v mem i phase post desk false y needs g x p r o shown h c =
+phase_did n slots a v mem i phase post desk true y last needs g x p r o shown h c =
+    linking_did n slots a v mem (written mem (phase_move phase post)) i phase post desk desk.list y o.buckets last refl g x p (λ s q z low. rows_stay mem phase post s q (settled_stays slots v i phase desk.list s g p z) low) h c
+phase_did n slots a v mem i phase post desk false y last needs g x p r o shown h c =
     let word : ℕ = found (phase_move phase post) (mem (place_in (phase_move phase post))) in
     calm_did
     n
@@ -222,6 +225,7 @@ step_did w i v needs owed agree c =
     l.desk
     (links_in l.phase (finds w i))
     refl
+    owed.last
     needs
     agree.good
     agree.words

@@ -6,9 +6,9 @@ use Rattle.wfe_words.specs.Place.{Place}
 use Rattle.wfe_words.specs.Place.Place.{Row}
 use Rattle.wfe_core.specs.Phases.{Base}
 use Rattle.wfe_core.specs.Phases.Base.{Begin, Protect, Reload, Clear, Finish, Release, Allocate, Write, GiveUp, Retire, Move}
-use Rattle.wfe_core.specs.Calls.{ChangeKept, Gets, Changes, Holds, Enqueues, Dequeues, Opens, FollowsHead, Fills, ClearsNext, Clears, Finishes, GivesUp, Retires, Tidies, Advances, Releases, GetAt, FindVersion, FindCount, FindKey, FindValue, ChangeAt, LoadVersion, LoadCount, LoadKey, LoadValue, ExchangeRoot, Getting, Changing, Enqueuing, Dequeuing, Phase, Idle, Runs, Scans, Works}
+use Rattle.wfe_core.specs.Calls.{EnqueueKept, EnqueueAt, LoadNumber, LoadNext, PassTail, ExchangeNext, ExchangeTail, ChangeKept, Gets, Changes, Holds, Enqueues, Dequeues, Opens, FollowsHead, Fills, ClearsNext, Clears, Finishes, GivesUp, Retires, Tidies, Advances, Releases, GetAt, FindVersion, FindCount, FindKey, FindValue, ChangeAt, LoadVersion, LoadCount, LoadKey, LoadValue, ExchangeRoot, Getting, Changing, Enqueuing, Dequeuing, Phase, Idle, Runs, Scans, Works}
 use Rattle.wfe_contents.specs.Shelf.{Shelf}
-use Rattle.wfe_contents.specs.Knows.{Ground, Knows, GetKnows, ChangeKnows, FillKnows, FoundRow, AtRow, AtKey, Decided, reads_in, get_reads, owns_in, base_owns, change_owns}
+use Rattle.wfe_contents.specs.Knows.{ItemKnows, EnqueueKnows, enqueue_owns, Ground, Knows, GetKnows, ChangeKnows, FillKnows, FoundRow, AtRow, AtKey, Decided, reads_in, get_reads, owns_in, base_owns, change_owns}
 use Rattle.wfe_contents.proofs.Told.{SameSlot}
 
 abbrev pub on : ℕ → Shelf → (Place → ℕ) → Ground
@@ -81,6 +81,26 @@ fill_lasts n a b m k kept (GiveUp slot) e o h = decided_lasts n a b m k kept e h
 fill_lasts n a b m k kept (Retire at) e o h = decided_lasts n a b m k kept e h
 fill_lasts n a b m k kept (Move at) e o h = decided_lasts n a b m k kept e h
 
+item_lasts : (n : ℕ) (a b : Shelf) (m k : Place → ℕ) (kept : EnqueueKept) (base : Base) → OwnStays (base_owns base) m k → ItemKnows (on n a m) kept base → ItemKnows (on n b k) kept base
+item_lasts n a b m k kept (Begin at) o h = tt
+item_lasts n a b m k kept (Protect aim index root steps at) o h = tt
+item_lasts n a b m k kept (Reload parent index slot era steps) o h = tt
+item_lasts n a b m k kept (Clear index) o h = tt
+item_lasts n a b m k kept Finish o h = tt
+item_lasts n a b m k kept Release o h = tt
+item_lasts n a b m k kept (Allocate at) o h = tt
+item_lasts n a b m k kept (Write slot row place) o h = record { same = h.same; words = λ q x y. o slot q (same_number slot) x ∙ h.words q x y }
+item_lasts n a b m k kept (GiveUp slot) o h = tt
+item_lasts n a b m k kept (Retire at) o h = tt
+item_lasts n a b m k kept (Move at) o h = tt
+
+enqueue_lasts : (n : ℕ) (a b : Shelf) (m k : Place → ℕ) (kept : EnqueueKept) (at : EnqueueAt) → OwnStays (enqueue_owns at) m k → EnqueueKnows (on n a m) kept at → EnqueueKnows (on n b k) kept at
+enqueue_lasts n a b m k kept LoadNumber o h = tt
+enqueue_lasts n a b m k kept LoadNext o h = tt
+enqueue_lasts n a b m k kept (PassTail next) o h = tt
+enqueue_lasts n a b m k kept (ExchangeNext slot) o h = λ q x y. o slot q (same_number slot) x ∙ h q x y
+enqueue_lasts n a b m k kept (ExchangeTail slot) o h = tt
+
 pub knows_lasts : (n : ℕ) (a b : Shelf) (m k : Place → ℕ) (phase : Phase) → ReadStays (reads_in phase) a b → OwnStays (owns_in phase) m k → Knows (on n a m) phase → Knows (on n b k) phase
 knows_lasts n a b m k Idle e o h = tt
 knows_lasts n a b m k (Runs (Opens task) base) e o h = tt
@@ -88,7 +108,7 @@ knows_lasts n a b m k (Runs (FollowsHead head tail) base) e o h = tt
 knows_lasts n a b m k (Runs (Fills (Gets key)) base) e o h = tt
 knows_lasts n a b m k (Runs (Fills (Changes kept)) base) e o h = fill_lasts n a b m k kept base e o h
 knows_lasts n a b m k (Runs (Fills (Holds key)) base) e o h = tt
-knows_lasts n a b m k (Runs (Fills (Enqueues kept)) base) e o h = tt
+knows_lasts n a b m k (Runs (Fills (Enqueues kept)) base) e o h = item_lasts n a b m k kept base o h
 knows_lasts n a b m k (Runs (Fills Dequeues) base) e o h = tt
 knows_lasts n a b m k (Runs (ClearsNext next) base) e o h = tt
 knows_lasts n a b m k (Runs (Clears task next) base) e o h = tt
@@ -101,5 +121,5 @@ knows_lasts n a b m k (Runs (Releases key) base) e o h = tt
 knows_lasts n a b m k (Scans later at) e o h = tt
 knows_lasts n a b m k (Works (Getting key at)) e o h = get_lasts n a b m k key at e h
 knows_lasts n a b m k (Works (Changing kept at)) e o h = change_lasts n a b m k kept at e o h
-knows_lasts n a b m k (Works (Enqueuing kept at)) e o h = tt
+knows_lasts n a b m k (Works (Enqueuing kept at)) e o h = enqueue_lasts n a b m k kept at o h
 knows_lasts n a b m k (Works (Dequeuing at)) e o h = tt

@@ -209,7 +209,7 @@ change_stays mem kept (LoadKey slot count) post s q = refl
 change_stays mem kept (LoadValue slot count key) post s q = refl
 change_stays mem kept (ExchangeRoot slot) post s q = refl
 
-enqueue_stays : (mem : Place → ℕ) (kept : EnqueueKept) (at : EnqueueAt) (s q : ℕ) → 1 ≤ q → written mem (enqueues.enqueue_move kept at) (Row s q) ≡ mem (Row s q)
+pub enqueue_stays : (mem : Place → ℕ) (kept : EnqueueKept) (at : EnqueueAt) (s q : ℕ) → 1 ≤ q → written mem (enqueues.enqueue_move kept at) (Row s q) ≡ mem (Row s q)
 enqueue_stays mem kept LoadNumber s q low = refl
 enqueue_stays mem kept LoadNext s q low = refl
 enqueue_stays mem kept (PassTail next) s q low = refl

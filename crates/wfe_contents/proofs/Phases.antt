@@ -24,7 +24,7 @@ use Rattle.wfe_contents.specs.Knows.{Ground, Knows, TaskKnows, WhyKnows, WorkKno
 use Rattle.wfe_contents.proofs.Lasts.{on}
 use Rattle.wfe_contents.proofs.Rounds.{Turns, scan_turns}
 use Rattle.wfe_contents.proofs.Turns.{GetOwes, Shown, get_turns, change_turns, missed_turns}
-use Rattle.wfe_contents.proofs.Steps.{joins, Holding, plain_turns, get_resumed, change_resumed, fill_turns, enqueue_turns, dequeue_turns}
+use Rattle.wfe_contents.proofs.Steps.{item_turns, joins, Holding, plain_turns, get_resumed, change_resumed, fill_turns, enqueue_turns, dequeue_turns}
 use Rattle.wfe_contents.proofs.Machines.{base_calm}
 
 abbrev pub change_links : ChangeKept → ChangeAt → ℕ → Bool
@@ -70,7 +70,7 @@ fills_turns : (n : ℕ) (a : Shelf) (mem : Place → ℕ) (task : Task) (base : 
 fills_turns n a mem (Gets key) base post next desk r h = plain_turns (on n a (written mem (base_move base post))) (Fills (Gets key)) base desk next (found (base_move base post) (mem (place_in (base_move base post)))) refl refl
 fills_turns n a mem (Changes kept) base post next desk r h = fill_turns n a mem kept base post next desk r h
 fills_turns n a mem (Holds key) base post next desk r h = plain_turns (on n a (written mem (base_move base post))) (Fills (Holds key)) base desk next (found (base_move base post) (mem (place_in (base_move base post)))) refl refl
-fills_turns n a mem (Enqueues kept) base post next desk r h = plain_turns (on n a (written mem (base_move base post))) (Fills (Enqueues kept)) base desk next (found (base_move base post) (mem (place_in (base_move base post)))) refl refl
+fills_turns n a mem (Enqueues kept) base post next desk r h = item_turns n a mem kept base post next desk r h
 fills_turns n a mem Dequeues base post next desk r h = plain_turns (on n a (written mem (base_move base post))) (Fills Dequeues) base desk next (found (base_move base post) (mem (place_in (base_move base post)))) refl refl
 
 runs_turns : (n : ℕ) (a : Shelf) (mem : Place → ℕ) (why : Why) (base : Base) (post next : Post) (desk : Desk) → runs_right why base ≡ true → RootsHeld n a (Runs why base) (λ b. (machine.after b next (found (base_move base post) (mem (place_in (base_move base post))))).outcome) → WhyKnows (on n a mem) why base

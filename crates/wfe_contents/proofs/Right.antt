@@ -31,6 +31,7 @@ claims_right : (n : ℕ) (a : Book) (event : Event) → Claims (shelf_of a) even
 claims_right n a (events.Got bucket version key value) h = got_right a bucket version key value h
 claims_right n a (events.Put bucket version key value) h = absurd (cc)
 claims_right n a (events.Removed bucket version key) h = absurd (cc)
+claims_right n a (events.Queued number value) h = absurd (cc)
 claims_right n a event h = tt
 
 pub claimed_right : (n : ℕ) (a : Book) (told : List Event) → Claimed (shelf_of a) told → AllRight n a told

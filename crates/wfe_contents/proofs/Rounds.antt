@@ -20,7 +20,7 @@ use Rattle.wfe_core.specs.Rounds.{scheme_of, taken_of, round, round_by, begin_ba
 use Rattle.wfe_core.specs.Get as gets
 use Rattle.wfe_core.specs.Scan as scan
 use Rattle.wfe_core.specs.Steps as steps
-use Rattle.wfe_core.specs.Calls.{Task, Gets, Changes, Holds, Enqueues, Dequeues, Next, Again, MakeRoom, Answering, Retiring, AfterScan, Answered, Repeated, Counted, Why, Opens, FollowsHead, Fills, ClearsNext, Clears, Finishes, GivesUp, Retires, Tidies, Advances, Releases, ScanAt, ReadGuard, GiveBack, Work, Getting, Changing, Enqueuing, Dequeuing, Phase, Idle, Runs, Scans, Works, CallTurn}
+use Rattle.wfe_core.specs.Calls.{EnqueueKept, EnqueueAt, LoadNumber, LoadNext, PassTail, ExchangeNext, ExchangeTail, Task, Gets, Changes, Holds, Enqueues, Dequeues, Next, Again, MakeRoom, Answering, Retiring, AfterScan, Answered, Repeated, Counted, Why, Opens, FollowsHead, Fills, ClearsNext, Clears, Finishes, GivesUp, Retires, Tidies, Advances, Releases, ScanAt, ReadGuard, GiveBack, Work, Getting, Changing, Enqueuing, Dequeuing, Phase, Idle, Runs, Scans, Works, CallTurn}
 use Rattle.wfe_eras.specs.Frame.{phase_left}
 use Rattle.wfe_contents.specs.Knows.{Ground, Knows}
 use Rattle.wfe_contents.proofs.Told.{all_calm, calm_append, Claimed, GotFrom, calm_claimed, claimed_append}
@@ -29,7 +29,7 @@ abbrev pub task_plain : Task → Bool
 task_plain (Gets key) = true
 task_plain (Changes kept) = false
 task_plain (Holds key) = true
-task_plain (Enqueues kept) = true
+task_plain (Enqueues kept) = false
 task_plain Dequeues = true
 
 abbrev pub why_plain : Why → Bool
@@ -45,10 +45,17 @@ why_plain (Tidies later) = true
 why_plain Advances = true
 why_plain (Releases key) = true
 
+abbrev pub enqueue_plain : EnqueueAt → Bool
+enqueue_plain LoadNumber = true
+enqueue_plain LoadNext = true
+enqueue_plain (PassTail next) = true
+enqueue_plain (ExchangeNext slot) = false
+enqueue_plain (ExchangeTail slot) = true
+
 abbrev pub work_plain : Work → Bool
 work_plain (Getting key at) = false
 work_plain (Changing kept at) = false
-work_plain (Enqueuing kept at) = true
+work_plain (Enqueuing kept at) = enqueue_plain at
 work_plain (Dequeuing at) = true
 
 -- the phase knows nothing of rows of the map
@@ -62,8 +69,15 @@ task_knows : (g : Ground) (task : Task) (base : Base) → task_plain task ≡ tr
 task_knows g (Gets key) base h = tt
 task_knows g (Changes kept) base h = absurd (cc)
 task_knows g (Holds key) base h = tt
-task_knows g (Enqueues kept) base h = tt
+task_knows g (Enqueues kept) base h = absurd (cc)
 task_knows g Dequeues base h = tt
+
+enqueue_knows : (g : Ground) (kept : EnqueueKept) (at : EnqueueAt) → enqueue_plain at ≡ true → Knows g (Works (Enqueuing kept at))
+enqueue_knows g kept LoadNumber h = tt
+enqueue_knows g kept LoadNext h = tt
+enqueue_knows g kept (PassTail next) h = tt
+enqueue_knows g kept (ExchangeNext slot) h = absurd (cc)
+enqueue_knows g kept (ExchangeTail slot) h = tt
 
 pub plain_knows : (g : Ground) (phase : Phase) → is_plain phase ≡ true → Knows g phase
 plain_knows g Idle h = tt
@@ -81,7 +95,7 @@ plain_knows g (Runs (Releases key) base) h = tt
 plain_knows g (Scans later at) h = tt
 plain_knows g (Works (Getting key at)) h = absurd (cc)
 plain_knows g (Works (Changing kept at)) h = absurd (cc)
-plain_knows g (Works (Enqueuing kept at)) h = tt
+plain_knows g (Works (Enqueuing kept at)) h = enqueue_knows g kept at h
 plain_knows g (Works (Dequeuing at)) h = tt
 
 -- a turn tells these events first, and more that the book does not mind, and leaves a phase that knows nothing

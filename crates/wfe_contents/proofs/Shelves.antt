@@ -1,8 +1,9 @@
 -- What rows show after a step that links no row, after a row joins the queue, and after a bucket's root is exchanged.
-use Rattle.std.proofs.Common.{ℕ, ◌+◌, ◌*◌, ◌≤◌, ◌≡◌, Bool, true, false, arith, refl, ap, ◌∙◌, sym, subst, List, [], ◌∷◌, ◌++◌, length}
+use Rattle.std.proofs.Common.{ℕ, ◌-◌, ◌<◌, ◌+◌, ◌*◌, ◌≤◌, ◌≡◌, Bool, true, false, arith, refl, ap, ◌∙◌, sym, subst, List, [], ◌∷◌, ◌++◌, length}
 use Rattle.std.proofs.lemmas.Bool.Decides.{nat_tests}
-use Rattle.std.proofs.lemmas.List.{length-append, take-append-le, take_all}
-use Rattle.std.specs.Prelude.{◌==◌, if◌then◌else◌, take}
+use Rattle.std.proofs.Math.Seq.{get_or-append_seam}
+use Rattle.std.proofs.lemmas.List.{get_or_append_left, length-append, take-append-le, take_all}
+use Rattle.std.specs.Prelude.{◌==◌, if◌then◌else◌, take, slice_index_or}
 use Rattle.wfe_words.specs.Place.{Place}
 use Rattle.wfe_words.specs.Place.Place.{Row}
 use Rattle.wfe_defs.specs.Pairs.{Pair, changed, pairs_after}
@@ -16,11 +17,12 @@ use Rattle.wfe_core.specs.declared.post.Post.{Post}
 use Rattle.wfe_core.specs.Book.{Book, RowBook, booked_all, booked_link, with_change}
 use Rattle.wfe_core.specs.Change.{told_linked, told_cut, told_change, changed_bucket, new_row}
 use Rattle.wfe_core.specs.Memory.{upd}
+use Rattle.wfe_core.specs.Phases.{QueueRow}
 use Rattle.wfe_core.specs.Calls.{ChangeKept}
 use Rattle.wfe_rows.specs.Rows.{Status, View, made}
 use Rattle.wfe_rows.specs.Rows.Status.{Linked, InQueue}
 use Rattle.wfe_rows.specs.Rows.RowMove.{Appends}
-use Rattle.wfe_contents.specs.Shelf.{Shelf, shelf_of, pairs_by, is_settled, Filled, Shows}
+use Rattle.wfe_contents.specs.Shelf.{Shelf, shelf_of, pairs_by, value_by, is_settled, Filled, Shows}
 use Rattle.wfe_contents.specs.Contents.{Shelved}
 use Rattle.wfe_contents.proofs.Told.{SameBook, SameSlot, same_slot}
 use Rattle.wfe_contents.proofs.Lasts.{on}
@@ -50,6 +52,9 @@ WordsStay v mem after = (s q : ℕ) → is_settled (v.status s) ≡ true → 1 �
 shows_same : (a b : Shelf) (mem after : Place → ℕ) (s : ℕ) → SameSlot a b s → ((q : ℕ) → 1 ≤ q → after (Row s q) ≡ mem (Row s q)) → Shows mem s (a.version s) (a.pairs s) → Shows after s (b.version s) (b.pairs s)
 shows_same a b mem after s e w h = rw (e.version, e.pairs) (λ q low high. w q low ∙ h q low high)
 
+items_same : (a b : Shelf) (mem after : Place → ℕ) (s : ℕ) → SameSlot a b s → ((q : ℕ) → 1 ≤ q → after (Row s q) ≡ mem (Row s q)) → Filled mem s (QueueRow (a.version s) (a.value s)) 3 → Filled after s (QueueRow (b.version s) (b.value s)) 3
+items_same a b mem after s e w h = rw (e.version, e.value) (λ q low high. w q low ∙ h q low high)
+
 -- no row is linked
 pub calm_shelved : (n : ℕ) (a b : Book) (v u : View) (mem after : Place → ℕ) → SameBook a b → Keeps v u → WordsStay v mem after → Shelved (on n (shelf_of a) mem) a v → Shelved (on n (shelf_of b) after) b u
 calm_shelved n a b v u mem after e k w h = record {
@@ -57,6 +62,8 @@ calm_shelved n a b v u mem after e k w h = record {
   within = λ s c y r. rw (e.versions s, e.changes c) (h.within s c (k.settled s y) (sym (e.roots s) ∙ r));
   root = λ s c y. e.roots s ∙ h.root s c (k.linked s c y);
   latest = λ s c y. e.versions s ∙ h.latest s c (k.linked s c y) ∙ sym (ap (λ (l : List Change). length l) (e.changes c));
+  items = λ s p y r. items_same (shelf_of a) (shelf_of b) mem after s (same_slot a b s e) (λ q low. w s q (k.settled s y) low) (h.items s p (k.settled s y) (sym (e.roots s) ∙ r));
+  queued = λ s p y r. rw (e.versions s, e.queued) (h.queued s p (k.settled s y) (sym (e.roots s) ∙ r));
   empty = λ c. rw (k.root c, e.changes c) (h.empty c);
 }
 
@@ -67,10 +74,16 @@ keeps_all v = record { settled = λ s y. y; linked = λ s b y. y; root = λ b. r
 abbrev pub joined : Book → ℕ → ℕ → ℕ → ℕ → Book
 joined a tail slot number value = booked_all a (events.Link (roots.Next tail) slot ∷ events.Queued number value ∷ [])
 
-pub joined_far : (a : Book) (tail slot number value s : ℕ) → (s == slot) ≡ false → SameSlot (shelf_of a) (shelf_of (joined a tail slot number value)) s
-joined_far a tail slot number value s h =
+grown_value : (queued : List ℕ) (value : ℕ) (root : Root) (number : ℕ) → ((p : ℕ) → root ≡ roots.Next p → number - 1 < length queued) → value_by (queued ++ value ∷ []) root number ≡ value_by queued root number
+grown_value queued value (roots.Bucket b) number low = refl
+grown_value queued value (roots.Next p) number low = get_or_append_left queued (value ∷ []) 0 (number - 1) (low p refl)
+grown_value queued value roots.Head number low = refl
+grown_value queued value roots.Tail number low = refl
+
+pub joined_far : (a : Book) (tail slot number value s : ℕ) → (s == slot) ≡ false → ((p : ℕ) → (a.row s).root ≡ roots.Next p → (a.row s).version - 1 < length a.queued) → SameSlot (shelf_of a) (shelf_of (joined a tail slot number value)) s
+joined_far a tail slot number value s h low =
     let row : (joined a tail slot number value).row s ≡ a.row s = upd_other a.row slot (record (a.row slot) { root = roots.Next tail; version = length a.queued + 1 }) s h in
-    record { root = ap (λ (r : RowBook). r.root) row; version = ap (λ (r : RowBook). r.version) row; pairs = ap (λ (r : RowBook). pairs_by a.changes r.root r.version) row }
+    record { root = ap (λ (r : RowBook). r.root) row; version = ap (λ (r : RowBook). r.version) row; pairs = ap (λ (r : RowBook). pairs_by a.changes r.root r.version) row; value = ap (λ (r : RowBook). value_by (a.queued ++ value ∷ []) r.root r.version) row ∙ grown_value a.queued value (a.row s).root (a.row s).version low }
 
 joined_shows : (n : ℕ) (a : Book) (v : View) (mem after : Place → ℕ) (i tail slot number value s c : ℕ) (x : Bool) → (s == slot) ≡ x → WordsStay v mem after → Shelved (on n (shelf_of a) mem) a v → is_settled ((made i v (Appends slot)).status s) ≡ true → ((joined a tail slot number value).row s).root ≡ roots.Bucket c → is_settled (v.status s) ≡ true
 joined_shows n a v mem after i tail slot number value s c true e w h y r =
@@ -88,24 +101,63 @@ join_other a tail slot number value s c true e r =
     absurd (cc)
 join_other a tail slot number value s c false e r = refl
 
-pub joined_shelved : (n : ℕ) (a : Book) (v : View) (mem after : Place → ℕ) (i tail slot number value : ℕ) → WordsStay v mem after → Shelved (on n (shelf_of a) mem) a v → Shelved (on n (shelf_of (joined a tail slot number value)) after) (joined a tail slot number value) (made i v (Appends slot))
-joined_shelved n a v mem after i tail slot number value w h = record {
+-- the new row of the queue
+joined_value : (l : List ℕ) (value : ℕ) → slice_index_or (l ++ value ∷ []) (length l + 1 - 1) 0 ≡ value
+joined_value l value = let at : length l + 1 - 1 ≡ length l = omega arith in ap (λ (k : ℕ). slice_index_or (l ++ value ∷ []) k 0) at ∙ get_or-append_seam l value [] 0
+
+joined_item : (a : Book) (after : Place → ℕ) (tail slot number value : ℕ) → number ≡ length a.queued + 1 → Filled after slot (QueueRow number value) 3 → Filled after slot (QueueRow ((shelf_of (joined a tail slot number value)).version slot) ((shelf_of (joined a tail slot number value)).value slot)) 3
+joined_item a after tail slot number value e f =
+    let row : (joined a tail slot number value).row slot ≡ record (a.row slot) { root = roots.Next tail; version = length a.queued + 1 } = upd_own a.row slot (record (a.row slot) { root = roots.Next tail; version = length a.queued + 1 }) in
+    let version : number ≡ (shelf_of (joined a tail slot number value)).version slot = e ∙ sym (ap (λ (r : RowBook). r.version) row) in
+    let is : value ≡ (shelf_of (joined a tail slot number value)).value slot = sym (ap (λ (r : RowBook). value_by (a.queued ++ value ∷ []) r.root r.version) row ∙ joined_value a.queued value) in
+    subst (λ (k : ℕ). Filled after slot (QueueRow k ((shelf_of (joined a tail slot number value)).value slot)) 3) version (subst (λ (k : ℕ). Filled after slot (QueueRow number k) 3) is f)
+
+joined_last : (a : Book) (tail slot number value : ℕ) → ((joined a tail slot number value).row slot).version - 1 < length (joined a tail slot number value).queued
+joined_last a tail slot number value =
+    let row : (joined a tail slot number value).row slot ≡ record (a.row slot) { root = roots.Next tail; version = length a.queued + 1 } = upd_own a.row slot (record (a.row slot) { root = roots.Next tail; version = length a.queued + 1 }) in
+    let long : length (a.queued ++ value ∷ []) ≡ length a.queued + 1 = length-append a.queued (value ∷ []) in
+    let version : ((joined a tail slot number value).row slot).version ≡ length a.queued + 1 = ap (λ (r : RowBook). r.version) row in
+    subst (λ (k : ℕ). k - 1 < length (a.queued ++ value ∷ [])) (sym version) (subst (λ (k : ℕ). length a.queued + 1 - 1 < k) (sym long) (omega arith))
+
+pub joined_shelved : (n : ℕ) (a : Book) (v : View) (mem after : Place → ℕ) (i tail slot number value : ℕ) → number ≡ length a.queued + 1 → Filled after slot (QueueRow number value) 3 → WordsStay v mem after → Shelved (on n (shelf_of a) mem) a v → Shelved (on n (shelf_of (joined a tail slot number value)) after) (joined a tail slot number value) (made i v (Appends slot))
+joined_shelved n a v mem after i tail slot number value e f w h = record {
   shows = λ s c y r.
       let z : is_settled (v.status s) ≡ true = joined_shows n a v mem after i tail slot number value s c (s == slot) refl w h y r in
-      let far : SameSlot (shelf_of a) (shelf_of (joined a tail slot number value)) s = joined_far a tail slot number value s (join_other a tail slot number value s c (s == slot) refl r) in
+      let far : SameSlot (shelf_of a) (shelf_of (joined a tail slot number value)) s = by_far s (join_other a tail slot number value s c (s == slot) refl r) z in
       shows_same (shelf_of a) (shelf_of (joined a tail slot number value)) mem after s far (λ q low. w s q z low) (h.shows s c z (sym far.root ∙ r));
   within = λ s c y r.
       let z : is_settled (v.status s) ≡ true = joined_shows n a v mem after i tail slot number value s c (s == slot) refl w h y r in
-      let far : SameSlot (shelf_of a) (shelf_of (joined a tail slot number value)) s = joined_far a tail slot number value s (join_other a tail slot number value s c (s == slot) refl r) in
+      let far : SameSlot (shelf_of a) (shelf_of (joined a tail slot number value)) s = by_far s (join_other a tail slot number value s c (s == slot) refl r) z in
       rw far.version (h.within s c z (sym far.root ∙ r));
   root = λ s c y.
       let other : (s == slot) ≡ false = unjoined i v slot s c (s == slot) refl y in
-      (joined_far a tail slot number value s other).root ∙ h.root s c (sym (upd_other v.status slot InQueue s other) ∙ y);
+      let was : v.status s ≡ Linked c = sym (upd_other v.status slot InQueue s other) ∙ y in
+      (by_far s other (rw was refl)).root ∙ h.root s c was;
   latest = λ s c y.
       let other : (s == slot) ≡ false = unjoined i v slot s c (s == slot) refl y in
-      (joined_far a tail slot number value s other).version ∙ h.latest s c (sym (upd_other v.status slot InQueue s other) ∙ y);
+      let was : v.status s ≡ Linked c = sym (upd_other v.status slot InQueue s other) ∙ y in
+      (by_far s other (rw was refl)).version ∙ h.latest s c was;
+  items = λ s p y r. by_items s p (s == slot) refl y r;
+  queued = λ s p y r. by_queued s p (s == slot) refl y r;
   empty = h.empty;
 }
+  where
+    by_far : (s : ℕ) → (s == slot) ≡ false → is_settled (v.status s) ≡ true → SameSlot (shelf_of a) (shelf_of (joined a tail slot number value)) s
+    by_far s x z = joined_far a tail slot number value s x (λ p r. h.queued s p z r)
+
+    by_items : (s p : ℕ) (x : Bool) → (s == slot) ≡ x → is_settled ((made i v (Appends slot)).status s) ≡ true → ((joined a tail slot number value).row s).root ≡ roots.Next p → Filled after s (QueueRow ((shelf_of (joined a tail slot number value)).version s) ((shelf_of (joined a tail slot number value)).value s)) 3
+    by_items s p true x y r = subst (λ (j : ℕ). Filled after j (QueueRow ((shelf_of (joined a tail slot number value)).version j) ((shelf_of (joined a tail slot number value)).value j)) 3) (sym (number_is s slot x)) (joined_item a after tail slot number value e f)
+    by_items s p false x y r =
+        let z : is_settled (v.status s) ≡ true = subst (λ (k : Status). is_settled k ≡ true) (upd_other v.status slot InQueue s x) y in
+        items_same (shelf_of a) (shelf_of (joined a tail slot number value)) mem after s (by_far s x z) (λ q low. w s q z low) (h.items s p z (sym (by_far s x z).root ∙ r))
+
+    by_queued : (s p : ℕ) (x : Bool) → (s == slot) ≡ x → is_settled ((made i v (Appends slot)).status s) ≡ true → ((joined a tail slot number value).row s).root ≡ roots.Next p → ((joined a tail slot number value).row s).version - 1 < length (joined a tail slot number value).queued
+    by_queued s p true x y r = subst (λ (j : ℕ). ((joined a tail slot number value).row j).version - 1 < length (joined a tail slot number value).queued) (sym (number_is s slot x)) (joined_last a tail slot number value)
+    by_queued s p false x y r =
+        let z : is_settled (v.status s) ≡ true = subst (λ (k : Status). is_settled k ≡ true) (upd_other v.status slot InQueue s x) y in
+        let low : (a.row s).version - 1 < length a.queued = h.queued s p z (sym (by_far s x z).root ∙ r) in
+        let long : length (a.queued ++ value ∷ []) ≡ length a.queued + 1 = length-append a.queued (value ∷ []) in
+        subst (λ (k : ℕ). k - 1 < length (a.queued ++ value ∷ [])) (sym (by_far s x z).version) (subst (λ (k : ℕ). (a.row s).version - 1 < k) (sym long) (omega arith))
 
 -- a bucket's root is exchanged: the book gets the row's link, and one change more
 abbrev pub exchanged_book : Book → ℕ → ℕ → Change → Book
@@ -148,6 +200,7 @@ exchanged_far a b slot change s h low =
       root = ap (λ (r : RowBook). r.root) row;
       version = ap (λ (r : RowBook). r.version) row;
       pairs = ap (λ (r : RowBook). pairs_by (upd a.changes b (a.changes b ++ change ∷ [])) r.root r.version) row ∙ grown_pairs a.changes b change (a.row s).root (a.row s).version low;
+      value = ap (λ (r : RowBook). value_by a.queued r.root r.version) row;
     }
 
 -- what the new row is in the book
@@ -214,6 +267,9 @@ grown_within a b slot change c version h = by_bucket (c == b) refl
         rw e (omega arith)
     by_bucket false e = rw e h
 
+two_roots : (x : Root) (b p : ℕ) → x ≡ roots.Bucket b → x ≡ roots.Next p → ⊥
+two_roots x b p h k = cc
+
 same_bucket : (x : Root) (b c : ℕ) → x ≡ roots.Bucket b → x ≡ roots.Bucket c → b ≡ c
 same_bucket x b c h k = cc
 
@@ -241,6 +297,14 @@ exchanged_shelved n a v u mem after b slot kept k t w f h = record {
   within = λ s c y r. by_within s c (s == slot) refl y r;
   root = λ s c y. by_root s c (s == slot) refl y;
   latest = λ s c y. by_latest s c (s == slot) refl y;
+  items = λ s p y r.
+      let x : (s == slot) ≡ false = not_new s p (s == slot) refl r in
+      let z : is_settled (v.status s) ≡ true = k.settled s x y in
+      items_same (shelf_of a) (shelf_of (exchanged_book a b slot kept.change)) mem after s (far s x z) (λ q low. w s q z low) (h.items s p z (sym (far s x z).root ∙ r));
+  queued = λ s p y r.
+      let x : (s == slot) ≡ false = not_new s p (s == slot) refl r in
+      let z : is_settled (v.status s) ≡ true = k.settled s x y in
+      subst (λ (j : ℕ). j - 1 < length a.queued) (sym (far s x z).version) (h.queued s p z (sym (far s x z).root ∙ r));
   empty = λ c. exchanged_root a b slot kept.change v u c k (h.empty c);
 }
   where
@@ -249,6 +313,10 @@ exchanged_shelved n a v u mem after b slot kept k t w f h = record {
 
     far : (s : ℕ) → (s == slot) ≡ false → is_settled (v.status s) ≡ true → SameSlot (shelf_of a) (shelf_of (exchanged_book a b slot kept.change)) s
     far s e y = exchanged_far a b slot kept.change s e (λ c r. h.within s c y r)
+
+    not_new : (s p : ℕ) (x : Bool) → (s == slot) ≡ x → ((exchanged_book a b slot kept.change).row s).root ≡ roots.Next p → x ≡ false
+    not_new s p true e r = absurd (two_roots ((exchanged_book a b slot kept.change).row slot).root b p new.root (subst (λ (j : ℕ). ((exchanged_book a b slot kept.change).row j).root ≡ roots.Next p) (number_is s slot e) r))
+    not_new s p false e r = refl
 
     by_shows : (s c : ℕ) (x : Bool) → (s == slot) ≡ x → is_settled (u.status s) ≡ true → ((exchanged_book a b slot kept.change).row s).root ≡ roots.Bucket c → Shows after s ((shelf_of (exchanged_book a b slot kept.change)).version s) ((shelf_of (exchanged_book a b slot kept.change)).pairs s)
     by_shows s c true e y r = subst (λ (j : ℕ). Shows after j ((shelf_of (exchanged_book a b slot kept.change)).version j) ((shelf_of (exchanged_book a b slot kept.change)).pairs j)) (sym (number_is s slot e)) (new_shows after (a.changes b) kept slot (shelf_of (exchanged_book a b slot kept.change)) new.version new.pairs t f)

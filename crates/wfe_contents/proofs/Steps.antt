@@ -34,7 +34,7 @@ use Rattle.wfe_core.specs.WriteRow.{row_word, last_written}
 use Rattle.wfe_core.specs.Calls.{ChangeKept, EnqueueKept, Task, Gets, Changes, Holds, Enqueues, Dequeues, Next, Again, Answering, Retiring, AfterScan, Why, Opens, FollowsHead, Fills, ClearsNext, Clears, Finishes, GivesUp, Retires, Tidies, Advances, Releases, EnqueueAt, LoadNumber, LoadNext, PassTail, ExchangeNext, ExchangeTail, DequeueAt, LoadTail, SwingTail, TakeNumber, TakeValue, ExchangeHead, Runs, goes_on}
 use Rattle.wfe_rows.specs.Hands.{fills_right, holds_slot}
 use Rattle.wfe_contents.specs.Shelf.{Shelf, Filled}
-use Rattle.wfe_contents.specs.Knows.{Ground, FillKnows, Decided, Writing, changes_in}
+use Rattle.wfe_contents.specs.Knows.{ItemKnows, WritingItem, Ground, FillKnows, Decided, Writing, changes_in}
 use Rattle.wfe_contents.proofs.Told.{all_calm}
 use Rattle.wfe_contents.proofs.Lasts.{on}
 use Rattle.wfe_contents.proofs.Machines.{base_calm}
@@ -51,9 +51,13 @@ told_link_calm true slot false = refl
 told_link_calm false slot false = refl
 
 -- an enqueue that appends no row
+item_filling : (g : Ground) (kept : EnqueueKept) (x : Option ℕ) → ItemKnows g kept (enqueues.filling_by kept x)
+item_filling g kept None = tt
+item_filling g kept (Some slot) = record { same = refl; words = λ q low high. absurd (omega arith) }
+
 appending_turns : (g : Ground) (kept : EnqueueKept) (post : Post) (desk : Desk) (spent : Bool) → Turns g (enqueues.appending kept post desk spent)
 appending_turns g kept post desk true = clearing_turns g (Enqueues kept) (Answering (the_answers.Spent kept.number)) post desk [] refl
-appending_turns g kept post desk false = record { calm = tt; knows = tt }
+appending_turns g kept post desk false = record { calm = tt; knows = item_filling g kept kept.taken }
 
 at_next_turns : (g : Ground) (kept : EnqueueKept) (next : ℕ) (post : Post) (desk : Desk) (none : Bool) → Turns g (enqueues.at_next kept next post desk none)
 at_next_turns g kept next post desk true = appending_turns g kept post desk (kept.number == post.layout.config.last_version)
@@ -144,15 +148,14 @@ written_adds : (task : Task) (post : Post) (desk : Desk) (told : List Event) →
 written_adds (Gets key) post desk told h = closed_adds (Gets key) Again post desk told
 written_adds (Changes kept) post desk told h = absurd (cc)
 written_adds (Holds key) post desk told h = closed_adds (Holds key) Again post desk told
-written_adds (Enqueues kept) post desk told h = adds_none told (steps.written_row (Enqueues kept) post desk told) refl refl
+written_adds (Enqueues kept) post desk told h = absurd (cc)
 written_adds Dequeues post desk told h = closed_adds Dequeues Again post desk told
 
 filled_by_adds : (task : Task) (ending : AllocateEnd) (post : Post) (desk : Desk) (told : List Event) → task_plain task ≡ true → Adds told (steps.filled_by task ending post desk told)
 filled_by_adds (Gets key) ending post desk told h = closed_adds (Gets key) Again post desk told
 filled_by_adds (Changes kept) ending post desk told h = absurd (cc)
 filled_by_adds (Holds key) ending post desk told h = closed_adds (Holds key) Again post desk told
-filled_by_adds (Enqueues kept) (allocate_ends.Given slot birth) post desk told h = adds_none told (steps.filled_by (Enqueues kept) (allocate_ends.Given slot birth) post desk told) refl refl
-filled_by_adds (Enqueues kept) allocate_ends.Full post desk told h = clearing_adds (Enqueues (enqueues.item_walked kept)) (alters.no_room kept.walked) post desk told
+filled_by_adds (Enqueues kept) ending post desk told h = absurd (cc)
 filled_by_adds Dequeues ending post desk told h = closed_adds Dequeues Again post desk told
 
 filled_adds : (task : Task) (ending : Ending) (post : Post) (desk : Desk) (told : List Event) → task_plain task ≡ true → Adds told (steps.filled task ending post desk told)
@@ -330,3 +333,53 @@ fill_turns n a mem kept Release post next desk r h = absurd (no_fill r)
 fill_turns n a mem kept (GiveUp slot) post next desk r h = absurd (no_fill r)
 fill_turns n a mem kept (Retire at) post next desk r h = absurd (no_fill r)
 fill_turns n a mem kept (Move at) post next desk r h = absurd (no_fill r)
+
+-- an enqueue fills its row
+
+item_given : (g : Ground) (kept : EnqueueKept) (ending : AllocateEnd) (post : Post) (desk : Desk) → Turns g (steps.resumed (Fills (Enqueues kept)) desk post [] (Ends (Allocated ending)))
+item_given g kept (allocate_ends.Given slot birth) post desk = record { calm = tt; knows = record { same = refl; words = λ q low high. absurd (omega arith) } }
+item_given g kept allocate_ends.Full post desk = clearing_turns g (Enqueues (enqueues.item_walked kept)) (alters.no_room kept.walked) post desk [] refl
+
+item_walking : (g : Ground) (kept : EnqueueKept) (birth : ℕ) (post : Post) (desk : Desk) (x : Option Walk) → Turns g (steps.run_turn (Fills (Enqueues kept)) desk (walking birth post x))
+item_walking g kept birth post desk None = item_given g kept allocate_ends.Full post desk
+item_walking g kept birth post desk (Some walk) = record { calm = tt; knows = tt }
+
+item_allocate : (g : Ground) (kept : EnqueueKept) (at : AllocateAt) (post : Post) (desk : Desk) (word : ℕ) → Turns g (steps.run_turn (Fills (Enqueues kept)) desk (machine.allocate_turn at post word))
+item_allocate g kept LoadBirth post desk word = record { calm = tt; knows = tt }
+item_allocate g kept (ClaimSlot birth walk) post desk word = by_shown (is_claimed word walk.slot) refl
+  where
+    by_shown : (x : Bool) → is_claimed word walk.slot ≡ x → Turns g (steps.run_turn (Fills (Enqueues kept)) desk (machine.allocate_turn (ClaimSlot birth walk) post word))
+    by_shown true e = rw e (item_walking g kept birth post desk (walk_past post.layout.config.slots walk word))
+    by_shown false e = rw e (record { calm = (refl, tt); knows = tt })
+item_allocate g kept (StoreLife birth slot) post desk word = item_given g kept (allocate_ends.Given slot birth) post desk
+
+item_last : (row : RowOf) (place : ℕ) (kept : EnqueueKept) → (place == last_written row) ≡ true → row ≡ enqueues.new_item kept → place + 1 ≡ 3
+item_last row place kept e h =
+    let there : (place == 2) ≡ true = subst (λ (r : RowOf). (place == last_written r) ≡ true) h e in
+    let at : place ≡ 2 = grind (arith, nat_tests) in
+    omega arith
+
+item_writes : (n : ℕ) (a : Shelf) (mem : Place → ℕ) (kept : EnqueueKept) (slot : ℕ) (row : RowOf) (place : ℕ) (post : Post) (desk : Desk) (last : Bool) → (place == last_written row) ≡ last → holds_slot kept.taken slot ≡ true → WritingItem (on n a mem) kept slot row place
+    → Turns (on n a (put mem (Row slot place) (row_word row place))) (steps.run_turn (Fills (Enqueues kept)) desk (if last then ends post [] Done else goes post [] (Write slot row (place + 1))))
+item_writes n a mem kept slot row place post desk false e t h = record { calm = tt; knows = record { same = h.same; words = filled_next mem slot row place h.words } }
+item_writes n a mem kept slot row place post desk true e t h =
+    let after : Place → ℕ = put mem (Row slot place) (row_word row place) in
+    let all : Filled after slot row (place + 1) = filled_next mem slot row place h.words in
+    record {
+      calm = tt;
+      knows = subst (λ (s : ℕ). Filled after s (enqueues.new_item kept) 3) (sym (held_slot kept.taken slot t)) (subst (λ (k : ℕ). Filled after slot (enqueues.new_item kept) k) (item_last row place kept e h.same) (subst (λ (r : RowOf). Filled after slot r (place + 1)) h.same all));
+    }
+
+pub item_turns : (n : ℕ) (a : Shelf) (mem : Place → ℕ) (kept : EnqueueKept) (base : Base) (post next : Post) (desk : Desk) → fills_right base kept.taken ≡ true → ItemKnows (on n a mem) kept base
+    → Turns (on n a (written mem (base_move base post))) (steps.run_turn (Fills (Enqueues kept)) desk (machine.after base next (found (base_move base post) (mem (place_in (base_move base post))))))
+item_turns n a mem kept (Allocate at) post next desk r h = item_allocate (on n a (written mem (machine.allocate_move at))) kept at next desk (found (machine.allocate_move at) (mem (place_in (machine.allocate_move at))))
+item_turns n a mem kept (Write slot row place) post next desk r h = item_writes n a mem kept slot row place next desk (place == last_written row) refl r h
+item_turns n a mem kept (Begin at) post next desk r h = absurd (no_fill r)
+item_turns n a mem kept (Protect aim index root count at) post next desk r h = absurd (no_fill r)
+item_turns n a mem kept (Reload parent index slot era count) post next desk r h = absurd (no_fill r)
+item_turns n a mem kept (Clear index) post next desk r h = absurd (no_fill r)
+item_turns n a mem kept Finish post next desk r h = absurd (no_fill r)
+item_turns n a mem kept Release post next desk r h = absurd (no_fill r)
+item_turns n a mem kept (GiveUp slot) post next desk r h = absurd (no_fill r)
+item_turns n a mem kept (Retire at) post next desk r h = absurd (no_fill r)
+item_turns n a mem kept (Move at) post next desk r h = absurd (no_fill r)

@@ -23,6 +23,7 @@ is_calm (events.Link root slot) = is_end root
 is_calm (events.Put bucket version key value) = false
 is_calm (events.Removed bucket version key) = false
 is_calm (events.Got bucket version key value) = false
+is_calm (events.Queued number value) = false
 is_calm event = true
 
 abbrev pub all_calm : List Event → Bool
@@ -48,15 +49,17 @@ calm_append (event ∷ a) b h k = both_calm (is_calm event) (all_calm (a ++ b)) 
 -- two books have the same changes and rows of the map
 pub record SameBook (a b : Book) : Type 0 where
   pub changes : (bucket : ℕ) → b.changes bucket ≡ a.changes bucket
+  pub queued : b.queued ≡ a.queued
   pub roots : (s : ℕ) → (b.row s).root ≡ (a.row s).root
   pub versions : (s : ℕ) → (b.row s).version ≡ (a.row s).version
 
 same_book : (a : Book) → SameBook a a
-same_book a = record { changes = λ b. refl; roots = λ s. refl; versions = λ s. refl }
+same_book a = record { changes = λ b. refl; queued = refl; roots = λ s. refl; versions = λ s. refl }
 
 same_then : (a b c : Book) → SameBook a b → SameBook b c → SameBook a c
 same_then a b c h k = record {
   changes = λ x. k.changes x ∙ h.changes x;
+  queued = k.queued ∙ h.queued;
   roots = λ s. k.roots s ∙ h.roots s;
   versions = λ s. k.versions s ∙ h.versions s;
 }
@@ -76,7 +79,7 @@ row_version f slot row s h = by_slot (s == slot) refl
     by_slot false e = rw e refl
 
 same_row : (a : Book) (slot : ℕ) (row : RowBook) → row.root ≡ (a.row slot).root → row.version ≡ (a.row slot).version → SameBook a (with_row a slot row)
-same_row a slot row h k = record { changes = λ b. refl; roots = λ s. row_root a.row slot row s h; versions = λ s. row_version a.row slot row s k }
+same_row a slot row h k = record { changes = λ b. refl; queued = refl; roots = λ s. row_root a.row slot row s h; versions = λ s. row_version a.row slot row s k }
 
 calm_booked : (a : Book) (event : Event) → is_calm event ≡ true → SameBook a (booked a event)
 calm_booked a (events.Give slot birth) h = same_row a slot (record (a.row slot) { birth = birth; retire = 0 }) refl refl
@@ -88,8 +91,8 @@ calm_booked a (events.Link roots.Tail slot) h = same_book a
 calm_booked a (events.Put bucket version key value) h = absurd (cc)
 calm_booked a (events.Removed bucket version key) h = absurd (cc)
 calm_booked a (events.Got bucket version key value) h = absurd (cc)
-calm_booked a (events.Queued number value) h = record { changes = λ b. refl; roots = λ s. refl; versions = λ s. refl }
-calm_booked a (events.Taken number value) h = record { changes = λ b. refl; roots = λ s. refl; versions = λ s. refl }
+calm_booked a (events.Queued number value) h = absurd (cc)
+calm_booked a (events.Taken number value) h = record { changes = λ b. refl; queued = refl; roots = λ s. refl; versions = λ s. refl }
 calm_booked a event h = same_book a
 
 pub calm_book : (told : List Event) (a : Book) → all_calm told ≡ true → SameBook a (booked_all a told)
@@ -106,6 +109,7 @@ pub record SameSlot (a b : Shelf) (s : ℕ) : Type 0 where
   pub root : b.root s ≡ a.root s
   pub version : b.version s ≡ a.version s
   pub pairs : b.pairs s ≡ a.pairs s
+  pub value : b.value s ≡ a.value s
 
 pub pairs_same : (a b : Book) (root : Root) (version : ℕ) → ((x : ℕ) → b.changes x ≡ a.changes x) → pairs_by b.changes root version ≡ pairs_by a.changes root version
 pairs_same a b (roots.Bucket bucket) version h = rw (h bucket) refl
@@ -118,6 +122,7 @@ same_slot a b s h = record {
   root = h.roots s;
   version = h.versions s;
   pairs = rw (h.roots s, h.versions s) (pairs_same a b (a.row s).root (a.row s).version h.changes);
+  value = rw (h.roots s, h.versions s, h.queued) refl;
 }
 
 -- where the value comes from that a get tells: there was no row, or a row showed it

@@ -10,7 +10,7 @@ use Rattle.wfe_core.specs.Phases.{AllocateAt, RetireAt, Base}
 use Rattle.wfe_core.specs.Phases.AllocateAt.{LoadBirth, ClaimSlot, StoreLife}
 use Rattle.wfe_core.specs.Phases.RetireAt.{LoadLife, LoadRetire, StoreRetired}
 use Rattle.wfe_core.specs.Phases.Base.{Begin, Protect, Reload, Clear, Finish, Release, Allocate, Write, GiveUp, Retire, Move}
-use Rattle.wfe_core.specs.Calls.{ChangeKept, Why, Opens, FollowsHead, Fills, ClearsNext, Clears, Finishes, GivesUp, Retires, Tidies, Advances, Releases, ScanAt, ReadGuard, GiveBack, ChangeAt, LoadVersion, LoadCount, LoadKey, LoadValue, ExchangeRoot, EnqueueAt, LoadNumber, LoadNext, PassTail, ExchangeNext, ExchangeTail, DequeueAt, LoadTail, SwingTail, TakeNumber, TakeValue, ExchangeHead, Work, Getting, Changing, Enqueuing, Dequeuing, Phase, Idle, Runs, Scans, Works}
+use Rattle.wfe_core.specs.Calls.{EnqueueKept, ChangeKept, Why, Opens, FollowsHead, Fills, ClearsNext, Clears, Finishes, GivesUp, Retires, Tidies, Advances, Releases, ScanAt, ReadGuard, GiveBack, ChangeAt, LoadVersion, LoadCount, LoadKey, LoadValue, ExchangeRoot, EnqueueAt, LoadNumber, LoadNext, PassTail, ExchangeNext, ExchangeTail, DequeueAt, LoadTail, SwingTail, TakeNumber, TakeValue, ExchangeHead, Work, Getting, Changing, Enqueuing, Dequeuing, Phase, Idle, Runs, Scans, Works}
 use Rattle.wfe_rows.specs.Rows.{Status, View, Good, RowMove, made}
 use Rattle.wfe_rows.specs.Rows.Hand.{Taken}
 use Rattle.wfe_rows.specs.Rows.Status.{Free, Claimed, Born, Linked, InQueue, Cut, Sealed, Listed}
@@ -96,10 +96,17 @@ change_owned v i kept (LoadKey slot count) list s p h = absurd (cc)
 change_owned v i kept (LoadValue slot count key) list s p h = absurd (cc)
 change_owned v i kept (ExchangeRoot slot) list s p h = p.hand ∙ taken_as kept.taken slot p.right ∙ ap Taken (number_is slot s h)
 
+enqueue_owned : (v : View) (i : ℕ) (kept : EnqueueKept) (at : EnqueueAt) (list : List Lifetime) (s : ℕ) → Plays i (Works (Enqueuing kept at)) list v → owns_in (Works (Enqueuing kept at)) s ≡ true → v.hand i ≡ Taken s
+enqueue_owned v i kept LoadNumber list s p h = absurd (cc)
+enqueue_owned v i kept LoadNext list s p h = absurd (cc)
+enqueue_owned v i kept (PassTail next) list s p h = absurd (cc)
+enqueue_owned v i kept (ExchangeNext slot) list s p h = p.hand ∙ taken_as kept.taken slot p.right ∙ ap Taken (number_is slot s h)
+enqueue_owned v i kept (ExchangeTail slot) list s p h = absurd (cc)
+
 work_owned : (v : View) (i : ℕ) (work : Work) (list : List Lifetime) (s : ℕ) → Plays i (Works work) list v → owns_in (Works work) s ≡ true → v.hand i ≡ Taken s
 work_owned v i (Getting key at) list s p h = absurd (cc)
 work_owned v i (Changing kept at) list s p h = change_owned v i kept at list s p h
-work_owned v i (Enqueuing kept at) list s p h = absurd (cc)
+work_owned v i (Enqueuing kept at) list s p h = enqueue_owned v i kept at list s p h
 work_owned v i (Dequeuing at) list s p h = absurd (cc)
 
 pub owner_born : (slots : ℕ) (v : View) (i : ℕ) (phase : Phase) (list : List Lifetime) (s : ℕ) → Good slots v → Plays i phase list v → owns_in phase s ≡ true → v.status s ≡ Born i

@@ -1,4 +1,4 @@
--- What a seat's phase knows of rows of the map: what it has read of a row that stands, and what it has written of its own.
+-- What a seat's phase knows of rows: what it has read of a row that stands, and what it has written of its own.
 use Rattle.std.specs.Prelude.{ℕ, ◌≡◌, ◌<◌, ◌+◌, ◌*◌, ◌%◌, ◌==◌, Bool, false, List, [], length, take, drop, slice_index_or, Some}
 use Rattle.wfe_words.specs.Place.{Place}
 use Rattle.wfe_defs.specs.Pairs.{Pair, changed, value_in}
@@ -7,7 +7,8 @@ use Rattle.wfe_core.specs.Phases.{RowOf, Base}
 use Rattle.wfe_core.specs.Phases.Base.{Begin, Protect, Reload, Clear, Finish, Release, Allocate, Write, GiveUp, Retire, Move}
 use Rattle.wfe_core.specs.Rounds.{key_of}
 use Rattle.wfe_core.specs.Change.{new_row}
-use Rattle.wfe_core.specs.Calls.{ChangeKept, Task, Gets, Changes, Holds, Enqueues, Dequeues, Why, Opens, FollowsHead, Fills, ClearsNext, Clears, Finishes, GivesUp, Retires, Tidies, Advances, Releases, GetAt, FindVersion, FindCount, FindKey, FindValue, ChangeAt, LoadVersion, LoadCount, LoadKey, LoadValue, ExchangeRoot, Work, Getting, Changing, Enqueuing, Dequeuing, Phase, Idle, Runs, Scans, Works}
+use Rattle.wfe_core.specs.Enqueue.{new_item}
+use Rattle.wfe_core.specs.Calls.{EnqueueKept, EnqueueAt, LoadNumber, LoadNext, PassTail, ExchangeNext, ExchangeTail, ChangeKept, Task, Gets, Changes, Holds, Enqueues, Dequeues, Why, Opens, FollowsHead, Fills, ClearsNext, Clears, Finishes, GivesUp, Retires, Tidies, Advances, Releases, GetAt, FindVersion, FindCount, FindKey, FindValue, ChangeAt, LoadVersion, LoadCount, LoadKey, LoadValue, ExchangeRoot, Work, Getting, Changing, Enqueuing, Dequeuing, Phase, Idle, Runs, Scans, Works}
 use Rattle.wfe_contents.specs.Shelf.{Shelf, Filled}
 
 -- what a seat's knowledge is of: the number of buckets, what rows show by the book, and the words
@@ -110,11 +111,36 @@ FillKnows g kept (GiveUp slot) = Decided g kept
 FillKnows g kept (Retire at) = Decided g kept
 FillKnows g kept (Move at) = Decided g kept
 
+-- a row of the queue is written up to below this place
+pub record WritingItem (g : Ground) (kept : EnqueueKept) (slot : ℕ) (row : RowOf) (place : ℕ) : Type 0 where
+  pub same : row ≡ new_item kept
+  pub words : Filled g.mem slot row place
+
+abbrev pub ItemKnows : Ground → EnqueueKept → Base → Type 0
+ItemKnows g kept (Begin at) = Unit {0}
+ItemKnows g kept (Protect aim index root steps at) = Unit {0}
+ItemKnows g kept (Reload parent index slot era steps) = Unit {0}
+ItemKnows g kept (Clear index) = Unit {0}
+ItemKnows g kept Finish = Unit {0}
+ItemKnows g kept Release = Unit {0}
+ItemKnows g kept (Allocate at) = Unit {0}
+ItemKnows g kept (Write slot row place) = WritingItem g kept slot row place
+ItemKnows g kept (GiveUp slot) = Unit {0}
+ItemKnows g kept (Retire at) = Unit {0}
+ItemKnows g kept (Move at) = Unit {0}
+
+abbrev pub EnqueueKnows : Ground → EnqueueKept → EnqueueAt → Type 0
+EnqueueKnows g kept LoadNumber = Unit {0}
+EnqueueKnows g kept LoadNext = Unit {0}
+EnqueueKnows g kept (PassTail next) = Unit {0}
+EnqueueKnows g kept (ExchangeNext slot) = Filled g.mem slot (new_item kept) 3
+EnqueueKnows g kept (ExchangeTail slot) = Unit {0}
+
 abbrev pub TaskKnows : Ground → Task → Base → Type 0
 TaskKnows g (Gets key) base = Unit {0}
 TaskKnows g (Changes kept) base = FillKnows g kept base
 TaskKnows g (Holds key) base = Unit {0}
-TaskKnows g (Enqueues kept) base = Unit {0}
+TaskKnows g (Enqueues kept) base = ItemKnows g kept base
 TaskKnows g Dequeues base = Unit {0}
 
 abbrev pub WhyKnows : Ground → Why → Base → Type 0
@@ -133,7 +159,7 @@ WhyKnows g (Releases key) base = Unit {0}
 abbrev pub WorkKnows : Ground → Work → Type 0
 WorkKnows g (Getting key at) = GetKnows g key at
 WorkKnows g (Changing kept at) = ChangeKnows g kept at
-WorkKnows g (Enqueuing kept at) = Unit {0}
+WorkKnows g (Enqueuing kept at) = EnqueueKnows g kept at
 WorkKnows g (Dequeuing at) = Unit {0}
 
 -- what a seat knows of rows
@@ -219,10 +245,17 @@ change_owns (LoadKey slot count) s = false
 change_owns (LoadValue slot count key) s = false
 change_owns (ExchangeRoot slot) s = slot == s
 
+abbrev pub enqueue_owns : EnqueueAt → ℕ → Bool
+enqueue_owns LoadNumber s = false
+enqueue_owns LoadNext s = false
+enqueue_owns (PassTail next) s = false
+enqueue_owns (ExchangeNext slot) s = slot == s
+enqueue_owns (ExchangeTail slot) s = false
+
 abbrev pub work_owns : Work → ℕ → Bool
 work_owns (Getting key at) s = false
 work_owns (Changing kept at) s = change_owns at s
-work_owns (Enqueuing kept at) s = false
+work_owns (Enqueuing kept at) s = enqueue_owns at s
 work_owns (Dequeuing at) s = false
 
 abbrev pub owns_in : Phase → ℕ → Bool

@@ -1,5 +1,5 @@
 -- What the book says that each row of the map shows, and when the words of a row show it.
-use Rattle.std.specs.Prelude.{ℕ, ◌≡◌, ◌≤◌, ◌<◌, ◌+◌, ◌*◌, Bool, true, false, List, [], length, take}
+use Rattle.std.specs.Prelude.{ℕ, ◌≡◌, ◌≤◌, ◌<◌, ◌+◌, ◌-◌, ◌*◌, Bool, true, false, List, [], length, take, slice_index_or}
 use Rattle.wfe_words.specs.Place.{Place}
 use Rattle.wfe_words.specs.Place.Place.{Row}
 use Rattle.wfe_defs.specs.Pairs.{Pair, pairs_after}
@@ -13,12 +13,13 @@ use Rattle.wfe_rows.specs.Rows.{Status}
 use Rattle.wfe_rows.specs.Rows.Status.{Free, Claimed, Born, Linked, InQueue, Cut, Sealed, Listed}
 
 -- by slot: the root and the version under which the row was linked last, and the pairs of the bucket at that version; by
--- bucket how often it was changed
+-- bucket how often it was changed; and by slot the value that was queued under the row's number
 pub record Shelf : Type 0 where
   pub root : ℕ → Root
   pub version : ℕ → ℕ
   pub pairs : ℕ → List Pair
   pub count : ℕ → ℕ
+  pub value : ℕ → ℕ
 
 -- the pairs of a root at a version; only buckets have pairs
 abbrev pub pairs_by : (ℕ → List Change) → Root → ℕ → List Pair
@@ -27,6 +28,13 @@ pairs_by changes (roots.Next parent) version = []
 pairs_by changes roots.Head version = []
 pairs_by changes roots.Tail version = []
 
+-- the value of a number that was queued behind a row
+abbrev pub value_by : List ℕ → Root → ℕ → ℕ
+value_by queued (roots.Bucket bucket) number = 0
+value_by queued (roots.Next parent) number = slice_index_or queued (number - 1) 0
+value_by queued roots.Head number = 0
+value_by queued roots.Tail number = 0
+
 abbrev pub shelf_of : Book → Shelf
 shelf_of book =
     record {
@@ -34,6 +42,7 @@ shelf_of book =
       version = λ s. (book.row s).version;
       pairs = λ s. pairs_by book.changes (book.row s).root (book.row s).version;
       count = λ b. length (book.changes b);
+      value = λ s. value_by book.queued (book.row s).root (book.row s).version;
     }
 
 -- a row that is linked, or was cut and is not given back: no seat writes its words

@@ -1,4 +1,4 @@
--- What a step tells of the map is what the changes of the bucket say that were told before it.
+-- What a step tells of the map and of the queue is what the changes of the bucket say that were told before it.
 use Rattle.std.specs.Prelude.{ℕ, ◌≡◌, ◌≤◌, ◌+◌, ◌%◌, List, [], ◌∷◌, length, take, Option}
 use Rattle.wfe_defs.specs.Pairs.{pairs_after, value_in}
 use Rattle.wfe_defs.specs.declared.event.Event.{Event}
@@ -19,10 +19,12 @@ pub record NextChange (n : ℕ) (a : Book) (bucket version key : ℕ) : Type 0 w
   pub place : bucket ≡ key % n
   pub next : version ≡ length (a.changes bucket) + 1
 
+-- what an event says is right by the book before it; an enqueue tells the next number
 abbrev pub TellsRight : ℕ → Book → Event → Type 0
 TellsRight n a (events.Got bucket version key value) = GotRight a bucket version key value
 TellsRight n a (events.Put bucket version key value) = NextChange n a bucket version key
 TellsRight n a (events.Removed bucket version key) = NextChange n a bucket version key
+TellsRight n a (events.Queued number value) = number ≡ length a.queued + 1
 TellsRight n a event = Unit {0}
 
 abbrev pub AllRight : ℕ → Book → List Event → Type 0

@@ -1,5 +1,5 @@
-//! What the rows of the map show, and what calls know of it: a part of the invariant of the
-//! machines. Each function here does nothing, and carries a theorem.
+//! What rows of the map and of the queue show, and what calls know of it: a part of the invariant of
+//! the machines. Each function here does nothing, and carries a theorem.
 #![tactic(auto)]
 
 ghost use Rattle.wfe_contents.specs.Buckets.{BucketsShow, ChangesKnow};
@@ -21,14 +21,15 @@ pub fn contents_begin()
 /// leads to the row of the last version, and is null while nothing was changed. What a get or a
 /// change has read of a row is what the row shows, what a change writes are the pairs that it read
 /// with the change, and where it exchanges the root they are those of the bucket's last version
-/// with the change.
+/// with the change. A row that was linked behind another in the queue shows its number and the value
+/// that was queued under it.
 pub fn contents_kept()
     ensures { ContentsKept }
 {}
 
 /// What a step tells of the map is right by the changes told before it: a get tells a version that
 /// there was, and its key's value among the pairs at that version; a put or a remove tells the next
-/// version of its key's bucket.
+/// version of its key's bucket; an enqueue tells the next number.
 pub fn contents_told()
     ensures { ContentsTold }
 {}
