@@ -9,7 +9,8 @@ use Rattle.wfe_core.specs.World.{World}
 use Rattle.wfe_rows.specs.Rows.{View}
 use Rattle.wfe_rows.specs.Rows.Status.{Linked}
 use Rattle.wfe_rows.specs.Agree.{Agree}
-use Rattle.wfe_contents.specs.Shelf.{pairs_by, is_settled, Shows}
+use Rattle.wfe_contents.specs.Shelf.{pairs_by, Shows}
+use Rattle.wfe_rows.specs.Rows.{is_settled}
 use Rattle.wfe_contents.specs.Contents.{Contents}
 use Rattle.wfe_contents.specs.Buckets.{BucketsShow, ChangesKnow}
 use Rattle.wfe_contents.proofs.Links.{all_pairs, exchange_latest}

@@ -29,7 +29,8 @@ use Rattle.wfe_rows.proofs.Fits.{phase_fits}
 use Rattle.wfe_rows.proofs.Phases.{taken_as}
 use Rattle.wfe_rows.proofs.Steps.{of_taken}
 use Rattle.wfe_eras.specs.Frame.{phase_left}
-use Rattle.wfe_contents.specs.Shelf.{Shelf, shelf_of, is_settled, Filled}
+use Rattle.wfe_contents.specs.Shelf.{Shelf, shelf_of, Filled}
+use Rattle.wfe_rows.specs.Rows.{is_settled}
 use Rattle.wfe_contents.specs.Knows.{Ground, Knows, Ready, reads_in}
 use Rattle.wfe_contents.specs.Contents.{Shelved, Contents, ContentsNeeds, ContentsKept}
 use Rattle.wfe_contents.specs.Told.{AllRight, ContentsTold}

@@ -15,7 +15,8 @@ use Rattle.wfe_rows.specs.Rows.{Status, View, Good, made}
 use Rattle.wfe_rows.specs.Rows.Status.{Born, Linked, Cut}
 use Rattle.wfe_rows.specs.Rows.RowMove.{Links, Replaces}
 use Rattle.wfe_rows.specs.Hands.{linked_row}
-use Rattle.wfe_contents.specs.Shelf.{shelf_of, pairs_by, is_settled}
+use Rattle.wfe_contents.specs.Shelf.{shelf_of, pairs_by}
+use Rattle.wfe_rows.specs.Rows.{is_settled}
 use Rattle.wfe_contents.specs.Knows.{Decided}
 use Rattle.wfe_contents.specs.Contents.{Shelved}
 use Rattle.wfe_contents.proofs.Lasts.{on}

@@ -22,7 +22,8 @@ use Rattle.wfe_core.specs.Calls.{ChangeKept}
 use Rattle.wfe_rows.specs.Rows.{Status, View, made}
 use Rattle.wfe_rows.specs.Rows.Status.{Linked, InQueue}
 use Rattle.wfe_rows.specs.Rows.RowMove.{Appends}
-use Rattle.wfe_contents.specs.Shelf.{Shelf, shelf_of, pairs_by, value_by, is_settled, Filled, Shows}
+use Rattle.wfe_contents.specs.Shelf.{Shelf, shelf_of, pairs_by, value_by, Filled, Shows}
+use Rattle.wfe_rows.specs.Rows.{is_settled}
 use Rattle.wfe_contents.specs.Contents.{Shelved}
 use Rattle.wfe_contents.proofs.Told.{SameBook, SameSlot, same_slot}
 use Rattle.wfe_contents.proofs.Lasts.{on}

@@ -20,7 +20,7 @@ use Rattle.wfe_rows.specs.Agree.{Plays}
 use Rattle.wfe_rows.proofs.Fits.{MoveFits}
 use Rattle.wfe_rows.proofs.Phases.{taken_as}
 use Rattle.wfe_rows.proofs.Steps.{of_taken}
-use Rattle.wfe_contents.specs.Shelf.{is_settled}
+use Rattle.wfe_rows.specs.Rows.{is_settled}
 use Rattle.wfe_contents.specs.Knows.{base_owns, owns_in}
 use Rattle.wfe_contents.proofs.Machines.{writes_in}
 use Rattle.wfe_contents.proofs.Phases.{change_links, work_links, links_in}

@@ -16,7 +16,8 @@ use Rattle.wfe_core.specs.World.{World, start, step, begin, finds}
 use Rattle.wfe_rows.specs.Rows.{View}
 use Rattle.wfe_rows.specs.Rows.Status.{Linked}
 use Rattle.wfe_rows.specs.Agree.{Agree, RowsNeeds, rows_after, first_rows}
-use Rattle.wfe_contents.specs.Shelf.{Filled, shelf_of, is_settled, Shows}
+use Rattle.wfe_contents.specs.Shelf.{Filled, shelf_of, Shows}
+use Rattle.wfe_rows.specs.Rows.{is_settled}
 use Rattle.wfe_contents.specs.Knows.{Ground, Knows, reads_in}
 
 abbrev pub ground_of : World → Ground

@@ -1,5 +1,5 @@
 -- What the book says that each row of the map shows, and when the words of a row show it.
-use Rattle.std.specs.Prelude.{ℕ, ◌≡◌, ◌≤◌, ◌<◌, ◌+◌, ◌-◌, ◌*◌, Bool, true, false, List, [], length, take, slice_index_or}
+use Rattle.std.specs.Prelude.{ℕ, ◌≡◌, ◌≤◌, ◌<◌, ◌+◌, ◌-◌, ◌*◌, List, [], length, take, slice_index_or}
 use Rattle.wfe_words.specs.Place.{Place}
 use Rattle.wfe_words.specs.Place.Place.{Row}
 use Rattle.wfe_defs.specs.Pairs.{Pair, pairs_after}
@@ -9,8 +9,6 @@ use Rattle.wfe_defs.specs.declared.fold.Change.{Change}
 use Rattle.wfe_core.specs.Book.{Book}
 use Rattle.wfe_core.specs.Phases.{RowOf, MapRow}
 use Rattle.wfe_core.specs.WriteRow.{row_word}
-use Rattle.wfe_rows.specs.Rows.{Status}
-use Rattle.wfe_rows.specs.Rows.Status.{Free, Claimed, Born, Linked, InQueue, Cut, Sealed, Listed}
 
 -- by slot: the root and the version under which the row was linked last, and the pairs of the bucket at that version; by
 -- bucket how often it was changed; and by slot the value that was queued under the row's number
@@ -44,17 +42,6 @@ shelf_of book =
       count = λ b. length (book.changes b);
       value = λ s. value_by book.queued (book.row s).root (book.row s).version;
     }
-
--- a row that is linked, or was cut and is not given back: no seat writes its words
-abbrev pub is_settled : Status → Bool
-is_settled Free = false
-is_settled (Claimed by) = false
-is_settled (Born by) = false
-is_settled (Linked bucket) = true
-is_settled InQueue = true
-is_settled (Cut by) = true
-is_settled (Sealed by retire) = true
-is_settled (Listed by retire) = true
 
 -- the words of a slot from place 1 up to below a place are those of a row
 abbrev pub Filled : (Place → ℕ) → ℕ → RowOf → ℕ → Type 0

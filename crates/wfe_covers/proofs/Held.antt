@@ -39,9 +39,11 @@ use Rattle.wfe_rows.specs.Agree.{Agree, rows_after}
 use Rattle.wfe_eras.specs.Frame.{phase_left, is_ibr}
 use Rattle.wfe_eras.specs.Seats.{is_wfe, protect_fits, base_fits}
 use Rattle.wfe_eras.proofs.Frame.{seat_stays, seat_steps}
-use Rattle.wfe_covers.specs.Covers.{is_past, spans, shown, Covers, Widens}
+use Rattle.wfe_covers.specs.Covers.{spans, shown, Covers, Widens}
+use Rattle.wfe_rows.specs.Rows.{is_settled}
 use Rattle.wfe_covers.specs.Tries.{is_start, starts_base}
-use Rattle.wfe_covers.specs.Held.{own_guard, is_queued, under, tries_protect, tries_base, index_base, Holds, Held, Followed, follows_row, rests_base, BaseNeeds, RootsNeeds, LoadsCover, HeldNeeds, HeldKept}
+use Rattle.wfe_covers.specs.Held.{own_guard, under, tries_protect, tries_base, index_base, Holds, Held, Followed, follows_row, rests_base, BaseNeeds, RootsNeeds, LoadsCover, HeldNeeds, HeldKept}
+use Rattle.wfe_rows.specs.Queue.{in_queue}
 use Rattle.wfe_covers.proofs.Fresh.{work_fresh, resume_fresh}
 use Rattle.wfe_covers.proofs.Kept.{covers_kept, before_at, spans_past}
 use Rattle.wfe_covers.proofs.Scans.{scan_shrinks, scan_starts}
@@ -74,7 +76,7 @@ live_spans lo hi birth (Cut by) h b = absurd (cc)
 live_spans lo hi birth (Sealed by retire) h b = absurd (cc)
 live_spans lo hi birth (Listed by retire) h b = absurd (cc)
 
-live_past : (status : Status) → is_live status ≡ true → is_past status ≡ true
+live_past : (status : Status) → is_live status ≡ true → is_settled status ≡ true
 live_past (Linked bucket) h = refl
 live_past InQueue h = refl
 live_past Free h = absurd (cc)
@@ -84,7 +86,7 @@ live_past (Cut by) h = absurd (cc)
 live_past (Sealed by retire) h = absurd (cc)
 live_past (Listed by retire) h = absurd (cc)
 
-queued_is : (status : Status) → is_queued status ≡ true → status ≡ InQueue
+queued_is : (status : Status) → in_queue status ≡ true → status ≡ InQueue
 queued_is Free h = absurd (cc)
 queued_is (Claimed by) h = absurd (cc)
 queued_is (Born by) h = absurd (cc)
@@ -277,7 +279,7 @@ was_held w i v why base j s h e (inl x) = h.stood i j s x
 was_held w i v why base j s h e (inr x) = rw x.0 (h.tried i why base s e x.1)
 
 -- the head's row is in the queue
-head_queued : (w : World) (v : View) (p : ℕ) → Agree w v → w.mem Head ≡ p + 1 → is_queued (v.status p) ≡ true
+head_queued : (w : World) (v : View) (p : ℕ) → Agree w v → w.mem Head ≡ p + 1 → in_queue (v.status p) ≡ true
 head_queued w v p a e = let q : v.status p ≡ InQueue = a.good.queue p (sym a.words.head ∙ e) in rw q refl
 
 finds_at : (w : World) (i : ℕ) (phase : Phase) → (w.seat i).phase ≡ phase → finds w i ≡ found (phase_move phase (w.seat i).post) (w.mem (place_in (phase_move phase (w.seat i).post)))
@@ -494,7 +496,7 @@ other_keeps w i k j v (Works work) o f n e = work_quiet w.layout.config.scheme k
 other_holds : (w : World) (i k j : ℕ) (v : View) (s : ℕ) → (k == i) ≡ false → is_wfe w.layout.config.scheme ≡ false → HeldNeeds w i v → Holds w v (own_guard w.layout.config.scheme k j) s → Holds (step w i) (rows_after w i v) (own_guard w.layout.config.scheme k j) s
 other_holds w i k j v s o f n h = holds_kept w i v (own_guard w.layout.config.scheme k j) s n (kept_widens w i (own_guard w.layout.config.scheme k j) (other_keeps w i k j v (w.seat i).phase o f n refl)) h
 
-parent_back : (w : World) (i k : ℕ) (v : View) (why : Why) (base : Base) (p : ℕ) → HeldNeeds w i v → Held w v → (w.seat k).phase ≡ Runs why base → follows_row base p ≡ true → is_queued ((rows_after w i v).status p) ≡ true → is_queued (v.status p) ≡ true
+parent_back : (w : World) (i k : ℕ) (v : View) (why : Why) (base : Base) (p : ℕ) → HeldNeeds w i v → Held w v → (w.seat k).phase ≡ Runs why base → follows_row base p ≡ true → in_queue ((rows_after w i v).status p) ≡ true → in_queue (v.status p) ≡ true
 parent_back w i k v why base p n h e r q =
     let c = (h.stood k 0 p (n.parents k why base p e r)).covers in
     queued_back i v (row_move (w.seat i).phase (w.seat i).post (finds w i)) p (before_at w i v n.covers) (spans_past (shown w (own_guard w.layout.config.scheme k 0)) (v.birth p) (v.status p) c.spans) q

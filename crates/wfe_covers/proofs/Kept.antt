@@ -40,11 +40,12 @@ use Rattle.wfe_rows.specs.Hands.{in_list, stands_at, base_row, work_row, scan_ro
 use Rattle.wfe_rows.specs.Agree.{Plays, rows_after}
 use Rattle.wfe_eras.specs.Frame.{phase_left}
 use Rattle.wfe_eras.proofs.Frame.{seat_stays, seat_steps}
-use Rattle.wfe_covers.specs.Covers.{is_past, spans, Before, NotBefore, Late, frees, takes_or_frees, has_met, life_of, number_of, shown, Covers, unmet_at, is_unmet, is_fresh, GuardFits, Widens, CoversNeeds, NotReused, CoversKept, ScansStart, ScansBegin, ScansKept}
+use Rattle.wfe_rows.proofs.Fits.{MoveFits, phase_fits}
+use Rattle.wfe_covers.specs.Covers.{spans, NotBefore, Late, frees, takes_or_frees, has_met, life_of, number_of, shown, Covers, unmet_at, is_unmet, is_fresh, GuardFits, Widens, CoversNeeds, NotReused, CoversKept, ScansStart, ScansBegin, ScansKept}
+use Rattle.wfe_rows.specs.Rows.{is_settled}
 use Rattle.wfe_covers.proofs.Fresh.{round_fresh, work_fresh, resume_fresh}
 use Rattle.wfe_covers.proofs.Rows.{spans_kept, birth_kept, listed_other}
 use Rattle.wfe_covers.proofs.Scans.{fresh_met, fresh_unmet, scan_met, scan_unmet_kept}
-use Rattle.wfe_covers.proofs.Before.{phase_before}
 
 -- a wider interval
 widens_spans : (old new : Option Interval) (birth : ℕ) (status : Status) → Widens old new → spans old birth status ≡ true → spans new birth status ≡ true
@@ -64,7 +65,7 @@ spans_meets : (span : Option Interval) (slot birth k r : ℕ) → spans span bir
 spans_meets None slot birth k r h = absurd (cc)
 spans_meets (Some span) slot birth k r h = grind (arith, nat_tests)
 
-pub spans_past : (span : Option Interval) (birth : ℕ) (status : Status) → spans span birth status ≡ true → is_past status ≡ true
+pub spans_past : (span : Option Interval) (birth : ℕ) (status : Status) → spans span birth status ≡ true → is_settled status ≡ true
 spans_past None birth status h = absurd (cc)
 spans_past (Some span) birth status h = grind (arith, nat_tests)
 
@@ -109,7 +110,7 @@ back_other slots i v all number later place slot s desk g p u b c = by_same (s =
       grind (arith, nat_tests, m, un)
 
 -- a move that neither takes nor frees the row, by where its row is before
-moved_other : (i : ℕ) (v : View) (m : RowMove) (s : ℕ) → Before i v m → is_past (v.status s) ≡ true → ((slot : ℕ) → m ≡ Returns slot → (s == slot) ≡ false) → takes_or_frees m s ≡ false
+moved_other : (i : ℕ) (v : View) (m : RowMove) (s : ℕ) → MoveFits i v m → is_settled (v.status s) ≡ true → ((slot : ℕ) → m ≡ Returns slot → (s == slot) ≡ false) → takes_or_frees m s ≡ false
 moved_other i v Stays s b p r = refl
 moved_other i v (Claims slot) s b p r = grind (arith, nat_tests)
 moved_other i v (Bears slot birth) s b p r = grind (arith, nat_tests)
@@ -208,8 +209,8 @@ returns_other slots i v all number (Works work) post x s slot desk g p u b c e =
 own_met : (w : World) (i : ℕ) (v : View) (guard : Guard) (s : ℕ) → Covers w v guard s → (k r : ℕ) → v.status s ≡ Listed k r → k ≡ i → has_met (guards w.layout.config) (w.seat i).phase (w.seat i).desk.report (number_of w.layout.config guard) (life_of s (v.birth s) r) ≡ true
 own_met w i v guard s c k r h e = subst (λ (j : ℕ). has_met (guards w.layout.config) (w.seat j).phase (w.seat j).desk.report (number_of w.layout.config guard) (life_of s (v.birth s) r) ≡ true) e (c.scans k r h)
 
-pub before_at : (w : World) (i : ℕ) (v : View) → CoversNeeds w i v → Before i v (row_move (w.seat i).phase (w.seat i).post (finds w i))
-before_at w i v n = phase_before w.layout.config.slots i w.mem v (w.seat i).phase (w.seat i).post (w.seat i).desk.list n.needs n.rows.good n.rows.words (n.rows.plays i)
+pub before_at : (w : World) (i : ℕ) (v : View) → CoversNeeds w i v → MoveFits i v (row_move (w.seat i).phase (w.seat i).post (finds w i))
+before_at w i v n = phase_fits w.layout.config.slots i w.mem v (w.seat i).phase (w.seat i).post (w.seat i).desk.list n.needs n.rows.good n.rows.words (n.rows.plays i)
 
 pub not_reused : NotReused
 not_reused w i v guard s n u f c =
@@ -359,8 +360,8 @@ met_at w i k v guard s r false e n f c h = met_other w i k v guard s r e c h
 pub covers_kept : CoversKept
 covers_kept w i v guard s n u f wide c =
     let m : RowMove = row_move (w.seat i).phase (w.seat i).post (finds w i) in
-    let b : Before i v m = before_at w i v n in
-    let p : is_past (v.status s) ≡ true = spans_past (shown w guard) (v.birth s) (v.status s) c.spans in
+    let b : MoveFits i v m = before_at w i v n in
+    let p : is_settled (v.status s) ≡ true = spans_past (shown w guard) (v.birth s) (v.status s) c.spans in
     let y : (rows_after w i v).birth s ≡ v.birth s = birth_kept i v m s b p in
     let late : Late (shown w guard) m = seals_late (shown w guard) w.mem (w.seat i).phase (w.seat i).post (n.eras guard) in
     let stays = spans_kept i v m s (shown w guard) b late (takes_frees m s (not_reused w i v guard s n u f c)) c.spans in

@@ -1,4 +1,3 @@
-mod Before
 mod Begun
 mod Following
 mod Fresh

@@ -6,10 +6,12 @@ use Rattle.wfe_defs.specs.declared.lifetime.Interval.{Interval}
 use Rattle.wfe_rows.specs.Rows.{View, RowMove, made}
 use Rattle.wfe_rows.specs.Rows.Status.{Listed}
 use Rattle.wfe_rows.specs.Rows.RowMove.{Stays, Claims, Bears, Drops, Links, Replaces, Appends, Pops, Reads, Seals, Lists, Returns}
-use Rattle.wfe_covers.specs.Covers.{is_past, until, spans, Before, Late, frees}
+use Rattle.wfe_rows.proofs.Fits.{MoveFits}
+use Rattle.wfe_covers.specs.Covers.{until, spans, Late, frees}
+use Rattle.wfe_rows.specs.Rows.{is_settled}
 
 -- a row that was linked keeps its birth and is not free, unless it goes back
-pub past_kept : (i : ℕ) (v : View) (m : RowMove) (s : ℕ) → Before i v m → frees m s ≡ false → is_past (v.status s) ≡ true → is_past ((made i v m).status s) ≡ true
+pub past_kept : (i : ℕ) (v : View) (m : RowMove) (s : ℕ) → MoveFits i v m → frees m s ≡ false → is_settled (v.status s) ≡ true → is_settled ((made i v m).status s) ≡ true
 past_kept i v Stays s b f h = h
 past_kept i v (Claims slot) s b f h = grind (arith, nat_tests)
 past_kept i v (Bears slot birth) s b f h = grind (arith, nat_tests)
@@ -23,7 +25,7 @@ past_kept i v (Seals slot birth retire) s b f h = grind (arith, nat_tests)
 past_kept i v (Lists slot birth retire) s b f h = grind (arith, nat_tests)
 past_kept i v (Returns slot) s b f h = grind (arith, nat_tests)
 
-pub birth_kept : (i : ℕ) (v : View) (m : RowMove) (s : ℕ) → Before i v m → is_past (v.status s) ≡ true → (made i v m).birth s ≡ v.birth s
+pub birth_kept : (i : ℕ) (v : View) (m : RowMove) (s : ℕ) → MoveFits i v m → is_settled (v.status s) ≡ true → (made i v m).birth s ≡ v.birth s
 birth_kept i v Stays s b h = refl
 birth_kept i v (Claims slot) s b h = refl
 birth_kept i v (Bears slot birth) s b h = grind (arith, nat_tests)
@@ -37,7 +39,7 @@ birth_kept i v (Seals slot birth retire) s b h = refl
 birth_kept i v (Lists slot birth retire) s b h = refl
 birth_kept i v (Returns slot) s b h = refl
 
-pub until_kept : (i : ℕ) (v : View) (m : RowMove) (s : ℕ) (span : Interval) → Before i v m → Late (Some span) m → until (v.status s) span.lo ≡ true → until ((made i v m).status s) span.lo ≡ true
+pub until_kept : (i : ℕ) (v : View) (m : RowMove) (s : ℕ) (span : Interval) → MoveFits i v m → Late (Some span) m → until (v.status s) span.lo ≡ true → until ((made i v m).status s) span.lo ≡ true
 until_kept i v Stays s span b l h = h
 until_kept i v (Claims slot) s span b l h = grind (arith, nat_tests)
 until_kept i v (Bears slot birth) s span b l h = grind (arith, nat_tests)
@@ -52,10 +54,10 @@ until_kept i v (Lists slot birth retire) s span b l h = grind (arith, nat_tests)
 until_kept i v (Returns slot) s span b l h = grind (arith, nat_tests)
 
 -- an interval that spans a row's life spans it after the move
-pub spans_kept : (i : ℕ) (v : View) (m : RowMove) (s : ℕ) (span : Option Interval) → Before i v m → Late span m → frees m s ≡ false → spans span (v.birth s) (v.status s) ≡ true → spans span ((made i v m).birth s) ((made i v m).status s) ≡ true
+pub spans_kept : (i : ℕ) (v : View) (m : RowMove) (s : ℕ) (span : Option Interval) → MoveFits i v m → Late span m → frees m s ≡ false → spans span (v.birth s) (v.status s) ≡ true → spans span ((made i v m).birth s) ((made i v m).status s) ≡ true
 spans_kept i v m s None b l f h = h
 spans_kept i v m s (Some span) b l f h =
-    let p : is_past (v.status s) ≡ true = grind (arith, nat_tests) in
+    let p : is_settled (v.status s) ≡ true = grind (arith, nat_tests) in
     let u : until (v.status s) span.lo ≡ true = grind (arith, nat_tests) in
     rw (past_kept i v m s b f p, until_kept i v m s span b l u, birth_kept i v m s b p) (grind (arith, nat_tests))
 

@@ -32,7 +32,8 @@ use Rattle.wfe_core.specs.MoveClock.{after_load_era, after_check_era, after_exch
 use Rattle.wfe_core.specs.WriteRow.{last_written, after_write}
 use Rattle.wfe_rows.specs.Rows.{Status}
 use Rattle.wfe_eras.specs.Seats.{is_wfe, protect_fits, move_fits, base_fits}
-use Rattle.wfe_covers.specs.Held.{leads, is_queued, under, tries_protect, tries_base, index_base}
+use Rattle.wfe_covers.specs.Held.{leads, under, tries_protect, tries_base, index_base}
+use Rattle.wfe_rows.specs.Queue.{in_queue}
 use Rattle.wfe_covers.proofs.Stands.{withdrawn_shrinks, with_row_apart, with_row_is}
 
 -- how a row comes to stand
@@ -122,10 +123,10 @@ protect_stood clock status scheme most mem aim index root n (CheckUpper link) po
 protect_stood clock status scheme most mem aim index root n (RaiseUpper era) post last j s c w f b h = inl h
 
 -- a followed row is held once the head is still its parent
-reload_stood : (status : ℕ → Status) (parent index slot found n : ℕ) (post : Post) (j s : ℕ) (same : Bool) → (found == parent + 1) ≡ same → index < length post.standing → (found ≡ parent + 1 → is_queued (status parent) ≡ true)
-    → stands (if same then ends (with_row post index slot) (events.Held index slot n ∷ []) (Followed (follow_ends.Followed slot)) else ends post [] (Followed (follow_ends.RootMoved found))).post j ≡ Some s → (stands post j ≡ Some s) ⊎ ((j ≡ index) × ((slot == s && is_queued (status parent)) ≡ true))
+reload_stood : (status : ℕ → Status) (parent index slot found n : ℕ) (post : Post) (j s : ℕ) (same : Bool) → (found == parent + 1) ≡ same → index < length post.standing → (found ≡ parent + 1 → in_queue (status parent) ≡ true)
+    → stands (if same then ends (with_row post index slot) (events.Held index slot n ∷ []) (Followed (follow_ends.Followed slot)) else ends post [] (Followed (follow_ends.RootMoved found))).post j ≡ Some s → (stands post j ≡ Some s) ⊎ ((j ≡ index) × ((slot == s && in_queue (status parent)) ≡ true))
 reload_stood status parent index slot found n post j s true e b q h = by_same (j == index) refl where
-  by_same : (own : Bool) → (j == index) ≡ own → (stands post j ≡ Some s) ⊎ ((j ≡ index) × ((slot == s && is_queued (status parent)) ≡ true))
+  by_same : (own : Bool) → (j == index) ≡ own → (stands post j ≡ Some s) ⊎ ((j ≡ index) × ((slot == s && in_queue (status parent)) ≡ true))
   by_same true k = let y = with_row_is post index slot j s b k h in let p = q (grind (arith, nat_tests)) in inr (grind (arith, nat_tests), grind (arith, nat_tests))
   by_same false k = inl (with_row_apart post index slot j s k h)
 reload_stood status parent index slot found n post j s false e b q h = inl h
@@ -183,7 +184,7 @@ begin_stood LoadLower found post j s h = h
 begin_stood (PublishSpan era) found post j s h = h
 
 -- what stands after a machine's step
-pub base_stood : (status : ℕ → Status) (config : Config) (mem : Place → ℕ) (base : Base) (post last : Post) (j s : ℕ) → is_wfe config.scheme ≡ false → base_fits config base ≡ true → index_base base < length post.standing → ((p : ℕ) → mem Head ≡ p + 1 → is_queued (status p) ≡ true)
+pub base_stood : (status : ℕ → Status) (config : Config) (mem : Place → ℕ) (base : Base) (post last : Post) (j s : ℕ) → is_wfe config.scheme ≡ false → base_fits config base ≡ true → index_base base < length post.standing → ((p : ℕ) → mem Head ≡ p + 1 → in_queue (status p) ≡ true)
     → stands (after base post (found (base_move base last) (mem (place_in (base_move base last))))).post j ≡ Some s → Was (mem Clock) status post base j s
 base_stood status config mem (Begin at) post last j s w f b q h = inl (begin_stood at (found (base_move (Begin at) last) (mem (place_in (base_move (Begin at) last)))) post j s h)
 base_stood status config mem (Protect aim index root steps at) post last j s w f b q h = protect_stood (mem Clock) status config.scheme config.tries mem aim index root (bump steps) at post last j s refl w f b h

@@ -32,8 +32,10 @@ use Rattle.wfe_covers.proofs.Words.{stores_protect}
 use Rattle.wfe_rows.specs.Rows.{Status, View, RowMove, made}
 use Rattle.wfe_rows.specs.Rows.RowMove.{Stays, Claims, Bears, Drops, Links, Replaces, Appends, Pops, Reads, Seals, Lists, Returns}
 use Rattle.wfe_eras.specs.Seats.{is_wfe, protect_fits}
-use Rattle.wfe_covers.specs.Covers.{is_past, Before}
-use Rattle.wfe_covers.specs.Held.{leads, is_queued, under, tries_protect, tries_base, index_base, follows_root, follows_row, era_protect, era_base}
+use Rattle.wfe_rows.proofs.Fits.{MoveFits}
+use Rattle.wfe_rows.specs.Rows.{is_settled}
+use Rattle.wfe_covers.specs.Held.{leads, under, tries_protect, tries_base, index_base, follows_root, follows_row, era_protect, era_base}
+use Rattle.wfe_rows.specs.Queue.{in_queue}
 use Rattle.wfe_covers.specs.Tries.{starts_protect, starts_base}
 use Rattle.wfe_words.specs.declared.config.Config.{Config}
 
@@ -57,7 +59,7 @@ abbrev pub Goes_on : ℕ → (ℕ → Status) → (Place → ℕ) → Post → �
 Goes_on clock status mem post index root at outcome s =
     (out_index outcome ≡ index) × ((tries_protect clock status post root at s ≡ true) ⊎ (loads_link clock status mem post root at s ≡ true))
 
-queued_under : (status : ℕ → Status) (root : Root) → root ≡ roots.Next (parent_of root) → is_queued (status (parent_of root)) ≡ true → under status root ≡ true
+queued_under : (status : ℕ → Status) (root : Root) → root ≡ roots.Next (parent_of root) → in_queue (status (parent_of root)) ≡ true → under status root ≡ true
 queued_under status root e h = subst (λ (r : Root). under status r ≡ true) (sym e) h
 
 concluded_tries : (clock : ℕ) (status : ℕ → Status) (mem : Place → ℕ) (own : ℕ) (aim : Aim) (index : ℕ) (root : Root) (n link era : ℕ) (post next : Post) (told : List Event) (s : ℕ) (null : Bool) → (link == 0) ≡ null → (aim ≡ Follows → root ≡ roots.Next (parent_of root)) → (clock == own) ≡ true
@@ -65,7 +67,7 @@ concluded_tries : (clock : ℕ) (status : ℕ → Status) (mem : Place → ℕ) 
 concluded_tries clock status mem own Alone index root n link era post next told s null e f c h = absurd (cc)
 concluded_tries clock status mem own Follows index root n link era post next told s true e f c h = absurd (grind (arith, nat_tests))
 concluded_tries clock status mem own Follows index root n link era post next told s false e f c h =
-    rw e (refl, (let q : is_queued (status (parent_of root)) ≡ true = grind (arith, nat_tests) in let u = queued_under status root (f refl) q in grind (arith, nat_tests)))
+    rw e (refl, (let q : in_queue (status (parent_of root)) ≡ true = grind (arith, nat_tests) in let u = queued_under status root (f refl) q in grind (arith, nat_tests)))
 
 -- a step of a protection: a try that it comes to had loaded the link before, or loads it
 check_tries : (clock : ℕ) (status : ℕ → Status) (mem : Place → ℕ) (aim : Aim) (index : ℕ) (root : Root) (n era : ℕ) (tries : Tries) (link : ℕ) (post next : Post) (s : ℕ) (same : Bool) → (clock == era) ≡ same → (aim ≡ Follows → root ≡ roots.Next (parent_of root))
@@ -144,7 +146,7 @@ start_untried clock status post (Retire at) s h = refl
 start_untried clock status post (Move at) s h = refl
 
 -- a row that was linked and is in the queue was in it before
-pub queued_back : (i : ℕ) (v : View) (m : RowMove) (p : ℕ) → Before i v m → is_past (v.status p) ≡ true → is_queued ((made i v m).status p) ≡ true → is_queued (v.status p) ≡ true
+pub queued_back : (i : ℕ) (v : View) (m : RowMove) (p : ℕ) → MoveFits i v m → is_settled (v.status p) ≡ true → in_queue ((made i v m).status p) ≡ true → in_queue (v.status p) ≡ true
 queued_back i v Stays p b l h = h
 queued_back i v (Claims slot) p b l h = grind (arith, nat_tests)
 queued_back i v (Bears slot birth) p b l h = grind (arith, nat_tests)
@@ -159,13 +161,13 @@ queued_back i v (Lists slot birth retire) p b l h = grind (arith, nat_tests)
 queued_back i v (Returns slot) p b l h = grind (arith, nat_tests)
 
 -- a try of a seat that does not step
-under_back : (old new : ℕ → Status) (root : Root) → ((p : ℕ) → follows_root root p ≡ true → is_queued (new p) ≡ true → is_queued (old p) ≡ true) → under new root ≡ true → under old root ≡ true
+under_back : (old new : ℕ → Status) (root : Root) → ((p : ℕ) → follows_root root p ≡ true → in_queue (new p) ≡ true → in_queue (old p) ≡ true) → under new root ≡ true → under old root ≡ true
 under_back old new (roots.Bucket bucket) f h = refl
 under_back old new roots.Head f h = refl
 under_back old new roots.Tail f h = refl
 under_back old new (roots.Next parent) f h = f parent (grind (arith, nat_tests)) h
 
-protect_back : (clock later : ℕ) (old new : ℕ → Status) (post : Post) (root : Root) (at : ProtectAt) (s : ℕ) → clock ≤ later → era_protect post at ≤ clock → ((p : ℕ) → follows_root root p ≡ true → is_queued (new p) ≡ true → is_queued (old p) ≡ true) → tries_protect later new post root at s ≡ true → tries_protect clock old post root at s ≡ true
+protect_back : (clock later : ℕ) (old new : ℕ → Status) (post : Post) (root : Root) (at : ProtectAt) (s : ℕ) → clock ≤ later → era_protect post at ≤ clock → ((p : ℕ) → follows_root root p ≡ true → in_queue (new p) ≡ true → in_queue (old p) ≡ true) → tries_protect later new post root at s ≡ true → tries_protect clock old post root at s ≡ true
 protect_back clock later old new post root (LoadClock tries) s l m f h = absurd (cc)
 protect_back clock later old new post root (PublishEra era tries) s l m f h = absurd (cc)
 protect_back clock later old new post root (LoadLink era tries) s l m f h = absurd (cc)
@@ -184,10 +186,10 @@ protect_back clock later old new post root LoadWithin s l m f h = absurd (cc)
 protect_back clock later old new post root (CheckUpper link) s l m f h = let u : under new root ≡ true = grind (arith, nat_tests) in let k = under_back old new root f u in grind (arith, nat_tests)
 protect_back clock later old new post root (RaiseUpper era) s l m f h = absurd (cc)
 
-pub tries_back : (clock later : ℕ) (old new : ℕ → Status) (post : Post) (base : Base) (s : ℕ) → clock ≤ later → era_base post base ≤ clock → ((p : ℕ) → follows_row base p ≡ true → is_queued (new p) ≡ true → is_queued (old p) ≡ true) → tries_base later new post base s ≡ true → tries_base clock old post base s ≡ true
+pub tries_back : (clock later : ℕ) (old new : ℕ → Status) (post : Post) (base : Base) (s : ℕ) → clock ≤ later → era_base post base ≤ clock → ((p : ℕ) → follows_row base p ≡ true → in_queue (new p) ≡ true → in_queue (old p) ≡ true) → tries_base later new post base s ≡ true → tries_base clock old post base s ≡ true
 tries_back clock later old new post (Begin at) s l m f h = absurd (cc)
 tries_back clock later old new post (Protect aim index root steps at) s l m f h = protect_back clock later old new post root at s l m f h
-tries_back clock later old new post (Reload parent index slot era steps) s l m f h = let q : is_queued (new parent) ≡ true = grind (arith, nat_tests) in let k = f parent (grind (arith, nat_tests)) q in grind (arith, nat_tests)
+tries_back clock later old new post (Reload parent index slot era steps) s l m f h = let q : in_queue (new parent) ≡ true = grind (arith, nat_tests) in let k = f parent (grind (arith, nat_tests)) q in grind (arith, nat_tests)
 tries_back clock later old new post (Clear index) s l m f h = absurd (cc)
 tries_back clock later old new post Finish s l m f h = absurd (cc)
 tries_back clock later old new post Release s l m f h = absurd (cc)

@@ -19,19 +19,9 @@ use Rattle.wfe_words.specs.declared.layout.Layout.{Layout}
 use Rattle.wfe_words.specs.Place.Place.{Clock}
 use Rattle.wfe_defs.specs.declared.call.Call.{Call}
 use Rattle.wfe_rows.specs.Rows.{Status, View, RowMove}
+use Rattle.wfe_rows.specs.Rows.{is_settled}
 use Rattle.wfe_rows.specs.Rows.Status.{Free, Claimed, Born, Linked, InQueue, Cut, Sealed, Listed}
 use Rattle.wfe_rows.specs.Rows.RowMove.{Stays, Claims, Bears, Drops, Links, Replaces, Appends, Pops, Reads, Seals, Lists, Returns}
-
--- the row was linked, and is not free since
-abbrev pub is_past : Status → Bool
-is_past Free = false
-is_past (Claimed by) = false
-is_past (Born by) = false
-is_past (Linked bucket) = true
-is_past InQueue = true
-is_past (Cut by) = true
-is_past (Sealed by retire) = true
-is_past (Listed by retire) = true
 
 -- the era is not after the retire era, where one is loaded
 abbrev pub until : Status → ℕ → Bool
@@ -47,7 +37,7 @@ until (Listed by retire) era = nat_le era retire
 -- an interval spans some of the life of a row that was linked
 abbrev pub spans : Option Interval → ℕ → Status → Bool
 spans None birth status = false
-spans (Some span) birth status = is_past status && (nat_le birth span.hi && until status span.lo)
+spans (Some span) birth status = is_settled status && (nat_le birth span.hi && until status span.lo)
 
 -- how many of the guards a scan has read
 abbrev pub upto_at : ℕ → ScanAt → ℕ
@@ -131,21 +121,6 @@ is_fresh Idle = true
 is_fresh (Runs why base) = true
 is_fresh (Scans later at) = fresh_at at
 is_fresh (Works work) = true
-
--- where a row was before a move of it
-abbrev pub Before : ℕ → View → RowMove → Type 0
-Before i v Stays = Unit {0}
-Before i v (Claims slot) = v.status slot ≡ Free
-Before i v (Bears slot birth) = v.status slot ≡ Claimed i
-Before i v (Drops slot) = v.status slot ≡ Born i
-Before i v (Links bucket slot) = v.status slot ≡ Born i
-Before i v (Replaces bucket slot old) = (v.status slot ≡ Born i) × (v.status old ≡ Linked bucket)
-Before i v (Appends slot) = v.status slot ≡ Born i
-Before i v (Pops slot next) = v.status slot ≡ InQueue
-Before i v (Reads slot birth) = Unit {0}
-Before i v (Seals slot birth retire) = v.status slot ≡ Cut i
-Before i v (Lists slot birth retire) = v.status slot ≡ Sealed i retire
-Before i v (Returns slot) = Unit {0}
 
 -- what an interval needs so that a row stays covered by it: a retire era that is loaded is not before it
 abbrev pub NotBefore : Option Interval → ℕ → Type 0

@@ -21,11 +21,13 @@ use Rattle.wfe_words.specs.declared.layout.Layout.{Layout}
 use Rattle.wfe_defs.specs.declared.call.Call.{Call}
 use Rattle.wfe_rows.specs.Hands.{row_move}
 use Rattle.wfe_rows.specs.Rows.{Status, View}
-use Rattle.wfe_rows.specs.Rows.Status.{Free, Claimed, Born, Linked, InQueue, Cut, Sealed, Listed}
+use Rattle.wfe_rows.specs.Rows.Status.{InQueue}
 use Rattle.wfe_rows.specs.Agree.{Agree, rows_after}
+use Rattle.wfe_rows.specs.Queue.{in_queue}
 use Rattle.wfe_eras.specs.Frame.{is_ibr}
 use Rattle.wfe_eras.specs.Seats.{is_wfe, base_fits}
-use Rattle.wfe_covers.specs.Covers.{is_past, Widens, shown, takes_or_frees, GuardFits, Covers, CoversNeeds, Scanning}
+use Rattle.wfe_covers.specs.Covers.{Widens, shown, takes_or_frees, GuardFits, Covers, CoversNeeds, Scanning}
+use Rattle.wfe_rows.specs.Rows.{is_settled}
 
 -- the guard of a seat's index: its own word, or under 2GE the seat's interval word
 abbrev pub own_guard : SchemeKind → ℕ → ℕ → Guard
@@ -37,22 +39,12 @@ own_guard Wfe seat index = Index seat index
 abbrev pub leads : ℕ → ℕ → Bool
 leads link slot = link == slot + 1
 
-abbrev pub is_queued : Status → Bool
-is_queued Free = false
-is_queued (Claimed by) = false
-is_queued (Born by) = false
-is_queued (Linked bucket) = false
-is_queued InQueue = true
-is_queued (Cut by) = false
-is_queued (Sealed by retire) = false
-is_queued (Listed by retire) = false
-
 -- the row whose next link it is, is still in the queue; the other roots lead to rows that are linked
 abbrev pub under : (ℕ → Status) → Root → Bool
 under status (roots.Bucket bucket) = true
 under status roots.Head = true
 under status roots.Tail = true
-under status (roots.Next parent) = is_queued (status parent)
+under status (roots.Next parent) = in_queue (status parent)
 
 -- a try has loaded a link to the row, and its era is still the clock
 abbrev pub tries_protect : ℕ → (ℕ → Status) → Post → Root → ProtectAt → ℕ → Bool
@@ -78,7 +70,7 @@ tries_protect clock status post root (RaiseUpper era) s = false
 abbrev pub tries_base : ℕ → (ℕ → Status) → Post → Base → ℕ → Bool
 tries_base clock status post (Begin at) s = false
 tries_base clock status post (Protect aim index root steps at) s = tries_protect clock status post root at s
-tries_base clock status post (Reload parent index slot era steps) s = slot == s && is_queued (status parent)
+tries_base clock status post (Reload parent index slot era steps) s = slot == s && in_queue (status parent)
 tries_base clock status post (Clear index) s = false
 tries_base clock status post Finish s = false
 tries_base clock status post Release s = false
@@ -184,7 +176,7 @@ pub record BaseNeeds (w : World) (i : ℕ) (base : Base) : Type 0 where
 -- tail's row is in the queue, and so is the row after one that is
 pub record RootsNeeds (w : World) (v : View) : Type 0 where
   pub rows : Agree w v
-  pub births : (s : ℕ) → is_past (v.status s) ≡ true → v.birth s ≤ w.mem Clock
+  pub births : (s : ℕ) → is_settled (v.status s) ≡ true → v.birth s ≤ w.mem Clock
   pub tail : (s : ℕ) → w.mem Tail ≡ s + 1 → v.status s ≡ InQueue
   pub nexts : (p s : ℕ) → v.status p ≡ InQueue → w.mem (Row p 0) ≡ s + 1 → v.status s ≡ InQueue
 

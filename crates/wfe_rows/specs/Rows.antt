@@ -35,6 +35,17 @@ pub record View : Type 0 where
   pub hand : ℕ → Hand
   pub lists : ℕ → ℕ → ℕ → ℕ → Bool
 
+-- the row is linked, or was cut and is not given back: no seat writes its words
+abbrev pub is_settled : Status → Bool
+is_settled Free = false
+is_settled (Claimed by) = false
+is_settled (Born by) = false
+is_settled (Linked bucket) = true
+is_settled InQueue = true
+is_settled (Cut by) = true
+is_settled (Sealed by retire) = true
+is_settled (Listed by retire) = true
+
 -- the row is not free
 abbrev pub is_taken : Status → Bool
 is_taken Free = false
