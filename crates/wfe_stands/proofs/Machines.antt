@@ -1,5 +1,5 @@
 -- What a call works on still stands after a step of a machine.
-use Rattle.std.proofs.Common.{ℕ, ◌≡◌, ◌+◌, true, arith, refl, sym, ap, subst, ◌∙◌, List, [], ◌∷◌, length}
+use Rattle.std.proofs.Common.{ℕ, ◌≡◌, ◌+◌, true, arith, refl, sym, ap, subst, ◌∙◌, List, [], ◌∷◌, length, Bool, false}
 use Rattle.std.proofs.lemmas.Bool.Decides.{nat_tests}
 use Rattle.std.proofs.lemmas.List.{get_or-set_same}
 use Rattle.std.specs.Prelude.{◌==◌, ◌-◌, Option, Some, None}
@@ -8,6 +8,7 @@ use Rattle.wfe_words.specs.declared.layout.Layout.{Layout}
 use Rattle.wfe_defs.specs.declared.event.Event.{Event}
 use Rattle.wfe_defs.specs.declared.event.Event.TheVariants as events
 use Rattle.wfe_defs.specs.declared.event.Root.{Root}
+use Rattle.wfe_core.specs.declared.ends.FollowEnd.{FollowEnd}
 use Rattle.wfe_core.specs.declared.ends.FollowEnd.TheVariants as follow_ends
 use Rattle.wfe_core.specs.declared.post.Post.{Post}
 use Rattle.wfe_core.specs.Allocate.{walking, walk_past, is_claimed, next_slot}
@@ -18,11 +19,11 @@ use Rattle.wfe_core.specs.Posts.{stands, with_row, upper, reserves_helper}
 use Rattle.wfe_core.specs.Protect.{held_post, told_held, concluded, protected, failed_once}
 use Rattle.wfe_core.specs.SlowPath.{answer_in, lost_turn, own_request}
 use Rattle.wfe_core.specs.WriteRow.{last_written}
-use Rattle.wfe_core.specs.Phases.{Aim, Follows, Walk, AllocateAt, ProtectAt, Base, Outcome, Goes, Ends, Turn, goes, ends}
+use Rattle.wfe_core.specs.Phases.{Aim, Follows, Walk, AllocateAt, ProtectAt, Base, Outcome, Goes, Ends, Turn, goes, ends, Ending}
 use Rattle.wfe_core.specs.Phases.ProtectAt.{LoadClock, PublishEra, LoadLink, CheckClock, PublishRequest, LoadOwnClock, PublishHelper, LoadOwnLink, CheckOwnClock, AnswerOwn, LoadAnswer, TakeAnswer, WithdrawRequest, WithdrawHelper, LoadWithin, CheckUpper, RaiseUpper}
 use Rattle.wfe_core.specs.Phases.AllocateAt.{LoadBirth, ClaimSlot, StoreLife}
 use Rattle.wfe_core.specs.Phases.Base.{Begin, Protect, Reload, Clear, Finish, Release, Allocate, Write, GiveUp, Retire, Move}
-use Rattle.wfe_core.specs.Phases.Ending.{Done, Followed}
+use Rattle.wfe_core.specs.Phases.Ending.{Done, Protected, Followed, Allocated, Retired, Clocked}
 use Rattle.wfe_core.specs.Machine.{protect_turn, allocate_turn, after}
 use Rattle.wfe_core.specs.Steps.{resumed, run_turn}
 use Rattle.wfe_core.specs.Calls.{Task, Gets, Changes, Holds, Enqueues, Dequeues, Why, Opens, FollowsHead, Fills, ClearsNext, Clears, Finishes, GivesUp, Retires, Tidies, Advances, Releases, Runs}
@@ -43,36 +44,75 @@ OutcomeNexts (Ends ending) post = ending_nexts ending post
 abbrev MachineNexts : Turn → Type 0
 MachineNexts t = OutcomeNexts t.outcome t.post
 
--- a protection that is followed ends only where there is no next row
-concluded_nexts : (index : ℕ) (root : Root) (n link era : ℕ) (post : Post) (told : List Event) → MachineNexts (concluded Follows index root n link era post told)
-concluded_nexts index root n link era post told =
-    by_test (link == 0) (ends post told (Followed follow_ends.NoNext)) (goes post told (Reload (parent_of root) index (link - 1) era n)) MachineNexts (λ e. tt) (λ e. tt)
+-- the machine has followed the head's next link to a row
 
-protected_nexts : (index : ℕ) (root : Root) (n link era : ℕ) (post : Post) → MachineNexts (protected Follows index root n link era post)
-protected_nexts index root n link era post = concluded_nexts index root n link era (held_post post index root link) (told_held index root link n)
+abbrev pub follow_lands : FollowEnd → Bool
+follow_lands (follow_ends.Followed slot) = true
+follow_lands follow_ends.NoNext = false
+follow_lands (follow_ends.RootMoved seen) = false
+
+abbrev pub ending_lands : Ending → Bool
+ending_lands Done = false
+ending_lands (Protected ending) = false
+ending_lands (Followed ending) = follow_lands ending
+ending_lands (Allocated ending) = false
+ending_lands (Retired life) = false
+ending_lands (Clocked clock) = false
+
+abbrev pub lands : Outcome → Bool
+lands (Goes base) = false
+lands (Ends ending) = ending_lands ending
+
+abbrev pub Unlanded : Turn → Type 0
+Unlanded t = lands t.outcome ≡ false
+
+-- a protection that is followed ends only where there is no next row
+concluded_lands : (index : ℕ) (root : Root) (n link era : ℕ) (post : Post) (told : List Event) → Unlanded (concluded Follows index root n link era post told)
+concluded_lands index root n link era post told =
+    by_test (link == 0) (ends post told (Followed follow_ends.NoNext)) (goes post told (Reload (parent_of root) index (link - 1) era n)) Unlanded (λ e. refl) (λ e. refl)
+
+protected_lands : (index : ℕ) (root : Root) (n link era : ℕ) (post : Post) → Unlanded (protected Follows index root n link era post)
+protected_lands index root n link era post = concluded_lands index root n link era (held_post post index root link) (told_held index root link n)
+
+pub protect_lands : (index : ℕ) (root : Root) (n : ℕ) (at : ProtectAt) (post : Post) (found : ℕ) → Unlanded (protect_turn Follows index root n at post found)
+protect_lands index root n (LoadClock tries) post found = refl
+protect_lands index root n (PublishEra era tries) post found = refl
+protect_lands index root n (LoadLink era tries) post found = refl
+protect_lands index root n (CheckClock era tries link) post found =
+    by_test (found == era) (protected Follows index root n link era post) (goes post [] (Protect Follows index root n (PublishEra found (failed_once tries)))) Unlanded (λ e. protected_lands index root n link era post) (λ e. refl)
+protect_lands index root n PublishRequest post found = refl
+protect_lands index root n LoadOwnClock post found = refl
+protect_lands index root n (PublishHelper first era last) post found = refl
+protect_lands index root n (LoadOwnLink first era last) post found = refl
+protect_lands index root n (CheckOwnClock first era last link) post found =
+    by_test (found == era) (goes post [] (Protect Follows index root n (AnswerOwn first era link))) (goes post [] (Protect Follows index root n (lost_turn first last found))) Unlanded (λ e. refl) (λ e. refl)
+protect_lands index root n (AnswerOwn first era link) post found =
+    by_test (found == own_request post index root) (goes post [] (Protect Follows index root n (TakeAnswer link era))) (goes post [] (Protect Follows index root n (answer_in (read_request found)))) Unlanded (λ e. refl) (λ e. refl)
+protect_lands index root n (LoadAnswer first) post found = refl
+protect_lands index root n (TakeAnswer link era) post found = refl
+protect_lands index root n (WithdrawRequest link era) post found = refl
+protect_lands index root n (WithdrawHelper link era) post found = concluded_lands index root n link era post (reserves_helper post 0)
+protect_lands index root n LoadWithin post found = refl
+protect_lands index root n (CheckUpper link) post found =
+    by_test (found == upper post.span) (protected Follows index root n link found post) (goes post [] (Protect Follows index root n (RaiseUpper found))) Unlanded (λ e. protected_lands index root n link found post) (λ e. refl)
+protect_lands index root n (RaiseUpper era) post found = refl
+
+follow_unlanded : (ending : FollowEnd) (post : Post) → follow_lands ending ≡ false → ending_nexts (Followed ending) post
+follow_unlanded (follow_ends.Followed slot) post h = absurd (cc)
+follow_unlanded follow_ends.NoNext post h = tt
+follow_unlanded (follow_ends.RootMoved seen) post h = tt
+
+unlanded_nexts : (outcome : Outcome) (post : Post) → lands outcome ≡ false → OutcomeNexts outcome post
+unlanded_nexts (Goes base) post h = tt
+unlanded_nexts (Ends Done) post h = tt
+unlanded_nexts (Ends (Protected ending)) post h = tt
+unlanded_nexts (Ends (Followed ending)) post h = follow_unlanded ending post h
+unlanded_nexts (Ends (Allocated ending)) post h = tt
+unlanded_nexts (Ends (Retired life)) post h = tt
+unlanded_nexts (Ends (Clocked clock)) post h = tt
 
 protect_nexts : (index : ℕ) (root : Root) (n : ℕ) (at : ProtectAt) (post : Post) (found : ℕ) → MachineNexts (protect_turn Follows index root n at post found)
-protect_nexts index root n (LoadClock tries) post found = tt
-protect_nexts index root n (PublishEra era tries) post found = tt
-protect_nexts index root n (LoadLink era tries) post found = tt
-protect_nexts index root n (CheckClock era tries link) post found =
-    by_test (found == era) (protected Follows index root n link era post) (goes post [] (Protect Follows index root n (PublishEra found (failed_once tries)))) MachineNexts (λ e. protected_nexts index root n link era post) (λ e. tt)
-protect_nexts index root n PublishRequest post found = tt
-protect_nexts index root n LoadOwnClock post found = tt
-protect_nexts index root n (PublishHelper first era last) post found = tt
-protect_nexts index root n (LoadOwnLink first era last) post found = tt
-protect_nexts index root n (CheckOwnClock first era last link) post found =
-    by_test (found == era) (goes post [] (Protect Follows index root n (AnswerOwn first era link))) (goes post [] (Protect Follows index root n (lost_turn first last found))) MachineNexts (λ e. tt) (λ e. tt)
-protect_nexts index root n (AnswerOwn first era link) post found =
-    by_test (found == own_request post index root) (goes post [] (Protect Follows index root n (TakeAnswer link era))) (goes post [] (Protect Follows index root n (answer_in (read_request found)))) MachineNexts (λ e. tt) (λ e. tt)
-protect_nexts index root n (LoadAnswer first) post found = tt
-protect_nexts index root n (TakeAnswer link era) post found = tt
-protect_nexts index root n (WithdrawRequest link era) post found = tt
-protect_nexts index root n (WithdrawHelper link era) post found = concluded_nexts index root n link era post (reserves_helper post 0)
-protect_nexts index root n LoadWithin post found = tt
-protect_nexts index root n (CheckUpper link) post found =
-    by_test (found == upper post.span) (protected Follows index root n link found post) (goes post [] (Protect Follows index root n (RaiseUpper found))) MachineNexts (λ e. protected_nexts index root n link found post) (λ e. tt)
-protect_nexts index root n (RaiseUpper era) post found = tt
+protect_nexts index root n at post found = let t : Turn = protect_turn Follows index root n at post found in unlanded_nexts t.outcome t.post (protect_lands index root n at post found)
 
 row_stands : (post : Post) (index slot : ℕ) → index ≡ 1 → length post.standing ≡ 8 → stands (with_row post index slot) 1 ≡ Some slot
 row_stands post index slot e b = subst (λ (j : ℕ). stands (with_row post index slot) j ≡ Some slot) e (get_or-set_same post.standing index (Some slot) None (omega arith))
