@@ -27,11 +27,12 @@ use Rattle.wfe_defs.specs.declared.event.Event.TheVariants as events
 use Rattle.wfe_core.specs.Allocate.{after_claim_slot}
 use Rattle.wfe_words.specs.declared.config.SchemeKind.{SchemeKind}
 use Rattle.wfe_core.specs.Machine.{protect_move, base_move, begin_turn, protect_turn, allocate_turn, retire_turn, move_turn, after}
-use Rattle.wfe_core.specs.SlowPath.{own_request, after_check_own_clock, after_answer_own}
-use Rattle.wfe_core.specs.MoveClock.{after_load_era, after_check_era, after_exchange_clock}
+use Rattle.wfe_words.specs.Packed.{read_reservation, reservation_word}
+use Rattle.wfe_core.specs.SlowPath.{asking, own_request, after_check_own_clock, after_answer_own}
+use Rattle.wfe_core.specs.MoveClock.{after_load_era, after_check_era, after_answer_asked, after_load_reserved, after_hand_over, after_exchange_clock}
 use Rattle.wfe_core.specs.WriteRow.{last_written, after_write}
 use Rattle.wfe_rows.specs.Rows.{Status}
-use Rattle.wfe_eras.specs.Seats.{is_wfe, protect_fits, move_fits, base_fits}
+use Rattle.wfe_eras.specs.Seats.{is_wfe, protect_fits, base_fits}
 use Rattle.wfe_covers.specs.Held.{leads, under, tries_protect, tries_base, index_base}
 use Rattle.wfe_rows.specs.Queue.{in_queue}
 use Rattle.wfe_covers.proofs.Stands.{withdrawn_shrinks, with_row_apart, with_row_is}
@@ -40,7 +41,7 @@ use Rattle.wfe_covers.proofs.Stands.{withdrawn_shrinks, with_row_apart, with_row
 abbrev pub Was : ℕ → (ℕ → Status) → Post → Base → ℕ → ℕ → Type 0
 Was clock status post base j s = (stands post j ≡ Some s) ⊎ ((j ≡ index_base base) × (tries_base clock status post base s ≡ true))
 
-abbrev Rises : (ℕ → Status) → Post → ℕ → Root → ℕ → ℕ → ℕ → Type 0
+abbrev pub Rises : (ℕ → Status) → Post → ℕ → Root → ℕ → ℕ → ℕ → Type 0
 Rises status post index root link j s = (stands post j ≡ Some s) ⊎ ((j ≡ index) × (leads link s ≡ true) × (under status root ≡ true))
 
 row_rises : (status : ℕ → Status) (post : Post) (index : ℕ) (root : Root) (link j s : ℕ) (same : Bool) → (j == index) ≡ same → index < length post.standing → (link == 0) ≡ false → under status root ≡ true → stands (with_row post index (link - 1)) j ≡ Some s → Rises status post index root link j s
@@ -52,7 +53,7 @@ link_rises : (status : ℕ → Status) (post : Post) (index : ℕ) (root : Root)
 link_rises status post index root link j s true e b u h = inl h
 link_rises status post index root link j s false e b u h = row_rises status post index root link j s (j == index) refl b e u h
 
-held_rises : (status : ℕ → Status) (post : Post) (index : ℕ) (root : Root) (link j s : ℕ) → index < length post.standing → stands (held_post post index root link) j ≡ Some s → Rises status post index root link j s
+pub held_rises : (status : ℕ → Status) (post : Post) (index : ℕ) (root : Root) (link j s : ℕ) → index < length post.standing → stands (held_post post index root link) j ≡ Some s → Rises status post index root link j s
 held_rises status post index (roots.Bucket bucket) link j s b h = link_rises status post index (roots.Bucket bucket) link j s (link == 0) refl b refl h
 held_rises status post index roots.Head link j s b h = link_rises status post index roots.Head link j s (link == 0) refl b refl h
 held_rises status post index roots.Tail link j s b h = link_rises status post index roots.Tail link j s (link == 0) refl b refl h
@@ -74,10 +75,10 @@ check_rises : (clock : ℕ) (status : ℕ → Status) (index : ℕ) (root : Root
 check_rises clock status index root era link post j s e (inl x) = inl x
 check_rises clock status index root era link post j s e (inr x) = inr (x.0, grind (arith, nat_tests, x.1, x.2))
 
-same_stands : (p q : Post) (j s : ℕ) → p ≡ q → stands p j ≡ Some s → stands q j ≡ Some s
+pub same_stands : (p q : Post) (j s : ℕ) → p ≡ q → stands p j ≡ Some s → stands q j ≡ Some s
 same_stands p q j s e h = subst (λ (x : Post). stands x j ≡ Some s) e h
 
-check_stood : (clock : ℕ) (status : ℕ → Status) (aim : Aim) (index : ℕ) (root : Root) (n era : ℕ) (tries : Tries) (link : ℕ) (post : Post) (j s : ℕ) (same : Bool) → (clock == era) ≡ same → index < length post.standing
+pub check_stood : (clock : ℕ) (status : ℕ → Status) (aim : Aim) (index : ℕ) (root : Root) (n era : ℕ) (tries : Tries) (link : ℕ) (post : Post) (j s : ℕ) (same : Bool) → (clock == era) ≡ same → index < length post.standing
     → stands (if same then protected aim index root n link era post else goes post [] (Protect aim index root n (PublishEra clock (failed_once tries)))).post j ≡ Some s → (stands post j ≡ Some s) ⊎ ((j ≡ index) × ((leads link s && (clock == era && under status root)) ≡ true))
 check_stood clock status aim index root n era tries link post j s true e b h =
     check_rises clock status index root era link post j s e (held_rises status post index root link j s b (same_stands (protected aim index root n link era post).post (held_post post index root link) j s (protected_post aim index root n link era post) h))
@@ -89,15 +90,15 @@ upper_stood clock status aim index root n link post j s true e b h =
     check_rises clock status index root (upper post.span) link post j s e (held_rises status post index root link j s b (same_stands (protected aim index root n link clock post).post (held_post post index root link) j s (protected_post aim index root n link clock post) h))
 upper_stood clock status aim index root n link post j s false e b h = inl h
 
-own_stood : (first era link found : ℕ) (last : Bool) (aim : Aim) (index : ℕ) (root : Root) (n : ℕ) (post : Post) (j s : ℕ) (same : Bool) → (found == era) ≡ same → stands (after_check_own_clock aim index root n first era last link post found).post j ≡ Some s → stands post j ≡ Some s
+pub own_stood : (first era link found : ℕ) (last : Bool) (aim : Aim) (index : ℕ) (root : Root) (n : ℕ) (post : Post) (j s : ℕ) (same : Bool) → (found == era) ≡ same → stands (after_check_own_clock aim index root n first era last link post found).post j ≡ Some s → stands post j ≡ Some s
 own_stood first era link found last aim index root n post j s true e h = rw e at h
 own_stood first era link found last aim index root n post j s false e h = rw e at h
 
-answer_stood : (first era link found : ℕ) (aim : Aim) (index : ℕ) (root : Root) (n : ℕ) (post : Post) (j s : ℕ) (same : Bool) → (found == own_request post index root) ≡ same → stands (after_answer_own aim index root n first era link post found).post j ≡ Some s → stands post j ≡ Some s
+pub answer_stood : (first era link found : ℕ) (aim : Aim) (index : ℕ) (root : Root) (n : ℕ) (post : Post) (j s : ℕ) (same : Bool) → (found == own_request post index root) ≡ same → stands (after_answer_own aim index root n first era link post found).post j ≡ Some s → stands post j ≡ Some s
 answer_stood first era link found aim index root n post j s true e h = rw e at h
 answer_stood first era link found aim index root n post j s false e h = rw e at h
 
-concluded_stood : (aim : Aim) (index : ℕ) (root : Root) (n link era : ℕ) (post : Post) (told : List Event) (j s : ℕ) → stands (concluded aim index root n link era post told).post j ≡ Some s → stands post j ≡ Some s
+pub concluded_stood : (aim : Aim) (index : ℕ) (root : Root) (n link era : ℕ) (post : Post) (told : List Event) (j s : ℕ) → stands (concluded aim index root n link era post told).post j ≡ Some s → stands post j ≡ Some s
 concluded_stood aim index root n link era post told j s h = same_stands (concluded aim index root n link era post told).post post j s (concluded_post aim index root n link era post told) h
 
 protect_stood : (clock : ℕ) (status : ℕ → Status) (scheme : SchemeKind) (most : ℕ) (mem : Place → ℕ) (aim : Aim) (index : ℕ) (root : Root) (n : ℕ) (at : ProtectAt) (post last : Post) (j s : ℕ) → clock ≡ mem Clock → is_wfe scheme ≡ false → protect_fits scheme most at ≡ true → index < length post.standing
@@ -123,7 +124,7 @@ protect_stood clock status scheme most mem aim index root n (CheckUpper link) po
 protect_stood clock status scheme most mem aim index root n (RaiseUpper era) post last j s c w f b h = inl h
 
 -- a followed row is held once the head is still its parent
-reload_stood : (status : ℕ → Status) (parent index slot found n : ℕ) (post : Post) (j s : ℕ) (same : Bool) → (found == parent + 1) ≡ same → index < length post.standing → (found ≡ parent + 1 → in_queue (status parent) ≡ true)
+pub reload_stood : (status : ℕ → Status) (parent index slot found n : ℕ) (post : Post) (j s : ℕ) (same : Bool) → (found == parent + 1) ≡ same → index < length post.standing → (found ≡ parent + 1 → in_queue (status parent) ≡ true)
     → stands (if same then ends (with_row post index slot) (events.Held index slot n ∷ []) (Followed (follow_ends.Followed slot)) else ends post [] (Followed (follow_ends.RootMoved found))).post j ≡ Some s → (stands post j ≡ Some s) ⊎ ((j ≡ index) × ((slot == s && in_queue (status parent)) ≡ true))
 reload_stood status parent index slot found n post j s true e b q h = by_same (j == index) refl where
   by_same : (own : Bool) → (j == index) ≡ own → (stands post j ≡ Some s) ⊎ ((j ≡ index) × ((slot == s && in_queue (status parent)) ≡ true))
@@ -166,18 +167,30 @@ exchange_stood : (era found : ℕ) (post : Post) (j s : ℕ) (same : Bool) → (
 exchange_stood era found post j s true e h = rw e at h
 exchange_stood era found post j s false e h = rw e at h
 
-pub move_stood : (scheme : SchemeKind) (seats : ℕ) (at : MoveAt) (found : ℕ) (post : Post) (j s : ℕ) → is_wfe scheme ≡ false → move_fits scheme seats at ≡ true → stands (move_turn at post found).post j ≡ Some s → stands post j ≡ Some s
-move_stood scheme seats (LoadEra helps) found post j s w f h = load_era_stood helps found post j s (found == post.layout.config.last_era) refl h
-move_stood scheme seats (LoadRequest era seat shows) found post j s w f h = h
-move_stood scheme seats (ShowEra era seat tag index root) found post j s w f h = h
-move_stood scheme seats (LoadAsked era seat tag index root) found post j s w f h = h
-move_stood scheme seats (CheckEra era seat tag index root link) found post j s w f h = check_era_stood era seat tag index link found root post j s (found == era) refl h
-move_stood scheme seats (AnswerAsked era seat tag index root link) found post j s w f h = absurd (grind (arith, nat_tests))
-move_stood scheme seats (LoadReserved era seat tag index root link) found post j s w f h = absurd (grind (arith, nat_tests))
-move_stood scheme seats (HandOver era seat tag index root link old) found post j s w f h = absurd (grind (arith, nat_tests))
-move_stood scheme seats (HideEra era) found post j s w f h = h
-move_stood scheme seats (HideLate seen) found post j s w f h = h
-move_stood scheme seats (ExchangeClock era) found post j s w f h = exchange_stood era found post j s (found == era) refl h
+answer_asked_stood : (era seat tag index link found : ℕ) (root : Root) (post : Post) (j s : ℕ) (same : Bool) → (found == asking post.layout tag index root) ≡ same → stands (after_answer_asked era seat tag index root link post found).post j ≡ Some s → stands post j ≡ Some s
+answer_asked_stood era seat tag index link found root post j s true e h = rw e at h
+answer_asked_stood era seat tag index link found root post j s false e h = rw e at h
+
+reserved_stood : (era seat tag index link found : ℕ) (root : Root) (post : Post) (j s : ℕ) (same : Bool) → ((read_reservation found).tag == tag) ≡ same → stands (after_load_reserved era seat tag index root link post found).post j ≡ Some s → stands post j ≡ Some s
+reserved_stood era seat tag index link found root post j s true e h = rw e at h
+reserved_stood era seat tag index link found root post j s false e h = rw e at h
+
+handed_stood : (era seat tag index old : ℕ) (post : Post) (j s : ℕ) (same : Bool) → stands (after_hand_over era seat tag index old post same).post j ≡ Some s → stands post j ≡ Some s
+handed_stood era seat tag index old post j s true h = h
+handed_stood era seat tag index old post j s false h = h
+
+pub move_stood : (at : MoveAt) (found : ℕ) (post : Post) (j s : ℕ) → stands (move_turn at post found).post j ≡ Some s → stands post j ≡ Some s
+move_stood (LoadEra helps) found post j s h = load_era_stood helps found post j s (found == post.layout.config.last_era) refl h
+move_stood (LoadRequest era seat shows) found post j s h = h
+move_stood (ShowEra era seat tag index root) found post j s h = h
+move_stood (LoadAsked era seat tag index root) found post j s h = h
+move_stood (CheckEra era seat tag index root link) found post j s h = check_era_stood era seat tag index link found root post j s (found == era) refl h
+move_stood (AnswerAsked era seat tag index root link) found post j s h = answer_asked_stood era seat tag index link found root post j s (found == asking post.layout tag index root) refl h
+move_stood (LoadReserved era seat tag index root link) found post j s h = reserved_stood era seat tag index link found root post j s ((read_reservation found).tag == tag) refl h
+move_stood (HandOver era seat tag index root link old) found post j s h = handed_stood era seat tag index old post j s (found == reservation_word (record { era = old; tag = tag })) h
+move_stood (HideEra era) found post j s h = h
+move_stood (HideLate seen) found post j s h = h
+move_stood (ExchangeClock era) found post j s h = exchange_stood era found post j s (found == era) refl h
 
 pub begin_stood : (at : BeginAt) (found : ℕ) (post : Post) (j s : ℕ) → stands (begin_turn at post found).post j ≡ Some s → stands post j ≡ Some s
 begin_stood LoadLower found post j s h = h
@@ -196,4 +209,4 @@ base_stood status config mem (Allocate at) post last j s w f b q h = inl (alloca
 base_stood status config mem (Write slot row place) post last j s w f b q h = inl (write_stood slot row place post j s (place == last_written row) refl h)
 base_stood status config mem (GiveUp slot) post last j s w f b q h = inl h
 base_stood status config mem (Retire at) post last j s w f b q h = inl (retire_stood at (found (base_move (Retire at) last) (mem (place_in (base_move (Retire at) last)))) post j s h)
-base_stood status config mem (Move at) post last j s w f b q h = inl (move_stood config.scheme config.seats at (found (base_move (Move at) last) (mem (place_in (base_move (Move at) last)))) post j s w f h)
+base_stood status config mem (Move at) post last j s w f b q h = inl (move_stood at (found (base_move (Move at) last) (mem (place_in (base_move (Move at) last)))) post j s h)
