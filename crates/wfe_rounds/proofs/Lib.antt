@@ -1,0 +1,11 @@
+mod Counts
+mod Exchanges
+mod Grows
+mod Worlds
+mod Paced
+mod Machines
+mod Protects
+mod Kept
+mod Lasting
+mod Fresh
+mod Ending
