@@ -1,16 +1,16 @@
-mod Begun
-mod Following
-mod Fresh
-mod Guards
-mod Held
-mod Kept
-mod Parents
-mod Resting
-mod Rests
-mod Rows
-mod Scans
-mod Stands
-mod Stood
-mod Tried
-mod Vacant
-mod Words
+pub mod Begun
+pub mod Following
+pub mod Fresh
+pub mod Guards
+pub mod Held
+pub mod Kept
+pub mod Parents
+pub mod Resting
+pub mod Rests
+pub mod Rows
+pub mod Scans
+pub mod Stands
+pub mod Stood
+pub mod Tried
+pub mod Vacant
+pub mod Words

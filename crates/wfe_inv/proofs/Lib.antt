@@ -1,0 +1,9 @@
+mod Begun
+mod Frees
+mod Guards
+mod Kept
+mod Ready
+mod Rows
+mod Shapes
+mod Shown
+mod Whole
