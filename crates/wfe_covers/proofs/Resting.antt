@@ -10,7 +10,7 @@ use Rattle.wfe_core.specs.Desks.{Desk, noting}
 use Rattle.wfe_core.specs.Posts.{new_post, stands, counted}
 use Rattle.wfe_core.specs.Phases.{Aim, ProtectAt, Base}
 use Rattle.wfe_defs.specs.declared.event.Root.{Root}
-use Rattle.wfe_core.specs.Phases.ProtectAt.{PublishEra}
+use Rattle.wfe_core.specs.Phases.ProtectAt.{PublishEra, TakeAnswer}
 use Rattle.wfe_core.specs.Phases.Base.{Protect, Finish, Release}
 use Rattle.wfe_core.specs.Rounds.{index_of}
 use Rattle.wfe_core.specs.Steps.{holding, first_phase}
@@ -42,8 +42,8 @@ vacant_pick old new true a b = b
 vacant_pick old new false a b = a
 
 pub rests_kept : RestsKept
-rests_kept w i f n r = record {
-  vacant = λ k. vacant_pick (w.seat k) (after (w.seat i) (finds w i)) (k == i) (r.vacant k) (settled_vacant (w.seat i) (turn (w.seat i) (finds w i)) (turn_vacant w.layout (w.seat i).phase (w.seat i).post (counted (w.seat i).post) (w.seat i).desk (finds w i) f n.shape n.right (r.vacant i)));
+rests_kept w i n r = record {
+  vacant = λ k. vacant_pick (w.seat k) (after (w.seat i) (finds w i)) (k == i) (r.vacant k) (settled_vacant (w.seat i) (turn (w.seat i) (finds w i)) (turn_vacant w.layout (w.seat i).phase (w.seat i).post (counted (w.seat i).post) (w.seat i).desk (finds w i) n.shape n.right (r.vacant i)));
 }
 
 -- nothing stands in a new post
@@ -102,9 +102,11 @@ bare_own (Holds key) j h = refl
 bare_own (Enqueues kept) j h = grind (arith, nat_tests)
 bare_own Dequeues j h = grind (arith, nat_tests)
 
-protect_rests : (layout : Layout) (why : Why) (aim : Aim) (index : ℕ) (root : Root) (steps : ℕ) (at : ProtectAt) (post : Post) (j : ℕ) → Run layout why (Protect aim index root steps at) post → rests_protect index at j ≡ true → vacant_why why j ≡ true
+protect_rests : (layout : Layout) (why : Why) (aim : Aim) (index : ℕ) (root : Root) (steps : ℕ) (at : ProtectAt) (post : Post) (j : ℕ) → Run layout why (Protect aim index root steps at) post → rests_protect index at j ≡ true → vacant_why why (Protect aim index root steps at) j ≡ true
 protect_rests layout (Opens task) aim index root steps (PublishEra era tries) post j r e = let q = r.shape.at in bare_own task j (subst (λ (n : ℕ). (j == n) ≡ true) q e)
 protect_rests layout (FollowsHead head tail) aim index root steps (PublishEra era tries) post j r e = let q = r.shape.at in grind (arith, nat_tests)
+protect_rests layout (Opens task) aim index root steps (TakeAnswer link era) post j r e = let q = r.shape.at in bare_own task j (subst (λ (n : ℕ). (j == n) ≡ true) q e)
+protect_rests layout (FollowsHead head tail) aim index root steps (TakeAnswer link era) post j r e = let q = r.shape.at in grind (arith, nat_tests)
 protect_rests layout (Fills task) aim index root steps at post j r e = absurd (no_truth r.suited)
 protect_rests layout (ClearsNext next) aim index root steps at post j r e = absurd (no_truth r.suited)
 protect_rests layout (Clears task next) aim index root steps at post j r e = absurd (no_truth r.suited)
@@ -117,7 +119,7 @@ protect_rests layout (Releases key) aim index root steps at post j r e = absurd 
 protect_rests layout (Opens task) aim index root steps at post j r e = absurd (cc)
 protect_rests layout (FollowsHead head tail) aim index root steps at post j r e = absurd (cc)
 
-finish_rests : (layout : Layout) (why : Why) (post : Post) (j : ℕ) → Run layout why Finish post → vacant_why why j ≡ true
+finish_rests : (layout : Layout) (why : Why) (post : Post) (j : ℕ) → Run layout why Finish post → vacant_why why Finish j ≡ true
 finish_rests layout (Opens task) post j r = absurd (no_truth r.suited)
 finish_rests layout (FollowsHead head tail) post j r = absurd (no_truth r.suited)
 finish_rests layout (Fills task) post j r = absurd (no_truth r.suited)
@@ -130,7 +132,7 @@ finish_rests layout (Tidies later) post j r = absurd (no_truth r.suited)
 finish_rests layout Advances post j r = absurd (no_truth r.suited)
 finish_rests layout (Releases key) post j r = absurd (no_truth r.suited)
 
-release_rests : (layout : Layout) (why : Why) (post : Post) (j : ℕ) → Run layout why Release post → spare j ≡ true → vacant_why why j ≡ true
+release_rests : (layout : Layout) (why : Why) (post : Post) (j : ℕ) → Run layout why Release post → spare j ≡ true → vacant_why why Release j ≡ true
 release_rests layout (Opens task) post j r e = absurd (no_truth r.suited)
 release_rests layout (FollowsHead head tail) post j r e = absurd (no_truth r.suited)
 release_rests layout (Fills task) post j r e = absurd (no_truth r.suited)
@@ -143,7 +145,7 @@ release_rests layout (Tidies later) post j r e = absurd (no_truth r.suited)
 release_rests layout Advances post j r e = absurd (no_truth r.suited)
 release_rests layout (Releases key) post j r e = e
 
-base_rests : (layout : Layout) (why : Why) (base : Base) (post : Post) (j : ℕ) → Run layout why base post → rests_base base j ≡ true → vacant_why why j ≡ true
+pub base_rests : (layout : Layout) (why : Why) (base : Base) (post : Post) (j : ℕ) → Run layout why base post → rests_base base j ≡ true → vacant_why why base j ≡ true
 base_rests layout why (Protect aim index root steps at) post j r e = protect_rests layout why aim index root steps at post j r e
 base_rests layout why Finish post j r e = finish_rests layout why post j r
 base_rests layout why Release post j r e = release_rests layout why post j r e
@@ -151,5 +153,5 @@ base_rests layout why base post j r e = absurd (cc)
 
 pub rests_give : RestsGive
 rests_give w i why base j n r e h =
-    let v : Vacant (vacant_why why) (w.seat i).post = subst (λ (p : Phase). Vacant (vacant p) (w.seat i).post) e (r.vacant i) in
+    let v : Vacant (vacant_why why base) (w.seat i).post = subst (λ (p : Phase). Vacant (vacant p) (w.seat i).post) e (r.vacant i) in
     v j (base_rests w.layout why base (w.seat i).post j (n.shape why base e) h)

@@ -24,7 +24,7 @@ use Rattle.wfe_core.specs.Enqueue as enqueues
 use Rattle.wfe_core.specs.Dequeue as dequeues
 use Rattle.wfe_core.specs.Steps as steps
 use Rattle.wfe_core.specs.Calls.{Task, Gets, Changes, Holds, Enqueues, Dequeues, Again, Answering, Retiring, AfterScan, Why, Phase, ChangeKept, EnqueueKept, GetAt, FindVersion, FindCount, FindKey, FindValue, ChangeAt, LoadVersion, LoadCount, LoadKey, LoadValue, ExchangeRoot, EnqueueAt, LoadNumber, LoadNext, PassTail, ExchangeNext, ExchangeTail, DequeueAt, LoadTail, SwingTail, TakeNumber, TakeValue, ExchangeHead, Work, Getting, Changing, Enqueuing, Dequeuing, Opens, FollowsHead, Fills, ClearsNext, Clears, Finishes, GivesUp, Retires, Tidies, Advances, Releases}
-use Rattle.wfe_core.specs.Rounds.{scheme_of, index_of, taken_of, begin_base, clear_base, clear_post, clear_told, finish_base, round_by, round, given_up, closed, finishing_by, finishing, clearing_by, clearing, clearing_next_by, clearing_next}
+use Rattle.wfe_core.specs.Rounds.{scheme_of, index_of, root_of, taken_of, begin_span, begin_base, clear_base, clear_post, clear_told, finish_base, round_by, round, given_up, closed, finishing_by, finishing, clearing_by, clearing, clearing_next_by, clearing_next}
 use Rattle.wfe_core.specs.Calls.{Next, MakeRoom}
 use Rattle.wfe_words.specs.declared.config.SchemeKind.{SchemeKind}
 use Rattle.wfe_words.specs.declared.config.SchemeKind.TheVariants.{He, Ibr, Wfe}
@@ -32,9 +32,9 @@ use Rattle.wfe_core.specs.Posts.{stands}
 use Rattle.wfe_core.specs.Rounds.{finish_span, protect_base, opening}
 use Rattle.wfe_core.specs.Calls.{CallTurn}
 use Rattle.wfe_defs.specs.declared.event.Root.{Root}
+use Rattle.wfe_defs.specs.declared.lifetime.Interval.{Interval}
 use Rattle.wfe_covers.proofs.Stands.{withdrawn_same, withdrawn_other}
 use Rattle.wfe_eras.specs.Frame.{phase_left}
-use Rattle.wfe_core.specs.Phases.{Base}
 use Rattle.wfe_core.specs.Posts.{withdrawn}
 use Rattle.wfe_covers.specs.Rests.{spare, bare, beside, within, deep, vacant_later, vacant_dequeue, vacant_work, vacant, vacant_filled, vacant_opened, vacant_followed, vacant_released, vacant_after, Vacant}
 
@@ -57,17 +57,24 @@ within_beside (Enqueues kept) j h = h
 within_beside Dequeues j h = h
 
 opening_at : (task : Task) (post : Post) (index : ℕ) (root : Root) (scheme : SchemeKind) → Vacant (bare task) post → Vacant (vacant (Phase.Runs (Opens task) (protect_base scheme index root))) post
-opening_at task post index root scheme h = h
+opening_at task post index root He h = h
+opening_at task post index root Ibr h = h
+opening_at task post index root Wfe h = h
 
 opening_vacant : (task : Task) (post : Post) → Vacant (bare task) post → Vacant (vacant (opening task post)) post
-opening_vacant task post h = h
+opening_vacant task post h = opening_at task post (index_of task) (root_of task post) (scheme_of post) h
 
-round_by_vacant : (task : Task) (post : Post) (x : Option Base) → Vacant (bare task) post → Vacant (vacant (round_by task post x)) post
-round_by_vacant task post None h = h
-round_by_vacant task post (Some base) h = h
+span_vacant : (task : Task) (post : Post) (x : Option Interval) → Vacant (bare task) post → Vacant (vacant (round_by task post (begin_span x))) post
+span_vacant task post None h = h
+span_vacant task post (Some span) h = opening_vacant task post h
+
+round_by_vacant : (task : Task) (post : Post) (scheme : SchemeKind) → Vacant (bare task) post → Vacant (vacant (round_by task post (begin_base scheme post))) post
+round_by_vacant task post He h = opening_vacant task post h
+round_by_vacant task post Ibr h = span_vacant task post post.span h
+round_by_vacant task post Wfe h = opening_vacant task post h
 
 pub round_vacant : (task : Task) (post : Post) → Vacant (bare task) post → Vacant (vacant (round task post)) post
-round_vacant task post h = round_by_vacant task post (begin_base (scheme_of post) post) h
+round_vacant task post h = round_by_vacant task post (scheme_of post) h
 
 given_up_vacant : (answer : Answer) (post : Post) (desk : Desk) (told : List Event) (x : Option ℕ) → Vacant spare post → Turned (given_up answer post desk told x)
 given_up_vacant answer post desk told None h = h

@@ -27,11 +27,12 @@ use Rattle.wfe_defs.specs.declared.event.Event.TheVariants as events
 use Rattle.wfe_core.specs.Allocate.{after_claim_slot}
 use Rattle.wfe_words.specs.declared.config.SchemeKind.{SchemeKind}
 use Rattle.wfe_core.specs.Machine.{protect_move, base_move, begin_turn, protect_turn, allocate_turn, retire_turn, move_turn, after}
-use Rattle.wfe_core.specs.SlowPath.{own_request, after_check_own_clock, after_answer_own}
-use Rattle.wfe_core.specs.MoveClock.{after_load_era, after_check_era, after_exchange_clock}
+use Rattle.wfe_words.specs.Packed.{read_reservation, reservation_word}
+use Rattle.wfe_core.specs.SlowPath.{asking, own_request, after_check_own_clock, after_answer_own}
+use Rattle.wfe_core.specs.MoveClock.{after_load_era, after_check_era, after_answer_asked, after_load_reserved, after_hand_over, after_exchange_clock}
 use Rattle.wfe_core.specs.WriteRow.{last_written, after_write}
 use Rattle.wfe_rows.specs.Rows.{Status}
-use Rattle.wfe_eras.specs.Seats.{is_wfe, protect_fits, move_fits, base_fits}
+use Rattle.wfe_eras.specs.Seats.{is_wfe, protect_fits, base_fits}
 use Rattle.wfe_covers.specs.Held.{leads, under, tries_protect, tries_base, index_base}
 use Rattle.wfe_rows.specs.Queue.{in_queue}
 use Rattle.wfe_covers.proofs.Stands.{withdrawn_shrinks, with_row_apart, with_row_is}
@@ -166,18 +167,30 @@ exchange_stood : (era found : ℕ) (post : Post) (j s : ℕ) (same : Bool) → (
 exchange_stood era found post j s true e h = rw e at h
 exchange_stood era found post j s false e h = rw e at h
 
-pub move_stood : (scheme : SchemeKind) (seats : ℕ) (at : MoveAt) (found : ℕ) (post : Post) (j s : ℕ) → is_wfe scheme ≡ false → move_fits scheme seats at ≡ true → stands (move_turn at post found).post j ≡ Some s → stands post j ≡ Some s
-move_stood scheme seats (LoadEra helps) found post j s w f h = load_era_stood helps found post j s (found == post.layout.config.last_era) refl h
-move_stood scheme seats (LoadRequest era seat shows) found post j s w f h = h
-move_stood scheme seats (ShowEra era seat tag index root) found post j s w f h = h
-move_stood scheme seats (LoadAsked era seat tag index root) found post j s w f h = h
-move_stood scheme seats (CheckEra era seat tag index root link) found post j s w f h = check_era_stood era seat tag index link found root post j s (found == era) refl h
-move_stood scheme seats (AnswerAsked era seat tag index root link) found post j s w f h = absurd (grind (arith, nat_tests))
-move_stood scheme seats (LoadReserved era seat tag index root link) found post j s w f h = absurd (grind (arith, nat_tests))
-move_stood scheme seats (HandOver era seat tag index root link old) found post j s w f h = absurd (grind (arith, nat_tests))
-move_stood scheme seats (HideEra era) found post j s w f h = h
-move_stood scheme seats (HideLate seen) found post j s w f h = h
-move_stood scheme seats (ExchangeClock era) found post j s w f h = exchange_stood era found post j s (found == era) refl h
+answer_asked_stood : (era seat tag index link found : ℕ) (root : Root) (post : Post) (j s : ℕ) (same : Bool) → (found == asking post.layout tag index root) ≡ same → stands (after_answer_asked era seat tag index root link post found).post j ≡ Some s → stands post j ≡ Some s
+answer_asked_stood era seat tag index link found root post j s true e h = rw e at h
+answer_asked_stood era seat tag index link found root post j s false e h = rw e at h
+
+reserved_stood : (era seat tag index link found : ℕ) (root : Root) (post : Post) (j s : ℕ) (same : Bool) → ((read_reservation found).tag == tag) ≡ same → stands (after_load_reserved era seat tag index root link post found).post j ≡ Some s → stands post j ≡ Some s
+reserved_stood era seat tag index link found root post j s true e h = rw e at h
+reserved_stood era seat tag index link found root post j s false e h = rw e at h
+
+handed_stood : (era seat tag index old : ℕ) (post : Post) (j s : ℕ) (same : Bool) → stands (after_hand_over era seat tag index old post same).post j ≡ Some s → stands post j ≡ Some s
+handed_stood era seat tag index old post j s true h = h
+handed_stood era seat tag index old post j s false h = h
+
+pub move_stood : (at : MoveAt) (found : ℕ) (post : Post) (j s : ℕ) → stands (move_turn at post found).post j ≡ Some s → stands post j ≡ Some s
+move_stood (LoadEra helps) found post j s h = load_era_stood helps found post j s (found == post.layout.config.last_era) refl h
+move_stood (LoadRequest era seat shows) found post j s h = h
+move_stood (ShowEra era seat tag index root) found post j s h = h
+move_stood (LoadAsked era seat tag index root) found post j s h = h
+move_stood (CheckEra era seat tag index root link) found post j s h = check_era_stood era seat tag index link found root post j s (found == era) refl h
+move_stood (AnswerAsked era seat tag index root link) found post j s h = answer_asked_stood era seat tag index link found root post j s (found == asking post.layout tag index root) refl h
+move_stood (LoadReserved era seat tag index root link) found post j s h = reserved_stood era seat tag index link found root post j s ((read_reservation found).tag == tag) refl h
+move_stood (HandOver era seat tag index root link old) found post j s h = handed_stood era seat tag index old post j s (found == reservation_word (record { era = old; tag = tag })) h
+move_stood (HideEra era) found post j s h = h
+move_stood (HideLate seen) found post j s h = h
+move_stood (ExchangeClock era) found post j s h = exchange_stood era found post j s (found == era) refl h
 
 pub begin_stood : (at : BeginAt) (found : ℕ) (post : Post) (j s : ℕ) → stands (begin_turn at post found).post j ≡ Some s → stands post j ≡ Some s
 begin_stood LoadLower found post j s h = h
@@ -196,4 +209,4 @@ base_stood status config mem (Allocate at) post last j s w f b q h = inl (alloca
 base_stood status config mem (Write slot row place) post last j s w f b q h = inl (write_stood slot row place post j s (place == last_written row) refl h)
 base_stood status config mem (GiveUp slot) post last j s w f b q h = inl h
 base_stood status config mem (Retire at) post last j s w f b q h = inl (retire_stood at (found (base_move (Retire at) last) (mem (place_in (base_move (Retire at) last)))) post j s h)
-base_stood status config mem (Move at) post last j s w f b q h = inl (move_stood config.scheme config.seats at (found (base_move (Move at) last) (mem (place_in (base_move (Move at) last)))) post j s w f h)
+base_stood status config mem (Move at) post last j s w f b q h = inl (move_stood at (found (base_move (Move at) last) (mem (place_in (base_move (Move at) last)))) post j s h)

@@ -135,10 +135,11 @@ abbrev pub era_base : Post → Base → ℕ
 era_base post (Protect aim index root steps at) = era_protect post at
 era_base post base = 0
 
--- where the next step takes from what a guard publishes nothing stands: where an era is published, at that index; where
--- an interval is finished, anywhere; where what is held is released, anywhere but at index 2
+-- where the next step takes from what a guard publishes nothing stands: where an era is published or an answer taken, at
+-- that index; where an interval is finished, anywhere; where what is held is released, anywhere but at index 2
 abbrev pub rests_protect : ℕ → ProtectAt → ℕ → Bool
 rests_protect index (PublishEra era tries) j = j == index
+rests_protect index (TakeAnswer link era) j = j == index
 rests_protect index at j = false
 
 abbrev pub rests_base : Base → ℕ → Bool

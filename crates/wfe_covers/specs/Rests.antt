@@ -7,11 +7,13 @@ use Rattle.wfe_core.specs.Calls.{Task, Gets, Changes, Holds, Enqueues, Dequeues,
 use Rattle.wfe_core.specs.Phases.Ending.{Done, Protected, Followed, Allocated, Retired, Clocked}
 use Rattle.wfe_core.specs.Phases.{Ending}
 use Rattle.wfe_core.specs.World.{World, start, begin, step, is_busy}
-use Rattle.wfe_core.specs.Phases.{Base}
+use Rattle.wfe_core.specs.Phases.{ProtectAt, Base}
+use Rattle.wfe_core.specs.Phases.ProtectAt.{WithdrawRequest, WithdrawHelper}
+use Rattle.wfe_core.specs.Phases.Base.{Protect}
 use Rattle.wfe_words.specs.declared.layout.Layout.{Layout}
 use Rattle.wfe_defs.specs.declared.call.Call.{Call}
 use Rattle.wfe_rows.specs.Hands.{runs_right}
-use Rattle.wfe_eras.specs.Seats.{is_wfe, Run}
+use Rattle.wfe_eras.specs.Seats.{Run}
 use Rattle.wfe_covers.specs.Held.{rests_base}
 
 -- between rounds only what is held stands
@@ -42,18 +44,32 @@ vacant_later (Answered answer) j = spare j
 vacant_later (Repeated task) j = bare task j
 vacant_later Counted j = spare j
 
-abbrev pub vacant_why : Why → ℕ → Bool
-vacant_why (Opens task) j = bare task j
-vacant_why (FollowsHead head tail) j = within j
-vacant_why (Fills task) j = within j
-vacant_why (ClearsNext next) j = deep j
-vacant_why (Clears task next) j = beside task j
-vacant_why (Finishes task next) j = true
-vacant_why (GivesUp answer) j = spare j
-vacant_why (Retires answer) j = spare j
-vacant_why (Tidies later) j = vacant_later later j
-vacant_why Advances j = spare j
-vacant_why (Releases key) j = spare j
+-- under Wait-Free Eras a row stands from the taking of its answer on, before its protection is over
+abbrev pub has_taken : ProtectAt → Bool
+has_taken (WithdrawRequest link era) = true
+has_taken (WithdrawHelper link era) = true
+has_taken at = false
+
+abbrev pub base_taken : Base → Bool
+base_taken (Protect aim index root steps at) = has_taken at
+base_taken base = false
+
+abbrev pub vacant_opening : Task → (taken : Bool) → ℕ → Bool
+vacant_opening task true j = beside task j
+vacant_opening task false j = bare task j
+
+abbrev pub vacant_why : Why → Base → ℕ → Bool
+vacant_why (Opens task) base j = vacant_opening task (base_taken base) j
+vacant_why (FollowsHead head tail) base j = within j
+vacant_why (Fills task) base j = within j
+vacant_why (ClearsNext next) base j = deep j
+vacant_why (Clears task next) base j = beside task j
+vacant_why (Finishes task next) base j = true
+vacant_why (GivesUp answer) base j = spare j
+vacant_why (Retires answer) base j = spare j
+vacant_why (Tidies later) base j = vacant_later later j
+vacant_why Advances base j = spare j
+vacant_why (Releases key) base j = spare j
 
 abbrev pub vacant_dequeue : DequeueAt → ℕ → Bool
 vacant_dequeue (LoadTail head) j = within j
@@ -71,7 +87,7 @@ vacant_work (Dequeuing at) j = vacant_dequeue at j
 -- the indexes at which nothing stands
 abbrev pub vacant : Phase → ℕ → Bool
 vacant Idle j = spare j
-vacant (Runs why base) j = vacant_why why j
+vacant (Runs why base) j = vacant_why why base j
 vacant (Scans later at) j = vacant_later later j
 vacant (Works work) j = vacant_work work j
 
@@ -135,9 +151,8 @@ RestsStart = (layout : Layout) → Rests (start layout)
 abbrev pub RestsBegin : Type 0
 RestsBegin = (w : World) (i : ℕ) (call : Call) → is_busy w i ≡ false → Rests w → Rests (begin w i call)
 
--- under Hazard Eras and 2GE
 abbrev pub RestsKept : Type 0
-RestsKept = (w : World) (i : ℕ) → is_wfe w.layout.config.scheme ≡ false → RestsNeeds w i → Rests w → Rests (step w i)
+RestsKept = (w : World) (i : ℕ) → RestsNeeds w i → Rests w → Rests (step w i)
 
 -- nothing stands where a step takes from what a guard publishes
 abbrev pub RestsGive : Type 0

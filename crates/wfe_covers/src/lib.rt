@@ -51,8 +51,8 @@ pub fn guards_are_read()
     ensures kept { HandedKept }
 {}
 
-/// Under Hazard Eras and 2GE nothing stands at an index whose guard publishes something else in the
-/// next step, from the start on, and over every step and every call that begins.
+/// Nothing stands at an index whose guard publishes something else in the next step, from the start
+/// on, and over every step and every call that begins.
 pub fn guards_rest()
     ensures start { RestsStart }
     ensures begin { RestsBegin }
