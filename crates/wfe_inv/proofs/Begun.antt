@@ -34,7 +34,7 @@ inv_start layout d =
         requests = q.1.facts;
         whole = whole_start layout d;
         scans = scans_start layout;
-        rests = λ f. rests_start layout;
+        rests = rests_start layout;
         held = held_start layout (first_rows layout);
         contents = contents_start layout d;
       };
@@ -59,7 +59,7 @@ inv_begin w i call b a =
         requests = q.1.facts;
         whole = whole_begin w i call a.rows a.line b k.whole;
         scans = scans_begin w i call k.scans;
-        rests = λ f. rests_begin w i call b (k.rests f);
+        rests = rests_begin w i call b k.rests;
         held = held_begin w i call a.rows k.held;
         contents = contents_begin w i call a.rows k.contents;
       };

@@ -43,7 +43,7 @@ eras_of w i v l z a = eras_step w i a.valid a.seats a.slots a.eras (eras_need w 
 
 held_by : (w : World) (i : ℕ) (v : View) (l : Line) (z : Asked) (next : Asked) (wfe : Bool) → is_wfe w.layout.config.scheme ≡ wfe → i < w.layout.config.seats → Known w v l z → Missing w i v l z → Requests (step w i) next → next.deal ≡ next_deals w i z.deal → Held (step w i) (rows_after w i v)
 held_by w i v l z next true f b a m q d = m.held f next q d
-held_by w i v l z next false f b a m q d = held_kept w i v f (held_need w i v l z b a.valid a.seats a.eras a.whole.both a.requests a.parents a.scans (a.rests f) (eras_of w i v l z a)) a.held
+held_by w i v l z next false f b a m q d = held_kept w i v f (held_need w i v l z b a.valid a.seats a.eras a.whole.both a.requests a.parents a.scans a.rests (eras_of w i v l z a)) a.held
 
 pub known_kept : (w : World) (i : ℕ) (v : View) (l : Line) (z next : Asked) → i < w.layout.config.seats → Known w v l z → Missing w i v l z → Requests (step w i) next → next.deal ≡ next_deals w i z.deal → Known (step w i) (rows_after w i v) (line_after w i l) next
 known_kept w i v l z next b a m q d = record {
@@ -57,7 +57,7 @@ known_kept w i v l z next b a m q d = record {
   requests = q;
   whole = whole_kept w i v l (whole_need w i v l z a m) a.whole;
   scans = scans_kept w i a.scans;
-  rests = λ f. rests_kept w i f (rests_need w i v a.seats a.whole.both.rows) (a.rests f);
+  rests = rests_kept w i (rests_need w i v a.seats a.whole.both.rows) a.rests;
   held = held_by w i v l z next (is_wfe w.layout.config.scheme) refl b a m q d;
   contents = contents_kept w i v (rows_need w i v l a.seats a.eras a.whole.both) (contents_need w i v l z a m) a.whole.both.rows a.contents;
 }

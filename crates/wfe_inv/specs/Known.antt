@@ -1,10 +1,10 @@
 -- All that is known of a World between two steps: the parts of the invariant, each over the view that it needs.
-use Rattle.std.specs.Prelude.{◌≡◌, true, false}
+use Rattle.std.specs.Prelude.{◌≡◌, true}
 use Rattle.wfe_words.specs.Place.{is_valid}
 use Rattle.wfe_core.specs.World.{World}
 use Rattle.wfe_eras.specs.Eras.{Eras}
 use Rattle.wfe_eras.specs.Noted.{Noted}
-use Rattle.wfe_eras.specs.Seats.{is_wfe, Seats}
+use Rattle.wfe_eras.specs.Seats.{Seats}
 use Rattle.wfe_eras.specs.Slots.{Slots}
 use Rattle.wfe_requests.specs.Paces.{Paces}
 use Rattle.wfe_requests.specs.Parents.{Parents}
@@ -40,8 +40,8 @@ pub record Known (w : World) (v : View) (l : Line) (z : Asked) : Type 0 where
   pub whole : Whole w v l
   -- what a scan gives back meets nothing that it read
   pub scans : Scanning w
-  -- under Hazard Eras and 2GE nothing stands where a guard is about to publish something else
-  pub rests : is_wfe w.layout.config.scheme ≡ false → Rests w
+  -- nothing stands where a guard is about to publish something else
+  pub rests : Rests w
   -- what stands is covered
   pub held : Held w v
   -- what rows show, and what calls know of it
