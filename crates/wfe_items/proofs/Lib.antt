@@ -1,0 +1,12 @@
+pub mod Begun
+pub mod Bounds
+pub mod Events
+pub mod Finds
+pub mod Follow
+pub mod Gives
+pub mod Kept
+pub mod Rows
+pub mod Shown
+pub mod Steps
+pub mod Told
+pub mod Turns

@@ -1,0 +1,4 @@
+pub mod Reads
+pub mod Items
+pub mod Bounded
+pub mod Gives
