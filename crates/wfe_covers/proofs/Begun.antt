@@ -32,7 +32,7 @@ no_truth : false ≡ true → ⊥
 no_truth h = cc
 
 -- nothing stands in a new post
-new_stands : (seat : ℕ) (layout : Layout) (j s : ℕ) → stands (new_post seat layout) j ≡ Some s → false ≡ true
+pub new_stands : (seat : ℕ) (layout : Layout) (j s : ℕ) → stands (new_post seat layout) j ≡ Some s → false ≡ true
 new_stands seat layout zero s h = absurd (cc)
 new_stands seat layout (suc zero) s h = absurd (cc)
 new_stands seat layout (suc (suc zero)) s h = absurd (cc)
@@ -59,7 +59,7 @@ holding_begins : (key : ℕ) (post : Post) (x : Option ℕ) → Begins (holding 
 holding_begins key post None = round_fresh (ToHold key) post
 holding_begins key post (Some slot) = release_begins (Some key) (scheme_of post)
 
-first_begins : (call : Call) (post : Post) → Begins (first_phase call post)
+pub first_begins : (call : Call) (post : Post) → Begins (first_phase call post)
 first_begins (names.Get key) post = round_fresh (Gets key) post
 first_begins (names.Put key value) post = round_fresh (Changes _) post
 first_begins (names.Remove key) post = round_fresh (Changes _) post
@@ -83,7 +83,7 @@ covers_begin w i call v guard s c = record {
   scans = λ k r h. met_pick (guards w.layout.config) (number_of w.layout.config guard) (life_of s (v.birth s) r) (w.seat k) (begun (w.seat i) call) (k == i) (c.scans k r h) (fresh_met (guards w.layout.config) (first_phase call (begun_post (w.seat i).post)) (begun (w.seat i) call).desk.report (number_of w.layout.config guard) (life_of s (v.birth s) r) (first_begins call (begun_post (w.seat i).post)).fresh);
 }
 
-holds_begin : (w : World) (i : ℕ) (call : Call) (v : View) (guard : Guard) (s : ℕ) → Holds w v guard s → Holds (begin w i call) v guard s
+pub holds_begin : (w : World) (i : ℕ) (call : Call) (v : View) (guard : Guard) (s : ℕ) → Holds w v guard s → Holds (begin w i call) v guard s
 holds_begin w i call v guard s h = record { fits = h.fits; covers = covers_begin w i call v guard s h.covers }
 
 begun_stood : (w : World) (i : ℕ) (call : Call) (v : View) (k j s : ℕ) (same : Bool) → (k == i) ≡ same → Held w v → stands (if same then begun (w.seat i) call else w.seat k).post j ≡ Some s → Holds w v (own_guard w.layout.config.scheme k j) s

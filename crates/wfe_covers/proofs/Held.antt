@@ -52,11 +52,11 @@ use Rattle.wfe_covers.proofs.Stood.{Was, base_stood}
 use Rattle.wfe_covers.proofs.Tried.{out_tries, out_index, loads_link, protect_tries, other_tries, is_protect, tried_quiet, loaded_quiet, protect_clock, start_untried, queued_back, tries_back}
 use Rattle.wfe_covers.proofs.Words.{keeps, shown_kept, widens_same, stores_guard, base_other, base_quiet, scan_quiet, work_quiet}
 
-cc_false : false ≡ true → ⊥
+pub cc_false : false ≡ true → ⊥
 cc_false h = cc
 
 -- a row that a root leads to is linked, and its life goes on
-abbrev is_live : Status → Bool
+abbrev pub is_live : Status → Bool
 is_live Free = false
 is_live (Claimed by) = false
 is_live (Born by) = false
@@ -121,45 +121,45 @@ pub holds_kept : (w : World) (i : ℕ) (v : View) (guard : Guard) (s : ℕ) → 
 holds_kept w i v guard s n d h = record { fits = h.fits; covers = covers_kept w i v guard s n.covers n.scans h.fits d h.covers }
 
 -- the seat that steps
-settled_post : (l : Local) (post : Post) (desk : Desk) (rounds : ℕ) (outcome : CallOutcome) → (settled_by l post desk rounds outcome).post ≡ post
+pub settled_post : (l : Local) (post : Post) (desk : Desk) (rounds : ℕ) (outcome : CallOutcome) → (settled_by l post desk rounds outcome).post ≡ post
 settled_post l post desk rounds (GoesOn phase) = refl
 settled_post l post desk rounds (Answers answer) = refl
 
-settled_phase : (l : Local) (post : Post) (desk : Desk) (rounds : ℕ) (outcome : CallOutcome) → (settled_by l post desk rounds outcome).phase ≡ phase_left outcome
+pub settled_phase : (l : Local) (post : Post) (desk : Desk) (rounds : ℕ) (outcome : CallOutcome) → (settled_by l post desk rounds outcome).phase ≡ phase_left outcome
 settled_phase l post desk rounds (GoesOn phase) = refl
 settled_phase l post desk rounds (Answers answer) = refl
 
-stepped_post : (w : World) (i : ℕ) → ((step w i).seat i).post ≡ (turn (w.seat i) (finds w i)).post
+pub stepped_post : (w : World) (i : ℕ) → ((step w i).seat i).post ≡ (turn (w.seat i) (finds w i)).post
 stepped_post w i = let l : Local = w.seat i in let t : CallTurn = turn l (finds w i) in ap (λ (x : Local). x.post) (seat_steps w i) ∙ settled_post l t.post (noting t.desk (told_by t)) (rounds_told l.rounds (told_by t)) t.outcome
 
-stepped_phase : (w : World) (i : ℕ) → ((step w i).seat i).phase ≡ phase_left (turn (w.seat i) (finds w i)).outcome
+pub stepped_phase : (w : World) (i : ℕ) → ((step w i).seat i).phase ≡ phase_left (turn (w.seat i) (finds w i)).outcome
 stepped_phase w i = let l : Local = w.seat i in let t : CallTurn = turn l (finds w i) in ap (λ (x : Local). x.phase) (seat_steps w i) ∙ settled_phase l t.post (noting t.desk (told_by t)) (rounds_told l.rounds (told_by t)) t.outcome
 
 -- where a row stood that stands after a turn
-abbrev From : Phase → Post → ℕ → ℕ → ℕ → Type 0
+abbrev pub From : Phase → Post → ℕ → ℕ → ℕ → Type 0
 From Idle post x j s = stands post j ≡ Some s
 From (Runs why base) post x j s = stands (machine.after base (counted post) x).post j ≡ Some s
 From (Scans later at) post x j s = stands post j ≡ Some s
 From (Works work) post x j s = stands post j ≡ Some s
 
-resumed_from : (why : Why) (desk : Desk) (post : Post) (told : List Event) (outcome : Outcome) (j s : ℕ) → stands (resumed why desk post told outcome).post j ≡ Some s → stands post j ≡ Some s
+pub resumed_from : (why : Why) (desk : Desk) (post : Post) (told : List Event) (outcome : Outcome) (j s : ℕ) → stands (resumed why desk post told outcome).post j ≡ Some s → stands post j ≡ Some s
 resumed_from why desk post told (Goes base) j s h = h
 resumed_from why desk post told (Ends ending) j s h = (resume_fresh why ending post desk told).shrinks j s h
 
-turn_from : (phase : Phase) (post : Post) (desk : Desk) (x j s : ℕ) → stands (phase_turn phase (counted post) desk x).post j ≡ Some s → From phase post x j s
+pub turn_from : (phase : Phase) (post : Post) (desk : Desk) (x j s : ℕ) → stands (phase_turn phase (counted post) desk x).post j ≡ Some s → From phase post x j s
 turn_from Idle post desk x j s h = h
 turn_from (Runs why base) post desk x j s h = let t : Turn = machine.after base (counted post) x in resumed_from why desk t.post t.told t.outcome j s h
 turn_from (Scans later at) post desk x j s h = scan_shrinks later at (counted post) desk x j s h
 turn_from (Works work) post desk x j s h = (work_fresh work (counted post) desk x).shrinks j s h
 
 -- what an own guard publishes
-kept_widens : (w : World) (i : ℕ) (guard : Guard) → keeps (move (w.seat i)) (guard_place guard) ≡ true → Widens (shown w guard) (shown (step w i) guard)
+pub kept_widens : (w : World) (i : ℕ) (guard : Guard) → keeps (move (w.seat i)) (guard_place guard) ≡ true → Widens (shown w guard) (shown (step w i) guard)
 kept_widens w i guard h = widens_same (shown w guard) (shown (step w i) guard) (shown_kept w i guard h)
 
-move_is : (w : World) (i : ℕ) (phase : Phase) → (w.seat i).phase ≡ phase → move (w.seat i) ≡ phase_move phase (w.seat i).post
+pub move_is : (w : World) (i : ℕ) (phase : Phase) → (w.seat i).phase ≡ phase → move (w.seat i) ≡ phase_move phase (w.seat i).post
 move_is w i phase e = ap (λ (p : Phase). phase_move p (w.seat i).post) e
 
-keeps_at : (w : World) (i : ℕ) (phase : Phase) (place : Place) → (w.seat i).phase ≡ phase → keeps (phase_move phase (w.seat i).post) place ≡ true → keeps (move (w.seat i)) place ≡ true
+pub keeps_at : (w : World) (i : ℕ) (phase : Phase) (place : Place) → (w.seat i).phase ≡ phase → keeps (phase_move phase (w.seat i).post) place ≡ true → keeps (move (w.seat i)) place ≡ true
 keeps_at w i phase place e h = rw (move_is w i phase e) h
 
 index_keeps : (scheme : SchemeKind) (i j seat index value : ℕ) → (j == index) ≡ false → keeps (memory.Store (IndexOf seat index) value) (guard_place (own_guard scheme i j)) ≡ true
@@ -207,10 +207,10 @@ quiet_widens w i why base j f e b q =
 whole_widens : (w : World) (i j : ℕ) → is_ibr w.layout.config.scheme ≡ true → Widens (shown w (Whole i)) (shown (step w i) (Whole i)) → Widens (shown w (own_guard w.layout.config.scheme i j)) (shown (step w i) (own_guard w.layout.config.scheme i j))
 whole_widens w i j f h = subst (λ (g : Guard). Widens (shown w g) (shown (step w i) g)) (sym (ibr_guard w.layout.config.scheme i j f)) h
 
-turned_post : (w : World) (i : ℕ) (phase : Phase) → (w.seat i).phase ≡ phase → ((step w i).seat i).post ≡ (phase_turn phase (counted (w.seat i).post) (w.seat i).desk (finds w i)).post
+pub turned_post : (w : World) (i : ℕ) (phase : Phase) → (w.seat i).phase ≡ phase → ((step w i).seat i).post ≡ (phase_turn phase (counted (w.seat i).post) (w.seat i).desk (finds w i)).post
 turned_post w i phase e = stepped_post w i ∙ ap (λ (p : Phase). (phase_turn p (counted (w.seat i).post) (w.seat i).desk (finds w i)).post) e
 
-turned_phase : (w : World) (i : ℕ) (phase : Phase) → (w.seat i).phase ≡ phase → ((step w i).seat i).phase ≡ phase_left (phase_turn phase (counted (w.seat i).post) (w.seat i).desk (finds w i)).outcome
+pub turned_phase : (w : World) (i : ℕ) (phase : Phase) → (w.seat i).phase ≡ phase → ((step w i).seat i).phase ≡ phase_left (phase_turn phase (counted (w.seat i).post) (w.seat i).desk (finds w i)).outcome
 turned_phase w i phase e = stepped_phase w i ∙ ap (λ (p : Phase). phase_left (phase_turn p (counted (w.seat i).post) (w.seat i).desk (finds w i)).outcome) e
 
 span_raised : (w : World) (i : ℕ) (v : View) (why : Why) (aim : Aim) (index : ℕ) (root : Root) (steps era : ℕ) → (w.seat i).phase ≡ Runs why (Protect aim index root steps (RaiseUpper era)) → is_ibr w.layout.config.scheme ≡ true → HeldNeeds w i v → upper (w.seat i).post.span ≤ era → Widens (shown w (Whole i)) (shown (step w i) (Whole i))
@@ -263,7 +263,7 @@ own_widens w i v why (Retire at) j s f n e h y = quiet_widens w i why (Retire at
 own_widens w i v why (Move at) j s f n e h y = quiet_widens w i why (Move at) j f e (n.base why (Move at) e).fits refl
 
 -- counting a step changes nothing that is tried
-tries_counted : (clock : ℕ) (status : ℕ → Status) (post : Post) (base : Base) (s : ℕ) → tries_base clock status (counted post) base s ≡ tries_base clock status post base s
+pub tries_counted : (clock : ℕ) (status : ℕ → Status) (post : Post) (base : Base) (s : ℕ) → tries_base clock status (counted post) base s ≡ tries_base clock status post base s
 tries_counted clock status post (Begin at) s = refl
 tries_counted clock status post (Protect aim index root steps (LoadClock tries)) s = refl
 tries_counted clock status post (Protect aim index root steps at) s = refl
@@ -279,10 +279,10 @@ was_held w i v why base j s h e (inl x) = h.stood i j s x
 was_held w i v why base j s h e (inr x) = rw x.0 (h.tried i why base s e x.1)
 
 -- the head's row is in the queue
-head_queued : (w : World) (v : View) (p : ℕ) → Agree w v → w.mem Head ≡ p + 1 → in_queue (v.status p) ≡ true
+pub head_queued : (w : World) (v : View) (p : ℕ) → Agree w v → w.mem Head ≡ p + 1 → in_queue (v.status p) ≡ true
 head_queued w v p a e = let q : v.status p ≡ InQueue = a.good.queue p (sym a.words.head ∙ e) in rw q refl
 
-finds_at : (w : World) (i : ℕ) (phase : Phase) → (w.seat i).phase ≡ phase → finds w i ≡ found (phase_move phase (w.seat i).post) (w.mem (place_in (phase_move phase (w.seat i).post)))
+pub finds_at : (w : World) (i : ℕ) (phase : Phase) → (w.seat i).phase ≡ phase → finds w i ≡ found (phase_move phase (w.seat i).post) (w.mem (place_in (phase_move phase (w.seat i).post)))
 finds_at w i phase e = ap (λ (p : Phase). found (phase_move p (w.seat i).post) (w.mem (place_in (phase_move p (w.seat i).post)))) e
 
 -- what stands at an index of the seat that steps
@@ -305,20 +305,20 @@ own_stood w i v j s f n h y =
     own_from w i v (w.seat i).phase j s f n h refl (turn_from (w.seat i).phase (w.seat i).post (w.seat i).desk (finds w i) j s (subst (λ (p : Post). stands p j ≡ Some s) (stepped_post w i) y))
 
 -- the machine of the seat that steps: what it comes to
-out_start : (clock : ℕ) (status : ℕ → Status) (post : Post) (phase : Phase) (why : Why) (base : Base) (s : ℕ) → is_start phase ≡ true → phase ≡ Runs why base → tries_base clock status post base s ≡ true → false ≡ true
+pub out_start : (clock : ℕ) (status : ℕ → Status) (post : Post) (phase : Phase) (why : Why) (base : Base) (s : ℕ) → is_start phase ≡ true → phase ≡ Runs why base → tries_base clock status post base s ≡ true → false ≡ true
 out_start clock status post phase why base s st e h =
     let b : starts_base base ≡ true = subst (λ (p : Phase). is_start p ≡ true) e st in
     sym (start_untried clock status post base s b) ∙ h
 
 -- what an outcome leaves
-record Comes (clock : ℕ) (status : ℕ → Status) (post : Post) (outcome : Outcome) (base : Base) (s : ℕ) : Type 0 where
-  tried : out_tries clock status post outcome s ≡ true
-  at : out_index outcome ≡ index_base base
+pub record Comes (clock : ℕ) (status : ℕ → Status) (post : Post) (outcome : Outcome) (base : Base) (s : ℕ) : Type 0 where
+  pub tried : out_tries clock status post outcome s ≡ true
+  pub at : out_index outcome ≡ index_base base
 
-same_run : (why other : Why) (one two : Base) → Runs why one ≡ Runs other two → one ≡ two
+pub same_run : (why other : Why) (one two : Base) → Runs why one ≡ Runs other two → one ≡ two
 same_run why other one two e = cc
 
-resumed_comes : (clock : ℕ) (status : ℕ → Status) (next : Post) (why : Why) (desk : Desk) (post : Post) (told : List Event) (outcome : Outcome) (other : Why) (base : Base) (s : ℕ) → phase_left (resumed why desk post told outcome).outcome ≡ Runs other base → tries_base clock status next base s ≡ true → Comes clock status next outcome base s
+pub resumed_comes : (clock : ℕ) (status : ℕ → Status) (next : Post) (why : Why) (desk : Desk) (post : Post) (told : List Event) (outcome : Outcome) (other : Why) (base : Base) (s : ℕ) → phase_left (resumed why desk post told outcome).outcome ≡ Runs other base → tries_base clock status next base s ≡ true → Comes clock status next outcome base s
 resumed_comes clock status next why desk post told (Goes one) other base s e h =
     let q = same_run why other one base e in record { tried = rw q h; at = ap index_base q }
 resumed_comes clock status next why desk post told (Ends ending) other base s e h =
@@ -380,11 +380,11 @@ tried_holds w i v why aim index root steps at s n h e f (inr x) =
     holds_kept w i v (own_guard w.layout.config.scheme i index) s n (quiet_widens w i why (Protect aim index root steps at) index f e b.fits (loaded_quiet (w.mem Clock) v.status w.mem (w.seat i).post root at s x)) (record { fits = b.guard; covers = loaded_covers w i v why aim index root steps at s n e f x })
 
 -- a protection comes to a try
-follows_next : (aim : Aim) (index : ℕ) (root : Root) (steps : ℕ) (at : ProtectAt) → Followed (Protect aim index root steps at) → aim ≡ Follows → root ≡ roots.Next (parent_of root)
+pub follows_next : (aim : Aim) (index : ℕ) (root : Root) (steps : ℕ) (at : ProtectAt) → Followed (Protect aim index root steps at) → aim ≡ Follows → root ≡ roots.Next (parent_of root)
 follows_next Alone index root steps at f e = absurd (cc)
 follows_next Follows index root steps at f e = f
 
-counted_tries : (clock : ℕ) (status : ℕ → Status) (mem : Place → ℕ) (post : Post) (root : Root) (at : ProtectAt) (s : ℕ) → (tries_protect clock status (counted post) root at s ≡ true) ⊎ (loads_link clock status mem (counted post) root at s ≡ true) → (tries_protect clock status post root at s ≡ true) ⊎ (loads_link clock status mem post root at s ≡ true)
+pub counted_tries : (clock : ℕ) (status : ℕ → Status) (mem : Place → ℕ) (post : Post) (root : Root) (at : ProtectAt) (s : ℕ) → (tries_protect clock status (counted post) root at s ≡ true) ⊎ (loads_link clock status mem (counted post) root at s ≡ true) → (tries_protect clock status post root at s ≡ true) ⊎ (loads_link clock status mem post root at s ≡ true)
 counted_tries clock status mem post root (LoadClock tries) s h = h
 counted_tries clock status mem post root (PublishEra era tries) s h = h
 counted_tries clock status mem post root (LoadLink era tries) s h = h
@@ -404,7 +404,7 @@ counted_tries clock status mem post root (CheckUpper link) s h = h
 counted_tries clock status mem post root (RaiseUpper era) s h = h
 
 -- what comes of a machine's step
-turn_out : (w : World) (i : ℕ) (reason : Why) (one : Base) (why : Why) (base : Base) (clock : ℕ) (status : ℕ → Status) (s : ℕ)
+pub turn_out : (w : World) (i : ℕ) (reason : Why) (one : Base) (why : Why) (base : Base) (clock : ℕ) (status : ℕ → Status) (s : ℕ)
     → phase_left (phase_turn (Runs reason one) (counted (w.seat i).post) (w.seat i).desk (finds w i)).outcome ≡ Runs why base
     → tries_base clock status ((step w i).seat i).post base s ≡ true
     → Comes clock status ((step w i).seat i).post (machine.after one (counted (w.seat i).post) (finds w i)).outcome base s
@@ -412,15 +412,15 @@ turn_out w i reason one why base clock status s o t =
     let u : Turn = machine.after one (counted (w.seat i).post) (finds w i) in
     resumed_comes clock status ((step w i).seat i).post reason (w.seat i).desk u.post u.told u.outcome why base s o t
 
-other_comes : (clock : ℕ) (status : ℕ → Status) (next post : Post) (one base : Base) (x s : ℕ) → is_protect one ≡ false → Comes clock status next (machine.after one post x).outcome base s → false ≡ true
+pub other_comes : (clock : ℕ) (status : ℕ → Status) (next post : Post) (one base : Base) (x s : ℕ) → is_protect one ≡ false → Comes clock status next (machine.after one post x).outcome base s → false ≡ true
 other_comes clock status next post one base x s p c = sym (other_tries clock status one post next x s p) ∙ c.tried
 
 -- a protection that loads or checks leaves the clock and the rows
-protect_stays : (w : World) (i : ℕ) (why : Why) (aim : Aim) (index : ℕ) (root : Root) (steps : ℕ) (at : ProtectAt) → (w.seat i).phase ≡ Runs why (Protect aim index root steps at) → (step w i).mem Clock ≡ w.mem Clock
+pub protect_stays : (w : World) (i : ℕ) (why : Why) (aim : Aim) (index : ℕ) (root : Root) (steps : ℕ) (at : ProtectAt) → (w.seat i).phase ≡ Runs why (Protect aim index root steps at) → (step w i).mem Clock ≡ w.mem Clock
 protect_stays w i why aim index root steps at e =
     ap (λ (m : memory.Move). written w.mem m Clock) (move_is w i (Runs why (Protect aim index root steps at)) e) ∙ protect_clock w.mem index root at (w.seat i).post
 
-protect_rows : (w : World) (i : ℕ) (v : View) (why : Why) (aim : Aim) (index : ℕ) (root : Root) (steps : ℕ) (at : ProtectAt) → (w.seat i).phase ≡ Runs why (Protect aim index root steps at) → rows_after w i v ≡ v
+pub protect_rows : (w : World) (i : ℕ) (v : View) (why : Why) (aim : Aim) (index : ℕ) (root : Root) (steps : ℕ) (at : ProtectAt) → (w.seat i).phase ≡ Runs why (Protect aim index root steps at) → rows_after w i v ≡ v
 protect_rows w i v why aim index root steps at e = ap (λ (p : Phase). made i v (row_move p (w.seat i).post (finds w i))) e
 
 -- under 2GE a link is loaded with the interval that stands

@@ -95,7 +95,7 @@ rests_begin w i call b r = record {
 }
 
 -- nothing stands where the next step takes from what a guard publishes
-bare_own : (task : Task) (j : ℕ) → (j == index_of task) ≡ true → bare task j ≡ true
+pub bare_own : (task : Task) (j : ℕ) → (j == index_of task) ≡ true → bare task j ≡ true
 bare_own (Gets key) j h = grind (arith, nat_tests)
 bare_own (Changes kept) j h = grind (arith, nat_tests)
 bare_own (Holds key) j h = refl

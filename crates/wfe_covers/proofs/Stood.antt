@@ -41,7 +41,7 @@ use Rattle.wfe_covers.proofs.Stands.{withdrawn_shrinks, with_row_apart, with_row
 abbrev pub Was : ℕ → (ℕ → Status) → Post → Base → ℕ → ℕ → Type 0
 Was clock status post base j s = (stands post j ≡ Some s) ⊎ ((j ≡ index_base base) × (tries_base clock status post base s ≡ true))
 
-abbrev Rises : (ℕ → Status) → Post → ℕ → Root → ℕ → ℕ → ℕ → Type 0
+abbrev pub Rises : (ℕ → Status) → Post → ℕ → Root → ℕ → ℕ → ℕ → Type 0
 Rises status post index root link j s = (stands post j ≡ Some s) ⊎ ((j ≡ index) × (leads link s ≡ true) × (under status root ≡ true))
 
 row_rises : (status : ℕ → Status) (post : Post) (index : ℕ) (root : Root) (link j s : ℕ) (same : Bool) → (j == index) ≡ same → index < length post.standing → (link == 0) ≡ false → under status root ≡ true → stands (with_row post index (link - 1)) j ≡ Some s → Rises status post index root link j s
@@ -53,7 +53,7 @@ link_rises : (status : ℕ → Status) (post : Post) (index : ℕ) (root : Root)
 link_rises status post index root link j s true e b u h = inl h
 link_rises status post index root link j s false e b u h = row_rises status post index root link j s (j == index) refl b e u h
 
-held_rises : (status : ℕ → Status) (post : Post) (index : ℕ) (root : Root) (link j s : ℕ) → index < length post.standing → stands (held_post post index root link) j ≡ Some s → Rises status post index root link j s
+pub held_rises : (status : ℕ → Status) (post : Post) (index : ℕ) (root : Root) (link j s : ℕ) → index < length post.standing → stands (held_post post index root link) j ≡ Some s → Rises status post index root link j s
 held_rises status post index (roots.Bucket bucket) link j s b h = link_rises status post index (roots.Bucket bucket) link j s (link == 0) refl b refl h
 held_rises status post index roots.Head link j s b h = link_rises status post index roots.Head link j s (link == 0) refl b refl h
 held_rises status post index roots.Tail link j s b h = link_rises status post index roots.Tail link j s (link == 0) refl b refl h
@@ -75,10 +75,10 @@ check_rises : (clock : ℕ) (status : ℕ → Status) (index : ℕ) (root : Root
 check_rises clock status index root era link post j s e (inl x) = inl x
 check_rises clock status index root era link post j s e (inr x) = inr (x.0, grind (arith, nat_tests, x.1, x.2))
 
-same_stands : (p q : Post) (j s : ℕ) → p ≡ q → stands p j ≡ Some s → stands q j ≡ Some s
+pub same_stands : (p q : Post) (j s : ℕ) → p ≡ q → stands p j ≡ Some s → stands q j ≡ Some s
 same_stands p q j s e h = subst (λ (x : Post). stands x j ≡ Some s) e h
 
-check_stood : (clock : ℕ) (status : ℕ → Status) (aim : Aim) (index : ℕ) (root : Root) (n era : ℕ) (tries : Tries) (link : ℕ) (post : Post) (j s : ℕ) (same : Bool) → (clock == era) ≡ same → index < length post.standing
+pub check_stood : (clock : ℕ) (status : ℕ → Status) (aim : Aim) (index : ℕ) (root : Root) (n era : ℕ) (tries : Tries) (link : ℕ) (post : Post) (j s : ℕ) (same : Bool) → (clock == era) ≡ same → index < length post.standing
     → stands (if same then protected aim index root n link era post else goes post [] (Protect aim index root n (PublishEra clock (failed_once tries)))).post j ≡ Some s → (stands post j ≡ Some s) ⊎ ((j ≡ index) × ((leads link s && (clock == era && under status root)) ≡ true))
 check_stood clock status aim index root n era tries link post j s true e b h =
     check_rises clock status index root era link post j s e (held_rises status post index root link j s b (same_stands (protected aim index root n link era post).post (held_post post index root link) j s (protected_post aim index root n link era post) h))
@@ -90,15 +90,15 @@ upper_stood clock status aim index root n link post j s true e b h =
     check_rises clock status index root (upper post.span) link post j s e (held_rises status post index root link j s b (same_stands (protected aim index root n link clock post).post (held_post post index root link) j s (protected_post aim index root n link clock post) h))
 upper_stood clock status aim index root n link post j s false e b h = inl h
 
-own_stood : (first era link found : ℕ) (last : Bool) (aim : Aim) (index : ℕ) (root : Root) (n : ℕ) (post : Post) (j s : ℕ) (same : Bool) → (found == era) ≡ same → stands (after_check_own_clock aim index root n first era last link post found).post j ≡ Some s → stands post j ≡ Some s
+pub own_stood : (first era link found : ℕ) (last : Bool) (aim : Aim) (index : ℕ) (root : Root) (n : ℕ) (post : Post) (j s : ℕ) (same : Bool) → (found == era) ≡ same → stands (after_check_own_clock aim index root n first era last link post found).post j ≡ Some s → stands post j ≡ Some s
 own_stood first era link found last aim index root n post j s true e h = rw e at h
 own_stood first era link found last aim index root n post j s false e h = rw e at h
 
-answer_stood : (first era link found : ℕ) (aim : Aim) (index : ℕ) (root : Root) (n : ℕ) (post : Post) (j s : ℕ) (same : Bool) → (found == own_request post index root) ≡ same → stands (after_answer_own aim index root n first era link post found).post j ≡ Some s → stands post j ≡ Some s
+pub answer_stood : (first era link found : ℕ) (aim : Aim) (index : ℕ) (root : Root) (n : ℕ) (post : Post) (j s : ℕ) (same : Bool) → (found == own_request post index root) ≡ same → stands (after_answer_own aim index root n first era link post found).post j ≡ Some s → stands post j ≡ Some s
 answer_stood first era link found aim index root n post j s true e h = rw e at h
 answer_stood first era link found aim index root n post j s false e h = rw e at h
 
-concluded_stood : (aim : Aim) (index : ℕ) (root : Root) (n link era : ℕ) (post : Post) (told : List Event) (j s : ℕ) → stands (concluded aim index root n link era post told).post j ≡ Some s → stands post j ≡ Some s
+pub concluded_stood : (aim : Aim) (index : ℕ) (root : Root) (n link era : ℕ) (post : Post) (told : List Event) (j s : ℕ) → stands (concluded aim index root n link era post told).post j ≡ Some s → stands post j ≡ Some s
 concluded_stood aim index root n link era post told j s h = same_stands (concluded aim index root n link era post told).post post j s (concluded_post aim index root n link era post told) h
 
 protect_stood : (clock : ℕ) (status : ℕ → Status) (scheme : SchemeKind) (most : ℕ) (mem : Place → ℕ) (aim : Aim) (index : ℕ) (root : Root) (n : ℕ) (at : ProtectAt) (post last : Post) (j s : ℕ) → clock ≡ mem Clock → is_wfe scheme ≡ false → protect_fits scheme most at ≡ true → index < length post.standing
@@ -124,7 +124,7 @@ protect_stood clock status scheme most mem aim index root n (CheckUpper link) po
 protect_stood clock status scheme most mem aim index root n (RaiseUpper era) post last j s c w f b h = inl h
 
 -- a followed row is held once the head is still its parent
-reload_stood : (status : ℕ → Status) (parent index slot found n : ℕ) (post : Post) (j s : ℕ) (same : Bool) → (found == parent + 1) ≡ same → index < length post.standing → (found ≡ parent + 1 → in_queue (status parent) ≡ true)
+pub reload_stood : (status : ℕ → Status) (parent index slot found n : ℕ) (post : Post) (j s : ℕ) (same : Bool) → (found == parent + 1) ≡ same → index < length post.standing → (found ≡ parent + 1 → in_queue (status parent) ≡ true)
     → stands (if same then ends (with_row post index slot) (events.Held index slot n ∷ []) (Followed (follow_ends.Followed slot)) else ends post [] (Followed (follow_ends.RootMoved found))).post j ≡ Some s → (stands post j ≡ Some s) ⊎ ((j ≡ index) × ((slot == s && in_queue (status parent)) ≡ true))
 reload_stood status parent index slot found n post j s true e b q h = by_same (j == index) refl where
   by_same : (own : Bool) → (j == index) ≡ own → (stands post j ≡ Some s) ⊎ ((j ≡ index) × ((slot == s && in_queue (status parent)) ≡ true))

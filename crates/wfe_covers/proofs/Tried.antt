@@ -59,10 +59,10 @@ abbrev pub Goes_on : ℕ → (ℕ → Status) → (Place → ℕ) → Post → �
 Goes_on clock status mem post index root at outcome s =
     (out_index outcome ≡ index) × ((tries_protect clock status post root at s ≡ true) ⊎ (loads_link clock status mem post root at s ≡ true))
 
-queued_under : (status : ℕ → Status) (root : Root) → root ≡ roots.Next (parent_of root) → in_queue (status (parent_of root)) ≡ true → under status root ≡ true
+pub queued_under : (status : ℕ → Status) (root : Root) → root ≡ roots.Next (parent_of root) → in_queue (status (parent_of root)) ≡ true → under status root ≡ true
 queued_under status root e h = subst (λ (r : Root). under status r ≡ true) (sym e) h
 
-concluded_tries : (clock : ℕ) (status : ℕ → Status) (mem : Place → ℕ) (own : ℕ) (aim : Aim) (index : ℕ) (root : Root) (n link era : ℕ) (post next : Post) (told : List Event) (s : ℕ) (null : Bool) → (link == 0) ≡ null → (aim ≡ Follows → root ≡ roots.Next (parent_of root)) → (clock == own) ≡ true
+pub concluded_tries : (clock : ℕ) (status : ℕ → Status) (mem : Place → ℕ) (own : ℕ) (aim : Aim) (index : ℕ) (root : Root) (n link era : ℕ) (post next : Post) (told : List Event) (s : ℕ) (null : Bool) → (link == 0) ≡ null → (aim ≡ Follows → root ≡ roots.Next (parent_of root)) → (clock == own) ≡ true
     → out_tries clock status next (concluded aim index root n link era post told).outcome s ≡ true → (out_index (concluded aim index root n link era post told).outcome ≡ index) × ((leads link s && (clock == own && under status root)) ≡ true)
 concluded_tries clock status mem own Alone index root n link era post next told s null e f c h = absurd (cc)
 concluded_tries clock status mem own Follows index root n link era post next told s true e f c h = absurd (grind (arith, nat_tests))
@@ -70,7 +70,7 @@ concluded_tries clock status mem own Follows index root n link era post next tol
     rw e (refl, (let q : in_queue (status (parent_of root)) ≡ true = grind (arith, nat_tests) in let u = queued_under status root (f refl) q in grind (arith, nat_tests)))
 
 -- a step of a protection: a try that it comes to had loaded the link before, or loads it
-check_tries : (clock : ℕ) (status : ℕ → Status) (mem : Place → ℕ) (aim : Aim) (index : ℕ) (root : Root) (n era : ℕ) (tries : Tries) (link : ℕ) (post next : Post) (s : ℕ) (same : Bool) → (clock == era) ≡ same → (aim ≡ Follows → root ≡ roots.Next (parent_of root))
+pub check_tries : (clock : ℕ) (status : ℕ → Status) (mem : Place → ℕ) (aim : Aim) (index : ℕ) (root : Root) (n era : ℕ) (tries : Tries) (link : ℕ) (post next : Post) (s : ℕ) (same : Bool) → (clock == era) ≡ same → (aim ≡ Follows → root ≡ roots.Next (parent_of root))
     → out_tries clock status next (if same then protected aim index root n link era post else goes post [] (Protect aim index root n (PublishEra clock (failed_once tries)))).outcome s ≡ true
     → (out_index (if same then protected aim index root n link era post else goes post [] (Protect aim index root n (PublishEra clock (failed_once tries)))).outcome ≡ index) × ((leads link s && (clock == era && under status root)) ≡ true)
 check_tries clock status mem aim index root n era tries link post next s true e f h = concluded_tries clock status mem era aim index root n link era (held_post post index root link) next (told_held index root link n) s (link == 0) refl f e h
@@ -82,7 +82,7 @@ upper_tries : (clock : ℕ) (status : ℕ → Status) (mem : Place → ℕ) (aim
 upper_tries clock status mem aim index root n link post next s true e f h = concluded_tries clock status mem (upper post.span) aim index root n link clock (held_post post index root link) next (told_held index root link n) s (link == 0) refl f e h
 upper_tries clock status mem aim index root n link post next s false e f h = absurd (cc)
 
-trying_none : (clock : ℕ) (status : ℕ → Status) (config : Config) (post : Post) (root : Root) (era : ℕ) (tries : Tries) (s : ℕ) → tries_protect clock status post root (trying config era tries) s ≡ false
+pub trying_none : (clock : ℕ) (status : ℕ → Status) (config : Config) (post : Post) (root : Root) (era : ℕ) (tries : Tries) (s : ℕ) → tries_protect clock status post root (trying config era tries) s ≡ false
 trying_none clock status config post root era Endless s = refl
 trying_none clock status config post root era (Failed count) s = by_more (nat_le config.tries count) where
   by_more : (over : Bool) → tries_protect clock status post root (if over then PublishRequest else LoadLink era (Failed count)) s ≡ false
@@ -113,7 +113,7 @@ protect_tries clock status scheme most mem aim index root n (CheckUpper link) po
 protect_tries clock status scheme most mem aim index root n (RaiseUpper era) post last next s c w f g e h = absurd (cc)
 
 -- no try is under way at a start
-start_protect : (clock : ℕ) (status : ℕ → Status) (post : Post) (root : Root) (at : ProtectAt) (s : ℕ) → starts_protect at ≡ true → tries_protect clock status post root at s ≡ false
+pub start_protect : (clock : ℕ) (status : ℕ → Status) (post : Post) (root : Root) (at : ProtectAt) (s : ℕ) → starts_protect at ≡ true → tries_protect clock status post root at s ≡ false
 start_protect clock status post root (LoadClock tries) s h = refl
 start_protect clock status post root (PublishEra era tries) s h = refl
 start_protect clock status post root (LoadLink era tries) s h = refl
@@ -161,7 +161,7 @@ queued_back i v (Lists slot birth retire) p b l h = grind (arith, nat_tests)
 queued_back i v (Returns slot) p b l h = grind (arith, nat_tests)
 
 -- a try of a seat that does not step
-under_back : (old new : ℕ → Status) (root : Root) → ((p : ℕ) → follows_root root p ≡ true → in_queue (new p) ≡ true → in_queue (old p) ≡ true) → under new root ≡ true → under old root ≡ true
+pub under_back : (old new : ℕ → Status) (root : Root) → ((p : ℕ) → follows_root root p ≡ true → in_queue (new p) ≡ true → in_queue (old p) ≡ true) → under new root ≡ true → under old root ≡ true
 under_back old new (roots.Bucket bucket) f h = refl
 under_back old new roots.Head f h = refl
 under_back old new roots.Tail f h = refl

@@ -42,7 +42,7 @@ keeps (Cas place old new) p = not (same p place)
 keeps (Or place bits) p = not (same p place)
 keeps (And place bits) p = not (same p place)
 
-kept_word : (mem : Place → ℕ) (m : Act) (p : Place) → keeps m p ≡ true → written mem m p ≡ mem p
+pub kept_word : (mem : Place → ℕ) (m : Act) (p : Place) → keeps m p ≡ true → written mem m p ≡ mem p
 kept_word mem (Load place) p h = refl
 kept_word mem (Store place value) p h = let e : same p place ≡ false = grind (arith, nat_tests) in rw e refl
 kept_word mem (Cas place old new) p h = let e : same p place ≡ false = grind (arith, nat_tests) in rw e refl
@@ -79,7 +79,7 @@ stores_guard Release = true
 stores_guard base = false
 
 -- the words of other seats: index words
-begin_index : (k j : ℕ) (at : BeginAt) (post : Post) → (k == post.seat) ≡ false → keeps (begin_move at post) (Index k j) ≡ true
+pub begin_index : (k j : ℕ) (at : BeginAt) (post : Post) → (k == post.seat) ≡ false → keeps (begin_move at post) (Index k j) ≡ true
 begin_index k j LoadLower post e = refl
 begin_index k j (PublishSpan era) post e = refl
 
@@ -92,11 +92,11 @@ move_index : (k j : ℕ) (scheme : SchemeKind) (seats : ℕ) (at : MoveAt) (post
 move_index k j scheme seats (HandOver era seat tag index root link old) post n f = absurd (grind (arith, nat_tests))
 move_index k j scheme seats at post n f = refl
 
-allocate_index : (k j : ℕ) (at : AllocateAt) → keeps (allocate_move at) (Index k j) ≡ true
+pub allocate_index : (k j : ℕ) (at : AllocateAt) → keeps (allocate_move at) (Index k j) ≡ true
 allocate_index k j LoadBirth = refl
 allocate_index k j at = refl
 
-retire_index : (k j : ℕ) (at : RetireAt) → keeps (retire_move at) (Index k j) ≡ true
+pub retire_index : (k j : ℕ) (at : RetireAt) → keeps (retire_move at) (Index k j) ≡ true
 retire_index k j (LoadLife slot) = refl
 retire_index k j at = refl
 
@@ -129,13 +129,13 @@ get_index : (k j : ℕ) (at : GetAt) → keeps (get_move at) (Index k j) ≡ tru
 get_index k j (FindVersion slot) = refl
 get_index k j at = refl
 
-work_index : (k j : ℕ) (work : Work) (post : Post) → keeps (work_move work post) (Index k j) ≡ true
+pub work_index : (k j : ℕ) (work : Work) (post : Post) → keeps (work_move work post) (Index k j) ≡ true
 work_index k j (Getting key at) post = get_index k j at
 work_index k j (Changing kept at) post = change_index k j kept at post
 work_index k j (Enqueuing kept at) post = enqueue_index k j kept at
 work_index k j (Dequeuing at) post = dequeue_index k j at
 
-scan_index : (k j : ℕ) (at : ScanAt) (post : Post) → keeps (scan_move at post) (Index k j) ≡ true
+pub scan_index : (k j : ℕ) (at : ScanAt) (post : Post) → keeps (scan_move at post) (Index k j) ≡ true
 scan_index k j (ReadGuard number) post = refl
 scan_index k j (GiveBack place slot) post = refl
 

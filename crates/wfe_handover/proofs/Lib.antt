@@ -1,0 +1,12 @@
+mod Asks
+mod Back
+mod Begun
+mod Deals
+mod Helps
+mod Kept
+mod Loads
+mod Others
+mod Own
+mod Shown
+mod Tries
+mod Words
