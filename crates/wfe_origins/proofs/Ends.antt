@@ -1,5 +1,5 @@
 -- A protection ends with a link that was tracked, and so is the answer that a seat finds in its request.
-use Rattle.std.proofs.Common.{ℕ, ◌≡◌, ◌+◌, ◌-◌, Bool, true, false, List, arith, refl, sym, subst}
+use Rattle.std.proofs.Common.{ℕ, ◌≡◌, ◌+◌, ◌-◌, Bool, true, false, List, arith, refl, sym, subst, ◌∙◌, ap}
 use Rattle.std.proofs.lemmas.Bool.Decides.{nat_tests}
 use Rattle.std.specs.Prelude.{◌==◌, ◌&&◌, if◌then◌else◌, []}
 use Rattle.wfe_words.specs.Place.Place.{Clock}
@@ -19,10 +19,12 @@ use Rattle.wfe_core.specs.Phases.Base.{Begin, Protect, Reload, Clear, Finish, Re
 use Rattle.wfe_core.specs.Calls.{Why, Phase, Runs}
 use Rattle.wfe_core.specs.World.{World, finds}
 use Rattle.wfe_requests.specs.Views.{View}
-use Rattle.wfe_origins.specs.Tracked.{carries_at, carries_in, Tracked, Carried, Given}
-use Rattle.wfe_origins.specs.Origins.{HeldTracked, AnswerTracked}
+use Rattle.wfe_origins.specs.Tracked.{carries_at, carries_in, root_for, root_in, Tracked, Carried, Given}
+use Rattle.wfe_origins.specs.Origins.{HeldTracked, HeldRoot, AnswerTracked}
+use Rattle.wfe_eras.specs.Seats.{Seats, root_by}
+use Rattle.wfe_origins.proofs.Came.{aimed_at}
 use Rattle.wfe_origins.proofs.Heard.{answer_heard}
-use Rattle.wfe_origins.proofs.Plain.{out_plain, plain_after, out_moves, moves_on}
+use Rattle.wfe_origins.proofs.Plain.{out_plain, is_plain, plain_after, out_moves, moves_on}
 use Rattle.wfe_origins.proofs.Turned.{finds_at}
 
 -- the link with which a protection ends
@@ -94,23 +96,48 @@ not_plain outcome slot last p h = let q : false ≡ true = subst (λ (y : Outcom
 not_moves : (outcome : Outcome) (slot last : ℕ) → out_moves outcome ≡ true → outcome ≡ Ends (Protected (protect_ends.Held slot last)) → ⊥
 not_moves outcome slot last p h = let q : false ≡ true = subst (λ (y : Outcome). out_moves y ≡ true) h p in cc
 
-held_by : (w : World) (i : ℕ) (z : View) (why : Why) (base : Base) (slot last : ℕ) → (w.seat i).phase ≡ Runs why base → (after base (counted (w.seat i).post) (finds w i)).outcome ≡ Ends (Protected (protect_ends.Held slot last)) → Tracked w z i (slot + 1)
-held_by w i z why (Begin at) slot last q h = absurd (not_plain (after (Begin at) (counted (w.seat i).post) (finds w i)).outcome slot last (plain_after (Begin at) (counted (w.seat i).post) (finds w i) refl) h)
-held_by w i z why (Protect aim index root steps at) slot last q h =
-    let c = found_clock w i why aim index root steps at (slot + 1) q (protect_link aim index root (bump steps) at (counted (w.seat i).post) (finds w i) slot last h) in
-    Carried (subst (λ (p : Phase). carries_in (w.mem Clock) (upper (w.seat i).post.span) p (slot + 1) ≡ true) (sym q) c)
-held_by w i z why (Reload parent index row era steps) slot last q h = absurd (not_plain (after (Reload parent index row era steps) (counted (w.seat i).post) (finds w i)).outcome slot last (plain_after (Reload parent index row era steps) (counted (w.seat i).post) (finds w i) refl) h)
-held_by w i z why (Clear index) slot last q h = absurd (not_plain (after (Clear index) (counted (w.seat i).post) (finds w i)).outcome slot last (plain_after (Clear index) (counted (w.seat i).post) (finds w i) refl) h)
-held_by w i z why Finish slot last q h = absurd (not_plain (after Finish (counted (w.seat i).post) (finds w i)).outcome slot last (plain_after Finish (counted (w.seat i).post) (finds w i) refl) h)
-held_by w i z why Release slot last q h = absurd (not_plain (after Release (counted (w.seat i).post) (finds w i)).outcome slot last (plain_after Release (counted (w.seat i).post) (finds w i) refl) h)
-held_by w i z why (Allocate at) slot last q h = absurd (not_plain (after (Allocate at) (counted (w.seat i).post) (finds w i)).outcome slot last (plain_after (Allocate at) (counted (w.seat i).post) (finds w i) refl) h)
-held_by w i z why (Write row kind place) slot last q h = absurd (not_plain (after (Write row kind place) (counted (w.seat i).post) (finds w i)).outcome slot last (plain_after (Write row kind place) (counted (w.seat i).post) (finds w i) refl) h)
-held_by w i z why (GiveUp row) slot last q h = absurd (not_plain (after (GiveUp row) (counted (w.seat i).post) (finds w i)).outcome slot last (plain_after (GiveUp row) (counted (w.seat i).post) (finds w i) refl) h)
-held_by w i z why (Retire at) slot last q h = absurd (not_plain (after (Retire at) (counted (w.seat i).post) (finds w i)).outcome slot last (plain_after (Retire at) (counted (w.seat i).post) (finds w i) refl) h)
-held_by w i z why (Move at) slot last q h = absurd (not_moves (after (Move at) (counted (w.seat i).post) (finds w i)).outcome slot last (moves_on at (counted (w.seat i).post) (finds w i)) h)
+-- so its machine is a protection
+other_ends : (w : World) (i : ℕ) (base : Base) (slot last : ℕ) → is_plain base ≡ true → (after base (counted (w.seat i).post) (finds w i)).outcome ≡ Ends (Protected (protect_ends.Held slot last)) → ⊥
+other_ends w i base slot last p h = not_plain (after base (counted (w.seat i).post) (finds w i)).outcome slot last (plain_after base (counted (w.seat i).post) (finds w i) p) h
+
+pub record ProtectIs (base : Base) : Type 0 where
+  pub aim : Aim
+  pub index : ℕ
+  pub root : Root
+  pub steps : ℕ
+  pub at : ProtectAt
+  pub is : base ≡ Protect aim index root steps at
+
+protect_is : (w : World) (i : ℕ) (base : Base) (slot last : ℕ) → (after base (counted (w.seat i).post) (finds w i)).outcome ≡ Ends (Protected (protect_ends.Held slot last)) → ProtectIs base
+protect_is w i (Begin at) slot last h = absurd (other_ends w i (Begin at) slot last refl h)
+protect_is w i (Protect aim index root steps at) slot last h = record { aim = aim; index = index; root = root; steps = steps; at = at; is = refl }
+protect_is w i (Reload parent index row era steps) slot last h = absurd (other_ends w i (Reload parent index row era steps) slot last refl h)
+protect_is w i (Clear index) slot last h = absurd (other_ends w i (Clear index) slot last refl h)
+protect_is w i Finish slot last h = absurd (other_ends w i Finish slot last refl h)
+protect_is w i Release slot last h = absurd (other_ends w i Release slot last refl h)
+protect_is w i (Allocate at) slot last h = absurd (other_ends w i (Allocate at) slot last refl h)
+protect_is w i (Write row kind place) slot last h = absurd (other_ends w i (Write row kind place) slot last refl h)
+protect_is w i (GiveUp row) slot last h = absurd (other_ends w i (GiveUp row) slot last refl h)
+protect_is w i (Retire at) slot last h = absurd (other_ends w i (Retire at) slot last refl h)
+protect_is w i (Move at) slot last h = absurd (not_moves (after (Move at) (counted (w.seat i).post) (finds w i)).outcome slot last (moves_on at (counted (w.seat i).post) (finds w i)) h)
+
+held_by : (w : World) (i : ℕ) (z : View) (why : Why) (base : Base) (slot last : ℕ) → (w.seat i).phase ≡ Runs why base → (after base (counted (w.seat i).post) (finds w i)).outcome ≡ Ends (Protected (protect_ends.Held slot last)) → ProtectIs base → Tracked w z i (slot + 1)
+held_by w i z why base slot last q h p =
+    let r : (w.seat i).phase ≡ Runs why (Protect p.aim p.index p.root p.steps p.at) = q ∙ ap (λ (b : Base). Runs why b) p.is in
+    let g : (protect_turn p.aim p.index p.root (bump p.steps) p.at (counted (w.seat i).post) (finds w i)).outcome ≡ Ends (Protected (protect_ends.Held slot last)) = subst (λ (b : Base). (after b (counted (w.seat i).post) (finds w i)).outcome ≡ Ends (Protected (protect_ends.Held slot last))) p.is h in
+    let c = found_clock w i why p.aim p.index p.root p.steps p.at (slot + 1) r (protect_link p.aim p.index p.root (bump p.steps) p.at (counted (w.seat i).post) (finds w i) slot last g) in
+    Carried (subst (λ (f : Phase). carries_in (w.mem Clock) (upper (w.seat i).post.span) f (slot + 1) ≡ true) (sym r) c)
 
 pub held_tracked : HeldTracked
-held_tracked w i z why base slot era q h = held_by w i z why base slot era q h
+held_tracked w i z why base slot era q h = held_by w i z why base slot era q h (protect_is w i base slot era h)
+
+root_of : (w : World) (i : ℕ) (why : Why) (base : Base) → Seats w → (w.seat i).phase ≡ Runs why base → ProtectIs base → root_in w i ≡ root_by w.layout.config.buckets why
+root_of w i why base s q p =
+    let r : (w.seat i).phase ≡ Runs why (Protect p.aim p.index p.root p.steps p.at) = q ∙ ap (λ (b : Base). Runs why b) p.is in
+    ap root_for r ∙ (aimed_at w i why p.aim p.index p.root p.steps p.at s r).of
+
+pub held_root : HeldRoot
+held_root w i why base slot era s q h = root_of w i why base s q (protect_is w i base slot era h)
 
 pub answer_tracked : AnswerTracked
 answer_tracked w i z why aim index root steps at link era n q s r = Given (answer_heard w i z why aim index root steps at link era n q s r)

@@ -17,7 +17,7 @@ use Rattle.wfe_core.specs.Phases.Base.{Begin, Protect, Reload, Clear, Finish, Re
 use Rattle.wfe_core.specs.Calls.{Why, Phase, Idle, Runs, Scans, Works}
 use Rattle.wfe_core.specs.World.{World, start, begin, step, is_busy, finds}
 use Rattle.wfe_eras.specs.Eras.{Eras}
-use Rattle.wfe_eras.specs.Seats.{Seats}
+use Rattle.wfe_eras.specs.Seats.{Seats, root_by}
 use Rattle.wfe_requests.specs.Needs.{Needs}
 use Rattle.wfe_requests.specs.NextDeals.{next_deals}
 use Rattle.wfe_requests.specs.Standing.{Requests}
@@ -143,7 +143,16 @@ HeldTracked =
     → (after base (counted (w.seat i).post) (finds w i)).outcome ≡ Ends (Protected (protect_ends.Held slot era))
     → Tracked w z i (slot + 1)
 
--- so is the link of an answer that a seat finds in its request
+-- and it is one of the root that its call is after
+abbrev pub HeldRoot : Type 0
+HeldRoot =
+    (w : World) (i : ℕ) (why : Why) (base : Base) (slot era : ℕ)
+    → Seats w
+    → (w.seat i).phase ≡ Runs why base
+    → (after base (counted (w.seat i).post) (finds w i)).outcome ≡ Ends (Protected (protect_ends.Held slot era))
+    → root_in w i ≡ root_by w.layout.config.buckets why
+
+-- the link of an answer that a seat finds in its request is tracked too
 abbrev pub AnswerTracked : Type 0
 AnswerTracked =
     (w : World) (i : ℕ) (z : View) (why : Why) (aim : Aim) (index : ℕ) (root : Root) (steps : ℕ) (at : ProtectAt) (link era : ℕ)

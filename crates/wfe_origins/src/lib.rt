@@ -2,7 +2,7 @@
 //! of any calls. Each function here does nothing, and carries a theorem.
 #![tactic(auto)]
 
-ghost use Rattle.wfe_origins.specs.Origins.{AnswerTracked, HeldTracked, OriginsBegin, OriginsKept, OriginsStart, TrackedCame};
+ghost use Rattle.wfe_origins.specs.Origins.{AnswerTracked, HeldRoot, HeldTracked, OriginsBegin, OriginsKept, OriginsStart, TrackedCame};
 
 /// A link that is tracked for a seat after a step was tracked before, for the same root, or the step
 /// loads it from that root. Tracked are the links that the seat's protection carries while their era
@@ -20,9 +20,10 @@ pub fn origins_hold()
     ensures step { OriginsKept }
 {}
 
-/// A protection that holds a row ends with a link that was tracked, and the answer that a seat finds
-/// in its request is a link that was tracked.
+/// A protection that holds a row ends with a link that was tracked, for the root that its call is
+/// after, and the answer that a seat finds in its request is a link that was tracked.
 pub fn ends_are_tracked()
     ensures held { HeldTracked }
+    ensures root { HeldRoot }
     ensures answers { AnswerTracked }
 {}
