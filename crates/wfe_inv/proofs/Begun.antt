@@ -1,4 +1,8 @@
 -- All that is known holds at the start, and when a call begins.
+use Rattle.std.proofs.Common.{ℕ, sym, subst, ap}
+use Rattle.wfe_core.specs.World.{start, begin}
+use Rattle.wfe_requests.specs.Views.{Deal}
+use Rattle.wfe_handover.specs.Helped.{Helped}
 use Rattle.wfe_eras.proofs.Decode.{eras_start, eras_begin}
 use Rattle.wfe_eras.proofs.Kept.{seats_start, seats_begin}
 use Rattle.wfe_eras.proofs.Quiet.{noted_start, noted_begin}
@@ -13,6 +17,11 @@ use Rattle.wfe_covers.proofs.Begun.{held_start, held_begin}
 use Rattle.wfe_covers.proofs.Kept.{scans_start, scans_begin}
 use Rattle.wfe_covers.proofs.Resting.{rests_start, rests_begin}
 use Rattle.wfe_contents.proofs.Begun.{contents_start, contents_begin}
+use Rattle.wfe_stands.proofs.Kept.{stands_start, stands_begin}
+use Rattle.wfe_items.proofs.Begun.{items_start, items_begin}
+use Rattle.wfe_items.proofs.Bounds.{bounded_start, bounded_begin}
+use Rattle.wfe_handover.proofs.Begun.{handover_start, handover_begin}
+use Rattle.wfe_links.proofs.Kept.{links_start, links_begin}
 use Rattle.wfe_inv.specs.Inv.{InvStart, InvBegin}
 use Rattle.wfe_inv.proofs.Ready.{listed_few}
 
@@ -36,7 +45,12 @@ inv_start layout d =
         scans = scans_start layout;
         rests = rests_start layout;
         held = held_start layout (first_rows layout);
+        helped = λ f. subst (λ (deal : ℕ → Deal). Helped (start layout) (first_rows layout) deal) (sym q.1.deal) (handover_start layout (first_rows layout));
+        links = links_start layout q.0 (λ k. ap (λ (deal : ℕ → Deal). deal k) q.1.deal);
         contents = contents_start layout d;
+        bounded = bounded_start layout;
+        stands = stands_start layout;
+        items = items_start layout d;
       };
     }
 
@@ -61,6 +75,11 @@ inv_begin w i call b a =
         scans = scans_begin w i call k.scans;
         rests = rests_begin w i call b k.rests;
         held = held_begin w i call a.rows k.held;
+        helped = λ f. subst (λ (deal : ℕ → Deal). Helped (begin w i call) a.rows deal) (sym q.1.deal) (handover_begin w i call a.rows a.asked.deal (k.helped f));
+        links = links_begin w i call a.rows a.line a.asked q.0 b k.requests q.1.deal k.links;
         contents = contents_begin w i call a.rows k.contents;
+        bounded = bounded_begin w i call k.bounded;
+        stands = stands_begin w i call k.stands;
+        items = items_begin w i call a.rows a.line k.items;
       };
     }

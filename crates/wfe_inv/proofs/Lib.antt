@@ -1,9 +1,12 @@
-mod Begun
-mod Frees
-mod Guards
-mod Kept
-mod Ready
-mod Rows
-mod Shapes
-mod Shown
-mod Whole
+pub mod Begun
+pub mod Frees
+pub mod Guards
+pub mod Kept
+pub mod Reached
+pub mod Ready
+pub mod Rows
+pub mod Shapes
+pub mod Shown
+pub mod Tells
+pub mod Tracks
+pub mod Whole

@@ -4,7 +4,7 @@ use Rattle.wfe_words.specs.Place.{is_valid}
 use Rattle.wfe_core.specs.World.{World}
 use Rattle.wfe_eras.specs.Eras.{Eras}
 use Rattle.wfe_eras.specs.Noted.{Noted}
-use Rattle.wfe_eras.specs.Seats.{Seats}
+use Rattle.wfe_eras.specs.Seats.{is_wfe, Seats}
 use Rattle.wfe_eras.specs.Slots.{Slots}
 use Rattle.wfe_requests.specs.Paces.{Paces}
 use Rattle.wfe_requests.specs.Parents.{Parents}
@@ -16,7 +16,12 @@ use Rattle.wfe_rows.specs.Tries.{Whole}
 use Rattle.wfe_covers.specs.Covers.{Scanning}
 use Rattle.wfe_covers.specs.Held.{Held}
 use Rattle.wfe_covers.specs.Rests.{Rests}
+use Rattle.wfe_handover.specs.Helped.{Helped}
+use Rattle.wfe_links.specs.Links.{Links}
 use Rattle.wfe_contents.specs.Contents.{Contents}
+use Rattle.wfe_stands.specs.Stands.{Stands}
+use Rattle.wfe_items.specs.Bounded.{Bounded}
+use Rattle.wfe_items.specs.Items.{Items}
 
 -- `v` are the rows, `l` what no word shows of the queue, and `z` the requests
 pub record Known (w : World) (v : View) (l : Line) (z : Asked) : Type 0 where
@@ -42,7 +47,17 @@ pub record Known (w : World) (v : View) (l : Line) (z : Asked) : Type 0 where
   pub scans : Scanning w
   -- nothing stands where a guard is about to publish something else
   pub rests : Rests w
-  -- what stands is covered
+  -- what stands is covered, and so is what a try has loaded
   pub held : Held w v
-  -- what rows show, and what calls know of it
+  -- under Wait-Free Eras so are the rows of requests, from the load of the link to the taking of the answer
+  pub helped : is_wfe w.layout.config.scheme ≡ true → Helped w v z.deal
+  -- a link that a protection may end with is one of its root
+  pub links : Links w v l z
+  -- what rows of the map show, and what calls know of it
   pub contents : Contents w v
+  -- versions and numbers of pairs are in range
+  pub bounded : Bounded w
+  -- the rows that a call works on stand
+  pub stands : Stands w
+  -- what rows of the queue show, and what calls know of it
+  pub items : Items w v l

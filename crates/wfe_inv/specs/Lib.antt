@@ -1,3 +1,3 @@
 pub mod Known
-pub mod Missing
 pub mod Inv
+pub mod Histories

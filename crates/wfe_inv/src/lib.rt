@@ -2,7 +2,8 @@
 //! crate of its own, joined into one. Each function here does nothing, and carries a theorem.
 #![tactic(auto)]
 
-ghost use Rattle.wfe_inv.specs.Inv.{InvBegin, InvKept, InvReady, InvStart};
+ghost use Rattle.wfe_inv.specs.Histories.{InvReached, ReachedReady};
+ghost use Rattle.wfe_inv.specs.Inv.{InvBegin, InvKept, InvReady, InvStart, InvStays, InvTells};
 
 /// The invariant holds at the start of a table with a valid setting.
 pub fn inv_start()
@@ -14,7 +15,7 @@ pub fn inv_begin()
     ensures { InvBegin }
 {}
 
-/// Each step of a seat of the table keeps it, where what is missing is given.
+/// Each step of a seat of the table keeps it.
 pub fn inv_kept()
     ensures { InvKept }
 {}
@@ -23,4 +24,26 @@ pub fn inv_kept()
 /// what it finds is in range.
 pub fn inv_ready()
     ensures { InvReady }
+{}
+
+/// Each World that a history comes to has the invariant, whatever calls begin and whichever seats
+/// make their steps.
+pub fn inv_reached()
+    ensures { InvReached }
+{}
+
+/// In each such World the code of each seat may make its next step.
+pub fn reached_ready()
+    ensures { ReachedReady }
+{}
+
+/// What a step tells of the map and of the queue is right by what was told before it.
+pub fn inv_tells()
+    ensures { InvTells }
+{}
+
+/// A row that stands at an index of a seat is covered by the guard of that index, and no step of any
+/// seat makes it free or claims it.
+pub fn inv_stays()
+    ensures { InvStays }
 {}
