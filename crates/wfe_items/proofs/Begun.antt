@@ -10,9 +10,9 @@ use Rattle.wfe_core.specs.World.{start, begin}
 use Rattle.wfe_eras.proofs.Frame.{begin_stays, begin_begins}
 use Rattle.wfe_eras.proofs.Kept.{one_moves}
 use Rattle.wfe_stands.proofs.Rounds.{first_free}
-use Rattle.wfe_items.specs.Reads.{Reads}
+use Rattle.wfe_reads.specs.Reads.{Reads}
 use Rattle.wfe_items.specs.Items.{ItemsStart, ItemsBegin}
-use Rattle.wfe_items.proofs.Turns.{bare_reads, free_bare}
+use Rattle.wfe_reads.proofs.Turns.{bare_reads, free_bare}
 
 first_number : (layout : Layout) (s : ℕ) → (start layout).mem (Row s 1) ≡ 0
 first_number layout s = grind (arith, nat_tests)

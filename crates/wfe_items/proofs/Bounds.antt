@@ -35,14 +35,15 @@ use Rattle.wfe_contents.specs.Knows.{Knows, Ready}
 use Rattle.wfe_contents.proofs.Buckets.{changes_know}
 use Rattle.wfe_contents.proofs.Lists.{after_append}
 use Rattle.wfe_stands.proofs.Rounds.{Adds, clearing_adds, clearing_next_adds}
-use Rattle.wfe_items.specs.Reads.{Reads}
+use Rattle.wfe_reads.specs.Reads.{Reads}
 use Rattle.wfe_items.specs.Items.{Shown}
 use Rattle.wfe_items.specs.Bounded.{BoundedStart, BoundedBegin, BoundedKept}
-use Rattle.wfe_items.proofs.Events.{mute_append, end_mute, SameItems, mute_book}
+use Rattle.wfe_reads.proofs.Events.{mute_append, end_mute, mute_book}
 use Rattle.wfe_items.proofs.Follow.{finds_phase, LineIn, WalksIn, number_is, phase_finds}
 use Rattle.wfe_items.proofs.Steps.{first_booked}
-use Rattle.wfe_items.proofs.Turns.{Turns, phase_turns, hits, change_hits, enqueue_hits, dequeue_hits}
+use Rattle.wfe_reads.proofs.Turns.{phase_turns}
 use Rattle.wfe_words.specs.Place.Place.{Head, Row}
+use Rattle.wfe_reads.specs.Turns.{SameItems, change_hits, enqueue_hits, dequeue_hits, hits, Turns}
 
 -- the same of a book
 pub record Limits (most pairs : ℕ) (book : Book) : Type 0 where

@@ -16,7 +16,7 @@ use Rattle.wfe_contents.specs.Contents.{Contents, ground_of}
 use Rattle.wfe_contents.specs.Knows.{Knows, GetKnows, ChangeKnows, reads_in, work_reads, changes_in}
 use Rattle.wfe_contents.proofs.Reading.{version_shown, count_shown}
 use Rattle.wfe_items.specs.Items.{Items}
-use Rattle.wfe_items.specs.Reads.{Reads}
+use Rattle.wfe_reads.specs.Reads.{Reads}
 use Rattle.wfe_items.specs.Bounded.{Bounded}
 use Rattle.wfe_items.specs.Gives.{WorkFinds}
 use Rattle.wfe_items.proofs.Follow.{finds_phase, WalksIn, same_number}

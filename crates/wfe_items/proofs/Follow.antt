@@ -24,9 +24,9 @@ use Rattle.wfe_rows.specs.Follow.{LoadsBase}
 use Rattle.wfe_rows.specs.Queue.{Line, InLine, Walks}
 use Rattle.wfe_rows.specs.Chain.{queue_of, past_of, next_of}
 use Rattle.wfe_stands.proofs.Machines.{follow_lands, lands, protect_lands}
-use Rattle.wfe_items.specs.Reads.{Reads}
+use Rattle.wfe_reads.specs.Reads.{Reads}
 use Rattle.wfe_items.specs.Items.{Shown}
-use Rattle.wfe_items.proofs.Turns.{NextRight, follow_right, outcome_right, why_right, enqueue_right, dequeue_right, work_right, phase_right}
+use Rattle.wfe_reads.specs.Turns.{NextRight, follow_right, outcome_right, why_right, enqueue_right, dequeue_right, work_right, phase_right}
 
 pub by_test : {A : Type 0} → (b : Bool) (x y : A) (P : A → Type 0) → (b ≡ true → P x) → (b ≡ false → P y) → P (if b then x else y)
 by_test true x y P f g = f refl

@@ -25,12 +25,13 @@ use Rattle.wfe_core.specs.Calls.{ChangeKept, EnqueueKept, Changes, Retiring, Cha
 use Rattle.wfe_rows.specs.Rows.{View}
 use Rattle.wfe_rows.specs.Queue.{Line}
 use Rattle.wfe_stands.proofs.Rounds.{Adds, clearing_adds, clearing_next_adds}
-use Rattle.wfe_items.specs.Reads.{value_under, Reads}
+use Rattle.wfe_reads.specs.Reads.{value_under, Reads}
 use Rattle.wfe_items.specs.Items.{Shown}
 use Rattle.wfe_items.specs.Gives.{LastNumber, EmptyRight, ItemsCount, TakenRight, QueueRight, AllQueueRight, ItemsTold}
-use Rattle.wfe_items.proofs.Events.{is_mute, all_mute, first_mute, rest_mute, mute_append, clear_mute, end_mute}
+use Rattle.wfe_reads.proofs.Events.{first_mute, rest_mute, mute_append, clear_mute, end_mute}
 use Rattle.wfe_items.proofs.Follow.{finds_phase, LineIn, WalksIn, number_is, same_number, phase_finds}
-use Rattle.wfe_items.proofs.Turns.{Turns, phase_turns, hits, change_hits, enqueue_hits, dequeue_hits}
+use Rattle.wfe_reads.proofs.Turns.{phase_turns}
+use Rattle.wfe_reads.specs.Turns.{is_mute, all_mute, change_hits, enqueue_hits, dequeue_hits, hits, Turns}
 
 both_same : (x y : ℕ) → (x == x && (y == y)) ≡ true
 both_same x y = grind (arith, nat_tests)

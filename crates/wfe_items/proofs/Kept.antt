@@ -28,7 +28,7 @@ use Rattle.wfe_contents.specs.Shelf.{Filled}
 use Rattle.wfe_contents.specs.Contents.{ground_of}
 use Rattle.wfe_contents.specs.Knows.{Knows}
 use Rattle.wfe_stands.specs.Stands.{nexts_in}
-use Rattle.wfe_items.specs.Reads.{Reads}
+use Rattle.wfe_reads.specs.Reads.{Reads}
 use Rattle.wfe_items.specs.Items.{Items, ItemsNeeds, ItemsKept}
 use Rattle.wfe_items.proofs.Follow.{number_is}
 use Rattle.wfe_items.proofs.Rows.{returned_queue}

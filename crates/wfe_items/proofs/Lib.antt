@@ -1,6 +1,5 @@
 pub mod Begun
 pub mod Bounds
-pub mod Events
 pub mod Finds
 pub mod Follow
 pub mod Gives
@@ -8,5 +7,3 @@ pub mod Kept
 pub mod Rows
 pub mod Shown
 pub mod Steps
-pub mod Told
-pub mod Turns

@@ -15,7 +15,7 @@ use Rattle.wfe_rows.specs.Rows.RowMove.{Stays, Claims, Bears, Drops, Links, Repl
 use Rattle.wfe_rows.specs.Hands.{allocate_row, retire_row, base_row, scan_row, linked_row, change_row, enqueue_row, dequeue_row, work_row, row_move}
 use Rattle.wfe_rows.specs.Queue.{Line, moved_line, line_move, scan_line, enqueue_line}
 use Rattle.wfe_rows.specs.Chain.{queue_of}
-use Rattle.wfe_items.proofs.Turns.{enqueue_hits, dequeue_hits}
+use Rattle.wfe_reads.specs.Turns.{enqueue_hits, dequeue_hits}
 
 -- a move that neither takes a row into the queue nor cuts its head
 abbrev pub is_mild : RowMove → Bool

@@ -14,7 +14,7 @@ use Rattle.wfe_rows.specs.Queue.{Line, moved_line, stands_on}
 use Rattle.wfe_rows.specs.Queue.LineMove.{Joins}
 use Rattle.wfe_rows.specs.Chain.{queue_of}
 use Rattle.wfe_stands.specs.Stands.{nexts_in}
-use Rattle.wfe_items.specs.Reads.{value_under, numbers_in, values_in, Reads}
+use Rattle.wfe_reads.specs.Reads.{value_under, numbers_in, values_in, Reads}
 use Rattle.wfe_items.specs.Items.{Shown}
 use Rattle.wfe_items.proofs.Rows.{Lower}
 

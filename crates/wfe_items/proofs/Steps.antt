@@ -40,13 +40,14 @@ use Rattle.wfe_rows.proofs.Went.{born_unlined}
 use Rattle.wfe_contents.specs.Shelf.{Filled}
 use Rattle.wfe_contents.proofs.Machines.{enqueue_stays}
 use Rattle.wfe_stands.proofs.Rounds.{Adds, clearing_adds, clearing_next_adds, scan_told, scan_adds}
-use Rattle.wfe_items.specs.Reads.{Reads}
+use Rattle.wfe_reads.specs.Reads.{Reads}
 use Rattle.wfe_items.specs.Items.{Shown}
-use Rattle.wfe_items.proofs.Events.{mute_append, clear_mute, end_mute, SameItems, mute_book, booked_append}
+use Rattle.wfe_reads.proofs.Events.{mute_append, clear_mute, end_mute, mute_book, booked_append}
 use Rattle.wfe_items.proofs.Follow.{finds_phase, LineIn, WalksIn, number_is, same_number, phase_finds}
 use Rattle.wfe_items.proofs.Rows.{queues, Mild, mild_made, phase_mild, popped_queue, Lower, same_lower, phase_lower, enqueue_keeps}
 use Rattle.wfe_items.proofs.Shown.{Kept, mild_shown, Joining, joined_shown, Grown, lower_grown, joined_grown}
-use Rattle.wfe_items.proofs.Turns.{Turns, phase_turns, bare_reads, free_bare, hits, change_hits, enqueue_hits, dequeue_hits}
+use Rattle.wfe_reads.proofs.Turns.{phase_turns, bare_reads, free_bare}
+use Rattle.wfe_reads.specs.Turns.{SameItems, change_hits, enqueue_hits, dequeue_hits, hits, Turns}
 
 -- what a step leaves: what rows show, what its own seat has read, and that numbers and values stay
 pub record Did (most : ℕ) (a b : Book) (after : Place → ℕ) (u : View) (l m : Line) (left : Phase) : Type 0 where

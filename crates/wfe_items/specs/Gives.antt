@@ -12,7 +12,7 @@ use Rattle.wfe_rows.specs.Queue.{Line}
 use Rattle.wfe_rows.specs.Chain.{Both}
 use Rattle.wfe_contents.specs.Contents.{Contents}
 use Rattle.wfe_contents.specs.Knows.{reads_in}
-use Rattle.wfe_items.specs.Reads.{value_under}
+use Rattle.wfe_reads.specs.Reads.{value_under}
 use Rattle.wfe_items.specs.Items.{Items}
 use Rattle.wfe_items.specs.Bounded.{Bounded}
 

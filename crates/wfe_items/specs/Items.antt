@@ -14,7 +14,7 @@ use Rattle.wfe_rows.specs.Queue.{Line}
 use Rattle.wfe_rows.specs.Chain.{Both, QueueNeeds, queue_of, line_after, first_line}
 use Rattle.wfe_contents.specs.Contents.{Contents}
 use Rattle.wfe_stands.specs.Stands.{nexts_in}
-use Rattle.wfe_items.specs.Reads.{value_under, Reads}
+use Rattle.wfe_reads.specs.Reads.{value_under, Reads}
 
 -- a row that was in the queue since it was claimed last shows its number and, but for the dummy, the value queued under it;
 -- the last row has the number of all values queued, the head's that of all taken; and there are at most so many

@@ -1,4 +1,3 @@
-pub mod Reads
 pub mod Items
 pub mod Bounded
 pub mod Gives

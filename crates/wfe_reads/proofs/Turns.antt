@@ -26,13 +26,15 @@ use Rattle.wfe_core.specs.Enqueue as enqueues
 use Rattle.wfe_core.specs.Dequeue as dequeues
 use Rattle.wfe_core.specs.Scan as scan
 use Rattle.wfe_core.specs.Steps as steps
+use Rattle.wfe_core.specs.Steps.{first_phase}
 use Rattle.wfe_core.specs.Calls.{ChangeKept, EnqueueKept, Task, Gets, Changes, Holds, Enqueues, Dequeues, Next, Again, Answering, Why, Opens, FollowsHead, Fills, ClearsNext, Clears, Finishes, GivesUp, Retires, Tidies, Advances, Releases, ScanAt, ReadGuard, GiveBack, GetAt, FindVersion, FindCount, FindKey, FindValue, ChangeAt, LoadVersion, LoadCount, LoadKey, LoadValue, ExchangeRoot, EnqueueAt, LoadNumber, LoadNext, PassTail, ExchangeNext, ExchangeTail, DequeueAt, LoadTail, SwingTail, TakeNumber, TakeValue, ExchangeHead, Work, Getting, Changing, Enqueuing, Dequeuing, Phase, Idle, Runs, Scans, Works, CallTurn, goes_on}
 use Rattle.wfe_eras.specs.Frame.{phase_left}
 use Rattle.wfe_rows.specs.Queue.{Line}
-use Rattle.wfe_stands.proofs.Rounds.{task_free, why_free, is_free, Adds, clearing_adds, clearing_next_adds, closed_adds, scan_told, scan_adds, why_ends, ends_free, resume_adds}
-use Rattle.wfe_items.specs.Reads.{value_under, Reads}
-use Rattle.wfe_items.proofs.Events.{all_mute, mute_append, clear_mute}
-use Rattle.wfe_items.proofs.Told.{base_mute}
+use Rattle.wfe_stands.proofs.Rounds.{task_free, why_free, is_free, Adds, clearing_adds, clearing_next_adds, closed_adds, scan_told, scan_adds, why_ends, ends_free, resume_adds, first_free}
+use Rattle.wfe_reads.specs.Reads.{value_under, Reads}
+use Rattle.wfe_reads.proofs.Events.{mute_append, clear_mute}
+use Rattle.wfe_reads.proofs.Told.{base_mute}
+use Rattle.wfe_reads.specs.Turns.{all_mute, change_hits, enqueue_hits, dequeue_hits, work_hits, NextRight, follow_right, ending_right, outcome_right, why_right, enqueue_right, dequeue_right, work_right, Turns, CallsBegin, CallsRead}
 
 -- the phase has read nothing of the queue's rows
 
@@ -153,11 +155,6 @@ free_bare (Runs why base) h = free_why why h
 free_bare (Scans later at) h = refl
 free_bare (Works work) h = absurd (cc)
 
--- what a turn tells, and what the phase that it leaves has read
-pub record Turns (l : Line) (queued : List ℕ) (t : CallTurn) : Type 0 where
-  pub mute : all_mute t.told ≡ true
-  pub reads : Reads (phase_left t.outcome) l queued
-
 bare_turns : (l : Line) (queued : List ℕ) (post : Post) (desk : Desk) (told : List Event) (phase : Phase) → all_mute told ≡ true → is_bare phase ≡ true → Turns l queued (goes_on post desk told phase)
 bare_turns l queued post desk told phase c h = record { mute = c; reads = bare_reads phase l queued h }
 
@@ -213,40 +210,6 @@ exchanged_turns : (l : Line) (queued : List ℕ) (kept : ChangeKept) (slot : ℕ
 exchanged_turns l queued kept slot post desk true e = absurd (cc)
 exchanged_turns l queued kept slot post desk false e = clearing_turns l queued (Changes kept) Again post desk [] refl
 
--- the step exchanges a root, a next link or the head, and finds what it expects
-abbrev pub change_hits : ChangeKept → ChangeAt → ℕ → Bool
-change_hits kept (LoadVersion slot) found = false
-change_hits kept (LoadCount slot) found = false
-change_hits kept (LoadKey slot count) found = false
-change_hits kept (LoadValue slot count key) found = false
-change_hits kept (ExchangeRoot slot) found = found == kept.link
-
-abbrev pub enqueue_hits : EnqueueAt → ℕ → Bool
-enqueue_hits LoadNumber found = false
-enqueue_hits LoadNext found = false
-enqueue_hits (PassTail next) found = false
-enqueue_hits (ExchangeNext slot) found = found == 0
-enqueue_hits (ExchangeTail slot) found = false
-
-abbrev pub dequeue_hits : DequeueAt → ℕ → Bool
-dequeue_hits (LoadTail head) found = false
-dequeue_hits (SwingTail head next) found = false
-dequeue_hits (TakeNumber head next) found = false
-dequeue_hits (TakeValue head next number) found = false
-dequeue_hits (ExchangeHead head next number value) found = found == head + 1
-
-abbrev pub work_hits : Work → ℕ → Bool
-work_hits (Getting key at) found = false
-work_hits (Changing kept at) found = change_hits kept at found
-work_hits (Enqueuing kept at) found = enqueue_hits at found
-work_hits (Dequeuing at) found = dequeue_hits at found
-
-abbrev pub hits : Phase → ℕ → Bool
-hits Idle found = false
-hits (Runs why base) found = false
-hits (Scans later at) found = false
-hits (Works work) found = work_hits work found
-
 change_turns : (l : Line) (queued : List ℕ) (kept : ChangeKept) (at : ChangeAt) (post : Post) (desk : Desk) (found : ℕ) → change_hits kept at found ≡ false → Turns l queued (alters.change_turn kept at post desk found)
 change_turns l queued kept (LoadVersion slot) post desk found e = bare_turns l queued post desk [] (Works (Changing (record kept { version = found }) (LoadCount slot))) refl refl
 change_turns l queued kept (LoadCount slot) post desk found e = reading_turns l queued kept slot found post desk (nat_lt 0 found)
@@ -288,14 +251,6 @@ link_mute root slot false = refl
 number_of : (l : Line) (queued : List ℕ) (kept : EnqueueKept) (phase : Phase) → Reads phase l queued → ((t n : ℕ) → (kept.tail == t && (kept.number == n)) ≡ true → l.number t ≡ n) → Numbered l kept
 number_of l queued kept phase h f = f kept.tail kept.number (grind (arith, nat_tests))
 
--- what a step of an enqueue finds
-abbrev pub enqueue_right : Line → EnqueueKept → EnqueueAt → ℕ → Type 0
-enqueue_right l kept LoadNumber found = found ≡ l.number kept.tail
-enqueue_right l kept LoadNext found = Unit {0}
-enqueue_right l kept (PassTail next) found = Unit {0}
-enqueue_right l kept (ExchangeNext slot) found = Unit {0}
-enqueue_right l kept (ExchangeTail slot) found = Unit {0}
-
 enqueue_turns : (l : Line) (queued : List ℕ) (kept : EnqueueKept) (at : EnqueueAt) (post : Post) (desk : Desk) (found : ℕ) → enqueue_hits at found ≡ false → enqueue_right l kept at found → Reads (Works (Enqueuing kept at)) l queued → Turns l queued (enqueues.enqueue_turn kept at post desk found)
 enqueue_turns l queued kept LoadNumber post desk found e r h = record { mute = refl; reads = record { lined = λ t e. cc; above = λ t e. absurd (cc); numbers = λ t n e. numbered_in l.number kept.tail found t n (sym r) e; values = λ t x e. cc } }
 enqueue_turns l queued kept LoadNext post desk found e r h = at_next_turns l queued kept found post desk (found == 0) (number_of l queued kept (Works (Enqueuing kept LoadNext)) h (λ t n e. h.numbers t n e))
@@ -310,14 +265,6 @@ enqueue_turns l queued kept (ExchangeTail slot) post desk found e r h =
 taken_turns : (l : Line) (queued : List ℕ) (head next number value : ℕ) (post : Post) (desk : Desk) (same : Bool) → same ≡ false → Turns l queued (dequeues.taken head next number value post desk same)
 taken_turns l queued head next number value post desk true e = absurd (cc)
 taken_turns l queued head next number value post desk false e = clearing_next_turns l queued Again post desk [] refl
-
--- what it finds
-abbrev pub dequeue_right : Line → List ℕ → DequeueAt → ℕ → Type 0
-dequeue_right l queued (LoadTail head) found = Unit {0}
-dequeue_right l queued (SwingTail head next) found = Unit {0}
-dequeue_right l queued (TakeNumber head next) found = found ≡ l.number next
-dequeue_right l queued (TakeValue head next number) found = found ≡ value_under queued (l.number next)
-dequeue_right l queued (ExchangeHead head next number value) found = Unit {0}
 
 valued_in : (l : Line) (queued : List ℕ) (row value t x : ℕ) → value_under queued (l.number row) ≡ value → (row == t && (value == x)) ≡ true → value_under queued (l.number t) ≡ x
 valued_in l queued row value t x h e =
@@ -339,12 +286,6 @@ dequeue_turns l queued (TakeValue head next number) post desk found e r h = reco
 dequeue_turns l queued (ExchangeHead head next number value) post desk found e r h = taken_turns l queued head next number value post desk (found == head + 1) e
 
 -- a call's own step
-
-abbrev pub work_right : Line → List ℕ → Work → ℕ → Type 0
-work_right l queued (Getting key at) found = Unit {0}
-work_right l queued (Changing kept at) found = Unit {0}
-work_right l queued (Enqueuing kept at) found = enqueue_right l kept at found
-work_right l queued (Dequeuing at) found = dequeue_right l queued at found
 
 work_turns : (l : Line) (queued : List ℕ) (work : Work) (post : Post) (desk : Desk) (found : ℕ) → work_hits work found ≡ false → work_right l queued work found → Reads (Works work) l queued → Turns l queued (steps.work_turn work post desk found)
 work_turns l queued (Getting key at) post desk found e r h = get_turns l queued key at post desk found
@@ -377,11 +318,6 @@ opened_turns l queued task (Allocated ending) post desk told c = record { mute =
 opened_turns l queued task (Retired life) post desk told c = record { mute = c; reads = run_reads (Opens task) _ l queued refl }
 opened_turns l queued task (Clocked clock) post desk told c = record { mute = c; reads = run_reads (Opens task) _ l queued refl }
 
--- the row that was followed was in the queue since it was claimed last, behind another
-pub record NextRight (l : Line) (slot : ℕ) : Type 0 where
-  pub lined : l.lined slot ≡ true
-  pub above : 0 < l.number slot
-
 next_lined : (l : Line) (slot t : ℕ) → NextRight l slot → (slot == t) ≡ true → l.lined t ≡ true
 next_lined l slot t h e = let here : slot ≡ t = grind (arith, nat_tests) in sym (ap l.lined here) ∙ h.lined
 
@@ -391,23 +327,6 @@ next_above l slot t h e = let here : slot ≡ t = grind (arith, nat_tests) in su
 followed_row_turns : (l : Line) (queued : List ℕ) (head next : ℕ) (post : Post) (desk : Desk) (told : List Event) (lags : Bool) → all_mute told ≡ true → NextRight l next → Turns l queued (dequeues.followed_row head next post desk told lags)
 followed_row_turns l queued head next post desk told true c h = record { mute = c; reads = record { lined = λ t e. next_lined l next t h e; above = λ t e. next_above l next t h e; numbers = λ t n e. cc; values = λ t x e. cc } }
 followed_row_turns l queued head next post desk told false c h = record { mute = c; reads = record { lined = λ t e. next_lined l next t h e; above = λ t e. next_above l next t h e; numbers = λ t n e. cc; values = λ t x e. cc } }
-
-abbrev pub follow_right : Line → FollowEnd → Type 0
-follow_right l (follow_ends.Followed slot) = NextRight l slot
-follow_right l follow_ends.NoNext = Unit {0}
-follow_right l (follow_ends.RootMoved seen) = Unit {0}
-
-abbrev pub ending_right : Line → Ending → Type 0
-ending_right l Done = Unit {0}
-ending_right l (Protected ending) = Unit {0}
-ending_right l (Followed ending) = follow_right l ending
-ending_right l (Allocated ending) = Unit {0}
-ending_right l (Retired life) = Unit {0}
-ending_right l (Clocked clock) = Unit {0}
-
-abbrev pub outcome_right : Line → Outcome → Type 0
-outcome_right l (Goes base) = Unit {0}
-outcome_right l (Ends ending) = ending_right l ending
 
 followed_turns : (l : Line) (queued : List ℕ) (head tail : ℕ) (ending : FollowEnd) (post : Post) (desk : Desk) (told : List Event) → all_mute told ≡ true → follow_right l ending → Turns l queued (dequeues.followed head tail ending post desk told)
 followed_turns l queued head tail (follow_ends.Followed slot) post desk told c h = followed_row_turns l queued head slot post desk told (tail == head + 1) c h
@@ -493,20 +412,6 @@ ends_turns : (l : Line) (queued : List ℕ) (why : Why) (desk : Desk) (post : Po
 ends_turns l queued why desk post told (Goes base) c h = record { mute = c; reads = run_reads why base l queued (free_why why (ends_free why h)) }
 ends_turns l queued why desk post told (Ends ending) c h = adds_turns l queued told (steps.resumed why desk post told (Ends ending)) c (resume_adds why ending post desk told h)
 
--- how a machine ends that follows the head's next link
-abbrev pub why_right : Line → Why → Outcome → Type 0
-why_right l (Opens task) outcome = Unit {0}
-why_right l (FollowsHead head tail) outcome = outcome_right l outcome
-why_right l (Fills task) outcome = Unit {0}
-why_right l (ClearsNext next) outcome = Unit {0}
-why_right l (Clears task next) outcome = Unit {0}
-why_right l (Finishes task next) outcome = Unit {0}
-why_right l (GivesUp answer) outcome = Unit {0}
-why_right l (Retires answer) outcome = Unit {0}
-why_right l (Tidies later) outcome = Unit {0}
-why_right l Advances outcome = Unit {0}
-why_right l (Releases key) outcome = Unit {0}
-
 run_by : (l : Line) (queued : List ℕ) (why : Why) (base : Base) (desk : Desk) (t : Turn) → all_mute t.told ≡ true → why_right l why t.outcome → Reads (Runs why base) l queued → Turns l queued (steps.run_turn why desk t)
 run_by l queued (Opens task) base desk t c r h = opens_turns l queued task desk t.post t.told t.outcome c
 run_by l queued (FollowsHead head tail) base desk t c r h = follows_turns l queued head tail desk t.post t.told t.outcome c r
@@ -524,15 +429,12 @@ scan_mute : (at : ScanAt) (post : Post) (found : ℕ) → all_mute (scan_told at
 scan_mute (ReadGuard number) post found = refl
 scan_mute (GiveBack place slot) post found = refl
 
--- what a step finds, and how its machine ends
-abbrev pub phase_right : Line → List ℕ → Phase → Post → ℕ → Type 0
-phase_right l queued Idle post found = Unit {0}
-phase_right l queued (Runs why base) post found = why_right l why (machine.after base post found).outcome
-phase_right l queued (Scans later at) post found = Unit {0}
-phase_right l queued (Works work) post found = work_right l queued work found
-
-pub phase_turns : (l : Line) (queued : List ℕ) (phase : Phase) (post : Post) (desk : Desk) (found : ℕ) → hits phase found ≡ false → phase_right l queued phase post found → Reads phase l queued → Turns l queued (steps.phase_turn phase post desk found)
+pub phase_turns : CallsRead
 phase_turns l queued Idle post desk found e r h = record { mute = refl; reads = h }
 phase_turns l queued (Runs why base) post desk found e r h = run_by l queued why base desk (machine.after base post found) (base_mute base post found) r h
 phase_turns l queued (Scans later at) post desk found e r h = adds_turns l queued (scan_told at post found) (scan.scan_turn later at post desk found) (scan_mute at post found) (scan_adds later at post desk found)
 phase_turns l queued (Works work) post desk found e r h = work_turns l queued work post desk found e r h
+
+-- a call begins with nothing read
+pub first_reads : CallsBegin
+first_reads call post l queued = bare_reads (first_phase call post) l queued (free_bare (first_phase call post) (first_free call post))

@@ -20,7 +20,8 @@ use Rattle.wfe_core.specs.Phases.AllocateAt.{LoadBirth, ClaimSlot, StoreLife}
 use Rattle.wfe_core.specs.Phases.RetireAt.{LoadLife, LoadRetire, StoreRetired}
 use Rattle.wfe_core.specs.Phases.MoveAt.{LoadEra, LoadRequest, ShowEra, LoadAsked, CheckEra, AnswerAsked, LoadReserved, HandOver, HideEra, HideLate, ExchangeClock}
 use Rattle.wfe_core.specs.Phases.Base.{Begin, Protect, Reload, Clear, Finish, Release, Allocate, Write, GiveUp, Retire, Move}
-use Rattle.wfe_items.proofs.Events.{all_mute, mute_append}
+use Rattle.wfe_reads.proofs.Events.{mute_append}
+use Rattle.wfe_reads.specs.Turns.{all_mute}
 
 abbrev pub Tells : Turn → Type 0
 Tells t = all_mute t.told ≡ true

@@ -9,17 +9,7 @@ use Rattle.wfe_core.specs.Book.{Book, booked, booked_all}
 use Rattle.wfe_core.specs.Calls.{CallOutcome, GoesOn, Answers}
 use Rattle.wfe_core.specs.Locals.{told_end}
 use Rattle.wfe_stands.proofs.Rounds.{is_clear, all_clear}
-
-abbrev pub is_mute : Event → Bool
-is_mute (events.Put bucket version key value) = false
-is_mute (events.Removed bucket version key) = false
-is_mute (events.Queued number value) = false
-is_mute (events.Taken number value) = false
-is_mute event = true
-
-abbrev pub all_mute : List Event → Bool
-all_mute [] = true
-all_mute (event ∷ told) = is_mute event && all_mute told
+use Rattle.wfe_reads.specs.Turns.{is_mute, all_mute, SameItems, MuteBooks}
 
 pub first_mute : (x y : Bool) → (x && y) ≡ true → x ≡ true
 first_mute true y h = refl
@@ -49,12 +39,6 @@ pub end_mute : (post : Post) (outcome : CallOutcome) → all_mute (told_end post
 end_mute post (GoesOn phase) = refl
 end_mute post (Answers answer) = refl
 
--- two books say the same of the queue and of the changes of buckets
-pub record SameItems (a b : Book) : Type 0 where
-  pub queued : b.queued ≡ a.queued
-  pub taken : b.taken ≡ a.taken
-  pub changes : (bucket : ℕ) → b.changes bucket ≡ a.changes bucket
-
 pub same_items : (a : Book) → SameItems a a
 same_items a = record { queued = refl; taken = refl; changes = λ b. refl }
 
@@ -77,7 +61,7 @@ mute_booked a (events.Queued number value) h = absurd (cc)
 mute_booked a (events.Taken number value) h = absurd (cc)
 mute_booked a event h = same_items a
 
-pub mute_book : (told : List Event) (a : Book) → all_mute told ≡ true → SameItems a (booked_all a told)
+pub mute_book : MuteBooks
 mute_book [] a h = same_items a
 mute_book (event ∷ told) a h =
     same_then a (booked a event) (booked_all (booked a event) told) (mute_booked a event (first_mute (is_mute event) (all_mute told) h)) (mute_book told (booked a event) (rest_mute (is_mute event) (all_mute told) h))
