@@ -14,7 +14,7 @@ use Rattle.wfe_core.specs.Phases.Base.{Begin, Protect, Reload, Clear, Finish, Re
 use Rattle.wfe_core.specs.Calls.{Why, Phase, Idle, Runs, Scans, Works}
 use Rattle.wfe_core.specs.World.{World}
 use Rattle.wfe_eras.specs.Seats.{Seats, PhaseFits, is_wfe, protect_fits, base_fits}
-use Rattle.wfe_covers.specs.Held.{under, tries_protect, tries_base}
+use Rattle.wfe_covers.specs.Held.{under, tries_protect, tries_base, index_base, own_guard}
 use Rattle.wfe_requests.specs.Deals.{is_quiet, fits}
 use Rattle.wfe_requests.specs.Standing.{role_of, Requests}
 use Rattle.wfe_requests.specs.Views.{Deal}
@@ -23,7 +23,8 @@ use Rattle.wfe_rows.specs.Rows.{Status, View}
 use Rattle.wfe_origins.proofs.Came.{link_busy, helps_busy}
 use Rattle.wfe_origins.proofs.Opened.{fit_of}
 use Rattle.wfe_origins.specs.Tracked.{carries_at, carries_base, carries_in, root_base, root_for, root_in, Tracked, Carried, Given, Helped}
-use Rattle.wfe_links.specs.Links.{Tried, TrackedTried}
+use Rattle.wfe_covers.proofs.Kept.{not_reused}
+use Rattle.wfe_links.specs.Links.{Tried, TrackedTried, HeldLinksStay}
 
 -- no request under these schemes
 quiet_protect : (layout : Layout) (why : Why) (aim : Aim) (index : ℕ) (root : Root) (steps : ℕ) (at : ProtectAt) (d : Deal) → protect_fits layout.config.scheme layout.config.tries at ≡ true → is_wfe layout.config.scheme ≡ false → fits (role_of layout (Runs why (Protect aim index root steps at))) d ≡ true → is_quiet d ≡ true
@@ -132,3 +133,9 @@ tried_by w k s v z n a f (Helped m h) u = absurd (quiet_not (z.deal k) (no_reque
 
 pub tracked_tried : TrackedTried
 tracked_tried w k s v z n a f t u = tried_by w k s v z n a f t u
+
+pub held_links_stay : HeldLinksStay
+held_links_stay w i k s v z n a f c u h t r =
+    let x = tried_by w k s v z n a f t r in
+    let y = h.tried k x.why x.base s x.is x.tries in
+    not_reused w i v (own_guard w.layout.config.scheme k (index_base x.base)) s c u y.fits y.covers

@@ -32,8 +32,8 @@ use Rattle.wfe_rows.specs.Queue.{Line}
 use Rattle.wfe_rows.specs.Chain.{Both, QueueNeeds, queue_of, line_after, first_line}
 use Rattle.wfe_rows.specs.Follow.{at_asks, AnswersFit}
 use Rattle.wfe_rows.specs.Tries.{is_tail, is_head, FromHead}
-use Rattle.wfe_covers.specs.Covers.{takes_or_frees}
-use Rattle.wfe_covers.specs.Held.{under, tries_base}
+use Rattle.wfe_covers.specs.Covers.{takes_or_frees, CoversNeeds, Scanning}
+use Rattle.wfe_covers.specs.Held.{under, tries_base, Held}
 use Rattle.wfe_origins.specs.Tracked.{root_in, Tracked}
 use Rattle.wfe_origins.specs.Origins.{OriginsNeeds, Origins}
 
@@ -114,3 +114,17 @@ TrackedTried =
     → Tracked w z k (s + 1)
     → under v.status (root_in w k) ≡ true
     → Tried w v k s
+
+-- so no step takes or frees it
+abbrev pub HeldLinksStay : Type 0
+HeldLinksStay =
+    (w : World) (i k s : ℕ) (v : View) (z : Asking)
+    → is_wfe w.layout.config.scheme ≡ false
+    → Seats w
+    → Requests w z
+    → CoversNeeds w i v
+    → Scanning w
+    → Held w v
+    → Tracked w z k (s + 1)
+    → under v.status (root_in w k) ≡ true
+    → takes_or_frees (row_move (w.seat i).phase (w.seat i).post (finds w i)) s ≡ false

@@ -2,7 +2,7 @@
 //! of any calls. Each function here does nothing, and carries a theorem.
 #![tactic(auto)]
 
-ghost use Rattle.wfe_links.specs.Links.{LinksBegin, LinksGive, LinksKept, LinksStart, TrackedTried};
+ghost use Rattle.wfe_links.specs.Links.{HeldLinksStay, LinksBegin, LinksGive, LinksKept, LinksStart, TrackedTried};
 
 /// Each link that is tracked for a seat is null or leads to a row that fits its root: a row that was
 /// linked last to that bucket; a row that was in the queue since it was claimed last; or the row
@@ -20,7 +20,8 @@ pub fn links_give()
 {}
 
 /// Under Hazard Eras and 2GE each link that is tracked was loaded by a try of its seat, whose guard
-/// holds the row.
-pub fn tracked_links_are_tried()
-    ensures { TrackedTried }
+/// holds the row: so no step takes or frees it.
+pub fn held_links_stay()
+    ensures tried { TrackedTried }
+    ensures stay { HeldLinksStay }
 {}
