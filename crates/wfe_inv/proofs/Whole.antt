@@ -30,9 +30,7 @@ use Rattle.wfe_items.proofs.Gives.{last_number}
 use Rattle.wfe_items.proofs.Finds.{work_finds_fit}
 use Rattle.wfe_handover.proofs.Kept.{rows_stay}
 use Rattle.wfe_links.proofs.Given.{links_give}
-use Rattle.wfe_links.proofs.Tried.{tracked_tried}
-use Rattle.wfe_covers.specs.Held.{own_guard, index_base}
-use Rattle.wfe_covers.proofs.Kept.{not_reused}
+use Rattle.wfe_links.proofs.Tried.{held_links_stay}
 use Rattle.wfe_inv.specs.Known.{Known}
 use Rattle.wfe_inv.proofs.Frees.{true_false, not_true, back_frees, back_apart, stands_settled, tried_under, tried_carried}
 use Rattle.wfe_inv.proofs.Rows.{covers_need, roots_need}
@@ -48,10 +46,7 @@ rows_left w i v l z f a = rows_stay w i v z.deal (covers_of w i v l z a) a.scans
 
 links_stay : (w : World) (i k s : ℕ) (v : View) (l : Line) (z : Asked) (wfe : Bool) → is_wfe w.layout.config.scheme ≡ wfe → Known w v l z → Tracked w z k (s + 1) → under v.status (root_in w k) ≡ true → IsLeft w i s
 links_stay w i k s v l z true f a h u = tracked_left w i k s v z a.valid a.seats a.eras a.slots a.requests (rows_left w i v l z f a) h u
-links_stay w i k s v l z false f a h u =
-    let t = tracked_tried w k s v z f a.seats a.requests h u in
-    let y = a.held.tried k t.why t.base s t.is t.tries in
-    not_reused w i v (own_guard w.layout.config.scheme k (index_base t.base)) s (covers_of w i v l z a) a.scans y.fits y.covers
+links_stay w i k s v l z false f a h u = held_links_stay w i k s v z f a.seats a.requests (covers_of w i v l z a) a.scans a.held h u
 
 -- so no try leads to a row that is given back
 tried : (w : World) (i k s : ℕ) (v : View) (l : Line) (z : Asked) (task : Task) (base : Base) → Known w v l z → (w.seat k).phase ≡ Runs (Opens task) base → base_tries (w.mem Clock) (upper (w.seat k).post.span) base s ≡ true → IsLeft w i s
