@@ -1,0 +1,7 @@
+mod Follows
+mod Keeps
+mod Never
+mod Passes
+mod Shown
+mod Told
+mod Unheld
