@@ -4,6 +4,7 @@
 
 ghost use Rattle.wfe_inv.specs.Histories.{InvReached, ReachedReady};
 ghost use Rattle.wfe_inv.specs.Inv.{InvBegin, InvKept, InvReady, InvStart, InvStays, InvTells};
+ghost use Rattle.wfe_inv.specs.Shows.{InvShows, InvTimes};
 
 /// The invariant holds at the start of a table with a valid setting.
 pub fn inv_start()
@@ -46,4 +47,16 @@ pub fn inv_tells()
 /// seat makes it free or claims it.
 pub fn inv_stays()
     ensures { InvStays }
+{}
+
+/// A protection of Wait-Free Eras has made no more steps than it may, each step of a move of the
+/// clock leaves fewer, and the clock waits for a pending request.
+pub fn inv_times()
+    ensures { InvTimes }
+{}
+
+/// The words show each bucket's last version and its pairs, no more was taken than queued, and where
+/// the head's row has no next link all that was queued was taken.
+pub fn inv_shows()
+    ensures { InvShows }
 {}
