@@ -1,7 +1,7 @@
-mod Follows
-mod Keeps
-mod Never
-mod Passes
-mod Shown
-mod Told
-mod Unheld
+pub mod Follows
+pub mod Keeps
+pub mod Never
+pub mod Passes
+pub mod Shown
+pub mod Told
+pub mod Unheld
