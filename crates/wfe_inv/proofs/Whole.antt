@@ -44,7 +44,7 @@ covers_of w i v l z a = covers_need w i v l a.valid a.seats a.eras a.whole.both
 rows_left : (w : World) (i : ℕ) (v : View) (l : Line) (z : Asked) → is_wfe w.layout.config.scheme ≡ true → Known w v l z → RowsLeft w i v z.deal
 rows_left w i v l z f a = rows_stay w i v z.deal (covers_of w i v l z a) a.scans a.held (a.helped f)
 
-links_stay : (w : World) (i k s : ℕ) (v : View) (l : Line) (z : Asked) (wfe : Bool) → is_wfe w.layout.config.scheme ≡ wfe → Known w v l z → Tracked w z k (s + 1) → under v.status (root_in w k) ≡ true → IsLeft w i s
+pub links_stay : (w : World) (i k s : ℕ) (v : View) (l : Line) (z : Asked) (wfe : Bool) → is_wfe w.layout.config.scheme ≡ wfe → Known w v l z → Tracked w z k (s + 1) → under v.status (root_in w k) ≡ true → IsLeft w i s
 links_stay w i k s v l z true f a h u = tracked_left w i k s v z a.valid a.seats a.eras a.slots a.requests (rows_left w i v l z f a) h u
 links_stay w i k s v l z false f a h u = held_links_stay w i k s v z f a.seats a.requests (covers_of w i v l z a) a.scans a.held h u
 
@@ -58,10 +58,10 @@ tried w i k s v l z task base a o t =
 back_left : (w : World) (i : ℕ) (later : AfterScan) (place slot : ℕ) → (w.seat i).phase ≡ Scans later (GiveBack place slot) → IsLeft w i slot → ⊥
 back_left w i later place slot e n = true_false (takes_or_frees (row_move (w.seat i).phase (w.seat i).post (finds w i)) slot) (back_frees w i later place slot e) n
 
-origins_need : (w : World) (i : ℕ) (v : View) (l : Line) (z : Asked) → i < w.layout.config.seats → Known w v l z → OriginsNeeds w i z
+pub origins_need : (w : World) (i : ℕ) (v : View) (l : Line) (z : Asked) → i < w.layout.config.seats → Known w v l z → OriginsNeeds w i z
 origins_need w i v l z b a = record { valid = a.valid; below = b; seats = a.seats; eras = a.eras; needs = needs_of w a.slots; requests = a.requests }
 
-links_show : (w : World) (i : ℕ) (v : View) (l : Line) (z : Asked) → i < w.layout.config.seats → Known w v l z → LinksShow w i v l
+pub links_show : (w : World) (i : ℕ) (v : View) (l : Line) (z : Asked) → i < w.layout.config.seats → Known w v l z → LinksShow w i v l
 links_show w i v l z b a = links_give w i v l z (origins_need w i v l z b a) a.links
 
 pub whole_need : (w : World) (i : ℕ) (v : View) (l : Line) (z : Asked) → i < w.layout.config.seats → Known w v l z → WholeNeeds w i v l
