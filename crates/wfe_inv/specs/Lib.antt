@@ -1,0 +1,4 @@
+pub mod Known
+pub mod Inv
+pub mod Histories
+pub mod Shows
