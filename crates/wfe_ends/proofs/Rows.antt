@@ -78,25 +78,25 @@ own_post (Scans later at) post found = post
 own_post (Works work) post found = post
 
 scanned_adds : (later : AfterScan) (post : Post) (desk : Desk) (told : List Event) → Adds post told (scanned later post desk told)
-scanned_adds (Answered answer) post desk told = out_adds _ _ _ _ _
-scanned_adds (Repeated task) post desk told = out_adds _ _ _ _ _
-scanned_adds Counted post desk told = out_adds _ _ _ _ _
+scanned_adds (Answered answer) post desk told = out_adds _ _ _ _
+scanned_adds (Repeated task) post desk told = out_adds _ _ _ _
+scanned_adds Counted post desk told = out_adds _ _ _ _
 
 giving_adds : (later : AfterScan) (post : Post) (desk : Desk) (told : List Event) (x : Option Entry) → Adds post told (giving_back later post desk told x)
 giving_adds later post desk told None = scanned_adds later post (with_kept desk) told
-giving_adds later post desk told (Some entry) = out_adds _ _ _ _ _
+giving_adds later post desk told (Some entry) = out_adds _ _ _ _
 
 reading_adds : (later : AfterScan) (number : ℕ) (post : Post) (desk : Desk) (told : List Event) (more : Bool) → Adds post told (scans.reading later number post desk told more)
-reading_adds later number post desk told true = out_adds _ _ _ _ _
+reading_adds later number post desk told true = out_adds _ _ _ _
 reading_adds later number post desk told false = giving_adds later post desk told (unmet_from desk 0)
 
-resumed_adds : (why : Why) (desk : Desk) (post : Post) (told : List Event) (outcome : Outcome) → Adds post told (resumed why desk post told outcome)
-resumed_adds why desk post told (Goes base) = out_adds _ _ _ _ _
+pub resumed_adds : (why : Why) (desk : Desk) (post : Post) (told : List Event) (outcome : Outcome) → Adds post told (resumed why desk post told outcome)
+resumed_adds why desk post told (Goes base) = out_adds _ _ _ _
 resumed_adds why desk post told (Ends ending) = resume_adds why ending post desk told
 
 -- what a step tells: what its machine or scan tells, and then no more of guards, scans, held rows, eras and free rows
 pub phase_adds : (phase : Phase) (post : Post) (desk : Desk) (found : ℕ) → Adds (own_post phase post found) (own_told phase post found) (phase_turn phase post desk found)
-phase_adds Idle post desk found = out_adds _ _ _ _ _
+phase_adds Idle post desk found = out_adds _ _ _ _
 phase_adds (Runs why base) post desk found = resumed_adds why desk (after base post found).post (after base post found).told (after base post found).outcome
 phase_adds (Scans later (ReadGuard number)) post desk found = reading_adds later number post (scans.with_read desk number (guard_at post.layout.config number, published (guard_at post.layout.config number) found)) _ (nat_lt (number + 1) (guards post.layout.config))
 phase_adds (Scans later (GiveBack place slot)) post desk found = giving_adds later post (with_back desk place) _ (unmet_from (with_back desk place) place)
