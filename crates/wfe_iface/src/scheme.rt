@@ -23,9 +23,13 @@ pub trait Scheme {
     const HELPS: bool;
 
     type Begin: Machine<End = ()>;
+
     type Protect: Machine<End = ProtectEnd>;
+
     type Clear: Machine<End = ()>;
+
     type Finish: Machine<End = ()>;
+
     type Release: Machine<End = ()>;
 
     /// What a round begins with.

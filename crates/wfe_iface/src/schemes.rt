@@ -29,9 +29,13 @@ impl Scheme for He {
     const HELPS: bool = false;
 
     type Begin = IbrBegin;
+
     type Protect = HeProtect;
+
     type Clear = HeClear;
+
     type Finish = IbrFinish;
+
     type Release = HeClear;
 
     ghost helps = { refl };
@@ -77,9 +81,13 @@ impl Scheme for Ibr {
     const HELPS: bool = false;
 
     type Begin = IbrBegin;
+
     type Protect = IbrProtect;
+
     type Clear = HeClear;
+
     type Finish = IbrFinish;
+
     type Release = IbrRelease;
 
     ghost helps = { refl };
@@ -114,10 +122,10 @@ impl Scheme for Ibr {
     }
 
     fn finish(post: &Post) -> Option<IbrFinish> {
-        match post.standing[2] {
-            Some(_) => None,
-            None => Some(IbrFinish::new()),
+        if post.standing[2].is_some() {
+            return None;
         }
+        Some(IbrFinish::new())
     }
 
     fn release() -> IbrRelease {
@@ -135,9 +143,13 @@ impl Scheme for Wfe {
     const HELPS: bool = true;
 
     type Begin = IbrBegin;
+
     type Protect = WfeProtect;
+
     type Clear = HeClear;
+
     type Finish = IbrFinish;
+
     type Release = HeClear;
 
     ghost helps = { refl };
