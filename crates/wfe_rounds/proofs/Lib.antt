@@ -1,11 +1,11 @@
-mod Counts
-mod Exchanges
-mod Grows
-mod Worlds
-mod Paced
-mod Machines
-mod Protects
-mod Kept
-mod Lasting
-mod Fresh
-mod Ending
+pub mod Counts
+pub mod Exchanges
+pub mod Grows
+pub mod Worlds
+pub mod Paced
+pub mod Machines
+pub mod Protects
+pub mod Kept
+pub mod Lasting
+pub mod Fresh
+pub mod Ending
