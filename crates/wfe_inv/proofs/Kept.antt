@@ -56,7 +56,7 @@ helped_by w i v l z next f b a d =
     let h = handover_kept w i v z f (handover_need w i v l z b a) a.held (a.helped f) in
     subst (λ (deal : ℕ → Deal). Helped (step w i) (rows_after w i v) deal) (sym d) h.1
 
-known_kept : (w : World) (i : ℕ) (v : View) (l : Line) (z next : Asked) → i < w.layout.config.seats → Known w v l z → Requests (step w i) next → next.deal ≡ next_deals w i z.deal → Known (step w i) (rows_after w i v) (line_after w i l) next
+pub known_kept : (w : World) (i : ℕ) (v : View) (l : Line) (z next : Asked) → i < w.layout.config.seats → Known w v l z → Requests (step w i) next → next.deal ≡ next_deals w i z.deal → Known (step w i) (rows_after w i v) (line_after w i l) next
 known_kept w i v l z next b a q d = record {
   valid = a.valid;
   seats = seats_step w i a.valid a.seats;
@@ -78,7 +78,7 @@ known_kept w i v l z next b a q d = record {
   items = items_kept w i v l (items_need w i v l z b a) a.whole.both a.items;
 }
 
-asked_next : (w : World) (i : ℕ) (v : View) (l : Line) (z : Asked) → i < w.layout.config.seats → Known w v l z → StandsAfter (step w i) (next_deals w i z.deal)
+pub asked_next : (w : World) (i : ℕ) (v : View) (l : Line) (z : Asked) → i < w.layout.config.seats → Known w v l z → StandsAfter (step w i) (next_deals w i z.deal)
 asked_next w i v l z b a = requests_step w i z a.valid b a.seats a.paces (needs_of w a.slots) a.requests
 
 pub inv_kept : InvKept
