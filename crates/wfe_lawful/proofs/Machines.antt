@@ -145,7 +145,7 @@ cleared_machine : (index : ℕ) (x : Option ℕ) → All (cleared index x)
 cleared_machine index None = refl
 cleared_machine index (Some slot) = refl
 
-clear_machine : (scheme : SchemeKind) (post : Post) (index : ℕ) → All (clear_told scheme post index)
+pub clear_machine : (scheme : SchemeKind) (post : Post) (index : ℕ) → All (clear_told scheme post index)
 clear_machine He post index = refl
 clear_machine Ibr post index = cleared_machine index (stands post index)
 clear_machine Wfe post index = refl
@@ -163,7 +163,7 @@ base_machine (GiveUp slot) post found = refl
 base_machine (Retire at) post found = retire_machine at post found
 base_machine (Move at) post found = move_machine at post found
 
-scan_machine : (at : ScanAt) (post : Post) (found : ℕ) → All (scan_told at post found)
+pub scan_machine : (at : ScanAt) (post : Post) (found : ℕ) → All (scan_told at post found)
 scan_machine (ReadGuard number) post found = refl
 scan_machine (GiveBack place slot) post found = refl
 
@@ -216,7 +216,7 @@ abbrev pub one_loud : List Event → Bool
 one_loud [] = true
 one_loud (event ∷ told) = if is_still event then one_loud told else all_of is_still told
 
-machine_still : (event : Event) → is_machine event ≡ true → is_still event ≡ true
+pub machine_still : (event : Event) → is_machine event ≡ true → is_still event ≡ true
 machine_still (events.Got bucket version key value) h = absurd (cc)
 machine_still (events.Put bucket version key value) h = absurd (cc)
 machine_still (events.Removed bucket version key) h = absurd (cc)
@@ -248,18 +248,18 @@ loud_along : (xs ys : List Event) → one_loud xs ≡ true → all_of is_still y
 loud_along [] ys h k = still_loud ys k
 loud_along (x ∷ xs) ys h k = more_by (is_still x) (one_loud xs) (all_of is_still xs) (one_loud (xs ++ ys)) (all_of is_still (xs ++ ys)) (λ f. loud_along xs ys f k) (λ f. of_along is_still xs ys f k) h
 
-cut_still : (link : ℕ) → all_of is_still (alters.told_cut link) ≡ true
+pub cut_still : (link : ℕ) → all_of is_still (alters.told_cut link) ≡ true
 cut_still link = by (link == 0)
   where
     by : (b : Bool) → all_of is_still (if b then [] else events.Cut (link - 1) ∷ []) ≡ true
     by true = refl
     by false = refl
 
-link_still : (root : Root) (slot : ℕ) (same : Bool) → all_of is_still (enqueues.told_link root slot same) ≡ true
+pub link_still : (root : Root) (slot : ℕ) (same : Bool) → all_of is_still (enqueues.told_link root slot same) ≡ true
 link_still root slot true = refl
 link_still root slot false = refl
 
-end_still : (post : Post) (outcome : CallOutcome) → all_of is_still (told_end post outcome) ≡ true
+pub end_still : (post : Post) (outcome : CallOutcome) → all_of is_still (told_end post outcome) ≡ true
 end_still post (GoesOn phase) = refl
 end_still post (Answers answer) = refl
 

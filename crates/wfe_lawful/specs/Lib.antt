@@ -1,1 +1,2 @@
+pub mod MapKept
 pub mod StepLaw

@@ -89,29 +89,29 @@ scan_told (ReadGuard number) post found = events.Read (guard_at post.layout.conf
 scan_told (GiveBack place slot) post found = events.Back slot ∷ []
 
 -- a get may tell the version that it knows, and 0 where its protection ends with null
-abbrev get_allows : (ℕ → ℕ → Type 0) → ℕ → GetAt → Type 0
+abbrev pub get_allows : (ℕ → ℕ → Type 0) → ℕ → GetAt → Type 0
 get_allows A key (FindVersion slot) = Unit {0}
 get_allows A key (FindCount slot version) = A key version
 get_allows A key (FindKey slot version count pair) = A key version
 get_allows A key (FindValue slot version pair) = A key version
 
-abbrev null_allows : (ℕ → ℕ → Type 0) → Task → Type 0
+abbrev pub null_allows : (ℕ → ℕ → Type 0) → Task → Type 0
 null_allows A (Gets key) = A key 0
 null_allows A task = Unit {0}
 
-abbrev ending_allows : (ℕ → ℕ → Type 0) → Task → Ending → Type 0
+abbrev pub ending_allows : (ℕ → ℕ → Type 0) → Task → Ending → Type 0
 ending_allows A task (Protected protect_ends.Null) = null_allows A task
 ending_allows A task ending = Unit {0}
 
-abbrev why_allows : (ℕ → ℕ → Type 0) → Why → Ending → Type 0
+abbrev pub why_allows : (ℕ → ℕ → Type 0) → Why → Ending → Type 0
 why_allows A (Opens task) ending = ending_allows A task ending
 why_allows A why ending = Unit {0}
 
-abbrev outcome_allows : (ℕ → ℕ → Type 0) → Why → Outcome → Type 0
+abbrev pub outcome_allows : (ℕ → ℕ → Type 0) → Why → Outcome → Type 0
 outcome_allows A why (Goes base) = Unit {0}
 outcome_allows A why (Ends ending) = why_allows A why ending
 
-abbrev work_allows : (ℕ → ℕ → Type 0) → Work → Type 0
+abbrev pub work_allows : (ℕ → ℕ → Type 0) → Work → Type 0
 work_allows A (Getting key at) = get_allows A key at
 work_allows A work = Unit {0}
 
