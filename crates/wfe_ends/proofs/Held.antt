@@ -37,11 +37,12 @@ use Rattle.wfe_covers.specs.Held.{leads}
 use Rattle.wfe_defs.specs.declared.event.Event.{Event}
 use Rattle.wfe_defs.specs.declared.event.Root.{Root}
 use Rattle.wfe_ends.proofs.Nulls.{none_of}
-use Rattle.wfe_ends.proofs.Rows.{concluded_told, own_told, phase_adds, resumed_adds}
+use Rattle.wfe_told.proofs.Rows.{concluded_told, own_told, phase_adds, resumed_adds}
 use Rattle.wfe_ends.proofs.Stood.{base_keeps, clear_calm, counted_fits, fits_index, held_told, is_still, run_index, same_standing, still_shows}
 use Rattle.wfe_ends.proofs.Tests.{any_more, base_any}
-use Rattle.wfe_ends.proofs.Turns.{Adds, at_index, cleared_stood, either, no_truth, out_adds, resume_adds}
-use Rattle.wfe_ends.specs.Standing.{ClearStood, HeldCovered, HeldStands, holds_base, holds_in, is_clear, is_end}
+use Rattle.wfe_told.proofs.Turns.{Adds, at_index, cleared_stood, either, no_truth, out_adds, resume_adds}
+use Rattle.wfe_ends.specs.Standing.{ClearStood, HeldCovered, HeldStands, holds_base, holds_in, is_end}
+use Rattle.wfe_told.specs.Stands.{is_clear}
 use Rattle.wfe_eras.specs.Seats.{PhaseFits, protects, reloads, suits}
 use Rattle.wfe_eras.specs.Seats.{kind_of}
 use Rattle.wfe_words.specs.declared.layout.Layout.{Layout}

@@ -31,7 +31,7 @@ use Rattle.wfe_core.specs.declared.post.Post.{Post}
 use Rattle.wfe_defs.specs.declared.event.Event.{Event}
 use Rattle.wfe_defs.specs.declared.event.Root.{Root}
 use Rattle.wfe_ends.proofs.Tests.{Calm, base_shows, phase_shows, step_any}
-use Rattle.wfe_ends.proofs.Turns.{is_later, no_truth}
+use Rattle.wfe_told.proofs.Turns.{is_later, no_truth}
 use Rattle.wfe_ends.specs.Nulls.{NullTold, NullsEnd, ended_base, is_null, null_base, null_in}
 use Rattle.wfe_words.specs.Packed.{read_reservation}
 use Rattle.std.specs.Prelude.{List, [], ◌∷◌, Option, Some, None, if◌then◌else◌, ◌==◌, ◌&&◌, ◌||◌}

@@ -40,10 +40,11 @@ use Rattle.wfe_covers.specs.Held.{leads}
 use Rattle.wfe_defs.specs.declared.event.Event.{Event}
 use Rattle.wfe_defs.specs.declared.event.Root.{Root}
 use Rattle.wfe_ends.proofs.Nulls.{none_of, under_test}
-use Rattle.wfe_ends.proofs.Rows.{concluded_told, own_post, own_told, step_adds}
+use Rattle.wfe_told.proofs.Rows.{concluded_told, own_post, own_told, step_adds}
 use Rattle.wfe_ends.proofs.Tests.{Calm, base_any, base_shows, phase_shows, step_any}
-use Rattle.wfe_ends.proofs.Turns.{Adds, is_later, no_truth, stood_append, withdrawn_stood}
-use Rattle.wfe_ends.specs.Standing.{HeldTold, StandingTold, holds_base, holds_in, is_clear, is_end, is_held, stood, stood_by}
+use Rattle.wfe_told.proofs.Turns.{Adds, is_later, no_truth, stood_append, withdrawn_stood}
+use Rattle.wfe_ends.specs.Standing.{HeldTold, StandingTold, holds_base, holds_in, is_end, is_held}
+use Rattle.wfe_told.specs.Stands.{is_clear, stood, stood_by}
 use Rattle.wfe_eras.specs.Seats.{PhaseFits, Posted, Run, index_by}
 use Rattle.wfe_words.specs.Packed.{read_reservation}
 use Rattle.wfe_words.specs.declared.layout.Layout.{Layout}

@@ -31,8 +31,8 @@ use Rattle.wfe_defs.specs.declared.event.Event.{Event}
 use Rattle.wfe_defs.specs.declared.event.Guard.{Guard}
 use Rattle.wfe_defs.specs.declared.event.Root.{Root}
 use Rattle.wfe_defs.specs.declared.lifetime.Interval.{Interval}
-use Rattle.wfe_ends.proofs.Rows.{concluded_told, own_post, own_told, step_adds}
-use Rattle.wfe_ends.proofs.Turns.{Adds, is_later}
+use Rattle.wfe_told.proofs.Rows.{concluded_told, own_post, own_told, step_adds}
+use Rattle.wfe_told.proofs.Turns.{Adds, is_later}
 use Rattle.wfe_words.specs.Packed.{read_reservation}
 use Rattle.std.specs.Prelude.{List, [], ◌∷◌, ◌++◌, Option, Some, None, if◌then◌else◌, ◌==◌, ◌&&◌, ◌||◌}
 

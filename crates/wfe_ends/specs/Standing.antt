@@ -1,5 +1,5 @@
 -- What stands at the indexes of a seat is what its steps tell: Held and Clear, each where it happens.
-use Rattle.std.specs.Prelude.{ℕ, ◌≡◌, ◌==◌, ◌+◌, ◌&&◌, Bool, true, false, if◌then◌else◌, List, [], ◌∷◌, Option, Some, None}
+use Rattle.std.specs.Prelude.{ℕ, ◌≡◌, ◌==◌, ◌+◌, ◌&&◌, Bool, true, false, Some}
 use Rattle.std.specs.List.{list_any}
 use Rattle.wfe_defs.specs.declared.event.Event.{Event}
 use Rattle.wfe_defs.specs.declared.event.Event.TheVariants as events
@@ -13,27 +13,14 @@ use Rattle.wfe_core.specs.Phases.Base.{Protect, Reload}
 use Rattle.wfe_core.specs.Calls.{Phase, Runs}
 use Rattle.wfe_core.specs.World.{World, step, finds, told_in}
 use Rattle.wfe_eras.specs.Seats.{Seats}
+use Rattle.wfe_told.specs.Stands.{is_clear, stood}
 use Rattle.wfe_rows.specs.Rows.{View}
 use Rattle.wfe_covers.specs.Held.{leads, own_guard, Holds, Held}
 
--- the row is told to stand at the index, or to stand there no more
+-- the row is told to stand at the index
 abbrev pub is_held : ℕ → ℕ → Event → Bool
 is_held j s (events.Held index slot steps) = (index == j) && (slot == s)
 is_held j s event = false
-
-abbrev pub is_clear : ℕ → ℕ → Event → Bool
-is_clear j s (events.Clear index slot) = (index == j) && (slot == s)
-is_clear j s event = false
-
--- what stands at an index after an event, and after all that is told
-abbrev pub stood_by : Event → Option ℕ → ℕ → Option ℕ
-stood_by (events.Held index slot steps) x j = if index == j then Some slot else x
-stood_by (events.Clear index slot) x j = if index == j then None else x
-stood_by event x j = x
-
-abbrev pub stood : List Event → Option ℕ → ℕ → Option ℕ
-stood [] x j = x
-stood (event ∷ told) x j = stood told (stood_by event x j) j
 
 -- the row of a next link stands only once the head was loaded again
 abbrev pub is_end : Root → Bool

@@ -39,7 +39,7 @@ use Rattle.wfe_core.specs.declared.ends.AllocateEnd.{AllocateEnd}
 use Rattle.wfe_core.specs.declared.ends.FollowEnd.{FollowEnd}
 use Rattle.wfe_core.specs.declared.post.Post.{Post}
 use Rattle.wfe_covers.proofs.Stands.{withdrawn_shrinks, withdrawn_same, withdrawn_other}
-use Rattle.wfe_ends.specs.Standing.{is_clear, stood_by, stood}
+use Rattle.wfe_told.specs.Stands.{is_clear, stood_by, stood}
 use Rattle.wfe_covers.specs.Tries.{Shrinks}
 use Rattle.wfe_defs.specs.declared.call.Answer.{Answer}
 use Rattle.wfe_defs.specs.declared.event.Event.{Event}

@@ -47,8 +47,8 @@ use Rattle.wfe_covers.specs.Covers.{takes_or_frees}
 use Rattle.wfe_defs.specs.declared.event.Event.{Event}
 use Rattle.wfe_defs.specs.declared.event.Root.{Root}
 use Rattle.wfe_defs.specs.declared.lifetime.Lifetime.{Lifetime}
-use Rattle.wfe_ends.proofs.Turns.{Adds, is_later, no_truth, out_adds, resume_adds, work_adds}
-use Rattle.wfe_ends.specs.Told.{NoReuse, RowWas, RowsTold, RowsWere, birth_at, birth_base, birth_in, is_of_rows, move_of, of_rows, reuses, row_events}
+use Rattle.wfe_told.proofs.Turns.{Adds, is_later, no_truth, out_adds, resume_adds, work_adds}
+use Rattle.wfe_told.specs.Told.{NoReuse, RowWas, RowsTold, RowsWere, birth_at, birth_base, birth_in, is_of_rows, move_of, of_rows, reuses, row_events}
 use Rattle.wfe_eras.specs.Eras.{PhaseEras, base_eras, retire_eras}
 use Rattle.wfe_rows.proofs.Fits.{MoveFits, phase_fits}
 use Rattle.wfe_rows.specs.Agree.{Plays}

@@ -1,5 +1,5 @@
-use Rattle.wfe_ends.proofs.Rows.{rows_told, rows_were}
-use Rattle.wfe_ends.proofs.rows_are_told.Goals as goal
+use Rattle.wfe_told.proofs.Rows.{rows_told, rows_were}
+use Rattle.wfe_told.proofs.rows_are_told.Goals as goal
 
 pub returns-clause-told : goal.returns-clause-told
 returns-clause-told c = rows_told
