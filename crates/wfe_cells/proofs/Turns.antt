@@ -1,15 +1,15 @@
 -- What a call's machine took of a step is what the turn leaves of its seat.
-use Rattle.std.proofs.Common.{List, [], ap, refl, sym, ◌++◌, ◌∙◌, ◌≡◌}
+use Rattle.std.proofs.Common.{List, ap, sym, ◌++◌, ◌∙◌, ◌≡◌}
 use Rattle.std.specs.Prelude.{None, Option, Some}
 use Rattle.wfe_defs.specs.declared.call.Answer.{Answer}
 use Rattle.wfe_defs.specs.declared.event.Event.{Event}
-use Rattle.wfe_core.specs.Calls.{Answers, CallOutcome, CallTurn, GoesOn, Idle, Phase}
+use Rattle.wfe_core.specs.Calls.{CallOutcome, CallTurn, Phase}
 use Rattle.wfe_core.specs.DeskHeld.{Leads, Took, desk_of, told_answer}
 use Rattle.wfe_core.specs.Desks.{Desk, noting}
 use Rattle.wfe_core.specs.Locals.{told_by, told_end}
 use Rattle.wfe_core.specs.declared.desk.Desk.{Desk as HeldDesk}
 use Rattle.wfe_core.specs.declared.post.Post.{Post}
-use Rattle.wfe_cells.specs.Unit.{Leaves, SeatView, answer_in, phase_after, phase_left, seat_after}
+use Rattle.wfe_cells.specs.Unit.{Leaves, SeatView, answer_in, phase_after, phase_left}
 
 -- End is told where the call has an answer
 end-answer : (post : Post) (outcome : CallOutcome) (answer : Option Answer) (phase : Phase) → Leads outcome answer phase → told_answer post answer ≡ told_end post outcome

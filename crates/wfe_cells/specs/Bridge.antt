@@ -3,7 +3,7 @@ use Rattle.std.specs.Prelude.{List, length, slice_index, true, ℕ, ◌<◌, ◌
 use Rattle.wfe_words.specs.Place.{Place, has, place_at, words}
 use Rattle.wfe_words.specs.declared.layout.Layout.{Layout}
 use Rattle.wfe_core.specs.declared.op.Op.{Op}
-use Rattle.wfe_core.specs.Locals.{asks}
+use Rattle.wfe_core.specs.Locals.{asks, move}
 use Rattle.wfe_core.specs.Memory.{Move, found, numbered, place_in, written}
 use Rattle.wfe_core.specs.World.{World, finds, first_word, step}
 use Rattle.wfe_cells.specs.Memory.{AreNarrow, HoldsStart, memory}
@@ -30,6 +30,11 @@ pub record StaysNarrow (layout : Layout) : Type 0 where
   pub shows : (list : List ℕ) → IsNarrow list → AreNarrow (memory layout list)
   pub finds : (mem : Place → ℕ) (m : Move) → AreNarrow mem → found m (mem (place_in m)) < 2 ^ 64
   pub writes : (mem : Place → ℕ) (m : Move) → AreNarrow mem → writes_narrow (numbered layout m) ≡ true → AreNarrow (written mem m)
+
+-- the seat's operation is numbered by the World's layout, and on a word of its table
+pub record AsksWithin (w : World) (i : ℕ) : Type 0 where
+  pub layout : (w.seat i).post.layout ≡ w.layout
+  pub there : has w.layout (place_in (move (w.seat i))) ≡ true
 
 -- where the list is a World's memory, performing the operation that a seat asks for answers what the seat finds, and
 -- leaves the memory of the World after its step

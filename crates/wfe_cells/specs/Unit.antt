@@ -1,7 +1,7 @@
 -- Words and seats as code keeps them, and one unit: a seat's operation, and what the seat makes of what it found. It is
 -- one step of each World that they show. The book, the calls' names, the rounds and the log are the World's alone.
-use Rattle.std.specs.Prelude.{List, None, Option, Some, length, slice_index_or, slice_set, true, ℕ, ◌<◌, ◌≡◌}
-use Rattle.wfe_words.specs.Place.{has, place_at, words}
+use Rattle.std.specs.Prelude.{List, None, Option, Some, length, slice_index_or, slice_set, ℕ, ◌<◌, ◌≡◌}
+use Rattle.wfe_words.specs.Place.{words}
 use Rattle.wfe_words.specs.declared.layout.Layout.{Layout}
 use Rattle.wfe_defs.specs.declared.call.Answer.{Answer}
 use Rattle.wfe_defs.specs.declared.call.Call.{Call}
@@ -15,7 +15,7 @@ use Rattle.wfe_core.specs.Locals.{Local, begun_post, told_by, turn}
 use Rattle.wfe_core.specs.Posts.{counted, new_post}
 use Rattle.wfe_core.specs.Steps.{call_op, first_phase, phase_turn}
 use Rattle.wfe_core.specs.Valid.{IsValid}
-use Rattle.wfe_core.specs.World.{World, begin, finds, start, step, told_in}
+use Rattle.wfe_core.specs.World.{World, finds, step, told_in}
 use Rattle.wfe_core.specs.declared.op.Op.{Op}
 use Rattle.wfe_core.specs.declared.post.Post.{Post}
 use Rattle.wfe_cells.specs.Memory.{memory}
@@ -109,11 +109,11 @@ pub record Shows (table : TableView) (w : World) : Type 0 where
   pub mem : w.mem ≡ memory table.layout table.words
   pub seats : (i : ℕ) → shown (w.seat i) ≡ seat_at table i
 
--- a unit of the table is a step of the World, with its events and its turn
-pub record IsStep (table : TableView) (w : World) (seat : ℕ) : Type 0 where
-  pub shows : Shows (after_unit table seat) (step w seat)
-  pub told : told_by (unit_turn table seat) ≡ told_in w seat
-  pub turn : unit_turn table seat ≡ turn (w.seat seat) (finds w seat)
+-- the table, the events and the answer are those of a step of the World
+pub record IsStep (table : TableView) (w : World) (seat : ℕ) (told : List Event) (answer : Option Answer) : Type 0 where
+  pub shows : Shows table (step w seat)
+  pub told_is : told ≡ told_in w seat
+  pub answer_is : answer ≡ answer_in (turn (w.seat seat) (finds w seat)).outcome
 
 -- a call that has answered is over
 abbrev pub phase_left : Option Answer → Phase → Phase

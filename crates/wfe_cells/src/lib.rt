@@ -8,4 +8,4 @@ mod laws;
 mod tests;
 
 pub use cells::{Cells, MakeCells, PlainCells};
-pub use laws::{calls_leave_turns, operations_make_steps, units_are_steps, words_lie_by_place};
+pub use laws::{calls_make_units, operations_make_steps, units_are_steps, words_lie_by_place};
