@@ -46,7 +46,7 @@ holding_plain : (key : ℕ) (post : Post) (x : Option ℕ) → is_plain (holding
 holding_plain key post None = round_plain (Holds key) post
 holding_plain key post (Some slot) = refl
 
-first_plain : (call : Call) (post : Post) → is_plain (first_phase call post) ≡ true
+pub first_plain : (call : Call) (post : Post) → is_plain (first_phase call post) ≡ true
 first_plain (names.Get key) post = round_plain (Gets key) post
 first_plain (names.Put key value) post = round_plain (Changes _) post
 first_plain (names.Remove key) post = round_plain (Changes _) post

@@ -49,11 +49,11 @@ number_is : (a b : ℕ) → (a == b) ≡ true → a ≡ b
 number_is a b h = grind (arith, nat_tests)
 
 -- what a step leaves: what rows show, what the seat itself knows, and that rows that stood show the same
-record Did (n : ℕ) (a b : Book) (v u : View) (after : Place → ℕ) (left : Phase) (told : List Event) : Type 0 where
-  rows : Shelved (on n (shelf_of b) after) b u
-  own : Knows (on n (shelf_of b) after) left
-  far : (s : ℕ) → is_settled (v.status s) ≡ true → SameSlot (shelf_of a) (shelf_of b) s
-  right : AllRight n a told
+pub record Did (n : ℕ) (a b : Book) (v u : View) (after : Place → ℕ) (left : Phase) (told : List Event) : Type 0 where
+  pub rows : Shelved (on n (shelf_of b) after) b u
+  pub own : Knows (on n (shelf_of b) after) left
+  pub far : (s : ℕ) → is_settled (v.status s) ≡ true → SameSlot (shelf_of a) (shelf_of b) s
+  pub right : AllRight n a told
 
 -- events that the book does not mind
 end_calm : (post : Post) (outcome : CallOutcome) → all_calm (told_end post outcome) ≡ true
@@ -211,7 +211,7 @@ knows_at : (g : Ground) (i k : ℕ) (old new : Local) (same : Bool) → (k == i)
 knows_at g i k old new true e p q = q
 knows_at g i k old new false e p q = p e
 
-step_did : (w : World) (i : ℕ) (v : View) → RowsNeeds w i v → ContentsNeeds w i v → Agree w v → Contents w v → Did w.layout.config.buckets w.book (step w i).book v (rows_after w i v) (step w i).mem (phase_left (turn (w.seat i) (finds w i)).outcome) (told_in w i)
+pub step_did : (w : World) (i : ℕ) (v : View) → RowsNeeds w i v → ContentsNeeds w i v → Agree w v → Contents w v → Did w.layout.config.buckets w.book (step w i).book v (rows_after w i v) (step w i).mem (phase_left (turn (w.seat i) (finds w i)).outcome) (told_in w i)
 step_did w i v needs owed agree c =
     let l : Local = w.seat i in
     phase_did

@@ -1,12 +1,12 @@
-mod Asks
-mod Back
-mod Begun
-mod Deals
-mod Helps
-mod Kept
-mod Loads
-mod Others
-mod Own
-mod Shown
-mod Tries
-mod Words
+pub mod Asks
+pub mod Back
+pub mod Begun
+pub mod Deals
+pub mod Helps
+pub mod Kept
+pub mod Loads
+pub mod Others
+pub mod Own
+pub mod Shown
+pub mod Tries
+pub mod Words

@@ -130,7 +130,7 @@ head_out w i v l base upto n b e =
 ended : (wanted : Root → Bool) (clock upto : ℕ) (P : ℕ → Type 0) (outcome : Outcome) (slot era : ℕ) → TryOut wanted clock upto P outcome → outcome ≡ Ends (Protected (protect_ends.Held slot era)) → P slot
 ended wanted clock upto P outcome slot era x e = let Q : Outcome → Type 0 = λ y. TryOut wanted clock upto P y in subst Q e x
 
-whole_needs : (w : World) (i : ℕ) (v : View) (l : Line) → WholeNeeds w i v l → Whole w v l → QueueNeeds w i v l
+pub whole_needs : (w : World) (i : ℕ) (v : View) (l : Line) → WholeNeeds w i v l → Whole w v l → QueueNeeds w i v l
 whole_needs w i v l n b = record {
   own = record {
     walks = n.walks;

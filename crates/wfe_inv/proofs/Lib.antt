@@ -1,0 +1,13 @@
+pub mod Begun
+pub mod Ends
+pub mod Frees
+pub mod Guards
+pub mod Kept
+pub mod Reached
+pub mod Ready
+pub mod Rows
+pub mod Shapes
+pub mod Shown
+pub mod Tells
+pub mod Tracks
+pub mod Whole

@@ -1,0 +1,5 @@
+use Rattle.wfe_inv.proofs.Tells as tells
+use Rattle.wfe_inv.proofs.inv_tells.Goals as goal
+
+pub returns : goal.returns
+returns c = tells.inv_tells

@@ -1,0 +1,9 @@
+pub mod Begun
+pub mod Bounds
+pub mod Finds
+pub mod Follow
+pub mod Gives
+pub mod Kept
+pub mod Rows
+pub mod Shown
+pub mod Steps

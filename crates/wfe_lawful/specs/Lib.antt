@@ -1,0 +1,2 @@
+pub mod MapKept
+pub mod StepLaw

@@ -1,0 +1,10 @@
+pub mod Backs
+pub mod Came
+pub mod Deals
+pub mod Ends
+pub mod Heard
+pub mod Kept
+pub mod Movers
+pub mod Opened
+pub mod Own
+pub mod Plain

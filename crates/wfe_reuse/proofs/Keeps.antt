@@ -1,0 +1,243 @@
+-- The record of each history keeps the law on reuse.
+use Rattle.std.proofs.Common.{ℕ, zero, suc, ◌≡◌, ◌<◌, ◌≤◌, Bool, true, false, List, [], ◌∷◌, length, Option, Some, None, refl, sym, ap, ◌∙◌, subst, arith}
+use Rattle.std.proofs.lemmas.Bool.Decides.{nat_tests}
+use Rattle.std.specs.Prelude.{◌==◌, ◌&&◌, ◌||◌, not, nat_lt, if◌then◌else◌}
+use Rattle.wfe_words.specs.Place.{is_valid}
+use Rattle.wfe_words.specs.declared.layout.Layout.{Layout}
+use Rattle.wfe_defs.specs.declared.call.Call.{Call}
+use Rattle.wfe_defs.specs.declared.event.Event.{Event}
+use Rattle.wfe_defs.specs.declared.event.Event.TheVariants as events
+use Rattle.wfe_core.specs.declared.post.Post.{Post}
+use Rattle.wfe_core.specs.Desks.{Desk, noting}
+use Rattle.wfe_core.specs.Locals.{Local, settled_by, turn, told_by, rounds_told}
+use Rattle.wfe_core.specs.Posts.{stands, counted}
+use Rattle.wfe_core.specs.Phases.{Base}
+use Rattle.wfe_core.specs.Phases.Base.{Begin, Protect, Reload, Clear, Finish, Release, Allocate, Write, GiveUp, Retire, Move}
+use Rattle.wfe_core.specs.Calls.{Why, CallTurn, CallOutcome, GoesOn, Answers, ScanAt, ReadGuard, GiveBack, Phase, Idle, Runs, Scans, Works}
+use Rattle.wfe_core.proofs.Ranges.{bounds_of}
+use Rattle.wfe_core.specs.World.{World, start, begin, step, finds, told_in, is_busy}
+use Rattle.wfe_eras.specs.Seats.{Seats}
+use Rattle.wfe_eras.proofs.Frame.{seat_stays, seat_steps, begin_stays, begin_begins}
+use Rattle.wfe_laws.specs.Record.{Past, Each, tells_of}
+use Rattle.wfe_laws.specs.Record.Past.{Then}
+use Rattle.wfe_history.specs.History.{Item, Begins, Steps, Made, fits, done_if, did, done, made_from, first_made, made_of, record_of}
+use Rattle.wfe_laws.proofs.Entries.{entries_of_each}
+use Rattle.wfe_rows.specs.Hands.{row_move}
+use Rattle.wfe_covers.specs.Covers.{takes_or_frees}
+use Rattle.wfe_covers.specs.Held.{index_base}
+use Rattle.wfe_inv.specs.Inv.{Inv}
+use Rattle.wfe_inv.proofs.Begun.{inv_start, inv_begin}
+use Rattle.wfe_inv.proofs.Kept.{inv_kept}
+use Rattle.wfe_inv.proofs.Shapes.{run_of, index_in}
+use Rattle.wfe_reuse.specs.Reuse.{is_reuse, reuses}
+use Rattle.wfe_reuse.specs.Law.{stood_by, stood_at, is_row, reuse_ok, RecordsKeepReuse, RecordStands}
+use Rattle.wfe_reuse.proofs.Follows.{stood, Follow, base_follows, follow_closed}
+use Rattle.wfe_reuse.proofs.Never.{no_reuse}
+use Rattle.wfe_reuse.proofs.Passes.{first_of, rest_of, First, scan_told, step_goes}
+use Rattle.wfe_reuse.proofs.Told.{told_free}
+use Rattle.wfe_reuse.proofs.Unheld.{is_unheld, unheld, phase_holds_none, told_unheld}
+
+-- a step leaves of what stands what it tells
+scan_follows : (post : Post) (at : ScanAt) (found : ℕ) → Follow post post (scan_told at post found)
+scan_follows post (ReadGuard number) found j = refl
+scan_follows post (GiveBack place slot) found j = refl
+
+first_follows : (phase : Phase) (post : Post) (found : ℕ) → ((why : Why) (base : Base) → phase ≡ Runs why base → index_base base < length post.standing) → First (Follow post) phase post found
+first_follows Idle post found h = λ j. refl
+first_follows (Runs why base) post found h = base_follows post base found (h why base refl)
+first_follows (Scans later at) post found h = scan_follows post at found
+first_follows (Works work) post found h = λ j. refl
+
+index_room : (index indexes length : ℕ) → index < indexes → indexes ≤ 8 → length ≡ 8 → index < length
+index_room index indexes length a b e = omega arith
+
+room_of : (w : World) (i : ℕ) (why : Why) (base : Base) → is_valid w.layout ≡ true → Seats w → (w.seat i).phase ≡ Runs why base → index_base base < length (w.seat i).post.standing
+room_of w i why base d s e =
+    let m = (bounds_of w.layout d).indexes in
+    index_room (index_base base) w.layout.config.indexes (length (w.seat i).post.standing) (index_in w.layout why base (w.seat i).post d (run_of w i why base s e)) m.1 (s.fits i).post.standing
+
+settled_post : (l : Local) (t : CallTurn) (outcome : CallOutcome) (count : ℕ) (desk : Desk) → (settled_by l t.post desk count outcome).post ≡ t.post
+settled_post l t (GoesOn phase) count desk = refl
+settled_post l t (Answers answer) count desk = refl
+
+step_post : (w : World) (i : ℕ) → ((step w i).seat i).post ≡ (turn (w.seat i) (finds w i)).post
+step_post w i = ap (λ (l : Local). l.post) (seat_steps w i) ∙ settled_post (w.seat i) (turn (w.seat i) (finds w i)) (turn (w.seat i) (finds w i)).outcome (rounds_told (w.seat i).rounds (told_by (turn (w.seat i) (finds w i)))) (noting (turn (w.seat i) (finds w i)).desk (told_by (turn (w.seat i) (finds w i))))
+
+-- what stands in a seat's post after its step is what it told
+own_follows : (w : World) (i j : ℕ) → is_valid w.layout ≡ true → Seats w → stood j (told_in w i) (stands (w.seat i).post j) ≡ stands ((step w i).seat i).post j
+own_follows w i j d s =
+    step_goes (Follow (counted (w.seat i).post)) (follow_closed (counted (w.seat i).post)) (w.seat i).phase (counted (w.seat i).post) (w.seat i).desk (finds w i)
+    (first_follows (w.seat i).phase (counted (w.seat i).post) (finds w i) (λ why base e. room_of w i why base d s e)) j
+    ∙ sym (ap (λ (post : Post). stands post j) (step_post w i))
+
+-- the same of the record
+told_stands : (k i j : ℕ) (same : Bool) → (k == i) ≡ same → (p : Past) (told : List Event) → stood_at k j (tells_of p i told) ≡ (if same then stood j told (stood_at k j p) else stood_at k j p)
+told_stands k i j true e p [] = refl
+told_stands k i j false e p [] = refl
+told_stands k i j true e p (event ∷ told) = told_stands k i j true e (Then p i event) told ∙ ap (stood j told) (own_one k i j e p event)
+  where
+    own_one : (k i j : ℕ) → (k == i) ≡ true → (p : Past) (event : Event) → stood_at k j (Then p i event) ≡ stood_by j event (stood_at k j p)
+    own_one k i j e p event = rw e refl
+told_stands k i j false e p (event ∷ told) = told_stands k i j false e (Then p i event) told ∙ other_one k i j e p event
+  where
+    other_one : (k i j : ℕ) → (k == i) ≡ false → (p : Past) (event : Event) → stood_at k j (Then p i event) ≡ stood_at k j p
+    other_one k i j e p event = rw e refl
+
+step_stands : (w : World) (i k j : ℕ) (p : Past) (same : Bool) → (k == i) ≡ same → is_valid w.layout ≡ true → Seats w → stood_at k j p ≡ stands (w.seat k).post j → stood_at k j (tells_of p i (told_in w i)) ≡ stands ((step w i).seat k).post j
+step_stands w i k j p true e d s h =
+    let one : k ≡ i = grind (arith, nat_tests) in
+    let here : stands (w.seat k).post j ≡ stands (w.seat i).post j = ap (λ (m : ℕ). stands (w.seat m).post j) one in
+    let there : stands ((step w i).seat i).post j ≡ stands ((step w i).seat k).post j = ap (λ (m : ℕ). stands ((step w i).seat m).post j) (sym one) in
+    told_stands k i j true e p (told_in w i) ∙ ap (stood j (told_in w i)) (h ∙ here) ∙ own_follows w i j d s ∙ there
+step_stands w i k j p false e d s h = told_stands k i j false e p (told_in w i) ∙ h ∙ sym (ap (λ (l : Local). stands l.post j) (seat_stays w i k e))
+
+begin_same : (w : World) (i k j : ℕ) (call : Call) (same : Bool) → (k == i) ≡ same → stands ((begin w i call).seat k).post j ≡ stands (w.seat k).post j
+begin_same w i k j call true e =
+    let one : k ≡ i = grind (arith, nat_tests) in
+    subst (λ (m : ℕ). stands ((begin w i call).seat m).post j ≡ stands (w.seat m).post j) (sym one) (ap (λ (l : Local). stands l.post j) (begin_begins w i call))
+begin_same w i k j call false e = ap (λ (l : Local). stands l.post j) (begin_stays w i k call e)
+
+same_either : (same : Bool) (x : Option ℕ) → (if same then x else x) ≡ x
+same_either true x = refl
+same_either false x = refl
+
+-- the law along what a step tells: where nothing of row s is told to be given or free, or no row to be held
+and_false : (a : Bool) → (a && false) ≡ false
+and_false true = refl
+and_false false = refl
+
+not_false : (a : Bool) → a ≡ false → not a ≡ true
+not_false true h = absurd (cc)
+not_false false h = refl
+
+first_not : (a b : Bool) → (a || b) ≡ false → a ≡ false
+first_not false b h = refl
+first_not true b h = h
+
+rest_not : (a b : Bool) → (a || b) ≡ false → b ≡ false
+rest_not false b h = h
+rest_not true b h = absurd (cc)
+
+free_each : (k j s i : ℕ) (told : List Event) (p : Past) → reuses s told ≡ false → Each (reuse_ok k j s) p → Each (reuse_ok k j s) (tells_of p i told)
+free_each k j s i [] p h g = g
+free_each k j s i (event ∷ told) p h g =
+    let a : (is_row s (stood_at k j p) && is_reuse s event) ≡ false = rw (first_not (is_reuse s event) (reuses s told) h) (and_false (is_row s (stood_at k j p))) in
+    free_each k j s i told (Then p i event) (rest_not (is_reuse s event) (reuses s told) h) (not_false (is_row s (stood_at k j p) && is_reuse s event) a, g)
+
+-- what stands after an event that holds no row stood before it
+if_row : (s : ℕ) (same : Bool) (x : Option ℕ) → is_row s (if same then None else x) ≡ true → is_row s x ≡ true
+if_row s true x h = absurd (cc)
+if_row s false x h = h
+
+stood_back : (s j : ℕ) (event : Event) (x : Option ℕ) → is_unheld event ≡ true → is_row s (stood_by j event x) ≡ true → is_row s x ≡ true
+stood_back s j (events.Held index slot steps) x u h = absurd (cc)
+stood_back s j (events.Clear index slot) x u h = if_row s (j == index) x h
+stood_back s j event x u h = h
+
+by_seat : (s : ℕ) (same : Bool) (x y : Option ℕ) → (is_row s x ≡ true → is_row s y ≡ true) → is_row s (if same then x else y) ≡ true → is_row s y ≡ true
+by_seat s true x y f h = f h
+by_seat s false x y f h = h
+
+unheld_each : (k j s i : ℕ) (told : List Event) (p : Past) → unheld told ≡ true → (is_row s (stood_at k j p) ≡ true → reuses s told ≡ false) → Each (reuse_ok k j s) p → Each (reuse_ok k j s) (tells_of p i told)
+unheld_each k j s i [] p u h g = g
+unheld_each k j s i (event ∷ told) p u h g =
+    unheld_each k j s i told (Then p i event) (rest_of (is_unheld event) (unheld told) u)
+    (λ y. rest_not (is_reuse s event) (reuses s told) (h (by_seat s (k == i) (stood_by j event (stood_at k j p)) (stood_at k j p) (λ x. stood_back s j event (stood_at k j p) (first_of (is_unheld event) (unheld told) u) x) y)))
+    (by_row (is_row s (stood_at k j p)) (is_reuse s event) (λ y. first_not (is_reuse s event) (reuses s told) (h y)), g)
+  where
+    by_row : (a b : Bool) → (a ≡ true → b ≡ false) → not (a && b) ≡ true
+    by_row true b f = not_false b (f refl)
+    by_row false b f = refl
+
+-- a protection and a reload neither give nor free a row
+protects_free : (s : ℕ) (phase : Phase) (post : Post) (found : ℕ) → phase_holds_none phase ≡ false → takes_or_frees (row_move phase post found) s ≡ false
+protects_free s Idle post found h = absurd (cc)
+protects_free s (Runs why (Begin at)) post found h = absurd (cc)
+protects_free s (Runs why (Protect aim index root steps at)) post found h = refl
+protects_free s (Runs why (Reload parent index slot era steps)) post found h = refl
+protects_free s (Runs why (Clear index)) post found h = absurd (cc)
+protects_free s (Runs why Finish) post found h = absurd (cc)
+protects_free s (Runs why Release) post found h = absurd (cc)
+protects_free s (Runs why (Allocate at)) post found h = absurd (cc)
+protects_free s (Runs why (Write slot row place)) post found h = absurd (cc)
+protects_free s (Runs why (GiveUp slot)) post found h = absurd (cc)
+protects_free s (Runs why (Retire at)) post found h = absurd (cc)
+protects_free s (Runs why (Move at)) post found h = absurd (cc)
+protects_free s (Scans later at) post found h = absurd (cc)
+protects_free s (Works work) post found h = absurd (cc)
+
+row_of : (s : ℕ) (x : Option ℕ) → is_row s x ≡ true → x ≡ Some s
+row_of s None h = absurd (cc)
+row_of s (Some slot) h = let one : s ≡ slot = grind (arith, nat_tests) in ap Some (sym one)
+
+step_each : (w : World) (i k j s : ℕ) (p : Past) (none : Bool) → phase_holds_none (w.seat i).phase ≡ none → Inv w → stood_at k j p ≡ stands (w.seat k).post j → Each (reuse_ok k j s) p → Each (reuse_ok k j s) (tells_of p i (told_in w i))
+step_each w i k j s p true e a h g =
+    unheld_each k j s i (told_in w i) p (told_unheld (w.seat i).phase (counted (w.seat i).post) (w.seat i).desk (finds w i) e)
+    (λ y. no_reuse w i k j s a (sym h ∙ row_of s (stood_at k j p) y)) g
+step_each w i k j s p false e a h g =
+    free_each k j s i (told_in w i) p (told_free s (w.seat i).phase (w.seat i).post (counted (w.seat i).post) (w.seat i).desk (finds w i) (protects_free s (w.seat i).phase (w.seat i).post (finds w i) e)) g
+
+-- what a history keeps
+record Keeps (layout : Layout) (made : Made) : Type 0 where
+  pub table : made.world.layout ≡ layout
+  pub known : Inv made.world
+  pub stands : (k j : ℕ) → stood_at k j made.past ≡ stands (made.world.seat k).post j
+  pub law : (k j s : ℕ) → Each (reuse_ok k j s) made.past
+
+begins_right : (seat seats : ℕ) (busy : Bool) → (nat_lt seat seats && not busy) ≡ true → busy ≡ false
+begins_right seat seats true h = absurd (grind (arith, nat_tests))
+begins_right seat seats false h = refl
+
+steps_right : (seat seats : ℕ) (busy : Bool) → (nat_lt seat seats && busy) ≡ true → seat < seats
+steps_right seat seats busy h = grind (arith, nat_tests)
+
+begin_stood : (k i j : ℕ) (call : Call) (p : Past) → stood_at k j (Then p i (events.Begin call)) ≡ stood_at k j p
+begin_stood k i j call p = same_either (k == i) (stood_at k j p)
+
+begin_keeps : (layout : Layout) (made : Made) (i : ℕ) (call : Call) → is_busy made.world i ≡ false → Keeps layout made → Keeps layout (done made (Begins i call))
+begin_keeps layout made i call f g = record {
+  table = g.table;
+  known = inv_begin made.world i call f g.known;
+  stands = λ k j. begin_stood k i j call made.past ∙ g.stands k j ∙ sym (begin_same made.world i k j call (k == i) refl);
+  law = λ k j s. (not_false (is_row s (stood_at k j made.past) && false) (and_false (is_row s (stood_at k j made.past))), g.law k j s);
+}
+
+step_keeps : (layout : Layout) (made : Made) (i : ℕ) → i < made.world.layout.config.seats → Keeps layout made → Keeps layout (done made (Steps i))
+step_keeps layout made i b g =
+    let a = g.known in
+    let t = a.known in
+    record {
+      table = g.table;
+      known = inv_kept made.world i b a;
+      stands = λ k j. step_stands made.world i k j made.past (k == i) refl t.valid t.seats (g.stands k j);
+      law = λ k j s. step_each made.world i k j s made.past (phase_holds_none (made.world.seat i).phase) refl a (g.stands k j) (g.law k j s);
+    }
+
+item_keeps : (layout : Layout) (made : Made) (item : Item) (fit : Bool) → fits made.world item ≡ fit → Keeps layout made → Keeps layout (done_if made item fit)
+item_keeps layout made item false f g = g
+item_keeps layout made (Begins i call) true f g = begin_keeps layout made i call (begins_right i made.world.layout.config.seats (is_busy made.world i) f) g
+item_keeps layout made (Steps i) true f g = step_keeps layout made i (steps_right i made.world.layout.config.seats (is_busy made.world i) f) g
+
+items_keep : (layout : Layout) (items : List Item) (made : Made) → Keeps layout made → Keeps layout (made_from made items)
+items_keep layout [] made g = g
+items_keep layout (item ∷ items) made g = items_keep layout items (did made item) (item_keeps layout made item (fits made.world item) refl g)
+
+none_stands : (layout : Layout) (k j : ℕ) → None ≡ stands ((start layout).seat k).post j
+none_stands layout k zero = refl
+none_stands layout k (suc zero) = refl
+none_stands layout k (suc (suc zero)) = refl
+none_stands layout k (suc (suc (suc zero))) = refl
+none_stands layout k (suc (suc (suc (suc zero)))) = refl
+none_stands layout k (suc (suc (suc (suc (suc zero))))) = refl
+none_stands layout k (suc (suc (suc (suc (suc (suc zero)))))) = refl
+none_stands layout k (suc (suc (suc (suc (suc (suc (suc zero))))))) = refl
+none_stands layout k (suc (suc (suc (suc (suc (suc (suc (suc j)))))))) = refl
+
+history_keeps : (layout : Layout) (items : List Item) → is_valid layout ≡ true → Keeps layout (made_of layout items)
+history_keeps layout items d = items_keep layout items (first_made layout) (record { table = refl; known = inv_start layout d; stands = λ k j. none_stands layout k j; law = λ k j s. tt })
+
+pub record_stands : RecordStands
+record_stands layout items k j d = let g = history_keeps layout items d in g.stands k j
+
+pub records_keep_reuse : RecordsKeepReuse
+records_keep_reuse layout items d k j s = let g = history_keeps layout items d in entries_of_each (reuse_ok k j s) (record_of layout items) (g.law k j s)

@@ -1,0 +1,3 @@
+pub mod Reuse
+pub mod Holds
+pub mod Law
