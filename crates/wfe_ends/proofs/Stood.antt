@@ -89,14 +89,6 @@ or_false : (x : Bool) → (x || false) ≡ x
 or_false true = refl
 or_false false = refl
 
-one_held : (index link j s : ℕ) (null : Bool) → (link == 0) ≡ null → list_any (is_held j s) (if null then events.Null index 0 ∷ [] else events.Held index (link - 1) 0 ∷ []) ≡ ((index == j) && (link == s + 1))
-one_held index link j s true e = rw (null_leads link s e) (none_of (index == j))
-one_held index link j s false e = rw (lead_is link s (link == s + 1) refl e) (or_false ((index == j) && (link == s + 1)))
-
-next_held : (index j s n : ℕ) (x null : Bool) → list_any (is_held j s) (if null then events.Null index n ∷ [] else []) ≡ (x && false)
-next_held index j s n x true = none_of x
-next_held index j s n x false = none_of x
-
 told_is_held : (index : ℕ) (root : Root) (link n j s : ℕ) (null : Bool) → (link == 0) ≡ null → list_any (is_held j s) (told_held index root link n) ≡ ((index == j) && (is_end root && leads link s))
 told_is_held index (roots.Bucket bucket) link n j s true e = rw (e, null_leads link s e) (none_of (index == j))
 told_is_held index (roots.Bucket bucket) link n j s false e = rw (e, lead_is link s (link == s + 1) refl e) (or_false ((index == j) && (link == s + 1)))

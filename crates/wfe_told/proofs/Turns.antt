@@ -114,9 +114,7 @@ cleared_later index (Some slot) = refl
 
 pub cleared_stood : (index : ℕ) (x : Option ℕ) (j s : ℕ) → list_any (is_clear j s) (cleared index x) ≡ true → (index ≡ j) × (x ≡ Some s)
 cleared_stood index None j s h = no_truth h
-cleared_stood index (Some slot) j s h = (grind (arith, nat_tests), ap Some (same (grind (arith, nat_tests)))) where
-  same : slot ≡ s → slot ≡ s
-  same e = e
+cleared_stood index (Some slot) j s h = let q : slot ≡ s = grind (arith, nat_tests) in (grind (arith, nat_tests), ap Some q)
 
 pub at_index : (post : Post) (index j s : ℕ) → (index ≡ j) × (stands post index ≡ Some s) → stands post j ≡ Some s
 at_index post index j s h = subst (λ (k : ℕ). stands post k ≡ Some s) h.0 h.1

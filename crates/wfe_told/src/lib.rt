@@ -2,6 +2,7 @@
 //! nothing, and carries a theorem.
 #![tactic(auto)]
 
+ghost use Rattle.wfe_told.specs.Births.{GivenBegin, GivenKept, GivenStart, RetiresGiven};
 ghost use Rattle.wfe_told.specs.Told.{NoReuse, RowsTold, RowsWere};
 
 /// What a step tells of rows is its move of rows: which row is given, unused, retired or back. A row
@@ -16,4 +17,13 @@ pub fn rows_are_told()
 /// back.
 pub fn no_row_is_reused()
     ensures { NoReuse }
+{}
+
+/// A row is retired with the birth era under which it was given last: from the start on, and over
+/// every step and every call that begins, that is the birth era of each row that has one.
+pub fn births_are_told()
+    ensures start { GivenStart }
+    ensures begin { GivenBegin }
+    ensures step { GivenKept }
+    ensures retired { RetiresGiven }
 {}

@@ -20,7 +20,7 @@ use Rattle.wfe_requests.proofs.Answering.{Bits, own_bits}
 use Rattle.wfe_requests.proofs.Going.{equal_test, stands_in, test_equal}
 use Rattle.wfe_requests.proofs.Kept.{at_of}
 use Rattle.wfe_requests.specs.Context.{At}
-use Rattle.wfe_requests.specs.Deals.{ahead, answered_with, asked_by, gave_by, has_tag, is_open, is_quiet, taken_with}
+use Rattle.wfe_requests.specs.Deals.{ahead, answered_with, asked_by, gave_by, has_tag, is_quiet, taken_with}
 use Rattle.wfe_requests.specs.NextDeals.{move_deals, next_deals, phase_deals, protect_deals}
 use Rattle.wfe_requests.specs.Standing.{request_of}
 use Rattle.wfe_requests.specs.Views.{Deal, View}
@@ -41,13 +41,6 @@ quiet_done t j (Open t' j' w) h = refl
 quiet_done t j (Answered t' j' w l e m) h = no_truth h
 quiet_done t j (Passed t' j' w l e) h = no_truth h
 quiet_done t j (Taken t' j' w l e) h = refl
-
-open_done : (t j : ℕ) (d : Deal) → is_open d ≡ true → done_at t j d ≡ false
-open_done t j Quiet h = refl
-open_done t j (Open t' j' w) h = refl
-open_done t j (Answered t' j' w l e m) h = no_truth h
-open_done t j (Passed t' j' w l e) h = no_truth h
-open_done t j (Taken t' j' w l e) h = refl
 
 taken_done : (t j index word link era : ℕ) (d : Deal) → taken_with index word link era d ≡ true → done_at t j d ≡ false
 taken_done t j index word link era Quiet h = refl

@@ -1,5 +1,6 @@
-//! What a walk for a free row has seen, as a part of what holds between any two steps of any calls. Each function
-//! here does nothing, and carries a theorem.
+//! What a walk for a free row has seen, and which requests a mover of the clock has met, as parts of
+//! what holds between any two steps of any calls. Each function here does nothing, and carries a
+//! theorem.
 #![tactic(auto)]
 
 ghost use Rattle.wfe_walks.specs.Moves.{MeetingBegin, MeetingKept, MeetingStart, MetAnswered, MetOpen};
