@@ -6,13 +6,14 @@ use Rattle.wfe_history.specs.History.{made_of, world_of}
 use Rattle.wfe_inv.proofs.Kept.{known_kept, asked_next}
 use Rattle.wfe_inv.proofs.Rows.{rows_need}
 use Rattle.wfe_ends.proofs.Held.{held_covered}
+use Rattle.wfe_told.proofs.Births.{retires_given}
 use Rattle.wfe_told.proofs.Rows.{rows_were}
 use Rattle.wfe_walks.specs.Walks.{SeenTaken}
 use Rattle.wfe_walks.proofs.Kept.{full_seen}
 use Rattle.wfe_walks.proofs.Movers.{met_open, met_answered}
 use Rattle.wfe_outcomes.specs.Outcomes.{MachinesEnd}
 use Rattle.wfe_outcomes.specs.Sights.{sights_of}
-use Rattle.wfe_outcomes.proofs.Goes.{meeting_need, history_goes}
+use Rattle.wfe_outcomes.proofs.Goes.{meeting_need, given_need, history_goes}
 
 seen_taken : SeenTaken
 seen_taken w i s v seen a b f t = search rules
@@ -38,5 +39,6 @@ machines_end layout items i d b =
         answered = λ why era m tag index e few was. met_answered w i m tag index era why g.asked s.requests k.requests g.meeting e few was;
         held = λ j slot told. held_covered w i j slot (rows_after w i g.rows) k.seats after.held told;
         rows = rows_were w i g.rows (rows_need w i g.rows g.line k.seats k.eras k.whole.both) k.eras k.whole.both.rows;
+        births = λ slot birth retire lists. retires_given w i slot birth retire g.rows s.births (given_need made i g.rows g.line g.asked k) k.eras g.births lists;
       };
     }

@@ -18,6 +18,9 @@ use Rattle.wfe_history.specs.History.{Item, Begins, Steps, Made, fits, done, don
 use Rattle.wfe_inv.specs.Known.{Known}
 use Rattle.wfe_inv.proofs.Begun.{known_start, known_begin}
 use Rattle.wfe_inv.proofs.Kept.{known_kept, asked_next}
+use Rattle.wfe_inv.proofs.Rows.{rows_need}
+use Rattle.wfe_told.specs.Births.{Given, GivenNeeds}
+use Rattle.wfe_told.proofs.Births.{given_start, given_begin, given_kept}
 use Rattle.wfe_walks.specs.Moves.{met_after, Meeting, MeetingNeeds}
 use Rattle.wfe_walks.specs.Walks.{Walking}
 use Rattle.wfe_walks.proofs.Kept.{walking_start, walking_begin, walking_kept}
@@ -32,9 +35,13 @@ pub record Goes (layout : Layout) (made : Made) (s : Sights) : Type 0 where
   pub known : Known made.world rows line asked
   pub walking : Walking made.world s.rows
   pub meeting : Meeting made.world asked.deal s.requests
+  pub births : Given made.world rows s.births
 
 pub meeting_need : (made : Made) (i : ℕ) (v : View) (l : Line) (z : Asked) → i < made.world.layout.config.seats → Known made.world v l z → MeetingNeeds made.world i z
 meeting_need made i v l z b k = record { valid = k.valid; below = b; seats = k.seats; links = needs_of made.world k.slots; requests = k.requests }
+
+pub given_need : (made : Made) (i : ℕ) (v : View) (l : Line) (z : Asked) → Known made.world v l z → GivenNeeds made.world i v
+given_need made i v l z k = record { valid = k.valid; seats = k.seats; needs = rows_need made.world i v l k.seats k.eras k.whole.both; rows = k.whole.both.rows }
 
 begins_right : (seat seats : ℕ) (busy : Bool) → (nat_lt seat seats && not busy) ≡ true → busy ≡ false
 begins_right seat seats true h = absurd (grind (arith, nat_tests))
@@ -55,6 +62,7 @@ begin_goes layout made i call s f g =
       known = known_begin made.world i call g.rows g.line g.asked q.0 f k q.1.facts q.1.deal;
       walking = walking_begin made.world i call s.rows k.valid k.seats g.walking;
       meeting = subst (λ (deal : ℕ → Deal). Meeting (begin made.world i call) deal s.requests) (sym q.1.deal) (meeting_begin made.world i call g.asked.deal s.requests k.valid k.seats g.meeting);
+      births = given_begin made.world i call g.rows s.births k.valid k.seats g.births;
     }
 
 step_goes : (layout : Layout) (made : Made) (i : ℕ) (s : Sights) → i < made.world.layout.config.seats → Goes layout made s → Goes layout (done made (Steps i)) (sights_by made.world (Steps i) s)
@@ -69,6 +77,7 @@ step_goes layout made i s b g =
       known = known_kept made.world i g.rows g.line g.asked q.0 b k q.1.facts q.1.deal;
       walking = walking_kept made.world i s.rows k.valid k.seats g.walking;
       meeting = subst (λ (deal : ℕ → Deal). Meeting (step made.world i) deal (met_after made.world i s.requests)) (sym q.1.deal) (meeting_kept made.world i g.asked s.requests (meeting_need made i g.rows g.line g.asked b k) g.meeting);
+      births = given_kept made.world i g.rows s.births (given_need made i g.rows g.line g.asked k) g.births;
     }
 
 item_goes : (layout : Layout) (made : Made) (item : Item) (s : Sights) (fit : Bool) → fits made.world item ≡ fit → Goes layout made s → Goes layout (done_if made item fit) (sights_if made.world item fit s)
@@ -91,6 +100,7 @@ first_goes layout d =
       known = known_start layout q.0 d q.1.facts q.1.deal;
       walking = walking_start layout blank.rows;
       meeting = meeting_start layout q.0.deal blank.requests;
+      births = given_start layout;
     }
 
 pub history_goes : (layout : Layout) (items : List Item) → is_valid layout ≡ true → Goes layout (made_of layout items) (sights_of layout items)

@@ -17,6 +17,7 @@ use Rattle.wfe_core.specs.World.{World, step, finds, told_in}
 use Rattle.wfe_requests.specs.Views.{View as Asked}
 use Rattle.wfe_rows.specs.Agree.{Agree, rows_after}
 use Rattle.wfe_rows.specs.Rows.{View, is_taken}
+use Rattle.wfe_rows.specs.Rows.RowMove.{Lists}
 use Rattle.wfe_covers.specs.Held.{own_guard, Holds}
 use Rattle.wfe_history.specs.History.{Item, world_of}
 use Rattle.wfe_inv.specs.Inv.{Inv}
@@ -45,9 +46,10 @@ pub record Outcomes (w : World) (i : ℕ) (v : View) (z : Asked) (s : Sights) : 
       → open_at tag index (z.deal k) ≡ false
   -- a row that the step holds is covered by the guard of its index from then on
   pub held : (j slot : ℕ) → list_any (is_held j slot) (told_in w i) ≡ true → Holds (step w i) (rows_after w i v) (own_guard w.layout.config.scheme i j) slot
-  -- a row that it gives was free, one that it tells to be unused or back was its own, and one that it retires is so with the
-  -- birth era and a retire era that was loaded once it was cut
+  -- a row that it gives was free, one that it tells to be unused or back was its own, and one that it retires is so with a
+  -- retire era that was loaded once it was cut, and with the birth era under which it was given last
   pub rows : RowWas (w.mem Clock) i v (move_of w i)
+  pub births : (slot birth retire : ℕ) → move_of w i ≡ Lists slot birth retire → s.births slot ≡ birth
 
 pub record Ended (w : World) (i : ℕ) (s : Sights) : Type 0 where
   pub inv : Inv w
