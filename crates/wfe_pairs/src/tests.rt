@@ -3,10 +3,12 @@ use super::*;
 use std::test::Fail;
 
 #[test]
-fn keeps_its_order(rt: HostRuntime) -> Result<(), Fail> {
+fn keeps_its_order_with_as_many_as_fit(rt: HostRuntime) -> Result<(), Fail> {
     let mut pairs = Pairs::new();
     for key in 0..14 {
-        pairs.push(key, 100 + key);
+        if pairs.len() < 14 {
+            pairs.push(key, 100 + key);
+        }
     }
     assert_eq!(rt; pairs.len(), 14);
     assert_eq!(rt; pairs.get(0), (0, 100));
