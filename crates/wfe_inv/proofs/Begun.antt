@@ -30,6 +30,8 @@ use Rattle.wfe_items.proofs.Begun.{items_start, items_begin}
 use Rattle.wfe_items.proofs.Bounds.{bounded_start, bounded_begin}
 use Rattle.wfe_handover.proofs.Begun.{handover_start, handover_begin}
 use Rattle.wfe_links.proofs.Kept.{links_start, links_begin}
+use Rattle.wfe_rest.proofs.Lasting.{losses_start, losses_begin}
+use Rattle.wfe_rounds.proofs.Ending.{rounds_start, rounds_begin}
 use Rattle.wfe_inv.specs.Known.{Known}
 use Rattle.wfe_inv.specs.Inv.{InvStart, InvBegin}
 use Rattle.wfe_inv.proofs.Ready.{listed_few}
@@ -54,6 +56,8 @@ known_start layout z d q e = record {
   bounded = bounded_start layout;
   stands = stands_start layout;
   items = items_start layout d;
+  losses = losses_start layout;
+  rounds = rounds_start layout z d (λ k. ap (λ (deal : ℕ → Deal). deal k) e);
 }
 
 pub inv_start : InvStart
@@ -81,6 +85,8 @@ known_begin w i call v l z next b k q e = record {
   bounded = bounded_begin w i call k.bounded;
   stands = stands_begin w i call k.stands;
   items = items_begin w i call v l k.items;
+  losses = losses_begin w i call k.losses;
+  rounds = rounds_begin w i call l z next b k.requests e k.rounds;
 }
 
 pub inv_begin : InvBegin

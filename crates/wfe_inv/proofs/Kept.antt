@@ -3,7 +3,7 @@ use Rattle.std.proofs.Common.{ℕ, ◌≡◌, ◌<◌, Bool, true, false, refl, 
 use Rattle.wfe_core.specs.World.{World, step}
 use Rattle.wfe_eras.specs.Eras.{Eras}
 use Rattle.wfe_eras.specs.Seats.{is_wfe}
-use Rattle.wfe_eras.specs.Slots.{SlotsNeeds}
+use Rattle.wfe_eras.specs.Slots.{Slots, SlotsNeeds}
 use Rattle.wfe_eras.proofs.Decode.{eras_step}
 use Rattle.wfe_eras.proofs.Kept.{seats_step}
 use Rattle.wfe_eras.proofs.Quiet.{noted_step}
@@ -34,12 +34,16 @@ use Rattle.wfe_items.proofs.Kept.{items_kept}
 use Rattle.wfe_items.proofs.Bounds.{bounded_kept}
 use Rattle.wfe_handover.proofs.Kept.{handover_kept}
 use Rattle.wfe_links.proofs.Kept.{links_kept}
+use Rattle.wfe_rest.specs.Falls.{RestNeeds}
+use Rattle.wfe_rest.proofs.Lasting.{losses_kept}
+use Rattle.wfe_rounds.specs.Rounds.{RoundsNeeds}
+use Rattle.wfe_rounds.proofs.Ending.{rounds_kept, rounds_give}
 use Rattle.wfe_inv.specs.Known.{Known}
 use Rattle.wfe_inv.specs.Inv.{InvKept, InvReady}
 use Rattle.wfe_inv.proofs.Guards.{held_need, rests_need}
 use Rattle.wfe_inv.proofs.Ready.{slots_need, eras_need, code_need}
 use Rattle.wfe_inv.proofs.Rows.{rows_need}
-use Rattle.wfe_inv.proofs.Whole.{whole_need, contents_need, finds_need, items_need, links_need, handover_need}
+use Rattle.wfe_inv.proofs.Whole.{whole_need, contents_need, finds_need, items_need, links_need, handover_need, origins_need}
 
 slots_of : (w : World) (i : ℕ) (v : View) (l : Line) (z : Asked) → Known w v l z → SlotsNeeds w i
 slots_of w i v l z a = slots_need w i v a.whole.both.rows (λ work e. finds_need w i v l z work a e)
@@ -56,12 +60,29 @@ helped_by w i v l z next f b a d =
     let h = handover_kept w i v z f (handover_need w i v l z b a) a.held (a.helped f) in
     subst (λ (deal : ℕ → Deal). Helped (step w i) (rows_after w i v) deal) (sym d) h.1
 
+slots_next : (w : World) (i : ℕ) (v : View) (l : Line) (z : Asked) → Known w v l z → Slots (step w i)
+slots_next w i v l z a = slots_step w i a.valid a.seats a.eras a.slots (slots_of w i v l z a)
+
+pub rest_need : (w : World) (i : ℕ) (v : View) (l : Line) (z : Asked) → Known w v l z → RestNeeds w i
+rest_need w i v l z a = record {
+  seats = a.seats;
+  eras = a.eras;
+  slots = a.slots;
+  lists = slots_of w i v l z a;
+  eras_next = eras_of w i v l z a;
+  slots_next = slots_next w i v l z a;
+  losses = a.losses;
+}
+
+rounds_need : (w : World) (i : ℕ) (v : View) (l : Line) (z : Asked) → i < w.layout.config.seats → Known w v l z → RoundsNeeds w i v l z
+rounds_need w i v l z b a = record { origins = origins_need w i v l z b a; both = a.whole.both; items = a.items; bounded = a.bounded; losses = a.losses }
+
 pub known_kept : (w : World) (i : ℕ) (v : View) (l : Line) (z next : Asked) → i < w.layout.config.seats → Known w v l z → Requests (step w i) next → next.deal ≡ next_deals w i z.deal → Known (step w i) (rows_after w i v) (line_after w i l) next
 known_kept w i v l z next b a q d = record {
   valid = a.valid;
   seats = seats_step w i a.valid a.seats;
   eras = eras_of w i v l z a;
-  slots = slots_step w i a.valid a.seats a.eras a.slots (slots_of w i v l z a);
+  slots = slots_next w i v l z a;
   noted = noted_step w i (slots_of w i v l z a) a.noted;
   paces = paces_step w i a.valid a.seats a.paces;
   parents = parents_step w i a.seats a.parents;
@@ -76,6 +97,8 @@ known_kept w i v l z next b a q d = record {
   bounded = bounded_kept w i v l a.slots a.contents a.whole.both a.items a.bounded;
   stands = stands_kept w i a.seats a.parents a.stands;
   items = items_kept w i v l (items_need w i v l z b a) a.whole.both a.items;
+  losses = losses_kept w i a.valid (rest_need w i v l z a) (rounds_give w i v l z (rounds_need w i v l z b a) a.rounds);
+  rounds = rounds_kept w i v l z next (rounds_need w i v l z b a) d a.rounds;
 }
 
 pub asked_next : (w : World) (i : ℕ) (v : View) (l : Line) (z : Asked) → i < w.layout.config.seats → Known w v l z → StandsAfter (step w i) (next_deals w i z.deal)

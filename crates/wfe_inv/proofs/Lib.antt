@@ -1,4 +1,5 @@
 pub mod Begun
+pub mod Ends
 pub mod Frees
 pub mod Guards
 pub mod Kept

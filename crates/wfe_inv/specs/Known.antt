@@ -22,6 +22,8 @@ use Rattle.wfe_contents.specs.Contents.{Contents}
 use Rattle.wfe_stands.specs.Stands.{Stands}
 use Rattle.wfe_items.specs.Bounded.{Bounded}
 use Rattle.wfe_items.specs.Items.{Items}
+use Rattle.wfe_rest.specs.Losses.{Losses}
+use Rattle.wfe_rounds.specs.Rounds.{Rounds}
 
 -- `v` are the rows, `l` what no word shows of the queue, and `z` the requests
 pub record Known (w : World) (v : View) (l : Line) (z : Asked) : Type 0 where
@@ -61,3 +63,7 @@ pub record Known (w : World) (v : View) (l : Line) (z : Asked) : Type 0 where
   pub stands : Stands w
   -- what rows of the queue show, and what calls know of it
   pub items : Items w v l
+  -- a call has lost no more rounds than its task may lose
+  pub losses : Losses w
+  -- and no more than its bucket or the queue was changed
+  pub rounds : Rounds w l z

@@ -2,6 +2,7 @@
 //! crate of its own, joined into one. Each function here does nothing, and carries a theorem.
 #![tactic(auto)]
 
+ghost use Rattle.wfe_inv.specs.Ends.{InvEnds};
 ghost use Rattle.wfe_inv.specs.Histories.{InvReached, ReachedReady};
 ghost use Rattle.wfe_inv.specs.Inv.{InvBegin, InvKept, InvReady, InvStart, InvStays, InvTells};
 ghost use Rattle.wfe_inv.specs.Shows.{InvShows, InvTimes};
@@ -59,4 +60,10 @@ pub fn inv_times()
 /// the head's row has no next link all that was queued was taken.
 pub fn inv_shows()
     ensures { InvShows }
+{}
+
+/// Each step that does not end its call leaves it fewer steps, no step leaves another call more, and
+/// no call has 2 ^ 62 steps left: so each call ends, whatever other seats do.
+pub fn inv_ends()
+    ensures { InvEnds }
 {}

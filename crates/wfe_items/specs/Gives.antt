@@ -52,7 +52,7 @@ abbrev pub AllQueueRight : Book → List Event → Type 0
 AllQueueRight a [] = Unit {0}
 AllQueueRight a (event ∷ told) = QueueRight a event × AllQueueRight a told
 
--- all that a step tells of the queue is right; it tells one event of it at most
+-- all that a step tells of the queue is right by the book before the step
 abbrev pub ItemsTold : Type 0
 ItemsTold = (w : World) (i : ℕ) (v : View) (l : Line) → Both w v l → Items w v l → AllQueueRight w.book (told_in w i)
 

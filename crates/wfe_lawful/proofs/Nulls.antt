@@ -23,7 +23,7 @@ use Rattle.wfe_origins.specs.Tracked.{carries_at, carries_in, root_for, root_in,
 use Rattle.wfe_eras.specs.Seats.{Seats, root_by}
 use Rattle.wfe_origins.proofs.Came.{aimed_at}
 use Rattle.wfe_origins.proofs.Plain.{out_plain, is_plain, plain_after, out_moves, moves_on}
-use Rattle.wfe_origins.proofs.Turned.{finds_at}
+use Rattle.wfe_covers.proofs.Held.{finds_at}
 
 -- the link with which a protection ends
 alone_link : (link era : ℕ) (null : Bool) → (link == 0) ≡ null → ◌≡◌ {A = Outcome} (Ends (Protected (if null then protect_ends.Null else protect_ends.Held (link - 1) era))) (Ends (Protected (protect_ends.Null))) → (link == 0) ≡ true

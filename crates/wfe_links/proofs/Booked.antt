@@ -50,9 +50,6 @@ all_root f s [] a n h = refl
 all_root f s (event ∷ told) a n h = all_root f s told (booked a event) n (rest_of (links_one f event) (links_in f told) h) ∙ one_root f s a event n (first_of (links_one f event) (links_in f told) h)
 
 -- a step links the rows that it takes
-abbrev Taking : World → ℕ → ℕ → Bool
-Taking w i s = takes_or_frees (row_move (w.seat i).phase (w.seat i).post (finds w i)) s
-
 same_slot : (n : ℕ) → (n == n) ≡ true
 same_slot n = grind (arith, nat_tests)
 

@@ -32,9 +32,6 @@ use Rattle.wfe_links.specs.Links.{is_bucket, links_to, LinksNeeds}
 use Rattle.wfe_links.proofs.Booked.{root_stays}
 use Rattle.wfe_links.proofs.Still.{Still, still}
 
-is_true : (a b : Bool) → a ≡ true → (a || b) ≡ true
-is_true a b h = grind (arith, nat_tests)
-
 or_else : (x : ℕ) (b : Bool) (null : Bool) → (x == 0) ≡ null → ((x == 0) ≡ false → b ≡ true) → (null || b) ≡ true
 or_else x b true e g = refl
 or_else x b false e g = g e

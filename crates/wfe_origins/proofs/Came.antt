@@ -2,7 +2,6 @@
 use Rattle.std.proofs.Common.{ℕ, ◌≡◌, Bool, true, false, List, arith, refl, sym, ap, subst, ◌∙◌}
 use Rattle.std.proofs.lemmas.Bool.Decides.{nat_tests}
 use Rattle.std.specs.Prelude.{◌==◌}
-use Rattle.wfe_words.specs.Place.{Place}
 use Rattle.wfe_words.specs.Place.Place.{Clock}
 use Rattle.wfe_words.specs.declared.layout.Layout.{Layout}
 use Rattle.wfe_defs.specs.declared.event.Event.{Event}
@@ -12,11 +11,9 @@ use Rattle.wfe_core.specs.declared.post.Post.{Post}
 use Rattle.wfe_core.specs.Desks.{Desk}
 use Rattle.wfe_core.specs.Links.{link_place, parent_of}
 use Rattle.wfe_core.specs.Machine.{protect_move, protect_turn, after}
-use Rattle.wfe_core.specs.Memory.{found, place_in, written, bump}
-use Rattle.wfe_core.specs.Memory as memory
+use Rattle.wfe_core.specs.Memory.{found, place_in, bump}
 use Rattle.wfe_core.specs.Posts.{counted, upper}
 use Rattle.wfe_core.specs.Phases.{Aim, Follows, ProtectAt, MoveAt, Base, Turn, Outcome, Goes, Ends}
-use Rattle.wfe_core.specs.Phases.ProtectAt.{LoadClock}
 use Rattle.wfe_core.specs.Phases.MoveAt.{LoadEra, LoadRequest, ShowEra, LoadAsked, CheckEra, AnswerAsked, LoadReserved, HandOver, HideEra, HideLate, ExchangeClock}
 use Rattle.wfe_core.specs.Phases.Base.{Begin, Protect, Reload, Clear, Finish, Release, Allocate, Write, GiveUp, Retire, Move}
 use Rattle.wfe_core.specs.Calls.{Why, Opens, FollowsHead, Fills, ClearsNext, Clears, Finishes, GivesUp, Retires, Tidies, Advances, Releases, Phase, Idle, Runs, Scans, Works}
@@ -35,24 +32,13 @@ use Rattle.wfe_origins.specs.Origins.{loads_link, OriginsNeeds, Came, Before, No
 use Rattle.wfe_origins.proofs.Backs.{carries_back, helps_back}
 use Rattle.wfe_origins.proofs.Deals.{given_came}
 use Rattle.wfe_origins.proofs.Heard.{hears_at}
-use Rattle.wfe_origins.proofs.Movers.{out_helps, move_came}
-use Rattle.wfe_origins.proofs.Opened.{busy_root}
+use Rattle.wfe_origins.proofs.Movers.{out_helps, move_came, no_way}
+use Rattle.wfe_origins.proofs.Opened.{turn_of, stepped_by, busy_root}
 use Rattle.wfe_origins.proofs.Own.{HearsAt, out_carries, out_root, Source, Had, Loads, Hears, protect_next}
 use Rattle.wfe_origins.proofs.Plain.{out_plain, is_plain, plain_after, out_moves, moves_on, out_protects, protects_on, start_carries, start_carries_base, start_helps, start_helps_base, move_carries, protect_helps}
-use Rattle.wfe_origins.proofs.Starts.{EndsStart, scan_starts, work_starts, ends_start}
-use Rattle.wfe_origins.proofs.Turned.{turn_of, stepped_phase, move_is, finds_at}
-
-pub no_way : {A : Type 0} → (b : Bool) → b ≡ false → b ≡ true → A
-no_way true e h = absurd (cc)
-no_way false e h = absurd (cc)
-
-protect_clock : (mem : Place → ℕ) (index : ℕ) (root : Root) (at : ProtectAt) (post : Post) → written mem (protect_move index root at post) Clock ≡ mem Clock
-protect_clock mem index root (LoadClock tries) post = refl
-protect_clock mem index root at post = refl
-
-protect_stays : (w : World) (i : ℕ) (why : Why) (aim : Aim) (index : ℕ) (root : Root) (steps : ℕ) (at : ProtectAt) → (w.seat i).phase ≡ Runs why (Protect aim index root steps at) → (step w i).mem Clock ≡ w.mem Clock
-protect_stays w i why aim index root steps at e =
-    ap (λ (m : memory.Move). written w.mem m Clock) (move_is w i (Runs why (Protect aim index root steps at)) e) ∙ protect_clock w.mem index root at (w.seat i).post
+use Rattle.wfe_covers.proofs.Fresh.{work_fresh, resume_fresh}
+use Rattle.wfe_covers.proofs.Held.{stepped_phase, finds_at, protect_stays}
+use Rattle.wfe_covers.proofs.Scans.{scan_starts}
 
 -- a protection that is followed is of a next link
 why_follows : (buckets : ℕ) (why : Why) (aim : Aim) (index : ℕ) (root : Root) → Aimed buckets why aim index root → aim ≡ Follows → root ≡ roots.Next (parent_of root)
@@ -72,10 +58,10 @@ pub aimed_at : (w : World) (i : ℕ) (why : Why) (aim : Aim) (index : ℕ) (root
 aimed_at w i why aim index root steps at s q = let r : PhaseFits w.layout (w.seat i).post (Runs why (Protect aim index root steps at)) = subst (λ (p : Phase). PhaseFits w.layout (w.seat i).post p) q (s.fits i).phase in r.shape
 
 -- what is carried after a machine's step, its outcome carries
-resumed_carries : (clock upto : ℕ) (why : Why) (desk : Desk) (post : Post) (told : List Event) (outcome : Outcome) (x : ℕ) → EndsStart why desk post told outcome → carries_in clock upto (phase_left (resumed why desk post told outcome).outcome) x ≡ true → out_carries clock upto outcome x ≡ true
-resumed_carries clock upto why desk post told (Goes base) x s h = h
-resumed_carries clock upto why desk post told (Ends ending) x s h =
-    no_way (carries_in clock upto (phase_left (resumed why desk post told (Ends ending)).outcome) x) (start_carries clock upto (phase_left (resumed why desk post told (Ends ending)).outcome) x s) h
+resumed_carries : (clock upto : ℕ) (why : Why) (desk : Desk) (post : Post) (told : List Event) (outcome : Outcome) (x : ℕ) → carries_in clock upto (phase_left (resumed why desk post told outcome).outcome) x ≡ true → out_carries clock upto outcome x ≡ true
+resumed_carries clock upto why desk post told (Goes base) x h = h
+resumed_carries clock upto why desk post told (Ends ending) x h =
+    no_way (carries_in clock upto (phase_left (resumed why desk post told (Ends ending)).outcome) x) (start_carries clock upto (phase_left (resumed why desk post told (Ends ending)).outcome) x (resume_fresh why ending post desk told).starts) h
 
 resumed_root : (clock upto : ℕ) (why : Why) (desk : Desk) (post : Post) (told : List Event) (outcome : Outcome) (x : ℕ) → out_carries clock upto outcome x ≡ true → root_for (phase_left (resumed why desk post told outcome).outcome) ≡ out_root outcome
 resumed_root clock upto why desk post told (Goes base) x h = refl
@@ -129,17 +115,17 @@ own_by : (w : World) (i : ℕ) (z : View) (phase : Phase) (upto x : ℕ) → Ori
 own_by w i z Idle upto x n q h = absurd (cc)
 own_by w i z (Runs why base) upto x n q h =
     let t : Turn = after base (counted (w.seat i).post) (finds w i) in
-    let c : out_carries ((step w i).mem Clock) upto t.outcome x ≡ true = resumed_carries ((step w i).mem Clock) upto why (w.seat i).desk t.post t.told t.outcome x (ends_start w i why base n.valid n.seats q) h in
-    run_came w i z why base upto x n q (ap root_for (stepped_phase w i (Runs why base) q) ∙ resumed_root ((step w i).mem Clock) upto why (w.seat i).desk t.post t.told t.outcome x c) c
+    let c : out_carries ((step w i).mem Clock) upto t.outcome x ≡ true = resumed_carries ((step w i).mem Clock) upto why (w.seat i).desk t.post t.told t.outcome x h in
+    run_came w i z why base upto x n q (ap root_for (stepped_by w i (Runs why base) q) ∙ resumed_root ((step w i).mem Clock) upto why (w.seat i).desk t.post t.told t.outcome x c) c
 own_by w i z (Scans later at) upto x n q h =
-    no_way (carries_in ((step w i).mem Clock) upto (phase_left (turn_of w i (Scans later at)).outcome) x) (start_carries ((step w i).mem Clock) upto (phase_left (turn_of w i (Scans later at)).outcome) x (scan_starts w i later at n.valid n.seats)) h
+    no_way (carries_in ((step w i).mem Clock) upto (phase_left (turn_of w i (Scans later at)).outcome) x) (start_carries ((step w i).mem Clock) upto (phase_left (turn_of w i (Scans later at)).outcome) x (scan_starts later at (counted (w.seat i).post) (w.seat i).desk (finds w i))) h
 own_by w i z (Works work) upto x n q h =
-    no_way (carries_in ((step w i).mem Clock) upto (phase_left (turn_of w i (Works work)).outcome) x) (start_carries ((step w i).mem Clock) upto (phase_left (turn_of w i (Works work)).outcome) x (work_starts w i work n.valid n.seats q)) h
+    no_way (carries_in ((step w i).mem Clock) upto (phase_left (turn_of w i (Works work)).outcome) x) (start_carries ((step w i).mem Clock) upto (phase_left (turn_of w i (Works work)).outcome) x (work_fresh work (counted (w.seat i).post) (w.seat i).desk (finds w i)).starts) h
 
 own_came : (w : World) (i : ℕ) (z : View) (x : ℕ) → OriginsNeeds w i z → carries_in ((step w i).mem Clock) (upper ((step w i).seat i).post.span) ((step w i).seat i).phase x ≡ true → Came w i z i x
 own_came w i z x n h =
     own_by w i z (w.seat i).phase (upper ((step w i).seat i).post.span) x n refl
-    (subst (λ (p : Phase). carries_in ((step w i).mem Clock) (upper ((step w i).seat i).post.span) p x ≡ true) (stepped_phase w i (w.seat i).phase refl) h)
+    (subst (λ (p : Phase). carries_in ((step w i).mem Clock) (upper ((step w i).seat i).post.span) p x ≡ true) (stepped_phase w i) h)
 
 -- the link that the seat that steps has for a request of seat k
 plain_helps : (layout : Layout) (clock k : ℕ) (outcome : Outcome) (d : Deal) (x : ℕ) (why : Why) → out_plain outcome ≡ true → out_helps layout clock k outcome d x ≡ false
@@ -150,10 +136,10 @@ protects_helps : (layout : Layout) (clock k : ℕ) (outcome : Outcome) (d : Deal
 protects_helps layout clock k (Goes base) d x p = protect_helps layout clock k base d x p
 protects_helps layout clock k (Ends ending) d x p = refl
 
-resumed_helps : (layout : Layout) (clock k : ℕ) (why : Why) (desk : Desk) (post : Post) (told : List Event) (outcome : Outcome) (d : Deal) (x : ℕ) → EndsStart why desk post told outcome → helps_in layout clock k (phase_left (resumed why desk post told outcome).outcome) d x ≡ true → out_helps layout clock k outcome d x ≡ true
-resumed_helps layout clock k why desk post told (Goes base) d x s h = h
-resumed_helps layout clock k why desk post told (Ends ending) d x s h =
-    no_way (helps_in layout clock k (phase_left (resumed why desk post told (Ends ending)).outcome) d x) (start_helps layout clock k (phase_left (resumed why desk post told (Ends ending)).outcome) d x s) h
+resumed_helps : (layout : Layout) (clock k : ℕ) (why : Why) (desk : Desk) (post : Post) (told : List Event) (outcome : Outcome) (d : Deal) (x : ℕ) → helps_in layout clock k (phase_left (resumed why desk post told outcome).outcome) d x ≡ true → out_helps layout clock k outcome d x ≡ true
+resumed_helps layout clock k why desk post told (Goes base) d x h = h
+resumed_helps layout clock k why desk post told (Ends ending) d x h =
+    no_way (helps_in layout clock k (phase_left (resumed why desk post told (Ends ending)).outcome) d x) (start_helps layout clock k (phase_left (resumed why desk post told (Ends ending)).outcome) d x (resume_fresh why ending post desk told).starts) h
 
 plain_none : (w : World) (i k : ℕ) (z : View) (why : Why) (base : Base) (x : ℕ) → is_plain base ≡ true → out_helps w.layout ((step w i).mem Clock) k (after base (counted (w.seat i).post) (finds w i)).outcome (next_deals w i z.deal k) x ≡ true → Came w i z k x
 plain_none w i k z why base x p h =
@@ -181,17 +167,17 @@ helped_by : (w : World) (i k : ℕ) (z : View) (phase : Phase) (x : ℕ) → Ori
 helped_by w i k z Idle x n q same h = absurd (cc)
 helped_by w i k z (Runs why base) x n q same h =
     let t : Turn = after base (counted (w.seat i).post) (finds w i) in
-    run_helped w i k z why base x n q same (resumed_helps w.layout ((step w i).mem Clock) k why (w.seat i).desk t.post t.told t.outcome (next_deals w i z.deal k) x (ends_start w i why base n.valid n.seats q) h)
+    run_helped w i k z why base x n q same (resumed_helps w.layout ((step w i).mem Clock) k why (w.seat i).desk t.post t.told t.outcome (next_deals w i z.deal k) x h)
 helped_by w i k z (Scans later at) x n q same h =
     no_way (helps_in w.layout ((step w i).mem Clock) k (phase_left (turn_of w i (Scans later at)).outcome) (next_deals w i z.deal k) x)
-    (start_helps w.layout ((step w i).mem Clock) k (phase_left (turn_of w i (Scans later at)).outcome) (next_deals w i z.deal k) x (scan_starts w i later at n.valid n.seats)) h
+    (start_helps w.layout ((step w i).mem Clock) k (phase_left (turn_of w i (Scans later at)).outcome) (next_deals w i z.deal k) x (scan_starts later at (counted (w.seat i).post) (w.seat i).desk (finds w i))) h
 helped_by w i k z (Works work) x n q same h =
     no_way (helps_in w.layout ((step w i).mem Clock) k (phase_left (turn_of w i (Works work)).outcome) (next_deals w i z.deal k) x)
-    (start_helps w.layout ((step w i).mem Clock) k (phase_left (turn_of w i (Works work)).outcome) (next_deals w i z.deal k) x (work_starts w i work n.valid n.seats q)) h
+    (start_helps w.layout ((step w i).mem Clock) k (phase_left (turn_of w i (Works work)).outcome) (next_deals w i z.deal k) x (work_fresh work (counted (w.seat i).post) (w.seat i).desk (finds w i)).starts) h
 
 own_helped : (w : World) (i k : ℕ) (z : View) (x : ℕ) → OriginsNeeds w i z → root_in (step w i) k ≡ root_in w k → helps_in w.layout ((step w i).mem Clock) k ((step w i).seat i).phase (next_deals w i z.deal k) x ≡ true → Came w i z k x
 own_helped w i k z x n same h =
-    helped_by w i k z (w.seat i).phase x n refl same (subst (λ (p : Phase). helps_in w.layout ((step w i).mem Clock) k p (next_deals w i z.deal k) x ≡ true) (stepped_phase w i (w.seat i).phase refl) h)
+    helped_by w i k z (w.seat i).phase x n refl same (subst (λ (p : Phase). helps_in w.layout ((step w i).mem Clock) k p (next_deals w i z.deal k) x ≡ true) (stepped_phase w i) h)
 
 -- a seat that has a request protects the same root after the step
 other_root : (w : World) (i k : ℕ) → (k == i) ≡ false → root_in (step w i) k ≡ root_in w k

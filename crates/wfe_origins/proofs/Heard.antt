@@ -38,7 +38,7 @@ use Rattle.wfe_rows.specs.Follow.{at_asks}
 use Rattle.wfe_origins.specs.Tracked.{has_link, root_base, root_for}
 use Rattle.wfe_origins.specs.Origins.{OriginsNeeds}
 use Rattle.wfe_origins.proofs.Own.{HeardIn, HearsAt}
-use Rattle.wfe_origins.proofs.Turned.{finds_at}
+use Rattle.wfe_covers.proofs.Held.{finds_at}
 
 -- the role of a seat, by its phase
 pub stands_as : (w : World) (z : View) (k : ℕ) (phase : Phase) → Requests w z → (w.seat k).phase ≡ phase → z.role k ≡ role_of w.layout phase

@@ -19,10 +19,11 @@ use Rattle.wfe_requests.specs.Views.{View, Deal}
 use Rattle.wfe_requests.specs.Views.Deal.{Quiet}
 use Rattle.wfe_origins.specs.Tracked.{carries_in, has_link, helps_in, root_for, root_in, Tracked, Carried, Given, Helped}
 use Rattle.wfe_origins.specs.Origins.{Came, Before, Now, Origins, Stays, OriginsKept, OriginsBegin, OriginsStart}
-use Rattle.wfe_origins.proofs.Came.{no_way, link_busy, helps_busy, tracked_came}
+use Rattle.wfe_origins.proofs.Came.{link_busy, helps_busy, tracked_came}
+use Rattle.wfe_origins.proofs.Movers.{no_way}
 use Rattle.wfe_origins.proofs.Opened.{fit_of}
 use Rattle.wfe_origins.proofs.Plain.{start_carries, start_helps}
-use Rattle.wfe_origins.proofs.Starts.{first_starts}
+use Rattle.wfe_covers.proofs.Begun.{first_begins}
 
 came_good : (good after : ℕ → Root → ℕ → Bool) (w : World) (i : ℕ) (z : View) (k x : ℕ) → Stays good after w i z → Origins good w z → Came w i z k x → after k (root_in (step w i) k) x ≡ true
 came_good good after w i z k x s o (Before e t) = rw e (s.stays k x t (o.tracked k x t))
@@ -54,7 +55,7 @@ begun_root w i k call o = ap (λ (l : Local). root_for l.phase) (begin_stays w i
 begun_starts : (w : World) (i k : ℕ) (call : Call) → (k == i) ≡ true → is_start ((begin w i call).seat k).phase ≡ true
 begun_starts w i k call o =
     let e : k ≡ i = grind (arith, nat_tests) in
-    subst (λ (m : ℕ). is_start ((begin w i call).seat m).phase ≡ true) (sym e) (subst (λ (l : Local). is_start l.phase ≡ true) (sym (begin_begins w i call)) (first_starts call (begun_post (w.seat i).post)))
+    subst (λ (m : ℕ). is_start ((begin w i call).seat m).phase ≡ true) (sym e) (subst (λ (l : Local). is_start l.phase ≡ true) (sym (begin_begins w i call)) (first_begins call (begun_post (w.seat i).post)).starts)
 
 begun_carried : (w : World) (i k : ℕ) (call : Call) (z : View) (x : ℕ) (own : Bool) → (k == i) ≡ own → carries_in (w.mem Clock) (upper ((begin w i call).seat k).post.span) ((begin w i call).seat k).phase x ≡ true → Kept w i call z k x
 begun_carried w i k call z x true o h =

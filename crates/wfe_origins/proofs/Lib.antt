@@ -8,5 +8,3 @@ pub mod Movers
 pub mod Opened
 pub mod Own
 pub mod Plain
-pub mod Starts
-pub mod Turned

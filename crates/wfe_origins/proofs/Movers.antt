@@ -33,7 +33,7 @@ use Rattle.wfe_origins.specs.Origins.{loads_link, OriginsNeeds, Came, Before, No
 use Rattle.wfe_origins.proofs.Backs.{checks_parts, helps_parts, checks_again}
 use Rattle.wfe_origins.proofs.Heard.{asks_for, root_one}
 use Rattle.wfe_origins.proofs.Opened.{fit_of}
-use Rattle.wfe_origins.proofs.Turned.{finds_at}
+use Rattle.wfe_covers.proofs.Held.{finds_at}
 
 -- what an outcome has for a request
 abbrev pub out_helps : Layout → ℕ → ℕ → Outcome → Deal → ℕ → Bool
@@ -124,7 +124,7 @@ check_turn : (w : World) (i k : ℕ) (z : View) (why : Why) (e s t j : ℕ) (r :
 check_turn w i k z why e s t j r link x post true y n q same h = check_came w i k z why e s t j r link x true y n q same h
 check_turn w i k z why e s t j r link x post false y n q same h = absurd (cc)
 
-no_way : {A : Type 0} → (b : Bool) → b ≡ false → b ≡ true → A
+pub no_way : {A : Type 0} → (b : Bool) → b ≡ false → b ≡ true → A
 no_way true e h = absurd (cc)
 no_way false e h = absurd (cc)
 

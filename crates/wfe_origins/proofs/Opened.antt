@@ -18,8 +18,8 @@ use Rattle.wfe_core.specs.Phases.{Aim, ProtectAt, MoveAt, Base, Turn, Outcome, G
 use Rattle.wfe_core.specs.Phases.ProtectAt.{LoadClock, PublishEra, LoadLink, CheckClock, PublishRequest, LoadOwnClock, PublishHelper, LoadOwnLink, CheckOwnClock, AnswerOwn, LoadAnswer, TakeAnswer, WithdrawRequest, WithdrawHelper, LoadWithin, CheckUpper, RaiseUpper}
 use Rattle.wfe_core.specs.Phases.MoveAt.{LoadEra, LoadRequest, ShowEra, LoadAsked, CheckEra, AnswerAsked, LoadReserved, HandOver, HideEra, HideLate, ExchangeClock}
 use Rattle.wfe_core.specs.Phases.Base.{Begin, Protect, Reload, Clear, Finish, Release, Allocate, Write, GiveUp, Retire, Move}
-use Rattle.wfe_core.specs.Calls.{Why, Phase, Idle, Runs, Scans, Works}
-use Rattle.wfe_core.specs.Steps.{resumed}
+use Rattle.wfe_core.specs.Calls.{Why, Phase, Idle, Runs, Scans, Works, CallTurn}
+use Rattle.wfe_core.specs.Steps.{resumed, phase_turn}
 use Rattle.wfe_core.specs.World.{World, step, finds}
 use Rattle.wfe_eras.specs.Frame.{phase_left}
 use Rattle.wfe_requests.specs.Deals.{is_quiet, asked_by, fits}
@@ -32,7 +32,7 @@ use Rattle.wfe_origins.specs.Tracked.{opened_by, root_base, root_for, root_in}
 use Rattle.wfe_origins.specs.Origins.{OriginsNeeds}
 use Rattle.wfe_origins.proofs.Deals.{answered_is, passed_is, other_deal}
 use Rattle.wfe_origins.proofs.Heard.{stands_as}
-use Rattle.wfe_origins.proofs.Turned.{stepped_phase}
+use Rattle.wfe_covers.proofs.Held.{stepped_phase}
 
 -- the deal of a seat fits its phase
 pub fit_of : (w : World) (z : View) (k : ℕ) (phase : Phase) → Requests w z → (w.seat k).phase ≡ phase → fits (role_of w.layout phase) (z.deal k) ≡ true
@@ -44,13 +44,6 @@ quiet_asked t j u (Open t' j' w') h = absurd (cc)
 quiet_asked t j u (Answered t' j' w' l' e' m') h = absurd (cc)
 quiet_asked t j u (Passed t' j' w' l' e') h = absurd (cc)
 quiet_asked t j u (Taken t' j' w' l' e') h = absurd (cc)
-
-pub quiet_opened : (t j u : ℕ) (d : Deal) → is_quiet d ≡ true → opened_by t j u d ≡ false
-quiet_opened t j u Quiet h = refl
-quiet_opened t j u (Open t' j' w') h = absurd (cc)
-quiet_opened t j u (Answered t' j' w' l' e' m') h = absurd (cc)
-quiet_opened t j u (Passed t' j' w' l' e') h = absurd (cc)
-quiet_opened t j u (Taken t' j' w' l' e') h = absurd (cc)
 
 -- what a mover knows of the request that it has loaded
 abbrev pub knows_of : View → ℕ → ℕ → ℕ → ℕ → Bool
@@ -149,6 +142,13 @@ open_phase w i z (Works work) k t j u n q known h = h
 pub open_back : (w : World) (i : ℕ) (z : View) (k t j u : ℕ) → OriginsNeeds w i z → knows_of z k t j u ≡ true → opened_by t j u (next_deals w i z.deal k) ≡ true → opened_by t j u (z.deal k) ≡ true
 open_back w i z k t j u n known h = open_phase w i z (w.seat i).phase k t j u n refl known h
 
+-- what the seat's turn leaves, by its phase
+abbrev pub turn_of : World → ℕ → Phase → CallTurn
+turn_of w i phase = phase_turn phase (counted (w.seat i).post) (w.seat i).desk (finds w i)
+
+pub stepped_by : (w : World) (i : ℕ) (phase : Phase) → (w.seat i).phase ≡ phase → ((step w i).seat i).phase ≡ phase_left (turn_of w i phase).outcome
+stepped_by w i phase q = stepped_phase w i ∙ ap (λ (p : Phase). phase_left (turn_of w i p).outcome) q
+
 -- the machine goes on for the same root
 abbrev pub OutSame : Outcome → Root → Type 0
 OutSame (Goes base) root = root_base base ≡ root
@@ -239,7 +239,7 @@ busy_phase : (w : World) (i : ℕ) (z : View) (phase : Phase) → OriginsNeeds w
 busy_phase w i z Idle n q h = absurd (quiet_busy (z.deal i) (fit_of w z i Idle n.requests q) h)
 busy_phase w i z (Runs why base) n q h =
     let t : Turn = after base (counted (w.seat i).post) (finds w i) in
-    ap root_for (stepped_phase w i (Runs why base) q) ∙ left_root why (w.seat i).desk t.post t.told t.outcome (root_base base) (busy_base w i z why base n q h)
+    ap root_for (stepped_by w i (Runs why base) q) ∙ left_root why (w.seat i).desk t.post t.told t.outcome (root_base base) (busy_base w i z why base n q h)
 busy_phase w i z (Scans later at) n q h = absurd (quiet_busy (z.deal i) (fit_of w z i (Scans later at) n.requests q) h)
 busy_phase w i z (Works work) n q h = absurd (quiet_busy (z.deal i) (fit_of w z i (Works work) n.requests q) h)
 

@@ -128,7 +128,7 @@ fit_try c (RaiseUpper era) f = tt
 pub finds_at : (w : World) (i : ℕ) (phase : Phase) → (w.seat i).phase ≡ phase → finds w i ≡ found (phase_move phase (w.seat i).post) (w.mem (place_in (phase_move phase (w.seat i).post)))
 finds_at w i phase e = ap (λ (p : Phase). found (phase_move p (w.seat i).post) (w.mem (place_in (phase_move p (w.seat i).post)))) e
 
-fit_clock : (w : World) (i : ℕ) (why : Why) (aim : Aim) (index : ℕ) (root : Root) (n : ℕ) (at : ProtectAt) → (w.seat i).phase ≡ Runs why (Protect aim index root n at) → at_clock at (finds w i) (w.mem Clock)
+pub fit_clock : (w : World) (i : ℕ) (why : Why) (aim : Aim) (index : ℕ) (root : Root) (n : ℕ) (at : ProtectAt) → (w.seat i).phase ≡ Runs why (Protect aim index root n at) → at_clock at (finds w i) (w.mem Clock)
 fit_clock w i why aim index root n (LoadClock tries) e = finds_at w i (Runs why (Protect aim index root n (LoadClock tries))) e
 fit_clock w i why aim index root n (PublishEra era tries) e = tt
 fit_clock w i why aim index root n (LoadLink era tries) e = tt

@@ -1,20 +1,20 @@
-mod Amounts
-mod Closings
-mod Machines
-mod Moves
-mod Told
-mod Opens
-mod Ways
-mod Works
-mod Scans
-mod Seen
-mod Runs
-mod Falling
-mod Seats
-mod Closes
-mod Kept
-mod Small
-mod Fits
-mod Own
-mod Loses
-mod Lasting
+pub mod Amounts
+pub mod Closings
+pub mod Machines
+pub mod Moves
+pub mod Told
+pub mod Opens
+pub mod Ways
+pub mod Works
+pub mod Scans
+pub mod Seen
+pub mod Runs
+pub mod Falling
+pub mod Seats
+pub mod Closes
+pub mod Kept
+pub mod Small
+pub mod Fits
+pub mod Own
+pub mod Loses
+pub mod Lasting

@@ -180,7 +180,7 @@ opens_fit_after w i task (Move at) s l = absurd (let e = s.run.suited in cc)
 
 -- a follow
 
-abbrev EndsFollow : Outcome → Type 0
+abbrev pub EndsFollow : Outcome → Type 0
 EndsFollow (Goes base) = Unit {0}
 EndsFollow (Ends (Followed follow_ends.NoNext)) = Unit {0}
 EndsFollow (Ends (Followed (follow_ends.Followed slot))) = false ≡ true
@@ -194,7 +194,7 @@ EndsFollow (Ends (Clocked clock)) = false ≡ true
 concluded_follow : (index : ℕ) (root : Root) (n link era : ℕ) (post : Post) (told : List Event) → EndsFollow (concluded Follows index root n link era post told).outcome
 concluded_follow index root n link era post told = by_test (link == 0) (ends post told (Followed follow_ends.NoNext)) (goes post told (Reload (parent_of root) index (link - 1) era n)) (λ (t : Turn). EndsFollow t.outcome) (λ e. tt) (λ e. tt)
 
-ends_follow : (index : ℕ) (root : Root) (n : ℕ) (at : ProtectAt) (post : Post) (found : ℕ) → EndsFollow (protect_turn Follows index root n at post found).outcome
+pub ends_follow : (index : ℕ) (root : Root) (n : ℕ) (at : ProtectAt) (post : Post) (found : ℕ) → EndsFollow (protect_turn Follows index root n at post found).outcome
 ends_follow index root n (LoadClock tries) post found = tt
 ends_follow index root n (PublishEra era tries) post found = tt
 ends_follow index root n (LoadLink era tries) post found = tt

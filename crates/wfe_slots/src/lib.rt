@@ -1,10 +1,12 @@
-//! Rows taken and given back by one seat: the walk over the claim words, and a row that is given up
-//! before it was linked.
+//! Rows taken and given back by one seat: the walk over the claim words, the writing of a row, and a
+//! row that is given up before it was linked.
 #![tactic(auto)]
 
 mod allocate;
 mod give_up;
 mod walk;
+mod write_row;
 
 pub use allocate::Allocate;
 pub use give_up::GiveUp;
+pub use write_row::{Row, WriteRow};

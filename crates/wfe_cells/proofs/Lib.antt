@@ -1,0 +1,5 @@
+pub mod Bridge
+pub mod Narrow
+pub mod Steps
+pub mod Turns
+pub mod Units

@@ -1,0 +1,4 @@
+pub mod Operations
+pub mod Memory
+pub mod Bridge
+pub mod Unit

@@ -1,0 +1,4 @@
+pub mod Held
+pub mod Nulls
+pub mod Stood
+pub mod Tests

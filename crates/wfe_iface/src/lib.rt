@@ -1,0 +1,11 @@
+//! The three schemes behind one interface, so that a call is written once for all of them.
+#![tactic(auto)]
+
+mod follow;
+mod follow_at;
+mod scheme;
+mod schemes;
+
+pub use follow::Follow;
+pub use scheme::Scheme;
+pub use schemes::{He, Ibr, Wfe};

@@ -1,0 +1,186 @@
+// The three schemes. A machine that a scheme does not have is never made: its type is another
+// scheme's.
+ghost use Rattle.std.specs.Prelude.{true, false, refl};
+ghost use Rattle.wfe_words.specs.declared.config.SchemeKind.{SchemeKind as Kind};
+
+use crate::Scheme;
+use wfe_core::{Post, Told};
+use wfe_defs::Event;
+use wfe_fast::WfeProtect;
+use wfe_he::{HeClear, HeProtect};
+use wfe_ibr::{IbrBegin, IbrFinish, IbrProtect, IbrRelease};
+
+/// Hazard Eras (Ramalhete and Correia 2017).
+pub struct He {}
+
+/// 2GE intervals (Wen and others 2018).
+pub struct Ibr {}
+
+/// Wait-Free Eras (Nikolaev and Ravindran 2020).
+pub struct Wfe {}
+
+impl Scheme for He {
+    ghost use Rattle.wfe_words.specs.declared.config.SchemeKind.TheVariants.{He as HeKind};
+
+    ghost kind = { HeKind };
+
+    ghost HELPS = { false };
+
+    const HELPS: bool = false;
+
+    type Begin = IbrBegin;
+
+    type Protect = HeProtect;
+
+    type Clear = HeClear;
+
+    type Finish = IbrFinish;
+
+    type Release = HeClear;
+
+    ghost helps = { refl };
+
+    ghost begun = { λ e. refl };
+
+    ghost protected = { λ e. refl };
+
+    ghost cleared = { λ e. refl };
+
+    ghost finished = { λ e. refl };
+
+    ghost released = { λ e. refl };
+
+    fn begin(_post: &Post) -> Option<IbrBegin> {
+        None
+    }
+
+    fn protect(post: &Post, index: u32, word: u32) -> HeProtect {
+        HeProtect::new(post, index, word)
+    }
+
+    fn clear(_post: &mut Post, index: u32, _told: &mut Told) -> Option<HeClear> {
+        Some(HeClear::new(index))
+    }
+
+    fn finish(_post: &Post) -> Option<IbrFinish> {
+        None
+    }
+
+    fn release() -> HeClear {
+        HeClear::new(2)
+    }
+}
+
+impl Scheme for Ibr {
+    ghost use Rattle.wfe_words.specs.declared.config.SchemeKind.TheVariants.{Ibr as IbrKind};
+
+    ghost kind = { IbrKind };
+
+    ghost HELPS = { false };
+
+    const HELPS: bool = false;
+
+    type Begin = IbrBegin;
+
+    type Protect = IbrProtect;
+
+    type Clear = HeClear;
+
+    type Finish = IbrFinish;
+
+    type Release = IbrRelease;
+
+    ghost helps = { refl };
+
+    ghost begun = { λ e. refl };
+
+    ghost protected = { λ e. refl };
+
+    ghost cleared = { λ e. refl };
+
+    ghost finished = { λ e. refl };
+
+    ghost released = { λ e. refl };
+
+    fn begin(post: &Post) -> Option<IbrBegin> {
+        match post.span {
+            Some(_) => None,
+            None => Some(IbrBegin::new()),
+        }
+    }
+
+    fn protect(post: &Post, index: u32, word: u32) -> IbrProtect {
+        IbrProtect::new(post, index, word)
+    }
+
+    fn clear(post: &mut Post, index: u32, told: &mut Told) -> Option<HeClear> {
+        if let Some(slot) = post.standing[index as usize] {
+            told.push(Event::Clear { index, slot });
+        }
+        post.standing[index as usize] = None;
+        None
+    }
+
+    fn finish(post: &Post) -> Option<IbrFinish> {
+        if post.standing[2].is_some() {
+            return None;
+        }
+        Some(IbrFinish::new())
+    }
+
+    fn release() -> IbrRelease {
+        IbrRelease::new()
+    }
+}
+
+impl Scheme for Wfe {
+    ghost use Rattle.wfe_words.specs.declared.config.SchemeKind.TheVariants.{Wfe as WfeKind};
+
+    ghost kind = { WfeKind };
+
+    ghost HELPS = { true };
+
+    const HELPS: bool = true;
+
+    type Begin = IbrBegin;
+
+    type Protect = WfeProtect;
+
+    type Clear = HeClear;
+
+    type Finish = IbrFinish;
+
+    type Release = HeClear;
+
+    ghost helps = { refl };
+
+    ghost begun = { λ e. refl };
+
+    ghost protected = { λ e. refl };
+
+    ghost cleared = { λ e. refl };
+
+    ghost finished = { λ e. refl };
+
+    ghost released = { λ e. refl };
+
+    fn begin(_post: &Post) -> Option<IbrBegin> {
+        None
+    }
+
+    fn protect(post: &Post, index: u32, word: u32) -> WfeProtect {
+        WfeProtect::new(post, index, word)
+    }
+
+    fn clear(_post: &mut Post, index: u32, _told: &mut Told) -> Option<HeClear> {
+        Some(HeClear::new(index))
+    }
+
+    fn finish(_post: &Post) -> Option<IbrFinish> {
+        None
+    }
+
+    fn release() -> HeClear {
+        HeClear::new(2)
+    }
+}

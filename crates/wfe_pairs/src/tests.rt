@@ -1,0 +1,17 @@
+// The list once on its happy path.
+use super::*;
+use std::test::Fail;
+
+#[test]
+fn keeps_its_order(rt: HostRuntime) -> Result<(), Fail> {
+    let mut pairs = Pairs::new();
+    for key in 0..14 {
+        pairs.push(key, 100 + key);
+    }
+    assert_eq!(rt; pairs.len(), 14);
+    assert_eq!(rt; pairs.get(0), (0, 100));
+    assert_eq!(rt; pairs.get(13), (13, 113));
+    pairs.clear();
+    assert_eq!(rt; pairs.len(), 0);
+    Ok(())
+}

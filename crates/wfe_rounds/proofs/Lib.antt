@@ -1,0 +1,11 @@
+pub mod Counts
+pub mod Exchanges
+pub mod Grows
+pub mod Worlds
+pub mod Paced
+pub mod Machines
+pub mod Protects
+pub mod Kept
+pub mod Lasting
+pub mod Fresh
+pub mod Ending

@@ -1,0 +1,3 @@
+pub mod Past
+pub mod There
+pub mod Turns

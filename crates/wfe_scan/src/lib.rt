@@ -1,0 +1,9 @@
+//! A scan: a seat reads each guard once, and then gives back the rows of its retire list whose lives
+//! meet nothing that it read.
+#![tactic(auto)]
+
+mod guards;
+mod scan;
+mod unmet;
+
+pub use scan::{Scan, Scanner};
