@@ -1,14 +1,13 @@
 // Words by number and words by place, each law the contract of a function that does nothing.
-ghost use Rattle.std.specs.Prelude.{◌≡◌, ◌<◌, length, List, ℕ, IsTrue, Option, true};
-ghost use Rattle.wfe_words.specs.Place.{has, is_valid, words};
+ghost use Rattle.std.specs.Prelude.{◌≡◌, ◌<◌, length, List, ℕ, IsTrue, Option};
+ghost use Rattle.wfe_words.specs.Place.{is_valid, words};
 ghost use Rattle.wfe_defs.specs.declared.call.Answer.{Answer};
 ghost use Rattle.wfe_defs.specs.declared.call.Call.{Call};
 ghost use Rattle.wfe_defs.specs.declared.event.Event.{Event};
 ghost use Rattle.wfe_core.specs.Calls.{CallTurn, Phase};
 ghost use Rattle.wfe_core.specs.DeskHeld.{Took};
-ghost use Rattle.wfe_core.specs.Locals.{busy_in, move};
+ghost use Rattle.wfe_core.specs.Locals.{busy_in};
 ghost use Rattle.wfe_core.specs.MayStep.{MayStep};
-ghost use Rattle.wfe_core.specs.Memory.{place_in};
 ghost use Rattle.wfe_core.specs.World.{World, begin, is_busy, start};
 ghost use Rattle.wfe_core.specs.declared.desk.Desk.{Desk as HeldDesk};
 ghost use Rattle.wfe_core.specs.declared.post.Post.{Post};
