@@ -2,6 +2,7 @@
 use Rattle.std.proofs.Common.{ℕ, ◌≡◌, ◌<◌, ◌%◌, Bool, true, false, List, [], ◌∷◌, ◌++◌, Option, Some, None, refl, sym, ap, ◌∙◌, subst, arith}
 use Rattle.std.proofs.lemmas.Bool.Decides.{nat_tests}
 use Rattle.std.specs.Prelude.{◌==◌, ◌&&◌, not, nat_lt}
+use Rattle.wfe_words.specs.Place.{is_valid}
 use Rattle.wfe_words.specs.declared.layout.Layout.{Layout}
 use Rattle.wfe_defs.specs.declared.call.Answer.{Answer}
 use Rattle.wfe_defs.specs.declared.call.Answer.TheVariants as the_answers
@@ -30,6 +31,7 @@ use Rattle.wfe_answers.specs.AnswersTold.{began_by, began_of, with_told, told_of
 use Rattle.wfe_lawful.proofs.Each.{all_of}
 use Rattle.wfe_lawful.proofs.Machines.{is_within, told_within, end_still}
 use Rattle.wfe_answers.proofs.Owed.{loud_one, loud, loud_along, loud_still, is_open, Serves, owed, out_owed, OutServes, Told, Owes, append_none}
+use Rattle.wfe_answers.proofs.Moves.{phase_ends}
 use Rattle.wfe_answers.proofs.Owing.{turn_owes, first_serves, first_owes}
 
 -- what a seat told, after more entries
@@ -86,14 +88,14 @@ others_began k i [] p e = refl
 others_began k i (event ∷ told) p e = others_began k i told (Then p i event) e ∙ other_began k i p event e
 
 -- a seat has told what it owes
-record Right (n : ℕ) (l : Local) (call : Option Call) (all : List Event) : Type 0 where
-  began : busy_in l.phase ≡ true → call ≡ Some l.call
-  told : busy_in l.phase ≡ true → all ≡ owed n l.call l.phase
-  serves : Serves l.call l.phase
+pub record Right (n : ℕ) (l : Local) (call : Option Call) (all : List Event) : Type 0 where
+  pub began : busy_in l.phase ≡ true → call ≡ Some l.call
+  pub told : busy_in l.phase ≡ true → all ≡ owed n l.call l.phase
+  pub serves : busy_in l.phase ≡ true → Serves l.call l.phase
 
 settled_right : (n : ℕ) (l : Local) (post : Post) (desk : Desk) (rounds : ℕ) (outcome : CallOutcome) (began : Option Call) (told : List Event) → began ≡ Some l.call → told ≡ out_owed n l.call outcome → OutServes l.call outcome → Right n (settled_by l post desk rounds outcome) began told
-settled_right n l post desk rounds (GoesOn phase) began told e t s = record { began = λ b. e; told = λ b. t; serves = s }
-settled_right n l post desk rounds (Answers answer) began told e t s = record { began = λ b. absurd (cc); told = λ b. absurd (cc); serves = tt }
+settled_right n l post desk rounds (GoesOn phase) began told e t s = record { began = λ b. e; told = λ b. t; serves = λ b. s }
+settled_right n l post desk rounds (Answers answer) began told e t s = record { began = λ b. absurd (cc); told = λ b. absurd (cc); serves = λ b. absurd (cc) }
 
 -- where the call ends
 value_same : (x : Option ℕ) → same_value x x ≡ true
@@ -130,7 +132,7 @@ tells_along : (i : ℕ) (xs ys : List Event) (p : Past) → tells_of p i (xs ++ 
 tells_along i [] ys p = refl
 tells_along i (x ∷ xs) ys p = tells_along i xs ys (Then p i x)
 
-first_all : (f : Event → Bool) (xs ys : List Event) → all_of f (xs ++ ys) ≡ true → all_of f xs ≡ true
+pub first_all : (f : Event → Bool) (xs ys : List Event) → all_of f (xs ++ ys) ≡ true → all_of f xs ≡ true
 first_all f [] ys h = refl
 first_all f (x ∷ xs) ys h = both (f x) (all_of f xs) (first_of (f x) (all_of f (xs ++ ys)) h) (first_all f xs ys (rest_of (f x) (all_of f (xs ++ ys)) h))
 
@@ -158,18 +160,18 @@ step_told n i call p t before y b o =
     ∙ there.sum
 
 -- what a history keeps
-record Keeps (n : ℕ) (made : Made) : Type 0 where
-  table : made.world.layout.config.buckets ≡ n
-  known : Inv made.world
-  seats : (k : ℕ) → Right n (made.world.seat k) (began_of k made.past) (told_of k made.past)
-  law : Each (answers_ok n) made.past
+pub record Keeps (n : ℕ) (made : Made) : Type 0 where
+  pub table : made.world.layout.config.buckets ≡ n
+  pub known : Inv made.world
+  pub seats : (k : ℕ) → Right n (made.world.seat k) (began_of k made.past) (told_of k made.past)
+  pub law : Each (answers_ok n) made.past
 
-owes_of : (n : ℕ) (w : World) (i : ℕ) → w.layout.config.buckets ≡ n → Inv w → Serves (w.seat i).call (w.seat i).phase → Owes n (w.seat i).call (owed n (w.seat i).call (w.seat i).phase) (turn (w.seat i) (finds w i))
+pub owes_of : (n : ℕ) (w : World) (i : ℕ) → w.layout.config.buckets ≡ n → Inv w → Serves (w.seat i).call (w.seat i).phase → Owes n (w.seat i).call (owed n (w.seat i).call (w.seat i).phase) (turn (w.seat i) (finds w i))
 owes_of n w i e a s =
     let k = a.known in
-    turn_owes n (w.seat i).call (w.seat i).phase (counted (w.seat i).post) (w.seat i).desk (finds w i) (ap (λ (table : Layout). table.config.buckets) (k.seats.fits i).post.layout ∙ e) s
+    turn_owes n (w.seat i).call (w.seat i).phase (counted (w.seat i).post) (w.seat i).desk (finds w i) (phase_ends w i k.seats) (ap (λ (table : Layout). table.config.buckets) (k.seats.fits i).post.layout ∙ e) s
 
-within_of : (w : World) (i : ℕ) → all_of is_within (told_in w i) ≡ true
+pub within_of : (w : World) (i : ℕ) → all_of is_within (told_in w i) ≡ true
 within_of w i = told_within (w.seat i).phase (counted (w.seat i).post) (w.seat i).desk (finds w i)
 
 step_right : (n : ℕ) (w : World) (i k : ℕ) (p : Past) (same : Bool) → (k == i) ≡ same → is_busy w i ≡ true → Inv w → w.layout.config.buckets ≡ n → ((m : ℕ) → Right n (w.seat m) (began_of m p) (told_of m p)) → Right n ((step w i).seat k) (began_of k (tells_of p i (told_in w i))) (told_of k (tells_of p i (told_in w i)))
@@ -177,7 +179,7 @@ step_right n w i k p true e b a d g =
     let one : k ≡ i = grind (arith, nat_tests) in
     let r = g i in
     let t : CallTurn = turn (w.seat i) (finds w i) in
-    let o = owes_of n w i d a r.serves in
+    let o = owes_of n w i d a (r.serves b) in
     let s = settled_right n (w.seat i) t.post (noting t.desk (told_by t)) (rounds_told (w.seat i).rounds (told_by t)) t.outcome (began_of i (tells_of p i (told_in w i))) (told_of i (tells_of p i (told_in w i)))
     (began_along i (told_in w i) p (within_of w i) ∙ r.began b) (step_told n i (w.seat i).call p t (owed n (w.seat i).call (w.seat i).phase) (within_of w i) (r.told b) o) o.serves in
     subst (λ (m : ℕ). Right n ((step w i).seat m) (began_of m (tells_of p i (told_in w i))) (told_of m (tells_of p i (told_in w i)))) (sym one)
@@ -194,7 +196,7 @@ begin_right n w i k call p true e g =
     let t : told_of i (Then p i (events.Begin call)) ≡ owed n call (first_phase call (begun_post (w.seat i).post)) = own_entry i p (events.Begin call) ∙ sym (first_owes n call (begun_post (w.seat i).post)) in
     subst (λ (m : ℕ). Right n ((begin w i call).seat m) (began_of m (Then p i (events.Begin call))) (told_of m (Then p i (events.Begin call)))) (sym one)
     (subst (λ (l : Local). Right n l (began_of i (Then p i (events.Begin call))) (told_of i (Then p i (events.Begin call)))) (sym (begin_begins w i call))
-    (record { began = λ y. b; told = λ y. t; serves = first_serves call (begun_post (w.seat i).post) }))
+    (record { began = λ y. b; told = λ y. t; serves = λ y. first_serves call (begun_post (w.seat i).post) }))
 begin_right n w i k call p false e g =
     subst (λ (l : Local). Right n l (began_of k (Then p i (events.Begin call))) (told_of k (Then p i (events.Begin call)))) (sym (begin_stays w i k call e))
     (subst (λ (x : Option Call). Right n (w.seat k) x (told_of k (Then p i (events.Begin call)))) (sym (other_began k i p (events.Begin call) e))
@@ -207,17 +209,17 @@ begins_right seat seats false h = refl
 steps_right : (seat seats : ℕ) (busy : Bool) → (nat_lt seat seats && busy) ≡ true → seat < seats
 steps_right seat seats busy h = grind (arith, nat_tests)
 
-begin_keeps : (n : ℕ) (made : Made) (i : ℕ) (call : Call) → is_busy made.world i ≡ false → Keeps n made → Keeps n (done made (Begins i call))
+pub begin_keeps : (n : ℕ) (made : Made) (i : ℕ) (call : Call) → is_busy made.world i ≡ false → Keeps n made → Keeps n (done made (Begins i call))
 begin_keeps n made i call f g = record { table = g.table; known = inv_begin made.world i call f g.known; seats = λ k. begin_right n made.world i k call made.past (k == i) refl g.seats; law = (refl, g.law) }
 
-step_keeps : (n : ℕ) (made : Made) (i : ℕ) → i < made.world.layout.config.seats → is_busy made.world i ≡ true → Keeps n made → Keeps n (done made (Steps i))
+pub step_keeps : (n : ℕ) (made : Made) (i : ℕ) → i < made.world.layout.config.seats → is_busy made.world i ≡ true → Keeps n made → Keeps n (done made (Steps i))
 step_keeps n made i b y g =
     let r = g.seats i in
     record {
       table = g.table;
       known = inv_kept made.world i b g.known;
       seats = λ k. step_right n made.world i k made.past (k == i) refl y g.known g.table g.seats;
-      law = step_each n i (made.world.seat i).call made.past (turn (made.world.seat i) (finds made.world i)) (owed n (made.world.seat i).call (made.world.seat i).phase) (within_of made.world i) (r.began y) (r.told y) (owes_of n made.world i g.table g.known r.serves) g.law;
+      law = step_each n i (made.world.seat i).call made.past (turn (made.world.seat i) (finds made.world i)) (owed n (made.world.seat i).call (made.world.seat i).phase) (within_of made.world i) (r.began y) (r.told y) (owes_of n made.world i g.table g.known (r.serves y)) g.law;
     }
 
 item_keeps : (n : ℕ) (made : Made) (item : Item) (fit : Bool) → fits made.world item ≡ fit → Keeps n made → Keeps n (done_if made item fit)
@@ -230,7 +232,10 @@ items_keep : (n : ℕ) (items : List Item) (made : Made) → Keeps n made → Ke
 items_keep n [] made g = g
 items_keep n (item ∷ items) made g = items_keep n items (did made item) (item_keeps n made item (fits made.world item) refl g)
 
+pub first_keeps : (layout : Layout) → is_valid layout ≡ true → Keeps layout.config.buckets (first_made layout)
+first_keeps layout d = record { table = refl; known = inv_start layout d; seats = λ k. record { began = λ b. absurd (cc); told = λ b. absurd (cc); serves = λ b. absurd (cc) }; law = tt }
+
 pub records_keep_answers : RecordsKeepAnswers
 records_keep_answers layout items d =
-    let g = items_keep layout.config.buckets items (first_made layout) (record { table = refl; known = inv_start layout d; seats = λ k. record { began = λ b. absurd (cc); told = λ b. absurd (cc); serves = tt }; law = tt }) in
+    let g = items_keep layout.config.buckets items (first_made layout) (first_keeps layout d) in
     entries_of_each (answers_ok layout.config.buckets) (record_of layout items) g.law

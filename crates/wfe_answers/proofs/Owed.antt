@@ -11,6 +11,8 @@ use Rattle.wfe_defs.specs.declared.event.Event.TheVariants as events
 use Rattle.wfe_defs.specs.declared.fold.Change.{Change}
 use Rattle.wfe_defs.specs.declared.fold.Change.TheVariants as changes
 use Rattle.wfe_core.specs.Rounds.{with_clock}
+use Rattle.wfe_core.specs.Phases.{Ending, Outcome, Goes, Ends}
+use Rattle.wfe_core.specs.Phases.Ending.{Clocked}
 use Rattle.wfe_core.specs.Calls.{Task, Gets, Changes, Holds, Enqueues, Dequeues, Next, Again, MakeRoom, Answering, Retiring, AfterScan, Answered, Repeated, Counted, EnqueueKept, EnqueueAt, LoadNumber, LoadNext, PassTail, ExchangeNext, ExchangeTail, Work, Getting, Changing, Enqueuing, Dequeuing, Why, Opens, FollowsHead, Fills, ClearsNext, Clears, Finishes, GivesUp, Retires, Tidies, Advances, Releases, Phase, Idle, Runs, Scans, Works, CallTurn, CallOutcome, GoesOn, Answers}
 use Rattle.wfe_answers.specs.AnswersTold.{owes, suits}
 use Rattle.wfe_reuse.proofs.Passes.{first_of, rest_of}
@@ -97,7 +99,7 @@ WorkServes call (Enqueuing kept at) = call ≡ names.Enqueue kept.value
 WorkServes call (Dequeuing at) = call ≡ names.Dequeue
 
 abbrev pub Serves : Call → Phase → Type 0
-Serves call Idle = Unit {0}
+Serves call Idle = ⊥
 Serves call (Runs why base) = WhyServes call why
 Serves call (Scans later at) = LaterServes call later
 Serves call (Works work) = WorkServes call work
@@ -153,6 +155,19 @@ out_owed n call (Answers answer) = owes n call answer
 abbrev pub OutServes : Call → CallOutcome → Type 0
 OutServes call (GoesOn phase) = Serves call phase
 OutServes call (Answers answer) = suits call answer ≡ true
+
+-- where the clock is moved alone, its machine ends with an outcome of the move
+abbrev pub ends_clocked : Ending → Bool
+ends_clocked (Clocked clock) = true
+ends_clocked ending = false
+
+abbrev pub out_clocked : Outcome → Bool
+out_clocked (Goes base) = true
+out_clocked (Ends ending) = ends_clocked ending
+
+abbrev pub EndsFor : Why → Outcome → Type 0
+EndsFor Advances outcome = out_clocked outcome ≡ true
+EndsFor why outcome = Unit {0}
 
 -- after what was told before, these events make these, and none is an end
 pub record Told (before told all : List Event) : Type 0 where

@@ -40,7 +40,7 @@ use Rattle.wfe_core.proofs.Frames.{after_same}
 use Rattle.wfe_reuse.proofs.Passes.{both}
 use Rattle.wfe_answers.specs.AnswersTold.{owes, suits}
 use Rattle.wfe_lawful.proofs.Machines.{is_still, of_along, base_machine, clear_machine}
-use Rattle.wfe_answers.proofs.Owed.{call_for, TaskServes, NextServes, LaterServes, FreeServes, WhyServes, WorkServes, Serves, next_owed, later_owed, why_owed, enqueue_owed, work_owed, owed, Told, Owes, told_machine, told_more, told_none, clock_owes, clock_suits, is_open, loud, loud_along, append_none}
+use Rattle.wfe_answers.proofs.Owed.{call_for, TaskServes, NextServes, LaterServes, FreeServes, WhyServes, WorkServes, Serves, next_owed, later_owed, why_owed, enqueue_owed, work_owed, owed, Told, Owes, ends_clocked, EndsFor, told_machine, told_more, told_none, clock_owes, clock_suits, is_open, loud, loud_along, append_none}
 
 -- a round begins
 record Round (n : ℕ) (call : Call) (phase : Phase) : Type 0 where
@@ -420,42 +420,49 @@ tidied_owes n call later (Followed end) post desk told s t = record { told = t; 
 tidied_owes n call later (Allocated end) post desk told s t = record { told = t; serves = s }
 tidied_owes n call later (Retired life) post desk told s t = record { told = t; serves = s }
 
-advanced_owes : (n : ℕ) (call : Call) (ending : Ending) (post : Post) (desk : Desk) (told : List Event) → call ≡ names.Advance → Told [] told [] → Owes n call [] (steps.advanced ending post desk told)
-advanced_owes n call (Clocked clock) post desk told c t = record { told = rw c t; serves = rw c refl }
-advanced_owes n call Done post desk told c t = record { told = t; serves = tt }
-advanced_owes n call (Protected end) post desk told c t = record { told = t; serves = tt }
-advanced_owes n call (Followed end) post desk told c t = record { told = t; serves = tt }
-advanced_owes n call (Allocated end) post desk told c t = record { told = t; serves = tt }
-advanced_owes n call (Retired life) post desk told c t = record { told = t; serves = tt }
+advanced_owes : (n : ℕ) (call : Call) (ending : Ending) (post : Post) (desk : Desk) (told : List Event) → ends_clocked ending ≡ true → call ≡ names.Advance → Told [] told [] → Owes n call [] (steps.advanced ending post desk told)
+advanced_owes n call (Clocked clock) post desk told m c t = record { told = rw c t; serves = rw c refl }
+advanced_owes n call Done post desk told m c t = absurd (cc)
+advanced_owes n call (Protected end) post desk told m c t = absurd (cc)
+advanced_owes n call (Followed end) post desk told m c t = absurd (cc)
+advanced_owes n call (Allocated end) post desk told m c t = absurd (cc)
+advanced_owes n call (Retired life) post desk told m c t = absurd (cc)
 
 released_owes : (n : ℕ) (call : Call) (key : Option ℕ) (post : Post) (desk : Desk) (told : List Event) → FreeServes call key → Told [] told [] → Owes n call [] (steps.released key post desk told)
 released_owes n call None post desk told c t = record { told = rw c t; serves = rw c refl }
 released_owes n call (Some key) post desk told c t = record { told = again_owes n call [] (Holds key) post told c t; serves = round_serves n call (Holds key) post c }
 
-resume_owes : (n : ℕ) (call : Call) (why : Why) (ending : Ending) (post : Post) (desk : Desk) (told : List Event) → post.layout.config.buckets ≡ n → WhyServes call why → Told (why_owed n call why) told (why_owed n call why) → Owes n call (why_owed n call why) (steps.resume why ending post desk told)
-resume_owes n call (Opens task) ending post desk told e s t = opened_owes n call task ending post desk told e s t
-resume_owes n call (FollowsHead head tail) ending post desk told e s t = followed_by_owes n call head tail ending post desk told s t
-resume_owes n call (Fills task) ending post desk told e s t = filled_owes n call task ending post desk told s t
-resume_owes n call (ClearsNext next) ending post desk told e s t = clearing_owes n call (next_owed n call next) Dequeues next post desk told s.0 s.1 t
-resume_owes n call (Clears task next) ending post desk told e s t = finishing_owes n call (next_owed n call next) task next post desk told s.0 s.1 t
-resume_owes n call (Finishes task next) ending post desk told e s t = closed_owes n call (next_owed n call next) task next post desk told s.0 s.1 t
-resume_owes n call (GivesUp answer) ending post desk told e s t = record { told = t; serves = s }
-resume_owes n call (Retires answer) ending post desk told e s t = retired_owes n call answer ending post desk told s t
-resume_owes n call (Tidies later) ending post desk told e s t = tidied_owes n call later ending post desk told s t
-resume_owes n call Advances ending post desk told e s t = advanced_owes n call ending post desk told s t
-resume_owes n call (Releases key) ending post desk told e s t = released_owes n call key post desk told s t
+resume_owes : (n : ℕ) (call : Call) (why : Why) (ending : Ending) (post : Post) (desk : Desk) (told : List Event) → EndsFor why (Ends ending) → post.layout.config.buckets ≡ n → WhyServes call why → Told (why_owed n call why) told (why_owed n call why) → Owes n call (why_owed n call why) (steps.resume why ending post desk told)
+resume_owes n call (Opens task) ending post desk told m e s t = opened_owes n call task ending post desk told e s t
+resume_owes n call (FollowsHead head tail) ending post desk told m e s t = followed_by_owes n call head tail ending post desk told s t
+resume_owes n call (Fills task) ending post desk told m e s t = filled_owes n call task ending post desk told s t
+resume_owes n call (ClearsNext next) ending post desk told m e s t = clearing_owes n call (next_owed n call next) Dequeues next post desk told s.0 s.1 t
+resume_owes n call (Clears task next) ending post desk told m e s t = finishing_owes n call (next_owed n call next) task next post desk told s.0 s.1 t
+resume_owes n call (Finishes task next) ending post desk told m e s t = closed_owes n call (next_owed n call next) task next post desk told s.0 s.1 t
+resume_owes n call (GivesUp answer) ending post desk told m e s t = record { told = t; serves = s }
+resume_owes n call (Retires answer) ending post desk told m e s t = retired_owes n call answer ending post desk told s t
+resume_owes n call (Tidies later) ending post desk told m e s t = tidied_owes n call later ending post desk told s t
+resume_owes n call Advances ending post desk told m e s t = advanced_owes n call ending post desk told m s t
+resume_owes n call (Releases key) ending post desk told m e s t = released_owes n call key post desk told s t
 
-resumed_owes : (n : ℕ) (call : Call) (why : Why) (desk : Desk) (post : Post) (told : List Event) (outcome : Outcome) → post.layout.config.buckets ≡ n → WhyServes call why → Told (why_owed n call why) told (why_owed n call why) → Owes n call (why_owed n call why) (steps.resumed why desk post told outcome)
-resumed_owes n call why desk post told (Goes base) e s t = record { told = t; serves = s }
-resumed_owes n call why desk post told (Ends ending) e s t = resume_owes n call why ending post desk told e s t
+resumed_owes : (n : ℕ) (call : Call) (why : Why) (desk : Desk) (post : Post) (told : List Event) (outcome : Outcome) → EndsFor why outcome → post.layout.config.buckets ≡ n → WhyServes call why → Told (why_owed n call why) told (why_owed n call why) → Owes n call (why_owed n call why) (steps.resumed why desk post told outcome)
+resumed_owes n call why desk post told (Goes base) m e s t = record { told = t; serves = s }
+resumed_owes n call why desk post told (Ends ending) m e s t = resume_owes n call why ending post desk told m e s t
 
-pub turn_owes : (n : ℕ) (call : Call) (phase : Phase) (post : Post) (desk : Desk) (found : ℕ) → post.layout.config.buckets ≡ n → Serves call phase → Owes n call (owed n call phase) (steps.phase_turn phase post desk found)
-turn_owes n call Idle post desk found e s = record { told = told_none; serves = tt }
-turn_owes n call (Runs why base) post desk found e s =
-    resumed_owes n call why desk (machine.after base post found).post (machine.after base post found).told (machine.after base post found).outcome
+-- of a phase's machine
+abbrev pub PhaseEnds : Phase → Post → ℕ → Type 0
+PhaseEnds Idle post found = Unit {0}
+PhaseEnds (Runs why base) post found = EndsFor why (machine.after base post found).outcome
+PhaseEnds (Scans later at) post found = Unit {0}
+PhaseEnds (Works work) post found = Unit {0}
+
+pub turn_owes : (n : ℕ) (call : Call) (phase : Phase) (post : Post) (desk : Desk) (found : ℕ) → PhaseEnds phase post found → post.layout.config.buckets ≡ n → Serves call phase → Owes n call (owed n call phase) (steps.phase_turn phase post desk found)
+turn_owes n call Idle post desk found m e s = absurd s
+turn_owes n call (Runs why base) post desk found m e s =
+    resumed_owes n call why desk (machine.after base post found).post (machine.after base post found).told (machine.after base post found).outcome m
     (ap (λ (table : Layout). table.config.buckets) (after_same base post found).layout ∙ e) s (told_machine (why_owed n call why) (machine.after base post found).told (base_machine base post found))
-turn_owes n call (Scans later at) post desk found e s = scan_owes n call later at post desk found s
-turn_owes n call (Works work) post desk found e s = work_owes n call work post desk found e s
+turn_owes n call (Scans later at) post desk found m e s = scan_owes n call later at post desk found s
+turn_owes n call (Works work) post desk found m e s = work_owes n call work post desk found e s
 
 -- the first phase of a call owes nothing
 pub first_serves : (call : Call) (post : Post) → Serves call (steps.first_phase call post)
