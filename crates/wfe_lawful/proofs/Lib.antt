@@ -5,4 +5,5 @@ pub mod Gots
 pub mod Machines
 pub mod Maps
 pub mod Nulls
+pub mod Queues
 pub mod Versions

@@ -1,2 +1,3 @@
 pub mod MapKept
+pub mod QueueLaw
 pub mod StepLaw

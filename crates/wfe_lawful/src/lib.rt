@@ -3,6 +3,7 @@
 #![tactic(auto)]
 
 ghost use Rattle.wfe_lawful.specs.MapKept.{RecordsKeepMap};
+ghost use Rattle.wfe_lawful.specs.QueueLaw.{RecordsKeepQueue};
 ghost use Rattle.wfe_lawful.specs.StepLaw.{RecordsKeepSteps};
 
 /// Under Wait-Free Eras each protection tells the row that it holds, or null, within
@@ -15,4 +16,10 @@ pub fn records_keep_steps()
 /// value at a version that was current at some position of its call, from its beginning on.
 pub fn records_keep_map()
     ensures { RecordsKeepMap }
+{}
+
+/// The n-th value of the queue is queued under number n, and values are taken by their numbers, each
+/// once and after it was queued.
+pub fn records_keep_queue()
+    ensures { RecordsKeepQueue }
 {}
