@@ -1,0 +1,2 @@
+pub mod Dequeues
+pub mod Enqueues
