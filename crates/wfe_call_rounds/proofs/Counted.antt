@@ -14,6 +14,9 @@ use Rattle.wfe_core.specs.Phases.RetireAt.{LoadLife, LoadRetire, StoreRetired}
 use Rattle.wfe_core.specs.Phases.MoveAt.{LoadEra, LoadRequest, ShowEra, LoadAsked, CheckEra, AnswerAsked, LoadReserved, HandOver, HideEra, HideLate, ExchangeClock}
 use Rattle.wfe_core.specs.Phases.Base.{Begin, Protect, Reload, Clear, Finish, Release, Allocate, Write, GiveUp, Retire, Move}
 use Rattle.wfe_core.specs.Posts.{counted}
+use Rattle.wfe_core.specs.Desks.{Desk}
+use Rattle.wfe_core.specs.Calls.{ChangeKept, EnqueueKept, Task, Gets, Changes, Holds, Enqueues, Dequeues, AfterScan, Answered, Repeated, Counted, Why, Opens, FollowsHead, Fills, ClearsNext, Clears, Finishes, GivesUp, Retires, Tidies, Advances, Releases, ScanAt, ReadGuard, GiveBack, GetAt, FindVersion, FindCount, FindKey, FindValue, ChangeAt, LoadVersion, LoadCount, LoadKey, LoadValue, ExchangeRoot, EnqueueAt, LoadNumber, LoadNext, PassTail, ExchangeNext, ExchangeTail, DequeueAt, LoadTail, SwingTail, TakeNumber, TakeValue, ExchangeHead, Work, Getting, Changing, Enqueuing, Dequeuing, Phase, Idle, Runs, Scans, Works}
+use Rattle.wfe_core.specs.CallReady.{TakenFits, ChangeFits, EnqueueFits, TaskFits, FillFits, LaterFits, why_ready, get_ready, change_ready, enqueue_ready, dequeue_ready, work_ready, scan_ready, IsCallReady, get_plausible, change_plausible, enqueue_plausible, dequeue_plausible, work_plausible, IsCallPlausible}
 use Rattle.wfe_core.specs.Ready.{begin_ready, protect_ready, WalkFits, allocate_ready, retire_ready, AskFits, move_ready, RowFits, IsReady, AskedFits, protect_plausible, move_plausible, Plausible}
 
 begin_counted : (at : BeginAt) (post : Post) → begin_ready at post → begin_ready at (counted post)
@@ -135,3 +138,128 @@ plausible_counted (Write slot row place) post found h = h
 plausible_counted (GiveUp slot) post found h = h
 plausible_counted (Retire at) post found h = h
 plausible_counted (Move at) post found h = move_plausible_counted at post found h
+
+taken_counted : (post : Post) (taken : Option ℕ) → TakenFits post taken → TakenFits (counted post) taken
+taken_counted post None h = h
+taken_counted post (Some slot) h = h
+
+change_counted : (post : Post) (kept : ChangeKept) → ChangeFits post kept → ChangeFits (counted post) kept
+change_counted post kept h = record { taken = taken_counted post kept.taken h.taken; link = h.link; version = h.version; pairs = h.pairs }
+
+enqueue_counted : (post : Post) (kept : EnqueueKept) → EnqueueFits post kept → EnqueueFits (counted post) kept
+enqueue_counted post kept h = record { taken = taken_counted post kept.taken h.taken; tail = h.tail; number = h.number }
+
+task_counted : (task : Task) (post : Post) → TaskFits post task → TaskFits (counted post) task
+task_counted (Gets key) post h = h
+task_counted (Changes kept) post h = change_counted post kept h
+task_counted (Holds key) post h = h
+task_counted (Enqueues kept) post h = enqueue_counted post kept h
+task_counted Dequeues post h = h
+
+fill_counted : (task : Task) (post : Post) → FillFits post task → FillFits (counted post) task
+fill_counted (Gets key) post h = h
+fill_counted (Changes kept) post h = h
+fill_counted (Holds key) post h = h
+fill_counted (Enqueues kept) post h = h
+fill_counted Dequeues post h = h
+
+later_counted : (later : AfterScan) (post : Post) → LaterFits post later → LaterFits (counted post) later
+later_counted (Answered answer) post h = h
+later_counted (Repeated task) post h = task_counted task post h
+later_counted Counted post h = h
+
+why_counted : (why : Why) (base : Base) (post : Post) (desk : Desk) → why_ready why base post desk → why_ready why base (counted post) desk
+why_counted (Opens task) base post desk h = task_counted task post h
+why_counted (FollowsHead head tail) base post desk h = h
+why_counted (Fills task) base post desk h = (task_counted task post h.0, fill_counted task post h.1)
+why_counted (ClearsNext next) base post desk h = h
+why_counted (Clears task next) base post desk h = task_counted task post h
+why_counted (Finishes task next) base post desk h = task_counted task post h
+why_counted (GivesUp answer) base post desk h = h
+why_counted (Retires answer) base post desk h = h
+why_counted (Tidies later) base post desk h = later_counted later post h
+why_counted Advances base post desk h = h
+why_counted (Releases key) base post desk h = h
+
+get_counted : (at : GetAt) (post : Post) → get_ready at post → get_ready at (counted post)
+get_counted (FindVersion slot) post h = h
+get_counted (FindCount slot version) post h = h
+get_counted (FindKey slot version count pair) post h = h
+get_counted (FindValue slot version pair) post h = h
+
+change_at_counted : (kept : ChangeKept) (at : ChangeAt) (post : Post) → change_ready kept at post → change_ready kept at (counted post)
+change_at_counted kept (LoadVersion slot) post h = h
+change_at_counted kept (LoadCount slot) post h = h
+change_at_counted kept (LoadKey slot count) post h = h
+change_at_counted kept (LoadValue slot count key) post h = h
+change_at_counted kept (ExchangeRoot slot) post h = h
+
+enqueue_at_counted : (kept : EnqueueKept) (at : EnqueueAt) (post : Post) → enqueue_ready kept at post → enqueue_ready kept at (counted post)
+enqueue_at_counted kept LoadNumber post h = h
+enqueue_at_counted kept LoadNext post h = h
+enqueue_at_counted kept (PassTail next) post h = h
+enqueue_at_counted kept (ExchangeNext slot) post h = h
+enqueue_at_counted kept (ExchangeTail slot) post h = h
+
+dequeue_at_counted : (at : DequeueAt) (post : Post) → dequeue_ready at post → dequeue_ready at (counted post)
+dequeue_at_counted (LoadTail head) post h = h
+dequeue_at_counted (SwingTail head next) post h = h
+dequeue_at_counted (TakeNumber head next) post h = h
+dequeue_at_counted (TakeValue head next number) post h = h
+dequeue_at_counted (ExchangeHead head next number value) post h = h
+
+work_counted : (work : Work) (post : Post) → work_ready work post → work_ready work (counted post)
+work_counted (Getting key at) post h = get_counted at post h
+work_counted (Changing kept at) post h = (change_counted post kept h.0, change_at_counted kept at post h.1)
+work_counted (Enqueuing kept at) post h = (enqueue_counted post kept h.0, enqueue_at_counted kept at post h.1)
+work_counted (Dequeuing at) post h = dequeue_at_counted at post h
+
+scan_counted : (at : ScanAt) (post : Post) (desk : Desk) → scan_ready at post desk → scan_ready at (counted post) desk
+scan_counted (ReadGuard number) post desk h = h
+scan_counted (GiveBack place slot) post desk h = (h.0, record { entry = h.1.entry; back = h.1.back })
+
+-- the same of a call
+pub call_ready_counted : (phase : Phase) (post : Post) (desk : Desk) → IsCallReady phase post desk → IsCallReady phase (counted post) desk
+call_ready_counted Idle post desk h = h
+call_ready_counted (Runs why base) post desk h = (ready_counted base post h.0, why_counted why base post desk h.1)
+call_ready_counted (Scans later at) post desk h = (later_counted later post h.0, scan_counted at post desk h.1)
+call_ready_counted (Works work) post desk h = work_counted work post h
+
+get_plausible_counted : (at : GetAt) (post : Post) (found : ℕ) → get_plausible at post found → get_plausible at (counted post) found
+get_plausible_counted (FindVersion slot) post found h = h
+get_plausible_counted (FindCount slot version) post found h = h
+get_plausible_counted (FindKey slot version count pair) post found h = h
+get_plausible_counted (FindValue slot version pair) post found h = h
+
+change_plausible_counted : (at : ChangeAt) (post : Post) (found : ℕ) → change_plausible at post found → change_plausible at (counted post) found
+change_plausible_counted (LoadVersion slot) post found h = h
+change_plausible_counted (LoadCount slot) post found h = h
+change_plausible_counted (LoadKey slot count) post found h = h
+change_plausible_counted (LoadValue slot count key) post found h = h
+change_plausible_counted (ExchangeRoot slot) post found h = h
+
+enqueue_plausible_counted : (at : EnqueueAt) (post : Post) (found : ℕ) → enqueue_plausible at post found → enqueue_plausible at (counted post) found
+enqueue_plausible_counted LoadNumber post found h = h
+enqueue_plausible_counted LoadNext post found h = h
+enqueue_plausible_counted (PassTail next) post found h = h
+enqueue_plausible_counted (ExchangeNext slot) post found h = h
+enqueue_plausible_counted (ExchangeTail slot) post found h = h
+
+dequeue_plausible_counted : (at : DequeueAt) (post : Post) (found : ℕ) → dequeue_plausible at post found → dequeue_plausible at (counted post) found
+dequeue_plausible_counted (LoadTail head) post found h = h
+dequeue_plausible_counted (SwingTail head next) post found h = h
+dequeue_plausible_counted (TakeNumber head next) post found h = h
+dequeue_plausible_counted (TakeValue head next number) post found h = h
+dequeue_plausible_counted (ExchangeHead head next number value) post found h = h
+
+work_plausible_counted : (work : Work) (post : Post) (found : ℕ) → work_plausible work post found → work_plausible work (counted post) found
+work_plausible_counted (Getting key at) post found h = get_plausible_counted at post found h
+work_plausible_counted (Changing kept at) post found h = change_plausible_counted at post found h
+work_plausible_counted (Enqueuing kept at) post found h = enqueue_plausible_counted at post found h
+work_plausible_counted (Dequeuing at) post found h = dequeue_plausible_counted at post found h
+
+pub call_plausible_counted : (phase : Phase) (post : Post) (found : ℕ) → IsCallPlausible phase post found → IsCallPlausible phase (counted post) found
+call_plausible_counted Idle post found h = h
+call_plausible_counted (Runs why base) post found h = plausible_counted base post found h
+call_plausible_counted (Scans later at) post found h = h
+call_plausible_counted (Works work) post found h = work_plausible_counted work post found h

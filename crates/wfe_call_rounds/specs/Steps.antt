@@ -1,0 +1,15 @@
+-- A step of a call, before its events are noted.
+use Rattle.std.specs.Prelude.{◌≡◌, List, Option}
+use Rattle.wfe_defs.specs.declared.call.Answer.{Answer}
+use Rattle.wfe_defs.specs.declared.event.Event.{Event}
+use Rattle.wfe_core.specs.declared.post.Post.{Post}
+use Rattle.wfe_core.specs.Calls.{Phase, CallTurn}
+use Rattle.wfe_core.specs.DeskHeld.{Leads}
+use Rattle.wfe_core.specs.Desks.{Desk}
+
+-- the call took this turn, and its desk is this one
+pub record Steps (t : CallTurn) (post : Post) (desk : Desk) (told : List Event) (answer : Option Answer) (phase : Phase) : Type 0 where
+  pub post_is : post ≡ t.post
+  pub told_is : told ≡ t.told
+  pub desk_is : desk ≡ t.desk
+  pub outcome_is : Leads t.outcome answer phase
