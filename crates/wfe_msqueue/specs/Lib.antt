@@ -1,2 +1,3 @@
 pub mod Dequeues
+pub mod DequeueStates
 pub mod Enqueues

@@ -5,7 +5,8 @@ ghost use Rattle.wfe_core.specs.Dequeue.{dequeue_move, dequeue_turn};
 ghost use Rattle.wfe_core.specs.Desks.{Desk};
 ghost use Rattle.wfe_core.specs.Memory.{numbered};
 ghost use Rattle.wfe_core.specs.Valid.{IsValid};
-ghost use Rattle.wfe_msqueue.specs.Dequeues.{LedWithin, at_of, led};
+ghost use Rattle.wfe_call_rounds.specs.Rounds.{is_again};
+ghost use Rattle.wfe_msqueue.specs.Dequeues.{LedWithin, at_of, led, next_of};
 
 use super::links::{link_to, tell_link};
 use wfe_core::{Op, Post, Told};
@@ -44,6 +45,15 @@ pub enum DequeueEnd {
     Again,
     Empty,
     Taken { head: u32, number: u64, value: u64 },
+}
+
+impl DequeueEnd {
+    // Another round comes at once.
+    pub fn is_again(&self) -> bool
+        ensures { result ≡ is_again (next_of self.now) }
+    {
+        matches!(self, DequeueEnd::Again)
+    }
 }
 
 // What a step leads to: the next one, the protection of the row after the head's, or the round's end.
