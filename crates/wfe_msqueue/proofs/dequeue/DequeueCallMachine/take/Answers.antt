@@ -1,0 +1,30 @@
+use Rattle.std.proofs.Common.{arith}
+use Rattle.wfe_core.specs.declared.post.Post.{Post}
+use Rattle.wfe_core.specs.DeskHeld.{desk_of}
+use Rattle.wfe_iface.specs.Follows.{at_phase}
+use Rattle.wfe_call_rounds.proofs.Taken.{bumped}
+use Rattle.wfe_msqueue.specs.DequeueStates.{dequeue_phase}
+use Rattle.wfe_msqueue.proofs.Counts.{dequeue_counted, took_counted}
+use Rattle.wfe_msqueue.proofs.dequeue.DequeueCallMachine.take.Goals as goal
+
+pub returns-clause-took : goal.returns-clause-took
+returns-clause-took g c =
+    let post = c.args.post.now in
+    took_counted
+    (λ (p : Post). dequeue_phase g.S.Begin.Machine.phase g.S.Protect.Machine.phase (λ f. at_phase g.S.Protect.Machine.phase f.parent f.index f.steps f.at) g.S.Clear.Machine.phase g.S.Finish.Machine.phase c.args.self.now.at p)
+    post
+    c.step-answer.new.post
+    c.saturating_add-post.result
+    c.args.found
+    (desk_of c.args.desk.now)
+    (desk_of c.step-answer.new.desk)
+    c.step-answer.new.told
+    c.settle.new.told
+    c.step-answer.result
+    _
+    c.settle.new.self
+    (dequeue_counted _ _ _ _ _ c.args.self.now.at post)
+    (bumped c.saturating_add-post.result post.steps (omega arith) c.saturating_add-post.ensures)
+    c.step-answer.ensures.steps
+    c.settle.ensures.told
+    c.settle.ensures.desk

@@ -1,0 +1,43 @@
+-- Where a dequeue's work on its rows stands, as phases of the model.
+use Rattle.std.specs.Prelude.{List}
+use Rattle.wfe_defs.specs.declared.call.Answer.TheVariants as answers
+use Rattle.wfe_defs.specs.declared.call.ClockMove.TheVariants as moves
+use Rattle.wfe_defs.specs.declared.event.Event.{Event}
+use Rattle.wfe_core.specs.declared.post.Post.{Post}
+use Rattle.wfe_core.specs.CallReady.{dequeue_ready}
+use Rattle.wfe_core.specs.Calls.{DequeueAt, LoadTail, SwingTail, TakeNumber, TakeValue, ExchangeHead, Next, Again, Answering, Retiring, FollowsHead, Runs, Works, Dequeuing, CallTurn, goes_on}
+use Rattle.wfe_core.specs.Dequeue.{follow_base}
+use Rattle.wfe_core.specs.Desks.{Desk}
+use Rattle.wfe_core.specs.Ready.{SlotFits}
+use Rattle.wfe_core.specs.Rounds.{scheme_of, clearing_next}
+use Rattle.wfe_msqueue.specs.declared.dequeue_at.DequeueAt.{DequeueAt as At}
+use Rattle.wfe_msqueue.specs.declared.dequeue_at.DequeueAt.TheVariants as ats
+use Rattle.wfe_msqueue.specs.declared.dequeue_at.DequeueEnd.{DequeueEnd}
+use Rattle.wfe_msqueue.specs.declared.dequeue_at.DequeueEnd.TheVariants as round_ends
+use Rattle.wfe_msqueue.specs.declared.dequeue_at.Dequeued.{Dequeued}
+use Rattle.wfe_msqueue.specs.declared.dequeue_at.Dequeued.TheVariants as leads
+
+abbrev pub at_of : At → DequeueAt
+at_of (ats.LoadTail head) = LoadTail head
+at_of (ats.SwingTail head next) = SwingTail head next
+at_of (ats.TakeNumber head next) = TakeNumber head next
+at_of (ats.TakeValue head next number) = TakeValue head next number
+at_of (ats.ExchangeHead head next number value) = ExchangeHead head next number value
+
+-- what comes once the round's protections are cleared
+abbrev pub next_of : DequeueEnd → Next
+next_of round_ends.Again = Again
+next_of round_ends.Empty = Answering answers.Empty
+next_of (round_ends.Taken head number value) = Retiring head (answers.Taken number value moves.Still)
+
+-- the turn that leads there
+abbrev pub led : Dequeued → Post → Desk → List Event → CallTurn
+led (leads.Goes at) post desk told = goes_on post desk told (Works (Dequeuing (at_of at)))
+led (leads.Follows head tail) post desk told = goes_on post desk told (Runs (FollowsHead head tail) (follow_base (scheme_of post) head))
+led (leads.Ends ending) post desk told = clearing_next (next_of ending) post desk told
+
+-- the head's row is a row
+abbrev pub LedWithin : Dequeued → Post → Type 0
+LedWithin (leads.Goes at) post = dequeue_ready (at_of at) post
+LedWithin (leads.Follows head tail) post = SlotFits post head
+LedWithin (leads.Ends ending) post = Unit {0}

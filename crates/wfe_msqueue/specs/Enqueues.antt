@@ -1,0 +1,40 @@
+-- Where an enqueue's work on its rows stands, as phases of the model.
+use Rattle.std.specs.Prelude.{List}
+use Rattle.wfe_defs.specs.declared.call.Answer.TheVariants as answers
+use Rattle.wfe_defs.specs.declared.event.Event.{Event}
+use Rattle.wfe_core.specs.declared.post.Post.{Post}
+use Rattle.wfe_core.specs.Calls.{EnqueueKept, EnqueueAt, LoadNumber, LoadNext, PassTail, ExchangeNext, ExchangeTail, Next, Again, MakeRoom, Answering, Enqueues, Fills, Runs, Works, Enqueuing, CallTurn, goes_on}
+use Rattle.wfe_core.specs.Desks.{Desk}
+use Rattle.wfe_core.specs.Enqueue.{filling}
+use Rattle.wfe_core.specs.Rounds.{clearing}
+use Rattle.wfe_msqueue.specs.declared.enqueue_at.Kept.{Kept}
+use Rattle.wfe_msqueue.specs.declared.enqueue_at.EnqueueAt.{EnqueueAt as At}
+use Rattle.wfe_msqueue.specs.declared.enqueue_at.EnqueueAt.TheVariants as ats
+use Rattle.wfe_msqueue.specs.declared.enqueue_at.EnqueueEnd.{EnqueueEnd}
+use Rattle.wfe_msqueue.specs.declared.enqueue_at.EnqueueEnd.TheVariants as round_ends
+use Rattle.wfe_msqueue.specs.declared.enqueue_at.Enqueued.{Enqueued}
+use Rattle.wfe_msqueue.specs.declared.enqueue_at.Enqueued.TheVariants as leads
+
+abbrev pub kept_of : Kept → EnqueueKept
+kept_of kept = record { value = kept.value; taken = kept.taken; walked = kept.walked; tail = kept.tail; number = kept.number }
+
+abbrev pub at_of : At → EnqueueAt
+at_of ats.LoadNumber = LoadNumber
+at_of ats.LoadNext = LoadNext
+at_of (ats.PassTail next) = PassTail next
+at_of (ats.ExchangeNext slot) = ExchangeNext slot
+at_of (ats.ExchangeTail slot) = ExchangeTail slot
+
+-- what comes once the round's protection is cleared
+abbrev pub next_of : EnqueueEnd → Next
+next_of round_ends.Again = Again
+next_of round_ends.MakeRoom = MakeRoom
+next_of round_ends.Full = Answering answers.Full
+next_of (round_ends.Spent number) = Answering (answers.Spent number)
+next_of (round_ends.Queued number) = Answering (answers.Queued number)
+
+-- the turn that leads there
+abbrev pub led : EnqueueKept → Enqueued → Post → Desk → List Event → CallTurn
+led kept (leads.Goes at) post desk told = goes_on post desk told (Works (Enqueuing kept (at_of at)))
+led kept leads.Fills post desk told = goes_on post desk told (Runs (Fills (Enqueues kept)) (filling kept))
+led kept (leads.Ends ending) post desk told = clearing (Enqueues kept) (next_of ending) post desk told

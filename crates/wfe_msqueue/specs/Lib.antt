@@ -1,0 +1,3 @@
+pub mod Dequeues
+pub mod DequeueStates
+pub mod Enqueues

@@ -1,0 +1,147 @@
+// The work of a dequeue on its rows, between the protections of a round.
+ghost use Rattle.std.specs.Prelude.{◌≡◌, ◌≤◌, [], length};
+ghost use Rattle.wfe_core.specs.CallReady.{dequeue_plausible, dequeue_ready};
+ghost use Rattle.wfe_core.specs.Dequeue.{dequeue_move, dequeue_turn};
+ghost use Rattle.wfe_core.specs.Desks.{Desk};
+ghost use Rattle.wfe_core.specs.Memory.{numbered};
+ghost use Rattle.wfe_core.specs.Valid.{IsValid};
+ghost use Rattle.wfe_call_rounds.specs.Rounds.{is_again};
+ghost use Rattle.wfe_msqueue.specs.Dequeues.{LedWithin, at_of, led, next_of};
+
+use super::links::{link_to, tell_link};
+use wfe_core::{Op, Post, Told};
+use wfe_defs::{Event, Root};
+
+// The step to come. `head` is the row that the head led to, `next` the row after it.
+#[derive(Clone, Copy)]
+pub enum DequeueAt {
+    LoadTail {
+        head: u32,
+    },
+    SwingTail {
+        head: u32,
+        next: u32,
+    },
+    TakeNumber {
+        head: u32,
+        next: u32,
+    },
+    TakeValue {
+        head: u32,
+        next: u32,
+        number: u64,
+    },
+    ExchangeHead {
+        head: u32,
+        next: u32,
+        number: u64,
+        value: u64,
+    },
+}
+
+// How a round of a dequeue ends: another round, no item, or the item and the row that was cut.
+#[derive(Clone, Copy)]
+pub enum DequeueEnd {
+    Again,
+    Empty,
+    Taken { head: u32, number: u64, value: u64 },
+}
+
+impl DequeueEnd {
+    // Another round comes at once.
+    pub fn is_again(&self) -> bool
+        ensures { result ≡ is_again (next_of self.now) }
+    {
+        matches!(self, DequeueEnd::Again)
+    }
+}
+
+// What a step leads to: the next one, the protection of the row after the head's, or the round's end.
+#[derive(Clone, Copy)]
+pub enum Dequeued {
+    Goes(DequeueAt),
+    Follows { head: u32, tail: u64 },
+    Ends(DequeueEnd),
+}
+
+impl DequeueAt {
+    // The operation of the step.
+    pub fn next_op(&self, post: &Post) -> Op
+        requires valid { IsValid post.now }
+        requires ready { dequeue_ready (at_of self.now) post.now }
+        ensures { result ≡ numbered post.now.layout (dequeue_move (at_of self.now)) }
+    {
+        match *self {
+            DequeueAt::LoadTail { .. } => Op::Load {
+                word: post.layout.tail(),
+            },
+            DequeueAt::SwingTail { head, next } => Op::Cas {
+                word: post.layout.tail(),
+                old: link_to(head),
+                new: link_to(next),
+            },
+            DequeueAt::TakeNumber { next, .. } => Op::Load {
+                word: post.layout.row(next, 1),
+            },
+            DequeueAt::TakeValue { next, .. } => Op::Load {
+                word: post.layout.row(next, 2),
+            },
+            DequeueAt::ExchangeHead { head, next, .. } => Op::Cas {
+                word: post.layout.head(),
+                old: link_to(head),
+                new: link_to(next),
+            },
+        }
+    }
+
+    // What the word that was found leads to. An exchange is told.
+    pub fn take(self, post: &Post, found: u64, told: &mut Told) -> Dequeued
+        requires ready { dequeue_ready (at_of self) post.now }
+        requires empty { told.old ≡ [] }
+        ensures turn { (desk : Desk) → dequeue_turn (at_of self) post.now desk found ≡ led result post.now desk told.new }
+        ensures within { LedWithin result post.now }
+        ensures few { length told.new ≤ 3 }
+    {
+        match self {
+            DequeueAt::LoadTail { head } => Dequeued::Follows { head, tail: found },
+            DequeueAt::SwingTail { head, next } => {
+                tell_link(told, Root::Tail, next, found == link_to(head));
+                Dequeued::Ends(DequeueEnd::Again)
+            }
+            DequeueAt::TakeNumber { head, next } => Dequeued::Goes(DequeueAt::TakeValue {
+                head,
+                next,
+                number: found,
+            }),
+            DequeueAt::TakeValue { head, next, number } => {
+                Dequeued::Goes(DequeueAt::ExchangeHead {
+                    head,
+                    next,
+                    number,
+                    value: found,
+                })
+            }
+            DequeueAt::ExchangeHead {
+                head,
+                next,
+                number,
+                value,
+            } => {
+                if found != link_to(head) {
+                    return Dequeued::Ends(DequeueEnd::Again);
+                }
+                told.push(Event::Link {
+                    root: Root::Head,
+                    slot: next,
+                });
+                told.push(Event::Cut { slot: head });
+                told.push(Event::Taken { number, value });
+                Dequeued::Ends(DequeueEnd::Taken {
+                    head,
+                    number,
+                    value,
+                })
+            }
+        }
+    }
+}

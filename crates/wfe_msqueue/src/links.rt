@@ -1,0 +1,24 @@
+// Links of the queue, and the events of their exchanges.
+ghost use Rattle.std.specs.Prelude.{◌≡◌, ◌<◌, ◌≤◌, ◌+◌, ◌++◌, length};
+ghost use Rattle.wfe_core.specs.Enqueue.{told_link};
+
+use wfe_core::Told;
+use wfe_defs::{Event, Root};
+
+// The link that leads to a row.
+pub fn link_to(slot: u32) -> u64
+    ensures { result ≡ slot + 1 }
+{
+    slot as u64 + 1
+}
+
+// Tells that a root leads to a row now, if it was exchanged.
+pub fn tell_link(told: &mut Told, root: Root, slot: u32, exchanged: bool)
+    requires { length told.old < 8 }
+    ensures told { told.new ≡ told.old ++ told_link root slot exchanged }
+    ensures few { length told.new ≤ length told.old + 1 }
+{
+    if exchanged {
+        told.push(Event::Link { root, slot });
+    }
+}
