@@ -83,7 +83,7 @@ shows_begin w i call v p h = record {
 }
 
 -- a step
-settled_list : (l : Local) (post : Post) (desk : Desk) (rounds : ℕ) (outcome : CallOutcome) → (settled_by l post desk rounds outcome).desk ≡ desk
+pub settled_list : (l : Local) (post : Post) (desk : Desk) (rounds : ℕ) (outcome : CallOutcome) → (settled_by l post desk rounds outcome).desk ≡ desk
 settled_list l post desk rounds (GoesOn phase) = refl
 settled_list l post desk rounds (Answers answer) = refl
 
@@ -268,14 +268,14 @@ step_back w i v p n h t =
     let s : Single back_ok p i (row_events b (move_of w i)) = back_move w i b v p (move_of w i) (before_at w i v n) h in
     single_each is_of_rows back_ok back_kind i (told_in w i) p (subst (λ (es : List Event). Single back_ok p i es) (sym (rows_told w i)) s) t
 
-begins_right : (seat seats : ℕ) (busy : Bool) → (nat_lt seat seats && not busy) ≡ true → busy ≡ false
+pub begins_right : (seat seats : ℕ) (busy : Bool) → (nat_lt seat seats && not busy) ≡ true → busy ≡ false
 begins_right seat seats true h = absurd (grind (arith, nat_tests))
 begins_right seat seats false h = refl
 
-steps_right : (seat seats : ℕ) (busy : Bool) → (nat_lt seat seats && busy) ≡ true → seat < seats
+pub steps_right : (seat seats : ℕ) (busy : Bool) → (nat_lt seat seats && busy) ≡ true → seat < seats
 steps_right seat seats busy h = grind (arith, nat_tests)
 
-begin_keeps : (layout : Layout) (made : Made) (i : ℕ) (call : Call) → is_busy made.world i ≡ false → Keeps layout made → Keeps layout (done made (Begins i call))
+pub begin_keeps : (layout : Layout) (made : Made) (i : ℕ) (call : Call) → is_busy made.world i ≡ false → Keeps layout made → Keeps layout (done made (Begins i call))
 begin_keeps layout made i call f g =
     let k = g.known in
     let q = requests_begin made.world i call g.asked k.valid f k.seats k.requests in
@@ -290,7 +290,7 @@ begin_keeps layout made i call f g =
       backs = (refl, g.backs);
     }
 
-step_keeps : (layout : Layout) (made : Made) (i : ℕ) → i < made.world.layout.config.seats → Keeps layout made → Keeps layout (done made (Steps i))
+pub step_keeps : (layout : Layout) (made : Made) (i : ℕ) → i < made.world.layout.config.seats → Keeps layout made → Keeps layout (done made (Steps i))
 step_keeps layout made i b g =
     let k = g.known in
     let q = asked_next made.world i g.rows g.line g.asked b k in
@@ -315,7 +315,7 @@ items_keep : (layout : Layout) (items : List Item) (made : Made) → Keeps layou
 items_keep layout [] made g = g
 items_keep layout (item ∷ items) made g = items_keep layout items (did made item) (item_keeps layout made item (fits made.world item) refl g)
 
-first_keeps : (layout : Layout) → is_valid layout ≡ true → Keeps layout (first_made layout)
+pub first_keeps : (layout : Layout) → is_valid layout ≡ true → Keeps layout (first_made layout)
 first_keeps layout d =
     let q = requests_start layout d in
     record {
