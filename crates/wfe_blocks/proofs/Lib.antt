@@ -1,0 +1,4 @@
+pub mod Calm
+pub mod Found
+pub mod Keeps
+pub mod Placed
