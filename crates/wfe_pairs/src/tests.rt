@@ -3,13 +3,16 @@ use super::*;
 use std::test::Fail;
 
 #[test]
-fn keeps_its_order(rt: HostRuntime) -> Result<(), Fail> {
+fn keeps_its_order_with_as_many_as_fit(rt: HostRuntime) -> Result<(), Fail> {
     let mut pairs = Pairs::new();
-    pairs.push(1, 10);
-    pairs.push(2, 20);
-    assert_eq!(rt; pairs.len(), 2);
-    assert_eq!(rt; pairs.get(0), (1, 10));
-    assert_eq!(rt; pairs.get(1), (2, 20));
+    for key in 0..14 {
+        if pairs.len() < 14 {
+            pairs.push(key, 100 + key);
+        }
+    }
+    assert_eq!(rt; pairs.len(), 14);
+    assert_eq!(rt; pairs.get(0), (0, 100));
+    assert_eq!(rt; pairs.get(13), (13, 113));
     pairs.clear();
     assert_eq!(rt; pairs.len(), 0);
     Ok(())
