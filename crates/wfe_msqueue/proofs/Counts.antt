@@ -4,7 +4,7 @@ use Rattle.wfe_defs.specs.declared.call.Answer.{Answer}
 use Rattle.wfe_defs.specs.declared.event.Event.{Event}
 use Rattle.wfe_core.specs.declared.desk.Desk.{Desk as HeldDesk}
 use Rattle.wfe_core.specs.declared.post.Post.{Post}
-use Rattle.wfe_core.specs.Calls.{Dequeues, Phase}
+use Rattle.wfe_core.specs.Calls.{EnqueueKept, Enqueues, Dequeues, Phase}
 use Rattle.wfe_core.specs.DeskHeld.{Took, desk_of, told_answer}
 use Rattle.wfe_core.specs.Desks.{Desk, noting}
 use Rattle.wfe_core.specs.Memory.{bump}
@@ -15,7 +15,10 @@ use Rattle.wfe_call_rounds.specs.Steps.{Steps}
 use Rattle.wfe_call_rounds.proofs.Taken.{round_counted, took_from}
 use Rattle.wfe_msqueue.specs.declared.dequeue_state.State.{State}
 use Rattle.wfe_msqueue.specs.declared.dequeue_state.State.TheVariants as states
+use Rattle.wfe_msqueue.specs.declared.enqueue_state.State.{State as EnqueueState}
+use Rattle.wfe_msqueue.specs.declared.enqueue_state.State.TheVariants as fills
 use Rattle.wfe_msqueue.specs.DequeueStates.{dequeue_phase}
+use Rattle.wfe_msqueue.specs.EnqueueStates.{enqueue_phase}
 
 -- a dequeue
 pub dequeue_counted : {B P W C F : Type 0} (begin : B → Base) (protect : P → Base) (follow : W → Base) (clear : C → Base) (finish : F → Base) (state : State B P W C F) (post : Post) → dequeue_phase begin protect follow clear finish state post ≡ dequeue_phase begin protect follow clear finish state (counted post)
@@ -26,6 +29,17 @@ dequeue_counted begin protect follow clear finish (states.Follows head tail mach
 dequeue_counted begin protect follow clear finish (states.ClearsNext ending machine) post = refl
 dequeue_counted begin protect follow clear finish (states.Closes ending closing) post = refl
 dequeue_counted begin protect follow clear finish (states.Reclaims item reclaim) post = refl
+
+-- an enqueue
+pub enqueue_counted : {B P C F : Type 0} (begin : B → Base) (protect : P → Base) (clear : C → Base) (finish : F → Base) (kept : EnqueueKept) (state : EnqueueState B P C F) (post : Post) → enqueue_phase begin protect clear finish kept state post ≡ enqueue_phase begin protect clear finish kept state (counted post)
+enqueue_counted begin protect clear finish kept fills.Starts post = round_counted (Enqueues kept) post
+enqueue_counted begin protect clear finish kept (fills.Opens opening) post = refl
+enqueue_counted begin protect clear finish kept (fills.Works at) post = refl
+enqueue_counted begin protect clear finish kept (fills.Allocates machine) post = refl
+enqueue_counted begin protect clear finish kept (fills.Writes machine) post = refl
+enqueue_counted begin protect clear finish kept (fills.Closes ending closing) post = refl
+enqueue_counted begin protect clear finish kept (fills.GivesUp answer machine) post = refl
+enqueue_counted begin protect clear finish kept (fills.Tidies tidy) post = refl
 
 steps_counted : (post : Post) (steps : ℕ) → steps ≡ bump post.steps → record post { steps = steps } ≡ counted post
 steps_counted post steps e = ap (λ (n : ℕ). record post { steps = n }) e

@@ -1,6 +1,5 @@
 -- Where an enqueue's work on its rows stands, as phases of the model.
 use Rattle.std.specs.Prelude.{List}
-use Rattle.wfe_defs.specs.declared.call.Answer.TheVariants as answers
 use Rattle.wfe_defs.specs.declared.event.Event.{Event}
 use Rattle.wfe_core.specs.declared.post.Post.{Post}
 use Rattle.wfe_core.specs.Calls.{EnqueueKept, EnqueueAt, LoadNumber, LoadNext, PassTail, ExchangeNext, ExchangeTail, Next, Again, MakeRoom, Answering, Enqueues, Fills, Runs, Works, Enqueuing, CallTurn, goes_on}
@@ -29,9 +28,7 @@ at_of (ats.ExchangeTail slot) = ExchangeTail slot
 abbrev pub next_of : EnqueueEnd → Next
 next_of round_ends.Again = Again
 next_of round_ends.MakeRoom = MakeRoom
-next_of round_ends.Full = Answering answers.Full
-next_of (round_ends.Spent number) = Answering (answers.Spent number)
-next_of (round_ends.Queued number) = Answering (answers.Queued number)
+next_of (round_ends.Answers answer) = Answering answer
 
 -- the turn that leads there
 abbrev pub led : EnqueueKept → Enqueued → Post → Desk → List Event → CallTurn

@@ -1,3 +1,4 @@
 pub mod Dequeues
 pub mod DequeueStates
 pub mod Enqueues
+pub mod EnqueueStates

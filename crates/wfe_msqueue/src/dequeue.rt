@@ -176,6 +176,28 @@ impl<S: Scheme> Dequeue<S> {
         }
     }
 
+    // The first step of a round.
+    fn start(&mut self, post: &mut Post, desk: &Desk, found: u64, told: &mut Told) -> Option<Answer>
+        requires valid { IsValid post.old }
+        requires scheme { post.old.layout.config.scheme ≡ S.kind }
+        requires ready { IsCallReady (round Dequeues post.old) post.old (desk_of desk.now) }
+        requires plausible { IsCallPlausible (round Dequeues post.old) post.old found }
+        requires empty { told.old ≡ [] }
+        ensures steps { Steps (phase_turn (round Dequeues post.old) post.old (desk_of desk.now) found) post.new (desk_of desk.now) told.new result (dequeue_phase S.Begin.phase S.Protect.phase ⟦<Follow<S> as Machine>⟧.phase S.Clear.phase S.Finish.phase self.new.at post.new) }
+        ensures valid { IsValid post.new }
+        ensures layout { post.new.layout ≡ post.old.layout }
+        ensures seat { post.new.seat ≡ post.old.seat }
+        ensures most { length told.new ≤ 5 }
+    {
+        let mut opening = open::<S>(post, 0, Root::Head);
+        let end = take_open::<S>(&mut opening, 0, Root::Head, post, found, told);
+        self.at = State::Opens(opening);
+        match end {
+            Some(end) => self.reach(end, post, told),
+            None => None,
+        }
+    }
+
     // A step, with its events besides End.
     fn step(
         &mut self,
@@ -199,15 +221,7 @@ impl<S: Scheme> Dequeue<S> {
         ensures most { length told.new ≤ 5 }
     {
         match &mut self.at {
-            State::Starts => {
-                let mut opening = open::<S>(post, 0, Root::Head);
-                let end = take_open::<S>(&mut opening, 0, Root::Head, post, found, told);
-                self.at = State::Opens(opening);
-                match end {
-                    Some(end) => self.reach(end, post, told),
-                    None => None,
-                }
-            }
+            State::Starts => self.start(post, desk, found, told),
             State::Opens(opening) => {
                 let end = take_open::<S>(opening, 0, Root::Head, post, found, told)?;
                 self.reach(end, post, told)

@@ -5,11 +5,12 @@ ghost use Rattle.wfe_core.specs.Desks.{Desk};
 ghost use Rattle.wfe_core.specs.Enqueue.{enqueue_move, enqueue_turn};
 ghost use Rattle.wfe_core.specs.Memory.{numbered};
 ghost use Rattle.wfe_core.specs.Valid.{IsValid};
-ghost use Rattle.wfe_msqueue.specs.Enqueues.{at_of, kept_of, led};
+ghost use Rattle.wfe_call_rounds.specs.Rounds.{is_again};
+ghost use Rattle.wfe_msqueue.specs.Enqueues.{at_of, kept_of, led, next_of};
 
 use super::links::{link_to, tell_link};
 use wfe_core::{Op, Post, Told};
-use wfe_defs::{Event, Root};
+use wfe_defs::{Answer, Event, Root};
 
 // What an enqueue keeps: its value, the row that it has taken and not linked, whether a walk for one
 // has failed, and, from the tail loaded last, the tail's row and that row's number.
@@ -38,9 +39,16 @@ pub enum EnqueueAt {
 pub enum EnqueueEnd {
     Again,
     MakeRoom,
-    Full,
-    Spent { number: u64 },
-    Queued { number: u64 },
+    Answers(Answer),
+}
+
+impl EnqueueEnd {
+    // Another round comes at once.
+    pub fn is_again(&self) -> bool
+        ensures { result ≡ is_again (next_of self.now) }
+    {
+        matches!(self, EnqueueEnd::Again)
+    }
 }
 
 // What a step leads to: the next one, a row to be filled, or the round's end.
@@ -105,9 +113,9 @@ impl EnqueueAt {
                     return Enqueued::Goes(EnqueueAt::PassTail { next: found });
                 }
                 if kept.number == post.layout.config().last_version {
-                    return Enqueued::Ends(EnqueueEnd::Spent {
+                    return Enqueued::Ends(EnqueueEnd::Answers(Answer::Spent {
                         number: kept.number,
-                    });
+                    }));
                 }
                 Enqueued::Fills
             }
@@ -133,9 +141,9 @@ impl EnqueueAt {
             }
             EnqueueAt::ExchangeTail { slot } => {
                 tell_link(told, Root::Tail, slot, found == link_to(kept.tail));
-                Enqueued::Ends(EnqueueEnd::Queued {
+                Enqueued::Ends(EnqueueEnd::Answers(Answer::Queued {
                     number: kept.number + 1,
-                })
+                }))
             }
         }
     }

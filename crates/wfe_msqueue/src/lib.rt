@@ -4,7 +4,10 @@
 mod dequeue;
 mod dequeue_at;
 mod dequeue_state;
+mod enqueue;
 mod enqueue_at;
+mod enqueue_state;
 mod links;
 
 pub use dequeue::Dequeue;
+pub use enqueue::Enqueue;

@@ -1,0 +1,28 @@
+// Where an enqueue stands.
+use super::enqueue_at::{EnqueueAt, EnqueueEnd};
+use wfe_call_rounds::{Closing, Opening};
+use wfe_core::{Machine, ProtectEnd};
+use wfe_defs::Answer;
+use wfe_slots::{Allocate, GiveUp, WriteRow};
+use wfe_tidy::Tidy;
+
+// Before its first step, or before another round; the beginning of a round; the work on the rows; a row
+// that is taken, and one that is written; the end of the round, with how it ends; a row that was not
+// linked is given up, before the answer; and the clock is moved and the list scanned, before another
+// round.
+#[derive(Drop)]
+pub enum State<
+    B: Machine<End = ()>,
+    P: Machine<End = ProtectEnd>,
+    C: Machine<End = ()>,
+    F: Machine<End = ()>,
+> {
+    Starts,
+    Opens(Opening<B, P>),
+    Works(EnqueueAt),
+    Allocates(Allocate),
+    Writes(WriteRow),
+    Closes(EnqueueEnd, Closing<C, F>),
+    GivesUp(Answer, GiveUp),
+    Tidies(Tidy),
+}
