@@ -2,3 +2,6 @@ pub mod Calm
 pub mod Found
 pub mod Keeps
 pub mod Placed
+pub mod Reserves
+pub mod Shown
+pub mod Words

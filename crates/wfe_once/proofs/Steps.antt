@@ -48,7 +48,7 @@ ending_left (Retires answer) (Ends (Allocated end)) desk h = refl
 ending_left (Retires answer) (Ends (Clocked clock)) desk h = refl
 ending_left why (Ends ending) desk h = refl
 
-pub run_left : (why : Why) (base : Base) (post : Post) (desk : Desk) (found : ℕ) → ends_life base ≡ false → (phase_turn (Runs why base) post desk found).desk ≡ desk
+run_left : (why : Why) (base : Base) (post : Post) (desk : Desk) (found : ℕ) → ends_life base ≡ false → (phase_turn (Runs why base) post desk found).desk ≡ desk
 run_left why base post desk found h =
     resumed_desk why desk (after base post found).post (after base post found).told (after base post found).outcome ∙ ending_left why (after base post found).outcome desk (base_keeps base post found h)
 
