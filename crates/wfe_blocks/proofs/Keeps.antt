@@ -121,11 +121,11 @@ scan_told i later at post desk found p f r l h q =
     }
 
 -- a scan under way reads a guard that there is
-abbrev ScanFits : Config → Phase → Type 0
+abbrev pub ScanFits : Config → Phase → Type 0
 ScanFits config (Scans later at) = scan_fits config at ≡ true
 ScanFits config phase = Unit {0}
 
-scans_fit : (layout : Layout) (post : Post) (phase : Phase) → PhaseFits layout post phase → ScanFits layout.config phase
+pub scans_fit : (layout : Layout) (post : Post) (phase : Phase) → PhaseFits layout post phase → ScanFits layout.config phase
 scans_fit layout post (Scans later at) h = h
 scans_fit layout post Idle h = tt
 scans_fit layout post (Runs why base) h = tt
@@ -147,7 +147,7 @@ settled_placed all i l t p h =
     let e : (settled l t).phase ≡ phase_left t.outcome = settled_phase l t.post (noting t.desk (told_by t)) (rounds_told l.rounds (told_by t)) t.outcome in
     subst (λ (desk : Desk). Placed all (settled l t).phase desk.report.read desk.list (scans_of i p)) (sym d) (subst (λ (phase : Phase). Placed all phase t.desk.report.read t.desk.list (scans_of i p)) (sym e) h)
 
-after_desk : (l : Local) (found : ℕ) → (after l found).desk ≡ noting (turn l found).desk (told_by (turn l found))
+pub after_desk : (l : Local) (found : ℕ) → (after l found).desk ≡ noting (turn l found).desk (told_by (turn l found))
 after_desk l found = let t : CallTurn = turn l found in settled_list l t.post (noting t.desk (told_by t)) (rounds_told l.rounds (told_by t)) t.outcome
 
 own_told : (layout : Layout) (w : World) (i : ℕ) (p : Past) → w.layout ≡ layout → Seats w → Tied (guards layout.config) w p → list_of i p ≡ (w.seat i).desk.list → list_of i (tells_of p i (told_in w i)) ≡ ((step w i).seat i).desk.list → Told layout.config i (turn (w.seat i) (finds w i)) p

@@ -1,4 +1,5 @@
 pub mod Calm
+pub mod Counts
 pub mod Found
 pub mod Keeps
 pub mod Placed

@@ -3,6 +3,7 @@
 #![tactic(auto)]
 
 ghost use Rattle.wfe_blocks.specs.Blocks.{RecordsKeepScans};
+ghost use Rattle.wfe_blocks.specs.Counts.{RecordsCountScans};
 ghost use Rattle.wfe_blocks.specs.Reads.{RecordsReadGuards};
 
 /// The guards that a seat reads form blocks, each of all guards in order with nothing between. After
@@ -15,4 +16,10 @@ pub fn records_keep_scans()
 /// A guard that a scan reads shows what the guard publishes: what was told last that it reserves.
 pub fn records_read_guards()
     ensures { RecordsReadGuards }
+{}
+
+/// A call that only scans reads each guard once, and answers how many lives are left on its seat's
+/// list and how many rows went back.
+pub fn records_count_scans()
+    ensures { RecordsCountScans }
 {}

@@ -37,7 +37,7 @@ retired_tells s i (event ∷ told) p = retired_tells s i told (Then p i event)
 same_number : (i : ℕ) → (i == i) ≡ true
 same_number i = grind (arith, nat_tests)
 
-list_own : (i : ℕ) (event : Event) (p : Past) → list_of i (Then p i event) ≡ list_by event (list_of i p)
+pub list_own : (i : ℕ) (event : Event) (p : Past) → list_of i (Then p i event) ≡ list_by event (list_of i p)
 list_own i event p = rw (same_number i) refl
 
 pub list_tells : (i : ℕ) (told : List Event) (p : Past) → list_of i (tells_of p i told) ≡ along list_by told (list_of i p)

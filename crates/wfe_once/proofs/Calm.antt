@@ -45,142 +45,165 @@ abbrev pub all_of : (Event → Bool) → List Event → Bool
 all_of ok [] = true
 all_of ok (event ∷ told) = ok event && all_of ok told
 
+-- and no call begins
+abbrev pub is_calm : Event → Bool
+is_calm (events.Read guard span) = false
+is_calm (events.Back slot) = false
+is_calm (events.Begin call) = false
+is_calm event = true
+
 abbrev All : List Event → Type 0
-All told = all_of is_unread told ≡ true
+All told = all_of is_calm told ≡ true
 
 pub of_along : (f : Event → Bool) (xs ys : List Event) → all_of f xs ≡ true → all_of f ys ≡ true → all_of f (xs ++ ys) ≡ true
 of_along f [] ys h k = k
 of_along f (x ∷ xs) ys h k = both (f x) (all_of f (xs ++ ys)) (first_of (f x) (all_of f xs) h) (of_along f xs ys (rest_of (f x) (all_of f xs) h) k)
 
-link_unread : (index slot n : ℕ) (none : Bool) → All (if none then events.Null index n ∷ [] else events.Held index slot n ∷ [])
-link_unread index slot n true = refl
-link_unread index slot n false = refl
+link_calm : (index slot n : ℕ) (none : Bool) → All (if none then events.Null index n ∷ [] else events.Held index slot n ∷ [])
+link_calm index slot n true = refl
+link_calm index slot n false = refl
 
-next_unread : (index n : ℕ) (none : Bool) → All (if none then events.Null index n ∷ [] else [])
-next_unread index n true = refl
-next_unread index n false = refl
+next_calm : (index n : ℕ) (none : Bool) → All (if none then events.Null index n ∷ [] else [])
+next_calm index n true = refl
+next_calm index n false = refl
 
-held_unread : (index : ℕ) (root : Root) (link n : ℕ) → All (protects.told_held index root link n)
-held_unread index (roots.Next parent) link n = next_unread index n (link == 0)
-held_unread index (roots.Bucket bucket) link n = link_unread index (link - 1) n (link == 0)
-held_unread index roots.Head link n = link_unread index (link - 1) n (link == 0)
-held_unread index roots.Tail link n = link_unread index (link - 1) n (link == 0)
+held_calm : (index : ℕ) (root : Root) (link n : ℕ) → All (protects.told_held index root link n)
+held_calm index (roots.Next parent) link n = next_calm index n (link == 0)
+held_calm index (roots.Bucket bucket) link n = link_calm index (link - 1) n (link == 0)
+held_calm index roots.Head link n = link_calm index (link - 1) n (link == 0)
+held_calm index roots.Tail link n = link_calm index (link - 1) n (link == 0)
 
-concluded_unread : (aim : Aim) (index : ℕ) (root : Root) (n link era : ℕ) (post : Post) (told : List Event) → All told → All (protects.concluded aim index root n link era post told).told
-concluded_unread Alone index root n link era post told h = h
-concluded_unread Follows index root n link era post told h = by_link (link == 0) refl
+concluded_calm : (aim : Aim) (index : ℕ) (root : Root) (n link era : ℕ) (post : Post) (told : List Event) → All told → All (protects.concluded aim index root n link era post told).told
+concluded_calm Alone index root n link era post told h = h
+concluded_calm Follows index root n link era post told h = by_link (link == 0) refl
   where
     by_link : (x : Bool) → (link == 0) ≡ x → All (protects.concluded Follows index root n link era post told).told
     by_link true e = rw e h
     by_link false e = rw e h
 
-protected_unread : (aim : Aim) (index : ℕ) (root : Root) (n link era : ℕ) (post : Post) → All (protects.protected aim index root n link era post).told
-protected_unread aim index root n link era post = concluded_unread aim index root n link era (protects.held_post post index root link) (protects.told_held index root link n) (held_unread index root link n)
+protected_calm : (aim : Aim) (index : ℕ) (root : Root) (n link era : ℕ) (post : Post) → All (protects.protected aim index root n link era post).told
+protected_calm aim index root n link era post = concluded_calm aim index root n link era (protects.held_post post index root link) (protects.told_held index root link n) (held_calm index root link n)
 
-protect_unread : (aim : Aim) (index : ℕ) (root : Root) (n : ℕ) (at : ProtectAt) (post : Post) (found : ℕ) → All (machine.protect_turn aim index root n at post found).told
-protect_unread aim index root n (LoadClock tries) post found = refl
-protect_unread aim index root n (PublishEra era tries) post found = refl
-protect_unread aim index root n (LoadLink era tries) post found = refl
-protect_unread aim index root n (CheckClock era tries link) post found = grind (arith, protected_unread aim index root n link era post)
-protect_unread aim index root n PublishRequest post found = refl
-protect_unread aim index root n LoadOwnClock post found = refl
-protect_unread aim index root n (PublishHelper first era last) post found = refl
-protect_unread aim index root n (LoadOwnLink first era last) post found = refl
-protect_unread aim index root n (CheckOwnClock first era last link) post found = grind arith
-protect_unread aim index root n (AnswerOwn first era link) post found = grind arith
-protect_unread aim index root n (LoadAnswer first) post found = refl
-protect_unread aim index root n (TakeAnswer link era) post found = of_along is_unread (reserves_index post index era) (protects.told_held index root link n) refl (held_unread index root link n)
-protect_unread aim index root n (WithdrawRequest link era) post found = refl
-protect_unread aim index root n (WithdrawHelper link era) post found = concluded_unread aim index root n link era post (reserves_helper post 0) refl
-protect_unread aim index root n LoadWithin post found = refl
-protect_unread aim index root n (CheckUpper link) post found = grind (arith, protected_unread aim index root n link found post)
-protect_unread aim index root n (RaiseUpper era) post found = refl
+protect_calm : (aim : Aim) (index : ℕ) (root : Root) (n : ℕ) (at : ProtectAt) (post : Post) (found : ℕ) → All (machine.protect_turn aim index root n at post found).told
+protect_calm aim index root n (LoadClock tries) post found = refl
+protect_calm aim index root n (PublishEra era tries) post found = refl
+protect_calm aim index root n (LoadLink era tries) post found = refl
+protect_calm aim index root n (CheckClock era tries link) post found = grind (arith, protected_calm aim index root n link era post)
+protect_calm aim index root n PublishRequest post found = refl
+protect_calm aim index root n LoadOwnClock post found = refl
+protect_calm aim index root n (PublishHelper first era last) post found = refl
+protect_calm aim index root n (LoadOwnLink first era last) post found = refl
+protect_calm aim index root n (CheckOwnClock first era last link) post found = grind arith
+protect_calm aim index root n (AnswerOwn first era link) post found = grind arith
+protect_calm aim index root n (LoadAnswer first) post found = refl
+protect_calm aim index root n (TakeAnswer link era) post found = of_along is_calm (reserves_index post index era) (protects.told_held index root link n) refl (held_calm index root link n)
+protect_calm aim index root n (WithdrawRequest link era) post found = refl
+protect_calm aim index root n (WithdrawHelper link era) post found = concluded_calm aim index root n link era post (reserves_helper post 0) refl
+protect_calm aim index root n LoadWithin post found = refl
+protect_calm aim index root n (CheckUpper link) post found = grind (arith, protected_calm aim index root n link found post)
+protect_calm aim index root n (RaiseUpper era) post found = refl
 
-move_unread : (at : MoveAt) (post : Post) (found : ℕ) → All (machine.move_turn at post found).told
-move_unread (LoadEra helps) post found = grind arith
-move_unread (LoadRequest era seat shows) post found = refl
-move_unread (ShowEra era seat tag index root) post found = refl
-move_unread (LoadAsked era seat tag index root) post found = refl
-move_unread (CheckEra era seat tag index root link) post found = grind arith
-move_unread (AnswerAsked era seat tag index root link) post found = grind arith
-move_unread (LoadReserved era seat tag index root link) post found = grind arith
-move_unread (HandOver era seat tag index root link old) post found = handed (found == reservation_word (record { era = old; tag = tag }))
+move_calm : (at : MoveAt) (post : Post) (found : ℕ) → All (machine.move_turn at post found).told
+move_calm (LoadEra helps) post found = grind arith
+move_calm (LoadRequest era seat shows) post found = refl
+move_calm (ShowEra era seat tag index root) post found = refl
+move_calm (LoadAsked era seat tag index root) post found = refl
+move_calm (CheckEra era seat tag index root link) post found = grind arith
+move_calm (AnswerAsked era seat tag index root link) post found = grind arith
+move_calm (LoadReserved era seat tag index root link) post found = grind arith
+move_calm (HandOver era seat tag index root link old) post found = handed (found == reservation_word (record { era = old; tag = tag }))
   where
     handed : (same : Bool) → All (movers.after_hand_over era seat tag index old post same).told
     handed true = refl
     handed false = refl
-move_unread (HideEra era) post found = refl
-move_unread (HideLate seen) post found = refl
-move_unread (ExchangeClock era) post found = grind arith
+move_calm (HideEra era) post found = refl
+move_calm (HideLate seen) post found = refl
+move_calm (ExchangeClock era) post found = grind arith
 
-begin_unread : (at : BeginAt) (post : Post) (found : ℕ) → All (machine.begin_turn at post found).told
-begin_unread LoadLower post found = refl
-begin_unread (PublishSpan era) post found = refl
+begin_calm : (at : BeginAt) (post : Post) (found : ℕ) → All (machine.begin_turn at post found).told
+begin_calm LoadLower post found = refl
+begin_calm (PublishSpan era) post found = refl
 
-walking_unread : (birth : ℕ) (post : Post) (x : Option Walk) → All (allocates.walking birth post x).told
-walking_unread birth post None = refl
-walking_unread birth post (Some walk) = refl
+walking_calm : (birth : ℕ) (post : Post) (x : Option Walk) → All (allocates.walking birth post x).told
+walking_calm birth post None = refl
+walking_calm birth post (Some walk) = refl
 
-claim_unread : (birth : ℕ) (walk : Walk) (post : Post) (found : ℕ) (x : Bool) → allocates.is_claimed found walk.slot ≡ x → All (allocates.after_claim_slot birth walk post found).told
-claim_unread birth walk post found true e = rw e (walking_unread birth post (allocates.walk_past post.layout.config.slots walk found))
-claim_unread birth walk post found false e = rw e refl
+claim_calm : (birth : ℕ) (walk : Walk) (post : Post) (found : ℕ) (x : Bool) → allocates.is_claimed found walk.slot ≡ x → All (allocates.after_claim_slot birth walk post found).told
+claim_calm birth walk post found true e = rw e (walking_calm birth post (allocates.walk_past post.layout.config.slots walk found))
+claim_calm birth walk post found false e = rw e refl
 
-allocate_unread : (at : AllocateAt) (post : Post) (found : ℕ) → All (machine.allocate_turn at post found).told
-allocate_unread LoadBirth post found = refl
-allocate_unread (ClaimSlot birth walk) post found = claim_unread birth walk post found (allocates.is_claimed found walk.slot) refl
-allocate_unread (StoreLife birth slot) post found = refl
+allocate_calm : (at : AllocateAt) (post : Post) (found : ℕ) → All (machine.allocate_turn at post found).told
+allocate_calm LoadBirth post found = refl
+allocate_calm (ClaimSlot birth walk) post found = claim_calm birth walk post found (allocates.is_claimed found walk.slot) refl
+allocate_calm (StoreLife birth slot) post found = refl
 
-retire_unread : (at : RetireAt) (post : Post) (found : ℕ) → All (machine.retire_turn at post found).told
-retire_unread (LoadLife slot) post found = refl
-retire_unread (LoadRetire slot birth) post found = refl
-retire_unread (StoreRetired slot birth retire) post found = refl
+retire_calm : (at : RetireAt) (post : Post) (found : ℕ) → All (machine.retire_turn at post found).told
+retire_calm (LoadLife slot) post found = refl
+retire_calm (LoadRetire slot birth) post found = refl
+retire_calm (StoreRetired slot birth retire) post found = refl
 
-cleared_unread : (index : ℕ) (x : Option ℕ) → All (cleared index x)
-cleared_unread index None = refl
-cleared_unread index (Some slot) = refl
+cleared_calm : (index : ℕ) (x : Option ℕ) → All (cleared index x)
+cleared_calm index None = refl
+cleared_calm index (Some slot) = refl
 
-pub clear_unread : (scheme : SchemeKind) (post : Post) (index : ℕ) → All (clear_told scheme post index)
-clear_unread He post index = refl
-clear_unread Ibr post index = cleared_unread index (stands post index)
-clear_unread Wfe post index = refl
+pub clear_calm : (scheme : SchemeKind) (post : Post) (index : ℕ) → All (clear_told scheme post index)
+clear_calm He post index = refl
+clear_calm Ibr post index = cleared_calm index (stands post index)
+clear_calm Wfe post index = refl
 
-pub base_unread : (base : Base) (post : Post) (found : ℕ) → All (machine.after base post found).told
-base_unread (Begin at) post found = begin_unread at post found
-base_unread (Protect aim index root steps at) post found = protect_unread aim index root (bump steps) at post found
-base_unread (Reload parent index slot era steps) post found = grind arith
-base_unread (Clear index) post found = of_along is_unread (cleared index (stands post index)) (reserves_index post index 0) (cleared_unread index (stands post index)) refl
-base_unread Finish post found = refl
-base_unread Release post found = of_along is_unread (cleared 2 (stands post 2)) (reserves_span post None) (cleared_unread 2 (stands post 2)) refl
-base_unread (Allocate at) post found = allocate_unread at post found
-base_unread (Write slot row place) post found = grind arith
-base_unread (GiveUp slot) post found = refl
-base_unread (Retire at) post found = retire_unread at post found
-base_unread (Move at) post found = move_unread at post found
+pub base_calm : (base : Base) (post : Post) (found : ℕ) → All (machine.after base post found).told
+base_calm (Begin at) post found = begin_calm at post found
+base_calm (Protect aim index root steps at) post found = protect_calm aim index root (bump steps) at post found
+base_calm (Reload parent index slot era steps) post found = grind arith
+base_calm (Clear index) post found = of_along is_calm (cleared index (stands post index)) (reserves_index post index 0) (cleared_calm index (stands post index)) refl
+base_calm Finish post found = refl
+base_calm Release post found = of_along is_calm (cleared 2 (stands post 2)) (reserves_span post None) (cleared_calm 2 (stands post 2)) refl
+base_calm (Allocate at) post found = allocate_calm at post found
+base_calm (Write slot row place) post found = grind arith
+base_calm (GiveUp slot) post found = refl
+base_calm (Retire at) post found = retire_calm at post found
+base_calm (Move at) post found = move_calm at post found
 
 -- what comes after a machine reads nothing either
-quiet_unread : (told : List Event) → all_quiet told ≡ true → All told
-quiet_unread [] h = refl
-quiet_unread (event ∷ told) h = both (is_unread event) (all_of is_unread told) (one_unread event (first_of (is_quiet event) (all_quiet told) h)) (quiet_unread told (rest_of (is_quiet event) (all_quiet told) h))
+quiet_calm : (told : List Event) → all_quiet told ≡ true → All told
+quiet_calm [] h = refl
+quiet_calm (event ∷ told) h = both (is_calm event) (all_of is_calm told) (one_calm event (first_of (is_quiet event) (all_quiet told) h)) (quiet_calm told (rest_of (is_quiet event) (all_quiet told) h))
   where
-    one_unread : (event : Event) → is_quiet event ≡ true → is_unread event ≡ true
-    one_unread (events.Read guard span) h = absurd (cc)
-    one_unread (events.Back slot) h = absurd (cc)
-    one_unread event h = refl
+    one_calm : (event : Event) → is_quiet event ≡ true → is_calm event ≡ true
+    one_calm (events.Read guard span) h = absurd (cc)
+    one_calm (events.Back slot) h = absurd (cc)
+    one_calm (events.Begin call) h = absurd (cc)
+    one_calm event h = refl
 
-abbrev Unread : Post → List Event → Type 0
-Unread post told = All told
+abbrev Calm : Post → List Event → Type 0
+Calm post told = All told
 
-unread_closed : Closed Unread
-unread_closed = record {
-  calm = λ post told more q h. of_along is_unread told more h (quiet_unread more q);
-  clears = λ post told index h. of_along is_unread told (clear_told (scheme_of post) post index) h (clear_unread (scheme_of post) post index);
+calm_closed : Closed Calm
+calm_closed = record {
+  calm = λ post told more q h. of_along is_calm told more h (quiet_calm more q);
+  clears = λ post told index h. of_along is_calm told (clear_told (scheme_of post) post index) h (clear_calm (scheme_of post) post index);
 }
 
-pub run_unread : (why : Why) (base : Base) (post : Post) (desk : Desk) (found : ℕ) → All (told_by (steps.phase_turn (Runs why base) post desk found))
-run_unread why base post desk found = step_goes Unread unread_closed (Runs why base) post desk found (base_unread base post found)
+pub run_calm : (why : Why) (base : Base) (post : Post) (desk : Desk) (found : ℕ) → All (told_by (steps.phase_turn (Runs why base) post desk found))
+run_calm why base post desk found = step_goes Calm calm_closed (Runs why base) post desk found (base_calm base post found)
 
-pub work_unread : (work : Work) (post : Post) (desk : Desk) (found : ℕ) → All (told_by (steps.phase_turn (Works work) post desk found))
-work_unread work post desk found = step_goes Unread unread_closed (Works work) post desk found refl
+pub work_calm : (work : Work) (post : Post) (desk : Desk) (found : ℕ) → All (told_by (steps.phase_turn (Works work) post desk found))
+work_calm work post desk found = step_goes Calm calm_closed (Works work) post desk found refl
+
+calm_unread : (event : Event) → is_calm event ≡ true → is_unread event ≡ true
+calm_unread (events.Read guard span) h = absurd (cc)
+calm_unread (events.Back slot) h = absurd (cc)
+calm_unread event h = refl
+
+of_calm : (told : List Event) → all_of is_calm told ≡ true → all_of is_unread told ≡ true
+of_calm [] h = refl
+of_calm (event ∷ told) h = both (is_unread event) (all_of is_unread told) (calm_unread event (first_of (is_calm event) (all_of is_calm told) h)) (of_calm told (rest_of (is_calm event) (all_of is_calm told) h))
+
+pub run_unread : (why : Why) (base : Base) (post : Post) (desk : Desk) (found : ℕ) → all_of is_unread (told_by (steps.phase_turn (Runs why base) post desk found)) ≡ true
+run_unread why base post desk found = of_calm (told_by (steps.phase_turn (Runs why base) post desk found)) (run_calm why base post desk found)
+
+pub work_unread : (work : Work) (post : Post) (desk : Desk) (found : ℕ) → all_of is_unread (told_by (steps.phase_turn (Works work) post desk found)) ≡ true
+work_unread work post desk found = of_calm (told_by (steps.phase_turn (Works work) post desk found)) (work_calm work post desk found)
 
 -- a machine that does not end with a life
 abbrev pub keeps_list : Outcome → Bool
