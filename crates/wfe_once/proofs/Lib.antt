@@ -1,4 +1,5 @@
 pub mod Along
+pub mod Births
 pub mod Calm
 pub mod Desks
 pub mod Keeps

@@ -1,2 +1,3 @@
+pub mod Births
 pub mod Once
 pub mod Rows

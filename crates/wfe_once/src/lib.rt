@@ -3,6 +3,7 @@
 //! theorem.
 #![tactic(auto)]
 
+ghost use Rattle.wfe_once.specs.Births.{RecordsKeepBirths};
 ghost use Rattle.wfe_once.specs.Once.{RecordsGoBackOnce, RecordsKeepOnce};
 ghost use Rattle.wfe_once.specs.Rows.{RecordShows};
 
@@ -23,4 +24,9 @@ pub fn records_keep_once()
 /// most once.
 pub fn records_go_back_once()
     ensures { RecordsGoBackOnce }
+{}
+
+/// A row is retired with the birth era with which it was given last.
+pub fn records_keep_births()
+    ensures { RecordsKeepBirths }
 {}
