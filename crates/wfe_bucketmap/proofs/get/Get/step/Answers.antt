@@ -1,9 +1,10 @@
 use Rattle.std.proofs.Common.{◌≡◌, None, Some, refl}
 use Rattle.wfe_defs.specs.declared.call.Answer.TheVariants.{Got}
 use Rattle.wfe_core.specs.Calls.{Gets, Opens, Answering, Runs, Works, Getting}
+use Rattle.wfe_core.specs.Phases.Ending.{Protected}
 use Rattle.wfe_core.specs.DeskHeld.{desk_of}
 use Rattle.wfe_call_rounds.specs.Rounds.{opening_base, close_at, close_phase}
-use Rattle.wfe_call_rounds.proofs.Taken.{starts_at, opens_step, opened_step, closes_step, closed_step, steps_along}
+use Rattle.wfe_call_rounds.proofs.Taken.{starts_at, opens_step, run_ends, closes_step, closed_step, steps_along}
 use Rattle.wfe_bucketmap.specs.Finds.{find_of}
 use Rattle.wfe_bucketmap.specs.Gets.{get_phase}
 use Rattle.wfe_bucketmap.proofs.Turns.{get_gives}
@@ -32,7 +33,7 @@ returns-in-Some-clause-steps g c =
     in
     let last = get_phase g.S.Begin.Machine.phase g.S.Protect.Machine.phase g.S.Clear.Machine.phase g.S.Finish.Machine.phase c.reach.new.self.key c.reach.new.self.at c.reach.new.post in
     steps_along before (Runs (Opens (Gets key)) base) c.args.post.now c.reach.new.post (desk_of c.args.desk.now) c.reach.new.told c.args.found c.reach.result last stands (
-    opened_step (Gets key) base c.in-Some.end c.args.post.now c.take_open-end.new.post c.reach.new.post (desk_of c.args.desk.now) c.take_open-end.new.told c.reach.new.told c.args.found c.reach.result last c.take_open-end.ensures.post c.take_open-end.ensures.told c.in-Some.ensures.next c.reach.ensures.steps
+    run_ends (Opens (Gets key)) base (Protected c.in-Some.end) c.args.post.now c.take_open-end.new.post c.reach.new.post (desk_of c.args.desk.now) c.take_open-end.new.told c.reach.new.told c.args.found c.reach.result last c.take_open-end.ensures.post c.take_open-end.ensures.told c.in-Some.ensures.next c.reach.ensures.steps
     )
 
 pub returns-in-Got-clause-steps : goal.returns-in-Got-clause-steps
