@@ -4,12 +4,10 @@ use Rattle.wfe_words.specs.declared.config.SchemeKind.{SchemeKind}
 use Rattle.wfe_defs.specs.declared.call.Answer.{Answer}
 use Rattle.wfe_defs.specs.declared.event.Event.{Event}
 use Rattle.wfe_core.specs.declared.post.Post.{Post}
-use Rattle.wfe_core.specs.Calls.{Task, Next, Why, Phase, Runs, CallTurn}
-use Rattle.wfe_core.specs.Machine.{after}
-use Rattle.wfe_core.specs.Phases.{Base, Ending, Outcome, Ends}
+use Rattle.wfe_core.specs.Calls.{Task, Next, Phase, CallTurn}
 use Rattle.wfe_core.specs.Desks.{Desk}
 use Rattle.wfe_core.specs.Rounds.{scheme_of, index_of, clearing, closed}
-use Rattle.wfe_core.specs.Steps.{phase_turn, resume, resumed}
+use Rattle.wfe_core.specs.Steps.{phase_turn}
 use Rattle.wfe_call_rounds.specs.Rounds.{CloseAt, CloseTurn, close_from, close_step, close_phase, is_again, then_at, then_close}
 use Rattle.wfe_call_rounds.specs.Steps.{Steps}
 use Rattle.wfe_call_rounds.proofs.Model.{clearing_at}
@@ -47,15 +45,3 @@ closes_with task next kind again at stop post last desk told found s e p t o =
 pub closed_with : (task : Task) (next : Next) (kind : SchemeKind) (again : Bool) (at : CloseAt) (post mid : Post) (desk : Desk) (told : List Event) (found : ℕ) (answer : Option Answer) (phase : Phase) → scheme_of post ≡ kind → again ≡ is_again next → mid ≡ (close_step kind again at post found).post → told ≡ (close_step kind again at post found).told → (close_step kind again at post found).at ≡ None → Steps (closed task next mid desk told) mid desk told answer phase → Steps (phase_turn (close_phase task next at) post desk found) mid desk told answer phase
 closed_with task next kind again at post mid desk told found answer phase s e p t o h =
     closed_step task next kind at post mid mid desk told told found answer phase s (rw e at p) (rw e at t) (rw e at o) h
-
--- a machine has ended, and the call goes on from there
-pub runs_end : (why : Why) (base : Base) (ending : Ending) (post mid : Post) (desk : Desk) (told : List Event) (found : ℕ) (answer : Option Answer) (phase : Phase) → mid ≡ (after base post found).post → told ≡ (after base post found).told → (after base post found).outcome ≡ Ends ending → Steps (resume why ending mid desk told) mid desk told answer phase → Steps (phase_turn (Runs why base) post desk found) mid desk told answer phase
-runs_end why base ending post mid desk told found answer phase p t o h =
-    let turn : phase_turn (Runs why base) post desk found ≡ resume why ending mid desk told =
-    ap (λ (outcome : Outcome). resumed why desk (after base post found).post (after base post found).told outcome) o
-    ∙ (
-    ap (λ (x : Post). resume why ending x desk (after base post found).told) (sym p)
-    ∙ ap (λ (events : List Event). resume why ending mid desk events) (sym t)
-    )
-    in
-    subst (λ (t : CallTurn). Steps t mid desk told answer phase) (sym turn) h

@@ -27,13 +27,16 @@ use wfe_iface::{Follow, Scheme};
 use wfe_tidy::Reclaim;
 
 /// Takes the item at the queue's front (Michael and Scott 1996): it protects the head's row and the
-/// row after it, reads the item there, and exchanges the head. The row that the head left is retired.
+/// row after it, reads the item there, and exchanges the head. The row that the head left is retired. It
+/// answers the item's number and value with the outcome of the move that followed; and Empty where the
+/// head's row had no next row.
 #[derive(Drop)]
 pub struct Dequeue<S: Scheme> {
     at: State<S::Begin, S::Protect, Follow<S>, S::Clear, S::Finish>,
 }
 
 impl<S: Scheme> Dequeue<S> {
+    /// A dequeue that has made no step.
     pub fn new() -> Dequeue<S>
         ensures { (post : ModelPost) → ⟦<Dequeue<S> as CallMachine>⟧.phase result post ≡ round Dequeues post }
     {

@@ -27,7 +27,9 @@ use wfe_slots::{Allocate, GiveUp, Row, WriteRow};
 use wfe_tidy::Tidy;
 
 /// Puts an item at the queue's end (Michael and Scott 1996): it protects the tail's row, writes a row of
-/// its own with the next number, links it after the tail's row, and moves the tail.
+/// its own with the next number, links it after the tail's row, and moves the tail. It answers the
+/// item's number, from 1; Spent where the last number is given; and Full where a second walk of the call,
+/// after a scan, found no free row.
 #[derive(Drop)]
 pub struct Enqueue<S: Scheme> {
     kept: Kept,
@@ -35,6 +37,7 @@ pub struct Enqueue<S: Scheme> {
 }
 
 impl<S: Scheme> Enqueue<S> {
+    /// An enqueue of the value that has made no step.
     pub fn new(value: u64) -> Enqueue<S>
         ensures { (post : ModelPost) → ⟦<Enqueue<S> as CallMachine>⟧.phase result post ≡ round (Enqueues (record { value = value; taken = None; walked = false; tail = 0; number = 0 })) post }
     {

@@ -4,8 +4,9 @@ use Rattle.wfe_core.specs.Phases.Ending.{Done}
 use Rattle.wfe_slots.specs.Rows.{write_phase}
 use Rattle.wfe_core.specs.DeskHeld.{desk_of}
 use Rattle.wfe_call_rounds.specs.Rounds.{close_at}
+use Rattle.wfe_call_rounds.proofs.Taken.{run_ends}
 use Rattle.wfe_msqueue.specs.Enqueues.{kept_of, next_of}
-use Rattle.wfe_msqueue.proofs.Turns.{closes_with, closed_with, runs_end}
+use Rattle.wfe_msqueue.proofs.Turns.{closes_with, closed_with}
 use Rattle.wfe_msqueue.proofs.enqueue.Enqueue.step.Goals as goal
 
 pub returns-then-take_close-clause-steps : goal.returns-then-take_close-clause-steps
@@ -27,5 +28,5 @@ returns-in_ok-take-in-Writes-clause-steps g c =
     let told = c.take-in-Writes.new._told in
     let desk = desk_of c.args.desk.now in
     rw c.in-Writes.is (
-    runs_end (Fills (Enqueues (kept_of c.args.self.now.kept))) (write_phase c.in-Writes.machine) Done c.args.post.now post desk told c.args.found c.written.result _ c.take-in-Writes.ensures.post c.take-in-Writes.ensures.told c.in_ok-take-in-Writes.ensures.outcome (c.written.ensures post desk told)
+    run_ends (Fills (Enqueues (kept_of c.args.self.now.kept))) (write_phase c.in-Writes.machine) Done c.args.post.now post post desk told told c.args.found c.written.result _ c.take-in-Writes.ensures.post c.take-in-Writes.ensures.told c.in_ok-take-in-Writes.ensures.outcome (c.written.ensures post desk told)
     )
