@@ -100,10 +100,10 @@ tied_start layout = record {
 }
 
 -- a step
-given_need : (w : World) (i : ℕ) (v : View) (l : Line) (z : Asked) → Known w v l z → GivenNeeds w i v
+pub given_need : (w : World) (i : ℕ) (v : View) (l : Line) (z : Asked) → Known w v l z → GivenNeeds w i v
 given_need w i v l z k = record { valid = k.valid; seats = k.seats; needs = rows_need w i v l k.seats k.eras k.whole.both; rows = k.whole.both.rows }
 
-ranges_of : (w : World) (i : ℕ) (v : View) (l : Line) (z : Asked) (why : Why) (base : Base) → Known w v l z → (w.seat i).phase ≡ Runs why base → Ranges w.layout (w.mem Clock) (w.seat i).post base
+pub ranges_of : (w : World) (i : ℕ) (v : View) (l : Line) (z : Asked) (why : Why) (base : Base) → Known w v l z → (w.seat i).phase ≡ Runs why base → Ranges w.layout (w.mem Clock) (w.seat i).post base
 ranges_of w i v l z why base k e = record {
   small = clock_small w k.valid k.eras;
   tags = (eras_need w i v z k.valid k.seats k.whole.both.rows k.requests).tags;
@@ -140,7 +140,7 @@ pub record Held (layout : Layout) (made : Made) : Type 0 where
   pub births : ℕ → ℕ
   pub tied : Tied made.world rows made.past births
 
-begin_held : (layout : Layout) (made : Made) (i : ℕ) (call : Call) → is_busy made.world i ≡ false → Held layout made → Held layout (done made (Begins i call))
+pub begin_held : (layout : Layout) (made : Made) (i : ℕ) (call : Call) → is_busy made.world i ≡ false → Held layout made → Held layout (done made (Begins i call))
 begin_held layout made i call f g =
     let k = g.known in
     let q = requests_begin made.world i call g.asked k.valid f k.seats k.requests in
@@ -160,7 +160,7 @@ begin_held layout made i call f g =
       };
     }
 
-step_held : (layout : Layout) (made : Made) (i : ℕ) → i < made.world.layout.config.seats → Held layout made → Held layout (done made (Steps i))
+pub step_held : (layout : Layout) (made : Made) (i : ℕ) → i < made.world.layout.config.seats → Held layout made → Held layout (done made (Steps i))
 step_held layout made i b g =
     let k = g.known in
     let q = asked_next made.world i g.rows g.line g.asked b k in
@@ -183,7 +183,7 @@ items_held : (layout : Layout) (items : List Item) (made : Made) → Held layout
 items_held layout [] made g = g
 items_held layout (item ∷ items) made g = items_held layout items (did made item) (item_held layout made item (fits made.world item) refl g)
 
-first_held : (layout : Layout) → is_valid layout ≡ true → Held layout (first_made layout)
+pub first_held : (layout : Layout) → is_valid layout ≡ true → Held layout (first_made layout)
 first_held layout d =
     let q = requests_start layout d in
     record {

@@ -1,0 +1,79 @@
+-- A history's record keeps the law on eras.
+use Rattle.std.proofs.Common.{ℕ, ◌≡◌, ◌<◌, Bool, true, false, List, [], ◌∷◌, refl, ap, ◌∙◌, subst}
+use Rattle.std.specs.List.{filter}
+use Rattle.wfe_words.specs.Place.{is_valid}
+use Rattle.wfe_words.specs.Place.Place.{Clock}
+use Rattle.wfe_words.specs.declared.layout.Layout.{Layout}
+use Rattle.wfe_defs.specs.declared.call.Call.{Call}
+use Rattle.wfe_defs.specs.declared.event.Event.{Event}
+use Rattle.wfe_core.specs.Calls.{Why, Phase, Runs}
+use Rattle.wfe_core.specs.Phases.{Base}
+use Rattle.wfe_core.specs.World.{World, finds, is_busy, step, told_in}
+use Rattle.wfe_rows.specs.Rows.RowMove.{Lists}
+use Rattle.wfe_rows.specs.Hands.{row_move}
+use Rattle.wfe_laws.specs.Record.{Past, Each, tells_of}
+use Rattle.wfe_laws.specs.Record.Past.{Then}
+use Rattle.wfe_laws.proofs.Entries.{entries_of_each}
+use Rattle.wfe_history.specs.History.{Item, Begins, Steps, Made, fits, done, done_if, did, made_from, made_of, first_made, record_of}
+use Rattle.wfe_told.specs.Told.{move_of}
+use Rattle.wfe_told.proofs.Births.{retires_given}
+use Rattle.wfe_once.proofs.Along.{along, along_kind, single_each}
+use Rattle.wfe_once.proofs.Keeps.{begins_right, steps_right}
+use Rattle.wfe_holding.proofs.Holds.{Held, begin_held, step_held, first_held, given_need, ranges_of}
+use Rattle.wfe_era_law.specs.EraLaw.{ticked_by, clock_of, era_ok, RecordsKeepEras, RecordClock}
+use Rattle.wfe_era_law.proofs.Dates.{Dates, is_dated, ticks_quiet, era_kind, Retired, step_dates}
+
+clock_tells : (i : ℕ) (told : List Event) (p : Past) → clock_of (tells_of p i told) ≡ along ticked_by told (clock_of p)
+clock_tells i [] p = refl
+clock_tells i (event ∷ told) p = clock_tells i told (Then p i event)
+
+-- what a history keeps
+record Dated (layout : Layout) (made : Made) : Type 0 where
+  held : Held layout made
+  clock : clock_of made.past ≡ made.world.mem Clock
+  law : Each (era_ok layout.config) made.past
+
+-- a row is retired with the birth era of its last Give
+retired_of : (layout : Layout) (made : Made) (i : ℕ) (why : Why) (base : Base) → Held layout made → (made.world.seat i).phase ≡ Runs why base → Retired made.past base
+retired_of layout made i why base g e slot birth retire q =
+    let w : World = made.world in
+    let m : move_of w i ≡ Lists slot birth retire = ap (λ (phase : Phase). row_move phase (w.seat i).post (finds w i)) (e ∙ ap (λ (b : Base). Runs why b) q) in
+    g.tied.told slot ∙ retires_given w i slot birth retire g.rows g.births (given_need w i g.rows g.line g.asked g.known) g.known.eras g.tied.given m
+
+dates_of : (layout : Layout) (made : Made) (i : ℕ) → Dated layout made → Dates layout.config made.past i (made.world.mem Clock) (filter is_dated (told_in made.world i)) ((step made.world i).mem Clock)
+dates_of layout made i g =
+    let w : World = made.world in
+    let h = g.held in
+    subst (λ (table : Layout). Dates table.config made.past i (w.mem Clock) (filter is_dated (told_in w i)) ((step w i).mem Clock)) h.table
+    (step_dates w i made.past g.clock (λ why base e. (ranges_of w i h.rows h.line h.asked why base h.known e, retired_of layout made i why base h e)))
+
+begin_dated : (layout : Layout) (made : Made) (i : ℕ) (call : Call) → is_busy made.world i ≡ false → Dated layout made → Dated layout (done made (Begins i call))
+begin_dated layout made i call f g = record { held = begin_held layout made i call f g.held; clock = g.clock; law = (refl, g.law) }
+
+step_dated : (layout : Layout) (made : Made) (i : ℕ) → i < made.world.layout.config.seats → Dated layout made → Dated layout (done made (Steps i))
+step_dated layout made i b g =
+    let w : World = made.world in
+    let d = dates_of layout made i g in
+    record {
+      held = step_held layout made i b g.held;
+      clock = clock_tells i (told_in w i) made.past ∙ along_kind ticked_by is_dated ticks_quiet (told_in w i) (clock_of made.past) ∙ ap (along ticked_by (filter is_dated (told_in w i))) g.clock ∙ d.ticks;
+      law = single_each is_dated (era_ok layout.config) (era_kind layout.config) i (told_in w i) made.past d.single g.law;
+    }
+
+item_dated : (layout : Layout) (made : Made) (item : Item) (fit : Bool) → fits made.world item ≡ fit → Dated layout made → Dated layout (done_if made item fit)
+item_dated layout made item false f g = g
+item_dated layout made (Begins i call) true f g = begin_dated layout made i call (begins_right i made.world.layout.config.seats (is_busy made.world i) f) g
+item_dated layout made (Steps i) true f g = step_dated layout made i (steps_right i made.world.layout.config.seats (is_busy made.world i) f) g
+
+items_dated : (layout : Layout) (items : List Item) (made : Made) → Dated layout made → Dated layout (made_from made items)
+items_dated layout [] made g = g
+items_dated layout (item ∷ items) made g = items_dated layout items (did made item) (item_dated layout made item (fits made.world item) refl g)
+
+history_dated : (layout : Layout) (items : List Item) → is_valid layout ≡ true → Dated layout (made_of layout items)
+history_dated layout items d = items_dated layout items (first_made layout) (record { held = first_held layout d; clock = refl; law = tt })
+
+pub records_keep_eras : RecordsKeepEras
+records_keep_eras layout items d = let g = history_dated layout items d in entries_of_each (era_ok layout.config) (record_of layout items) g.law
+
+pub record_clock : RecordClock
+record_clock layout items d = let g = history_dated layout items d in g.clock
