@@ -1,5 +1,7 @@
 // The work of a dequeue on its rows, between the protections of a round.
-ghost use Rattle.std.specs.Prelude.{◌≡◌, ◌≤◌, [], length};
+ghost use Rattle.std.specs.Prelude.{◌≡◌, ◌≤◌, [], ◌∷◌, length};
+ghost use Rattle.wfe_defs.specs.declared.event.Event.TheVariants.{Cut as CutTold, Link as LinkTold, Taken as TakenTold};
+ghost use Rattle.wfe_defs.specs.declared.event.Root.TheVariants.{Head};
 ghost use Rattle.wfe_core.specs.CallReady.{dequeue_plausible, dequeue_ready};
 ghost use Rattle.wfe_core.specs.Dequeue.{dequeue_move, dequeue_turn};
 ghost use Rattle.wfe_core.specs.Desks.{Desk};
@@ -130,12 +132,7 @@ impl DequeueAt {
                 if found != link_to(head) {
                     return Dequeued::Ends(DequeueEnd::Again);
                 }
-                told.push(Event::Link {
-                    root: Root::Head,
-                    slot: next,
-                });
-                told.push(Event::Cut { slot: head });
-                told.push(Event::Taken { number, value });
+                tell_taken(told, head, next, number, value);
                 Dequeued::Ends(DequeueEnd::Taken {
                     head,
                     number,
@@ -144,4 +141,17 @@ impl DequeueAt {
             }
         }
     }
+}
+
+// Tells that the head has passed a row, and that the item after it is taken.
+fn tell_taken(told: &mut Told, head: u32, next: u32, number: u64, value: u64)
+    requires { told.old ≡ [] }
+    ensures { told.new ≡ LinkTold Head next ∷ CutTold head ∷ TakenTold number value ∷ [] }
+{
+    told.push(Event::Link {
+        root: Root::Head,
+        slot: next,
+    });
+    told.push(Event::Cut { slot: head });
+    told.push(Event::Taken { number, value });
 }

@@ -1,5 +1,7 @@
 // The work of an enqueue on its rows, between the protections of a round.
-ghost use Rattle.std.specs.Prelude.{◌≡◌, ◌≤◌, [], length};
+ghost use Rattle.std.specs.Prelude.{◌≡◌, ◌<◌, ◌≤◌, ◌+◌, [], ◌∷◌, length};
+ghost use Rattle.wfe_defs.specs.declared.event.Event.TheVariants.{Link as LinkTold, Queued as QueuedTold};
+ghost use Rattle.wfe_defs.specs.declared.event.Root.TheVariants.{Next as NextOf};
 ghost use Rattle.wfe_core.specs.CallReady.{EnqueueFits, enqueue_plausible, enqueue_ready};
 ghost use Rattle.wfe_core.specs.Desks.{Desk};
 ghost use Rattle.wfe_core.specs.Enqueue.{enqueue_move, enqueue_turn};
@@ -128,14 +130,7 @@ impl EnqueueAt {
                 if found != 0 {
                     return Enqueued::Ends(EnqueueEnd::Again);
                 }
-                told.push(Event::Link {
-                    root: Root::Next(kept.tail),
-                    slot,
-                });
-                told.push(Event::Queued {
-                    number: kept.number + 1,
-                    value: kept.value,
-                });
+                tell_queued(told, kept, slot);
                 kept.taken = None;
                 Enqueued::Goes(EnqueueAt::ExchangeTail { slot })
             }
@@ -147,4 +142,20 @@ impl EnqueueAt {
             }
         }
     }
+}
+
+// Tells that the tail's row leads to the new one, and that the item has the next number.
+fn tell_queued(told: &mut Told, kept: &Kept, slot: u32)
+    requires empty { told.old ≡ [] }
+    requires number { kept.now.number + 1 < 18446744073709551616 }
+    ensures { told.new ≡ LinkTold (NextOf kept.now.tail) slot ∷ QueuedTold (kept.now.number + 1) kept.now.value ∷ [] }
+{
+    told.push(Event::Link {
+        root: Root::Next(kept.tail),
+        slot,
+    });
+    told.push(Event::Queued {
+        number: kept.number + 1,
+        value: kept.value,
+    });
 }
