@@ -5,8 +5,11 @@ mod advance;
 mod find;
 mod get;
 mod get_at;
+mod hold;
+mod hold_at;
 mod release;
 
 pub use advance::Advance;
 pub use get::Get;
+pub use hold::Hold;
 pub use release::Release;

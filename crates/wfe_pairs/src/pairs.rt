@@ -1,5 +1,7 @@
 // A list of pairs in a fixed array.
-ghost use Rattle.std.specs.Prelude.{◌≡◌, ◌<◌, ◌≤◌, [], ◌∷◌, ◌++◌, length, slice_index_or};
+ghost use Rattle.std.specs.Prelude.{◌≡◌, ◌<◌, ◌≤◌, [], ◌∷◌, ◌++◌, length, slice_index_or, slice_set, is_some};
+ghost use Rattle.wfe_defs.specs.Pairs.{value_in, with_pair, without_key};
+ghost use Rattle.wfe_pairs.specs.Places.{IsPlace, with_other};
 
 use std::marker::Model;
 
@@ -32,6 +34,16 @@ impl Pairs {
         }
     }
 
+    /// The same pairs once more.
+    pub fn copy(&self) -> Pairs
+        ensures { result ≡ self.now }
+    {
+        Pairs {
+            pairs: self.pairs,
+            len: self.len,
+        }
+    }
+
     /// How many pairs there are.
     pub fn len(&self) -> usize
         ensures count { result ≡ length self.now }
@@ -56,6 +68,67 @@ impl Pairs {
     {
         self.pairs[self.len] = (key, value);
         self.len += 1;
+    }
+
+    // Writes a pair over the one at a place.
+    fn set(&mut self, place: usize, key: u64, value: u64)
+        requires { place < length self.old }
+        ensures { self.new ≡ slice_set self.old place (key, value) }
+    {
+        let _ = &self.pairs;
+        self.pairs[place] = (key, value);
+    }
+
+    // Adds a pair at the end, unless it has this key.
+    fn push_other(&mut self, pair: (u64, u64), key: u64)
+        requires { length self.old < 14 }
+        ensures { self.new ≡ with_other self.old pair key }
+    {
+        if pair.0 != key {
+            self.push(pair.0, pair.1);
+        }
+    }
+
+    // The first place of a key.
+    fn place(&self, key: u64) -> Option<usize>
+        ensures { IsPlace self.now key result }
+    {
+        for place in 0..self.len() {
+            let pair = self.get(place);
+            if pair.0 == key {
+                return Some(place);
+            }
+        }
+        None
+    }
+
+    /// Whether a pair has this key.
+    pub fn has(&self, key: u64) -> bool
+        ensures { result ≡ is_some (value_in self.now key) }
+    {
+        self.place(key).is_some()
+    }
+
+    /// Gives a key a value: a key that is there keeps its place, and a new one goes last.
+    pub fn put(&mut self, key: u64, value: u64)
+        requires { length (with_pair self.old key value) ≤ 14 }
+        ensures { self.new ≡ with_pair self.old key value }
+    {
+        match self.place(key) {
+            Some(place) => self.set(place, key, value),
+            None => self.push(key, value),
+        }
+    }
+
+    /// Leaves out the pairs of a key.
+    pub fn remove(&mut self, key: u64)
+        ensures { self.new ≡ without_key self.old key }
+    {
+        let mut rest = Pairs::new();
+        for place in 0..self.len() {
+            rest.push_other(self.get(place), key);
+        }
+        *self = rest;
     }
 
     /// Leaves no pairs.
