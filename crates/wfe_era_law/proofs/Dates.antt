@@ -61,7 +61,7 @@ is_dated (events.Give slot birth) = true
 is_dated (events.Retire slot birth retire) = true
 is_dated event = false
 
-abbrev dated : List Event → List Event
+abbrev pub dated : List Event → List Event
 dated told = filter is_dated told
 
 pub later_undated : (e : Event) → is_later e ≡ true → is_dated e ≡ false
@@ -120,12 +120,12 @@ one_ok scheme era clock now e m = by (era == 0) refl
 two_ok : (scheme : SchemeKind) (lo hi clock now : ℕ) → is_ibr scheme ≡ true → now ≡ clock → lo ≤ hi → hi ≤ clock → span_ok scheme now (from_to lo hi) ≡ true
 two_ok scheme lo hi clock now f e l m = grind (arith, nat_tests)
 
-turn_if : (x y : Turn) (c : Bool) → dated x.told ≡ [] → dated y.told ≡ [] → dated (if c then x else y).told ≡ []
+pub turn_if : (x y : Turn) (c : Bool) → dated x.told ≡ [] → dated y.told ≡ [] → dated (if c then x else y).told ≡ []
 turn_if x y true h k = h
 turn_if x y false h k = k
 
 -- a machine
-held_undated : (index : ℕ) (root : Root) (link n : ℕ) → dated (protects.told_held index root link n) ≡ []
+pub held_undated : (index : ℕ) (root : Root) (link n : ℕ) → dated (protects.told_held index root link n) ≡ []
 held_undated index (roots.Next parent) link n = by (link == 0)
   where
     by : (b : Bool) → dated (if b then events.Null index n ∷ [] else []) ≡ []
@@ -147,7 +147,7 @@ held_undated index roots.Tail link n = by (link == 0)
     by true = refl
     by false = refl
 
-concluded_tells : (aim : Aim) (index : ℕ) (root : Root) (n link era : ℕ) (post : Post) (told : List Event) → (protects.concluded aim index root n link era post told).told ≡ told
+pub concluded_tells : (aim : Aim) (index : ℕ) (root : Root) (n link era : ℕ) (post : Post) (told : List Event) → (protects.concluded aim index root n link era post told).told ≡ told
 concluded_tells Alone index root n link era post told = refl
 concluded_tells Follows index root n link era post told = by (link == 0) refl
   where
@@ -155,7 +155,7 @@ concluded_tells Follows index root n link era post told = by (link == 0) refl
     by true e = rw e refl
     by false e = rw e refl
 
-protected_undated : (aim : Aim) (index : ℕ) (root : Root) (n link era : ℕ) (post : Post) → dated (protects.protected aim index root n link era post).told ≡ []
+pub protected_undated : (aim : Aim) (index : ℕ) (root : Root) (n link era : ℕ) (post : Post) → dated (protects.protected aim index root n link era post).told ≡ []
 protected_undated aim index root n link era post =
     ap dated (concluded_tells aim index root n link era (protects.held_post post index root link) (protects.told_held index root link n)) ∙ held_undated index root link n
 
@@ -240,7 +240,7 @@ protect_clock : (mem : Place → ℕ) (index : ℕ) (root : Root) (at : ProtectA
 protect_clock mem index root (LoadClock tries) post = refl
 protect_clock mem index root at post = refl
 
-walking_undated : (birth : ℕ) (post : Post) (x : Option Walk) → dated (allocates.walking birth post x).told ≡ []
+pub walking_undated : (birth : ℕ) (post : Post) (x : Option Walk) → dated (allocates.walking birth post x).told ≡ []
 walking_undated birth post None = refl
 walking_undated birth post (Some walk) = refl
 

@@ -17,10 +17,13 @@ use Rattle.wfe_laws.proofs.Entries.{entries_of_each}
 use Rattle.wfe_history.specs.History.{Item, Begins, Steps, Made, fits, done, done_if, did, made_from, made_of, first_made, record_of}
 use Rattle.wfe_told.specs.Told.{move_of}
 use Rattle.wfe_told.proofs.Births.{retires_given}
-use Rattle.wfe_once.proofs.Along.{along, along_kind, single_each}
+use Rattle.wfe_once.proofs.Along.{along, along_kind, Single, single_each}
 use Rattle.wfe_once.proofs.Keeps.{begins_right, steps_right}
 use Rattle.wfe_holding.proofs.Holds.{Held, begin_held, step_held, first_held, given_need, ranges_of}
 use Rattle.wfe_era_law.specs.EraLaw.{ticked_by, clock_of, era_ok, RecordsKeepEras, RecordClock}
+use Rattle.wfe_defs.specs.declared.event.Guard.TheVariants.{Helper}
+use Rattle.wfe_era_law.specs.GuardLaw.{guard_ok, RecordsKeepGuards}
+use Rattle.wfe_era_law.proofs.Owners.{is_reserve, guard_kind, step_owned, hands_of}
 use Rattle.wfe_era_law.proofs.Dates.{Dates, is_dated, ticks_quiet, era_kind, Retired, step_dates}
 
 clock_tells : (i : ℕ) (told : List Event) (p : Past) → clock_of (tells_of p i told) ≡ along ticked_by told (clock_of p)
@@ -32,6 +35,7 @@ record Dated (layout : Layout) (made : Made) : Type 0 where
   held : Held layout made
   clock : clock_of made.past ≡ made.world.mem Clock
   law : Each (era_ok layout.config) made.past
+  guards : Each (guard_ok layout.config.scheme) made.past
 
 -- a row is retired with the birth era of its last Give
 retired_of : (layout : Layout) (made : Made) (i : ℕ) (why : Why) (base : Base) → Held layout made → (made.world.seat i).phase ≡ Runs why base → Retired made.past base
@@ -47,8 +51,15 @@ dates_of layout made i g =
     subst (λ (table : Layout). Dates table.config made.past i (w.mem Clock) (filter is_dated (told_in w i)) ((step w i).mem Clock)) h.table
     (step_dates w i made.past g.clock (λ why base e. (ranges_of w i h.rows h.line h.asked why base h.known e, retired_of layout made i why base h e)))
 
+owned_of : (layout : Layout) (made : Made) (i : ℕ) → Held layout made → Single (guard_ok layout.config.scheme) made.past i (filter is_reserve (told_in made.world i))
+owned_of layout made i h =
+    let w : World = made.world in
+    subst (λ (table : Layout). Single (guard_ok table.config.scheme) made.past i (filter is_reserve (told_in w i))) h.table
+    (step_owned w i made.past (h.known.seats.fits i).post.seat
+    (λ why base e. hands_of w i h.asked made.past why base h.known.requests (h.tied.values (Helper i)) e (ranges_of w i h.rows h.line h.asked why base h.known e)))
+
 begin_dated : (layout : Layout) (made : Made) (i : ℕ) (call : Call) → is_busy made.world i ≡ false → Dated layout made → Dated layout (done made (Begins i call))
-begin_dated layout made i call f g = record { held = begin_held layout made i call f g.held; clock = g.clock; law = (refl, g.law) }
+begin_dated layout made i call f g = record { held = begin_held layout made i call f g.held; clock = g.clock; law = (refl, g.law); guards = (refl, g.guards) }
 
 step_dated : (layout : Layout) (made : Made) (i : ℕ) → i < made.world.layout.config.seats → Dated layout made → Dated layout (done made (Steps i))
 step_dated layout made i b g =
@@ -58,6 +69,7 @@ step_dated layout made i b g =
       held = step_held layout made i b g.held;
       clock = clock_tells i (told_in w i) made.past ∙ along_kind ticked_by is_dated ticks_quiet (told_in w i) (clock_of made.past) ∙ ap (along ticked_by (filter is_dated (told_in w i))) g.clock ∙ d.ticks;
       law = single_each is_dated (era_ok layout.config) (era_kind layout.config) i (told_in w i) made.past d.single g.law;
+      guards = single_each is_reserve (guard_ok layout.config.scheme) (guard_kind layout.config.scheme) i (told_in w i) made.past (owned_of layout made i g.held) g.guards;
     }
 
 item_dated : (layout : Layout) (made : Made) (item : Item) (fit : Bool) → fits made.world item ≡ fit → Dated layout made → Dated layout (done_if made item fit)
@@ -70,10 +82,13 @@ items_dated layout [] made g = g
 items_dated layout (item ∷ items) made g = items_dated layout items (did made item) (item_dated layout made item (fits made.world item) refl g)
 
 history_dated : (layout : Layout) (items : List Item) → is_valid layout ≡ true → Dated layout (made_of layout items)
-history_dated layout items d = items_dated layout items (first_made layout) (record { held = first_held layout d; clock = refl; law = tt })
+history_dated layout items d = items_dated layout items (first_made layout) (record { held = first_held layout d; clock = refl; law = tt; guards = tt })
 
 pub records_keep_eras : RecordsKeepEras
 records_keep_eras layout items d = let g = history_dated layout items d in entries_of_each (era_ok layout.config) (record_of layout items) g.law
 
 pub record_clock : RecordClock
 record_clock layout items d = let g = history_dated layout items d in g.clock
+
+pub records_keep_guards : RecordsKeepGuards
+records_keep_guards layout items d = let g = history_dated layout items d in entries_of_each (guard_ok layout.config.scheme) (record_of layout items) g.guards

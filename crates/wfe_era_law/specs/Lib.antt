@@ -1,1 +1,2 @@
 pub mod EraLaw
+pub mod GuardLaw

@@ -3,6 +3,7 @@
 #![tactic(auto)]
 
 ghost use Rattle.wfe_era_law.specs.EraLaw.{RecordClock, RecordsKeepEras};
+ghost use Rattle.wfe_era_law.specs.GuardLaw.{RecordsKeepGuards};
 
 /// The clock's word is 1 plus the number of Era entries.
 pub fn record_clock()
@@ -14,4 +15,10 @@ pub fn record_clock()
 /// retired with the birth era of its last Give, and with a retire era from there up to the clock.
 pub fn records_keep_eras()
     ensures { RecordsKeepEras }
+{}
+
+/// A seat tells only what its own guards publish, but for one case under Wait-Free Eras: that an
+/// index word publishes the interval which the seat's own helper word then publishes.
+pub fn records_keep_guards()
+    ensures { RecordsKeepGuards }
 {}
