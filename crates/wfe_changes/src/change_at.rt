@@ -3,7 +3,7 @@ ghost use Rattle.std.specs.Prelude.{◌≡◌, ◌<◌, ◌≤◌, ◌+◌, [], 
 ghost use Rattle.wfe_defs.specs.Pairs.{changed};
 ghost use Rattle.wfe_defs.specs.declared.event.Event.{Event as ModelEvent};
 ghost use Rattle.wfe_core.specs.CallReady.{ChangeFits, change_plausible, change_ready};
-ghost use Rattle.wfe_core.specs.Change.{change_move, change_turn, changed_bucket, deciding, exchanged, reading, refusal, told_change, with_change};
+ghost use Rattle.wfe_core.specs.Change.{at_link, change_move, change_turn, changed_bucket, deciding, exchanged, reading, refusal, told_change, with_change};
 ghost use Rattle.wfe_core.specs.Desks.{Desk};
 ghost use Rattle.wfe_core.specs.Memory.{numbered};
 ghost use Rattle.wfe_core.specs.Rounds.{key_of};
@@ -130,8 +130,17 @@ impl ChangeAt {
 }
 
 impl Kept {
+    // The root was protected with this link: what was read of another row is forgotten.
+    pub fn protected(&mut self, link: u64)
+        ensures { kept_of self.new ≡ at_link (kept_of self.old) link }
+    {
+        self.link = link;
+        self.version = 0;
+        self.pairs.clear();
+    }
+
     // The bucket that is changed.
-    fn bucket(&self, post: &Post) -> u32
+    pub fn bucket(&self, post: &Post) -> u32
         requires { IsValid post.now }
         ensures bucket { result ≡ changed_bucket (kept_of self.now) post.now }
         ensures there { result < post.now.layout.config.buckets }

@@ -1,6 +1,8 @@
-//! The calls of the map that change a bucket, each a machine over any scheme.
+//! The calls of the map that change a bucket, as one machine over any scheme.
 #![tactic(auto)]
 
+mod change;
 mod change_at;
+mod change_state;
 
-pub use change_at::{ChangeAt, ChangeEnd, Changed, Kept};
+pub use change::ChangeBucket;
