@@ -1,0 +1,32 @@
+// A call begins.
+ghost use Rattle.std.specs.Prelude.{◌≡◌};
+ghost use Rattle.wfe_core.specs.Steps.{first_phase};
+ghost use Rattle.wfe_core.specs.declared.post.Post.{Post};
+
+use crate::Running;
+use wfe_bucketmap::{Advance, Get, Hold, Release};
+use wfe_changes::ChangeBucket;
+use wfe_core::CallMachine;
+use wfe_defs::{Call, Change};
+use wfe_iface::Scheme;
+use wfe_msqueue::{Dequeue, Enqueue};
+use wfe_scan::Scan;
+
+/// The machine of a call, at its first step.
+pub fn begin_call<S: Scheme>(
+    call: Call,
+) -> Running<Get<S>, ChangeBucket<S>, Enqueue<S>, Dequeue<S>, Hold<S>, Release<S>, Advance<S>, Scan>
+    ensures { (post : Post) → post.layout.config.scheme ≡ S.kind → ⟦<Running<Get<S>, ChangeBucket<S>, Enqueue<S>, Dequeue<S>, Hold<S>, Release<S>, Advance<S>, Scan> as CallMachine>⟧.phase result post ≡ first_phase call post }
+{
+    match call {
+        Call::Get { key } => Running::Gets(Get::new(key)),
+        Call::Put { key, value } => Running::Changes(ChangeBucket::new(Change::Put { key, value })),
+        Call::Remove { key } => Running::Changes(ChangeBucket::new(Change::Removed { key })),
+        Call::Enqueue { value } => Running::Enqueues(Enqueue::new(value)),
+        Call::Dequeue => Running::Dequeues(Dequeue::new()),
+        Call::Hold { key } => Running::Holds(Hold::new(key)),
+        Call::Release => Running::Releases(Release::new()),
+        Call::Advance => Running::Advances(Advance::new()),
+        Call::Scan => Running::Scans(Scan::new()),
+    }
+}

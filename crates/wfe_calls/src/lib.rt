@@ -1,0 +1,8 @@
+//! A call of any kind as one machine, over any scheme.
+#![tactic(auto)]
+
+mod begin;
+mod running;
+
+pub use begin::begin_call;
+pub use running::Running;

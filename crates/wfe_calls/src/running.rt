@@ -1,0 +1,75 @@
+// One of the calls, by name.
+use wfe_core::{CallMachine, Desk, Op, Post, Told};
+use wfe_defs::Answer;
+
+/// A call under way, whichever it is.
+#[derive(Drop)]
+pub enum Running<
+    G: CallMachine,
+    C: CallMachine,
+    E: CallMachine,
+    D: CallMachine,
+    H: CallMachine,
+    R: CallMachine,
+    A: CallMachine,
+    N: CallMachine,
+> {
+    Gets(G),
+    /// A put or a remove.
+    Changes(C),
+    Enqueues(E),
+    Dequeues(D),
+    Holds(H),
+    Releases(R),
+    Advances(A),
+    Scans(N),
+}
+
+impl<
+    G: CallMachine,
+    C: CallMachine,
+    E: CallMachine,
+    D: CallMachine,
+    H: CallMachine,
+    R: CallMachine,
+    A: CallMachine,
+    N: CallMachine,
+> CallMachine for Running<G, C, E, D, H, R, A, N> {
+    ghost use Rattle.wfe_calls.specs.Runs.{AllSuit, running_phase};
+
+    ghost suits = { AllSuit G.suits C.suits E.suits D.suits H.suits R.suits A.suits N.suits };
+
+    ghost phase = { running_phase G.phase C.phase E.phase D.phase H.phase R.phase A.phase N.phase };
+
+    fn next_op(&self, post: &Post, desk: &Desk) -> Op {
+        match self {
+            Running::Gets(machine) => machine.next_op(post, desk),
+            Running::Changes(machine) => machine.next_op(post, desk),
+            Running::Enqueues(machine) => machine.next_op(post, desk),
+            Running::Dequeues(machine) => machine.next_op(post, desk),
+            Running::Holds(machine) => machine.next_op(post, desk),
+            Running::Releases(machine) => machine.next_op(post, desk),
+            Running::Advances(machine) => machine.next_op(post, desk),
+            Running::Scans(machine) => machine.next_op(post, desk),
+        }
+    }
+
+    fn take(
+        &mut self,
+        post: &mut Post,
+        desk: &mut Desk,
+        found: u64,
+        told: &mut Told,
+    ) -> Option<Answer> {
+        match self {
+            Running::Gets(machine) => machine.take(post, desk, found, told),
+            Running::Changes(machine) => machine.take(post, desk, found, told),
+            Running::Enqueues(machine) => machine.take(post, desk, found, told),
+            Running::Dequeues(machine) => machine.take(post, desk, found, told),
+            Running::Holds(machine) => machine.take(post, desk, found, told),
+            Running::Releases(machine) => machine.take(post, desk, found, told),
+            Running::Advances(machine) => machine.take(post, desk, found, told),
+            Running::Scans(machine) => machine.take(post, desk, found, told),
+        }
+    }
+}
