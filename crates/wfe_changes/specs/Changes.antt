@@ -1,5 +1,5 @@
 -- Where the work of a change on the bucket's row stands, as phases of the model.
-use Rattle.std.specs.Prelude.{ℕ, List}
+use Rattle.std.specs.Prelude.{List}
 use Rattle.wfe_defs.specs.declared.call.Answer.TheVariants as answers
 use Rattle.wfe_defs.specs.declared.call.ClockMove.TheVariants as moves
 use Rattle.wfe_defs.specs.declared.event.Event.{Event}

@@ -23,8 +23,8 @@ use wfe_call_rounds::{close, open, take_close, take_open};
 use wfe_core::{AllocateEnd, CallMachine, Desk, Machine, Op, Post, ProtectEnd, Told};
 use wfe_defs::{Answer, Change, Root};
 use wfe_iface::Scheme;
-use wfe_slots::{Allocate, GiveUp, Row, WriteRow};
 use wfe_pairs::Pairs;
+use wfe_slots::{Allocate, GiveUp, Row, WriteRow};
 use wfe_tidy::{Reclaim, Tidy};
 
 /// Changes a bucket: it protects the bucket's row, reads it, writes the pairs with the change into a row

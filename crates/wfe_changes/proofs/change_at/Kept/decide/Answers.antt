@@ -1,6 +1,4 @@
-use Rattle.std.proofs.Common.{◌≡◌, ◌≤◌, length, None, sym, ◌∙◌, arith}
-use Rattle.wfe_core.specs.CallReady.{ChangeFits}
-use Rattle.wfe_core.specs.Change.{with_change}
+use Rattle.std.proofs.Common.{sym, arith}
 use Rattle.wfe_changes.specs.Changes.{kept_of}
 use Rattle.wfe_changes.proofs.Room.{room_left}
 use Rattle.wfe_changes.proofs.change_at.Kept.decide.Goals as goal
