@@ -12,11 +12,21 @@ use wfe_iface::Scheme;
 use wfe_msqueue::{Dequeue, Enqueue};
 use wfe_scan::Scan;
 
+/// A call under way under one scheme.
+pub type CallOf<S> = Running<
+    Get<S>,
+    ChangeBucket<S>,
+    Enqueue<S>,
+    Dequeue<S>,
+    Hold<S>,
+    Release<S>,
+    Advance<S>,
+    Scan,
+>;
+
 /// The machine of a call, at its first step.
-pub fn begin_call<S: Scheme>(
-    call: Call,
-) -> Running<Get<S>, ChangeBucket<S>, Enqueue<S>, Dequeue<S>, Hold<S>, Release<S>, Advance<S>, Scan>
-    ensures { (post : Post) → post.layout.config.scheme ≡ S.kind → ⟦<Running<Get<S>, ChangeBucket<S>, Enqueue<S>, Dequeue<S>, Hold<S>, Release<S>, Advance<S>, Scan> as CallMachine>⟧.phase result post ≡ first_phase call post }
+pub fn begin_call<S: Scheme>(call: Call) -> CallOf<S>
+    ensures { (post : Post) → post.layout.config.scheme ≡ S.kind → ⟦<CallOf<S> as CallMachine>⟧.phase result post ≡ first_phase call post }
 {
     match call {
         Call::Get { key } => Running::Gets(Get::new(key)),

@@ -4,5 +4,5 @@
 mod begin;
 mod running;
 
-pub use begin::begin_call;
+pub use begin::{CallOf, begin_call};
 pub use running::Running;

@@ -49,13 +49,13 @@ shown-settled l t = shown-settled_by l t.post _ _ t.outcome
 asked-asks : (table : TableView) (w : World) (seat : ℕ) → Shows table w → asked (seat_at table seat) ≡ asks (w.seat seat)
 asked-asks table w seat s = ap asked (sym (s.seats seat))
 
-made : (table : TableView) (w : World) (seat : ℕ) → Shows table w → AsksWithin w seat → MakesSteps w seat table.words
+pub made : (table : TableView) (w : World) (seat : ℕ) → Shows table w → AsksWithin w seat → MakesSteps w seat table.words
 made table w seat s at = makes_step w seat table.words (s.mem ∙ ap (λ (layout : Layout). memory layout table.words) (sym s.layout)) (s.count ∙ ap words (sym s.layout)) at
 
 found_by-finds : (table : TableView) (w : World) (seat : ℕ) → Shows table w → MakesSteps w seat table.words → found_by table seat ≡ finds w seat
 found_by-finds table w seat s m = ap (λ (op : Op). answered table.words op) (asked-asks table w seat s) ∙ m.answers
 
-unit_turn-turn : (table : TableView) (w : World) (seat : ℕ) → Shows table w → MakesSteps w seat table.words → unit_turn table seat ≡ turn (w.seat seat) (finds w seat)
+pub unit_turn-turn : (table : TableView) (w : World) (seat : ℕ) → Shows table w → MakesSteps w seat table.words → unit_turn table seat ≡ turn (w.seat seat) (finds w seat)
 unit_turn-turn table w seat s m = ap (λ (v : SeatView). turned v (found_by table seat)) (sym (s.seats seat)) ∙ ap (λ (n : ℕ). turned (shown (w.seat seat)) n) (found_by-finds table w seat s m)
 
 mem_after : (table : TableView) (w : World) (seat : ℕ) → Shows table w → MakesSteps w seat table.words → (step w seat).mem ≡ memory table.layout (performed table.words (asked (seat_at table seat)))

@@ -1,7 +1,13 @@
-//! One unit of a call: the operation that its machine asks for, performed on the words of a table, and
-//! what the machine makes of the word that was found.
+//! The rig: the words of a table with its seats, where one unit of a seat's call is one step of the
+//! model, and the interface through which a trace is replayed.
 #![tactic(auto)]
 
+mod engaged;
+mod engine;
+mod rig;
+mod scheme_calls;
+mod seat;
 mod unit;
 
-pub use unit::make_unit;
+pub use engine::Engine;
+pub use rig::Rig;

@@ -20,7 +20,7 @@ use Rattle.wfe_laws.specs.Schedule as schedule
 use Rattle.wfe_laws.specs.Schedule.History.{Blank, Starts, Turns}
 use Rattle.wfe_laws.specs.Record.{Past, tells_of}
 use Rattle.wfe_laws.specs.Record.Past.{Then}
-use Rattle.wfe_history.specs.History.{Item, Begins, Steps, Made, fits, done_if, did, done, made_from, first_made}
+use Rattle.wfe_history.specs.History.{Item, Begins, Steps, Made, fits, done_if, did, done, made_from, first_made, made_of, world_of}
 use Rattle.wfe_inv.specs.Ends.{CallsEnd}
 use Rattle.wfe_inv.specs.Inv.{Inv}
 use Rattle.wfe_inv.proofs.Ends.{inv_ends}
@@ -30,7 +30,8 @@ use Rattle.wfe_lawful.proofs.Machines.{is_within}
 use Rattle.wfe_answers.proofs.Answering as answering
 use Rattle.wfe_answers.proofs.Answering.{Right, owes_of, within_of}
 use Rattle.wfe_answers.proofs.Owed.{is_open, Serves, OutServes, Owes, Told, owed, out_owed}
-use Rattle.wfe_turns.specs.Heard.{heard_if, heard_from, HistoriesCount}
+use Rattle.wfe_turns.specs.Heard.{heard_if, heard_from, heard_of, HistoriesCount}
+use Rattle.wfe_words.specs.Place.{is_valid}
 use Rattle.wfe_answers.proofs.Owing.{first_serves}
 use Rattle.wfe_core.specs.Steps.{first_phase}
 use Rattle.wfe_words.specs.Place.Place.{Clock}
@@ -96,6 +97,9 @@ bump_next n left h = by_room (nat_lt n 18446744073709551615) refl
 
 turn_count : (w : World) (i : ℕ) → (w.seat i).post.steps + rest w i < 2 ^ 62 → (turn (w.seat i) (finds w i)).post.steps ≡ (w.seat i).post.steps + 1
 turn_count w i h = turn_steps (w.seat i).phase (counted (w.seat i).post) (w.seat i).desk (finds w i) ∙ bump_next (w.seat i).post.steps (rest w i) h
+
+step_count : (w : World) (i : ℕ) → (w.seat i).post.steps + rest w i < 2 ^ 62 → ((step w i).seat i).post.steps ≡ (w.seat i).post.steps + 1
+step_count w i h = ap (λ (x : Local). x.post.steps) (step_seat w i) ∙ settled_steps (w.seat i) _ _ _ (turn (w.seat i) (finds w i)).outcome ∙ turn_count w i h
 
 -- of each seat: it is busy as the schedule says, and while it is so many turns were taken
 record Timed (w : World) (h : schedule.History) (k : ℕ) : Type 0 where
@@ -173,7 +177,7 @@ step_timed n w h i k true e l y a o g =
     let one : k ≡ i = grind (arith, nat_tests) in
     let t = g i in
     let c : CallsEnd w i = inv_ends w i l a in
-    let z : ((step w i).seat i).post.steps ≡ (w.seat i).post.steps + 1 = ap (λ (x : Local). x.post.steps) (step_seat w i) ∙ settled_steps (w.seat i) _ _ _ (turn (w.seat i) (finds w i)).outcome ∙ turn_count w i (t.room y) in
+    let z : ((step w i).seat i).post.steps ≡ (w.seat i).post.steps + 1 = step_count w i (t.room y) in
     let here : Timed (step w i) (Turns h i (told_in w i)) i = record {
       busy = own_busy (i == i) (same_seat i) (schedule.is_busy i h) (t.busy ∙ y) ∙ step_busy n w i o;
       turns = λ b. own_turns (i == i) (same_seat i) ∙ ap (λ (x : ℕ). x + 1) (t.turns y) ∙ sym z;
@@ -260,16 +264,32 @@ item_keeps n made h (Begins i call) true f g = begin_keeps n made h i call (low_
 item_keeps n made h (Steps i) true f g =
     step_keeps n made h i (steps_right i made.world.layout.config.seats (is_busy made.world i) f) (rest_of (nat_lt i made.world.layout.config.seats) (is_busy made.world i) f) g
 
-record Heard (layout : Layout) (made : Made) (h : schedule.History) : Type 0 where
-  counts : schedule.CountsTurns h
-  tells : schedule.record_of h ≡ made.past
-  busy : (k : ℕ) → schedule.is_busy k h ≡ is_busy made.world k
+items_keep : (n : ℕ) (items : List Item) (made : Made) (h : schedule.History) → Keeps n made h → Keeps n (made_from made items) (heard_from made items h)
+items_keep n [] made h g = g
+items_keep n (item ∷ items) made h g = items_keep n items (did made item) (heard_if made.world item (fits made.world item) h) (item_keeps n made h item (fits made.world item) refl g)
 
-items_keep : (layout : Layout) (items : List Item) (made : Made) (h : schedule.History) → Keeps layout.config.buckets made h → Heard layout (made_from made items) (heard_from made items h)
-items_keep layout [] made h g = record { counts = g.counts; tells = g.tells; busy = λ k. let t = g.timed k in t.busy }
-items_keep layout (item ∷ items) made h g = items_keep layout items (did made item) (heard_if made.world item (fits made.world item) h) (item_keeps layout.config.buckets made h item (fits made.world item) refl g)
+first_keeps : (layout : Layout) → is_valid layout ≡ true → Keeps layout.config.buckets (first_made layout) Blank
+first_keeps layout d =
+    record { kept = answering.first_keeps layout d; tells = refl; timed = λ k. record { busy = refl; turns = λ b. absurd (cc); room = λ b. absurd (cc) }; counts = tt }
+
+outcome_busy : (call : Call) (outcome : CallOutcome) (phase : Phase) → OutServes call outcome → outcome ≡ GoesOn phase → busy_in phase ≡ true
+outcome_busy call outcome phase s e = phase_busy call phase (subst (OutServes call) e s)
+
+goes_busy : (n : ℕ) (made : Made) (h : schedule.History) (k : ℕ) (phase : Phase) → Keeps n made h → is_busy made.world k ≡ true → (turn (made.world.seat k) (finds made.world k)).outcome ≡ GoesOn phase → busy_in phase ≡ true
+goes_busy n made h k phase g y e =
+    let a = g.kept in
+    let s = a.seats k in
+    let o = owes_of n made.world k a.table a.known (s.serves y) in
+    outcome_busy (made.world.seat k).call (turn (made.world.seat k) (finds made.world k)).outcome phase o.serves e
 
 pub histories_count : HistoriesCount
 histories_count layout items d =
-    let g = items_keep layout items (first_made layout) Blank (record { kept = answering.first_keeps layout d; tells = refl; timed = λ k. record { busy = refl; turns = λ b. absurd (cc); room = λ b. absurd (cc) }; counts = tt }) in
-    record { counts = g.counts; tells = g.tells; busy = g.busy }
+    let g = items_keep layout.config.buckets items (first_made layout) Blank (first_keeps layout d) in
+    record {
+      counts = g.counts;
+      tells = g.tells;
+      busy = λ k. let t = g.timed k in t.busy;
+      few = λ k y. let t = g.timed k in t.room y;
+      goes_on = λ k phase y e. goes_busy layout.config.buckets (made_of layout items) (heard_of layout items) k phase g y e;
+      one_more = λ k y. let t = g.timed k in step_count (world_of layout items) k (t.room y);
+    }

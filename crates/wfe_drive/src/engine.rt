@@ -1,0 +1,84 @@
+// What a trace is replayed on.
+ghost use Rattle.std.specs.Prelude.{◌≡◌, ◌<◌, [], IfOk, IsTrue, false, true};
+ghost use Rattle.wfe_words.specs.Place.{is_valid};
+ghost use Rattle.wfe_cells.specs.Unit.{IsUnit, after_start, seat_at};
+ghost use Rattle.wfe_core.specs.Locals.{busy_in};
+ghost use Rattle.wfe_drive.specs.Reached.{first_table, units_left};
+
+use crate::Rig;
+use std::alloc::Global;
+use wfe_cells::MakeCells;
+use wfe_core::Told;
+use wfe_defs::{Answer, Call, NoMemory};
+use wfe_words::Layout;
+
+/// A table whose seats make the calls of a trace, one unit after another.
+pub trait Engine: Sized + Drop {
+    ghost use Rattle.wfe_cells.specs.Unit.{TableView};
+
+    /// The words by number, and what the model knows of each seat.
+    ghost table: { Self → TableView };
+
+    /// A table at its start, each seat between calls.
+    fn make(alloc: Global, layout: Layout) -> Result<Self, NoMemory>
+        requires { is_valid layout ≡ true }
+        ensures { IfOk result (λ engine. Self.table engine ≡ first_table layout) };
+
+    /// Whether the engine takes the call. Each engine takes every call of a seat that stays.
+    fn takes(&self, call: &Call) -> bool
+        ensures { IsTrue result };
+
+    /// Whether a call of the seat is under way.
+    fn busy(&self, seat: u32) -> bool
+        requires { seat < (table self.now).layout.config.seats }
+        ensures { result ≡ busy_in (seat_at (table self.now) seat).phase };
+
+    /// Whether the seat has left. No seat leaves without a call of its own for that.
+    fn gone(&self, seat: u32) -> bool
+        requires { seat < (table self.now).layout.config.seats }
+        ensures { result ≡ false };
+
+    /// A call of the seat begins. No word changes, and no memory is taken.
+    fn start(&mut self, seat: u32, call: Call)
+        requires seat { seat < (table self.old).layout.config.seats }
+        requires free { busy_in (seat_at (table self.old) seat).phase ≡ false }
+        ensures { table self.new ≡ after_start (table self.old) seat call };
+
+    /// Makes one unit of the seat's call: exactly one operation on the words, and exactly one step of
+    /// the model. Its events are told, and the answer is Some where the call ended. It takes no
+    /// memory, and leaves a call that goes on fewer units.
+    fn unit(&mut self, seat: u32, told: &mut Told) -> Option<Answer>
+        requires seat { seat < (table self.old).layout.config.seats }
+        requires busy { busy_in (seat_at (table self.old) seat).phase ≡ true }
+        requires empty { told.old ≡ [] }
+        ensures unit { IsUnit (table self.old) (table self.new) seat told.new result }
+        ensures falls { units_left (table self.new) seat < units_left (table self.old) seat };
+}
+
+impl<C: MakeCells> Engine for Rig<C> {
+    ghost table = { λ rig. rig };
+
+    fn make(alloc: Global, layout: Layout) -> Result<Rig<C>, NoMemory> {
+        Rig::new(alloc, C::make(alloc, layout)?, layout)
+    }
+
+    fn takes(&self, _call: &Call) -> bool {
+        true
+    }
+
+    fn busy(&self, seat: u32) -> bool {
+        Rig::busy(self, seat)
+    }
+
+    fn gone(&self, _seat: u32) -> bool {
+        false
+    }
+
+    fn start(&mut self, seat: u32, call: Call) {
+        Rig::start(self, seat, call)
+    }
+
+    fn unit(&mut self, seat: u32, told: &mut Told) -> Option<Answer> {
+        Rig::unit(self, seat, told)
+    }
+}
