@@ -1,0 +1,4 @@
+pub mod Hearing
+pub mod Puts
+pub mod Stops
+pub mod Texts
