@@ -2,3 +2,4 @@ pub mod Hearing
 pub mod Puts
 pub mod Stops
 pub mod Texts
+pub mod Turns

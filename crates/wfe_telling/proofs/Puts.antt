@@ -3,8 +3,9 @@ use Rattle.std.proofs.Common.{ℕ, List, [], ◌∷◌, ◌++◌, Option, sym, s
 use Rattle.std.specs.Io.KnownBytes.{Appends}
 use Rattle.std.proofs.KnownBytes.{Appends-nil, Appends-trans}
 use Rattle.wfe_defs.specs.Entry.{Entry}
+use Rattle.wfe_trace.specs.Record.{event_line}
 use Rattle.wfe_telling.specs.Some.{AppendsSome}
-use Rattle.wfe_telling.specs.Pieces.{Piece, Text, text_of, heard_of}
+use Rattle.wfe_telling.specs.Pieces.{Piece, Text, Told, text_of, heard_of}
 use Rattle.wfe_telling.specs.Heard.{Hears, HearsSome}
 use Rattle.wfe_telling.specs.PutOut.{PutsOut, PutsSome}
 use Rattle.wfe_telling.proofs.Texts.{text_of-append, heard_of-append, AppendsSome-all, AppendsSome-then, AppendsSome-first, AppendsSome-none}
@@ -53,3 +54,8 @@ puts_out_some stands old new a b xs one = record { wrote = AppendsSome-all old n
 -- where nothing was put out, some of it was
 pub puts_some_none : {W : Type 0} (stands : W → List Entry → Type 0) (old : Option (List ℕ)) (ws : List W) (xs : List Piece) → PutsSome stands old old ws ws xs
 puts_some_none stands old ws xs = record { wrote = AppendsSome-none old (text_of xs); heard = hears_some_none stands ws (heard_of xs) }
+
+-- a part of an event's line was written, or nothing of it, and some watchers have heard the event
+pub puts_told_some : {W : Type 0} (stands : W → List Entry → Type 0) (old new : Option (List ℕ)) (a b : List W) (x : Entry) →
+    AppendsSome old new (event_line x.seat x.event) → HearsSome stands a b (x ∷ []) → PutsSome stands old new a b (Told x ∷ [])
+puts_told_some stands old new a b x part heard = record { wrote = subst (AppendsSome old new) (sym (append-nil (event_line x.seat x.event))) part; heard = heard }

@@ -1,7 +1,7 @@
 -- Work that ends in a piece, after other work and before more.
 use Rattle.std.proofs.Common.{◌≡◌, ℕ, List, [], ◌∷◌, ◌++◌, Option, sym, ap, ◌∙◌, subst, append_assoc}
-use Rattle.std.specs.Io.KnownBytes.{Appends}
-use Rattle.std.proofs.KnownBytes.{Appends-trans}
+use Rattle.std.specs.Io.KnownBytes.{Appends, Keeps}
+use Rattle.std.proofs.KnownBytes.{Appends-trans, Appends-kept}
 use Rattle.wfe_defs.specs.Entry.{Entry}
 use Rattle.wfe_telling.specs.Some.{AppendsSome}
 use Rattle.wfe_telling.specs.Pieces.{Piece, text_of, heard_of}
@@ -9,7 +9,7 @@ use Rattle.wfe_telling.specs.Heard.{Hears, HearsSome}
 use Rattle.wfe_telling.specs.PutOut.{PutsOut, PutsSome, FailsToWrite, FailsToTell}
 use Rattle.wfe_telling.proofs.Texts.{text_of-append, heard_of-append, AppendsSome-all, AppendsSome-then, AppendsSome-first}
 use Rattle.wfe_telling.proofs.Hearing.{hears_along, hears_out_some, hears_then_some}
-use Rattle.wfe_telling.proofs.Puts.{puts_some_more}
+use Rattle.wfe_telling.proofs.Puts.{puts_then_some, puts_some_more}
 
 -- a longer front of the pieces
 front_along : (xs whole rest ys : List Piece) (piece : Piece) → ys ≡ whole ++ piece ∷ rest → xs ++ ys ≡ (xs ++ whole) ++ piece ∷ rest
@@ -22,6 +22,41 @@ rest_along xs whole rest ys piece split = ap (λ (t : List Piece). t ++ ys) spli
 -- the pieces up to the one in which the work ends, and the rest
 split_after : (xs whole rest : List Piece) (piece : Piece) → xs ≡ whole ++ piece ∷ rest → xs ≡ (whole ++ piece ∷ []) ++ rest
 split_after xs whole rest piece split = split ∙ sym (append_assoc whole (piece ∷ []) rest)
+
+-- pieces are put out, and then a write fails in one of which each watcher has heard
+pub fails_to_write : {W : Type 0} (stands : W → List Entry → Type 0) (old mid new : Option (List ℕ)) (a b c : List W) (whole rest out : List Piece) (piece : Piece) → out ≡ whole ++ piece ∷ rest →
+    PutsOut stands old mid a b whole → PutsSome stands mid new b c (piece ∷ []) → Hears stands b c (heard_of (piece ∷ [])) → FailsToWrite stands old new a c out
+fails_to_write stands old mid new a b c whole rest out piece split one part heard = record {
+  whole = whole;
+  piece = piece;
+  rest = rest;
+  split = split;
+  mid = mid;
+  wrote = one.wrote;
+  part = part.wrote;
+  heard = subst (Hears stands a c) (sym (heard_of-append whole (piece ∷ []))) (hears_along stands a b c (heard_of whole) (heard_of (piece ∷ [])) one.heard heard);
+}
+
+-- pieces are put out, and then a watcher has no memory for one of which nothing is written
+pub fails_to_tell : {W : Type 0} (stands : W → List Entry → Type 0) (old mid new : Option (List ℕ)) (a b c : List W) (whole rest out : List Piece) (piece : Piece) → out ≡ whole ++ piece ∷ rest →
+    PutsOut stands old mid a b whole → PutsSome stands mid new b c (piece ∷ []) → Keeps mid new → FailsToTell stands old new a c out
+fails_to_tell stands old mid new a b c whole rest out piece split one part kept = record {
+  whole = whole;
+  piece = piece;
+  rest = rest;
+  split = split;
+  wrote = Appends-kept old mid new (text_of whole) one.wrote kept;
+  mid = b;
+  heard = one.heard;
+  part = part.heard;
+}
+
+-- a part of one piece after whole ones, and before the rest
+pub puts_within : {W : Type 0} (stands : W → List Entry → Type 0) (old mid new : Option (List ℕ)) (a b c : List W) (whole rest out : List Piece) (piece : Piece) → out ≡ whole ++ piece ∷ rest →
+    PutsOut stands old mid a b whole → PutsSome stands mid new b c (piece ∷ []) → PutsSome stands old new a c out
+puts_within stands old mid new a b c whole rest out piece split one part =
+    subst (PutsSome stands old new a c) (sym (split_after out whole rest piece split))
+    (puts_some_more stands old new a c (whole ++ piece ∷ []) rest (puts_then_some stands old mid new a b c whole (piece ∷ []) one part))
 
 -- after other work
 pub puts_then_write_fault : {W : Type 0} (stands : W → List Entry → Type 0) (old mid new : Option (List ℕ)) (a b c : List W) (xs ys : List Piece) →

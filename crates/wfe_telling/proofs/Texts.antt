@@ -1,9 +1,10 @@
 -- The bytes and entries of pieces in a row, and bytes of which a part is written.
-use Rattle.std.proofs.Common.{◌≡◌, ◌+◌, ℕ, List, [], ◌∷◌, ◌++◌, length, take, drop, min, Option, Result, Ok, Err, OnErr, refl, sym, ap, ◌∙◌, subst, append_assoc, arith, take-append-drop}
+use Rattle.std.proofs.Common.{◌≡◌, ◌+◌, ℕ, List, [], ◌∷◌, ◌++◌, length, take, drop, min, slice_get, Option, Some, Result, Ok, Err, OnErr, IfErr, refl, sym, ap, ◌∙◌, subst, append_assoc, arith, take-append-drop}
 use Rattle.std.specs.Io.KnownBytes.{Appends, Keeps}
 use Rattle.std.proofs.KnownBytes.{Appends-nil, Appends-trans, Appends-kept}
 use Rattle.std.proofs.Math.Seq.{take-append-add, take-length}
-use Rattle.std.proofs.lemmas.List.{take-append-le, take_min}
+use Rattle.std.proofs.lemmas.List.{take-append-le, take_min, take_more}
+use Rattle.std.proofs.lemmas.Option.{slice_get_within, get_or_from_slice_get}
 use Rattle.wfe_defs.specs.Entry.{entry}
 use Rattle.wfe_defs.specs.declared.event.Event.{Event}
 use Rattle.wfe_trace.specs.Record.{event_line}
@@ -21,9 +22,26 @@ heard_of-append [] ys = refl
 heard_of-append (Text bytes ∷ xs) ys = heard_of-append xs ys
 heard_of-append (Told x ∷ xs) ys = ap (λ t. x ∷ t) (heard_of-append xs ys)
 
+take_at : (events : List Event) (k : ℕ) (event : Event) → slice_get events k ≡ Some event → take (k + 1) events ≡ take k events ++ event ∷ []
+take_at events k event at =
+    take_more events k event (slice_get_within events k event at) ∙ ap (λ x. take k events ++ x ∷ []) (get_or_from_slice_get events k event event at)
+
 pub told_pieces-append : (seat : ℕ) (xs ys : List Event) → told_pieces seat (xs ++ ys) ≡ told_pieces seat xs ++ told_pieces seat ys
 told_pieces-append seat [] ys = refl
 told_pieces-append seat (x ∷ xs) ys = ap (λ t. Told (entry seat x) ∷ t) (told_pieces-append seat xs ys)
+
+-- one event more
+pub told_pieces-more : (seat : ℕ) (events : List Event) (k : ℕ) (event : Event) → slice_get events k ≡ Some event →
+    told_pieces seat (take (k + 1) events) ≡ told_pieces seat (take k events) ++ Told (entry seat event) ∷ []
+told_pieces-more seat events k event at =
+    ap (told_pieces seat) (take_at events k event at) ∙ told_pieces-append seat (take k events) (event ∷ [])
+
+-- the events before one, this one, and the rest
+pub told_pieces-split : (seat : ℕ) (events : List Event) (k : ℕ) (event : Event) → slice_get events k ≡ Some event →
+    told_pieces seat events ≡ told_pieces seat (take k events) ++ Told (entry seat event) ∷ told_pieces seat (drop (k + 1) events)
+told_pieces-split seat events k event at =
+    ap (told_pieces seat) (sym (take-append-drop (k + 1) events) ∙ ap (λ (t : List Event). t ++ drop (k + 1) events) (take_at events k event at) ∙ append_assoc (take k events) (event ∷ []) (drop (k + 1) events))
+    ∙ told_pieces-append seat (take k events) (event ∷ drop (k + 1) events)
 
 pub AppendsSome-none : (old : Option (List ℕ)) (bytes : List ℕ) → AppendsSome old old bytes
 AppendsSome-none old bytes = (0, Appends-nil old)
@@ -56,3 +74,7 @@ Appends-front old mid new piece front rest n split wrote more =
 pub on_err : {T E : Type 0} {P : Type 0} → (r : Result T E) → P → OnErr r P
 on_err (Ok x) p = tt
 on_err (Err e) p = p
+
+-- what holds of the error that a call hands on
+pub if_err : {T E : Type 0} (P : E → Type 0) (r : Result T E) (e : E) → r ≡ Err e → P e → IfErr r P
+if_err P r e same p = rw same p

@@ -3,5 +3,11 @@
 #![tactic(auto)]
 
 mod fault;
+mod telling;
+#[cfg(test)]
+mod tests;
+mod write;
 
 pub use fault::Fault;
+pub use telling::{tell, tell_all};
+pub use write::{put_line, write_all};
