@@ -1,5 +1,5 @@
 // Each watcher is told an event, and then its line is written.
-ghost use Rattle.std.specs.Prelude.{◌≡◌, ◌≤◌, [], ◌∷◌, OnOk, OnErr, IfErr};
+ghost use Rattle.std.specs.Prelude.{◌≡◌, ◌≤◌, ◌<◌, [], ◌∷◌, length, OnOk, OnErr, IfErr};
 ghost use Rattle.std.specs.Io.KnownBytes.{Appends, Keeps};
 ghost use Rattle.wfe_defs.specs.Entry.{entry};
 ghost use Rattle.wfe_outside.specs.Faults.{Rose};
@@ -32,6 +32,7 @@ fn tell_watchers(
 ) -> Result<(), NoMemory>
     ensures ok { OnOk result (Hears stands watchers.old watchers.new (entry seat event.now ∷ [])) }
     ensures some { HearsSome stands watchers.old watchers.new (entry seat event.now ∷ []) }
+    ensures needs_a_watcher { OnErr result (0 < length watchers.old) }
 {
     for watcher in watchers.iter_mut() {
         tell_one(watcher, seat, event)?;
@@ -65,6 +66,7 @@ pub fn tell<K: Sink>(
     ensures cause { IfErr result (λ fault. fault ≡ Fault.Write → Rose (K.faults sink.old) (K.faults sink.new)) }
     ensures heard_before { IfErr result (λ fault. fault ≡ Fault.Write → Hears stands watchers.old watchers.new (entry seat event.now ∷ [])) }
     ensures unwritten { IfErr result (λ fault. fault ≡ Fault.Memory → Keeps (K.written sink.old) (K.written sink.new)) }
+    ensures needs_a_watcher { IfErr result (λ fault. fault ≡ Fault.Memory → 0 < length watchers.old) }
 {
     tell_watchers(watchers, seat, event)?;
     put_event(sink, seat, event)?;
@@ -84,6 +86,7 @@ pub fn tell_all<K: Sink>(
     ensures cause { IfErr result (λ fault. fault ≡ Fault.Write → Rose (K.faults sink.old) (K.faults sink.new)) }
     ensures heard_before { IfErr result (λ fault. fault ≡ Fault.Write → FailsToWrite stands (K.written sink.old) (K.written sink.new) watchers.old watchers.new (told_pieces seat told.now)) }
     ensures unwritten { IfErr result (λ fault. fault ≡ Fault.Memory → FailsToTell stands (K.written sink.old) (K.written sink.new) watchers.old watchers.new (told_pieces seat told.now)) }
+    ensures needs_a_watcher { IfErr result (λ fault. fault ≡ Fault.Memory → 0 < length watchers.old) }
 {
     for place in 0..told.len() {
         tell(sink, watchers, seat, told.get(place))?;
