@@ -1,0 +1,5 @@
+pub mod Hearing
+pub mod Puts
+pub mod Stops
+pub mod Texts
+pub mod Turns

@@ -1,0 +1,4 @@
+pub mod Heard
+pub mod Pieces
+pub mod PutOut
+pub mod Some
