@@ -1,0 +1,39 @@
+-- Each law is proved in its crate; here they are joined.
+use Rattle.wfe_reuse.proofs.Keeps as reuse
+use Rattle.wfe_lawful.proofs.Counts as steps
+use Rattle.wfe_lawful.proofs.Maps as maps
+use Rattle.wfe_lawful.proofs.Queues as queues
+use Rattle.wfe_once.proofs.Births as births
+use Rattle.wfe_once.proofs.Keeps as once
+use Rattle.wfe_blocks.proofs.Counts as counts
+use Rattle.wfe_blocks.proofs.Keeps as scans
+use Rattle.wfe_blocks.proofs.Shown as reads
+use Rattle.wfe_holding.proofs.Holds as holds
+use Rattle.wfe_era_law.proofs.Keeps as eras
+use Rattle.wfe_answers.proofs.Answering as answers
+use Rattle.wfe_bare_ends.proofs.Bare as bare
+use Rattle.wfe_turns.proofs.Counted as turns
+use Rattle.wfe_finish.proofs.Finishes as finishes
+use Rattle.wfe_whole.specs.Whole.{HistoriesLawful}
+
+pub histories_are_lawful : HistoriesLawful
+histories_are_lawful layout items valid =
+    record {
+      reuse = reuse.records_keep_reuse layout items valid;
+      once = once.records_keep_once layout items valid;
+      back = once.records_go_back_once layout items valid;
+      births = births.records_keep_births layout items valid;
+      scans = scans.records_keep_scans layout items valid;
+      reads = reads.records_read_guards layout items valid;
+      counts = counts.records_count_scans layout items valid;
+      eras = eras.records_keep_eras layout items valid;
+      guards = eras.records_keep_guards layout items valid;
+      held = λ k j s. holds.records_hold layout items k j s valid;
+      bare = bare.records_end_bare layout items valid;
+      map = maps.records_keep_map layout items valid;
+      queue = queues.records_keep_queue layout items valid;
+      steps = steps.records_keep_steps layout items valid;
+      answers = answers.records_keep_answers layout items valid;
+      turns = turns.histories_count layout items valid;
+      ends = λ i. finishes.calls_finish layout items i valid;
+    }
