@@ -5,7 +5,8 @@ use std::test::Fail;
 use wfe_defs::{Answer, Call, ClockMove, Event, Guard, Interval};
 use wfe_words::{Config, SchemeKind};
 
-const PAIR: Config = Config {
+/// Two seats of Wait-Free Eras that try once.
+pub const PAIR: Config = Config {
     scheme: SchemeKind::Wfe,
     seats: 2,
     indexes: 3,

@@ -41,14 +41,14 @@ fn call_of(word: u32) -> Call {
     let key = (word / 16 % 4) as u64;
     let value = (word / 64) as u64;
     match word % 16 {
-        0 | 1 | 2 => Call::Get { key },
-        3 | 4 | 5 | 6 => Call::Put { key, value },
+        0 | 1 => Call::Get { key },
+        2 | 3 | 4 | 5 | 6 => Call::Put { key, value },
         7 => Call::Remove { key },
         8 | 9 => Call::Enqueue { value },
         10 | 11 => Call::Dequeue,
-        12 => Call::Hold { key },
-        13 => Call::Release,
+        12 | 13 => Call::Hold { key },
         14 => Call::Advance,
+        _ if word % 32 == 15 => Call::Release,
         _ => Call::Scan,
     }
 }
@@ -67,7 +67,7 @@ fn look<R: Abort>(rt: &R, bench: &mut Bench, watch: &mut Watch, seed: u64) -> Re
 }
 
 // Plays a schedule: at each turn a random seat begins a random call if it is free, and makes some units
-// of it. In the end each call is run to its end.
+// of it, one alone or so many that others are overtaken. In the end each call is run to its end.
 fn play<R: Abort + AllocGlobal>(rt: &R, config: Config, seed: u64) -> Result<Watch, Fail> {
     let mut bench = Bench::new(rt.alloc(), config)?;
     let mut watch = Watch::new(rt.alloc(), config.slots, guards(config))?;
@@ -78,7 +78,7 @@ fn play<R: Abort + AllocGlobal>(rt: &R, config: Config, seed: u64) -> Result<Wat
         if !bench.busy(seat) {
             bench.start(seat, call_of(words.next_word()));
         }
-        bench.units(seat, 1 + word / 4 % 24)?;
+        bench.units(seat, 1 + word / 4 % 8 * (word / 32 % 8))?;
         look(rt, &mut bench, &mut watch, seed)?;
     }
     for seat in 0..4 {
@@ -95,7 +95,7 @@ fn no_schedule_lets_a_row_be_used_too_early(rt: HostRuntime) -> Result<(), Fail>
         let mut asked = 0u32;
         for (seats, slots, every) in [(2, 2, 1), (2, 6, 2), (3, 4, 1), (4, 3, 1), (4, 6, 3)] {
             let config = table(scheme, seats, slots, every);
-            for seed in 0..2 {
+            for seed in 0..3 {
                 let watch = play(&rt, config, seed)?;
                 assert!(rt; watch.held > 100, "{config:?}, seed {seed}");
                 assert!(rt; watch.back > 10, "{config:?}, seed {seed}");
