@@ -1,3 +1,4 @@
 pub mod Seats
 pub mod Sound
 pub mod Reached
+pub mod ByHand

@@ -7,6 +7,8 @@ mod engine;
 mod rig;
 mod scheme_calls;
 mod seat;
+#[cfg(test)]
+mod tests;
 mod unit;
 
 pub use engine::Engine;

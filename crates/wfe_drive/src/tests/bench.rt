@@ -1,0 +1,97 @@
+// A rig in the hands of a test, with the record of what its units told.
+ghost use Rattle.std.specs.Prelude.{◌≡◌};
+
+use crate::Rig;
+use std::alloc::Global;
+use std::test::Fail;
+use wfe_cells::{MakeCells, PlainCells};
+use wfe_core::Told;
+use wfe_defs::{Answer, Call, Event};
+use wfe_words::{Config, Layout};
+
+/// How many units a call is given at most before a test gives up.
+const MOST: u32 = 10_000;
+
+/// A rig over plain cells. Each method tests what the rig needs of its caller, and does nothing where
+/// that does not hold.
+#[derive(Drop)]
+pub struct Bench {
+    rig: Rig<PlainCells>,
+    seats: u32,
+    /// The events of all units so far, each with its seat.
+    pub record: Vec<(u32, Event)>,
+    ghost seated: { rig.layout.config.seats ≡ seats },
+}
+
+impl Bench {
+    /// A table at its start.
+    pub fn new(alloc: Global, config: Config) -> Result<Bench, Fail> {
+        let layout = Layout::new(config)?;
+        let cells = PlainCells::make(alloc, layout)?;
+        Ok(Bench {
+            rig: Rig::new(alloc, cells, layout)?,
+            seats: layout.config().seats,
+            record: Vec::new(alloc),
+        })
+    }
+
+    /// Whether a call of the seat is under way.
+    pub fn busy(&self, seat: u32) -> bool {
+        seat < self.seats && self.rig.busy(seat)
+    }
+
+    /// Begins a call of a seat that is free. It answers whether it did.
+    pub fn start(&mut self, seat: u32, call: Call) -> bool {
+        if seat >= self.seats || self.rig.busy(seat) {
+            return false;
+        }
+        self.rig.start(seat, call);
+        true
+    }
+
+    /// Makes one unit of the seat's call.
+    pub fn unit(&mut self, seat: u32) -> Result<Option<Answer>, Fail> {
+        if seat >= self.seats || !self.rig.busy(seat) {
+            return Ok(None);
+        }
+        let mut told = Told::new();
+        let answer = self.rig.unit(seat, &mut told);
+        self.note(seat, &told)?;
+        Ok(answer)
+    }
+
+    fn note(&mut self, seat: u32, told: &Told) -> Result<(), Fail> {
+        for place in 0..told.len() {
+            self.record.push((seat, *told.get(place)))?;
+        }
+        Ok(())
+    }
+
+    /// Makes so many units of the seat's call, or fewer where it ends.
+    pub fn units(&mut self, seat: u32, count: u32) -> Result<Option<Answer>, Fail> {
+        for _ in 0..count {
+            let answer = self.unit(seat)?;
+            if answer.is_some() {
+                return Ok(answer);
+            }
+        }
+        Ok(None)
+    }
+
+    /// Runs the seat's call to its end. It answers the steps and the answer that the last event tells.
+    pub fn run(&mut self, seat: u32) -> Result<Option<(u64, Answer)>, Fail> {
+        let answer = self.units(seat, MOST)?;
+        match (answer, self.record.last()) {
+            (Some(_), Some((_, Event::End { steps, answer }))) => Ok(Some((*steps, *answer))),
+            _ => Ok(None),
+        }
+    }
+
+    /// Makes a whole call of a free seat.
+    pub fn call(&mut self, seat: u32, call: Call) -> Result<Option<(u64, Answer)>, Fail> {
+        if !self.start(seat, call) {
+            return Ok(None);
+        }
+        self.run(seat)
+    }
+}

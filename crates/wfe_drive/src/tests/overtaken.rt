@@ -1,0 +1,130 @@
+// A protection of Wait-Free Eras that moves of the clock overtake, at known places.
+use crate::tests::bench::Bench;
+use std::process::Abort;
+use std::test::Fail;
+use wfe_defs::{Answer, Call, ClockMove, Event, Guard, Interval};
+use wfe_words::{Config, SchemeKind};
+
+/// Two seats of Wait-Free Eras that try once.
+pub const PAIR: Config = Config {
+    scheme: SchemeKind::Wfe,
+    seats: 2,
+    indexes: 3,
+    slots: 8,
+    buckets: 1,
+    tries: 1,
+    every: 100,
+    last_era: 100,
+    last_version: 100,
+    pairs: 6,
+};
+
+// Steps of a move of the clock of two seats that meets no request: it loads the clock, reads both
+// request words, and exchanges the clock.
+const MOVE: u64 = 4;
+
+fn moved(era: u32) -> Answer {
+    Answer::Clock {
+        outcome: ClockMove::Moved { era },
+    }
+}
+
+fn reserve(guard: Guard, era: u32) -> Event {
+    Event::Reserve {
+        guard,
+        span: Some(Interval { lo: era, hi: era }),
+    }
+}
+
+// Row 0 is linked, and seat 0's protection of it at index 2 has loaded the clock, published era 1 and
+// loaded the link. Then seat 1 moves the clock to 2.
+fn overtaken_once<R: Abort + AllocGlobal>(rt: &R) -> Result<Bench, Fail> {
+    let mut bench = Bench::new(rt.alloc(), PAIR)?;
+    assert!(rt; bench.call(1, Call::Put { key: 7, value: 70 })?.is_some());
+    assert!(rt; bench.start(0, Call::Hold { key: 7 }));
+    assert_eq!(rt; bench.units(0, 3)?, None);
+    assert_eq!(rt; bench.call(1, Call::Advance)?, Some((MOVE, moved(2))));
+    Ok(bench)
+}
+
+// Whether seat 0 told just these events, in this order, from the place of the record on.
+fn expect_told<R: Abort>(rt: &R, bench: &Bench, from: usize, want: &[Event]) {
+    let mut place = 0;
+    for (seat, event) in bench.record.iter().skip(from) {
+        if *seat == 0 {
+            assert!(rt; place < want.len());
+            assert_eq!(rt; *event, want[place], "event {place}");
+            place += 1;
+        }
+    }
+    assert_eq!(rt; place, want.len());
+}
+
+#[test]
+fn a_reader_whose_try_fails_answers_its_own_request(rt: HostRuntime) -> Result<(), Fail> {
+    let mut bench = overtaken_once(&rt)?;
+    let from = bench.record.len();
+    let answer = Answer::Holding { slot: 0 };
+    assert_eq!(rt; bench.run(0)?, Some((14, answer)));
+    let index = Guard::Index { seat: 0, index: 2 };
+    let helper = Guard::Helper { seat: 0 };
+    let want = [
+        reserve(index, 2),
+        reserve(helper, 2),
+        reserve(index, 2),
+        Event::Held {
+            index: 2,
+            slot: 0,
+            steps: 12,
+        },
+        Event::Reserve {
+            guard: helper,
+            span: None,
+        },
+        Event::End { steps: 14, answer },
+    ];
+    expect_told(&rt, &bench, from, &want);
+    Ok(())
+}
+
+// Seat 1 stands at its next exchange of the clock before the request is published, so it does not meet
+// it; it moves the clock to 3 when the reader has loaded era 2 for its helper word. Its third move
+// meets the request: it answers it with row 0 and era 3, hands this reservation over to the reader's
+// index word, and moves the clock to 4, all after the reader's twelfth step. Both turns under the
+// helper word are lost then, and the reader finds the answer.
+#[test]
+fn a_reader_that_loses_both_turns_takes_the_movers_answer(rt: HostRuntime) -> Result<(), Fail> {
+    let mut bench = overtaken_once(&rt)?;
+    assert!(rt; bench.start(1, Call::Advance));
+    assert_eq!(rt; bench.units(1, 3)?, None);
+    assert_eq!(rt; bench.units(0, 4)?, None);
+    assert_eq!(rt; bench.run(1)?, Some((MOVE, moved(3))));
+    assert_eq!(rt; bench.units(0, 5)?, None);
+    let before = bench.record.len();
+    assert_eq!(rt; bench.call(1, Call::Advance)?, Some((MOVE + 7, moved(4))));
+    let index = Guard::Index { seat: 0, index: 2 };
+    let handed = bench
+        .record
+        .iter()
+        .skip(before)
+        .any(|told| *told == (1, reserve(index, 3)));
+    assert!(rt; handed);
+    let from = bench.record.len();
+    let answer = Answer::Holding { slot: 0 };
+    assert_eq!(rt; bench.run(0)?, Some((17, answer)));
+    let want = [
+        reserve(index, 3),
+        Event::Held {
+            index: 2,
+            slot: 0,
+            steps: 15,
+        },
+        Event::Reserve {
+            guard: Guard::Helper { seat: 0 },
+            span: None,
+        },
+        Event::End { steps: 17, answer },
+    ];
+    expect_told(&rt, &bench, from, &want);
+    Ok(())
+}
