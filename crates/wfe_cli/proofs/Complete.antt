@@ -5,10 +5,12 @@ use Rattle.wfe_trace.specs.declared.item.Mode.TheVariants as modes
 use Rattle.wfe_trace.specs.declared.reason.BadLine.{BadLine}
 use Rattle.wfe_trace.specs.declared.reason.Status.{Status}
 use Rattle.wfe_trace.specs.declared.reason.Status.TheVariants as statuses
-use Rattle.wfe_cli.specs.Replay.{Replays, IsRefused, came, whole}
-use Rattle.wfe_cli.specs.Replayed.{Replayed, keeper}
-use Rattle.wfe_cli.specs.Trace.{Progress, progress_start, after_bytes, finished, ◌>>=◌}
-use Rattle.wfe_cli.proofs.Bytes.{after_bytes-append, after_bytes-bad}
+use Rattle.wfe_server.specs.Replay.{Replays, IsRefused, came, whole}
+use Rattle.wfe_server.specs.Given.{Given, keeper}
+use Rattle.wfe_server.specs.Sunk.{Outside}
+use Rattle.wfe_defs.specs.Entry.{Entry}
+use Rattle.wfe_server.specs.Trace.{Progress, progress_start, after_bytes, finished, ◌>>=◌}
+use Rattle.wfe_server.proofs.Bytes.{after_bytes-append, after_bytes-bad}
 
 -- a bad line among the first bytes is one of the whole
 bad_before : (first second : List ℕ) (bad : BadLine) → came first ≡ Err bad → whole (first ++ second) ≡ Err bad
@@ -19,23 +21,23 @@ bad_in : (bytes taken rest : List ℕ) (bad : BadLine) → bytes ≡ taken ++ re
 bad_in bytes taken rest bad split found (inl here) = ap whole split ∙ bad_before taken rest bad here
 bad_in bytes taken rest bad split found (inr none) = ap whole (split ∙ ap (λ (xs : List ℕ). taken ++ xs) none ∙ append-nil taken) ∙ found
 
-never_bad : (bytes taken : List ℕ) (left old new : Option (List ℕ)) (p : Progress Replayed) (bad : BadLine) → whole bytes ≡ Ok p → Consumes (Some bytes) left taken →
-    IsRefused taken left old new bad → ⊥
-never_bad bytes taken None old new p bad good consumed refused = consumed
-never_bad bytes taken (Some rest) old new p bad good consumed refused =
+never_bad : {W : Type 0} (stands : W → List Entry → Type 0) (watched bytes taken : List ℕ) (left : Option (List ℕ)) (old new : Outside W) (p : Progress Given) (bad : BadLine) → whole bytes ≡ Ok p → Consumes (Some bytes) left taken →
+    IsRefused stands watched taken left old new bad → ⊥
+never_bad stands watched bytes taken None old new p bad good consumed refused = consumed
+never_bad stands watched bytes taken (Some rest) old new p bad good consumed refused =
     let found : Err bad ≡ Ok p = sym (bad_in bytes taken rest bad consumed refused.first refused.seen) ∙ good in cc
 
-complete_in : (status : Status) (bytes : List ℕ) (left old new : Option (List ℕ)) (p : Progress Replayed) → Replays status (Some bytes) left old new → whole bytes ≡ Ok p →
+complete_in : {W : Type 0} (stands : W → List Entry → Type 0) (status : Status) (watched bytes : List ℕ) (left : Option (List ℕ)) (old new : Outside W) (p : Progress Given) → Replays stands status watched (Some bytes) left old new → whole bytes ≡ Ok p →
     (status ≡ statuses.ReadFault → ⊥) → (status ≡ statuses.WriteFault → ⊥) → (status ≡ statuses.Done) ⊎ (status ≡ statuses.NoMemory)
-complete_in statuses.Done bytes left old new p replays good reads writes = inl refl
-complete_in statuses.Usage bytes left old new p replays good reads writes = absurd replays.2
-complete_in (statuses.BadTrace line reason) bytes left old new p (taken, consumed, refused) good reads writes =
-    absurd (never_bad bytes taken left old new p (record { line = line; reason = reason }) good consumed refused)
-complete_in statuses.ReadFault bytes left old new p replays good reads writes = absurd (reads refl)
-complete_in statuses.WriteFault bytes left old new p replays good reads writes = absurd (writes refl)
-complete_in statuses.NoMemory bytes left old new p replays good reads writes = inr refl
+complete_in stands statuses.Done watched bytes left old new p replays good reads writes = inl refl
+complete_in stands statuses.Usage watched bytes left old new p replays good reads writes = absurd replays.2
+complete_in stands (statuses.BadTrace line reason) watched bytes left old new p (taken, consumed, refused) good reads writes =
+    absurd (never_bad stands watched bytes taken left old new p (record { line = line; reason = reason }) good consumed refused)
+complete_in stands statuses.ReadFault watched bytes left old new p replays good reads writes = absurd (reads refl)
+complete_in stands statuses.WriteFault watched bytes left old new p replays good reads writes = absurd (writes refl)
+complete_in stands statuses.NoMemory watched bytes left old new p replays good reads writes = inr refl
 
-pub complete : (status : Status) (before left old new : Option (List ℕ)) → Replays status before left old new →
-    (bytes : List ℕ) (p : Progress Replayed) → before ≡ Some bytes → whole bytes ≡ Ok p →
+pub complete : {W : Type 0} (stands : W → List Entry → Type 0) (status : Status) (watched : List ℕ) (before left : Option (List ℕ)) (old new : Outside W) → Replays stands status watched before left old new →
+    (bytes : List ℕ) (p : Progress Given) → before ≡ Some bytes → whole bytes ≡ Ok p →
     (status ≡ statuses.ReadFault → ⊥) → (status ≡ statuses.WriteFault → ⊥) → (status ≡ statuses.Done) ⊎ (status ≡ statuses.NoMemory)
-complete status before left old new replays bytes p told good reads writes = complete_in status bytes left old new p (rw told at replays) good reads writes
+complete stands status watched before left old new replays bytes p told good reads writes = complete_in stands status watched bytes left old new p (rw told at replays) good reads writes

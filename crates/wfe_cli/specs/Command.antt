@@ -5,10 +5,10 @@ use Rattle.std.specs.Str.{bytes_eq}
 use Rattle.wfe_outside.specs.Faults.{Rose}
 use Rattle.wfe_trace.specs.declared.reason.Status.{Status}
 use Rattle.wfe_trace.specs.declared.reason.Status.TheVariants as statuses
-use Rattle.wfe_cli.specs.Replay.{whole}
-use Rattle.wfe_cli.specs.Replayed.{Replayed}
-use Rattle.wfe_cli.specs.Some.{AppendsSome}
-use Rattle.wfe_cli.specs.Trace.{Progress}
+use Rattle.wfe_telling.specs.Some.{AppendsSome}
+use Rattle.wfe_server.specs.Given.{Given}
+use Rattle.wfe_server.specs.Replay.{whole}
+use Rattle.wfe_server.specs.Trace.{Progress}
 
 -- the words are `replay` alone
 abbrev pub is_replay : List (List ℕ) → Bool
@@ -28,7 +28,7 @@ Refuses status old new =
 -- where the source tells a trace in the grammar, and neither count of faults rose, the work is done or memory ran out
 abbrev pub IsComplete : Status → Option (List ℕ) → ℕ → ℕ → ℕ → ℕ → Type 0
 IsComplete status left reads reads' writes writes' =
-    (bytes : List ℕ) (progress : Progress Replayed) → left ≡ Some bytes → whole bytes ≡ Ok progress → (Rose reads reads' → ⊥) → (Rose writes writes' → ⊥) →
+    (bytes : List ℕ) (progress : Progress Given) → left ≡ Some bytes → whole bytes ≡ Ok progress → (Rose reads reads' → ⊥) → (Rose writes writes' → ⊥) →
     (status ≡ statuses.Done) ⊎ (status ≡ statuses.NoMemory)
 
 -- the number with which the program ends

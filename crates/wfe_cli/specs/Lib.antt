@@ -1,13 +1,2 @@
 pub mod Command
-pub mod Opening
-pub mod Places
-pub mod Plain
-pub mod PlainEngine
-pub mod Replay
-pub mod Replayed
-pub mod Run
-pub mod Some
-pub mod Sunk
-pub mod Told
-pub mod Trace
-pub mod Turn
+pub mod Headline

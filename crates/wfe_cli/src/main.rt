@@ -1,24 +1,18 @@
-//! The program `wfe`: replays a trace of calls on a map, and prints the record.
+//! The program `wfe`: replays a trace of calls on a map and a queue, and prints the record.
 #![tactic(auto)]
 
-ghost use Rattle.std.specs.Prelude.{◌≡◌};
-ghost use Rattle.wfe_cli.specs.Command.{status_number};
-
 mod command;
-mod output;
-mod plain;
-mod progress;
-mod replay;
 #[cfg(test)]
 mod tests;
 
-use command::main_call;
+use command::{main_call, number_of};
 use std::io::BufWriter;
 use std::process::ExitCode;
 use std::rt::Env;
 use std::{env, io};
-use wfe_outside::{StdSink, StdSource};
+use wfe_outside::{StdSink, StdSource, Watcher};
 use wfe_trace::Status;
+use wfe_watch::KeyCounter;
 
 // Bytes that standard output keeps before it hands them on.
 const BUFFER: usize = 65_536;
@@ -34,20 +28,6 @@ fn words_given(rt: &(impl Env + AllocGlobal)) -> Vec<String> {
     }
 }
 
-// The number with which the program ends.
-fn number_of(status: Status) -> u8
-    ensures { result ≡ status_number status }
-{
-    match status {
-        Status::Done => 0,
-        Status::Usage => 2,
-        Status::BadTrace { .. } => 3,
-        Status::ReadFault => 4,
-        Status::WriteFault => 5,
-        Status::NoMemory => 6,
-    }
-}
-
 fn main(rt: HostRuntime) -> ExitCode {
     let alloc = rt.alloc();
     let words = words_given(&rt);
@@ -56,7 +36,13 @@ fn main(rt: HostRuntime) -> ExitCode {
         return ExitCode::from(number_of(Status::NoMemory));
     };
     let mut sink = StdSink::new(writer);
-    let mut watchers = Vec::new(alloc);
+    let mut watchers: Vec<Box<dyn Watcher>> = Vec::new(alloc);
+    let Ok(counter) = Box::new(alloc, KeyCounter::new(alloc)) else {
+        return ExitCode::from(number_of(Status::NoMemory));
+    };
+    if watchers.push(counter).is_err() {
+        return ExitCode::from(number_of(Status::NoMemory));
+    }
     let status = main_call(&rt, alloc, &words, &mut source, &mut sink, &mut watchers);
     let status = match sink.flush() {
         Ok(()) => status,

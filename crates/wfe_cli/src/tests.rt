@@ -5,6 +5,7 @@ use std::test::Fail;
 use std::thread::Threads;
 use wfe_outside::{CleanSource, Failed, MemSink, MemSource, Source, Watcher};
 use wfe_trace::{Reason, Status};
+use wfe_watch::{GarbageCounter, KeyCounter};
 
 const SETTING: &[u8] =
     b"wfe 1\nscheme he\nseats 1\nindexes 3\nslots 8\nbuckets 1\ntries 2\nevery 1\nlast_era 100\nlast_version 100\nbegin\n";
@@ -84,7 +85,7 @@ fn put_then_get_is_recorded(rt: HostRuntime) -> Result<(), Fail> {
         &rt,
         &[
             HEADER,
-            b"0 begin put 7 70\n0 put 0 1 7 70\n0 end 1 done 1 still\n0 begin get 7\n0 got 0 1 7 70\n0 end 1 got 1 70\ndone\n",
+            b"0 begin put 7 70\n0 reserve i0.0 1 1\n0 null 0 4\n0 give 0 1\n0 link b0 0\n0 put 0 1 7 70\n0 reserve i0.0 none\n0 end 13 done 1 still\n0 begin get 7\n0 reserve i0.0 1 1\n0 held 0 0 4\n0 got 0 1 7 70\n0 clear 0 0\n0 reserve i0.0 none\n0 end 9 got 1 70\ndone\n",
         ],
     )?;
     expect(&rt, &trace, Status::Done, &record)
@@ -108,7 +109,7 @@ fn a_source_that_never_fails_is_replayed_whole(rt: HostRuntime) -> Result<(), Fa
         &rt,
         &[
             HEADER,
-            b"0 begin put 7 70\n0 put 0 1 7 70\n0 end 1 done 1 still\ndone\n",
+            b"0 begin put 7 70\n0 reserve i0.0 1 1\n0 null 0 4\n0 give 0 1\n0 link b0 0\n0 put 0 1 7 70\n0 reserve i0.0 none\n0 end 13 done 1 still\ndone\n",
         ],
     )?;
     assert_eq!(rt; sink.bytes(), record.as_slice());
@@ -117,7 +118,7 @@ fn a_source_that_never_fails_is_replayed_whole(rt: HostRuntime) -> Result<(), Fa
 
 #[test]
 fn bad_input_has_its_line_and_reason(rt: HostRuntime) -> Result<(), Fail> {
-    let cases: [(&[u8], &[u8], u64, Reason, &[u8]); 8] = [
+    let cases: [(&[u8], &[u8], u64, Reason, &[u8]); 11] = [
         (b"", b"", 1, Reason::NoEnd, b"bad 1 no-end\n"),
         (
             SETTING,
@@ -156,6 +157,27 @@ fn bad_input_has_its_line_and_reason(rt: HostRuntime) -> Result<(), Fail> {
         ),
         (
             SETTING,
+            b"0 step 0\n",
+            12,
+            Reason::Range,
+            b"record 1 he 1 3 8 1 2 1 100 100\nbad 12 range\n",
+        ),
+        (
+            SETTING,
+            b"0  get 7\n",
+            12,
+            Reason::Form,
+            b"record 1 he 1 3 8 1 2 1 100 100\nbad 12 form\n",
+        ),
+        (
+            b"wfe 1\nscheme wfe\nseats 65\n",
+            b"",
+            3,
+            Reason::Range,
+            b"bad 3 range\n",
+        ),
+        (
+            SETTING,
             b"end\nend\n",
             13,
             Reason::AfterEnd,
@@ -179,11 +201,16 @@ fn bad_input_has_its_line_and_reason(rt: HostRuntime) -> Result<(), Fail> {
 #[test]
 fn a_sink_that_fails_keeps_the_lines_before(rt: HostRuntime) -> Result<(), Fail> {
     let trace = joined(&rt, &[SETTING, b"0 put 7 70\n0 run\nend\n"])?;
-    let lines: [&[u8]; 5] = [
+    let lines: [&[u8]; 10] = [
         HEADER,
         b"0 begin put 7 70\n",
+        b"0 reserve i0.0 1 1\n",
+        b"0 null 0 4\n",
+        b"0 give 0 1\n",
+        b"0 link b0 0\n",
         b"0 put 0 1 7 70\n",
-        b"0 end 1 done 1 still\n",
+        b"0 reserve i0.0 none\n",
+        b"0 end 13 done 1 still\n",
         b"done\n",
     ];
     for (i, _) in lines.iter().enumerate() {
@@ -239,7 +266,7 @@ fn a_source_that_fails_leaves_the_lines_read(rt: HostRuntime) -> Result<(), Fail
         &rt,
         &[
             HEADER,
-            b"0 begin put 7 70\n0 put 0 1 7 70\n0 end 1 done 1 still\n",
+            b"0 begin put 7 70\n0 reserve i0.0 1 1\n0 null 0 4\n0 give 0 1\n0 link b0 0\n0 put 0 1 7 70\n0 reserve i0.0 none\n0 end 13 done 1 still\n",
         ],
     )?;
     assert_eq!(rt; sink.bytes(), record.as_slice());
@@ -259,6 +286,168 @@ fn other_words_are_answered_by_the_usage_line(rt: HostRuntime) -> Result<(), Fai
     assert_eq!(rt;
         run(&rt, "none", &mut source, &mut sink)?,
         Status::WriteFault
+    );
+    Ok(())
+}
+
+// Where a line begins in the output, from this place on, and ends.
+fn end_of_line(output: &[u8], from: usize, line: &[u8]) -> Option<usize> {
+    for start in from..output.len() {
+        if output[start..].starts_with(line) {
+            return Some(start.saturating_add(line.len()));
+        }
+    }
+    None
+}
+
+// Wants a trace to be replayed, and these lines to stand in its record in this order.
+fn expect_among<R: Threads + Sync + Abort + AllocGlobal>(
+    rt: &R,
+    setting: &[u8],
+    body: &[u8],
+    lines: &[&[u8]],
+) -> Result<(), Fail> {
+    let trace = joined(rt, &[setting, body])?;
+    let mut source = MemSource::new(rt.alloc(), &trace, &[])?;
+    let mut sink = MemSink::new(rt.alloc(), 65_536, &[])?;
+    assert_eq!(rt; run(rt, "replay", &mut source, &mut sink)?, Status::Done);
+    let mut from = 0;
+    for (i, line) in lines.iter().enumerate() {
+        match end_of_line(sink.bytes(), from, line) {
+            Some(end) => from = end,
+            None => assert_eq!(rt; i, lines.len(), "line {i} is not there in its place"),
+        }
+    }
+    Ok(())
+}
+
+// The setting with another scheme, so many seats, and retirements that count so often.
+fn setting<R: AllocGlobal>(
+    rt: &R,
+    scheme: &[u8],
+    seats: &[u8],
+    every: &[u8],
+) -> Result<Vec<u8>, Fail> {
+    joined(
+        rt,
+        &[
+            b"wfe 1\nscheme ",
+            scheme,
+            b"\nseats ",
+            seats,
+            b"\nindexes 3\nslots 8\nbuckets 1\ntries 1\nevery ",
+            every,
+            b"\nlast_era 100\nlast_version 100\nbegin\n",
+        ],
+    )
+}
+
+#[test]
+fn a_row_that_nobody_reads_goes_back_in_the_next_scan(rt: HostRuntime) -> Result<(), Fail> {
+    expect_among(
+        &rt,
+        SETTING,
+        b"0 put 7 70\n0 run\n0 put 7 71\n0 run\nend\n",
+        &[
+            b"0 link b0 1\n0 cut 0\n0 put 0 2 7 71\n",
+            b"0 retire 0 1 1\n0 era 2\n0 read i0.0 none\n0 read i0.1 none\n0 read i0.2 none\n0 back 0\n0 end 26 done 2 moved 2\n",
+        ],
+    )
+}
+
+#[test]
+fn a_stalled_reader_keeps_two_rows_under_hazard_eras(rt: HostRuntime) -> Result<(), Fail> {
+    let setting = setting(&rt, b"he", b"2", b"1")?;
+    expect_among(
+        &rt,
+        &setting,
+        b"0 put 7 0\n0 run\n1 hold 7\n1 run\n0 put 7 1\n0 run\n0 put 7 2\n0 run\n0 put 7 3\n0 run\n0 put 7 4\n0 run\ntable\n1 release\n1 run\n0 scan\n0 run\ntable\nend\n",
+        &[
+            b"1 end 4 holding 0\n",
+            b"table 0 retired 4 back 2 waiting 2\ntable 1 retired 0 back 0 waiting 0\ntable all retired 4 back 2 waiting 2\n",
+            b"1 clear 2 0\n",
+            b"0 back 0\n0 back 1\n0 end 8 scanned 0 2\n",
+            b"table all retired 4 back 4 waiting 0\n",
+        ],
+    )
+}
+
+#[test]
+fn a_reader_that_goes_on_keeps_every_row_under_intervals(rt: HostRuntime) -> Result<(), Fail> {
+    let setting = setting(&rt, b"ibr", b"2", b"1")?;
+    expect_among(
+        &rt,
+        &setting,
+        b"0 put 7 0\n0 run\n1 hold 7\n1 run\n0 put 7 1\n0 run\n1 get 7\n1 run\n0 put 7 2\n0 run\n1 get 7\n1 run\n0 put 7 3\n0 run\ntable\nend\n",
+        &[
+            b"1 reserve v1 1 1\n",
+            b"1 reserve v1 1 2\n",
+            b"1 reserve v1 1 3\n",
+            b"table all retired 3 back 0 waiting 3\n",
+        ],
+    )
+}
+
+#[test]
+fn a_reader_of_wait_free_eras_answers_its_own_request(rt: HostRuntime) -> Result<(), Fail> {
+    let setting = setting(&rt, b"wfe", b"3", b"100")?;
+    expect_among(
+        &rt,
+        &setting,
+        b"0 put 7 70\n0 run\n0 hold 7\n0 step 3\n1 advance\n1 run\n1 advance\n1 step 4\n2 advance\n2 step 4\n0 step 5\n1 run\n2 run\n0 run\nend\n",
+        &[
+            b"1 end 5 moved 2\n",
+            b"0 reserve i0.2 2 2\n0 reserve h0 2 2\n1 era 3\n1 end 5 moved 3\n2 end 5 other 3\n0 reserve h0 3 3\n0 reserve i0.2 3 3\n0 held 2 0 15\n0 reserve h0 none\n0 end 17 holding 0\n",
+        ],
+    )
+}
+
+#[test]
+fn a_dequeue_that_is_overtaken_begins_anew(rt: HostRuntime) -> Result<(), Fail> {
+    let setting = setting(&rt, b"he", b"2", b"1")?;
+    expect_among(
+        &rt,
+        &setting,
+        b"0 enq 5\n0 run\n0 enq 6\n0 run\n1 deq\n1 step 8\n0 deq\n0 run\n1 run\nend\n",
+        &[
+            b"0 end 15 queued 1\n",
+            b"0 link head 0\n0 cut 8\n0 taken 1 5\n",
+            b"0 end 26 taken 1 5 moved 2\n",
+            b"1 clear 0 8\n",
+            b"1 end 42 taken 2 6 moved 3\n",
+        ],
+    )
+}
+
+#[test]
+fn watchers_are_told_each_event_and_show_their_rows(rt: HostRuntime) -> Result<(), Fail> {
+    let trace = joined(
+        &rt,
+        &[
+            SETTING,
+            b"0 put 7 1\n0 run\n0 put 3 1\n0 run\n0 put 7 2\n0 run\n0 remove 3\n0 run\nend\n",
+        ],
+    )?;
+    let words = vec![in rt.alloc(); String::from_str(rt.alloc(), "replay")?]?;
+    let mut watchers: Vec<Box<dyn Watcher>> = Vec::new(rt.alloc());
+    let garbage = GarbageCounter::new(rt.alloc(), 1)?;
+    watchers.push(Box::new(rt.alloc(), garbage)?)?;
+    watchers.push(Box::new(rt.alloc(), KeyCounter::new(rt.alloc()))?)?;
+    let mut source = MemSource::new(rt.alloc(), &trace, &[])?;
+    let mut sink = MemSink::new(rt.alloc(), 65_536, &[])?;
+    let status = main_call(
+        &rt,
+        rt.alloc(),
+        &words,
+        &mut source,
+        &mut sink,
+        &mut watchers,
+    );
+    assert_eq!(rt; status, Status::Done);
+    let rows: &[u8] = b"watch 0 0 3 3\nwatch 1 7 2 0\nwatch 1 3 1 1\ndone\n";
+    assert_eq!(rt;
+        end_of_line(sink.bytes(), 0, rows),
+        Some(sink.bytes().len())
     );
     Ok(())
 }

@@ -2,6 +2,7 @@
 //! faults, so that an answer which names a fault has its cause.
 #![tactic(auto)]
 
+mod count;
 mod memory;
 mod real;
 mod stream;
@@ -9,6 +10,7 @@ mod stream;
 mod tests;
 mod watcher;
 
+pub use count::CountSink;
 pub use memory::{CleanSource, MemSink, MemSource};
 pub use real::{StdSink, StdSource};
 pub use stream::{Failed, Sink, Source};

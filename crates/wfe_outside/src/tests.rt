@@ -1,5 +1,5 @@
 // Sources and sinks at work, by small tables; the adapters over readers and writers of their own.
-use crate::{CleanSource, Failed, MemSink, MemSource, Sink, Source, StdSink, StdSource};
+use crate::{CleanSource, CountSink, Failed, MemSink, MemSource, Sink, Source, StdSink, StdSource};
 use std::io;
 use std::io::{Read, Write};
 use std::test::Fail;
@@ -70,4 +70,14 @@ fn adapters_pass_bytes_on_and_answer_errors(rt: HostRuntime) -> Result<(), Fail>
     assert_eq!(rt; broken.write(b""), Ok(0));
     assert_eq!(rt; broken.flush(), Err(Failed));
     Ok(())
+}
+
+#[test]
+fn a_counting_sink_takes_all_and_keeps_the_number(rt: HostRuntime) {
+    let mut sink = CountSink::new();
+    assert_eq!(rt; sink.count(), 0);
+    assert_eq!(rt; sink.write(b"abc"), Ok(3));
+    assert_eq!(rt; sink.write(b""), Ok(0));
+    assert_eq!(rt; sink.write(b"de"), Ok(2));
+    assert_eq!(rt; sink.count(), 5);
 }

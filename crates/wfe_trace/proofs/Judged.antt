@@ -1,5 +1,5 @@
 -- What holds of a trace's line that is not bad.
-use Rattle.std.proofs.Common.{ℕ, ◌≡◌, ◌<◌, if◌then◌else◌, nat_lt, nat_le, Bool, true, false, List, [], ◌∷◌, length, Option, Result, Ok, Err, refl, sym, subst, arith, true≢false}
+use Rattle.std.proofs.Common.{ℕ, ◌≡◌, ◌<◌, ◌≤◌, ◌&&◌, if◌then◌else◌, nat_lt, nat_le, Bool, true, false, List, [], ◌∷◌, length, Option, None, Result, Ok, Err, refl, sym, subst, arith}
 use Rattle.std.specs.Prelude.{codes}
 use Rattle.std.specs.Result.{result_unwrap_or}
 use Rattle.std.specs.Str.{bytes_eq}
@@ -7,7 +7,7 @@ use Rattle.std.proofs.lemmas.Bool.Decides.{nat_tests}
 use Rattle.wfe_words.specs.declared.config.Config.{Config}
 use Rattle.wfe_words.specs.declared.config.Field.{Field}
 use Rattle.wfe_words.specs.declared.config.Field.TheVariants as fields
-use Rattle.wfe_words.specs.Config.{allows, number_of}
+use Rattle.wfe_words.specs.Config.{allows, bad_field, number_of}
 use Rattle.wfe_defs.specs.declared.command.Command.{Command}
 use Rattle.wfe_trace.specs.declared.body.Numbers.{Numbers}
 use Rattle.wfe_trace.specs.declared.body.Places.{Places}
@@ -22,10 +22,11 @@ use Rattle.wfe_trace.specs.declared.item.Stage.TheVariants as stages
 use Rattle.wfe_trace.specs.declared.reason.Reason.{Reason}
 use Rattle.wfe_trace.specs.declared.reason.Reason.TheVariants as reasons
 use Rattle.wfe_trace.specs.Body.{verb_in, in_form, numbers_in, is_for, seat_of, command_of, judged_line, command_in, IsCommandWithin}
-use Rattle.wfe_trace.specs.Built.{is_built_number, is_built_verb, is_built_command}
+use Rattle.wfe_trace.specs.Good.{is_body, IsRead}
 use Rattle.wfe_trace.specs.Reading.{Reading, judged_at, judged, stage_after, config_after}
 use Rattle.wfe_trace.specs.Setting.{word_after, field_name, scheme_line, number_line, with_number}
 use Rattle.wfe_trace.specs.Words.{words, number_in, need, or_number, ◌>>=◌}
+use Rattle.wfe_trace.proofs.Settings.{bad_field-with_number}
 
 -- what follows is good only after a good start
 both_good : {A B : Type 0} (r : Result A Reason) (f : A → Result B Reason) (y : B) → (r >>= f) ≡ Ok y → (x : A) × (r ≡ Ok x) × (f x ≡ Ok y)
@@ -36,85 +37,58 @@ needed : (holds : Bool) (reason : Reason) (u : Unit {0}) → need holds reason �
 needed true reason u h = refl
 needed false reason u h = absurd (cc)
 
--- the numbers on which the map and the schedule rest: one seat, and some buckets
-pub record Held (config : Config) : Type 0 where
-  pub seats : config.seats ≡ 1
-  pub some : 0 < config.buckets
-
-held-with_number : (config : Config) (field : Field) (n : ℕ) → Held config → allows field n ≡ true → is_built_number field n ≡ true → Held (with_number config field n)
-held-with_number config fields.Seats n h allowed built = record { seats = grind (arith, nat_tests); some = h.some }
-held-with_number config fields.Buckets n h allowed built = record { seats = h.seats; some = grind (arith, nat_tests) }
-held-with_number config fields.Indexes n h allowed built = record { seats = h.seats; some = h.some }
-held-with_number config fields.Slots n h allowed built = record { seats = h.seats; some = h.some }
-held-with_number config fields.Tries n h allowed built = record { seats = h.seats; some = h.some }
-held-with_number config fields.Every n h allowed built = record { seats = h.seats; some = h.some }
-held-with_number config fields.LastEra n h allowed built = record { seats = h.seats; some = h.some }
-held-with_number config fields.LastVersion n h allowed built = record { seats = h.seats; some = h.some }
-held-with_number config fields.Pairs n h allowed built = record { seats = h.seats; some = h.some }
-
--- the number of a field's line lies in its range, and is one that is built
-number-line : (field : Field) (ws : List (List ℕ)) (n : ℕ) → number_line field ws ≡ Ok n → (allows field n ≡ true) × (is_built_number field n ≡ true)
+-- the number of a field's line lies in its range
+number-line : (field : Field) (ws : List (List ℕ)) (n : ℕ) → number_line field ws ≡ Ok n → allows field n ≡ true
 number-line field ws n h =
     let (word, _, h1) = both_good (word_after (field_name field) ws) _ n h in
     let (number, _, h2) = both_good (or_number (number_in word)) _ n h1 in
     let (u, is_allowed, h3) = both_good (need (allows field number) reasons.Range) _ n h2 in
-    let (v, is_built, h4) = both_good (need (is_built_number field number) reasons.NotYet) _ n h3 in
     let same : number ≡ n = cc in
-    subst (λ k. (allows field k ≡ true) × (is_built_number field k ≡ true)) same (needed (allows field number) reasons.Range u is_allowed, needed (is_built_number field number) reasons.NotYet v is_built)
-
--- a command of the trace: its seat is one of the trace, and it is built
-abbrev pub IsBuilt : ℕ → Command → Type 0
-IsBuilt seats c = IsCommandWithin seats c × (is_built_command c ≡ true)
+    subst (λ k. allows field k ≡ true) same (needed (allows field number) reasons.Range u is_allowed)
 
 seat-of : (seats number : ℕ) (fits : Bool) (seat : ℕ) → nat_lt number seats ≡ fits → (if fits then Ok number else Err reasons.Seat) ≡ Ok seat → seat < seats
 seat-of seats number true seat e h = let same : number ≡ seat = cc in grind (arith, nat_tests)
 seat-of seats number false seat e h = absurd (cc)
 
-same_command : (seats : ℕ) (a c : Command) (r : Result Command Reason) → r ≡ Ok a → r ≡ Ok c → IsBuilt seats a → IsBuilt seats c
-same_command seats a c r is_a is_c = let same : a ≡ c = cc in subst (IsBuilt seats) same
+same_command : (seats : ℕ) (a c : Command) (r : Result Command Reason) → r ≡ Ok a → r ≡ Ok c → IsCommandWithin seats a → IsCommandWithin seats c
+same_command seats a c r is_a is_c = let same : a ≡ c = cc in subst (IsCommandWithin seats) same
 
-command-of : (verb : Verb) (seats seat : ℕ) (n : Numbers) (c : Command) → is_built_verb verb ≡ true → seat_of seats verb n.seat ≡ Ok seat → command_of verb seat n ≡ Ok c → IsBuilt seats c
-command-of verbs.Get seats seat n c built named h = same_command seats _ c _ refl h (seat-of seats n.seat (nat_lt n.seat seats) seat refl named, refl)
-command-of verbs.Put seats seat n c built named h = same_command seats _ c _ refl h (seat-of seats n.seat (nat_lt n.seat seats) seat refl named, refl)
-command-of verbs.Run seats seat n c built named h = same_command seats _ c _ refl h (seat-of seats n.seat (nat_lt n.seat seats) seat refl named, refl)
-command-of verbs.End seats seat n c built named h = same_command seats _ c _ refl h (tt, refl)
-command-of _ seats seat n c built named h = absurd (true≢false (sym built))
+-- the units of a step are in their range
+in_range : (seats seat units : ℕ) → seat < seats → nat_le 1 units && nat_le units 100000 ≡ true → (seat < seats) × (1 ≤ units) × (units ≤ 100000)
+in_range seats seat units seated fits = (seated, grind (arith, nat_tests), grind (arith, nat_tests))
 
-judged-line : (mode : Mode) (seats : ℕ) (named : Option Verb) (line : Places) (c : Command) → judged_line mode seats named line ≡ Ok c → IsBuilt seats c
+command-of : (verb : Verb) (seats seat : ℕ) (n : Numbers) (c : Command) → seat_of seats verb n.seat ≡ Ok seat → command_of verb seat n ≡ Ok c → IsCommandWithin seats c
+command-of verbs.Get seats seat n c named h = same_command seats _ c _ refl h (seat-of seats n.seat (nat_lt n.seat seats) seat refl named)
+command-of verbs.Put seats seat n c named h = same_command seats _ c _ refl h (seat-of seats n.seat (nat_lt n.seat seats) seat refl named)
+command-of verbs.Remove seats seat n c named h = same_command seats _ c _ refl h (seat-of seats n.seat (nat_lt n.seat seats) seat refl named)
+command-of verbs.Enqueue seats seat n c named h = same_command seats _ c _ refl h (seat-of seats n.seat (nat_lt n.seat seats) seat refl named)
+command-of verbs.Dequeue seats seat n c named h = same_command seats _ c _ refl h (seat-of seats n.seat (nat_lt n.seat seats) seat refl named)
+command-of verbs.Hold seats seat n c named h = same_command seats _ c _ refl h (seat-of seats n.seat (nat_lt n.seat seats) seat refl named)
+command-of verbs.Release seats seat n c named h = same_command seats _ c _ refl h (seat-of seats n.seat (nat_lt n.seat seats) seat refl named)
+command-of verbs.Advance seats seat n c named h = same_command seats _ c _ refl h (seat-of seats n.seat (nat_lt n.seat seats) seat refl named)
+command-of verbs.Scan seats seat n c named h = same_command seats _ c _ refl h (seat-of seats n.seat (nat_lt n.seat seats) seat refl named)
+command-of verbs.Run seats seat n c named h = same_command seats _ c _ refl h (seat-of seats n.seat (nat_lt n.seat seats) seat refl named)
+command-of verbs.Step seats seat n c named h =
+    let (u, fit, h1) = both_good (need (nat_le 1 n.first && nat_le n.first 100000) reasons.Range) _ c h in
+    same_command seats _ c _ refl h1 (in_range seats seat n.first (seat-of seats n.seat (nat_lt n.seat seats) seat refl named) (needed _ reasons.Range u fit))
+command-of verbs.Table seats seat n c named h = same_command seats _ c _ refl h tt
+command-of verbs.End seats seat n c named h = same_command seats _ c _ refl h tt
+
+judged-line : (mode : Mode) (seats : ℕ) (named : Option Verb) (line : Places) (c : Command) → judged_line mode seats named line ≡ Ok c → IsCommandWithin seats c
 judged-line mode seats named line c h =
     let (verb, _, h1) = both_good (in_form named line) _ c h in
-    let (u, built, h2) = both_good (need (is_built_verb verb) reasons.NotYet) _ c h1 in
-    let (numbers, _, h3) = both_good (numbers_in line) _ c h2 in
-    let (v, _, h4) = both_good (need (is_for mode verb) reasons.RunLine) _ c h3 in
-    let (seat, seated, h5) = both_good (seat_of seats verb numbers.seat) _ c h4 in
-    command-of verb seats seat numbers c (needed (is_built_verb verb) reasons.NotYet u built) seated h5
+    let (numbers, _, h2) = both_good (numbers_in line) _ c h1 in
+    let (u, _, h3) = both_good (need (is_for mode verb) reasons.RunLine) _ c h2 in
+    let (seat, seated, h4) = both_good (seat_of seats verb numbers.seat) _ c h3 in
+    command-of verb seats seat numbers c seated h4
 
-command-in : (mode : Mode) (seats : ℕ) (ws : List (List ℕ)) (c : Command) → command_in mode seats ws ≡ Ok c → IsBuilt seats c
+command-in : (mode : Mode) (seats : ℕ) (ws : List (List ℕ)) (c : Command) → command_in mode seats ws ≡ Ok c → IsCommandWithin seats c
 command-in mode seats [] c h = absurd (cc)
 command-in mode seats (v ∷ []) c h = judged-line mode seats (verb_in v) places.Nothing c h
 command-in mode seats (s ∷ v ∷ []) c h = judged-line mode seats (verb_in v) (places.Seat (number_in s)) c h
 command-in mode seats (s ∷ v ∷ a ∷ []) c h = judged-line mode seats (verb_in v) (places.SeatOne (number_in s) (number_in a)) c h
 command-in mode seats (s ∷ v ∷ a ∷ b ∷ []) c h = judged-line mode seats (verb_in v) (places.SeatTwo (number_in s) (number_in a) (number_in b)) c h
 command-in mode seats (s ∷ v ∷ a ∷ b ∷ d ∷ ws) c h = absurd (cc)
-
--- the body's lines come next
-abbrev pub is_body : Stage → Bool
-is_body stages.First = false
-is_body stages.Scheme = false
-is_body (stages.Number field) = false
-is_body stages.Begin = false
-is_body stages.Body = true
-
--- where a line with this item stands, and what its item says
-abbrev pub Placed : Reading → Stage → Item → Type 0
-Placed r stage items.Setting = (is_body stage ≡ false) × (is_body (stage_after stage) ≡ false)
-Placed r stage (items.Ready version config) = (is_body stage ≡ false) × (is_body (stage_after stage) ≡ true) × (config ≡ r.config)
-Placed r stage (items.Command c) = (is_body stage ≡ true) × (is_body (stage_after stage) ≡ true) × IsBuilt r.config.seats c
-
--- a line that is not bad, and the reading after it
-pub record IsRead (r : Reading) (stage : Stage) (bytes : List ℕ) (item : Item) : Type 0 where
-  pub placed : Placed r stage item
-  pub held : Held r.config → Held (config_after stage r.config bytes)
 
 number-field : (field : Field) → (is_body (stages.Number field) ≡ false) × (is_body (stage_after (stages.Number field)) ≡ false)
 number-field fields.Seats = (refl, refl)
@@ -130,29 +104,28 @@ number-field fields.Pairs = (refl, refl)
 same_item : (r : Reading) (stage : Stage) (bytes : List ℕ) (a item : Item) (found : Result Item Reason) → found ≡ Ok a → found ≡ Ok item → IsRead r stage bytes a → IsRead r stage bytes item
 same_item r stage bytes a item found is_a is_item = let same : a ≡ item = cc in subst (IsRead r stage bytes) same
 
-number-held : (config : Config) (field : Field) (bytes : List ℕ) (n : ℕ) → number_line field (words bytes) ≡ Ok n → Held config → Held (config_after (stages.Number field) config bytes)
-number-held config field bytes n h held =
-    let (allowed, built) = number-line field (words bytes) n h in
-    subst (λ k. Held (with_number config field (result_unwrap_or k (number_of config field)))) (sym h) (held-with_number config field n held allowed built)
+bad_field-number : (config : Config) (field : Field) (bytes : List ℕ) (n : ℕ) → number_line field (words bytes) ≡ Ok n → bad_field config ≡ None → bad_field (config_after (stages.Number field) config bytes) ≡ None
+bad_field-number config field bytes n h good =
+    subst (λ k. bad_field (with_number config field (result_unwrap_or k (number_of config field))) ≡ None) (sym h) (bad_field-with_number config field n good (number-line field (words bytes) n h))
 
 read-at : (stage : Stage) (r : Reading) (bytes : List ℕ) (item : Item) → judged_at stage r bytes ≡ Ok item → IsRead r stage bytes item
 read-at stages.First r bytes item h =
     let (u, _, h1) = both_good (need (bytes_eq bytes (codes "wfe 1")) reasons.First) _ item h in
-    same_item r stages.First bytes items.Setting item _ refl h1 (record { placed = (refl, refl); held = λ held. held })
+    same_item r stages.First bytes items.Setting item _ refl h1 (record { placed = (refl, refl); within = λ good. good })
 read-at stages.Scheme r bytes item h =
     let (scheme, _, h1) = both_good (scheme_line (words bytes)) _ item h in
-    same_item r stages.Scheme bytes items.Setting item _ refl h1 (record { placed = (refl, refl); held = λ held. record { seats = held.seats; some = held.some } })
+    same_item r stages.Scheme bytes items.Setting item _ refl h1 (record { placed = (refl, refl); within = λ good. good })
 read-at (stages.Number field) r bytes item h =
     let (number, numbered, h1) = both_good (number_line field (words bytes)) _ item h in
-    same_item r (stages.Number field) bytes items.Setting item _ refl h1 (record { placed = number-field field; held = number-held r.config field bytes number numbered })
+    same_item r (stages.Number field) bytes items.Setting item _ refl h1 (record { placed = number-field field; within = bad_field-number r.config field bytes number numbered })
 read-at stages.Begin r bytes item h =
     let (u, _, h1) = both_good (need (bytes_eq bytes (codes "begin")) reasons.Config) _ item h in
-    same_item r stages.Begin bytes (items.Ready r.version r.config) item _ refl h1 (record { placed = (refl, refl, refl); held = λ held. held })
+    same_item r stages.Begin bytes (items.Ready r.version r.config) item _ refl h1 (record { placed = (refl, refl, refl); within = λ good. good })
 read-at stages.Body r bytes item h =
     let (c, said, h1) = both_good (command_in r.mode r.config.seats (words bytes)) _ item h in
-    same_item r stages.Body bytes (items.Command c) item _ refl h1 (record { placed = (refl, refl, command-in r.mode r.config.seats (words bytes) c said); held = λ held. held })
+    same_item r stages.Body bytes (items.Command c) item _ refl h1 (record { placed = (refl, refl, command-in r.mode r.config.seats (words bytes) c said); within = λ good. good })
 
--- a line that is not bad stands where its item says, and the setting stays one of one seat and some buckets
+-- a line that is not bad stands where its item says, and the setting's numbers stay in their ranges
 pub judged-read : (r : Reading) (bytes : List ℕ) (item : Item) → judged r bytes ≡ Ok item → IsRead r r.stage bytes item
 judged-read r bytes item h =
     let (u, _, h1) = both_good (need (nat_le (length bytes) 200) reasons.LongLine) _ item h in

@@ -4,7 +4,9 @@ pub mod EventReader
 pub mod EventTexts
 pub mod EventWords
 pub mod Judged
+pub mod Lengths
 pub mod Numerals
+pub mod Reasons
 pub mod Settings
 pub mod Spaces
 pub mod Texts

@@ -4,7 +4,6 @@ use Rattle.wfe_words.specs.declared.config.Config.{Config}
 use Rattle.wfe_words.specs.declared.config.Field.{Field}
 use Rattle.wfe_words.specs.declared.config.Field.TheVariants as fields
 use Rattle.wfe_words.specs.Config.{allows, bad_field}
-use Rattle.wfe_trace.specs.Built.{is_built_config, is_built_number}
 use Rattle.wfe_trace.specs.Setting.{with_number}
 
 -- another number in its range leaves each number in its range
@@ -18,15 +17,3 @@ bad_field-with_number config fields.Every n good within = grind arith
 bad_field-with_number config fields.LastEra n good within = grind arith
 bad_field-with_number config fields.LastVersion n good within = grind arith
 bad_field-with_number config fields.Pairs n good within = grind arith
-
--- another number of which all is built leaves a setting of which all is built
-pub is_built_config-with_number : (config : Config) (field : Field) (n : ℕ) → is_built_config config ≡ true → is_built_number field n ≡ true → is_built_config (with_number config field n) ≡ true
-is_built_config-with_number config fields.Seats n good built = grind arith
-is_built_config-with_number config fields.Indexes n good built = good
-is_built_config-with_number config fields.Slots n good built = good
-is_built_config-with_number config fields.Buckets n good built = good
-is_built_config-with_number config fields.Tries n good built = good
-is_built_config-with_number config fields.Every n good built = good
-is_built_config-with_number config fields.LastEra n good built = good
-is_built_config-with_number config fields.LastVersion n good built = good
-is_built_config-with_number config fields.Pairs n good built = good

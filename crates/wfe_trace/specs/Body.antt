@@ -13,7 +13,6 @@ use Rattle.wfe_trace.specs.declared.body.Verb.TheVariants as verbs
 use Rattle.wfe_trace.specs.declared.body.Places.{Places}
 use Rattle.wfe_trace.specs.declared.body.Places.TheVariants as places
 use Rattle.wfe_trace.specs.declared.body.Numbers.{Numbers}
-use Rattle.wfe_trace.specs.Built.{is_built_verb}
 use Rattle.wfe_trace.specs.Words.{number_in, need, or_number, ◌>>=◌}
 
 -- the verb that a word names
@@ -116,7 +115,6 @@ command_of verbs.End s n = Ok commands.End
 abbrev pub judged_line : Mode → ℕ → Option Verb → Places → Result Command Reason
 judged_line mode seats named line = do
   verb ← in_form named line
-  built ← need (is_built_verb verb) reasons.NotYet
   numbers ← numbers_in line
   fit ← need (is_for mode verb) reasons.RunLine
   seat ← seat_of seats verb numbers.seat

@@ -1,5 +1,6 @@
--- Events whose numbers have at most 64 bits, as those of every value of the type do.
+-- Events and settings whose numbers have at most 64 bits, as those of every value of the type do.
 use Rattle.std.specs.Prelude.{◌<◌, ◌^◌, ℕ, Option, Some, None}
+use Rattle.wfe_words.specs.declared.config.Config.{Config}
 use Rattle.wfe_defs.specs.declared.lifetime.Interval.{Interval}
 use Rattle.wfe_defs.specs.declared.event.Guard.{Guard}
 use Rattle.wfe_defs.specs.declared.event.Guard.TheVariants as guards
@@ -90,3 +91,14 @@ EventFits (events.Removed bucket version key) = NumberFits bucket × NumberFits 
 EventFits (events.Got bucket version key value) = NumberFits bucket × NumberFits version × NumberFits key × ValueFits value
 EventFits (events.Queued number value) = NumberFits number × NumberFits value
 EventFits (events.Taken number value) = NumberFits number × NumberFits value
+
+-- each number that a header tells of the setting has at most 64 bits
+pub record ConfigFits (config : Config) : Type 0 where
+  pub seats : NumberFits config.seats
+  pub indexes : NumberFits config.indexes
+  pub slots : NumberFits config.slots
+  pub buckets : NumberFits config.buckets
+  pub tries : NumberFits config.tries
+  pub every : NumberFits config.every
+  pub last_era : NumberFits config.last_era
+  pub last_version : NumberFits config.last_version

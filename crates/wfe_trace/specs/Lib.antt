@@ -1,6 +1,6 @@
 pub mod Body
-pub mod Built
 pub mod Fits
+pub mod Good
 pub mod Reading
 pub mod Record
 pub mod Setting

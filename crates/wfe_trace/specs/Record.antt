@@ -1,5 +1,5 @@
 -- The text of a record's lines.
-use Rattle.std.specs.Prelude.{Bool, true, false, ℕ, ◌-◌, List, [], ◌∷◌, ◌++◌, Option, Some, None, codes}
+use Rattle.std.specs.Prelude.{Bool, true, false, ℕ, List, [], ◌∷◌, ◌++◌, Option, Some, None, codes}
 use Rattle.std.specs.Fmt.{decimal}
 use Rattle.wfe_words.specs.declared.config.Config.{Config}
 use Rattle.wfe_words.specs.declared.config.SchemeKind.{SchemeKind}
@@ -129,9 +129,17 @@ seat_word None = codes "all"
 seat_word (Some seat) = decimal seat
 
 -- the line of counts: how many rows were retired, how many went back, and how many wait
-abbrev pub table_line : Option ℕ → ℕ → ℕ → List ℕ
-table_line seat retired back =
-    line_of (codes "table") (seat_word seat ∷ codes "retired" ∷ decimal retired ∷ codes "back" ∷ decimal back ∷ codes "waiting" ∷ decimal (retired - back) ∷ [])
+abbrev pub table_line : Option ℕ → ℕ → ℕ → ℕ → List ℕ
+table_line seat retired back waiting =
+    line_of (codes "table") (seat_word seat ∷ codes "retired" ∷ decimal retired ∷ codes "back" ∷ decimal back ∷ codes "waiting" ∷ decimal waiting ∷ [])
+
+-- the line of a watcher's row: the watcher's place, and the row's three numbers
+abbrev pub watch_line : ℕ → ℕ → ℕ → ℕ → List ℕ
+watch_line place a b c = line_of (codes "watch") (decimal place ∷ decimal a ∷ decimal b ∷ decimal c ∷ [])
+
+-- the line of a summary: a name and its number
+abbrev pub count_line : List ℕ → ℕ → List ℕ
+count_line name number = line_of name (decimal number ∷ [])
 
 abbrev pub scheme_word : SchemeKind → List ℕ
 scheme_word schemes.He = codes "he"

@@ -9,7 +9,6 @@ use Rattle.wfe_words.specs.declared.config.Field.TheVariants as fields
 use Rattle.wfe_words.specs.Config.{allows}
 use Rattle.wfe_trace.specs.declared.reason.Reason.{Reason}
 use Rattle.wfe_trace.specs.declared.reason.Reason.TheVariants as reasons
-use Rattle.wfe_trace.specs.Built.{is_built_scheme, is_built_number}
 use Rattle.wfe_trace.specs.Words.{number_in, need, or_number, ◌>>=◌}
 
 -- the word after the one that a line of the setting begins with
@@ -28,9 +27,7 @@ scheme_in w =
 abbrev pub scheme_line : List (List ℕ) → Result SchemeKind Reason
 scheme_line ws = do
   word ← word_after (codes "scheme") ws
-  scheme ← scheme_in word
-  built ← need (is_built_scheme scheme) reasons.NotYet
-  Ok scheme
+  scheme_in word
 
 -- a field's name
 abbrev pub field_name : Field → List ℕ
@@ -50,7 +47,6 @@ number_line field ws = do
   word ← word_after (field_name field) ws
   number ← or_number (number_in word)
   within ← need (allows field number) reasons.Range
-  built ← need (is_built_number field number) reasons.NotYet
   Ok number
 
 -- the setting with another number in a field

@@ -1,6 +1,5 @@
-// The body lines of a trace: all forms of version 1, of which some are not built.
+// The body lines of a trace: all forms of version 1.
 ghost use Rattle.std.specs.Prelude.{◌≡◌, ℕ, IfOk, IsTrue};
-ghost use Rattle.wfe_trace.specs.Built.{is_built_verb as built, is_built_command};
 ghost use Rattle.wfe_trace.specs.Body.{verb_in, count_of as count, count_in, in_form as form, numbers_in, is_for as fits, seat_of as named_seat, command_of as command, judged_line, command_in, is_seat, IsCommandWithin};
 ghost use Rattle.wfe_trace.specs.Words.{words};
 
@@ -77,13 +76,6 @@ fn verb_of(word: &[u8]) -> Option<Verb>
     }
 }
 
-// What is built of the body so far.
-fn is_built_verb(verb: Verb) -> bool
-    ensures { result ≡ built verb }
-{
-    matches!(verb, Verb::Get | Verb::Put | Verb::Run | Verb::End)
-}
-
 fn count_of(verb: Verb) -> usize
     ensures { result ≡ count verb }
 {
@@ -155,7 +147,6 @@ fn seat_of(seats: u32, verb: Verb, seat: u64) -> Result<u32, Reason>
 fn command_of(verb: Verb, seat: u32, numbers: Numbers) -> Result<Command, Reason>
     ensures command { result ≡ command verb seat numbers }
     ensures within { (seats : ℕ) → IsTrue (is_seat seats verb seat) → IfOk result (IsCommandWithin seats) }
-    ensures built { IsTrue (built verb) → IfOk result (λ c. IsTrue (is_built_command c)) }
 {
     let call = match verb {
         Verb::Get => Call::Get { key: numbers.first },
@@ -190,10 +181,8 @@ fn command_of(verb: Verb, seat: u32, numbers: Numbers) -> Result<Command, Reason
 fn judge(mode: Mode, seats: u32, named: Option<Verb>, line: Places) -> Result<Command, Reason>
     ensures command { result ≡ judged_line mode seats named line }
     ensures within { IfOk result (IsCommandWithin seats) }
-    ensures built { IfOk result (λ c. IsTrue (is_built_command c)) }
 {
     let verb = in_form(named, line)?;
-    need(is_built_verb(verb), Reason::NotYet)?;
     let numbers = line.numbers()?;
     need(is_for(mode, verb), Reason::RunLine)?;
     let seat = seat_of(seats, verb, numbers.seat)?;
@@ -204,7 +193,6 @@ fn judge(mode: Mode, seats: u32, named: Option<Verb>, line: Places) -> Result<Co
 pub fn read_body(mode: Mode, seats: u32, bytes: &[u8]) -> Result<Command, Reason>
     ensures command { result ≡ command_in mode seats (words bytes.now) }
     ensures within { IfOk result (IsCommandWithin seats) }
-    ensures built { IfOk result (λ c. IsTrue (is_built_command c)) }
 {
     match words_of(bytes) {
         Words::One(verb) => judge(mode, seats, verb_of(verb), Places::Nothing),

@@ -1,7 +1,14 @@
-// What the text of a record tells: a line has one seat and one event.
-ghost use Rattle.std.specs.Prelude.{◌≡◌};
-ghost use Rattle.wfe_trace.specs.Fits.{EventFits};
-ghost use Rattle.wfe_trace.specs.Record.{event_line};
+// What holds of the lines of each trace, and of the text of each record.
+ghost use Rattle.std.specs.Prelude.{◌≡◌, ◌≤◌, ℕ, List, length, Option, None, Ok, Err, IsTrue};
+ghost use Rattle.wfe_words.specs.declared.config.Config.{Config};
+ghost use Rattle.wfe_words.specs.Config.{bad_field};
+ghost use Rattle.wfe_defs.specs.declared.event.Event.{Event};
+ghost use Rattle.wfe_trace.specs.declared.item.Item.{Item};
+ghost use Rattle.wfe_trace.specs.declared.reason.Reason.{Reason};
+ghost use Rattle.wfe_trace.specs.Fits.{NumberFits, ValueFits, EventFits, ConfigFits};
+ghost use Rattle.wfe_trace.specs.Good.{IsRead, is_of_line};
+ghost use Rattle.wfe_trace.specs.Reading.{Reading, judged};
+ghost use Rattle.wfe_trace.specs.Record.{event_line, table_line, watch_line, count_line, header_line, bad_line};
 
 use wfe_defs::Event;
 
@@ -13,4 +20,32 @@ pub fn event_line_is_of_one_event(seat: u32, event: Event, other_seat: u32, othe
     requires same { event_line seat event ≡ event_line other_seat other }
     ensures seat { seat ≡ other_seat }
     ensures event { event ≡ other }
+{}
+
+/// A law: where its numbers have at most 64 bits, as those of every value of the types do, each
+/// line of a record has at most 1,024 bytes.
+pub fn record_lines_are_short()
+    ensures header { (version : ℕ) (config : Config) → NumberFits version → ConfigFits config
+        → length (header_line version config) ≤ 1024 }
+    ensures event { (seat : ℕ) (event : Event) → NumberFits seat → EventFits event
+        → length (event_line seat event) ≤ 1024 }
+    ensures table { (seat : Option ℕ) (retired back waiting : ℕ)
+        → ValueFits seat → NumberFits retired → NumberFits back → NumberFits waiting
+        → length (table_line seat retired back waiting) ≤ 1024 }
+    ensures watch { (place a b c : ℕ) → NumberFits place → NumberFits a → NumberFits b → NumberFits c
+        → length (watch_line place a b c) ≤ 1024 }
+    ensures count { (name : List ℕ) (number : ℕ) → length name ≤ 20 → NumberFits number
+        → length (count_line name number) ≤ 1024 }
+    ensures bad { (line : ℕ) (reason : Reason) → NumberFits line
+        → length (bad_line line reason) ≤ 1024 }
+    ensures setting { (config : Config) → bad_field config ≡ None → ConfigFits config }
+{}
+
+/// A law: a line that is not bad stands where its item says and keeps the setting's numbers in
+/// their ranges, and a line that is bad is so for a reason of its own.
+pub fn lines_are_judged()
+    ensures good { (reading : Reading) (bytes : List ℕ) (item : Item)
+        → judged reading bytes ≡ Ok item → IsRead reading reading.stage bytes item }
+    ensures bad { (reading : Reading) (bytes : List ℕ) (reason : Reason)
+        → judged reading bytes ≡ Err reason → IsTrue (is_of_line reason) }
 {}

@@ -1,4 +1,5 @@
-//! Reads the lines of a trace, and prints the lines of a record. No call here takes memory.
+//! Reads the lines of a trace of version 1, and prints the lines of a record. No call here takes
+//! memory.
 #![tactic(auto)]
 
 mod body;
@@ -12,9 +13,9 @@ mod setting;
 mod words;
 
 pub use item::{Item, Mode};
-pub use law::event_line_is_of_one_event;
+pub use law::{event_line_is_of_one_event, lines_are_judged, record_lines_are_short};
 pub use line::Line;
-pub use print::{print_bad, print_event, print_header, print_table};
+pub use print::{print_bad, print_count, print_event, print_header, print_table, print_watch};
 pub use read::{TraceState, read_line};
 pub use reason::{BadLine, Reason, Status};
 

@@ -1,8 +1,8 @@
-// Prints the lines of a record: its first line, the lines of events and of counts, and the line
-// that names the first bad line of a trace.
+// Prints the lines of a record: its first line, the lines of events, of counts and of watchers,
+// and the line that names the first bad line of a trace.
 ghost use Rattle.std.specs.Prelude.{◌≡◌, ◌≤◌, ◌+◌, ◌*◌, IsTrue, map, [], ◌∷◌, ◌++◌, List, length};
 ghost use Rattle.std.specs.Fmt.{decimal};
-ghost use Rattle.wfe_trace.specs.Record.{spaced, later_words, guard_word, span_words, value_words, root_word, clock_words, call_words, answer_words, event_words, tells_contents, event_line, seat_word, table_line, scheme_word, setting_words, header_line, reason_word, bad_line};
+ghost use Rattle.wfe_trace.specs.Record.{spaced, later_words, guard_word, span_words, value_words, root_word, clock_words, call_words, answer_words, event_words, tells_contents, event_line, seat_word, table_line, watch_line, count_line, scheme_word, setting_words, header_line, reason_word, bad_line};
 
 use crate::{BadLine, Line, Reason};
 use wfe_defs::{Answer, Call, ClockMove, Event, Guard, Interval, Root};
@@ -301,7 +301,8 @@ fn print_rest(line: &mut Line, event: Event)
 
 /// Sets the line to the line of the event of the seat.
 pub fn print_event(seat: u32, event: &Event, line: &mut Line)
-    ensures { line.new ≡ event_line seat event.now }
+    ensures text { line.new ≡ event_line seat event.now }
+    ensures room { length line.new ≤ 1024 }
 {
     line.clear();
     digits(line, seat as u64);
@@ -312,8 +313,9 @@ pub fn print_event(seat: u32, event: &Event, line: &mut Line)
 
 /// Sets the line to the counts of one seat, or to those of all seats together: how many rows were
 /// retired, how many went back, and how many wait.
-pub fn print_table(seat: Option<u32>, retired: u64, back: u64, line: &mut Line)
-    ensures { line.new ≡ table_line seat retired back }
+pub fn print_table(seat: Option<u32>, retired: u64, back: u64, waiting: u64, line: &mut Line)
+    ensures text { line.new ≡ table_line seat retired back waiting }
+    ensures room { length line.new ≤ 1024 }
 {
     line.clear();
     line.text(b"table");
@@ -323,7 +325,31 @@ pub fn print_table(seat: Option<u32>, retired: u64, back: u64, line: &mut Line)
     }
     phrase(line, b"retired", &[retired]);
     phrase(line, b"back", &[back]);
-    phrase(line, b"waiting", &[retired.saturating_sub(back)]);
+    phrase(line, b"waiting", &[waiting]);
+    line.text(b"\n");
+}
+
+/// Sets the line to a row of a watcher: the watcher's place among all watchers, counted from 0,
+/// and the row's three numbers.
+pub fn print_watch(place: u64, a: u64, b: u64, c: u64, line: &mut Line)
+    ensures text { line.new ≡ watch_line place a b c }
+    ensures room { length line.new ≤ 1024 }
+{
+    line.clear();
+    line.text(b"watch");
+    numbers(line, &[place, a, b, c]);
+    line.text(b"\n");
+}
+
+/// Sets the line to a line of a summary: what is counted, in at most 20 bytes, and its number.
+pub fn print_count(name: &[u8], number: u64, line: &mut Line)
+    requires { length name.now ≤ 20 }
+    ensures text { line.new ≡ count_line name.now number }
+    ensures room { length line.new ≤ 1024 }
+{
+    line.clear();
+    line.text(name);
+    numbers(line, &[number]);
     line.text(b"\n");
 }
 
@@ -360,7 +386,8 @@ fn print_setting(line: &mut Line, config: &Config)
 
 /// Sets the line to the first line of a record: the version of its trace, and the setting.
 pub fn print_header(version: u32, config: &Config, line: &mut Line)
-    ensures { line.new ≡ header_line version config.now }
+    ensures text { line.new ≡ header_line version config.now }
+    ensures room { length line.new ≤ 1024 }
 {
     line.clear();
     line.text(b"record");
@@ -392,7 +419,8 @@ fn reason_name(reason: Reason) -> &'static [u8]
 
 /// Sets the line to the one that names the first bad line of a trace.
 pub fn print_bad(bad: &BadLine, line: &mut Line)
-    ensures { line.new ≡ bad_line bad.now.line bad.now.reason }
+    ensures text { line.new ≡ bad_line bad.now.line bad.now.reason }
+    ensures room { length line.new ≤ 1024 }
 {
     line.clear();
     line.text(b"bad");

@@ -1,6 +1,6 @@
 // A trace as it is read, line by line.
 ghost use Rattle.std.specs.Prelude.{◌≡◌, MatchResult, OnOk, OnErr, IfOk, IfErr, IsTrue, Ok, Err};
-ghost use Rattle.wfe_trace.specs.Built.{is_built_item};
+ghost use Rattle.wfe_trace.specs.Good.{is_of_line};
 ghost use Rattle.wfe_trace.specs.Reading.{IsItemWithin, Reading, reading_start, judged, judged_at, reading_after, config_after, line_after, stage_after as later_stage, after_field as later_field};
 
 use crate::body::read_body;
@@ -22,8 +22,7 @@ pub struct TraceState {
 }
 
 impl Model for TraceState {
-    ghost use Rattle.std.specs.Prelude.{◌≡◌, None, IsTrue};
-    ghost use Rattle.wfe_trace.specs.Built.{is_built_config};
+    ghost use Rattle.std.specs.Prelude.{◌≡◌, None};
     ghost use Rattle.wfe_words.specs.Config.{bad_field};
     ghost use Rattle.wfe_trace.specs.Reading.{Reading};
 
@@ -31,7 +30,7 @@ impl Model for TraceState {
 
     ghost view = { λ s. record { mode = s.mode; version = s.version; line = s.line; stage = s.stage; config = s.config } };
 
-    ghost invariant = { λ s. (bad_field s.config ≡ None) × IsTrue (is_built_config s.config) };
+    ghost invariant = { λ s. bad_field s.config ≡ None };
 }
 
 fn after_field(field: Field) -> Stage
@@ -96,12 +95,13 @@ impl TraceState {
     }
 
     // Judges a line that is short enough, and takes what it says of the setting.
+    #[tactic(auto, using(crate::proofs::Reasons::reason_at, crate::proofs::Reasons::reason_in_body))]
     fn judge(&mut self, bytes: &[u8]) -> Result<Item, Reason>
         ensures item { result ≡ judged_at self.old.stage self.old bytes.now }
         ensures taken { OnOk result (self.new ≡ record self.old { config = config_after self.old.stage self.old.config bytes.now }) }
         ensures kept { OnErr result (self.new ≡ self.old) }
         ensures within { IfOk result (IsItemWithin self.old) }
-        ensures built { IfOk result (λ item. IsTrue (is_built_item item)) }
+        ensures reason { IfErr result (λ reason. IsTrue (is_of_line reason)) }
     {
         match self.stage {
             Stage::First => need(bytes == b"wfe 1".as_slice(), Reason::First)?,
@@ -128,6 +128,7 @@ impl TraceState {
 
 /// Reads one line, without its line feed. A trace is read from its first line on, up to the first
 /// bad line or the line `end`.
+#[tactic(auto, using(crate::proofs::Reasons::reason_of))]
 pub fn read_line(state: &mut TraceState, bytes: &[u8]) -> Result<Item, BadLine>
     ensures item { MatchResult result
         (λ item. judged state.old bytes.now ≡ Ok item)
@@ -136,7 +137,7 @@ pub fn read_line(state: &mut TraceState, bytes: &[u8]) -> Result<Item, BadLine>
     ensures after { OnOk result (state.new ≡ reading_after state.old bytes.now) }
     ensures kept { OnErr result (state.new ≡ state.old) }
     ensures within { IfOk result (IsItemWithin state.old) }
-    ensures built { IfOk result (λ item. IsTrue (is_built_item item)) }
+    ensures reason { IfErr result (λ bad. IsTrue (is_of_line bad.reason)) }
 {
     let line = state.line.saturating_add(1);
     match need(bytes.len() <= 200, Reason::LongLine) {

@@ -1,7 +1,6 @@
 // The lines of a trace that give its setting.
 ghost use Rattle.std.specs.Prelude.{◌≡◌, ◌∷◌, MatchResult, IfOk, Ok, Err, IsTrue};
 ghost use Rattle.wfe_words.specs.Config.{allows as in_range};
-ghost use Rattle.wfe_trace.specs.Built.{is_built_scheme as built_scheme, is_built_number as built_number};
 ghost use Rattle.wfe_trace.specs.Setting.{word_after as after, scheme_in, scheme_line, field_name as name_of_field, number_line, with_number as changed};
 ghost use Rattle.wfe_trace.specs.Words.{words};
 
@@ -33,31 +32,11 @@ fn scheme_of(word: &[u8]) -> Result<SchemeKind, Reason>
     }
 }
 
-// What is built of the schemes so far.
-fn is_built_scheme(scheme: SchemeKind) -> bool
-    ensures { result ≡ built_scheme scheme }
-{
-    matches!(scheme, SchemeKind::He)
-}
-
-// What is built of the numbers so far.
-fn is_built_number(field: Field, number: u64) -> bool
-    ensures { result ≡ built_number field number }
-{
-    match field {
-        Field::Seats => number == 1,
-        _ => true,
-    }
-}
-
 /// The scheme that the second line names.
 pub fn read_scheme(bytes: &[u8]) -> Result<SchemeKind, Reason>
-    ensures line { result ≡ scheme_line (words bytes.now) }
-    ensures built { IfOk result (λ scheme. IsTrue (built_scheme scheme)) }
+    ensures { result ≡ scheme_line (words bytes.now) }
 {
-    let scheme = scheme_of(word_after(b"scheme", bytes)?)?;
-    need(is_built_scheme(scheme), Reason::NotYet)?;
-    Ok(scheme)
+    scheme_of(word_after(b"scheme", bytes)?)
 }
 
 fn field_name(field: Field) -> &'static [u8]
@@ -80,11 +59,9 @@ fn field_name(field: Field) -> &'static [u8]
 pub fn read_number(field: Field, bytes: &[u8]) -> Result<u64, Reason>
     ensures line { result ≡ number_line field (words bytes.now) }
     ensures within { IfOk result (λ number. IsTrue (in_range field number)) }
-    ensures built { IfOk result (λ number. IsTrue (built_number field number)) }
 {
     let number = or_number(number_of(word_after(field_name(field), bytes)?))?;
     need(field.allows(number), Reason::Range)?;
-    need(is_built_number(field, number), Reason::NotYet)?;
     Ok(number)
 }
 

@@ -1,7 +1,7 @@
 // The worked lines of a trace, and the worked texts of a record.
 use crate::{
-    BadLine, Item, Line, Mode, Reason, TraceState, print_bad, print_event, print_header,
-    print_table, read_line,
+    BadLine, Item, Line, Mode, Reason, TraceState, print_bad, print_count, print_event,
+    print_header, print_table, print_watch, read_line,
 };
 use std::process::Abort;
 use wfe_defs::{Answer, Call, ClockMove, Command, Event, Guard, Interval, Root};
@@ -20,10 +20,7 @@ const CONFIG: Config = Config {
     pairs: 6,
 };
 
-const SETTING: [&str; 11] = [
-    "wfe 1",
-    "scheme he",
-    "seats 1",
+const NUMBERS: [&str; 7] = [
     "indexes 3",
     "slots 8",
     "buckets 1",
@@ -31,7 +28,6 @@ const SETTING: [&str; 11] = [
     "every 1",
     "last_era 100",
     "last_version 100",
-    "begin",
 ];
 
 // Reads a line that is to be bad by the reason, or good.
@@ -43,11 +39,21 @@ fn expect(rt: &impl Abort, state: &mut TraceState, text: &str, want: Option<Reas
     assert_eq!(rt; got, want, "{text}");
 }
 
-fn in_body(rt: &impl Abort) -> TraceState {
-    let mut state = TraceState::new(Mode::Replay);
-    for text in SETTING {
+// Reads each line of a setting but the last.
+fn in_setting(rt: &impl Abort, mode: Mode, scheme: &str, seats: &str) -> TraceState {
+    let mut state = TraceState::new(mode);
+    for text in ["wfe 1", scheme, seats] {
         expect(rt, &mut state, text, None);
     }
+    for text in NUMBERS {
+        expect(rt, &mut state, text, None);
+    }
+    state
+}
+
+fn in_body(rt: &impl Abort, mode: Mode, seats: &str) -> TraceState {
+    let mut state = in_setting(rt, mode, "scheme wfe", seats);
+    expect(rt, &mut state, "begin", None);
     state
 }
 
@@ -63,9 +69,9 @@ fn a_setting_is_judged_line_by_line(rt: HostRuntime) {
         ("scheme ", Some(Reason::Config)),
         ("scheme  he", Some(Reason::Config)),
         ("scheme epoch", Some(Reason::Config)),
-        ("scheme ibr", Some(Reason::NotYet)),
-        ("scheme wfe", Some(Reason::NotYet)),
-        ("scheme he", None),
+        ("scheme he ", Some(Reason::Config)),
+        ("scheme WFE", Some(Reason::Config)),
+        ("scheme ibr", None),
         ("seat 1", Some(Reason::Config)),
         ("seats", Some(Reason::Config)),
         ("seats  1", Some(Reason::Config)),
@@ -75,9 +81,7 @@ fn a_setting_is_judged_line_by_line(rt: HostRuntime) {
         ("seats 18446744073709551616", Some(Reason::Number)),
         ("seats 0", Some(Reason::Range)),
         ("seats 65", Some(Reason::Range)),
-        ("seats 2", Some(Reason::NotYet)),
-        ("seats 64", Some(Reason::NotYet)),
-        ("seats 1", None),
+        ("seats 64", None),
         ("slots 8", Some(Reason::Config)),
         ("indexes 2", Some(Reason::Range)),
         ("indexes 9", Some(Reason::Range)),
@@ -106,8 +110,23 @@ fn a_setting_is_judged_line_by_line(rt: HostRuntime) {
 }
 
 #[test]
-fn a_body_line_is_judged_by_form_then_what_is_built_then_number_then_seat(rt: HostRuntime) {
-    let mut state = in_body(&rt);
+fn each_scheme_has_its_word(rt: HostRuntime) {
+    let schemes = [
+        ("scheme he", SchemeKind::He),
+        ("scheme ibr", SchemeKind::Ibr),
+        ("scheme wfe", SchemeKind::Wfe),
+    ];
+    for (text, scheme) in schemes {
+        let mut state = in_setting(&rt, Mode::Replay, text, "seats 1");
+        let config = Config { scheme, ..CONFIG };
+        let ready = Item::Ready { version: 1, config };
+        assert_eq!(rt; read_line(&mut state, b"begin"), Ok(ready), "{text}");
+    }
+}
+
+#[test]
+fn a_body_line_is_judged_by_form_then_number_then_seat_then_range(rt: HostRuntime) {
+    let mut state = in_body(&rt, Mode::Replay, "seats 2");
     let lines = [
         ("", Some(Reason::Form)),
         ("0 pu", Some(Reason::Form)),
@@ -120,16 +139,11 @@ fn a_body_line_is_judged_by_form_then_what_is_built_then_number_then_seat(rt: Ho
         ("0 end", Some(Reason::Form)),
         ("0 Get 7", Some(Reason::Form)),
         ("0 put 1 2 3", Some(Reason::Form)),
-        ("x deq", Some(Reason::NotYet)),
-        ("0 deq", Some(Reason::NotYet)),
-        ("0 remove 7", Some(Reason::NotYet)),
-        ("0 enq 5", Some(Reason::NotYet)),
-        ("0 hold 7", Some(Reason::NotYet)),
-        ("0 release", Some(Reason::NotYet)),
-        ("0 advance", Some(Reason::NotYet)),
-        ("0 scan", Some(Reason::NotYet)),
-        ("0 step 3", Some(Reason::NotYet)),
-        ("table", Some(Reason::NotYet)),
+        ("9 step", Some(Reason::Form)),
+        ("x deq", Some(Reason::Number)),
+        ("x step 0", Some(Reason::Number)),
+        ("9 step x", Some(Reason::Number)),
+        ("0 step 18446744073709551616", Some(Reason::Number)),
         ("0 get ", Some(Reason::Number)),
         (" get 7", Some(Reason::Number)),
         (" run", Some(Reason::Number)),
@@ -139,9 +153,16 @@ fn a_body_line_is_judged_by_form_then_what_is_built_then_number_then_seat(rt: Ho
         ("0 get +7", Some(Reason::Number)),
         ("0 get 100000000000000000000", Some(Reason::Number)),
         ("0 put 18446744073709551616 1", Some(Reason::Number)),
-        ("1 get 7", Some(Reason::Seat)),
-        ("1 run", Some(Reason::Seat)),
+        ("2 get 7", Some(Reason::Seat)),
+        ("2 run", Some(Reason::Seat)),
+        ("2 step 0", Some(Reason::Seat)),
+        ("2 step 100001", Some(Reason::Seat)),
         ("4294967296 run", Some(Reason::Seat)),
+        ("1 step 0", Some(Reason::Range)),
+        ("1 step 100001", Some(Reason::Range)),
+        ("0 step 18446744073709551615", Some(Reason::Range)),
+        ("0 step 1", None),
+        ("1 step 100000", None),
         ("0 put 18446744073709551615 0", None),
         ("end", None),
     ];
@@ -151,8 +172,36 @@ fn a_body_line_is_judged_by_form_then_what_is_built_then_number_then_seat(rt: Ho
 }
 
 #[test]
+fn workers_know_no_step_and_no_table(rt: HostRuntime) {
+    let mut state = in_body(&rt, Mode::Run, "seats 2");
+    let lines = [
+        ("0 step", Some(Reason::Form)),
+        ("x step 1", Some(Reason::Number)),
+        ("0 step 1", Some(Reason::RunLine)),
+        ("2 step 1", Some(Reason::RunLine)),
+        ("0 step 0", Some(Reason::RunLine)),
+        ("table", Some(Reason::RunLine)),
+        ("2 run", Some(Reason::Seat)),
+        ("0 run", None),
+        ("1 put 7 70", None),
+        ("end", None),
+    ];
+    for (text, want) in lines {
+        expect(&rt, &mut state, text, want);
+    }
+}
+
+#[test]
+fn a_trace_has_at_most_sixty_four_seats(rt: HostRuntime) {
+    let mut state = in_body(&rt, Mode::Replay, "seats 64");
+    expect(&rt, &mut state, "63 get 7", None);
+    expect(&rt, &mut state, "63 step 100000", None);
+    expect(&rt, &mut state, "64 get 7", Some(Reason::Seat));
+}
+
+#[test]
 fn a_line_has_at_most_two_hundred_bytes(rt: HostRuntime) {
-    let mut state = in_body(&rt);
+    let mut state = in_body(&rt, Mode::Replay, "seats 1");
     let bytes = [b'x'; 201];
     let form = BadLine {
         line: 12,
@@ -167,39 +216,52 @@ fn a_line_has_at_most_two_hundred_bytes(rt: HostRuntime) {
 }
 
 #[test]
-fn items_say_what_their_lines_say(rt: HostRuntime) {
+fn each_line_of_a_setting_is_a_setting(rt: HostRuntime) {
     let mut state = TraceState::new(Mode::Replay);
-    for text in &SETTING[..10] {
+    for text in ["wfe 1", "scheme he", "seats 1"] {
         assert_eq!(rt; read_line(&mut state, text.as_bytes()), Ok(Item::Setting));
     }
-    let ready = Item::Ready {
-        version: 1,
-        config: CONFIG,
-    };
-    assert_eq!(rt; read_line(&mut state, b"begin"), Ok(ready));
+    for text in NUMBERS {
+        assert_eq!(rt; read_line(&mut state, text.as_bytes()), Ok(Item::Setting));
+    }
+    assert_eq!(rt; state.lines(), 10);
+}
+
+fn expect_command(rt: &impl Abort, state: &mut TraceState, text: &str, command: Command) {
+    let got = read_line(state, text.as_bytes());
+    assert_eq!(rt; got, Ok(Item::Command { command }), "{text}");
+}
+
+#[test]
+fn each_call_has_its_verb(rt: HostRuntime) {
+    let mut state = in_body(&rt, Mode::Replay, "seats 5");
+    let calls = [
+        ("4 get 7", Call::Get { key: 7 }),
+        ("4 put 7 70", Call::Put { key: 7, value: 70 }),
+        ("4 remove 7", Call::Remove { key: 7 }),
+        ("4 enq 5", Call::Enqueue { value: 5 }),
+        ("4 deq", Call::Dequeue),
+        ("4 hold 7", Call::Hold { key: 7 }),
+        ("4 release", Call::Release),
+        ("4 advance", Call::Advance),
+        ("4 scan", Call::Scan),
+    ];
+    for (text, call) in calls {
+        expect_command(&rt, &mut state, text, Command::Call { seat: 4, call });
+    }
+}
+
+#[test]
+fn each_other_command_has_its_verb(rt: HostRuntime) {
+    let mut state = in_body(&rt, Mode::Replay, "seats 5");
     let commands = [
-        (
-            "0 put 7 70",
-            Command::Call {
-                seat: 0,
-                call: Call::Put { key: 7, value: 70 },
-            },
-        ),
-        (
-            "0 get 7",
-            Command::Call {
-                seat: 0,
-                call: Call::Get { key: 7 },
-            },
-        ),
-        ("0 run", Command::Run { seat: 0 }),
+        ("4 step 3", Command::Step { seat: 4, units: 3 }),
+        ("4 run", Command::Run { seat: 4 }),
+        ("table", Command::Table),
         ("end", Command::End),
     ];
     for (text, command) in commands {
-        assert_eq!(rt;
-            read_line(&mut state, text.as_bytes()),
-            Ok(Item::Command { command })
-        );
+        expect_command(&rt, &mut state, text, command);
     }
 }
 
@@ -423,23 +485,57 @@ fn answers_have_their_texts(rt: HostRuntime) {
 }
 
 #[test]
-fn the_other_lines_of_a_record_have_their_texts(rt: HostRuntime) {
+fn a_header_has_its_text(rt: HostRuntime) {
     let mut line = Line::new();
     print_header(1, &CONFIG, &mut line);
     assert_eq!(rt;
         line.bytes(),
         b"record 1 he 1 3 8 1 2 1 100 100\n".as_slice()
     );
-    print_table(Some(0), 3, 1, &mut line);
+    let largest = Config {
+        scheme: SchemeKind::Wfe,
+        seats: 64,
+        indexes: 8,
+        slots: 65_536,
+        buckets: 1_024,
+        tries: 64,
+        every: 65_536,
+        last_era: 4_294_967_295,
+        last_version: 281_474_976_710_656,
+        pairs: 14,
+    };
+    print_header(1, &largest, &mut line);
     assert_eq!(rt;
         line.bytes(),
-        b"table 0 retired 3 back 1 waiting 2\n".as_slice()
+        b"record 1 wfe 64 8 65536 1024 64 65536 4294967295 281474976710656\n".as_slice()
     );
-    print_table(None, 3, 3, &mut line);
+}
+
+#[test]
+fn counts_have_their_texts(rt: HostRuntime) {
+    let mut line = Line::new();
+    print_table(Some(63), 3, 1, 2, &mut line);
+    assert_eq!(rt;
+        line.bytes(),
+        b"table 63 retired 3 back 1 waiting 2\n".as_slice()
+    );
+    print_table(None, 3, 3, 0, &mut line);
     assert_eq!(rt;
         line.bytes(),
         b"table all retired 3 back 3 waiting 0\n".as_slice()
     );
+    print_watch(2, 10, 0, 18_446_744_073_709_551_615, &mut line);
+    assert_eq!(rt;
+        line.bytes(),
+        b"watch 2 10 0 18446744073709551615\n".as_slice()
+    );
+    print_count(b"turns", 100_000, &mut line);
+    assert_eq!(rt; line.bytes(), b"turns 100000\n".as_slice());
+}
+
+#[test]
+fn a_bad_line_has_its_reason(rt: HostRuntime) {
+    let mut line = Line::new();
     let reasons = [
         (Reason::First, "bad 12 first\n"),
         (Reason::Config, "bad 12 config\n"),

@@ -67,7 +67,7 @@ fn expect_within<R: Abort>(rt: &R, most: u32, found: u64)
     }
 }
 
-// Row 0 is linked, and the protection is at its first step.
+// The first row is linked, and the protection is at its first step.
 fn make_reader<R: Abort>(rt: &R, alloc: Global) -> Result<Reader, Fail>
     ensures { IfOk result (λ r. IsPoised (protect_phase r.machine) r.post r.word r.cells) }
 {
@@ -130,7 +130,7 @@ fn move_clock<R: Abort>(rt: &R, reader: &mut Reader, era: u64)
     assert_eq!(rt; found, era);
 }
 
-// The other seat answers the request with row 0 and era 3, and hands the reservation over from era 2.
+// The other seat answers the request with the first row and era 3, and hands on from era 2.
 fn answer_request<R: Abort>(rt: &R, reader: &mut Reader)
     requires { IsPoised (protect_phase reader.old.machine) reader.old.post reader.old.word reader.old.cells }
     ensures { IsPoised (protect_phase reader.new.machine) reader.new.post reader.new.word reader.new.cells }
@@ -162,7 +162,7 @@ fn answer_request<R: Abort>(rt: &R, reader: &mut Reader)
     assert_eq!(rt; found, old);
 }
 
-// The last step published the era and told that row 0 stands, after so many steps.
+// The last step published the era and told that the first row stands, after so many steps.
 fn expect_held<R: Abort>(rt: &R, told: &Told, era: u32, steps: u64) {
     assert_eq!(rt; told.len(), 2);
     let reserve = Event::Reserve {

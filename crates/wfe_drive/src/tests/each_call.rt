@@ -250,7 +250,7 @@ fn of_two_movers_one_moves_the_clock(rt: HostRuntime) -> Result<(), Fail> {
     Ok(())
 }
 
-// Seat 1 has loaded the link of row 0, in era 1, when the row is cut.
+// Seat 1 has loaded the link of the first row, in era 1, when the row is cut.
 #[test]
 fn a_scan_keeps_a_held_row_and_gives_back_others(rt: HostRuntime) -> Result<(), Fail> {
     for (scheme, reads) in [(HE, 6), (IBR, 2), (WFE, 8)] {

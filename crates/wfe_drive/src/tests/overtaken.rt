@@ -36,7 +36,7 @@ fn reserve(guard: Guard, era: u32) -> Event {
     }
 }
 
-// Row 0 is linked, and seat 0's protection of it at index 2 has loaded the clock, published era 1 and
+// The first row is linked, and seat 0's protection of it at index 2 has loaded the clock, published era 1 and
 // loaded the link. Then seat 1 moves the clock to 2.
 fn overtaken_once<R: Abort + AllocGlobal>(rt: &R) -> Result<Bench, Fail> {
     let mut bench = Bench::new(rt.alloc(), PAIR)?;
@@ -89,7 +89,7 @@ fn a_reader_whose_try_fails_answers_its_own_request(rt: HostRuntime) -> Result<(
 
 // Seat 1 stands at its next exchange of the clock before the request is published, so it does not meet
 // it; it moves the clock to 3 when the reader has loaded era 2 for its helper word. Its third move
-// meets the request: it answers it with row 0 and era 3, hands this reservation over to the reader's
+// meets the request: it answers it with the first row and era 3, hands this reservation over to the reader's
 // index word, and moves the clock to 4, all after the reader's twelfth step. Both turns under the
 // helper word are lost then, and the reader finds the answer.
 #[test]

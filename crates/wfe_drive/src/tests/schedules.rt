@@ -109,7 +109,7 @@ fn no_schedule_lets_a_row_be_used_too_early(rt: HostRuntime) -> Result<(), Fail>
     Ok(())
 }
 
-// A table of two rows besides the queue's, row 2, where each scan reads two guards.
+// A table of two rows besides the one of the queue, where each scan reads two guards.
 fn expect_breach<R: Abort + AllocGlobal>(
     rt: &R,
     sound: &[(u32, Event)],

@@ -1,0 +1,39 @@
+-- What a replay promises: that its record is the record of one history of the model, which is lawful.
+use Rattle.std.specs.Prelude.{List, Ok, Option, Some, ℕ, ◌≡◌}
+use Rattle.std.specs.Io.KnownBytes.{Consumes, IsAtEnd}
+use Rattle.wfe_defs.specs.Entry.{Entry}
+use Rattle.wfe_telling.specs.Pieces.{heard_of}
+use Rattle.wfe_trace.specs.declared.reason.Status.{Status}
+use Rattle.wfe_trace.specs.declared.reason.Status.TheVariants as statuses
+use Rattle.wfe_server.specs.Given.{Given, IsTaken, given_out, given_record, items, layout_of, past_entries}
+use Rattle.wfe_server.specs.Replay.{IsReplayed, Says}
+use Rattle.wfe_server.specs.Sunk.{Outside}
+use Rattle.wfe_whole.specs.Whole.{IsLawful}
+
+-- the history of the lines is lawful, and what is put out of it tells the entries of its record, in order
+pub record HasLaws (given : Given) : Type 0 where
+  pub lawful : IsLawful (layout_of given) (items given)
+  pub record_is : heard_of (given_out given) ≡ past_entries (given_record given)
+
+-- the whole record was put out, and it is lawful
+pub record IsDone {W : Type 0} (stands : W → List Entry → Type 0) (watched taken : List ℕ) (left : Option (List ℕ)) (old new : Outside W) : Type 0 where
+  pub replayed : IsReplayed stands watched taken old new
+  pub at_end : IsAtEnd left
+  pub laws : HasLaws replayed.given
+
+-- what a status says, where the record of a whole trace is lawful
+abbrev pub Promises : {W : Type 0} → (W → List Entry → Type 0) → Status → (watched taken : List ℕ) → Option (List ℕ) → Outside W → Outside W → Type 0
+Promises stands statuses.Done watched taken left old new = IsDone stands watched taken left old new
+Promises stands statuses.Usage watched taken left old new = ⊥
+Promises stands (statuses.BadTrace line reason) watched taken left old new = Says stands (statuses.BadTrace line reason) watched taken left old new
+Promises stands statuses.ReadFault watched taken left old new = Says stands statuses.ReadFault watched taken left old new
+Promises stands statuses.WriteFault watched taken left old new = Says stands statuses.WriteFault watched taken left old new
+Promises stands statuses.NoMemory watched taken left old new = Says stands statuses.NoMemory watched taken left old new
+
+-- a replay took bytes from the source, and its status says what they are and what was put out
+abbrev pub Keeps : {W : Type 0} → (W → List Entry → Type 0) → Status → (watched : List ℕ) → Option (List ℕ) → Option (List ℕ) → Outside W → Outside W → Type 0
+Keeps stands status watched before left old new = (taken : List ℕ) × Consumes before left taken × Promises stands status watched taken left old new
+
+-- the lines of each part of a trace give a history that is lawful
+abbrev pub GivenLawful : Type 0
+GivenLawful = (given : Given) → IsTaken given → HasLaws given

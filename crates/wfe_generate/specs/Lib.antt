@@ -1,0 +1,5 @@
+pub mod Turns
+pub mod Summary
+pub mod Tally
+pub mod Report
+pub mod Generated

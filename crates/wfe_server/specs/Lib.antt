@@ -1,0 +1,10 @@
+pub mod Trace
+pub mod Counts
+pub mod Playing
+pub mod Opening
+pub mod Sunk
+pub mod Given
+pub mod Replay
+pub mod Run
+pub mod Watched
+pub mod Ends

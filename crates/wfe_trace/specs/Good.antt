@@ -1,0 +1,46 @@
+-- What holds of a trace's line that is not bad, and of a line that is.
+use Rattle.std.specs.Prelude.{◌≡◌, ℕ, List, Bool, true, false, None}
+use Rattle.wfe_words.specs.Config.{bad_field}
+use Rattle.wfe_trace.specs.declared.item.Item.{Item}
+use Rattle.wfe_trace.specs.declared.item.Item.TheVariants as items
+use Rattle.wfe_trace.specs.declared.item.Stage.{Stage}
+use Rattle.wfe_trace.specs.declared.item.Stage.TheVariants as stages
+use Rattle.wfe_trace.specs.declared.reason.Reason.{Reason}
+use Rattle.wfe_trace.specs.declared.reason.Reason.TheVariants as reasons
+use Rattle.wfe_trace.specs.Body.{IsCommandWithin}
+use Rattle.wfe_trace.specs.Reading.{Reading, stage_after, config_after}
+
+-- a line of the body comes next
+abbrev pub is_body : Stage → Bool
+is_body stages.First = false
+is_body stages.Scheme = false
+is_body (stages.Number field) = false
+is_body stages.Begin = false
+is_body stages.Body = true
+
+-- where a line with this item stands, and what its item says
+abbrev pub Placed : Reading → Stage → Item → Type 0
+Placed r stage items.Setting = (is_body stage ≡ false) × (is_body (stage_after stage) ≡ false)
+Placed r stage (items.Ready version config) = (is_body stage ≡ false) × (is_body (stage_after stage) ≡ true) × (config ≡ r.config)
+Placed r stage (items.Command c) = (is_body stage ≡ true) × (is_body (stage_after stage) ≡ true) × IsCommandWithin r.config.seats c
+
+-- a line that is not bad stands where its item says, and leaves the setting's numbers in their ranges
+pub record IsRead (r : Reading) (stage : Stage) (bytes : List ℕ) (item : Item) : Type 0 where
+  pub placed : Placed r stage item
+  pub within : bad_field r.config ≡ None → bad_field (config_after stage r.config bytes) ≡ None
+
+-- a reason that a line of version 1 can give by itself: the others are of calls that have not ended, of the whole trace, or of what is not built
+abbrev pub is_of_line : Reason → Bool
+is_of_line reasons.First = true
+is_of_line reasons.Config = true
+is_of_line reasons.Form = true
+is_of_line reasons.Number = true
+is_of_line reasons.RunLine = true
+is_of_line reasons.Seat = true
+is_of_line reasons.Range = true
+is_of_line reasons.Busy = false
+is_of_line reasons.LongLine = true
+is_of_line reasons.LongTrace = false
+is_of_line reasons.NoEnd = false
+is_of_line reasons.AfterEnd = false
+is_of_line reasons.NotYet = false

@@ -1,0 +1,4 @@
+pub mod ChangesLemmas
+pub mod CountsLemmas
+pub mod GarbageLemmas
+pub mod KeysLemmas

@@ -1,0 +1,4 @@
+pub mod Counts
+pub mod Garbage
+pub mod Keys
+pub mod Changes
