@@ -2,6 +2,8 @@
 use Rattle.std.proofs.Common.{List, Option, ℕ, ◌≡◌}
 use Rattle.std.specs.Io.KnownBytes.{IsAtEnd}
 use Rattle.wfe_defs.specs.Entry.{Entry}
+use Rattle.wfe_generate.specs.Generated.{Generates}
+use Rattle.wfe_generate.specs.Turns.{generated, trace_of}
 use Rattle.wfe_trace.specs.declared.reason.Status.{Status}
 use Rattle.wfe_trace.specs.declared.reason.Status.TheVariants as statuses
 use Rattle.wfe_server.specs.Given.{Given, IsTaken, items, layout_of}
@@ -11,7 +13,7 @@ use Rattle.wfe_server.proofs.Lines.{good_taken}
 use Rattle.wfe_server.proofs.Plays.{valid_of}
 use Rattle.wfe_whole.specs.Whole.{HistoriesLawful}
 use Rattle.wfe_whole.proofs.Whole.{histories_are_lawful}
-use Rattle.wfe_cli.specs.Headline.{GivenLawful, HasLaws, IsDone, Keeps, Promises}
+use Rattle.wfe_cli.specs.Headline.{GivenLawful, HasLaws, IsDone, Keeps, Promises, Summarizes}
 
 pub given_lawful : GivenLawful
 given_lawful given t =
@@ -28,3 +30,6 @@ promised stands statuses.NoMemory watched taken left old new h = h
 
 pub keeps_of : {W : Type 0} (stands : W → List Entry → Type 0) (status : Status) (watched : List ℕ) (before left : Option (List ℕ)) (old new : Outside W) → Replays stands status watched before left old new → Keeps stands status watched before left old new
 keeps_of stands status watched before left old new (taken, consumed, said) = (taken, consumed, promised stands status watched taken left old new said)
+
+pub summarizes_of : {W : Type 0} (stands : W → List Entry → Type 0) (status : Status) (seed turns : ℕ) (watched : List ℕ) (old new : Outside W) → Generates stands status seed turns watched old new → Summarizes stands status seed turns watched old new
+summarizes_of stands status seed turns watched old new made = record { made = made; laws = given_lawful (trace_of (generated seed turns)) made.taken }

@@ -1,29 +1,44 @@
 -- The commands of the program.
-use Rattle.std.specs.Prelude.{◌≡◌, ◌⊎◌, ℕ, Bool, false, List, [], ◌∷◌, Option, Some, Ok, codes}
+use Rattle.std.specs.Prelude.{◌≡◌, ◌≤◌, ◌⊎◌, ℕ, List, Option, Some, Ok, codes}
 use Rattle.std.specs.Io.KnownBytes.{Appends}
-use Rattle.std.specs.Str.{bytes_eq}
+use Rattle.wfe_command.specs.Jobs.{most_turns}
+use Rattle.wfe_command.specs.declared.job.Job.{Job}
+use Rattle.wfe_command.specs.declared.job.Job.TheVariants as jobs
+use Rattle.wfe_defs.specs.Entry.{Entry}
+use Rattle.wfe_generate.specs.Generated.{Generates}
 use Rattle.wfe_outside.specs.Faults.{Rose}
 use Rattle.wfe_trace.specs.declared.reason.Status.{Status}
 use Rattle.wfe_trace.specs.declared.reason.Status.TheVariants as statuses
 use Rattle.wfe_telling.specs.Some.{AppendsSome}
 use Rattle.wfe_server.specs.Given.{Given}
-use Rattle.wfe_server.specs.Replay.{whole}
+use Rattle.wfe_server.specs.Replay.{Replays, whole}
+use Rattle.wfe_server.specs.Sunk.{Outside}
 use Rattle.wfe_server.specs.Trace.{Progress}
 
--- the words are `replay` alone
-abbrev pub is_replay : List (List ℕ) → Bool
-is_replay [] = false
-is_replay (word ∷ []) = bytes_eq word (codes "replay")
-is_replay (word ∷ next ∷ words) = false
+-- a job that the words can ask for
+abbrev pub Allowed : Job → Type 0
+Allowed jobs.Replay = Unit {0}
+Allowed (jobs.Generate seed turns) = turns ≤ most_turns
+
+-- what a job does
+abbrev pub Does : {W : Type 0} → (W → List Entry → Type 0) → Job → Status → (watched : List ℕ) → Option (List ℕ) → Option (List ℕ) → Outside W → Outside W → Type 0
+Does stands jobs.Replay status watched before left old new = Replays stands status watched before left old new
+Does stands (jobs.Generate seed turns) status watched before left old new = Generates stands status seed turns watched old new
 
 -- the line that lists the commands
 abbrev pub usage_line : List ℕ
-usage_line = codes "usage: wfe replay\n"
+usage_line = codes "usage: wfe replay | gen SEED N\n"
 
--- the words are no command: the usage line was written, or a part of it and the sink failed
+-- the words are no command: the usage line was written, or a part of it and the sink failed, or memory ran out before
 abbrev pub Refuses : Status → Option (List ℕ) → Option (List ℕ) → Type 0
 Refuses status old new =
-    ((status ≡ statuses.Usage) × Appends old new usage_line) ⊎ ((status ≡ statuses.WriteFault) × AppendsSome old new usage_line)
+    ((status ≡ statuses.Usage) × Appends old new usage_line)
+    ⊎ ((status ≡ statuses.WriteFault) × AppendsSome old new usage_line)
+    ⊎ ((status ≡ statuses.NoMemory) × (new ≡ old))
+
+-- where the sink's count of faults did not rise, the summary is written or memory ran out
+abbrev pub IsGenerated : Status → ℕ → ℕ → Type 0
+IsGenerated status writes writes' = (Rose writes writes' → ⊥) → (status ≡ statuses.Done) ⊎ (status ≡ statuses.NoMemory)
 
 -- where the source tells a trace in the grammar, and neither count of faults rose, the work is done or memory ran out
 abbrev pub IsComplete : Status → Option (List ℕ) → ℕ → ℕ → ℕ → ℕ → Type 0

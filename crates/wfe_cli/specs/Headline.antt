@@ -1,7 +1,9 @@
--- What a replay promises: that its record is the record of one history of the model, which is lawful.
+-- What the commands promise: that a record is the record of one history of the model, which is lawful.
 use Rattle.std.specs.Prelude.{List, Ok, Option, Some, ℕ, ◌≡◌}
 use Rattle.std.specs.Io.KnownBytes.{Consumes, IsAtEnd}
 use Rattle.wfe_defs.specs.Entry.{Entry}
+use Rattle.wfe_generate.specs.Generated.{Generates}
+use Rattle.wfe_generate.specs.Turns.{generated, trace_of}
 use Rattle.wfe_telling.specs.Pieces.{heard_of}
 use Rattle.wfe_trace.specs.declared.reason.Status.{Status}
 use Rattle.wfe_trace.specs.declared.reason.Status.TheVariants as statuses
@@ -37,3 +39,8 @@ Keeps stands status watched before left old new = (taken : List ℕ) × Consumes
 -- the lines of each part of a trace give a history that is lawful
 abbrev pub GivenLawful : Type 0
 GivenLawful = (given : Given) → IsTaken given → HasLaws given
+
+-- the status of a generated trace says what was put out of its record, which is that of a lawful history
+pub record Summarizes {W : Type 0} (stands : W → List Entry → Type 0) (status : Status) (seed turns : ℕ) (watched : List ℕ) (old new : Outside W) : Type 0 where
+  pub made : Generates stands status seed turns watched old new
+  pub laws : HasLaws (trace_of (generated seed turns))

@@ -1,38 +1,31 @@
 // The commands of the program, over any source and sink.
-ghost use Rattle.std.specs.Prelude.{◌≡◌, ◌≤◌, ◌⊎◌, ℕ, List, [], Bool, true, false, Some, Ok, map, string_bytes};
+ghost use Rattle.std.specs.Prelude.{◌≡◌, ◌≢◌, ◌≤◌, ℕ, None, Some, map, string_bytes};
+ghost use Rattle.wfe_cli.specs.Command.{Allowed, Does, IsComplete, IsGenerated, Refuses, status_number};
+ghost use Rattle.wfe_cli.specs.Headline.{GivenLawful, Keeps, Summarizes};
+ghost use Rattle.wfe_command.specs.Jobs.{asked};
 ghost use Rattle.wfe_outside.specs.Faults.{Rose};
-ghost use Rattle.wfe_cli.specs.Command.{is_replay, status_number, Refuses, IsComplete};
-ghost use Rattle.wfe_cli.specs.Headline.{GivenLawful, Keeps};
-ghost use Rattle.wfe_server.specs.Replay.{Replays};
 ghost use Rattle.wfe_server.specs.Sunk.{outside};
 ghost use Rattle.wfe_server.specs.Watched.{watch_text};
 
 use std::alloc::Global;
 use std::thread::Threads;
 use wfe_cells::PlainCells;
+use wfe_command::{Job, job_of};
 use wfe_drive::Rig;
+use wfe_generate::generate;
 use wfe_outside::{Sink, Source, Watcher};
 use wfe_server::replay;
 use wfe_telling::write_all;
 use wfe_trace::Status;
 
 // The line that lists the commands.
-const USAGE: &[u8] = b"usage: wfe replay\n";
-
-// Whether the words are the command that replays a trace.
-fn names_replay(words: &[String]) -> bool
-    ensures { result ≡ is_replay (map string_bytes words.now) }
-{
-    match words {
-        [word] => word.as_bytes() == b"replay".as_slice(),
-        _ => false,
-    }
-}
+const USAGE: &[u8] = b"usage: wfe replay | gen SEED N\n";
 
 // Writes the line that lists the commands.
 fn refuse<K: Sink>(sink: &mut K) -> Status
     ensures refused { Refuses result (K.written sink.old) (K.written sink.new) }
     ensures later { K.faults sink.old ≤ K.faults sink.new }
+    ensures read { result ≢ Status.ReadFault }
     ensures cause { result ≡ Status.WriteFault → Rose (K.faults sink.old) (K.faults sink.new) }
 {
     match write_all(sink, USAGE) {
@@ -41,28 +34,34 @@ fn refuse<K: Sink>(sink: &mut K) -> Status
     }
 }
 
-// Replays the trace that the words ask for.
+// Does a job.
 fn perform<S: Source, K: Sink>(
     alloc: Global,
-    words: &[String],
+    job: Job,
     source: &mut S,
     sink: &mut K,
     watchers: &mut Vec<Box<dyn Watcher>>,
 ) -> Status
-    requires { is_replay (map string_bytes words.now) ≡ true }
-    ensures said { Replays stands result (watch_text shown shows watchers.new.items) (S.left source.old) (S.left source.new) (outside (K.written sink.old) watchers.old.items) (outside (K.written sink.new) watchers.new.items) }
+    requires { Allowed job }
+    ensures does { Does stands job result (watch_text shown shows watchers.new.items) (S.left source.old) (S.left source.new) (outside (K.written sink.old) watchers.old.items) (outside (K.written sink.new) watchers.new.items) }
+    ensures unread { job ≢ Job.Replay → source.new ≡ source.old }
     ensures source { S.faults source.old ≤ S.faults source.new }
     ensures sink { K.faults sink.old ≤ K.faults sink.new }
     ensures read { result ≡ Status.ReadFault → Rose (S.faults source.old) (S.faults source.new) }
     ensures write { result ≡ Status.WriteFault → Rose (K.faults sink.old) (K.faults sink.new) }
 {
-    let _ = words;
-    replay::<Rig<PlainCells>, S, K>(alloc, source, sink, watchers)
+    match job {
+        Job::Replay => replay::<Rig<PlainCells>, S, K>(alloc, source, sink, watchers),
+        Job::Generate { seed, turns } => {
+            generate::<Rig<PlainCells>, K>(alloc, seed, turns, sink, watchers)
+        }
+    }
 }
 
-/// Does what the words after the program's name say: `replay` reads a trace from the source, and
-/// prints its record to the sink. Any other words are answered by the line that lists the commands,
-/// and nothing is read.
+/// Does what the words after the program's name say. `replay` reads a trace from the source, and
+/// prints its record to the sink. `gen` makes the trace of a seed and a number of turns, and prints
+/// its summary. Any other words are answered by the line that lists the commands. Nothing is read
+/// but by `replay`.
 pub fn main_call<R: Threads + Sync, S: Source, K: Sink>(
     rt: &R,
     alloc: Global,
@@ -72,32 +71,34 @@ pub fn main_call<R: Threads + Sync, S: Source, K: Sink>(
     watchers: &mut Vec<Box<dyn Watcher>>,
 ) -> Status
     // The words are judged first.
-    ensures replays { is_replay (map string_bytes words.now) ≡ true → Keeps stands result (watch_text shown shows watchers.new.items) (S.left source.old) (S.left source.new) (outside (K.written sink.old) watchers.old.items) (outside (K.written sink.new) watchers.new.items) }
+    ensures replays { asked (map string_bytes words.now) ≡ Some Job.Replay → Keeps stands result (watch_text shown shows watchers.new.items) (S.left source.old) (S.left source.new) (outside (K.written sink.old) watchers.old.items) (outside (K.written sink.new) watchers.new.items) }
     ensures lawful { GivenLawful }
-    ensures refuses { is_replay (map string_bytes words.now) ≡ false → Refuses result (K.written sink.old) (K.written sink.new) }
-    ensures unread { is_replay (map string_bytes words.now) ≡ false → source.new ≡ source.old }
+    ensures generates { (seed turns : ℕ) → asked (map string_bytes words.now) ≡ Some (Job.Generate seed turns) → Summarizes stands result seed turns (watch_text shown shows watchers.new.items) (outside (K.written sink.old) watchers.old.items) (outside (K.written sink.new) watchers.new.items) }
+    ensures refuses { asked (map string_bytes words.now) ≡ None → Refuses result (K.written sink.old) (K.written sink.new) }
+    ensures unread { asked (map string_bytes words.now) ≢ Some Job.Replay → source.new ≡ source.old }
+    ensures unheard { asked (map string_bytes words.now) ≡ None → watchers.new ≡ watchers.old }
 
-    // A trace in the grammar is replayed whole, but for a fault of the source or the sink, and for want of memory.
-    ensures complete { is_replay (map string_bytes words.now) ≡ true → IsComplete result (S.left source.old) (S.faults source.old) (S.faults source.new) (K.faults sink.old) (K.faults sink.new) }
+    // A trace in the grammar is replayed whole, and a generated one is summarized, but for a fault of the source or the sink, and for want of memory.
+    ensures complete { asked (map string_bytes words.now) ≡ Some Job.Replay → IsComplete result (S.left source.old) (S.faults source.old) (S.faults source.new) (K.faults sink.old) (K.faults sink.new) }
+    ensures generated { (seed turns : ℕ) → asked (map string_bytes words.now) ≡ Some (Job.Generate seed turns) → IsGenerated result (K.faults sink.old) (K.faults sink.new) }
 
     // A fault is told only where its count rose.
     ensures read { result ≡ Status.ReadFault → Rose (S.faults source.old) (S.faults source.new) }
     ensures write { result ≡ Status.WriteFault → Rose (K.faults sink.old) (K.faults sink.new) }
     ensures source { S.faults source.old ≤ S.faults source.new }
     ensures sink { K.faults sink.old ≤ K.faults sink.new }
-    ensures watchers { is_replay (map string_bytes words.now) ≡ false → watchers.new ≡ watchers.old }
 {
     // One seat after the other makes its units: that takes no threads.
     let _ = rt;
-    if names_replay(words) {
-        perform(alloc, words, source, sink, watchers)
-    } else {
-        refuse(sink)
+    match job_of(alloc, words) {
+        Ok(Some(job)) => perform(alloc, job, source, sink, watchers),
+        Ok(None) => refuse(sink),
+        Err(_) => Status::NoMemory,
     }
 }
 
 /// The number with which the program ends.
-pub fn number_of(status: Status) -> u8
+pub fn exit_number(status: Status) -> u8
     ensures { result ≡ status_number status }
 {
     match status {

@@ -1,11 +1,11 @@
-//! The program `wfe`: replays a trace of calls on a map and a queue, and prints the record.
+//! The program `wfe`: replays a trace of calls on a map and a queue, and prints the record, or a summary of a generated trace.
 #![tactic(auto)]
 
 mod command;
 #[cfg(test)]
 mod tests;
 
-use command::{main_call, number_of};
+use command::{exit_number, main_call};
 use std::io::BufWriter;
 use std::process::ExitCode;
 use std::rt::Env;
@@ -33,20 +33,20 @@ fn main(rt: HostRuntime) -> ExitCode {
     let words = words_given(&rt);
     let mut source = StdSource::new(rt.reader());
     let Ok(writer) = BufWriter::with_capacity(alloc, BUFFER, io::writer(&rt)) else {
-        return ExitCode::from(number_of(Status::NoMemory));
+        return ExitCode::from(exit_number(Status::NoMemory));
     };
     let mut sink = StdSink::new(writer);
     let mut watchers: Vec<Box<dyn Watcher>> = Vec::new(alloc);
     let Ok(counter) = Box::new(alloc, KeyCounter::new(alloc)) else {
-        return ExitCode::from(number_of(Status::NoMemory));
+        return ExitCode::from(exit_number(Status::NoMemory));
     };
     if watchers.push(counter).is_err() {
-        return ExitCode::from(number_of(Status::NoMemory));
+        return ExitCode::from(exit_number(Status::NoMemory));
     }
     let status = main_call(&rt, alloc, &words, &mut source, &mut sink, &mut watchers);
     let status = match sink.flush() {
         Ok(()) => status,
         Err(_) => Status::WriteFault,
     };
-    ExitCode::from(number_of(status))
+    ExitCode::from(exit_number(status))
 }

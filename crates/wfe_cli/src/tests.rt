@@ -1,4 +1,8 @@
 // Whole replays over memory: worked records, bad input, and sources and sinks that fail.
+mod generated;
+mod hostile;
+mod long;
+
 use crate::command::main_call;
 use std::process::Abort;
 use std::test::Fail;
@@ -33,16 +37,28 @@ impl Source for Drip {
     }
 }
 
-// What a run of the program ends with and writes.
+// What a run of the program with these words ends with and writes.
+fn run_words<R: Threads + Sync + AllocGlobal, S: Source>(
+    rt: &R,
+    words: &[&str],
+    source: &mut S,
+    sink: &mut MemSink,
+) -> Result<Status, Fail> {
+    let mut list = Vec::new(rt.alloc());
+    for word in words {
+        list.push(String::from_str(rt.alloc(), word)?)?;
+    }
+    let mut watchers: Vec<Box<dyn Watcher>> = Vec::new(rt.alloc());
+    Ok(main_call(rt, rt.alloc(), &list, source, sink, &mut watchers))
+}
+
 fn run<R: Threads + Sync + AllocGlobal, S: Source>(
     rt: &R,
     word: &str,
     source: &mut S,
     sink: &mut MemSink,
 ) -> Result<Status, Fail> {
-    let words = vec![in rt.alloc(); String::from_str(rt.alloc(), word)?]?;
-    let mut watchers: Vec<Box<dyn Watcher>> = Vec::new(rt.alloc());
-    Ok(main_call(rt, rt.alloc(), &words, source, sink, &mut watchers))
+    run_words(rt, &[word], source, sink)
 }
 
 // The bytes one after the other.
@@ -236,50 +252,67 @@ fn a_sink_that_fails_keeps_the_lines_before(rt: HostRuntime) -> Result<(), Fail>
 
 #[test]
 fn a_source_that_fails_leaves_the_lines_read(rt: HostRuntime) -> Result<(), Fail> {
-    let trace = joined(&rt, &[SETTING, b"0 put 7 70\n0 run\nend\n"])?;
-    let length = trace.len() as u64;
-    for call in 1..=length + 1 {
+    // Each part of the trace, and what is printed once it was read.
+    let parts: [(&[u8], &[u8]); 4] = [
+        (SETTING, HEADER),
+        (b"0 put 7 70\n", b"0 begin put 7 70\n"),
+        (
+            b"0 run\n",
+            b"0 reserve i0.0 1 1\n0 null 0 4\n0 give 0 1\n0 link b0 0\n0 put 0 1 7 70\n0 reserve i0.0 none\n0 end 13 done 1 still\n",
+        ),
+        (b"end\n", b""),
+    ];
+    let mut trace = Vec::new(rt.alloc());
+    for (lines, _) in parts {
+        trace.extend_from_slice(lines)?;
+    }
+    for read in 0..=trace.len() {
+        let mut want = Vec::new(rt.alloc());
+        let mut end: usize = 0;
+        for (lines, printed) in parts {
+            end = end.saturating_add(lines.len());
+            if end <= read {
+                want.extend_from_slice(printed)?;
+            }
+        }
         let mut source = Drip {
-            inner: MemSource::new(rt.alloc(), &trace, &[call])?,
+            inner: MemSource::new(rt.alloc(), &trace, &[(read as u64).saturating_add(1)])?,
         };
         let mut sink = MemSink::new(rt.alloc(), 4096, &[])?;
-        assert_eq!(rt;
-            run(&rt, "replay", &mut source, &mut sink)?,
-            Status::ReadFault,
-            "at call {call}"
-        );
+        let status = run(&rt, "replay", &mut source, &mut sink)?;
+        assert_eq!(rt; status, Status::ReadFault, "after {read} bytes");
+        assert_eq!(rt; sink.bytes(), want.as_slice(), "after {read} bytes");
     }
-    let mut source = MemSource::new(rt.alloc(), &trace, &[1])?;
-    let mut sink = MemSink::new(rt.alloc(), 4096, &[])?;
-    assert_eq!(rt;
-        run(&rt, "replay", &mut source, &mut sink)?,
-        Status::ReadFault
-    );
-    assert_eq!(rt; sink.bytes(), b"".as_slice());
-    let mut source = MemSource::new(rt.alloc(), &trace, &[2])?;
-    let mut sink = MemSink::new(rt.alloc(), 4096, &[])?;
-    assert_eq!(rt;
-        run(&rt, "replay", &mut source, &mut sink)?,
-        Status::ReadFault
-    );
-    let record = joined(
-        &rt,
-        &[
-            HEADER,
-            b"0 begin put 7 70\n0 reserve i0.0 1 1\n0 null 0 4\n0 give 0 1\n0 link b0 0\n0 put 0 1 7 70\n0 reserve i0.0 none\n0 end 13 done 1 still\n",
-        ],
-    )?;
-    assert_eq!(rt; sink.bytes(), record.as_slice());
     Ok(())
 }
 
 #[test]
 fn other_words_are_answered_by_the_usage_line(rt: HostRuntime) -> Result<(), Fail> {
-    for word in ["replays", "--help", "", "check"] {
+    let lists: [&[&str]; 13] = [
+        &[],
+        &[""],
+        &["replays"],
+        &["--help"],
+        &["-h"],
+        &["check"],
+        &["replay", "replay"],
+        &["gen"],
+        &["gen", "5"],
+        &["gen", "5", "100001"],
+        &["gen", "05", "1"],
+        &["gen", "-1", "5"],
+        &["gen", "1", "5", "2"],
+    ];
+    for (i, words) in lists.iter().enumerate() {
         let mut source = MemSource::new(rt.alloc(), b"wfe 1\n", &[1])?;
         let mut sink = MemSink::new(rt.alloc(), 4096, &[])?;
-        assert_eq!(rt; run(&rt, word, &mut source, &mut sink)?, Status::Usage);
-        assert_eq!(rt; sink.bytes(), b"usage: wfe replay\n".as_slice());
+        let status = run_words(&rt, words, &mut source, &mut sink)?;
+        assert_eq!(rt; status, Status::Usage, "of list {i}");
+        assert_eq!(rt;
+            sink.bytes(),
+            b"usage: wfe replay | gen SEED N\n".as_slice(),
+            "of list {i}"
+        );
     }
     let mut source = MemSource::new(rt.alloc(), b"", &[])?;
     let mut sink = MemSink::new(rt.alloc(), 4096, &[1])?;

@@ -1,11 +1,9 @@
 -- Lines one after the other: what is written so far, and what is left.
 use Rattle.std.proofs.Common.{List, [], ap, append-nil, append_assoc, arith, drop, get_or, length, refl, subst, suc, sym, ℕ, ◌+◌, ◌++◌, ◌-◌, ◌<◌, ◌∙◌, ◌≡◌}
 use Rattle.std.proofs.lemmas.List.{drop_more}
-use Rattle.std.proofs.Math.Seq.{drop-length}
-use Rattle.wfe_outside.specs.declared.watcher.WatchRow.{WatchRow}
 use Rattle.wfe_trace.specs.Record.{count_line}
 use Rattle.wfe_generate.specs.declared.summary.Summary.{Summary}
-use Rattle.wfe_generate.specs.Report.{count_lines, named, report, row_line, row_lines, summary_lines, watch_lines}
+use Rattle.wfe_generate.specs.Report.{count_lines, named, report, summary_lines}
 use Rattle.std.specs.Prelude.{Err, Ok, codes, OnErr, OnOk, Option, Result}
 use Rattle.std.specs.Io.KnownBytes.{Appends}
 use Rattle.std.proofs.KnownBytes.{Appends-nil, Appends-trans}
@@ -43,25 +41,6 @@ counts_more s place name number within e =
 
 pub counts_over : (s : Summary) (place : ℕ) → place ≡ 10 → count_lines (drop place (named s)) ≡ []
 counts_over s place e = ap (λ (n : ℕ). count_lines (drop n (named s))) e
-
--- the next row of a watcher
-pub rows_more : (place : ℕ) (shows : ℕ → WatchRow) (row most : ℕ) → row < most → row_lines place shows row (most - row) ≡ row_line place (shows row) ++ row_lines place shows (row + 1) (most - (row + 1))
-rows_more place shows row most within = ap (row_lines place shows row) (let next : most - row ≡ suc (most - (row + 1)) = omega (within, arith) in next)
-
-pub rows_over : (place : ℕ) (shows : ℕ → WatchRow) (row most : ℕ) → row ≡ most → row_lines place shows row (most - row) ≡ []
-rows_over place shows row most e = ap (row_lines place shows row) (let none : most - row ≡ 0 = omega (e, arith) in none)
-
--- the next watcher
-pub watchers_more : {W : Type 0} (shown : W → ℕ) (shows : W → ℕ → WatchRow) (place : ℕ) (ws : List W) (w : W) → place < length ws → get_or ws place w ≡ w
-    → watch_lines shown shows place (drop place ws) ≡ row_lines place (shows w) 0 (shown w) ++ watch_lines shown shows (place + 1) (drop (place + 1) ws)
-watchers_more shown shows place ws w within e =
-    ap (watch_lines shown shows place) (drop_more ws place w within) ∙ ap (λ v. row_lines place (shows v) 0 (shown v) ++ watch_lines shown shows (place + 1) (drop (place + 1) ws)) e
-
-pub watchers_over : {W : Type 0} (shown : W → ℕ) (shows : W → ℕ → WatchRow) (place : ℕ) (ws : List W) → place ≡ length ws → watch_lines shown shows place (drop place ws) ≡ []
-watchers_over shown shows place ws e = ap (watch_lines shown shows place) (ap (λ (n : ℕ). drop n ws) e ∙ drop-length ws)
-
-pub rows_said : (place : ℕ) (shows : ℕ → WatchRow) (row most : ℕ) (said : WatchRow) → row < most → said ≡ shows row → row_lines place shows row (most - row) ≡ row_line place said ++ row_lines place shows (row + 1) (most - (row + 1))
-rows_said place shows row most said within e = rows_more place shows row most within ∙ ap (λ (r : WatchRow). row_line place r ++ row_lines place shows (row + 1) (most - (row + 1))) (sym e)
 
 -- some of the first part of a report, some of its second, all of it, or some of its last
 pub report_first : (a d : Option (List ℕ)) (s : Summary) (watched : List ℕ) → AppendsSome a d (summary_lines s) → AppendsSome a d (report s watched)

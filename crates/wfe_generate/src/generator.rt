@@ -8,9 +8,9 @@ ghost use Rattle.wfe_generate.specs.Tally.{bare, lines_told};
 ghost use Rattle.wfe_generate.specs.Turns.{generated, trace_of};
 ghost use Rattle.wfe_server.specs.Given.{IsTaken};
 ghost use Rattle.wfe_generate.specs.Generated.{Generates, entries_of};
-ghost use Rattle.wfe_generate.specs.Report.{watch_lines};
 ghost use Rattle.wfe_outside.specs.Faults.{Rose};
 ghost use Rattle.wfe_server.specs.Sunk.{outside};
+ghost use Rattle.wfe_server.specs.Watched.{watch_text};
 
 use crate::report::put_report;
 use crate::summary::Summary;
@@ -50,7 +50,7 @@ pub fn generate<E: Engine, K: Sink>(
     sink: &mut K,
     watchers: &mut Vec<Box<dyn Watcher>>,
 ) -> Status
-    ensures generates { Generates stands result seed turns (watch_lines shown shows 0 watchers.new.items) (outside (K.written sink.old) watchers.old.items) (outside (K.written sink.new) watchers.new.items) }
+    ensures generates { Generates stands result seed turns (watch_text shown shows watchers.new.items) (outside (K.written sink.old) watchers.old.items) (outside (K.written sink.new) watchers.new.items) }
     ensures later { K.faults sink.old ≤ K.faults sink.new }
     ensures cause { result ≡ Status.WriteFault → Rose (K.faults sink.old) (K.faults sink.new) }
 {

@@ -1,15 +1,17 @@
 // The lines of a summary, to a sink.
-ghost use Rattle.std.specs.Prelude.{◌≡◌, ◌<◌, ◌≤◌, [], codes, get_or, length, OnOk, OnErr};
+ghost use Rattle.std.specs.Prelude.{◌≡◌, ◌≤◌, [], codes, get_or, length, OnOk, OnErr};
 ghost use Rattle.std.specs.Io.KnownBytes.{Appends};
-ghost use Rattle.wfe_generate.specs.Report.{summary_lines, named, report, row_line, row_lines, watch_lines};
+ghost use Rattle.wfe_generate.specs.Report.{summary_lines, named, report};
+ghost use Rattle.wfe_server.specs.Watched.{watch_text};
 ghost use Rattle.wfe_outside.specs.Faults.{Rose};
 ghost use Rattle.wfe_telling.specs.Some.{AppendsSome};
 ghost use Rattle.wfe_trace.specs.Record.{count_line};
 
 use crate::summary::Summary;
-use wfe_outside::{Failed, Sink, WatchRow, Watcher};
+use wfe_outside::{Failed, Sink, Watcher};
+use wfe_server::put_watched;
 use wfe_telling::{put_line, write_all};
-use wfe_trace::{Line, print_count, print_watch};
+use wfe_trace::{Line, print_count};
 
 // A name and its number, by the place of its line.
 fn count_at(summary: &Summary, place: usize) -> (&'static [u8], u64)
@@ -58,71 +60,18 @@ fn put_counts<K: Sink>(summary: &Summary, sink: &mut K) -> Result<(), Failed>
     Ok(())
 }
 
-// Writes the line of a row of the watcher at a place.
-fn put_row<K: Sink>(place: u64, row: WatchRow, sink: &mut K) -> Result<(), Failed>
-    ensures wrote { OnOk result (Appends (K.written sink.old) (K.written sink.new) (row_line place row)) }
-    ensures some { OnErr result (AppendsSome (K.written sink.old) (K.written sink.new) (row_line place row)) }
-    ensures later { K.faults sink.old ≤ K.faults sink.new }
-    ensures cause { OnErr result (Rose (K.faults sink.old) (K.faults sink.new)) }
-{
-    let mut line = Line::new();
-    print_watch(place, row.a, row.b, row.c, &mut line);
-    put_line(sink, &line)
-}
-
-// How many rows a watcher shows.
-fn rows_of(watcher: &Box<dyn Watcher>) -> u64
-    ensures { result ≡ shown watcher.now }
-{
-    watcher.rows()
-}
-
-// A row of a watcher.
-fn row_of(watcher: &Box<dyn Watcher>, row: u64) -> WatchRow
-    requires { row < shown watcher.now }
-    ensures { result ≡ shows watcher.now row }
-{
-    watcher.row(row)
-}
-
-// Writes the lines of the watcher at a place.
-fn put_rows<K: Sink>(place: u64, watcher: &Box<dyn Watcher>, sink: &mut K) -> Result<(), Failed>
-    ensures wrote { OnOk result (Appends (K.written sink.old) (K.written sink.new) (row_lines place (shows watcher.now) 0 (shown watcher.now))) }
-    ensures some { OnErr result (AppendsSome (K.written sink.old) (K.written sink.new) (row_lines place (shows watcher.now) 0 (shown watcher.now))) }
-    ensures later { K.faults sink.old ≤ K.faults sink.new }
-    ensures cause { OnErr result (Rose (K.faults sink.old) (K.faults sink.new)) }
-{
-    for row in 0..rows_of(watcher) {
-        put_row(place, row_of(watcher, row), sink)?;
-    }
-    Ok(())
-}
-
-// Writes the lines of the watchers.
-fn put_watchers<K: Sink>(watchers: &[Box<dyn Watcher>], sink: &mut K) -> Result<(), Failed>
-    ensures wrote { OnOk result (Appends (K.written sink.old) (K.written sink.new) (watch_lines shown shows 0 watchers.now)) }
-    ensures some { OnErr result (AppendsSome (K.written sink.old) (K.written sink.new) (watch_lines shown shows 0 watchers.now)) }
-    ensures later { K.faults sink.old ≤ K.faults sink.new }
-    ensures cause { OnErr result (Rose (K.faults sink.old) (K.faults sink.new)) }
-{
-    for place in 0..watchers.len() {
-        put_rows(place as u64, &watchers[place], sink)?;
-    }
-    Ok(())
-}
-
 /// Writes the numbers, the watchers' rows, and the last line.
 pub fn put_report<K: Sink>(
     summary: &Summary,
     watchers: &[Box<dyn Watcher>],
     sink: &mut K,
 ) -> Result<(), Failed>
-    ensures wrote { OnOk result (Appends (K.written sink.old) (K.written sink.new) (report summary.now (watch_lines shown shows 0 watchers.now))) }
-    ensures some { OnErr result (AppendsSome (K.written sink.old) (K.written sink.new) (report summary.now (watch_lines shown shows 0 watchers.now))) }
+    ensures wrote { OnOk result (Appends (K.written sink.old) (K.written sink.new) (report summary.now (watch_text shown shows watchers.now))) }
+    ensures some { OnErr result (AppendsSome (K.written sink.old) (K.written sink.new) (report summary.now (watch_text shown shows watchers.now))) }
     ensures later { K.faults sink.old ≤ K.faults sink.new }
     ensures cause { OnErr result (Rose (K.faults sink.old) (K.faults sink.new)) }
 {
     put_counts(summary, sink)?;
-    put_watchers(watchers, sink)?;
+    put_watched(sink, watchers)?;
     write_all(sink, b"done\n")
 }

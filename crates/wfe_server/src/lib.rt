@@ -8,3 +8,4 @@ mod stop;
 mod watched;
 
 pub use serve::replay;
+pub use watched::put_watched;
