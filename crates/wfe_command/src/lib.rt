@@ -4,3 +4,6 @@
 mod job;
 
 pub use job::{Job, job_of};
+
+#[cfg(test)]
+mod tests;
