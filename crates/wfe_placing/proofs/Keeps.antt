@@ -65,7 +65,7 @@ begin_other : (k i : ℕ) (busy : Bool) (h : Hand) (call : Call) (p : Past) → 
 begin_other k i busy h call p e c = rw e c
 
 -- the end of a call
-tells_both : (i : ℕ) (xs ys : List Event) (p : Past) → tells_of p i (xs ++ ys) ≡ tells_of (tells_of p i xs) i ys
+pub tells_both : (i : ℕ) (xs ys : List Event) (p : Past) → tells_of p i (xs ++ ys) ≡ tells_of (tells_of p i xs) i ys
 tells_both i [] ys p = refl
 tells_both i (x ∷ xs) ys p = tells_both i xs ys (Then p i x)
 

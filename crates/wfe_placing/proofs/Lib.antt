@@ -3,6 +3,7 @@ pub mod Fronts
 pub mod Keeps
 pub mod Marks
 pub mod Moved
+pub mod Ordered
 pub mod Shapes
 pub mod Sums
 pub mod Tells

@@ -129,7 +129,7 @@ pub record Agrees (h : Hand) (busy : Bool) (given : Given) (changed loud : Bool)
   pub counts : retires + length (old_of h) ≡ said
 
 -- a list of passing events, and a change of a bucket
-passing : {X : Type 0} (next : Event → X → X) → ((event : Event) (x : X) → is_passing event ≡ true → next event x ≡ x) → (told : List Event) (x : X) → all_of is_passing told ≡ true → along next told x ≡ x
+pub passing : {X : Type 0} (next : Event → X → X) → ((event : Event) (x : X) → is_passing event ≡ true → next event x ≡ x) → (told : List Event) (x : X) → all_of is_passing told ≡ true → along next told x ≡ x
 passing next q [] x h = refl
 passing next q (event ∷ told) x h = ap (along next told) (q event x (first_of (is_passing event) (all_of is_passing told) h)) ∙ passing next q told x (rest_of (is_passing event) (all_of is_passing told) h)
 

@@ -3,6 +3,7 @@
 //! carries a theorem.
 #![tactic(auto)]
 
+ghost use Rattle.wfe_placing.specs.Order.{RecordsKeepOrder};
 ghost use Rattle.wfe_placing.specs.Placing.{RecordsPlaceRows};
 ghost use Rattle.wfe_placing.specs.Retiring.{RecordsCountRetires, RecordsRefuse, RecordsRetireCuts};
 
@@ -11,6 +12,14 @@ ghost use Rattle.wfe_placing.specs.Retiring.{RecordsCountRetires, RecordsRefuse,
 /// has not linked it before.
 pub fn records_place_rows()
     ensures { RecordsPlaceRows }
+{}
+
+/// After a link to a bucket's root the next entries, of the same seat, are the cut of the row that the
+/// root had, if it had one, and a change of the bucket; after a link to a next link a value queued;
+/// after a link to the head the cut of the row that the head had, and a value taken. Cuts and changes
+/// come nowhere else.
+pub fn records_keep_order()
+    ensures { RecordsKeepOrder }
 {}
 
 /// A row is retired only by a call that has cut it and not retired it since, and where a call ends
