@@ -24,6 +24,7 @@ use Rattle.wfe_rows.specs.Queue.{Line}
 use Rattle.wfe_rows.specs.Rows.{Hand, RowMove, View}
 use Rattle.wfe_rows.specs.Rows.Hand.{Empty}
 use Rattle.wfe_rows.specs.Rows.RowMove.{Claims}
+use Rattle.wfe_rows.proofs.Went.{same_number}
 use Rattle.wfe_laws.specs.Record.{Past, Each, tells_of}
 use Rattle.wfe_laws.specs.Record.Past.{Then}
 use Rattle.wfe_laws.proofs.Entries.{entries_of_each}
@@ -55,7 +56,7 @@ begun_none : (busy : Bool) → Agrees Empty busy Without false false [] 0 0
 begun_none busy = record { holds = refl; placed = λ b q. absurd (cc); heard = λ q. absurd (cc); cut = refl; counts = refl }
 
 begin_own : (i : ℕ) (busy : Bool) (h : Hand) (call : Call) (p : Past) → h ≡ Empty → ComesTo h busy i (Then p i (events.Begin call))
-begin_own i busy h call p e = at_seat (i == i) (grind (arith, nat_tests))
+begin_own i busy h call p e = at_seat (i == i) (same_number i)
   where
     at_seat : (same : Bool) → same ≡ true → Agrees h busy (if same then Without else given_of i p) (if same then false else changed_of i p) (if same then false else seen loud_by false i p) (if same then [] else cuts_of i p) (if same then 0 else retires_of i p) (if same then 0 else seen said_by 0 i p)
     at_seat true s = subst (λ (x : Hand). Agrees x busy Without false false [] 0 0) (sym e) (begun_none busy)

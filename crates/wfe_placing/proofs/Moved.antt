@@ -11,6 +11,7 @@ use Rattle.wfe_core.specs.Memory.{upd}
 use Rattle.wfe_rows.specs.Rows.{Hand, RowMove, View, made}
 use Rattle.wfe_rows.specs.Rows.Hand.{Empty, New, Taken, Old, Known, Dated}
 use Rattle.wfe_rows.specs.Rows.RowMove.{Stays, Claims, Bears, Drops, Links, Replaces, Appends, Pops, Reads, Seals, Lists, Returns}
+use Rattle.wfe_rows.proofs.Went.{same_number}
 use Rattle.wfe_once.proofs.Along.{along}
 use Rattle.wfe_reuse.proofs.Passes.{first_of, rest_of}
 use Rattle.wfe_lawful.proofs.Each.{all_of}
@@ -34,11 +35,8 @@ hand_after (Seals slot birth retire) h = Dated slot birth retire
 hand_after (Lists slot birth retire) h = Empty
 hand_after (Returns slot) h = h
 
-same_seat : (i : ℕ) → (i == i) ≡ true
-same_seat i = grind (arith, nat_tests)
-
 upd_here : (f : ℕ → Hand) (i : ℕ) (x : Hand) → upd f i x i ≡ x
-upd_here f i x = let e : (i == i) ≡ true = same_seat i in rw e refl
+upd_here f i x = let e : (i == i) ≡ true = same_number i in rw e refl
 
 upd_there : (f : ℕ → Hand) (i k : ℕ) (x : Hand) → (k == i) ≡ false → upd f i x k ≡ f k
 upd_there f i k x e = rw e refl
@@ -279,7 +277,7 @@ module _ (h : Hand) (busy : Bool) (given : Given) (changed loud : Bool) (cuts : 
     holds = a.holds ∙ ap new_of e;
     placed = λ b q. a.placed refl q;
     heard = a.heard;
-    cut = ap (without_one slot) (a.cut ∙ ap old_of e) ∙ gone (slot == slot) (same_seat slot);
+    cut = ap (without_one slot) (a.cut ∙ ap old_of e) ∙ gone (slot == slot) (same_number slot);
     counts = retired_sum retires said (sum_of h (Dated slot birth retire) retires said e a.counts);
   } where
     gone : (same : Bool) → same ≡ true → (if same then [] else slot ∷ []) ≡ []
@@ -321,10 +319,10 @@ without_placed Without a b = refl
 without_placed (InHand slot) a b = absurd (cc)
 without_placed Placed a b = absurd (cc)
 
-holds_slot : (given : Given) (slot : ℕ) → in_hand_of given ≡ Some slot → is_in_hand slot given ≡ true
-holds_slot Without slot e = absurd (cc)
-holds_slot (InHand other) slot e = let q : other ≡ slot = cc in grind (arith, nat_tests)
-holds_slot Placed slot e = absurd (cc)
+is_held : (given : Given) (slot : ℕ) → in_hand_of given ≡ Some slot → is_in_hand slot given ≡ true
+is_held Without slot e = absurd (cc)
+is_held (InHand other) slot e = let q : other ≡ slot = cc in grind (arith, nat_tests)
+is_held Placed slot e = absurd (cc)
 
 passing_right : {X : Type 0} (next : Event → X → X) (right : Event → X → Bool) → ((event : Event) (x : X) → is_passing event ≡ true → right event x ≡ true) → (told : List Event) (x : X) → all_of is_passing told ≡ true → AllRight next right told x
 passing_right next right q [] x h = tt
@@ -346,12 +344,12 @@ pub places_moved : (phase : Phase) (post : Post) (found : ℕ) (m : RowMove) (to
 places_moved phase post found Stays told h given s f a w = passing_right given_by places_right places_passing told given s
 places_moved phase post found (Claims slot) told h given s f a w = subst (λ (x : List Event). AllRight given_by places_right x given) (sym s.is) (without_placed given (a ∙ ap new_of f) (w slot refl), tt)
 places_moved phase post found (Bears slot birth) told h given s f a w = subst (λ (x : List Event). AllRight given_by places_right x given) (sym s) tt
-places_moved phase post found (Drops slot) told h given s f a w = subst (λ (x : List Event). AllRight given_by places_right x given) (sym s.is) (holds_slot given slot (a ∙ ap new_of f), tt)
+places_moved phase post found (Drops slot) told h given s f a w = subst (λ (x : List Event). AllRight given_by places_right x given) (sym s.is) (is_held given slot (a ∙ ap new_of f), tt)
 places_moved phase post found (Links bucket slot) told h given s f a w =
-    subst (λ (x : List Event). AllRight given_by places_right x given) (sym s.is) (holds_slot given slot (a ∙ ap new_of f), (places_change bucket s.change Placed s.of, tt))
+    subst (λ (x : List Event). AllRight given_by places_right x given) (sym s.is) (is_held given slot (a ∙ ap new_of f), (places_change bucket s.change Placed s.of, tt))
 places_moved phase post found (Replaces bucket slot old) told h given s f a w =
-    subst (λ (x : List Event). AllRight given_by places_right x given) (sym s.is) (holds_slot given slot (a ∙ ap new_of f), (refl, (places_change bucket s.change Placed s.of, tt)))
-places_moved phase post found (Appends slot) told h given s f a w = subst (λ (x : List Event). AllRight given_by places_right x given) (sym s.is) (holds_slot given slot (a ∙ ap new_of f), (refl, tt))
+    subst (λ (x : List Event). AllRight given_by places_right x given) (sym s.is) (is_held given slot (a ∙ ap new_of f), (refl, (places_change bucket s.change Placed s.of, tt)))
+places_moved phase post found (Appends slot) told h given s f a w = subst (λ (x : List Event). AllRight given_by places_right x given) (sym s.is) (is_held given slot (a ∙ ap new_of f), (refl, tt))
 places_moved phase post found (Pops slot next) told h given s f a w = subst (λ (x : List Event). AllRight given_by places_right x given) (sym s.is) (refl, (refl, (refl, tt)))
 places_moved phase post found (Reads slot birth) told h given s f a w = subst (λ (x : List Event). AllRight given_by places_right x given) (sym s) tt
 places_moved phase post found (Seals slot birth retire) told h given s f a w = subst (λ (x : List Event). AllRight given_by places_right x given) (sym s) tt

@@ -23,6 +23,7 @@ use Rattle.wfe_rows.specs.Chain.{first_line, line_after}
 use Rattle.wfe_rows.specs.Queue.{Line}
 use Rattle.wfe_rows.specs.Rows.{RowMove, View, made}
 use Rattle.wfe_rows.specs.Rows.RowMove.{Stays, Claims, Bears, Drops, Links, Replaces, Appends, Pops, Reads, Seals, Lists, Returns}
+use Rattle.wfe_rows.proofs.Went.{same_number}
 use Rattle.wfe_laws.specs.Record.{Past, Each, tells_of}
 use Rattle.wfe_laws.specs.Record.Past.{Then}
 use Rattle.wfe_laws.proofs.Entries.{entries_of_each}
@@ -59,7 +60,7 @@ whole_tells : {X : Type 0} (next : Event → X → X) (f : Past → X) (i : ℕ)
 whole_tells next f i [] p q = refl
 whole_tells next f i (event ∷ told) p q = whole_tells next f i told (Then p i event) q ∙ ap (along next told) (q p event)
 
-whole_comes : {X : Type 0} (next : Event → X → X) (f : Past → X) (w : World) (i : ℕ) (p : Past) → ((q : Past) (event : Event) → f (Then q i event) ≡ next event (f q)) → ((event : Event) (x : X) → is_marked event ≡ false → next event x ≡ x) → ((post : Post) (outcome : CallOutcome) (x : X) → along next (told_end post outcome) x ≡ x)
+pub whole_comes : {X : Type 0} (next : Event → X → X) (f : Past → X) (w : World) (i : ℕ) (p : Past) → ((q : Past) (event : Event) → f (Then q i event) ≡ next event (f q)) → ((event : Event) (x : X) → is_marked event ≡ false → next event x ≡ x) → ((post : Post) (outcome : CallOutcome) (x : X) → along next (told_end post outcome) x ≡ x)
     → f (tells_of p i (told_in w i)) ≡ along next (marks (w.seat i).phase (w.seat i).post (finds w i)) (f p)
 whole_comes next f w i p h q e =
     let t : CallTurn = turn (w.seat i) (finds w i) in
@@ -146,7 +147,7 @@ head_moved phase post found i v (Seals slot birth retire) told x s h = at_head t
 head_moved phase post found i v (Lists slot birth retire) told x s h = at_head told _ x v.head s h
 head_moved phase post found i v (Returns slot) told x s h = at_head told _ x v.head s h
 
-roots_step : (slots : ℕ) (w : World) (i : ℕ) (v : View) (p : Past) → Agree w v → Roots slots v p → Roots slots (rows_after w i v) (tells_of p i (told_in w i))
+pub roots_step : (slots : ℕ) (w : World) (i : ℕ) (v : View) (p : Past) → Agree w v → Roots slots v p → Roots slots (rows_after w i v) (tells_of p i (told_in w i))
 roots_step slots w i v p a r = record {
   buckets = λ b.
       ap word_of (whole_comes (bucket_by b) (bucket_at b) w i p (λ q event. refl) (bucket_still b) (bucket_end b))
@@ -215,9 +216,6 @@ plain_settles slots i (event ∷ told) p h s =
     plain_settles slots i told (Then p i event) (rest_of (is_plain event) (all_of is_plain told) h)
     (record { each = (free_met (due_at slots p) i event s.none (plain_free event q), s.each); none = plain_due slots p i event q })
 
-same_number : (n : ℕ) → (n == n) ≡ true
-same_number n = grind (arith, nat_tests)
-
 change_met : (i bucket : ℕ) (change : Event) → is_change_of bucket change ≡ true → changes_due i bucket i change ≡ true
 change_met i bucket (events.Put other version key value) h = both (i == i) (other == bucket) (same_number i) h
 change_met i bucket (events.Removed other version key) h = both (i == i) (other == bucket) (same_number i) h
@@ -229,11 +227,11 @@ change_due slots p i bucket (events.Removed other version key) h = refl
 change_due slots p i bucket change h = absurd (cc)
 
 -- a root that leads nowhere, and one that leads to a row
-no_row : (x : Option ℕ) → word_of x ≡ 0 → x ≡ None
+pub no_row : (x : Option ℕ) → word_of x ≡ 0 → x ≡ None
 no_row None h = refl
 no_row (Some slot) h = absurd (omega (h, arith))
 
-one_row : (x : Option ℕ) (slot : ℕ) → word_of x ≡ slot + 1 → x ≡ Some slot
+pub one_row : (x : Option ℕ) (slot : ℕ) → word_of x ≡ slot + 1 → x ≡ Some slot
 one_row None slot h = absurd (omega (h, arith))
 one_row (Some other) slot h = let e : other ≡ slot = omega (h, arith) in ap Some e
 
@@ -279,7 +277,7 @@ pops_settle slots i slot next number value p s e =
 finds_head : (w : World) (i : ℕ) (v : View) → Agree w v → FindsAt (phase_move (w.seat i).phase (w.seat i).post) Head → finds w i ≡ v.head
 finds_head w i v a f = f.word (w.mem (memory.place_in (phase_move (w.seat i).phase (w.seat i).post))) ∙ ap w.mem f.place ∙ a.words.head
 
-head_is : (head slot found x : ℕ) → x + 1 ≡ head → found ≡ head → found ≡ slot + 1 → x ≡ slot
+pub head_is : (head slot found x : ℕ) → x + 1 ≡ head → found ≡ head → found ≡ slot + 1 → x ≡ slot
 head_is head slot found x a b c = omega (a, b, c, arith)
 
 at_told : (slots i : ℕ) (told other : List Event) (p : Past) → told ≡ other → Settled slots (tells_of p i other) → Settled slots (tells_of p i told)

@@ -52,7 +52,7 @@ HandFits (Lists slot birth retire) h = h ≡ Dated slot birth retire
 HandFits (Returns slot) h = Unit {0}
 
 -- a machine that handles rows has its row in hand
-why_hand : (why : Why) (b : Base) → runs_right why b ≡ true → is_plain b ≡ false → hand_why why b ≡ hand_base b
+pub why_hand : (why : Why) (b : Base) → runs_right why b ≡ true → is_plain b ≡ false → hand_why why b ≡ hand_base b
 why_hand (Fills task) b r h = refl
 why_hand (GivesUp answer) b r h = refl
 why_hand (Retires answer) b r h = refl
@@ -86,7 +86,7 @@ base_hand (Retire (LoadRetire slot birth)) found h e = e refl
 base_hand (Retire (StoreRetired slot birth retire)) found h e = e refl
 base_hand (Move at) found h e = tt
 
-holds_hand : (taken : Option ℕ) (slot : ℕ) → holds_slot taken slot ≡ true → hand_of taken ≡ Taken slot
+pub holds_hand : (taken : Option ℕ) (slot : ℕ) → holds_slot taken slot ≡ true → hand_of taken ≡ Taken slot
 holds_hand None slot h = absurd (cc)
 holds_hand (Some other) slot h = let e : other ≡ slot = grind (arith, nat_tests) in ap Taken e
 

@@ -1,19 +1,16 @@
 -- What all that a step tells makes of what a seat's events come to: only events of the rows, of links and of changes count.
-use Rattle.std.proofs.Common.{ℕ, ◌≡◌, Bool, true, false, List, [], ◌∷◌, refl, sym, ap, ◌∙◌, subst, arith}
-use Rattle.std.proofs.lemmas.Bool.Decides.{nat_tests}
+use Rattle.std.proofs.Common.{ℕ, ◌≡◌, Bool, true, false, List, [], ◌∷◌, refl, sym, ap, ◌∙◌, subst}
 use Rattle.std.specs.Prelude.{◌==◌}
 use Rattle.std.specs.List.{filter}
 use Rattle.wfe_defs.specs.declared.event.Event.{Event}
+use Rattle.wfe_rows.proofs.Went.{same_number}
 use Rattle.wfe_laws.specs.Record.{Past, Each, tells_of}
 use Rattle.wfe_laws.specs.Record.Past.{Then}
 use Rattle.wfe_once.proofs.Along.{along}
 use Rattle.wfe_placing.specs.Seen.{seen}
 
-same_seat : (i : ℕ) → (i == i) ≡ true
-same_seat i = grind (arith, nat_tests)
-
 pub seen_own : {X : Type 0} (next : Event → X → X) (first : X) (i : ℕ) (p : Past) (event : Event) → seen next first i (Then p i event) ≡ next event (seen next first i p)
-seen_own next first i p event = let e : (i == i) ≡ true = same_seat i in rw e refl
+seen_own next first i p event = let e : (i == i) ≡ true = same_number i in rw e refl
 
 pub seen_other : {X : Type 0} (next : Event → X → X) (first : X) (k i : ℕ) (p : Past) (event : Event) → (k == i) ≡ false → seen next first k (Then p i event) ≡ seen next first k p
 seen_other next first k i p event e = rw e refl

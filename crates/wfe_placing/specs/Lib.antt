@@ -1,3 +1,4 @@
+pub mod Nexts
 pub mod Order
 pub mod Placing
 pub mod Retiring

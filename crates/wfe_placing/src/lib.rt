@@ -3,6 +3,7 @@
 //! carries a theorem.
 #![tactic(auto)]
 
+ghost use Rattle.wfe_placing.specs.Nexts.{RecordsLinkNexts};
 ghost use Rattle.wfe_placing.specs.Order.{RecordsKeepOrder};
 ghost use Rattle.wfe_placing.specs.Placing.{RecordsPlaceRows};
 ghost use Rattle.wfe_placing.specs.Retiring.{RecordsCountRetires, RecordsRefuse, RecordsRetireCuts};
@@ -20,6 +21,12 @@ pub fn records_place_rows()
 /// come nowhere else.
 pub fn records_keep_order()
     ensures { RecordsKeepOrder }
+{}
+
+/// A row is linked at a next link only while that is null, what the head is linked to is the next row
+/// of the head's row, and what the tail is linked to is the next row of the tail's row.
+pub fn records_link_nexts()
+    ensures { RecordsLinkNexts }
 {}
 
 /// A row is retired only by a call that has cut it and not retired it since, and where a call ends
