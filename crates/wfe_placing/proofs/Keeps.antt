@@ -49,7 +49,7 @@ use Rattle.wfe_placing.proofs.Marks.{is_marked, marks, tells, marks_told}
 use Rattle.wfe_placing.proofs.Moved.{in_hand_of, new_of, old_of, is_placed, loud_by, said_by, Agrees, places_moved, retires_moved}
 use Rattle.wfe_placing.proofs.Shapes.{Claiming, Shape}
 use Rattle.wfe_placing.proofs.Sums.{given_kind, cuts_kind, along_both, said_told, loud_told, answer_said, answer_loud}
-use Rattle.wfe_placing.proofs.Tells.{AllRight, each_tells, right_kind, seen_tells}
+use Rattle.wfe_placing.proofs.Tells.{AllRight, each_tells, right_kind, seen_tells, tells_both}
 
 -- a call that begins has come to nothing yet
 begun_none : (busy : Bool) → Agrees Empty busy Without false false [] 0 0
@@ -66,10 +66,6 @@ begin_other : (k i : ℕ) (busy : Bool) (h : Hand) (call : Call) (p : Past) → 
 begin_other k i busy h call p e c = rw e c
 
 -- the end of a call
-pub tells_both : (i : ℕ) (xs ys : List Event) (p : Past) → tells_of p i (xs ++ ys) ≡ tells_of (tells_of p i xs) i ys
-tells_both i [] ys p = refl
-tells_both i (x ∷ xs) ys p = tells_both i xs ys (Then p i x)
-
 right_both : {X : Type 0} (next : Event → X → X) (right : Event → X → Bool) (xs ys : List Event) (x : X) → AllRight next right xs x → AllRight next right ys (along next xs x) → AllRight next right (xs ++ ys) x
 right_both next right [] ys x h k = k
 right_both next right (event ∷ xs) ys x h k = (h.0, right_both next right xs ys (next event x) h.1 k)

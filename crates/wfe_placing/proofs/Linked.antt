@@ -27,7 +27,7 @@ use Rattle.wfe_rows.specs.Agree.{first_rows, rows_after}
 use Rattle.wfe_rows.specs.Chain.{first_line, line_after}
 use Rattle.wfe_rows.specs.Hands.{hand_in, holds_slot, is_right, row_move}
 use Rattle.wfe_rows.specs.Queue.{Line, is_past, line_move, moved_line, Joins, Keeps}
-use Rattle.wfe_rows.specs.Rows.{Status, Hand, View, RowMove, made, names, status_in}
+use Rattle.wfe_rows.specs.Rows.{Status, Hand, View, RowMove, made, names, status_in, is_taken}
 use Rattle.wfe_rows.specs.Rows.Hand.{Taken}
 use Rattle.wfe_rows.specs.Rows.Status.{Free, Claimed, Born, Linked, InQueue, Cut, Sealed, Listed}
 use Rattle.wfe_rows.specs.Rows.RowMove.{Stays, Claims, Bears, Drops, Links, Replaces, Appends, Pops, Reads, Seals, Lists, Returns}
@@ -45,18 +45,18 @@ use Rattle.wfe_inv.proofs.Kept.{known_kept, asked_next}
 use Rattle.wfe_told.specs.Told.{row_events, birth_in, move_of}
 use Rattle.wfe_once.proofs.Along.{along}
 use Rattle.wfe_once.proofs.Keeps.{begins_right, steps_right, needs_of}
-use Rattle.wfe_reuse.proofs.Passes.{first_of, rest_of}
+use Rattle.wfe_reuse.proofs.Passes.{both, first_of, rest_of}
 use Rattle.wfe_lawful.proofs.Each.{all_of}
 use Rattle.wfe_lawful.proofs.Machines.{of_weaker}
-use Rattle.wfe_placing.specs.Nexts.{next_by, next_at, tail_by, tail_at, is_row, nexts_ok, RecordsLinkNexts}
+use Rattle.wfe_placing.specs.Nexts.{next_by, next_at, was_given_by, was_given, tail_by, tail_at, is_row, nexts_ok, RecordsLinkNexts}
 use Rattle.wfe_placing.specs.Order.{head_at}
 use Rattle.wfe_placing.proofs.Comes.{agree_of, shape_in}
 use Rattle.wfe_placing.proofs.Fronts.{linked_front, queued_front, taken_front}
-use Rattle.wfe_placing.proofs.Keeps.{tells_both}
 use Rattle.wfe_placing.proofs.Marks.{is_marked, is_common, marks, ordered, InOrder, tells, step_order}
 use Rattle.wfe_placing.proofs.Nexts.{Here, found_by, next_moved, tail_moved, joined_next, link_next, taken_next, linked_next, before_next}
 use Rattle.wfe_placing.proofs.Ordered.{word_of, Roots, roots_step, whole_comes, one_row, no_row, head_is}
 use Rattle.wfe_placing.proofs.Shapes.{Claiming, Shape, holds_hand}
+use Rattle.wfe_placing.proofs.Tells.{tells_both}
 
 -- a row that is given and not linked
 abbrev pub is_new : Status → Bool
@@ -99,6 +99,37 @@ new_before i v (Reads slot birth) s f h = inr h
 new_before i v (Seals slot birth retire) s f h = inr (new_by (v.status s) (Sealed i retire) (s == slot) refl h)
 new_before i v (Lists slot birth retire) s f h = inr (new_by (v.status s) (Listed i retire) (s == slot) refl h)
 new_before i v (Returns slot) s f h = inr (new_by (v.status s) Free (s == slot) refl h)
+
+-- a row that is taken after a move is claimed by it, or was taken
+taken_still : (v : View) (s slot : ℕ) (y : Status) (same : Bool) → (s == slot) ≡ same → is_taken (v.status slot) ≡ true → is_taken (if s == slot then y else v.status s) ≡ true → is_taken (v.status s) ≡ true
+taken_still v s slot y true e n h = let q : slot ≡ s = grind (arith, nat_tests) in subst (λ (t : ℕ). is_taken (v.status t) ≡ true) q n
+taken_still v s slot y false e n h = rw e at h
+
+taken_by : (x y : Status) (same : Bool) → is_taken y ≡ false → is_taken (if same then y else x) ≡ true → is_taken x ≡ true
+taken_by x y true e h = absurd (cc)
+taken_by x y false e h = h
+
+took_by : (x y : Status) (same : Bool) → is_taken (if same then y else x) ≡ true → (same ≡ true) ⊎ (is_taken x ≡ true)
+took_by x y true h = inl refl
+took_by x y false h = inr h
+
+taken_two : (v : View) (s slot old : ℕ) (y x : Status) (same : Bool) → (s == old) ≡ same → is_taken (v.status slot) ≡ true → is_taken (v.status old) ≡ true → is_taken (if s == old then y else if s == slot then x else v.status s) ≡ true → is_taken (v.status s) ≡ true
+taken_two v s slot old y x true e n m h = let q : old ≡ s = grind (arith, nat_tests) in subst (λ (t : ℕ). is_taken (v.status t) ≡ true) q m
+taken_two v s slot old y x false e n m h = taken_still v s slot x (s == slot) refl n (rw e at h)
+
+taken_before : (i : ℕ) (v : View) (m : RowMove) (s : ℕ) → MoveFits i v m → is_taken ((made i v m).status s) ≡ true → (claims m s ≡ true) ⊎ (is_taken (v.status s) ≡ true)
+taken_before i v Stays s f h = inr h
+taken_before i v (Claims slot) s f h = took_by (v.status s) (Claimed i) (s == slot) h
+taken_before i v (Bears slot birth) s f h = inr (taken_still v s slot (Born i) (s == slot) refl (ap is_taken f) h)
+taken_before i v (Drops slot) s f h = inr (taken_by (v.status s) Free (s == slot) refl h)
+taken_before i v (Links bucket slot) s f h = inr (taken_still v s slot (Linked bucket) (s == slot) refl (ap is_taken f) h)
+taken_before i v (Replaces bucket slot old) s f h = inr (taken_two v s slot old (Cut i) (Linked bucket) (s == old) refl (ap is_taken f.0) (ap is_taken f.1) h)
+taken_before i v (Appends slot) s f h = inr (taken_still v s slot InQueue (s == slot) refl (ap is_taken f) h)
+taken_before i v (Pops slot next) s f h = inr (taken_still v s slot (Cut i) (s == slot) refl (ap is_taken f) h)
+taken_before i v (Reads slot birth) s f h = inr h
+taken_before i v (Seals slot birth retire) s f h = inr (taken_still v s slot (Sealed i retire) (s == slot) refl (ap is_taken f) h)
+taken_before i v (Lists slot birth retire) s f h = inr (taken_still v s slot (Listed i retire) (s == slot) refl (ap is_taken f) h)
+taken_before i v (Returns slot) s f h = inr (taken_by (v.status s) Free (s == slot) refl h)
 
 -- a next link that leads nowhere stays so, unless a row is linked there
 rows_none : (s b : ℕ) (m : RowMove) → along (next_by s) (row_events b m) None ≡ None
@@ -178,6 +209,7 @@ pub record Nexts (slots : ℕ) (w : World) (v : View) (l : Line) (p : Past) : Ty
   pub tail : tail_at slots p + 1 ≡ w.mem Tail
   pub next : (s : ℕ) → l.lined s ≡ true → word_of (next_at s p) ≡ w.mem (Row s 0)
   pub fresh : (s : ℕ) → is_new (v.status s) ≡ true → next_at s p ≡ None
+  pub given : (s : ℕ) → is_taken (v.status s) ≡ true → was_given slots s p ≡ true
 
 here_of : (w : World) (i : ℕ) (v : View) (l : Line) (z : Asked) → Known w v l z → Here w.layout.config.slots i w.mem v l (w.seat i).phase (w.seat i).post (w.seat i).desk.list
 here_of w i v l z k =
@@ -275,6 +307,41 @@ next_step w i v l z p s k g (inr j) =
     ap word_of (next_comes w i p s)
     ∙ join_moved w.layout.config.slots i w.mem v l (w.seat i).phase (w.seat i).post (w.seat i).desk.list s (next_at s p) j.kept here j.at (ap word_of none ∙ sym null)
 
+-- a row that is taken was given
+turned_given : (slots s slot birth : ℕ) (x : Bool) → (s == slot) ≡ true → along (was_given_by s) (events.Give slot birth ∷ []) x ≡ true
+turned_given slots s slot birth x e = rw e refl
+
+given_keeps : (s : ℕ) (event : Event) (x : Bool) → x ≡ true → was_given_by s event x ≡ true
+given_keeps s (events.Give slot birth) x e = by (s == slot)
+  where
+    by : (same : Bool) → (if same then true else x) ≡ true
+    by true = refl
+    by false = e
+given_keeps s event x e = e
+
+given_along : (s : ℕ) (told : List Event) (x : Bool) → x ≡ true → along (was_given_by s) told x ≡ true
+given_along s [] x e = e
+given_along s (event ∷ told) x e = given_along s told (was_given_by s event x) (given_keeps s event x e)
+
+given_still : (s : ℕ) (event : Event) (x : Bool) → is_marked event ≡ false → was_given_by s event x ≡ x
+given_still s (events.Give slot birth) x h = absurd (cc)
+given_still s event x h = refl
+
+given_end : (s : ℕ) (post : Post) (outcome : CallOutcome) (x : Bool) → along (was_given_by s) (told_end post outcome) x ≡ x
+given_end s post (GoesOn phase) x = refl
+given_end s post (Answers answer) x = refl
+
+given_step : (slots : ℕ) (w : World) (i : ℕ) (v : View) (l : Line) (z : Asked) (p : Past) (s : ℕ) → Known w v l z → ((t : ℕ) → is_taken (v.status t) ≡ true → was_given slots t p ≡ true) → (claims (move_of w i) s ≡ true) ⊎ (is_taken (v.status s) ≡ true) → was_given slots s (tells_of p i (told_in w i)) ≡ true
+given_step slots w i v l z p s k f (inl c) =
+    let q = claims_slot (move_of w i) s c in
+    let h : Claiming (w.seat i).phase q.0 (marks (w.seat i).phase (w.seat i).post (finds w i)) =
+    subst (λ (m : RowMove). Shape (w.seat i).phase (w.seat i).post (finds w i) m (marks (w.seat i).phase (w.seat i).post (finds w i))) q.1 (shape_in w i v (agree_of w v l z k)) in
+    whole_comes (was_given_by s) (was_given slots s) w i p (λ r event. refl) (given_still s) (given_end s)
+    ∙ ap (λ (es : List Event). along (was_given_by s) es (was_given slots s p)) h.is ∙ turned_given slots s q.0 h.birth (was_given slots s p) q.2
+given_step slots w i v l z p s k f (inr n) =
+    whole_comes (was_given_by s) (was_given slots s) w i p (λ r event. refl) (given_still s) (given_end s)
+    ∙ given_along s (marks (w.seat i).phase (w.seat i).post (finds w i)) (was_given slots s p) (f s n)
+
 nexts_step : (w : World) (i : ℕ) (v : View) (l : Line) (z : Asked) (p : Past) → Known w v l z → Nexts w.layout.config.slots w v l p → Nexts w.layout.config.slots (step w i) (rows_after w i v) (line_after w i l) (tells_of p i (told_in w i))
 nexts_step w i v l z p k g = record {
   tail =
@@ -282,6 +349,7 @@ nexts_step w i v l z p k g = record {
       ∙ tail_moved w.layout.config.slots i w.mem v l (w.seat i).phase (w.seat i).post (w.seat i).desk.list (tail_at w.layout.config.slots p) (here_of w i v l z k) g.tail;
   next = λ s h. next_step w i v l z p s k g (lined_by (w.seat i).phase (finds w i) l s h);
   fresh = λ s h. fresh_step w i v l z p s k g.fresh (new_before i v (move_of w i) s ((here_of w i v l z k).fits) h);
+  given = λ s h. given_step w.layout.config.slots w i v l z p s k g.given (taken_before i v (move_of w i) s ((here_of w i v l z k).fits) h);
 }
 
 -- an event that links nothing of the queue
@@ -331,6 +399,14 @@ record Before (slots i : ℕ) (mem : Place → ℕ) (v : View) (l : Line) (p : P
   tail : tail_at slots p + 1 ≡ mem Tail
   head : head_at slots p + 1 ≡ mem Head
   next : (s : ℕ) → l.lined s ≡ true → word_of (next_at s p) ≡ mem (Row s 0)
+  given : (s : ℕ) → is_taken (v.status s) ≡ true → was_given slots s p ≡ true
+
+past_taken : (x : Status) → is_past x ≡ true → is_taken x ≡ true
+past_taken InQueue h = refl
+past_taken (Cut by) h = refl
+past_taken (Sealed by retire) h = refl
+past_taken (Listed by retire) h = refl
+past_taken x h = absurd (cc)
 
 follows : (slots i : ℕ) (mem : Place → ℕ) (v : View) (l : Line) (p : Past) (h m : ℕ) → Before slots i mem v l p → l.lined h ≡ true → mem (Row h 0) ≡ m + 1 → next_at h p ≡ Some m
 follows slots i mem v l p h m b e n = one_row (next_at h p) m (b.next h e ∙ n)
@@ -341,10 +417,11 @@ swings_each slots i mem v l p h m true q b e n g =
     let at : tail_at slots p ≡ h = head_is (mem Tail) h (mem Tail) (tail_at slots p) b.tail refl (number_of (mem Tail) (h + 1) q) in
     (row_is m (next_at (tail_at slots p) p) (ap (λ (s : ℕ). next_at s p) at ∙ follows slots i mem v l p h m b e n), g)
 
-joins_each : (slots i : ℕ) (mem : Place → ℕ) (v : View) (l : Line) (p : Past) (kept : EnqueueKept) (slot : ℕ) (same : Bool) → (mem (Row kept.tail 0) == 0) ≡ same → Before slots i mem v l p → l.lined kept.tail ≡ true → Each (nexts_ok slots) p → Each (nexts_ok slots) (tells_of p i (queued_front kept slot same))
-joins_each slots i mem v l p kept slot false q b e g = g
-joins_each slots i mem v l p kept slot true q b e g =
-    (refl, (none_is (next_at kept.tail p) (no_row (next_at kept.tail p) (b.next kept.tail e ∙ number_of (mem (Row kept.tail 0)) 0 q)), g))
+joins_each : (slots i : ℕ) (mem : Place → ℕ) (v : View) (l : Line) (p : Past) (kept : EnqueueKept) (slot : ℕ) (same : Bool) → (mem (Row kept.tail 0) == 0) ≡ same → Before slots i mem v l p → is_past (v.status kept.tail) ≡ true → l.lined kept.tail ≡ true → Each (nexts_ok slots) p → Each (nexts_ok slots) (tells_of p i (queued_front kept slot same))
+joins_each slots i mem v l p kept slot false q b t e g = g
+joins_each slots i mem v l p kept slot true q b t e g =
+    let null : is_none (next_at kept.tail p) ≡ true = none_is (next_at kept.tail p) (no_row (next_at kept.tail p) (b.next kept.tail e ∙ number_of (mem (Row kept.tail 0)) 0 q)) in
+    (refl, (both (was_given slots kept.tail p) (is_none (next_at kept.tail p)) (b.given kept.tail (past_taken (v.status kept.tail) t)) null, g))
 
 pops_each : (slots i : ℕ) (mem : Place → ℕ) (v : View) (l : Line) (p : Past) (head next number value : ℕ) (same : Bool) → (mem Head == head + 1) ≡ same → Before slots i mem v l p → l.lined head ≡ true → mem (Row head 0) ≡ next + 1 → Each (nexts_ok slots) p → Each (nexts_ok slots) (tells_of p i (taken_front head next number value same))
 pops_each slots i mem v l p head next number value false q b e n g = g
@@ -368,7 +445,7 @@ ordered_each slots table i mem v l (Works (Enqueuing kept LoadNext)) post list p
 ordered_each slots table i mem v l (Works (Enqueuing kept (PassTail next))) post list p k b g =
     swings_each slots i mem v l p kept.tail (next - 1) (mem Tail == kept.tail + 1) refl b (k.walks.stood kept.tail (same_number kept.tail))
     (k.walks.follows kept.tail next (both_same kept.tail next) ∙ sym (before_next next (k.walks.some kept.tail next (both_same kept.tail next)))) g
-ordered_each slots table i mem v l (Works (Enqueuing kept (ExchangeNext slot))) post list p k b g = joins_each slots i mem v l p kept slot (mem (Row kept.tail 0) == 0) refl b (k.walks.stood kept.tail (same_number kept.tail)) g
+ordered_each slots table i mem v l (Works (Enqueuing kept (ExchangeNext slot))) post list p k b g = joins_each slots i mem v l p kept slot (mem (Row kept.tail 0) == 0) refl b (k.line.passed kept.tail (k.walks.stood kept.tail (same_number kept.tail))) (k.walks.stood kept.tail (same_number kept.tail)) g
 ordered_each slots table i mem v l (Works (Enqueuing kept (ExchangeTail slot))) post list p k b g =
     swings_each slots i mem v l p kept.tail slot (mem Tail == kept.tail + 1) refl b (k.walks.stood kept.tail (same_number kept.tail)) (k.walks.follows kept.tail (slot + 1) (both_same kept.tail (slot + 1))) g
 ordered_each slots table i mem v l (Works (Dequeuing (LoadTail head))) post list p k b g = g
@@ -405,7 +482,7 @@ record LinksKept (layout : Layout) (made : Made) : Type 0 where
   law : Each (nexts_ok layout.config.slots) made.past
 
 begin_nexts : (slots : ℕ) (w u : World) (v : View) (l : Line) (p : Past) (i : ℕ) (call : Call) → u.mem Tail ≡ w.mem Tail → ((s : ℕ) → u.mem (Row s 0) ≡ w.mem (Row s 0)) → Nexts slots w v l p → Nexts slots u v l (Then p i (events.Begin call))
-begin_nexts slots w u v l p i call t n g = record { tail = g.tail ∙ sym t; next = λ s h. g.next s h ∙ sym (n s); fresh = g.fresh }
+begin_nexts slots w u v l p i call t n g = record { tail = g.tail ∙ sym t; next = λ s h. g.next s h ∙ sym (n s); fresh = g.fresh; given = g.given }
 
 begin_kept : (layout : Layout) (made : Made) (i : ℕ) (call : Call) → is_busy made.world i ≡ false → LinksKept layout made → LinksKept layout (done made (Begins i call))
 begin_kept layout made i call f g =
@@ -430,6 +507,7 @@ before_of layout made i k =
       tail = subst (λ (x : Layout). tail_at x.config.slots made.past + 1 ≡ made.world.mem Tail) k.table k.nexts.tail;
       head = k.roots.head ∙ sym a.words.head;
       next = k.nexts.next;
+      given = λ s. subst (λ (x : Layout). is_taken (k.rows.status s) ≡ true → was_given x.config.slots s made.past ≡ true) k.table (k.nexts.given s);
     }
 
 step_kept : (layout : Layout) (made : Made) (i : ℕ) → i < made.world.layout.config.seats → LinksKept layout made → LinksKept layout (done made (Steps i))
@@ -462,6 +540,11 @@ null_by : (word : ℕ) (there : Bool) → word ≡ (if there then word else word
 null_by word true = refl
 null_by word false = refl
 
+-- and no row is taken but the dummy
+first_given : (s slots : ℕ) (same : Bool) → is_taken (if same then InQueue else Free) ≡ true → same ≡ true
+first_given s slots true h = refl
+first_given s slots false h = h
+
 first_kept : (layout : Layout) → is_valid layout ≡ true → LinksKept layout (first_made layout)
 first_kept layout d =
     let q = requests_start layout d in
@@ -472,7 +555,7 @@ first_kept layout d =
       asked = q.0;
       known = known_start layout q.0 d q.1.facts q.1.deal;
       roots = record { buckets = λ b. refl; head = refl };
-      nexts = record { tail = refl; next = λ s h. null_by 0 (has layout (Row s 0)); fresh = λ s h. refl };
+      nexts = record { tail = refl; next = λ s h. null_by 0 (has layout (Row s 0)); fresh = λ s h. refl; given = λ s h. first_given s layout.config.slots (s == layout.config.slots) h };
       law = tt;
     }
 

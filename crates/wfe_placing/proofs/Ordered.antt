@@ -39,11 +39,11 @@ use Rattle.wfe_lawful.proofs.Each.{all_of}
 use Rattle.wfe_lawful.proofs.Machines.{of_weaker}
 use Rattle.wfe_placing.specs.Order.{bucket_by, bucket_at, head_by, head_at, Due, NoneDue, due_linked, due_by, due_at, is_free, changes_due, meets_due, order_ok, RecordsKeepOrder}
 use Rattle.wfe_placing.proofs.Comes.{agree_of, shape_in, finds_bucket}
-use Rattle.wfe_placing.proofs.Keeps.{tells_both}
 use Rattle.wfe_placing.proofs.Marks.{is_marked, is_common, marks, ordered, InOrder, tells, marks_told, step_order}
 use Rattle.wfe_placing.proofs.Moved.{passing}
 use Rattle.wfe_placing.proofs.Shapes.{is_change_of, is_passing, FindsAt, Shape}
 use Rattle.wfe_placing.proofs.Sums.{along_both}
+use Rattle.wfe_placing.proofs.Tells.{tells_both}
 
 -- the word that leads to a row
 abbrev pub word_of : Option ℕ → ℕ

@@ -1,5 +1,5 @@
 -- What all that a step tells makes of what a seat's events come to: only events of the rows, of links and of changes count.
-use Rattle.std.proofs.Common.{ℕ, ◌≡◌, Bool, true, false, List, [], ◌∷◌, refl, sym, ap, ◌∙◌, subst}
+use Rattle.std.proofs.Common.{ℕ, ◌≡◌, Bool, true, false, List, [], ◌∷◌, ◌++◌, refl, sym, ap, ◌∙◌, subst}
 use Rattle.std.specs.Prelude.{◌==◌}
 use Rattle.std.specs.List.{filter}
 use Rattle.wfe_defs.specs.declared.event.Event.{Event}
@@ -49,3 +49,8 @@ right_one next right kind event told x false o e h g =
 pub right_kind : {X : Type 0} (next : Event → X → X) (right : Event → X → Bool) (kind : Event → Bool) (told : List Event) (x : X) → OfKind next right kind → AllRight next right (filter kind told) x → AllRight next right told x
 right_kind next right kind [] x o h = tt
 right_kind next right kind (event ∷ told) x o h = right_one next right kind event told x (kind event) o refl (λ y. right_kind next right kind told y o) h
+
+-- what is told after what was told
+pub tells_both : (i : ℕ) (xs ys : List Event) (p : Past) → tells_of p i (xs ++ ys) ≡ tells_of (tells_of p i xs) i ys
+tells_both i [] ys p = refl
+tells_both i (x ∷ xs) ys p = tells_both i xs ys (Then p i x)
