@@ -11,6 +11,9 @@ use Rattle.wfe_blocks.proofs.Shown as reads
 use Rattle.wfe_holding.proofs.Holds as holds
 use Rattle.wfe_era_law.proofs.Keeps as eras
 use Rattle.wfe_answers.proofs.Answering as answers
+use Rattle.wfe_placing.proofs.Keeps as placing
+use Rattle.wfe_placing.proofs.Linked as nexts
+use Rattle.wfe_placing.proofs.Ordered as order
 use Rattle.wfe_bare_ends.proofs.Bare as bare
 use Rattle.wfe_turns.proofs.Counted as turns
 use Rattle.wfe_finish.proofs.Finishes as finishes
@@ -23,6 +26,10 @@ histories_are_lawful layout items valid =
       once = once.records_keep_once layout items valid;
       back = once.records_go_back_once layout items valid;
       births = births.records_keep_births layout items valid;
+      placing = placing.records_place_rows layout items valid;
+      order = order.records_keep_order layout items valid;
+      nexts = nexts.records_link_nexts layout items valid;
+      retiring = placing.records_retire_cuts layout items valid;
       scans = scans.records_keep_scans layout items valid;
       reads = reads.records_read_guards layout items valid;
       counts = counts.records_count_scans layout items valid;
@@ -34,6 +41,8 @@ histories_are_lawful layout items valid =
       queue = queues.records_keep_queue layout items valid;
       steps = steps.records_keep_steps layout items valid;
       answers = answers.records_keep_answers layout items valid;
+      retires = placing.records_count_retires layout items valid;
+      refusals = placing.records_refuse layout items valid;
       turns = turns.histories_count layout items valid;
       ends = λ i. finishes.calls_finish layout items i valid;
     }

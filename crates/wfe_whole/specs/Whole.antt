@@ -18,6 +18,10 @@ use Rattle.wfe_holding.specs.Holding.{is_held}
 use Rattle.wfe_era_law.specs.EraLaw.{EraLaw}
 use Rattle.wfe_era_law.specs.GuardLaw.{GuardLaw}
 use Rattle.wfe_answers.specs.AnswersTold.{AnswersLaw}
+use Rattle.wfe_placing.specs.Nexts.{NextsLaw}
+use Rattle.wfe_placing.specs.Order.{OrderLaw}
+use Rattle.wfe_placing.specs.Placing.{PlacingLaw}
+use Rattle.wfe_placing.specs.Retiring.{RefusalLaw, RetireCounts, RetireLaw}
 use Rattle.wfe_bare_ends.specs.BareEnds.{BareLaw}
 use Rattle.wfe_turns.specs.Heard.{IsCounted}
 use Rattle.wfe_finish.specs.Finish.{CallFinishes}
@@ -26,12 +30,19 @@ pub record IsLawful (layout : Layout) (items : List Item) : Type 0 where
   -- reuse: no entry gives a row, or says that it is unused or back, while it stands at an index of a seat
   pub reuse : ReuseLaw (record_of layout items)
   -- once: free rows are given, taken ones told unused or back; a seat tells back of its own list, and retires what it has cut
-  -- in part: not how many rows a call gives, what it links and tells next, nor that it retires each row that it cuts
   pub once : Once layout.config.slots (record_of layout items)
   -- once: a row goes back only where it was retired since it went back last, so each retired row at most once
   pub back : BackOnce (record_of layout items)
   -- once: a row is retired with the birth era of its last Give
   pub births : BirthLaw (record_of layout items)
+  -- once: a call is given one row at most, which it links or tells unused, not both, and links no other to a bucket or a next link
+  pub placing : PlacingLaw (record_of layout items)
+  -- once: after a link come the cut of the row that it replaced and the change that it made, and these come nowhere else
+  pub order : OrderLaw layout.config.slots (record_of layout items)
+  -- once: a row is linked behind one that has no next row, and head and tail go on to the next row
+  pub nexts : NextsLaw layout.config.slots (record_of layout items)
+  -- once: a call retires each row that it cuts before it ends, once for each time that it cuts it, and no other
+  pub retiring : RetireLaw (record_of layout items)
   -- scans: a seat reads all guards, in order, and then just the rows of its list go back whose lives meet nothing that it read
   -- in part: not in which calls a scan is due
   pub scans : ScanLaw layout.config (record_of layout items)
@@ -61,6 +72,10 @@ pub record IsLawful (layout : Layout) (items : List Item) : Type 0 where
   -- answers: a call's answer is of a kind that it may have, and the call told once what it answers of map and queue, or nothing
   -- in part: not when a call may refuse, what it says of the clock or of the row that it holds, nor how often it begins anew
   pub answers : AnswersLaw layout.config.buckets (record_of layout items)
+  -- answers: a call that answers Done with a version above 1, or Taken, has retired one row, and every other call none
+  pub retires : RetireCounts (record_of layout items)
+  -- answers: only a call that answers Done, Queued or Taken has told a change, or a link that is not to the tail
+  pub refusals : RefusalLaw (record_of layout items)
   -- schedule: calls start on free seats, busy seats take turns, an End comes last in its turn and counts the turns of its call
   -- in part: not how many entries a turn may tell, nor that the number in a Held or Null counts turns
   pub turns : IsCounted layout items

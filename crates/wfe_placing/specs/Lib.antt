@@ -1,0 +1,5 @@
+pub mod Nexts
+pub mod Order
+pub mod Placing
+pub mod Retiring
+pub mod Seen
