@@ -1,0 +1,8 @@
+mod Decides
+mod Deciding
+mod Emptied
+mod Keeps
+mod Later
+mod Reading
+mod Refusing
+mod Saying
