@@ -229,11 +229,11 @@ pub record Stepping (w : World) (i : ℕ) (v : View) (l : Line) (z : Asked) (p q
   pub says : (why : Why) (base : Base) → (w.seat i).phase ≡ Runs why base → RunSays i why (machine.after base (counted (w.seat i).post) (finds w i)).outcome q
   pub stood : stood_at i 2 q ≡ stands (turn (w.seat i) (finds w i)).post 2
 
-abbrev K : World → ℕ → Past → Answer → Type 0
-K w i q answer = Kept w.layout.config i q (w.seat i).call answer
+abbrev IsKept : World → ℕ → Past → Answer → Type 0
+IsKept w i q answer = Kept w.layout.config i q (w.seat i).call answer
 
-abbrev R : World → ℕ → Past → Answer → Type 0
-R w i q answer = Right w.layout.config i q (w.seat i).call answer
+abbrev IsRight : World → ℕ → Past → Answer → Type 0
+IsRight w i q answer = Right w.layout.config i q (w.seat i).call answer
 
 -- what the phase knows of the call
 why_call : (w : World) (i : ℕ) (why : Why) (base : Base) → Serves (w.seat i).call (w.seat i).phase → (w.seat i).phase ≡ Runs why base → WhyServes (w.seat i).call why
@@ -282,7 +282,7 @@ is_own : (slot : ℕ) (x : Option ℕ) → x ≡ Some slot → is_row slot x ≡
 is_own slot x h = let same : (slot == slot) ≡ true = grind (arith, nat_tests) in rw h same
 
 holding_right : (w : World) (i : ℕ) (v : View) (l : Line) (z : Asked) (p q : Past) (key slot era : ℕ) (base : Base) → Stepping w i v l z p q → (w.seat i).phase ≡ Runs (Opens (Holds key)) base
-    → (machine.after base (counted (w.seat i).post) (finds w i)).outcome ≡ Ends (Protected (protect_ends.Held slot era)) → R w i q (the_answers.Holding slot)
+    → (machine.after base (counted (w.seat i).post) (finds w i)).outcome ≡ Ends (Protected (protect_ends.Held slot era)) → IsRight w i q (the_answers.Holding slot)
 holding_right w i v l z p q key slot era base g e o =
     let call : (w.seat i).call ≡ names.Hold key = why_call w i (Opens (Holds key)) base g.serves e in
     let told : has_told i (is_held 2 slot) q ≡ true = end_says w i v l z p q (Opens (Holds key)) base (Protected (protect_ends.Held slot era)) g e o in
@@ -290,7 +290,7 @@ holding_right w i v l z p q key slot era base g e o =
     (both (has_told i (is_held 2 slot) q) (is_row slot (stood_at i 2 q)) told (is_own slot (stood_at i 2 q) (held_stands w i v l z p q key slot era base g e o)))
 
 nothing_right : (w : World) (i : ℕ) (v : View) (l : Line) (z : Asked) (p q : Past) (key : ℕ) (base : Base) → Stepping w i v l z p q → (w.seat i).phase ≡ Runs (Opens (Holds key)) base
-    → (machine.after base (counted (w.seat i).post) (finds w i)).outcome ≡ Ends (Protected protect_ends.Null) → K w i q the_answers.Nothing
+    → (machine.after base (counted (w.seat i).post) (finds w i)).outcome ≡ Ends (Protected protect_ends.Null) → IsKept w i q the_answers.Nothing
 nothing_right w i v l z p q key base g e o =
     let b : ℕ = key % w.layout.config.buckets in
     let call : (w.seat i).call ≡ names.Hold key = why_call w i (Opens (Holds key)) base g.serves e in
@@ -301,13 +301,13 @@ nothing_right w i v l z p q key base g e o =
     record { lasts = refl; right = subst (λ (x : Call). Right w.layout.config i q x the_answers.Nothing) (sym call) (both (has_told i (is_null 2) q) (begun_at i b q == 0) told still) }
 
 fresh_right : (w : World) (i : ℕ) (v : View) (l : Line) (z : Asked) (p q : Past) (kept : ChangeKept) (base : Base) → Stepping w i v l z p q → (w.seat i).phase ≡ Runs (Opens (Changes kept)) base
-    → (machine.after base (counted (w.seat i).post) (finds w i)).outcome ≡ Ends (Protected protect_ends.Null) → ChangeDecides (K w i q) (alters.at_link kept 0) (machine.after base (counted (w.seat i).post) (finds w i)).post
+    → (machine.after base (counted (w.seat i).post) (finds w i)).outcome ≡ Ends (Protected protect_ends.Null) → ChangeDecides (IsKept w i q) (alters.at_link kept 0) (machine.after base (counted (w.seat i).post) (finds w i)).post
 fresh_right w i v l z p q kept base g e o =
     read_decides w.layout i p q (w.seat i).call (alters.at_link kept 0) (machine.after base (counted (w.seat i).post) (finds w i)).post (machine_table w i base g.shown.known.seats) (why_call w i (Opens (Changes kept)) base g.serves e) g.later g.bounds
     (null_read w i v l z p kept base g.shown e o)
 
 empty_right : (w : World) (i : ℕ) (v : View) (l : Line) (z : Asked) (p q : Past) (head tail : ℕ) (base : Base) → Stepping w i v l z p q → (w.seat i).phase ≡ Runs (FollowsHead head tail) base
-    → (machine.after base (counted (w.seat i).post) (finds w i)).outcome ≡ Ends (Followed follow_ends.NoNext) → K w i q the_answers.Empty
+    → (machine.after base (counted (w.seat i).post) (finds w i)).outcome ≡ Ends (Followed follow_ends.NoNext) → IsKept w i q the_answers.Empty
 empty_right w i v l z p q head tail base g e o =
     let call : (w.seat i).call ≡ names.Dequeue = why_call w i (FollowsHead head tail) base g.serves e in
     let told : has_told i (is_null 1) q ≡ true = end_says w i v l z p q (FollowsHead head tail) base (Followed follow_ends.NoNext) g e o in
@@ -332,7 +332,7 @@ none_is : (x : Option ℕ) → x ≡ None → is_none x ≡ true
 none_is x h = rw h refl
 
 released_right : (w : World) (i : ℕ) (v : View) (l : Line) (z : Asked) (p q : Past) (base : Base) (ending : Ending) → Stepping w i v l z p q → (w.seat i).phase ≡ Runs (Releases None) base
-    → (machine.after base (counted (w.seat i).post) (finds w i)).outcome ≡ Ends ending → R w i q the_answers.Released
+    → (machine.after base (counted (w.seat i).post) (finds w i)).outcome ≡ Ends ending → IsRight w i q the_answers.Released
 released_right w i v l z p q base ending g e o =
     let a = g.shown.known in
     let call : (w.seat i).call ≡ names.Release = why_call w i (Releases None) base g.serves e in
@@ -342,36 +342,36 @@ released_right w i v l z p q base ending g e o =
 
 -- by what comes after the machine
 task_decides : (w : World) (i : ℕ) (v : View) (l : Line) (z : Asked) (p q : Past) (task : Task) (base : Base) (ending : Ending) → Stepping w i v l z p q → (w.seat i).phase ≡ Runs (Opens task) base
-    → (machine.after base (counted (w.seat i).post) (finds w i)).outcome ≡ Ends ending → TaskDecides (K w i q) (R w i q) task ending (machine.after base (counted (w.seat i).post) (finds w i)).post
+    → (machine.after base (counted (w.seat i).post) (finds w i)).outcome ≡ Ends ending → TaskDecides (IsKept w i q) (IsRight w i q) task ending (machine.after base (counted (w.seat i).post) (finds w i)).post
 task_decides w i v l z p q (Changes kept) base (Protected protect_ends.Null) g e o = fresh_right w i v l z p q kept base g e o
 task_decides w i v l z p q (Holds key) base (Protected protect_ends.Null) g e o = nothing_right w i v l z p q key base g e o
 task_decides w i v l z p q (Holds key) base (Protected (protect_ends.Held slot era)) g e o = holding_right w i v l z p q key slot era base g e o
 task_decides w i v l z p q task base ending g e o = tt
 
 follow_decides : (w : World) (i : ℕ) (v : View) (l : Line) (z : Asked) (p q : Past) (head tail : ℕ) (base : Base) (ending : Ending) → Stepping w i v l z p q → (w.seat i).phase ≡ Runs (FollowsHead head tail) base
-    → (machine.after base (counted (w.seat i).post) (finds w i)).outcome ≡ Ends ending → FollowDecides (K w i q) ending
+    → (machine.after base (counted (w.seat i).post) (finds w i)).outcome ≡ Ends ending → FollowDecides (IsKept w i q) ending
 follow_decides w i v l z p q head tail base (Followed follow_ends.NoNext) g e o = empty_right w i v l z p q head tail base g e o
 follow_decides w i v l z p q head tail base ending g e o = tt
 
 free_decides : (w : World) (i : ℕ) (v : View) (l : Line) (z : Asked) (p q : Past) (key : Option ℕ) (base : Base) (ending : Ending) → Stepping w i v l z p q → (w.seat i).phase ≡ Runs (Releases key) base
-    → (machine.after base (counted (w.seat i).post) (finds w i)).outcome ≡ Ends ending → FreeDecides (R w i q) key
+    → (machine.after base (counted (w.seat i).post) (finds w i)).outcome ≡ Ends ending → FreeDecides (IsRight w i q) key
 free_decides w i v l z p q None base ending g e o = released_right w i v l z p q base ending g e o
 free_decides w i v l z p q (Some key) base ending g e o = tt
 
 why_decides : (w : World) (i : ℕ) (v : View) (l : Line) (z : Asked) (p q : Past) (why : Why) (base : Base) (ending : Ending) → Stepping w i v l z p q → (w.seat i).phase ≡ Runs why base
-    → (machine.after base (counted (w.seat i).post) (finds w i)).outcome ≡ Ends ending → WhyDecides (K w i q) (R w i q) why ending (machine.after base (counted (w.seat i).post) (finds w i)).post
+    → (machine.after base (counted (w.seat i).post) (finds w i)).outcome ≡ Ends ending → WhyDecides (IsKept w i q) (IsRight w i q) why ending (machine.after base (counted (w.seat i).post) (finds w i)).post
 why_decides w i v l z p q (Opens task) base ending g e o = task_decides w i v l z p q task base ending g e o
 why_decides w i v l z p q (FollowsHead head tail) base ending g e o = follow_decides w i v l z p q head tail base ending g e o
 why_decides w i v l z p q (Releases key) base ending g e o = free_decides w i v l z p q key base ending g e o
 why_decides w i v l z p q why base ending g e o = tt
 
 outcome_decides : (w : World) (i : ℕ) (v : View) (l : Line) (z : Asked) (p q : Past) (why : Why) (base : Base) (outcome : Outcome) → Stepping w i v l z p q → (w.seat i).phase ≡ Runs why base
-    → (machine.after base (counted (w.seat i).post) (finds w i)).outcome ≡ outcome → OutcomeDecides (K w i q) (R w i q) why outcome (machine.after base (counted (w.seat i).post) (finds w i)).post
+    → (machine.after base (counted (w.seat i).post) (finds w i)).outcome ≡ outcome → OutcomeDecides (IsKept w i q) (IsRight w i q) why outcome (machine.after base (counted (w.seat i).post) (finds w i)).post
 outcome_decides w i v l z p q why base (Goes next) g e o = tt
 outcome_decides w i v l z p q why base (Ends ending) g e o = why_decides w i v l z p q why base ending g e o
 
 -- a step of a call's own
-alter_decides : (w : World) (i : ℕ) (v : View) (l : Line) (z : Asked) (p q : Past) (kept : ChangeKept) (at : ChangeAt) → Stepping w i v l z p q → (w.seat i).phase ≡ Works (Changing kept at) → AlterDecides (K w i q) kept at (counted (w.seat i).post) (finds w i)
+alter_decides : (w : World) (i : ℕ) (v : View) (l : Line) (z : Asked) (p q : Past) (kept : ChangeKept) (at : ChangeAt) → Stepping w i v l z p q → (w.seat i).phase ≡ Works (Changing kept at) → AlterDecides (IsKept w i q) kept at (counted (w.seat i).post) (finds w i)
 alter_decides w i v l z p q kept (LoadCount slot) g e = λ none.
     read_decides w.layout i p q (w.seat i).call kept (counted (w.seat i).post) (g.shown.known.seats.fits i).post.layout (work_call w i (Changing kept (LoadCount slot)) g.serves e) g.later g.bounds (count_read w i v l z p kept slot g.below g.shown e none)
 alter_decides w i v l z p q kept (LoadValue slot count key) g e = λ none.
@@ -379,17 +379,17 @@ alter_decides w i v l z p q kept (LoadValue slot count key) g e = λ none.
     (value_read w i v l z p kept slot count key g.below g.shown e none)
 alter_decides w i v l z p q kept at g e = tt
 
-append_decides : (w : World) (i : ℕ) (v : View) (l : Line) (z : Asked) (p q : Past) (kept : EnqueueKept) (at : EnqueueAt) → Stepping w i v l z p q → (w.seat i).phase ≡ Works (Enqueuing kept at) → AppendDecides (K w i q) kept at (counted (w.seat i).post)
+append_decides : (w : World) (i : ℕ) (v : View) (l : Line) (z : Asked) (p q : Past) (kept : EnqueueKept) (at : EnqueueAt) → Stepping w i v l z p q → (w.seat i).phase ≡ Works (Enqueuing kept at) → AppendDecides (IsKept w i q) kept at (counted (w.seat i).post)
 append_decides w i v l z p q kept LoadNext g e =
     number_decides w.layout i p q (w.seat i).call kept (counted (w.seat i).post) (g.shown.known.seats.fits i).post.layout (work_call w i (Enqueuing kept LoadNext) g.serves e) g.later g.bounds (number_read w i v l z p kept g.shown e)
 append_decides w i v l z p q kept at g e = tt
 
-work_decides : (w : World) (i : ℕ) (v : View) (l : Line) (z : Asked) (p q : Past) (work : Work) → Stepping w i v l z p q → (w.seat i).phase ≡ Works work → WorkDecides (K w i q) work (counted (w.seat i).post) (finds w i)
+work_decides : (w : World) (i : ℕ) (v : View) (l : Line) (z : Asked) (p q : Past) (work : Work) → Stepping w i v l z p q → (w.seat i).phase ≡ Works work → WorkDecides (IsKept w i q) work (counted (w.seat i).post) (finds w i)
 work_decides w i v l z p q (Changing kept at) g e = alter_decides w i v l z p q kept at g e
 work_decides w i v l z p q (Enqueuing kept at) g e = append_decides w i v l z p q kept at g e
 work_decides w i v l z p q work g e = tt
 
-phase_decides : (w : World) (i : ℕ) (v : View) (l : Line) (z : Asked) (p q : Past) (phase : Phase) → Stepping w i v l z p q → (w.seat i).phase ≡ phase → PhaseDecides (K w i q) (R w i q) phase (counted (w.seat i).post) (finds w i)
+phase_decides : (w : World) (i : ℕ) (v : View) (l : Line) (z : Asked) (p q : Past) (phase : Phase) → Stepping w i v l z p q → (w.seat i).phase ≡ phase → PhaseDecides (IsKept w i q) (IsRight w i q) phase (counted (w.seat i).post) (finds w i)
 phase_decides w i v l z p q Idle g e = tt
 phase_decides w i v l z p q (Runs why base) g e = outcome_decides w i v l z p q why base (machine.after base (counted (w.seat i).post) (finds w i)).outcome g e refl
 phase_decides w i v l z p q (Scans later at) g e = tt
@@ -399,6 +399,6 @@ phase_decides w i v l z p q (Works work) g e = work_decides w i v l z p q work g
 pub step_decides : (w : World) (i : ℕ) (v : View) (l : Line) (z : Asked) (p q : Past) → Stepping w i v l z p q → PhaseKeeps (Kept w.layout.config i p (w.seat i).call) (w.seat i).phase
     → OutKeeps (Kept w.layout.config i q (w.seat i).call) (Right w.layout.config i q (w.seat i).call) (turn (w.seat i) (finds w i)).outcome
 step_decides w i v l z p q g h =
-    turn_keeps (K w i q) (R w i q) (kept_sound w.layout.config i q (w.seat i).call) (w.seat i).phase (counted (w.seat i).post) (w.seat i).desk (finds w i)
-    (keeps_on (Kept w.layout.config i p (w.seat i).call) (K w i q) (w.seat i).phase (λ answer k. kept_lasts w.layout.config i p q (w.seat i).call answer g.later g.bounds k) h)
+    turn_keeps (IsKept w i q) (IsRight w i q) (kept_sound w.layout.config i q (w.seat i).call) (w.seat i).phase (counted (w.seat i).post) (w.seat i).desk (finds w i)
+    (keeps_on (Kept w.layout.config i p (w.seat i).call) (IsKept w i q) (w.seat i).phase (λ answer k. kept_lasts w.layout.config i p q (w.seat i).call answer g.later g.bounds k) h)
     (phase_decides w i v l z p q (w.seat i).phase g refl)

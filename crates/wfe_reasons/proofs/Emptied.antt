@@ -18,6 +18,7 @@ use Rattle.wfe_core.specs.Phases.ProtectAt.{LoadClock, PublishEra, LoadLink, Che
 use Rattle.wfe_core.specs.Phases.Base.{Begin, Protect, Reload, Clear, Finish, Release, Allocate, Write, GiveUp, Retire, Move}
 use Rattle.wfe_core.specs.Calls.{Gets, Changes, Holds, Enqueues, Dequeues, Why, Opens, FollowsHead, Fills, ClearsNext, Clears, Finishes, GivesUp, Retires, Tidies, Advances, Releases, Phase, Idle, Runs, Scans, Works}
 use Rattle.wfe_core.specs.World.{World, start, begin, step, is_busy, finds}
+use Rattle.wfe_contents.proofs.Lasts.{same_number}
 use Rattle.wfe_ends.proofs.Nulls.{nulls_end}
 use Rattle.wfe_ends.specs.Nulls.{ended_at, ended_base}
 use Rattle.wfe_eras.specs.Seats.{Seats, Run, root_by}
@@ -56,11 +57,8 @@ record Heads (phase : Phase) (parent : ℕ) : Type 0 where
   pub stands : stands_on phase parent ≡ true
   pub heads : heads_on phase parent ≡ true
 
-same : (n : ℕ) → (n == n) ≡ true
-same n = grind (arith, nat_tests)
-
 why_follows : (buckets : ℕ) (why : Why) (base : Base) (parent : ℕ) → root_by buckets why ≡ roots.Next parent → Heads (Runs why base) parent
-why_follows buckets (FollowsHead head tail) base parent e = let h : head ≡ parent = ap parent_of e in record { stands = rw h (same parent); heads = rw h (same parent) }
+why_follows buckets (FollowsHead head tail) base parent e = let h : head ≡ parent = ap parent_of e in record { stands = rw h (same_number parent); heads = rw h (same_number parent) }
 why_follows buckets (Opens (Gets key)) base parent e = absurd (cc)
 why_follows buckets (Opens (Changes kept)) base parent e = absurd (cc)
 why_follows buckets (Opens (Holds key)) base parent e = absurd (cc)
@@ -77,7 +75,7 @@ why_follows buckets Advances base parent e = absurd (cc)
 why_follows buckets (Releases key) base parent e = absurd (cc)
 
 reload_follows : (layout : Layout) (why : Why) (row index slot era steps parent : ℕ) (post : Post) → Run layout why (Reload row index slot era steps) post → row ≡ parent → Heads (Runs why (Reload row index slot era steps)) parent
-reload_follows layout (FollowsHead head tail) row index slot era steps parent post r e = let h : head ≡ parent = sym r.shape.of ∙ e in record { stands = rw h (same parent); heads = rw h (same parent) }
+reload_follows layout (FollowsHead head tail) row index slot era steps parent post r e = let h : head ≡ parent = sym r.shape.of ∙ e in record { stands = rw h (same_number parent); heads = rw h (same_number parent) }
 reload_follows layout (Opens task) row index slot era steps parent post r e = let x = r.suited in absurd (cc)
 reload_follows layout (Fills task) row index slot era steps parent post r e = let x = r.suited in absurd (cc)
 reload_follows layout (ClearsNext next) row index slot era steps parent post r e = let x = r.suited in absurd (cc)

@@ -19,7 +19,7 @@ use Rattle.wfe_core.specs.Phases.{Base, Ends}
 use Rattle.wfe_core.specs.Phases.Ending.{Protected}
 use Rattle.wfe_core.specs.Calls.{ChangeKept, EnqueueKept, LoadCount, LoadValue, LoadNext, Task, Changes, Opens, Changing, Enqueuing, Phase, Runs, Works}
 use Rattle.wfe_core.specs.World.{World, finds}
-use Rattle.wfe_contents.proofs.Lasts.{on}
+use Rattle.wfe_contents.proofs.Lasts.{on, same_number}
 use Rattle.wfe_contents.proofs.Lists.{take_next}
 use Rattle.wfe_contents.proofs.Reading.{count_shown, value_shown}
 use Rattle.wfe_contents.specs.Knows.{AtCount, AtValue, Knows, pair_at, reads_in}
@@ -141,13 +141,10 @@ pub record NumberAt (last number : ℕ) (p : Past) : Type 0 where
 both_same : (x y : ℕ) → (x == x && (y == y)) ≡ true
 both_same x y = grind (arith, nat_tests)
 
-same : (n : ℕ) → (n == n) ≡ true
-same n = grind (arith, nat_tests)
-
 pub number_read : (w : World) (i : ℕ) (v : View) (l : Line) (z : Asked) (p : Past) (kept : EnqueueKept) → Shown w v l z p → (w.seat i).phase ≡ Works (Enqueuing kept LoadNext) → NumberAt w.layout.config.last_version kept.number p
 number_read w i v l z p kept h e =
     let number : l.number kept.tail ≡ kept.number = (h.known.items.seats i).numbers kept.tail kept.number (subst (λ (x : Phase). numbers_in x kept.tail kept.number ≡ true) (sym e) (both_same kept.tail kept.number)) in
-    let lined : l.lined kept.tail ≡ true = (h.known.whole.both.queue.walks i).stood kept.tail (subst (λ (x : Phase). stands_on x kept.tail ≡ true) (sym e) (same kept.tail)) in
+    let lined : l.lined kept.tail ≡ true = (h.known.whole.both.queue.walks i).stood kept.tail (subst (λ (x : Phase). stands_on x kept.tail ≡ true) (sym e) (same_number kept.tail)) in
     let within : l.number kept.tail ≤ length w.book.queued = h.known.items.rows.within kept.tail lined in
     record {
       within = subst (λ (all : List ℕ). kept.number ≤ length all) (sym h.queued) (subst (λ (n : ℕ). n ≤ length w.book.queued) number within);

@@ -32,6 +32,7 @@ use Rattle.wfe_core.specs.Calls.{Task, Gets, Changes, Holds, Enqueues, Dequeues,
 use Rattle.wfe_core.specs.World.{World, finds, told_in}
 use Rattle.wfe_eras.specs.Frame.{phase_left}
 use Rattle.wfe_eras.specs.Seats.{Aimed, Run, Seats, task_root}
+use Rattle.wfe_contents.proofs.Lasts.{same_number}
 use Rattle.wfe_covers.proofs.Fresh.{resume_fresh, work_fresh}
 use Rattle.wfe_covers.proofs.Scans.{scan_starts}
 use Rattle.wfe_covers.specs.Tries.{is_start, starts_base}
@@ -49,9 +50,6 @@ use Rattle.wfe_lawful.proofs.Machines.{is_within}
 use Rattle.wfe_reasons.specs.Seen.{has_told}
 use Rattle.wfe_reasons.proofs.Later.{Later, later_same, later_all, within_none}
 
-same : (n : ℕ) → (n == n) ≡ true
-same n = grind (arith, nat_tests)
-
 -- an event that a step tells was told in the call
 counts_now : (n : ℕ) (begins kind own : Bool) → begins ≡ false → kind ≡ true → own ≡ true → nat_lt 0 (if begins then 0 else if kind && own then n + 1 else n) ≡ true
 counts_now n true kind own h k o = absurd (cc)
@@ -63,7 +61,7 @@ told_by_one : (i : ℕ) (kind : Event → Bool) (p : Past) (event : Event) (told
     → (list_any kind told ≡ true → has_told i kind (tells_of (Then p i event) i told) ≡ true) → has_told i kind (tells_of (Then p i event) i told) ≡ true
 told_by_one i kind p event told true e y h k later =
     let l : Later i (Then p i event) (tells_of (Then p i event) i told) = later_all i i (Then p i event) (Then p i event) told h (later_same i (Then p i event)) in
-    l.told kind (counts_now (told_since (begins i) (own i kind) p) (begins i p i event) (kind event) (i == i) (within_none i i p event y) e (same i))
+    l.told kind (counts_now (told_since (begins i) (own i kind) p) (begins i p i event) (kind event) (i == i) (within_none i i p event y) e (same_number i))
 told_by_one i kind p event told false e y h k later = later k
 
 pub told_now : (i : ℕ) (kind : Event → Bool) (p : Past) (told : List Event) → all_of is_within told ≡ true → list_any kind told ≡ true → has_told i kind (tells_of p i told) ≡ true
@@ -164,20 +162,20 @@ lead link slot h = grind (arith, nat_tests)
 
 check_said : (i : ℕ) (post : Post) (aim : Aim) (index : ℕ) (root : Root) (steps era : ℕ) (tries : Tries) (link found : ℕ) (q : Past) → (found == era) ≡ true → Now i post (Protect aim index root steps (CheckClock era tries link)) found q → Said i index root link q
 check_said i post aim index root steps era tries link found q e n = record {
-  null = λ z. n.null index (both (index == index) ((found == era) && (link == 0)) (same index) (both (found == era) (link == 0) e z));
-  held = λ f slot l. n.held index slot (both (index == index) ((found == era) && (is_end root && link == slot + 1)) (same index) (both (found == era) (is_end root && link == slot + 1) e (both (is_end root) (link == slot + 1) f (lead link slot l))));
+  null = λ z. n.null index (both (index == index) ((found == era) && (link == 0)) (same_number index) (both (found == era) (link == 0) e z));
+  held = λ f slot l. n.held index slot (both (index == index) ((found == era) && (is_end root && link == slot + 1)) (same_number index) (both (found == era) (is_end root && link == slot + 1) e (both (is_end root) (link == slot + 1) f (lead link slot l))));
 }
 
 upper_said : (i : ℕ) (post : Post) (aim : Aim) (index : ℕ) (root : Root) (steps link found : ℕ) (q : Past) → (found == upper post.span) ≡ true → Now i post (Protect aim index root steps (CheckUpper link)) found q → Said i index root link q
 upper_said i post aim index root steps link found q e n = record {
-  null = λ z. n.null index (both (index == index) ((found == upper post.span) && (link == 0)) (same index) (both (found == upper post.span) (link == 0) e z));
-  held = λ f slot l. n.held index slot (both (index == index) ((found == upper post.span) && (is_end root && link == slot + 1)) (same index) (both (found == upper post.span) (is_end root && link == slot + 1) e (both (is_end root) (link == slot + 1) f (lead link slot l))));
+  null = λ z. n.null index (both (index == index) ((found == upper post.span) && (link == 0)) (same_number index) (both (found == upper post.span) (link == 0) e z));
+  held = λ f slot l. n.held index slot (both (index == index) ((found == upper post.span) && (is_end root && link == slot + 1)) (same_number index) (both (found == upper post.span) (is_end root && link == slot + 1) e (both (is_end root) (link == slot + 1) f (lead link slot l))));
 }
 
 take_said : (i : ℕ) (post : Post) (aim : Aim) (index : ℕ) (root : Root) (steps link era found : ℕ) (q : Past) → Now i post (Protect aim index root steps (TakeAnswer link era)) found q → Said i index root link q
 take_said i post aim index root steps link era found q n = record {
-  null = λ z. n.null index (both (index == index) (link == 0) (same index) z);
-  held = λ f slot l. n.held index slot (both (index == index) (is_end root && link == slot + 1) (same index) (both (is_end root) (link == slot + 1) f (lead link slot l)));
+  null = λ z. n.null index (both (index == index) (link == 0) (same_number index) z);
+  held = λ f slot l. n.held index slot (both (index == index) (is_end root && link == slot + 1) (same_number index) (both (is_end root) (link == slot + 1) f (lead link slot l)));
 }
 
 trying_says : (i index : ℕ) (root : Root) (config : Config) (era : ℕ) (tries : Tries) (q : Past) → AtSays i index root (protects.trying config era tries) q

@@ -12,6 +12,7 @@ use Rattle.wfe_holding.proofs.Holds as holds
 use Rattle.wfe_era_law.proofs.Keeps as eras
 use Rattle.wfe_answers.proofs.Answering as answers
 use Rattle.wfe_bare_ends.proofs.Bare as bare
+use Rattle.wfe_reasons.proofs.Keeps as reasons
 use Rattle.wfe_turns.proofs.Counted as turns
 use Rattle.wfe_finish.proofs.Finishes as finishes
 use Rattle.wfe_whole.specs.Whole.{HistoriesLawful}
@@ -34,6 +35,7 @@ histories_are_lawful layout items valid =
       queue = queues.records_keep_queue layout items valid;
       steps = steps.records_keep_steps layout items valid;
       answers = answers.records_keep_answers layout items valid;
+      reasons = reasons.records_keep_reasons layout items valid;
       turns = turns.histories_count layout items valid;
       ends = λ i. finishes.calls_finish layout items i valid;
     }
