@@ -1,8 +1,8 @@
-mod Decides
-mod Deciding
-mod Emptied
-mod Keeps
-mod Later
-mod Reading
-mod Refusing
-mod Saying
+pub mod Decides
+pub mod Deciding
+pub mod Emptied
+pub mod Keeps
+pub mod Later
+pub mod Reading
+pub mod Refusing
+pub mod Saying
