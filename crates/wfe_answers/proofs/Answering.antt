@@ -65,7 +65,7 @@ one_began : (event : Event) (x : Option Call) → is_within event ≡ true → b
 one_began (events.Begin call) x h = absurd (cc)
 one_began event x h = refl
 
-began_along : (i : ℕ) (told : List Event) (p : Past) → all_of is_within told ≡ true → began_of i (tells_of p i told) ≡ began_of i p
+pub began_along : (i : ℕ) (told : List Event) (p : Past) → all_of is_within told ≡ true → began_of i (tells_of p i told) ≡ began_of i p
 began_along i [] p h = refl
 began_along i (event ∷ told) p h =
     began_along i told (Then p i event) (rest_of (is_within event) (all_of is_within told) h)
@@ -128,7 +128,7 @@ open_each : (n i : ℕ) (told : List Event) (p : Past) → all_of is_open told �
 open_each n i [] p h g = g
 open_each n i (event ∷ told) p h g = open_each n i told (Then p i event) (rest_of (is_open event) (all_of is_open told) h) (open_one n i p event (first_of (is_open event) (all_of is_open told) h), g)
 
-tells_along : (i : ℕ) (xs ys : List Event) (p : Past) → tells_of p i (xs ++ ys) ≡ tells_of (tells_of p i xs) i ys
+pub tells_along : (i : ℕ) (xs ys : List Event) (p : Past) → tells_of p i (xs ++ ys) ≡ tells_of (tells_of p i xs) i ys
 tells_along i [] ys p = refl
 tells_along i (x ∷ xs) ys p = tells_along i xs ys (Then p i x)
 

@@ -25,7 +25,7 @@ use Rattle.wfe_reuse.proofs.Keeps.{record_stands}
 use Rattle.wfe_reuse.proofs.Passes.{first_of, rest_of}
 use Rattle.wfe_lawful.proofs.Each.{all_of}
 use Rattle.wfe_answers.proofs.Owed.{is_open, Owes, owed}
-use Rattle.wfe_answers.proofs.Answering.{owes_of}
+use Rattle.wfe_answers.proofs.Answering.{owes_of, tells_along}
 use Rattle.wfe_answers.proofs.Answering as answering
 use Rattle.wfe_bare_ends.specs.BareEnds.{bare_ok, RecordsEndBare}
 
@@ -36,7 +36,7 @@ Stood made = (k j : ℕ) → stood_at k j made.past ≡ stands (made.world.seat 
 stood_of : (layout : Layout) (path : List Item) (made : Made) → is_valid layout ≡ true → made ≡ made_of layout path → Stood made
 stood_of layout path made d e = subst Stood (sym e) (λ k j. record_stands layout path k j d)
 
-made_snoc : (made : Made) (path : List Item) (item : Item) → made_from made (path ++ item ∷ []) ≡ did (made_from made path) item
+pub made_snoc : (made : Made) (path : List Item) (item : Item) → made_from made (path ++ item ∷ []) ≡ did (made_from made path) item
 made_snoc made [] item = refl
 made_snoc made (first ∷ path) item = made_snoc (did made first) path item
 
@@ -49,11 +49,7 @@ open_each : (j i : ℕ) (told : List Event) (p : Past) → all_of is_open told �
 open_each j i [] p h g = g
 open_each j i (event ∷ told) p h g = open_each j i told (Then p i event) (rest_of (is_open event) (all_of is_open told) h) (open_ok j i p event (first_of (is_open event) (all_of is_open told) h), g)
 
-tells_along : (i : ℕ) (xs ys : List Event) (p : Past) → tells_of p i (xs ++ ys) ≡ tells_of (tells_of p i xs) i ys
-tells_along i [] ys p = refl
-tells_along i (x ∷ xs) ys p = tells_along i xs ys (Then p i x)
-
-end_stood : (i j count : ℕ) (answer : Answer) (q : Past) → stood_at i j (Then q i (events.End count answer)) ≡ stood_at i j q
+pub end_stood : (i j count : ℕ) (answer : Answer) (q : Past) → stood_at i j (Then q i (events.End count answer)) ≡ stood_at i j q
 end_stood i j count answer q = by (i == i)
   where
     by : (same : Bool) → (if same then stood_at i j q else stood_at i j q) ≡ stood_at i j q

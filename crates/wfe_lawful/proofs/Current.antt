@@ -310,7 +310,7 @@ idle_quiet w i z b q =
 apart : (b : Bool) → b ≡ true → b ≡ false → ⊥
 apart b h k = cc
 
-idle_untracked : (w : World) (i : ℕ) (z : Asked) (x : ℕ) → is_busy w i ≡ false → Requests w z → Tracked w z i x → ⊥
+pub idle_untracked : (w : World) (i : ℕ) (z : Asked) (x : ℕ) → is_busy w i ≡ false → Requests w z → Tracked w z i x → ⊥
 idle_untracked w i z x b q (Carried h) =
     let g : carries_in (w.mem Clock) (upper (w.seat i).post.span) Idle x ≡ true = subst (λ (p : Phase). carries_in (w.mem Clock) (upper (w.seat i).post.span) p x ≡ true) (idle_of (w.seat i).phase b) h in cc
 idle_untracked w i z x b q (Given h) = apart (is_quiet (z.deal i)) (idle_quiet w i z b q) (link_busy (z.deal i) x h)

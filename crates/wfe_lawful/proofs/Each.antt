@@ -38,11 +38,11 @@ record Keeps (layout : Layout) (ok : Event → Bool) (made : Made) : Type 0 wher
   pub known : Inv made.world
   pub law : Each (of_event ok) made.past
 
-begins_right : (seat seats : ℕ) (busy : Bool) → (nat_lt seat seats && not busy) ≡ true → busy ≡ false
+pub begins_right : (seat seats : ℕ) (busy : Bool) → (nat_lt seat seats && not busy) ≡ true → busy ≡ false
 begins_right seat seats true h = absurd (grind (arith, nat_tests))
 begins_right seat seats false h = refl
 
-steps_right : (seat seats : ℕ) (busy : Bool) → (nat_lt seat seats && busy) ≡ true → seat < seats
+pub steps_right : (seat seats : ℕ) (busy : Bool) → (nat_lt seat seats && busy) ≡ true → seat < seats
 steps_right seat seats busy h = grind (arith, nat_tests)
 
 item_keeps : (layout : Layout) (ok : Event → Bool) → Tells layout ok → (made : Made) (item : Item) (fit : Bool) → fits made.world item ≡ fit → Keeps layout ok made → Keeps layout ok (done_if made item fit)

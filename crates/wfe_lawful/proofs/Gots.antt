@@ -139,7 +139,7 @@ work_knows w base (Dequeuing at) h = tt
 none_at : (base : ℕ → ℕ) (book : Book) (b : ℕ) → link_since base book (roots.Bucket b) 0 ≡ true → base b ≤ 0
 none_at base book b h = let g : (base b == 0) ≡ true = h in grind (arith, nat_tests)
 
-null_at : (base : ℕ → ℕ) (book : Book) (root : Root) (b : ℕ) → root ≡ roots.Bucket b → link_since base book root 0 ≡ true → base b ≤ 0
+pub null_at : (base : ℕ → ℕ) (book : Book) (root : Root) (b : ℕ) → root ≡ roots.Bucket b → link_since base book root 0 ≡ true → base b ≤ 0
 null_at base book root b e h = none_at base book b (subst (λ (r : Root). link_since base book r 0 ≡ true) e h)
 
 ending_knows : (w : World) (i : ℕ) (v : View) (l : Line) (z : Asked) (base : ℕ → ℕ → ℕ) (task : Task) (one : Base) (ending : Ending) → Known w v l z → Current base w z → (w.seat i).phase ≡ Runs (Opens task) one → (machine.after one (counted (w.seat i).post) (finds w i)).outcome ≡ Ends ending → ending_allows (Allowed w.layout (base i)) task ending

@@ -58,7 +58,7 @@ one_change a b (events.Link roots.Head slot) = refl
 one_change a b (events.Link roots.Tail slot) = refl
 one_change a b event = refl
 
-told_changes : (b i : ℕ) (told : List Event) (p : Past) (a : Book) → changes_of b p ≡ a.changes b → changes_of b (tells_of p i told) ≡ (booked_all a told).changes b
+pub told_changes : (b i : ℕ) (told : List Event) (p : Past) (a : Book) → changes_of b p ≡ a.changes b → changes_of b (tells_of p i told) ≡ (booked_all a told).changes b
 told_changes b i [] p a h = h
 told_changes b i (event ∷ told) p a h = told_changes b i told (Then p i event) (booked a event) (ap (λ (before : List Change). with_change b before event) h ∙ one_change a b event)
 
@@ -70,7 +70,7 @@ one_base : (p : Past) (i k b : ℕ) (event : Event) → is_within event ≡ true
 one_base p i k b (events.Begin call) h = absurd (cc)
 one_base p i k b event h = refl
 
-told_base : (k b i : ℕ) (told : List Event) (p : Past) → all_of is_within told ≡ true → base_of (tells_of p i told) k b ≡ base_of p k b
+pub told_base : (k b i : ℕ) (told : List Event) (p : Past) → all_of is_within told ≡ true → base_of (tells_of p i told) k b ≡ base_of p k b
 told_base k b i [] p h = refl
 told_base k b i (event ∷ told) p h = told_base k b i told (Then p i event) (rest_of (is_within event) (all_of is_within told) h) ∙ one_base p i k b event (first_of (is_within event) (all_of is_within told) h)
 
@@ -78,7 +78,7 @@ either_base : (same : Bool) (n m other : ℕ) → n ≡ m → (if same then n el
 either_base true n m other h = h
 either_base false n m other h = refl
 
-begin_base : (w : World) (i k b : ℕ) (call : Call) (p : Past) → changes_of b p ≡ w.book.changes b → base_of (Then p i (events.Begin call)) k b ≡ base_begun (base_of p) w i k b
+pub begin_base : (w : World) (i k b : ℕ) (call : Call) (p : Past) → changes_of b p ≡ w.book.changes b → base_of (Then p i (events.Begin call)) k b ≡ base_begun (base_of p) w i k b
 begin_base w i k b call p h = either_base (k == i) (count_of b p) (length (w.book.changes b)) (base_of p k b) (ap length h)
 
 -- an entry

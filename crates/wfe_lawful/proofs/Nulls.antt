@@ -68,7 +68,7 @@ protect_link aim index root n (CheckUpper link) post found h =
 protect_link aim index root n (RaiseUpper era) post found h = absurd (cc)
 
 -- what a protection finds where it ends is the clock, or nothing is asked of it
-found_clock : (w : World) (i : ℕ) (why : Why) (aim : Aim) (index : ℕ) (root : Root) (steps : ℕ) (at : ProtectAt) (x : ℕ) → (w.seat i).phase ≡ Runs why (Protect aim index root steps at) → carries_at (finds w i) (upper (w.seat i).post.span) at x ≡ true → carries_at (w.mem Clock) (upper (w.seat i).post.span) at x ≡ true
+pub found_clock : (w : World) (i : ℕ) (why : Why) (aim : Aim) (index : ℕ) (root : Root) (steps : ℕ) (at : ProtectAt) (x : ℕ) → (w.seat i).phase ≡ Runs why (Protect aim index root steps at) → carries_at (finds w i) (upper (w.seat i).post.span) at x ≡ true → carries_at (w.mem Clock) (upper (w.seat i).post.span) at x ≡ true
 found_clock w i why aim index root steps (LoadClock tries) x q h = h
 found_clock w i why aim index root steps (PublishEra era tries) x q h = h
 found_clock w i why aim index root steps (LoadLink era tries) x q h = h

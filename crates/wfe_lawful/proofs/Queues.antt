@@ -24,9 +24,9 @@ use Rattle.wfe_lawful.proofs.Each.{all_of}
 use Rattle.wfe_lawful.proofs.Machines.{is_still, one_loud, told_loud}
 
 -- what was queued and taken by the record is what the book says
-record Agrees (a : Book) (p : Past) : Type 0 where
-  queued : queued_of p ≡ a.queued
-  taken : taken_of p ≡ a.taken
+pub record Agrees (a : Book) (p : Past) : Type 0 where
+  pub queued : queued_of p ≡ a.queued
+  pub taken : taken_of p ≡ a.taken
 
 one_agrees : (a : Book) (i : ℕ) (p : Past) (event : Event) → Agrees a p → Agrees (booked a event) (Then p i event)
 one_agrees a i p (events.Queued number value) g = record { queued = ap (λ (all : List ℕ). all ++ value ∷ []) g.queued; taken = g.taken }
@@ -52,7 +52,7 @@ one_agrees a i p (events.Got bucket version key value) g = record { queued = g.q
 one_agrees a i p (events.Put bucket version key value) g = record { queued = g.queued; taken = g.taken }
 one_agrees a i p (events.Removed bucket version key) g = record { queued = g.queued; taken = g.taken }
 
-told_agrees : (i : ℕ) (told : List Event) (p : Past) (a : Book) → Agrees a p → Agrees (booked_all a told) (tells_of p i told)
+pub told_agrees : (i : ℕ) (told : List Event) (p : Past) (a : Book) → Agrees a p → Agrees (booked_all a told) (tells_of p i told)
 told_agrees i [] p a g = g
 told_agrees i (event ∷ told) p a g = told_agrees i told (Then p i event) (booked a event) (one_agrees a i p event g)
 

@@ -15,6 +15,7 @@ use Rattle.wfe_placing.proofs.Keeps as placing
 use Rattle.wfe_placing.proofs.Linked as nexts
 use Rattle.wfe_placing.proofs.Ordered as order
 use Rattle.wfe_bare_ends.proofs.Bare as bare
+use Rattle.wfe_reasons.proofs.Keeps as reasons
 use Rattle.wfe_turns.proofs.Counted as turns
 use Rattle.wfe_finish.proofs.Finishes as finishes
 use Rattle.wfe_whole.specs.Whole.{HistoriesLawful}
@@ -43,6 +44,7 @@ histories_are_lawful layout items valid =
       answers = answers.records_keep_answers layout items valid;
       retires = placing.records_count_retires layout items valid;
       refusals = placing.records_refuse layout items valid;
+      reasons = reasons.records_keep_reasons layout items valid;
       turns = turns.histories_count layout items valid;
       ends = λ i. finishes.calls_finish layout items i valid;
     }

@@ -23,6 +23,7 @@ use Rattle.wfe_placing.specs.Order.{OrderLaw}
 use Rattle.wfe_placing.specs.Placing.{PlacingLaw}
 use Rattle.wfe_placing.specs.Retiring.{RefusalLaw, RetireCounts, RetireLaw}
 use Rattle.wfe_bare_ends.specs.BareEnds.{BareLaw}
+use Rattle.wfe_reasons.specs.Reasons.{ReasonLaw}
 use Rattle.wfe_turns.specs.Heard.{IsCounted}
 use Rattle.wfe_finish.specs.Finish.{CallFinishes}
 
@@ -64,18 +65,20 @@ pub record IsLawful (layout : Layout) (items : List Item) : Type 0 where
   -- map: the n-th change of a bucket tells version n, and a get its key's value at a version current during its call
   pub map : MapLaw layout.config.buckets (record_of layout items)
   -- queue: the n-th value queued has number n, and so has the n-th taken, which is that value and was queued before
-  -- in part: not when a dequeue may find the queue empty
   pub queue : QueueLaw (record_of layout items)
   -- steps: under Wait-Free Eras a Held or Null tells at most 3 * tries + 12 steps, a Held at index 1 at most three more
   -- in part: nothing of the other schemes, of when a helper word is used, nor of the steps of whole calls
   pub steps : is_wfe layout.config.scheme ≡ true → StepLaw layout.config.tries (record_of layout items)
   -- answers: a call's answer is of a kind that it may have, and the call told once what it answers of map and queue, or nothing
-  -- in part: not when a call may refuse, what it says of the clock or of the row that it holds, nor how often it begins anew
   pub answers : AnswersLaw layout.config.buckets (record_of layout items)
   -- answers: a call that answers Done with a version above 1, or Taken, has retired one row, and every other call none
   pub retires : RetireCounts (record_of layout items)
   -- answers: only a call that answers Done, Queued or Taken has told a change, or a link that is not to the tail
   pub refusals : RefusalLaw (record_of layout items)
+  -- answers: a change is done or refused by its bucket's pairs at a version of its call, and so are an enqueue, a dequeue and a
+  -- hold by what the queue and the bucket had; what a hold answers stands, and after a release nothing does
+  -- in part: not why no row was free, what is said of the clock, nor how often a call begins anew
+  pub reasons : ReasonLaw layout.config (record_of layout items)
   -- schedule: calls start on free seats, busy seats take turns, an End comes last in its turn and counts the turns of its call
   -- in part: not how many entries a turn may tell, nor that the number in a Held or Null counts turns
   pub turns : IsCounted layout items
