@@ -5,9 +5,9 @@ ghost use Rattle.wfe_core.specs.declared.post.Post.{Post};
 
 use crate::Running;
 use wfe_bucketmap::{Advance, Get, Hold, Release};
-use wfe_changes::ChangeBucket;
+use wfe_changes::{Put, Remove};
 use wfe_core::CallMachine;
-use wfe_defs::{Call, Change};
+use wfe_defs::Call;
 use wfe_iface::Scheme;
 use wfe_msqueue::{Dequeue, Enqueue};
 use wfe_scan::Scan;
@@ -15,7 +15,8 @@ use wfe_scan::Scan;
 /// A call under way under one scheme.
 pub type CallOf<S> = Running<
     Get<S>,
-    ChangeBucket<S>,
+    Put<S>,
+    Remove<S>,
     Enqueue<S>,
     Dequeue<S>,
     Hold<S>,
@@ -30,8 +31,8 @@ pub fn begin_call<S: Scheme>(call: Call) -> CallOf<S>
 {
     match call {
         Call::Get { key } => Running::Gets(Get::new(key)),
-        Call::Put { key, value } => Running::Changes(ChangeBucket::new(Change::Put { key, value })),
-        Call::Remove { key } => Running::Changes(ChangeBucket::new(Change::Removed { key })),
+        Call::Put { key, value } => Running::Puts(Put::new(key, value)),
+        Call::Remove { key } => Running::Removes(Remove::new(key)),
         Call::Enqueue { value } => Running::Enqueues(Enqueue::new(value)),
         Call::Dequeue => Running::Dequeues(Dequeue::new()),
         Call::Hold { key } => Running::Holds(Hold::new(key)),

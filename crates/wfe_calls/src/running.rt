@@ -6,7 +6,8 @@ use wfe_defs::Answer;
 #[derive(Drop)]
 pub enum Running<
     G: CallMachine,
-    C: CallMachine,
+    P: CallMachine,
+    M: CallMachine,
     E: CallMachine,
     D: CallMachine,
     H: CallMachine,
@@ -15,8 +16,8 @@ pub enum Running<
     N: CallMachine,
 > {
     Gets(G),
-    /// A put or a remove.
-    Changes(C),
+    Puts(P),
+    Removes(M),
     Enqueues(E),
     Dequeues(D),
     Holds(H),
@@ -27,24 +28,26 @@ pub enum Running<
 
 impl<
     G: CallMachine,
-    C: CallMachine,
+    P: CallMachine,
+    M: CallMachine,
     E: CallMachine,
     D: CallMachine,
     H: CallMachine,
     R: CallMachine,
     A: CallMachine,
     N: CallMachine,
-> CallMachine for Running<G, C, E, D, H, R, A, N> {
+> CallMachine for Running<G, P, M, E, D, H, R, A, N> {
     ghost use Rattle.wfe_calls.specs.Runs.{AllSuit, running_phase};
 
-    ghost suits = { AllSuit G.suits C.suits E.suits D.suits H.suits R.suits A.suits N.suits };
+    ghost suits = { AllSuit G.suits P.suits M.suits E.suits D.suits H.suits R.suits A.suits N.suits };
 
-    ghost phase = { running_phase G.phase C.phase E.phase D.phase H.phase R.phase A.phase N.phase };
+    ghost phase = { running_phase G.phase P.phase M.phase E.phase D.phase H.phase R.phase A.phase N.phase };
 
     fn next_op(&self, post: &Post, desk: &Desk) -> Op {
         match self {
             Running::Gets(machine) => machine.next_op(post, desk),
-            Running::Changes(machine) => machine.next_op(post, desk),
+            Running::Puts(machine) => machine.next_op(post, desk),
+            Running::Removes(machine) => machine.next_op(post, desk),
             Running::Enqueues(machine) => machine.next_op(post, desk),
             Running::Dequeues(machine) => machine.next_op(post, desk),
             Running::Holds(machine) => machine.next_op(post, desk),
@@ -63,7 +66,8 @@ impl<
     ) -> Option<Answer> {
         match self {
             Running::Gets(machine) => machine.take(post, desk, found, told),
-            Running::Changes(machine) => machine.take(post, desk, found, told),
+            Running::Puts(machine) => machine.take(post, desk, found, told),
+            Running::Removes(machine) => machine.take(post, desk, found, told),
             Running::Enqueues(machine) => machine.take(post, desk, found, told),
             Running::Dequeues(machine) => machine.take(post, desk, found, told),
             Running::Holds(machine) => machine.take(post, desk, found, told),
