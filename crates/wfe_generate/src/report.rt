@@ -1,5 +1,5 @@
 // The lines of a summary, to a sink.
-ghost use Rattle.std.specs.Prelude.{◌≡◌, ◌≤◌, [], codes, get_or, length, OnOk, OnErr};
+ghost use Rattle.std.specs.Prelude.{◌≡◌, ◌<◌, ◌≤◌, [], codes, get_or, length, OnOk, OnErr};
 ghost use Rattle.std.specs.Io.KnownBytes.{Appends};
 ghost use Rattle.wfe_generate.specs.Report.{summary_lines, named, report};
 ghost use Rattle.wfe_server.specs.Watched.{watch_text};
