@@ -84,13 +84,22 @@ def timed(program, trace):
         return seconds, sink.read()
 
 
-def printing_share(program, trace):
-    """The share of all instructions that functions of printing and writing take, by callgrind."""
+# Functions whose names show that they make the text of a line or hand bytes on.
+PRINTS = re.compile(r"wfe_trace|wfe_telling|wfe_outside|write|fmt|itoa|digits|memcpy|memmove")
+
+
+def shares(program, trace):
+    """The share of all instructions that functions of printing take, and the greatest single shares, by callgrind."""
     with tempfile.TemporaryDirectory() as folder, open(trace, "rb") as source:
         out = os.path.join(folder, "profile")
         subprocess.run(["valgrind", "--tool=callgrind", f"--callgrind-out-file={out}", program, "replay"], stdin=source,
                        stdout=subprocess.DEVNULL, stderr=subprocess.DEVNULL, check=True)
-        return subprocess.run(["callgrind_annotate", "--threshold=99", out], capture_output=True, check=True).stdout.decode()
+        text = subprocess.run(["callgrind_annotate", "--threshold=100", out], capture_output=True, check=True).stdout.decode()
+    rows = [(int(count.replace(",", "")), name) for count, name in re.findall(r"^\s*([\d,]+) \([^)]*\)\s+(\S.*)$", text, re.M)
+            if "PROGRAM TOTALS" not in name]
+    total = sum(count for count, _ in rows)
+    printing = sum(count for count, name in rows if PRINTS.search(name))
+    return printing / total, [(count / total, name) for count, name in rows[:12]]
 
 
 def main():
@@ -130,7 +139,10 @@ def main():
             if args.profile:
                 if shutil.which("valgrind") is None:
                     sys.exit("there is no valgrind")
-                print(printing_share(program, trace))
+                printing, greatest = shares(program, trace)
+                print(f"printing: {printing:.0%} of the instructions; the greatest shares:")
+                for share, name in greatest:
+                    print(f"  {share:6.1%} {name}")
 
 
 if __name__ == "__main__":

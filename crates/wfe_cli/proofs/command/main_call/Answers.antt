@@ -1,16 +1,30 @@
 use Rattle.wfe_cli.proofs.Complete.{complete}
 use Rattle.wfe_cli.proofs.Headline.{given_lawful, keeps_of}
+use Rattle.wfe_cli.proofs.Jobs.{nothing_kept, nothing_summarized, replays_as, summarizes_as}
 use Rattle.wfe_cli.proofs.command.main_call.Goals as goal
 
-pub returns-then-names_replay-clause-replays : goal.returns-then-names_replay-clause-replays
-returns-then-names_replay-clause-replays g c named = keeps_of _ c.perform.result _ _ _ _ _ c.perform.ensures.said
+pub returns-in-Ok-Some-clause-replays : goal.returns-in-Ok-Some-clause-replays
+returns-in-Ok-Some-clause-replays g c asks = keeps_of _ c.perform.result _ _ _ _ _ (replays_as _ _ _ c.perform.result _ _ _ _ _ c.in-Ok-Some.ensures.job asks c.perform.ensures.does)
 
-pub returns-then-names_replay-clause-lawful : goal.returns-then-names_replay-clause-lawful
-returns-then-names_replay-clause-lawful g c = given_lawful
+pub returns-in-Ok-Some-clause-lawful : goal.returns-in-Ok-Some-clause-lawful
+returns-in-Ok-Some-clause-lawful g c = given_lawful
 
-pub returns-then-names_replay-clause-complete : goal.returns-then-names_replay-clause-complete
-returns-then-names_replay-clause-complete g c named bytes progress told good reads writes =
-    complete _ c.perform.result _ _ _ _ _ c.perform.ensures.said bytes progress told good (λ fault. reads (c.perform.ensures.read fault)) (λ fault. writes (c.perform.ensures.write fault))
+pub returns-in-Ok-Some-clause-generates : goal.returns-in-Ok-Some-clause-generates
+returns-in-Ok-Some-clause-generates g c seed turns asks = summarizes_as _ _ _ seed turns c.perform.result _ _ _ _ _ c.in-Ok-Some.ensures.job asks c.perform.ensures.does
 
-pub returns-else-names_replay-clause-lawful : goal.returns-else-names_replay-clause-lawful
-returns-else-names_replay-clause-lawful g c = given_lawful
+pub returns-in-Ok-Some-clause-complete : goal.returns-in-Ok-Some-clause-complete
+returns-in-Ok-Some-clause-complete g c asks bytes progress told good reads writes =
+    complete _ c.perform.result _ _ _ _ _ (replays_as _ _ _ c.perform.result _ _ _ _ _ c.in-Ok-Some.ensures.job asks c.perform.ensures.does)
+    bytes progress told good (λ fault. reads (c.perform.ensures.read fault)) (λ fault. writes (c.perform.ensures.write fault))
+
+pub returns-in-Ok-None-clause-lawful : goal.returns-in-Ok-None-clause-lawful
+returns-in-Ok-None-clause-lawful g c = given_lawful
+
+pub returns-in-Err-clause-replays : goal.returns-in-Err-clause-replays
+returns-in-Err-clause-replays g c asks = nothing_kept _ _ _ _
+
+pub returns-in-Err-clause-lawful : goal.returns-in-Err-clause-lawful
+returns-in-Err-clause-lawful g c = given_lawful
+
+pub returns-in-Err-clause-generates : goal.returns-in-Err-clause-generates
+returns-in-Err-clause-generates g c seed turns asks = nothing_summarized _ seed turns _ _
