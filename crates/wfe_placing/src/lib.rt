@@ -35,8 +35,8 @@ pub fn records_retire_cuts()
     ensures { RecordsRetireCuts }
 {}
 
-/// A call that answers Done with a version above 1, or Taken, has retired one row where it ends, and
-/// every other call none.
+/// Where a call ends it has retired one row if it took a value, or if it changed a bucket that was
+/// changed before, so that its version is above 1; and else none.
 pub fn records_count_retires()
     ensures { RecordsCountRetires }
 {}

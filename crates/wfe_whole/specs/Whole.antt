@@ -71,7 +71,7 @@ pub record IsLawful (layout : Layout) (items : List Item) : Type 0 where
   pub steps : is_wfe layout.config.scheme ≡ true → StepLaw layout.config.tries (record_of layout items)
   -- answers: a call's answer is of a kind that it may have, and the call told once what it answers of map and queue, or nothing
   pub answers : AnswersLaw layout.config.buckets (record_of layout items)
-  -- answers: a call that answers Done with a version above 1, or Taken, has retired one row, and every other call none
+  -- answers: by its end a call has retired one row if it took a value or changed a bucket after its first version, else none
   pub retires : RetireCounts (record_of layout items)
   -- answers: only a call that answers Done, Queued or Taken has told a change, or a link that is not to the tail
   pub refusals : RefusalLaw (record_of layout items)
