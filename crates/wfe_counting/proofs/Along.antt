@@ -6,7 +6,7 @@ use Rattle.wfe_words.specs.Place.{is_valid}
 use Rattle.wfe_words.specs.declared.layout.Layout.{Layout}
 use Rattle.wfe_defs.specs.declared.call.Call.{Call}
 use Rattle.wfe_core.specs.Rest.{rest}
-use Rattle.wfe_core.specs.World.{is_busy, told_in}
+use Rattle.wfe_core.specs.World.{is_busy, step, told_in}
 use Rattle.wfe_laws.specs.Schedule as schedule
 use Rattle.wfe_laws.specs.Schedule.History.{Blank, Starts, Turns}
 use Rattle.wfe_history.specs.History.{Item, Begins, Steps, Made, fits, done, done_if, did, made_from, first_made, made_of}
@@ -20,6 +20,7 @@ pub record Around (made : Made) (h : schedule.History) : Type 0 where
   pub known : Inv made.world
   pub tells : schedule.record_of h ≡ made.past
   pub few : (k : ℕ) → is_busy made.world k ≡ true → (made.world.seat k).post.steps + rest made.world k < 2 ^ 62
+  pub more : (k : ℕ) → is_busy made.world k ≡ true → ((step made.world k).seat k).post.steps ≡ (made.world.seat k).post.steps + 1
 
 -- a property of where a history stands, which each item keeps
 pub record Kept (K : Made → schedule.History → Type 0) : Type 0 where
@@ -59,7 +60,7 @@ heard_snoc made (first ∷ path) item h = heard_snoc (did made first) path item 
 around : (layout : Layout) (path : List Item) → is_valid layout ≡ true → Around (made_of layout path) (heard_of layout path)
 around layout path d =
     let c : IsCounted layout path = histories_count layout path d in
-    record { known = inv_reached layout path d; tells = c.tells; few = c.few }
+    record { known = inv_reached layout path d; tells = c.tells; few = c.few; more = c.one_more }
 
 items_keep : (layout : Layout) (K : Made → schedule.History → Type 0) → Kept K → is_valid layout ≡ true → (items path : List Item) → K (made_of layout path) (heard_of layout path) → K (made_from (made_of layout path) items) (heard_from (made_of layout path) items (heard_of layout path))
 items_keep layout K q d [] path g = g

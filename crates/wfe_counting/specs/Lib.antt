@@ -1,2 +1,3 @@
 pub mod OneStep
+pub mod Protections
 pub mod Turns

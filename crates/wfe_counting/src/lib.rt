@@ -3,9 +3,18 @@
 #![tactic(auto)]
 
 ghost use Rattle.wfe_counting.specs.OneStep.{TurnsTellOne};
+ghost use Rattle.wfe_counting.specs.Protections.{ProtectionsCount};
 
 /// A turn tells at most one event of those that change or read a word of the table. What it tells is
 /// told by its own seat, as the record of a history says.
 pub fn turns_tell_one()
     ensures { TurnsTellOne }
+{}
+
+/// Under Hazard Eras and Wait-Free Eras the number in a Held or Null is that of the seat's turns from
+/// the first of the protection to the one that tells it. The first is the turn before the one with
+/// which the seat's index word, which published nothing, published an era, and both are turns of the
+/// present call.
+pub fn protections_count()
+    ensures { ProtectionsCount }
 {}
