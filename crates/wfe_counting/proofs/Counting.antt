@@ -178,22 +178,22 @@ phase_right w i a (Scans later at) e = tt
 phase_right w i a (Works work) e = tt
 
 -- what a history keeps of each seat
-abbrev published : schedule.History → ℕ → ℕ → ℕ
+abbrev pub published : schedule.History → ℕ → ℕ → ℕ
 published h k j = reserved_of k j (record_of h)
 
-abbrev since_of : schedule.History → ℕ → ℕ → ℕ
+abbrev pub since_of : schedule.History → ℕ → ℕ → ℕ
 since_of h k j = turns_since k j h
 
-abbrev SeatFits : World → schedule.History → ℕ → Type 0
+abbrev pub SeatFits : World → schedule.History → ℕ → Type 0
 SeatFits w h k = Fits (published h k) (since_of h k) (w.seat k).post (w.seat k).phase
 
-record Keeps (layout : Layout) (made : Made) (h : schedule.History) : Type 0 where
+pub record Keeps (layout : Layout) (made : Made) (h : schedule.History) : Type 0 where
   pub table : made.world.layout ≡ layout
   pub seats : (k : ℕ) → SeatFits made.world h k
   pub turns : (k : ℕ) → is_busy made.world k ≡ true → turns_of k h ≡ (made.world.seat k).post.steps
   pub law : EachTurn numbers_right h
 
-seat_of : (layout : Layout) (made : Made) (h : schedule.History) (i : ℕ) → is_ibr layout.config.scheme ≡ false → Around made h → is_busy made.world i ≡ true → Keeps layout made h → Seat (published h i) (since_of h i) layout i (made.world.seat i).phase (made.world.seat i).post
+pub seat_of : (layout : Layout) (made : Made) (h : schedule.History) (i : ℕ) → is_ibr layout.config.scheme ≡ false → Around made h → is_busy made.world i ≡ true → Keeps layout made h → Seat (published h i) (since_of h i) layout i (made.world.seat i).phase (made.world.seat i).post
 seat_of layout made h i n a y g =
     let w : World = made.world in
     let v : Inv w = a.known in
@@ -227,7 +227,7 @@ turns_here i h told = by (i == i) (same_number i)
     by true e = refl
     by false e = absurd (cc)
 
-published_here : (w : World) (i j : ℕ) (h : schedule.History) (a : Inv w) → i < w.layout.config.seats → published (Turns h i (told_in w i)) i j ≡ phase_x (w.seat i).phase j (published h i j)
+pub published_here : (w : World) (i j : ℕ) (h : schedule.History) (a : Inv w) → i < w.layout.config.seats → published (Turns h i (told_in w i)) i j ≡ phase_x (w.seat i).phase j (published h i j)
 published_here w i j h a b = reserved_tells i j (told_in w i) (record_of h) ∙ told_comes w i j (published h i j) a b
 
 step_own : (layout : Layout) (made : Made) (h : schedule.History) (i : ℕ) → is_ibr layout.config.scheme ≡ false → Around made h → i < made.world.layout.config.seats → is_busy made.world i ≡ true → Keeps layout made h → SeatFits (step made.world i) (Turns h i (told_in made.world i)) i
@@ -283,7 +283,7 @@ step_law layout made h i n a b y g =
     subst (λ (m : ℕ). events_right (published later i) (since_of later i) m (told_in w i) ≡ true) (sym c)
     (events_same x u (published later i) (since_of later i) call (told_in w i) (λ j. published_here w i j h a.known b) (λ j. turned_here i j h (told_in w i)) r)
 
-step_kept : (layout : Layout) (made : Made) (h : schedule.History) (i : ℕ) → is_ibr layout.config.scheme ≡ false → Around made h → i < made.world.layout.config.seats → is_busy made.world i ≡ true → Keeps layout made h → Keeps layout (done made (Steps i)) (Turns h i (told_in made.world i))
+pub step_kept : (layout : Layout) (made : Made) (h : schedule.History) (i : ℕ) → is_ibr layout.config.scheme ≡ false → Around made h → i < made.world.layout.config.seats → is_busy made.world i ≡ true → Keeps layout made h → Keeps layout (done made (Steps i)) (Turns h i (told_in made.world i))
 step_kept layout made h i n a b y g = record {
   table = g.table;
   seats = λ k. step_seats layout made h i k (k == i) refl n a b y g;
@@ -324,7 +324,7 @@ begin_turns w h i k call false e t z =
     let before : is_busy w k ≡ true = sym (ap (λ (l : Local). busy_in l.phase) s) ∙ z in
     rw e (t k before) ∙ sym (ap (λ (l : Local). l.post.steps) s)
 
-begin_kept : (layout : Layout) (made : Made) (h : schedule.History) (i : ℕ) (call : Call) → is_busy made.world i ≡ false → Keeps layout made h → Keeps layout (done made (Begins i call)) (Starts h i call)
+pub begin_kept : (layout : Layout) (made : Made) (h : schedule.History) (i : ℕ) (call : Call) → is_busy made.world i ≡ false → Keeps layout made h → Keeps layout (done made (Begins i call)) (Starts h i call)
 begin_kept layout made h i call y g = record {
   table = g.table;
   seats = λ k. begin_seats made.world h i k call (k == i) refl y g.seats;
@@ -335,7 +335,7 @@ begin_kept layout made h i call y g = record {
 kept : (layout : Layout) → is_ibr layout.config.scheme ≡ false → Kept (Keeps layout)
 kept layout n = record { begins = λ made h i call a b f g. begin_kept layout made h i call f g; steps = λ made h i a b y g. step_kept layout made h i n a b y g }
 
-first_kept : (layout : Layout) → is_ibr layout.config.scheme ≡ false → Keeps layout (first_made layout) Blank
+pub first_kept : (layout : Layout) → is_ibr layout.config.scheme ≡ false → Keeps layout (first_made layout) Blank
 first_kept layout n = record {
   table = refl;
   seats = λ k. record { clean = record { free = λ j e. refl; two = λ e m. refl; plain = n }; own = refl };

@@ -2,7 +2,7 @@
 -- a protection as many turns ago as the protection has made steps since. What comes after a machine keeps that.
 use Rattle.std.proofs.Common.{ℕ, ◌≡◌, ◌+◌, ◌-◌, Bool, true, false, List, [], ◌∷◌, ◌++◌, length, Option, Some, None, refl, arith}
 use Rattle.std.proofs.lemmas.Bool.Decides.{nat_tests}
-use Rattle.std.specs.Prelude.{◌==◌, ◌&&◌, ◌%◌, not, nat_le, nat_lt, is_none, if◌then◌else◌}
+use Rattle.std.specs.Prelude.{◌==◌, ◌&&◌, ◌||◌, ◌*◌, ◌%◌, not, nat_le, nat_lt, is_none, if◌then◌else◌}
 use Rattle.wfe_words.specs.declared.config.SchemeKind.{SchemeKind}
 use Rattle.wfe_words.specs.declared.config.SchemeKind.TheVariants.{He, Ibr, Wfe}
 use Rattle.wfe_defs.specs.declared.call.Answer.{Answer}
@@ -30,12 +30,13 @@ use Rattle.wfe_core.specs.Posts.{stands}
 use Rattle.wfe_core.specs.Rounds.{scheme_of, bucket_of, index_of, root_of, taken_of, begin_base, protect_base, release_base, clear_base, finish_base, opening, round_by, round, given_up, closed, finishing_by, finishing, clearing_by, clearing, clearing_next_by, clearing_next}
 use Rattle.wfe_core.specs.Scan as scan
 use Rattle.wfe_core.specs.Steps as steps
-use Rattle.wfe_core.specs.Phases.{ProtectAt, Base, Ending, Outcome, Goes, Ends}
+use Rattle.wfe_core.specs.Phases.{Tries, Endless, Failed, ProtectAt, Base, Ending, Outcome, Goes, Ends}
 use Rattle.wfe_core.specs.Phases.ProtectAt.{LoadClock, PublishEra, LoadLink, CheckClock, PublishRequest, LoadOwnClock, PublishHelper, LoadOwnLink, CheckOwnClock, AnswerOwn, LoadAnswer, TakeAnswer, WithdrawRequest, WithdrawHelper, LoadWithin, CheckUpper, RaiseUpper}
 use Rattle.wfe_core.specs.Phases.Base.{Protect, Reload}
 use Rattle.wfe_core.specs.Phases.Ending.{Done, Protected, Followed, Allocated, Retired, Clocked}
 use Rattle.wfe_core.specs.Calls.{Task, Gets, Changes, Holds, Enqueues, Dequeues, Next, Again, MakeRoom, Answering, Retiring, AfterScan, Answered, Repeated, Counted, ChangeKept, EnqueueKept, GetAt, FindVersion, FindCount, FindKey, FindValue, ChangeAt, LoadVersion, LoadCount, LoadKey, LoadValue, ExchangeRoot, EnqueueAt, LoadNumber, LoadNext, PassTail, ExchangeNext, ExchangeTail, DequeueAt, LoadTail, SwingTail, TakeNumber, TakeValue, ExchangeHead, Work, Getting, Changing, Enqueuing, Dequeuing, ScanAt, ReadGuard, GiveBack, Why, Opens, FollowsHead, Fills, ClearsNext, Clears, Finishes, GivesUp, Retires, Tidies, Advances, Releases, Phase, Idle, Runs, Scans, Works, CallTurn}
 use Rattle.wfe_eras.specs.Frame.{is_ibr, phase_left}
+use Rattle.wfe_eras.specs.Seats.{is_he}
 use Rattle.wfe_covers.specs.Rests.{spare, bare, beside, within, deep, vacant_later, vacant_work, vacant_released}
 use Rattle.wfe_covers.proofs.Resting.{bare_own}
 
@@ -104,11 +105,16 @@ fills_task Dequeues = false
 abbrev pub since : (steps published turns : ℕ) → Bool
 since steps published turns = nat_lt 0 published && steps == turns + 1
 
+-- Hazard Eras count no tries: three steps an era that was published
+abbrev pub tried : Tries → (endless : Bool) → Bool
+tried Endless endless = endless
+tried (Failed count) endless = true
+
 abbrev pub paced : ProtectAt → (steps published turns : ℕ) → Bool
 paced (LoadClock tries) steps published turns = published == 0 && steps == 0
-paced (PublishEra era tries) steps published turns = if published == 0 then steps == 1 else steps == turns + 1
-paced (LoadLink era tries) steps published turns = since steps published turns
-paced (CheckClock era tries link) steps published turns = since steps published turns
+paced (PublishEra era tries) steps published turns = (if published == 0 then steps == 1 else steps == turns + 1) && tried tries (steps == 3 * published + 1)
+paced (LoadLink era tries) steps published turns = since steps published turns && tried tries (steps + 1 == 3 * published)
+paced (CheckClock era tries link) steps published turns = since steps published turns && tried tries (steps == 3 * published)
 paced PublishRequest steps published turns = since steps published turns
 paced LoadOwnClock steps published turns = since steps published turns
 paced (PublishHelper first era last) steps published turns = since steps published turns
@@ -134,7 +140,7 @@ taken index at stood = true
 
 abbrev pub base_own : (x u : ℕ → ℕ) → Post → Base → Bool
 base_own x u post (Protect aim index root steps at) = paced at steps (x index) (u index) && (nat_le steps post.steps && taken index at (stands post 2))
-base_own x u post (Reload parent index slot era steps) = since steps (x index) (u index) && nat_le steps post.steps
+base_own x u post (Reload parent index slot era steps) = since steps (x index) (u index) && (nat_le steps post.steps && (not (is_he (scheme_of post)) || steps == 3 * x index + 1))
 base_own x u post base = true
 
 abbrev pub own : (x u : ℕ → ℕ) → Post → Phase → Bool

@@ -6,3 +6,4 @@ pub mod Passing
 pub mod Protects
 pub mod Runs
 pub mod Told
+pub mod Tried

@@ -1,8 +1,11 @@
 -- A step inside a machine keeps what a seat has published where it stands, and the numbers that it tells are right.
+use Rattle.wfe_reuse.proofs.Passes.{both}
 use Rattle.std.proofs.Common.{ℕ, ◌≡◌, ◌≢◌, ◌≤◌, ◌-◌, ◌+◌, Bool, true, false, List, [], ◌∷◌, length, Option, Some, None, refl, sym, ap, ◌∙◌, arith}
 use Rattle.std.proofs.lemmas.Bool.Decides.{nat_tests}
-use Rattle.std.specs.Prelude.{◌==◌, ◌&&◌, nat_le, if◌then◌else◌}
+use Rattle.std.specs.Prelude.{◌==◌, ◌&&◌, ◌||◌, ◌*◌, nat_le, if◌then◌else◌, not}
 use Rattle.wfe_words.specs.declared.config.Config.{Config}
+use Rattle.wfe_words.specs.declared.config.SchemeKind.{SchemeKind}
+use Rattle.wfe_words.specs.declared.config.SchemeKind.TheVariants.{He, Ibr, Wfe}
 use Rattle.wfe_words.specs.declared.packed.Request.{Request}
 use Rattle.wfe_words.specs.declared.packed.Request.TheVariants as requests
 use Rattle.wfe_words.specs.Packed.{reservation_word}
@@ -17,7 +20,7 @@ use Rattle.wfe_core.specs.Machine as machine
 use Rattle.wfe_core.specs.Memory.{bump}
 use Rattle.wfe_core.specs.MoveClock as movers
 use Rattle.wfe_core.specs.Posts.{upper, stands, with_row, cleared, reserves_index, reserves_helper}
-use Rattle.wfe_core.specs.Protect.{held_post, told_held, concluded, trying}
+use Rattle.wfe_core.specs.Protect.{failed_once, held_post, told_held, concluded, trying}
 use Rattle.wfe_core.specs.Rounds.{scheme_of, index_of}
 use Rattle.wfe_core.specs.SlowPath.{own_request, answer_in, lost_turn}
 use Rattle.wfe_core.specs.Phases.{Aim, Tries, Endless, Failed, BeginAt, ProtectAt, MoveAt, Base, Turn}
@@ -27,10 +30,10 @@ use Rattle.wfe_core.specs.Phases.MoveAt.{HandOver}
 use Rattle.wfe_core.specs.Phases.Base.{Begin, Protect, Reload, Clear, Finish, Release, Allocate, Write, GiveUp, Retire, Move}
 use Rattle.wfe_core.specs.Calls.{Task, Gets, Changes, Holds, Enqueues, Dequeues, Why, Opens, FollowsHead, Fills, ClearsNext, Clears, Finishes, GivesUp, Retires, Tidies, Advances, Releases}
 use Rattle.wfe_eras.specs.Frame.{is_ibr}
-use Rattle.wfe_eras.specs.Seats.{index_by, root_by, kind_of, protects}
+use Rattle.wfe_eras.specs.Seats.{is_he, is_wfe, try_fits, index_by, root_by, kind_of, protects}
 use Rattle.wfe_covers.proofs.Stands.{with_row_same, with_row_other}
 use Rattle.wfe_counting.specs.Protections.{reserved_by, number_right}
-use Rattle.wfe_counting.proofs.Fits.{free_why, holds_why, is_hold, Clean, since, paced, stands_taken, taken}
+use Rattle.wfe_counting.proofs.Fits.{tried, free_why, holds_why, is_hold, Clean, since, paced, stands_taken, taken}
 use Rattle.wfe_counting.proofs.Told.{reserved_along, dull_reserved, cleared_dull, concluded_told, move_dull, allocate_dull, retire_dull, write_dull, index_more, index_none, index_other, held_reserved, reserved_both}
 use Rattle.wfe_rows.proofs.Went.{same_number}
 
@@ -143,13 +146,53 @@ number_of n x u call h k = grind (arith, nat_tests)
 pub own_x : (index at_n : ℕ) → (if index == index then at_n + 1 else at_n) ≡ at_n + 1
 own_x index n = let e : (index == index) ≡ true = same_number index in rw e refl
 
-pub paced_trying : (c : Config) (era : ℕ) (tries : Tries) (n x u : ℕ) → since n x u ≡ true → paced (trying c era tries) n x u ≡ true
-paced_trying c era Endless n x u h = h
-paced_trying c era (Failed count) n x u h = by (nat_le c.tries count)
+pub tried_of : (tries : Tries) (b : Bool) → b ≡ true → tried tries b ≡ true
+tried_of Endless b h = h
+tried_of (Failed count) b h = refl
+
+pub tried_with : (tries : Tries) (a b : Bool) → (a ≡ true → b ≡ true) → tried tries a ≡ true → tried tries b ≡ true
+tried_with Endless a b w h = w h
+tried_with (Failed count) a b w h = refl
+
+pub tried_again : (tries : Tries) (a b : Bool) → (a ≡ true → b ≡ true) → tried tries a ≡ true → tried (failed_once tries) b ≡ true
+tried_again Endless a b w h = w h
+tried_again (Failed count) a b w h = refl
+
+pub he_tried : (scheme : SchemeKind) (most : ℕ) (tries : Tries) (a : Bool) → try_fits scheme most tries ≡ true → is_he scheme ≡ true → tried tries a ≡ true → a ≡ true
+he_tried scheme most Endless a f e h = h
+he_tried He most (Failed count) a f e h = absurd (cc)
+he_tried Ibr most (Failed count) a f e h = absurd (cc)
+he_tried Wfe most (Failed count) a f e h = absurd (cc)
+
+pub he_not_wfe : (scheme : SchemeKind) → is_wfe scheme ≡ true → is_he scheme ≡ true → ⊥
+he_not_wfe He w h = cc
+he_not_wfe Ibr w h = cc
+he_not_wfe Wfe w h = cc
+
+pub he_first : (steps x : ℕ) → (x == 0 && steps == 0) ≡ true → (steps + 1 == 3 * x + 1) ≡ true
+he_first steps x h = grind (arith, nat_tests)
+
+pub he_publish : (steps x : ℕ) → (steps == 3 * x + 1) ≡ true → (steps + 1 + 1 == 3 * (x + 1)) ≡ true
+he_publish steps x h = grind (arith, nat_tests)
+
+pub he_next : (steps x : ℕ) → (steps == 3 * x) ≡ true → (steps + 1 == 3 * x + 1) ≡ true
+he_next steps x h = grind (arith, nat_tests)
+
+pub he_or : (h b : Bool) → (h ≡ true → b ≡ true) → (not h || b) ≡ true
+he_or true b w = w refl
+he_or false b w = refl
+
+pub or_he : (h b : Bool) → (not h || b) ≡ true → h ≡ true → b ≡ true
+or_he true b w e = w
+or_he false b w e = absurd (cc)
+
+pub paced_trying : (c : Config) (era : ℕ) (tries : Tries) (n x u : ℕ) → since n x u ≡ true → tried tries (n + 1 == 3 * x) ≡ true → paced (trying c era tries) n x u ≡ true
+paced_trying c era Endless n x u h t = both (since n x u) (n + 1 == 3 * x) h t
+paced_trying c era (Failed count) n x u h t = by (nat_le c.tries count)
   where
     by : (b : Bool) → paced (if b then PublishRequest else LoadLink era (Failed count)) n x u ≡ true
     by true = h
-    by false = h
+    by false = both (since n x u) true h refl
 
 pub taken_trying : (c : Config) (era : ℕ) (tries : Tries) (index : ℕ) (stood : Option ℕ) → taken index (trying c era tries) stood ≡ true
 taken_trying c era Endless index stood = refl

@@ -1,6 +1,6 @@
 -- The steps of a protection: what its seat has published, and the turns since, go on with its steps.
-use Rattle.std.proofs.Common.{ℕ, ◌≡◌, ◌-◌, ◌+◌, Bool, true, false, List, [], ◌++◌, length, Option, None, refl, subst, arith}
-use Rattle.std.specs.Prelude.{◌==◌, ◌&&◌, nat_le, if◌then◌else◌}
+use Rattle.std.proofs.Common.{ℕ, ◌≡◌, ◌-◌, ◌+◌, Bool, true, false, List, [], ◌++◌, length, Option, None, refl, subst, arith, sym, ap, ◌∙◌}
+use Rattle.std.specs.Prelude.{◌==◌, ◌&&◌, ◌||◌, ◌*◌, not, nat_le, if◌then◌else◌}
 use Rattle.wfe_words.specs.Packed.{read_request}
 use Rattle.wfe_defs.specs.declared.event.Event.{Event}
 use Rattle.wfe_defs.specs.declared.event.Root.{Root}
@@ -10,7 +10,7 @@ use Rattle.wfe_core.specs.declared.post.Post.{Post}
 use Rattle.wfe_core.specs.Links.{parent_of}
 use Rattle.wfe_core.specs.Machine as machine
 use Rattle.wfe_core.specs.Posts.{stands, with_tag, tag_of, reserves_index, reserves_helper}
-use Rattle.wfe_core.specs.Protect.{held_post, told_held, concluded, trying}
+use Rattle.wfe_core.specs.Protect.{failed_once, held_post, told_held, concluded, trying}
 use Rattle.wfe_core.specs.Rounds.{scheme_of, index_of}
 use Rattle.wfe_core.specs.SlowPath.{own_request, answer_in, lost_turn}
 use Rattle.wfe_core.specs.Phases.{Aim, Alone, Follows, ProtectAt, Turn, goes, ends}
@@ -19,12 +19,12 @@ use Rattle.wfe_core.specs.Phases.Base.{Protect, Reload}
 use Rattle.wfe_core.specs.Phases.Ending.{Protected, Followed}
 use Rattle.wfe_core.specs.Calls.{Task, Why, Opens, FollowsHead, Fills, ClearsNext, Clears, Finishes, GivesUp, Retires, Tidies, Advances, Releases}
 use Rattle.wfe_eras.specs.Frame.{is_ibr}
-use Rattle.wfe_eras.specs.Seats.{protect_fits, aim_by, index_by, root_by, kind_of, protects}
-use Rattle.wfe_reuse.proofs.Passes.{both}
+use Rattle.wfe_eras.specs.Seats.{is_he, protect_fits, aim_by, index_by, root_by, kind_of, protects}
+use Rattle.wfe_reuse.proofs.Passes.{both, first_of, rest_of}
 use Rattle.wfe_counting.specs.Protections.{events_right}
-use Rattle.wfe_counting.proofs.Fits.{free_why, holds_why, is_hold, Clean, since, paced, stands_taken, taken, Passes, Opened}
+use Rattle.wfe_counting.proofs.Fits.{tried, free_why, holds_why, is_hold, Clean, since, paced, stands_taken, taken, Passes, Opened}
 use Rattle.wfe_counting.proofs.Told.{concluded_told, held_right}
-use Rattle.wfe_counting.proofs.Passing.{protect_x, turned, since_next, since_publish, publish_next, since_again, first_next, few_next, number_of, own_x, paced_trying, taken_trying, paced_lost, taken_lost, paced_answer, taken_answer, held_other, held_taken, protect_clean}
+use Rattle.wfe_counting.proofs.Passing.{tried_of, tried_with, tried_again, he_tried, he_not_wfe, he_first, he_publish, he_next, he_or, protect_x, turned, since_next, since_publish, publish_next, since_again, first_next, few_next, number_of, own_x, paced_trying, taken_trying, paced_lost, taken_lost, paced_answer, taken_answer, held_other, held_taken, protect_clean}
 
 -- what is known of a protection that makes a step: `n` is the step's number, `count` the steps of its call before it
 pub record Site (x u : ℕ → ℕ) (buckets : ℕ) (why : Why) (aim : Aim) (index : ℕ) (root : Root) (steps n count : ℕ) (at : ProtectAt) (post : Post) : Type 0 where
@@ -96,26 +96,30 @@ conclude : (x u : ℕ → ℕ) (buckets : ℕ) (why : Why) (aim : Aim) (index : 
     → since n (x_next x index at index) (u_next x u index) ≡ true
     → nat_le n next.steps ≡ true
     → stands_taken index link (stands next 2) ≡ true
+    → (is_he (scheme_of next) ≡ true → (n == 3 * x_next x index at index + 1) ≡ true)
     → Goal x u index at why (concluded aim index root n link era next told)
-conclude x u buckets (Opens task) Alone index root n at link era next told p a i c s f t = link_ends x u index at task link era next told (link == 0) refl i c t
-conclude x u buckets (FollowsHead head tail) Follows index root n at link era next told p a i c s f t =
+conclude x u buckets (Opens task) Alone index root n at link era next told p a i c s f t h = link_ends x u index at task link era next told (link == 0) refl i c t
+conclude x u buckets (FollowsHead head tail) Follows index root n at link era next told p a i c s f t h =
     pass_if x u index at (FollowsHead head tail) (link == 0) (ends next told (Followed follow_ends.NoNext)) (goes next told (Reload (parent_of root) index (link - 1) era n)) c
-    (record { clean = c; own = both (since n (x_next x index at index) (u_next x u index)) (nat_le n next.steps) s f })
-conclude x u buckets (Opens task) Follows index root n at link era next told p a i c s f t = absurd (cc)
-conclude x u buckets (FollowsHead head tail) Alone index root n at link era next told p a i c s f t = absurd (cc)
-conclude x u buckets (Fills task) aim index root n at link era next told p a i c s f t = absurd (cc)
-conclude x u buckets (ClearsNext later) aim index root n at link era next told p a i c s f t = absurd (cc)
-conclude x u buckets (Clears task later) aim index root n at link era next told p a i c s f t = absurd (cc)
-conclude x u buckets (Finishes task later) aim index root n at link era next told p a i c s f t = absurd (cc)
-conclude x u buckets (GivesUp answer) aim index root n at link era next told p a i c s f t = absurd (cc)
-conclude x u buckets (Retires answer) aim index root n at link era next told p a i c s f t = absurd (cc)
-conclude x u buckets (Tidies later) aim index root n at link era next told p a i c s f t = absurd (cc)
-conclude x u buckets Advances aim index root n at link era next told p a i c s f t = absurd (cc)
-conclude x u buckets (Releases key) aim index root n at link era next told p a i c s f t = absurd (cc)
+    (record { clean = c; own = both (since n (x_next x index at index) (u_next x u index)) (nat_le n next.steps && (not (is_he (scheme_of next)) || n == 3 * x_next x index at index + 1)) s (both (nat_le n next.steps) (not (is_he (scheme_of next)) || n == 3 * x_next x index at index + 1) f (he_or (is_he (scheme_of next)) (n == 3 * x_next x index at index + 1) h)) })
+conclude x u buckets (Opens task) Follows index root n at link era next told p a i c s f t h = absurd (cc)
+conclude x u buckets (FollowsHead head tail) Alone index root n at link era next told p a i c s f t h = absurd (cc)
+conclude x u buckets (Fills task) aim index root n at link era next told p a i c s f t h = absurd (cc)
+conclude x u buckets (ClearsNext later) aim index root n at link era next told p a i c s f t h = absurd (cc)
+conclude x u buckets (Clears task later) aim index root n at link era next told p a i c s f t h = absurd (cc)
+conclude x u buckets (Finishes task later) aim index root n at link era next told p a i c s f t h = absurd (cc)
+conclude x u buckets (GivesUp answer) aim index root n at link era next told p a i c s f t h = absurd (cc)
+conclude x u buckets (Retires answer) aim index root n at link era next told p a i c s f t h = absurd (cc)
+conclude x u buckets (Tidies later) aim index root n at link era next told p a i c s f t h = absurd (cc)
+conclude x u buckets Advances aim index root n at link era next told p a i c s f t h = absurd (cc)
+conclude x u buckets (Releases key) aim index root n at link era next told p a i c s f t h = absurd (cc)
 
 -- the post after a link was found
 held_steps : (post : Post) (index : ℕ) (root : Root) (link : ℕ) → (held_post post index root link).steps ≡ post.steps
 held_steps post index root link = grind arith
+
+held_scheme : (post : Post) (index : ℕ) (root : Root) (link : ℕ) → scheme_of (held_post post index root link) ≡ scheme_of post
+held_scheme post index root link = grind arith
 
 held_plain : (post : Post) (index : ℕ) (root : Root) (link : ℕ) → is_ibr (scheme_of post) ≡ false → is_ibr (scheme_of (held_post post index root link)) ≡ false
 held_plain post index root link h = grind arith
@@ -127,27 +131,29 @@ pub protect_passes : (x u : ℕ → ℕ) (buckets : ℕ) (why : Why) (aim : Aim)
 protect_passes x u buckets why aim index root steps n count (LoadClock tries) post found s =
     let c : Clean (x_next x index (LoadClock tries)) post (free_why why) (holds_why why) = protect_clean why index (LoadClock tries) post post s.protects s.place s.scheme (λ e. refl) s.clean in
     let f : nat_le n post.steps ≡ true = few_now n steps count post.steps s.next s.call s.few in
-    on_fits x u index (LoadClock tries) why aim root n (PublishEra found tries) post [] c (rw (s.next) (first_next steps (x index) (u index) s.paced)) f refl
+    on_fits x u index (LoadClock tries) why aim root n (PublishEra found tries) post [] c (both (if x index == 0 then n == 1 else n == turned (x index) (u index) + 1) (tried tries (n == 3 * x index + 1)) (rw (s.next) (first_next steps (x index) (u index) s.paced)) (tried_of tries (n == 3 * x index + 1) (rw (s.next) (he_first steps (x index) s.paced)))) f refl
 protect_passes x u buckets why aim index root steps n count (PublishEra era tries) post found s =
     let c : Clean (x_next x index (PublishEra era tries)) post (free_why why) (holds_why why) = protect_clean why index (PublishEra era tries) post post s.protects s.place s.scheme (λ e. refl) s.clean in
     let f : nat_le n post.steps ≡ true = few_now n steps count post.steps s.next s.call s.few in
     let q : x_next x index (PublishEra era tries) index ≡ x index + 1 = own_x index (x index) in
-    let p : since n (x_next x index (PublishEra era tries) index) (turned (x index) (u index)) ≡ true = rw q (rw (s.next) (publish_next steps (x index) (u index) s.paced)) in
-    on_fits x u index (PublishEra era tries) why aim root n (trying post.layout.config era tries) post (reserves_index post index era) c (paced_trying post.layout.config era tries n (x_next x index (PublishEra era tries) index) (u_next x u index) p) f (taken_trying post.layout.config era tries index (stands post 2))
+    let p : since n (x_next x index (PublishEra era tries) index) (turned (x index) (u index)) ≡ true = rw q (rw (s.next) (publish_next steps (x index) (u index) (first_of (if x index == 0 then steps == 1 else steps == u index + 1) (tried tries (steps == 3 * x index + 1)) s.paced))) in
+    on_fits x u index (PublishEra era tries) why aim root n (trying post.layout.config era tries) post (reserves_index post index era) c (paced_trying post.layout.config era tries n (x_next x index (PublishEra era tries) index) (u_next x u index) p (rw q (rw (s.next) (tried_with tries (steps == 3 * x index + 1) (steps + 1 + 1 == 3 * (x index + 1)) (λ h. he_publish steps (x index) h) (rest_of (if x index == 0 then steps == 1 else steps == u index + 1) (tried tries (steps == 3 * x index + 1)) s.paced))))) f (taken_trying post.layout.config era tries index (stands post 2))
 protect_passes x u buckets why aim index root steps n count (LoadLink era tries) post found s =
     let c : Clean (x_next x index (LoadLink era tries)) post (free_why why) (holds_why why) = protect_clean why index (LoadLink era tries) post post s.protects s.place s.scheme (λ e. refl) s.clean in
     let f : nat_le n post.steps ≡ true = few_now n steps count post.steps s.next s.call s.few in
-    let p : since n (x index) (turned (x index) (u index)) ≡ true = rw (s.next) (since_next steps (x index) (u index) s.paced) in
-    on_fits x u index (LoadLink era tries) why aim root n (CheckClock era tries found) post [] c p f refl
+    let p : since n (x index) (turned (x index) (u index)) ≡ true = rw (s.next) (since_next steps (x index) (u index) (first_of (since steps (x index) (u index)) (tried tries (steps + 1 == 3 * x index)) s.paced)) in
+    on_fits x u index (LoadLink era tries) why aim root n (CheckClock era tries found) post [] c (both (since n (x index) (turned (x index) (u index))) (tried tries (n == 3 * x index)) p (rw (s.next) (rest_of (since steps (x index) (u index)) (tried tries (steps + 1 == 3 * x index)) s.paced))) f refl
 protect_passes x u buckets why aim index root steps n count (CheckClock era tries link) post found s =
     let c : Clean (x_next x index (CheckClock era tries link)) post (free_why why) (holds_why why) = protect_clean why index (CheckClock era tries link) post post s.protects s.place s.scheme (λ e. refl) s.clean in
     let f : nat_le n post.steps ≡ true = few_now n steps count post.steps s.next s.call s.few in
-    let p : since n (x index) (turned (x index) (u index)) ≡ true = rw (s.next) (since_next steps (x index) (u index) s.paced) in
+    let p : since n (x index) (turned (x index) (u index)) ≡ true = rw (s.next) (since_next steps (x index) (u index) (first_of (since steps (x index) (u index)) (tried tries (steps == 3 * x index)) s.paced)) in
+    let z : tried tries (steps == 3 * x index) ≡ true = rest_of (since steps (x index) (u index)) (tried tries (steps == 3 * x index)) s.paced in
     let h : Clean (x_next x index (CheckClock era tries link)) (held_post post index root link) (free_why why) (holds_why why) = protect_clean why index (CheckClock era tries link) post (held_post post index root link) s.protects s.place (held_plain post index root link s.scheme) (λ e. held_other post index root link e) s.clean in
     let g : nat_le n (held_post post index root link).steps ≡ true = rw (held_steps post index root link) f in
     pass_if x u index (CheckClock era tries link) why (found == era) (concluded aim index root n link era (held_post post index root link) (told_held index root link n)) _
-    (conclude x u buckets why aim index root n (CheckClock era tries link) link era (held_post post index root link) (told_held index root link n) s.protects s.aimed s.place h p g (held_taken buckets why index root link post s.protects s.place s.of s.eight))
-    (on_fits x u index (CheckClock era tries link) why aim root n (PublishEra found _) post [] c (since_again n (x index) (turned (x index) (u index)) p) f refl)
+    (conclude x u buckets why aim index root n (CheckClock era tries link) link era (held_post post index root link) (told_held index root link n) s.protects s.aimed s.place h p g (held_taken buckets why index root link post s.protects s.place s.of s.eight)
+    (λ e. rw (s.next) (he_next steps (x index) (he_tried (scheme_of post) post.layout.config.tries tries (steps == 3 * x index) s.fits (sym (ap is_he (held_scheme post index root link)) ∙ e) z))))
+    (on_fits x u index (CheckClock era tries link) why aim root n (PublishEra found (failed_once tries)) post [] c (both (if x index == 0 then n == 1 else n == turned (x index) (u index) + 1) (tried (failed_once tries) (n == 3 * x index + 1)) (since_again n (x index) (turned (x index) (u index)) p) (rw (s.next) (tried_again tries (steps == 3 * x index) (steps + 1 == 3 * x index + 1) (λ w. he_next steps (x index) w) z))) f refl)
 protect_passes x u buckets why aim index root steps n count PublishRequest post found s =
     let c : Clean (x_next x index PublishRequest) post (free_why why) (holds_why why) = protect_clean why index PublishRequest post post s.protects s.place s.scheme (λ e. refl) s.clean in
     let f : nat_le n post.steps ≡ true = few_now n steps count post.steps s.next s.call s.few in
@@ -204,7 +210,7 @@ protect_passes x u buckets why aim index root steps n count (WithdrawHelper link
     let c : Clean (x_next x index (WithdrawHelper link era)) post (free_why why) (holds_why why) = protect_clean why index (WithdrawHelper link era) post post s.protects s.place s.scheme (λ e. refl) s.clean in
     let f : nat_le n post.steps ≡ true = few_now n steps count post.steps s.next s.call s.few in
     let p : since n (x index) (turned (x index) (u index)) ≡ true = rw (s.next) (since_next steps (x index) (u index) s.paced) in
-    conclude x u buckets why aim index root n (WithdrawHelper link era) link era post (reserves_helper post 0) s.protects s.aimed s.place c p f s.stood
+    conclude x u buckets why aim index root n (WithdrawHelper link era) link era post (reserves_helper post 0) s.protects s.aimed s.place c p f s.stood (λ e. absurd (he_not_wfe (scheme_of post) s.fits e))
 protect_passes x u buckets why aim index root steps n count LoadWithin post found s = absurd (no_ibr (is_ibr (scheme_of post)) s.scheme s.fits)
 protect_passes x u buckets why aim index root steps n count (CheckUpper link) post found s = absurd (no_ibr (is_ibr (scheme_of post)) s.scheme s.fits)
 protect_passes x u buckets why aim index root steps n count (RaiseUpper era) post found s = absurd (no_ibr (is_ibr (scheme_of post)) s.scheme s.fits)
@@ -222,7 +228,7 @@ protect_rights x u buckets why aim index root steps n count (LoadClock tries) po
 protect_rights x u buckets why aim index root steps n count (PublishEra era tries) post found s = refl
 protect_rights x u buckets why aim index root steps n count (LoadLink era tries) post found s = refl
 protect_rights x u buckets why aim index root steps n count (CheckClock era tries link) post found s =
-    let p : since n (x index) (turned (x index) (u index)) ≡ true = rw (s.next) (since_next steps (x index) (u index) s.paced) in
+    let p : since n (x index) (turned (x index) (u index)) ≡ true = rw (s.next) (since_next steps (x index) (u index) (first_of (since steps (x index) (u index)) (tried tries (steps == 3 * x index)) s.paced)) in
     let f : nat_le n (count + 1) ≡ true = rw (s.next) (few_next steps count s.few) in
     rights_if (x_next x index (CheckClock era tries link)) (u_next x u) (count + 1) (found == era) (concluded aim index root n link era (held_post post index root link) (told_held index root link n)) _
     (concluded_rights (x_next x index (CheckClock era tries link)) (u_next x u) (count + 1) aim index root n link era (held_post post index root link) (told_held index root link n) (held_right (x_next x index (CheckClock era tries link)) (u_next x u) (count + 1) index root link n (number_of n (x index) (turned (x index) (u index)) (count + 1) p f))) refl

@@ -1,7 +1,7 @@
 -- A step of any phase keeps what its seat has published where it stands, and the numbers that it tells are right.
 use Rattle.std.proofs.Common.{ℕ, ◌≡◌, ◌≢◌, ◌≤◌, ◌<◌, ◌+◌, ◌^◌, Bool, true, false, [], ◌∷◌, length, Option, Some, None, refl, sym, ap, ◌∙◌, subst, arith}
 use Rattle.std.proofs.lemmas.Bool.Decides.{nat_tests}
-use Rattle.std.specs.Prelude.{◌==◌, ◌&&◌, nat_le, nat_lt, if◌then◌else◌}
+use Rattle.std.specs.Prelude.{◌==◌, ◌&&◌, ◌||◌, ◌*◌, nat_le, nat_lt, if◌then◌else◌, not}
 use Rattle.wfe_words.specs.Place.{is_valid}
 use Rattle.wfe_words.specs.Packed.{read_reservation, reservation_word}
 use Rattle.wfe_words.specs.declared.layout.Layout.{Layout}
@@ -28,7 +28,7 @@ use Rattle.wfe_core.specs.Phases.Ending.{Followed}
 use Rattle.wfe_core.specs.Calls.{Task, Gets, Changes, Holds, Enqueues, Dequeues, Why, Opens, FollowsHead, Fills, ClearsNext, Clears, Finishes, GivesUp, Retires, Tidies, Advances, Releases, Next, ReadGuard, GiveBack, Phase, Idle, Runs, Scans, Works}
 use Rattle.wfe_rows.specs.Hands.{runs_right, task_fills}
 use Rattle.wfe_eras.specs.Frame.{is_ibr, Moves, Passed}
-use Rattle.wfe_eras.specs.Seats.{Kind, protect_fits, kind_of, suits, PostFits, PhaseFits, Run}
+use Rattle.wfe_eras.specs.Seats.{is_he, Kind, protect_fits, kind_of, suits, PostFits, PhaseFits, Run}
 use Rattle.wfe_eras.proofs.Inside.{shape_moves}
 use Rattle.wfe_eras.proofs.Kept.{counted_fits, run_counted}
 use Rattle.wfe_covers.specs.Rests.{spare, bare, beside, within, deep, vacant_released}
@@ -138,7 +138,7 @@ calm_stays (GiveUp slot) post found h = refl
 calm_stays (Retire at) post found h = retire_stays at post found
 calm_stays (Move at) post found h = move_stays at post found
 
-abbrev x_after : (ℕ → ℕ) → Base → ℕ → ℕ
+abbrev pub x_after : (ℕ → ℕ) → Base → ℕ → ℕ
 x_after x base j = after_x base j (x j)
 
 abbrev pub u_after : (x u : ℕ → ℕ) → ℕ → ℕ
@@ -192,17 +192,17 @@ plain_next layout why base post found count s = let p = s.next.post in let e = p
 plain_now : {x u : ℕ → ℕ} (layout : Layout) (why : Why) (base : Base) (post : Post) (found count : ℕ) → Stage x u layout why base post found count → is_ibr (scheme_of post) ≡ false
 plain_now layout why base post found count s = ap (λ (table : Layout). is_ibr table.config.scheme) s.table ∙ s.scheme
 
-bump_low : (n count : ℕ) → n ≤ count → count < 2 ^ 62 → bump n ≡ n + 1
+pub bump_low : (n count : ℕ) → n ≤ count → count < 2 ^ 62 → bump n ≡ n + 1
 bump_low n count h l = by_room (nat_lt n 18446744073709551615) refl
   where
     by_room : (room : Bool) → nat_lt n 18446744073709551615 ≡ room → (if room then n + 1 else n) ≡ n + 1
     by_room true e = refl
     by_room false e = absurd (grind (arith, nat_tests))
 
-le_of : (n m : ℕ) → nat_le n m ≡ true → n ≤ m
+pub le_of : (n m : ℕ) → nat_le n m ≡ true → n ≤ m
 le_of n m h = grind (arith, nat_tests)
 
-site_of : {x u : ℕ → ℕ} (layout : Layout) (why : Why) (aim : Aim) (index : ℕ) (root : Root) (made : ℕ) (at : ProtectAt) (post : Post) (found count : ℕ) → Stage x u layout why (Protect aim index root made at) post found count → Site x u layout.config.buckets why aim index root made (bump made) count at post
+pub site_of : {x u : ℕ → ℕ} (layout : Layout) (why : Why) (aim : Aim) (index : ℕ) (root : Root) (made : ℕ) (at : ProtectAt) (post : Post) (found count : ℕ) → Stage x u layout why (Protect aim index root made at) post found count → Site x u layout.config.buckets why aim index root made (bump made) count at post
 site_of {x} {u} layout why aim index root made at post found count s =
     let r = s.run in
     let a = r.shape in
@@ -330,8 +330,8 @@ run_rights : (x u : ℕ → ℕ) (layout : Layout) (why : Why) (base : Base) (po
 run_rights x u layout why (Begin at) post found count s = absurd (no_case (is_ibr layout.config.scheme) s.scheme s.run.fits)
 run_rights x u layout why (Protect aim index root made at) post found count s = protect_rights x u layout.config.buckets why aim index root made (bump made) count at post found (site_of layout why aim index root made at post found count s)
 run_rights x u layout why (Reload parent index slot era made) post found count s =
-    let h : since made (x index) (u index) ≡ true = first_of (since made (x index) (u index)) (nat_le made count) s.own in
-    let f : nat_le made count ≡ true = rest_of (since made (x index) (u index)) (nat_le made count) s.own in
+    let h : since made (x index) (u index) ≡ true = first_of (since made (x index) (u index)) (nat_le made count && (not (is_he (scheme_of post)) || made == 3 * x index + 1)) s.own in
+    let f : nat_le made count ≡ true = first_of (nat_le made count) (not (is_he (scheme_of post)) || made == 3 * x index + 1) (rest_of (since made (x index) (u index)) (nat_le made count && (not (is_he (scheme_of post)) || made == 3 * x index + 1)) s.own) in
     let e : bump made ≡ made + 1 = bump_low made count (le_of made count f) s.low in
     held_if x (u_after x u) (count + 1) (found == parent + 1) (ends (with_row post index slot) (events.Held index slot (bump made) ∷ []) (Followed (follow_ends.Followed slot))) (ends post [] (Followed (follow_ends.RootMoved found)))
     (one_true (event_right x (u_after x u) (count + 1) (events.Held index slot (bump made))) (rw e (number_of (made + 1) (x index) (turned (x index) (u index)) (count + 1) (since_next made (x index) (u index) h) (few_next made count f)))) refl
@@ -365,7 +365,7 @@ pub record Seat (x u : ℕ → ℕ) (layout : Layout) (i : ℕ) (phase : Phase) 
 recount : {x : ℕ → ℕ} {post : Post} {f : ℕ → Bool} {hold : Bool} → Clean x post f hold → Clean x (counted post) f hold
 recount c = record { free = c.free; two = c.two; plain = c.plain }
 
-stage_of : (x u : ℕ → ℕ) (layout : Layout) (i : ℕ) (why : Why) (base : Base) (post : Post) (found : ℕ) → Seat x u layout i (Runs why base) post → Stage x u layout why base (counted post) found post.steps
+pub stage_of : (x u : ℕ → ℕ) (layout : Layout) (i : ℕ) (why : Why) (base : Base) (post : Post) (found : ℕ) → Seat x u layout i (Runs why base) post → Stage x u layout why base (counted post) found post.steps
 stage_of x u layout i why base post found s =
     let p = s.owned in
     let f = s.fits in

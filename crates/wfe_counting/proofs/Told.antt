@@ -94,7 +94,7 @@ quiet_one (events.Held index slot steps) h = absurd (cc)
 quiet_one (events.Null index steps) h = absurd (cc)
 quiet_one event h = refl
 
-quiet_dull : (told : List Event) → all_quiet told ≡ true → all_dull told ≡ true
+pub quiet_dull : (told : List Event) → all_quiet told ≡ true → all_dull told ≡ true
 quiet_dull [] h = refl
 quiet_dull (event ∷ told) h = both (is_dull event) (all_dull told) (quiet_one event (first_of (is_quiet event) (all_quiet told) h)) (quiet_dull told (rest_of (is_quiet event) (all_quiet told) h))
 
@@ -102,7 +102,7 @@ pub cleared_dull : (index : ℕ) (o : Option ℕ) → all_dull (cleared index o)
 cleared_dull index None = refl
 cleared_dull index (Some slot) = refl
 
-clear_dull : (scheme : SchemeKind) (post : Post) (index : ℕ) → all_dull (clear_told scheme post index) ≡ true
+pub clear_dull : (scheme : SchemeKind) (post : Post) (index : ℕ) → all_dull (clear_told scheme post index) ≡ true
 clear_dull He post index = refl
 clear_dull Ibr post index = cleared_dull index (stands post index)
 clear_dull Wfe post index = refl

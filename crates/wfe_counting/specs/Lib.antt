@@ -1,3 +1,4 @@
 pub mod OneStep
 pub mod Protections
+pub mod Tries
 pub mod Turns

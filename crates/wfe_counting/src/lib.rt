@@ -4,6 +4,7 @@
 
 ghost use Rattle.wfe_counting.specs.OneStep.{TurnsTellOne};
 ghost use Rattle.wfe_counting.specs.Protections.{ProtectionsCount};
+ghost use Rattle.wfe_counting.specs.Tries.{TriesCount};
 
 /// A turn tells at most one event of those that change or read a word of the table. What it tells is
 /// told by its own seat, as the record of a history says.
@@ -17,4 +18,10 @@ pub fn turns_tell_one()
 /// present call.
 pub fn protections_count()
     ensures { ProtectionsCount }
+{}
+
+/// Under Hazard Eras that number is one more than three times the number of eras that the seat's index
+/// word published since it published nothing, and for a row that was followed two more.
+pub fn tries_count()
+    ensures { TriesCount }
 {}
