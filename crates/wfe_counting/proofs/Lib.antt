@@ -1,4 +1,5 @@
 pub mod Along
+pub mod Bounded
 pub mod Counting
 pub mod Fits
 pub mod OneStep

@@ -1,3 +1,4 @@
+pub mod Bounded
 pub mod OneStep
 pub mod Protections
 pub mod Tries

@@ -2,6 +2,7 @@
 //! does nothing, and carries a theorem.
 #![tactic(auto)]
 
+ghost use Rattle.wfe_counting.specs.Bounded.{ProtectionsEnd};
 ghost use Rattle.wfe_counting.specs.OneStep.{TurnsTellOne};
 ghost use Rattle.wfe_counting.specs.Protections.{ProtectionsCount};
 ghost use Rattle.wfe_counting.specs.Tries.{TriesCount};
@@ -20,7 +21,14 @@ pub fn protections_count()
     ensures { ProtectionsCount }
 {}
 
-/// Under Hazard Eras that number is one more than three times the number of eras that the seat's index
+/// Under Wait-Free Eras a whole protection takes `3 * tries + 12` turns of its seat at most, from its
+/// first to the one that tells the row that it holds, or null. One that follows the head's next link
+/// takes three more.
+pub fn protections_end()
+    ensures { ProtectionsEnd }
+{}
+
+/// Under Hazard Eras the number of a protection is one more than three times the number of eras that the seat's index
 /// word published since it published nothing, and for a row that was followed two more.
 pub fn tries_count()
     ensures { TriesCount }
