@@ -1,0 +1,5 @@
+pub mod Bounded
+pub mod OneStep
+pub mod Protections
+pub mod Tries
+pub mod Turns
