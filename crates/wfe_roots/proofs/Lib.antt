@@ -1,2 +1,4 @@
 pub mod Clears
+pub mod Leads
+pub mod Linking
 pub mod Ways

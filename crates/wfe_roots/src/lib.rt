@@ -3,8 +3,16 @@
 #![tactic(auto)]
 
 ghost use Rattle.wfe_roots.specs.Clearing.{RecordsClearRows};
+ghost use Rattle.wfe_roots.specs.Linking.{RecordsLinkHeld};
 
 /// A seat tells that a row stands at an index no more only where the row stands there.
 pub fn records_clear_rows()
     ensures { RecordsClearRows }
+{}
+
+/// Where a seat links a row at a root, the row that the root had stands at its index 0; where it links
+/// one behind a row of the queue, that row does. What the head is linked to stands at its index 1, and
+/// so does what a dequeue links the tail to.
+pub fn records_link_held()
+    ensures { RecordsLinkHeld }
 {}
