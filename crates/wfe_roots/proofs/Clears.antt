@@ -9,7 +9,6 @@ use Rattle.wfe_words.specs.declared.config.SchemeKind.TheVariants.{He, Ibr, Wfe}
 use Rattle.wfe_words.specs.declared.layout.Layout.{Layout}
 use Rattle.wfe_defs.specs.declared.event.Event.{Event}
 use Rattle.wfe_defs.specs.declared.event.Event.TheVariants as events
-use Rattle.wfe_defs.specs.declared.event.Guard.TheVariants as guards
 use Rattle.wfe_defs.specs.declared.event.Root.{Root}
 use Rattle.wfe_defs.specs.declared.event.Root.TheVariants as roots
 use Rattle.wfe_core.proofs.Ranges.{bounds_of}
@@ -22,25 +21,25 @@ use Rattle.wfe_core.specs.Phases.ProtectAt.{CheckClock, TakeAnswer, CheckUpper}
 use Rattle.wfe_core.specs.Phases.Base.{Begin, Protect, Reload, Clear, Finish, Release, Allocate, Write, GiveUp, Retire, Move}
 use Rattle.wfe_core.specs.Posts.{stands, counted, cleared, upper, reserves_index, reserves_span}
 use Rattle.wfe_core.specs.Protect.{told_held}
-use Rattle.wfe_core.specs.Rounds.{scheme_of, clear_post, clear_told}
+use Rattle.wfe_core.specs.Rounds.{scheme_of, clear_told}
 use Rattle.wfe_core.specs.World.{World, finds, told_in}
 use Rattle.wfe_covers.specs.Held.{index_base}
 use Rattle.wfe_ends.proofs.Stood.{clear_calm}
 use Rattle.wfe_ends.proofs.Tests.{at_shows, base_shows, base_any}
 use Rattle.wfe_eras.specs.Seats.{Seats}
-use Rattle.wfe_history.specs.History.{Item, record_of, world_of}
+use Rattle.wfe_history.specs.History.{record_of, world_of}
 use Rattle.wfe_inv.proofs.Shapes.{run_of, index_in}
-use Rattle.wfe_laws.specs.Record.{Past, Each, EachEntry, tells_of}
+use Rattle.wfe_laws.specs.Record.{Past, Each, tells_of}
 use Rattle.wfe_laws.specs.Record.Past.{Then}
 use Rattle.wfe_placing.proofs.Tells.{AllRight}
 use Rattle.wfe_reuse.specs.Law.{stood_by, stood_at, is_row}
-use Rattle.wfe_reuse.proofs.Follows.{stood, stood_along, Follow, follow_closed, base_follows}
+use Rattle.wfe_reuse.proofs.Follows.{stood, Follow, follow_closed, base_follows}
 use Rattle.wfe_reuse.proofs.Keeps.{record_stands}
 use Rattle.wfe_reuse.proofs.Passes.{is_quiet, all_quiet, first_of, rest_of, Closed, First, scan_told, step_goes}
 use Rattle.wfe_rows.proofs.Went.{same_number}
 use Rattle.wfe_told.specs.Stands.{is_clear}
 use Rattle.wfe_roots.specs.Clearing.{RecordsClearRows}
-use Rattle.wfe_roots.proofs.Ways.{Turning, Along, record_each, answers_of}
+use Rattle.wfe_roots.proofs.Ways.{Along, record_each, answers_of}
 
 -- at one index: what is cleared there stood there
 abbrev clear_right : ℕ → Event → Option ℕ → Bool

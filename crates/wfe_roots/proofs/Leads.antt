@@ -1,6 +1,5 @@
 -- Where roots lead by the record of a history is where their words lead.
-use Rattle.std.proofs.Common.{ℕ, ◌≡◌, ◌<◌, ◌+◌, Bool, true, false, List, [], ◌∷◌, Option, Some, None, refl, sym, ap, ◌∙◌, subst, arith}
-use Rattle.std.specs.Prelude.{nat_lt}
+use Rattle.std.proofs.Common.{ℕ, ◌≡◌, ◌<◌, ◌+◌, Bool, true, false, List, [], ◌∷◌, refl, sym, ap, ◌∙◌, subst}
 use Rattle.wfe_words.specs.Place.{Place, is_valid}
 use Rattle.wfe_words.specs.Place.Place.{Head, Tail, Bucket}
 use Rattle.wfe_words.specs.declared.layout.Layout.{Layout}
@@ -12,7 +11,7 @@ use Rattle.wfe_core.specs.Calls.{CallOutcome, GoesOn, Answers}
 use Rattle.wfe_core.specs.Locals.{told_end}
 use Rattle.wfe_core.specs.World.{World, is_busy, step, told_in}
 use Rattle.wfe_covers.proofs.Kept.{before_at}
-use Rattle.wfe_history.specs.History.{Item, Begins, Steps, Made, fits, done, done_if, did, made_from, made_of, first_made, record_of, world_of}
+use Rattle.wfe_history.specs.History.{Item, Begins, Steps, Made, fits, done, done_if, did, made_from, first_made, record_of, world_of}
 use Rattle.wfe_inv.specs.Known.{Known}
 use Rattle.wfe_inv.proofs.Begun.{known_start, known_begin}
 use Rattle.wfe_inv.proofs.Kept.{known_kept, asked_next}

@@ -1,4 +1,6 @@
 pub mod Clears
+pub mod Early
+pub mod Finding
 pub mod Leads
 pub mod Linking
 pub mod Ways

@@ -1,7 +1,7 @@
 -- The rows that a step links away from stand, as its call knows.
-use Rattle.std.proofs.Common.{ℕ, ◌≡◌, ◌<◌, ◌+◌, ◌-◌, Bool, true, false, List, [], ◌∷◌, ◌++◌, Option, Some, None, refl, sym, ap, ◌∙◌, subst, arith}
+use Rattle.std.proofs.Common.{ℕ, ◌≡◌, ◌+◌, ◌-◌, Bool, true, false, List, [], ◌∷◌, ◌++◌, Option, Some, None, refl, sym, ap, ◌∙◌, subst, arith}
 use Rattle.std.proofs.lemmas.Bool.Decides.{nat_tests}
-use Rattle.std.specs.Prelude.{◌==◌, ◌&&◌, ◌||◌, not, if◌then◌else◌}
+use Rattle.std.specs.Prelude.{◌==◌, ◌||◌, not, if◌then◌else◌}
 use Rattle.wfe_words.specs.Place.{Place, is_valid}
 use Rattle.wfe_words.specs.Place.Place.{Head, Tail, Bucket, Row}
 use Rattle.wfe_words.specs.declared.layout.Layout.{Layout}
@@ -41,7 +41,7 @@ use Rattle.wfe_placing.proofs.Ordered.{word_of, head_is}
 use Rattle.wfe_placing.proofs.Tells.{tells_both}
 use Rattle.wfe_roots.specs.Linking.{is_dequeue, stands_for, links_ok, RecordsLinkHeld}
 use Rattle.wfe_roots.proofs.Leads.{Leads, leads_of}
-use Rattle.wfe_roots.proofs.Ways.{Turning, Along, record_each, answers_of}
+use Rattle.wfe_roots.proofs.Ways.{Turning, record_each, answers_of}
 
 -- an event that is no link
 abbrev is_unlinked : Event → Bool

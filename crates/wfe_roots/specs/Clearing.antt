@@ -1,5 +1,5 @@
 -- The law on what stands no more, over records: a seat tells that a row stands no more only where it stands.
-use Rattle.std.specs.Prelude.{ℕ, ◌≡◌, Bool, true, List}
+use Rattle.std.specs.Prelude.{◌≡◌, true, List}
 use Rattle.wfe_words.specs.Place.{is_valid}
 use Rattle.wfe_words.specs.declared.layout.Layout.{Layout}
 use Rattle.wfe_defs.specs.declared.event.Event.TheVariants as events

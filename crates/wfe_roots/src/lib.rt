@@ -3,6 +3,7 @@
 #![tactic(auto)]
 
 ghost use Rattle.wfe_roots.specs.Clearing.{RecordsClearRows};
+ghost use Rattle.wfe_roots.specs.Finding.{RecordsFindRoots};
 ghost use Rattle.wfe_roots.specs.Linking.{RecordsLinkHeld};
 
 /// A seat tells that a row stands at an index no more only where the row stands there.
@@ -15,4 +16,10 @@ pub fn records_clear_rows()
 /// so does what a dequeue links the tail to.
 pub fn records_link_held()
     ensures { RecordsLinkHeld }
+{}
+
+/// A call that works on a bucket or on the queue, but for a hold, has told at index 0 where it ends
+/// that the row of its root stands, or that there is none.
+pub fn records_find_roots()
+    ensures { RecordsFindRoots }
 {}
