@@ -178,10 +178,10 @@ open_each : (i : ℕ) (told : List Event) (p : Past) → all_of is_open told ≡
 open_each i [] p h g = g
 open_each i (event ∷ told) p h g = open_each i told (Then p i event) (rest_of (is_open event) (all_of is_open told) h) (open_ok p i event (first_of (is_open event) (all_of is_open told) h), g)
 
-own_began : (i : ℕ) (p : Past) (event : Event) → began_of i (Then p i event) ≡ began_by event (began_of i p)
+pub own_began : (i : ℕ) (p : Past) (event : Event) → began_of i (Then p i event) ≡ began_by event (began_of i p)
 own_began i p event = let e : (i == i) ≡ true = same_number i in rw e refl
 
-one_began : (event : Event) (x : Option Call) → is_within event ≡ true → began_by event x ≡ x
+pub one_began : (event : Event) (x : Option Call) → is_within event ≡ true → began_by event x ≡ x
 one_began (events.Begin call) x h = absurd (cc)
 one_began event x h = refl
 

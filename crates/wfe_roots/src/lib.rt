@@ -4,6 +4,7 @@
 
 ghost use Rattle.wfe_roots.specs.Clearing.{RecordsClearRows};
 ghost use Rattle.wfe_roots.specs.Finding.{RecordsFindRoots};
+ghost use Rattle.wfe_roots.specs.Indexing.{RecordsUseIndexes};
 ghost use Rattle.wfe_roots.specs.Linking.{RecordsLinkHeld};
 
 /// A seat tells that a row stands at an index no more only where the row stands there.
@@ -22,4 +23,10 @@ pub fn records_link_held()
 /// that the row of its root stands, or that there is none.
 pub fn records_find_roots()
     ensures { RecordsFindRoots }
+{}
+
+/// A hold protects and clears at index 2, where only a release clears too; a dequeue protects and
+/// clears at indexes 0 and 1, and each other call that protects at index 0.
+pub fn records_use_indexes()
+    ensures { RecordsUseIndexes }
 {}
