@@ -1,0 +1,4 @@
+pub mod Clearing
+pub mod Finding
+pub mod Indexing
+pub mod Linking
