@@ -1,0 +1,4 @@
+pub mod Courses
+pub mod Keeps
+pub mod Lands
+pub mod Still
