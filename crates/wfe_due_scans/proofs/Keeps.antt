@@ -110,30 +110,30 @@ told_right every all x phase first told n post outcome s o l =
     rest_right (Answers answer) f rest h e = each_settled every all rest (along (tally_by every) first x) h f
 
 -- a seat's tally fits where it stands
-record SeatFits (every all : ℕ) (phase : Phase) (post : Post) (x : Tally) : Type 0 where
-  retired : x.retired ≡ post.retired
-  fits : PhaseFits all phase x.course
+pub record SeatFits (every all : ℕ) (phase : Phase) (post : Post) (x : Tally) : Type 0 where
+  pub retired : x.retired ≡ post.retired
+  pub fits : PhaseFits all phase x.course
 
 left_fits : (all : ℕ) (outcome : CallOutcome) (c : Course) → OutFits all outcome c → PhaseFits all (phase_left outcome) c
 left_fits all (GoesOn phase) c f = f
 left_fits all (Answers answer) c f = tt
 
-phase_right : (layout : Layout) (phase : Phase) (post : Post) (list : List Lifetime) → post.layout ≡ layout → Shapes layout post phase → is_right phase list ≡ true → PhaseRight phase (counted post)
+pub phase_right : (layout : Layout) (phase : Phase) (post : Post) (list : List Lifetime) → post.layout ≡ layout → Shapes layout post phase → is_right phase list ≡ true → PhaseRight phase (counted post)
 phase_right layout Idle post list e s r = tt
 phase_right layout (Runs why base) post list e s r = (s.suited, r)
 phase_right layout (Scans later at) post list e s r = subst (λ (x : Layout). scan_fits x.config at ≡ true) (sym e) s
 phase_right layout (Works work) post list e s r = tt
 
 -- what a history keeps
-record Keeps (layout : Layout) (made : Made) : Type 0 where
-  answers : answering.Keeps layout.config.buckets made
-  table : made.world.layout ≡ layout
-  rows : View
-  line : Line
-  asked : Asked
-  known : Known made.world rows line asked
-  seats : (k : ℕ) → SeatFits layout.config.every (guards layout.config) (made.world.seat k).phase (made.world.seat k).post (tally_of layout.config.every k made.past)
-  law : Each (λ q k event. course_right (guards layout.config) event (tally_of layout.config.every k q)) made.past
+pub record Keeps (layout : Layout) (made : Made) : Type 0 where
+  pub answers : answering.Keeps layout.config.buckets made
+  pub table : made.world.layout ≡ layout
+  pub rows : View
+  pub line : Line
+  pub asked : Asked
+  pub known : Known made.world rows line asked
+  pub seats : (k : ℕ) → SeatFits layout.config.every (guards layout.config) (made.world.seat k).phase (made.world.seat k).post (tally_of layout.config.every k made.past)
+  pub law : Each (λ q k event. course_right (guards layout.config) event (tally_of layout.config.every k q)) made.past
 
 abbrev TurnLands : Layout → World → ℕ → Tally → Type 0
 TurnLands layout w i x = Lands layout.config.every (guards layout.config) x (w.seat i).phase (front (w.seat i).phase (counted (w.seat i).post) (finds w i)) (turn (w.seat i) (finds w i)).outcome
@@ -150,7 +150,7 @@ own_lands layout made i k =
     subst (λ (table : Layout). Lands table.config.every (guards table.config) x own.phase (front own.phase (counted own.post) (finds w i)) (turn own (finds w i)).outcome) a
     (turn_lands x own.phase (counted own.post) own.desk (finds w i) r s.retired f)
 
-told_starts : (w : World) (i : ℕ) → Starts (front (w.seat i).phase (counted (w.seat i).post) (finds w i)) (counts (w.seat i).phase (w.seat i).post.retired) (turn (w.seat i) (finds w i)).post (told_in w i)
+pub told_starts : (w : World) (i : ℕ) → Starts (front (w.seat i).phase (counted (w.seat i).post) (finds w i)) (counts (w.seat i).phase (w.seat i).post.retired) (turn (w.seat i) (finds w i)).post (told_in w i)
 told_starts w i = told_begins (w.seat i).phase (counted (w.seat i).post) (w.seat i).desk (finds w i)
 
 -- the tally after a step
@@ -199,7 +199,7 @@ step_law layout made i y k =
     (told_right layout.config.every (guards layout.config) (tally_of layout.config.every i made.past) (w.seat i).phase (front (w.seat i).phase (counted (w.seat i).post) (finds w i)) t.told _ t.post t.outcome (told_starts w i) o.told.goes (own_lands layout made i k))
     k.law
 
-step_keeps : (layout : Layout) (made : Made) (i : ℕ) → i < made.world.layout.config.seats → is_busy made.world i ≡ true → Keeps layout made → Keeps layout (done made (Steps i))
+pub step_keeps : (layout : Layout) (made : Made) (i : ℕ) → i < made.world.layout.config.seats → is_busy made.world i ≡ true → Keeps layout made → Keeps layout (done made (Steps i))
 step_keeps layout made i b y g =
     let w : World = made.world in
     let q = asked_next w i g.rows g.line g.asked b g.known in
@@ -228,7 +228,7 @@ begin_fits every all w i k call p false e g =
     subst (λ (l : Local). SeatFits every all l.phase l.post (tally_of every k (Then p i (events.Begin call)))) (sym (begin_stays w i k call e))
     (subst (λ (x : Tally). SeatFits every all (w.seat k).phase (w.seat k).post x) (sym (seen_other (tally_by every) no_tally k i p (events.Begin call) e)) (g k))
 
-begin_keeps : (layout : Layout) (made : Made) (i : ℕ) (call : Call) → is_busy made.world i ≡ false → Keeps layout made → Keeps layout (done made (Begins i call))
+pub begin_keeps : (layout : Layout) (made : Made) (i : ℕ) (call : Call) → is_busy made.world i ≡ false → Keeps layout made → Keeps layout (done made (Begins i call))
 begin_keeps layout made i call f g =
     let w : World = made.world in
     let k = g.known in
@@ -254,7 +254,7 @@ items_keep : (layout : Layout) (items : List Item) (made : Made) → Keeps layou
 items_keep layout [] made g = g
 items_keep layout (item ∷ items) made g = items_keep layout items (did made item) (item_keeps layout made item (fits made.world item) refl g)
 
-first_keeps : (layout : Layout) → is_valid layout ≡ true → Keeps layout (first_made layout)
+pub first_keeps : (layout : Layout) → is_valid layout ≡ true → Keeps layout (first_made layout)
 first_keeps layout d =
     let q = requests_start layout d in
     record {
