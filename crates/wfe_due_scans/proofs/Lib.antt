@@ -1,0 +1,6 @@
+pub mod Clocks
+pub mod Courses
+pub mod Keeps
+pub mod Kept
+pub mod Lands
+pub mod Still

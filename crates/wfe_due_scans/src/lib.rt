@@ -1,0 +1,28 @@
+//! What the record of each history says of which calls scan, which move the clock and what they
+//! answer of it, whatever calls begin and whichever seats make their steps. Each function here does
+//! nothing, and carries a theorem.
+#![tactic(auto)]
+
+ghost use Rattle.wfe_due_scans.specs.Outcomes.{RecordsKeepOutcomes};
+ghost use Rattle.wfe_due_scans.specs.Scans.{RecordsMoveWhereDue, RecordsScanWhereDue};
+
+/// A call that only scans reads each guard once. A call in which the number of its seat's
+/// retirements became a multiple of `every` does so once after that. A put, a remove or an enqueue
+/// may do so once more before it is given a row. No guard is read elsewhere.
+pub fn records_scan_where_due()
+    ensures { RecordsScanWhereDue }
+{}
+
+/// The clock is moved only by an Advance, or in a call before one of its scans, which then has to
+/// come; once at most for each.
+pub fn records_move_where_due()
+    ensures { RecordsMoveWhereDue }
+{}
+
+/// What a call answers of the clock: that it is still, just where it is no Advance and the number of
+/// its seat's retirements did not become a multiple of `every` in it; an era that it moved the clock
+/// to, just where it has told that era; that another moved it or that the last era is reached, only
+/// where it has told none since it had to.
+pub fn records_keep_outcomes()
+    ensures { RecordsKeepOutcomes }
+{}
