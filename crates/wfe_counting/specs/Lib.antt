@@ -1,4 +1,5 @@
 pub mod Bounded
+pub mod Handed
 pub mod OneStep
 pub mod Protections
 pub mod Tries

@@ -3,6 +3,7 @@
 #![tactic(auto)]
 
 ghost use Rattle.wfe_counting.specs.Bounded.{ProtectionsEnd};
+ghost use Rattle.wfe_counting.specs.Handed.{HandoversMeet};
 ghost use Rattle.wfe_counting.specs.OneStep.{TurnsTellOne};
 ghost use Rattle.wfe_counting.specs.Protections.{ProtectionsCount};
 ghost use Rattle.wfe_counting.specs.Tries.{TriesCount};
@@ -32,4 +33,10 @@ pub fn protections_end()
 /// word published since it published nothing, and for a row that was followed two more.
 pub fn tries_count()
     ensures { TriesCount }
+{}
+
+/// A seat tells of another seat's index word, where it hands an answer over, only while that word
+/// publishes. So what a seat has published there by its own word is published.
+pub fn handovers_meet()
+    ensures { HandoversMeet }
 {}
