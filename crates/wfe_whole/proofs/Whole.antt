@@ -19,6 +19,7 @@ use Rattle.wfe_reasons.proofs.Keeps as reasons
 use Rattle.wfe_turns.proofs.Counted as turns
 use Rattle.wfe_counting.proofs.Bounded as bounded
 use Rattle.wfe_counting.proofs.Counting as numbers
+use Rattle.wfe_counting.proofs.Handed as handed
 use Rattle.wfe_counting.proofs.OneStep as one_step
 use Rattle.wfe_counting.proofs.Tried as tries
 use Rattle.wfe_due_scans.proofs.Keeps as due
@@ -66,6 +67,7 @@ histories_are_lawful layout items valid =
       turns = turns.histories_count layout items valid;
       one_step = one_step.turns_tell_one layout items valid;
       numbers = numbers.protections_count layout items valid;
+      handed = handed.handovers_meet layout items valid;
       bounded = bounded.protections_end layout items valid;
       ends = λ i. finishes.calls_finish layout items i valid;
     }

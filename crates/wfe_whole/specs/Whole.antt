@@ -27,6 +27,7 @@ use Rattle.wfe_bare_ends.specs.BareEnds.{BareLaw}
 use Rattle.wfe_reasons.specs.Reasons.{ReasonLaw}
 use Rattle.wfe_turns.specs.Heard.{IsCounted, heard_of}
 use Rattle.wfe_counting.specs.Bounded.{turns_bounded}
+use Rattle.wfe_counting.specs.Handed.{handed_right}
 use Rattle.wfe_counting.specs.OneStep.{one_step}
 use Rattle.wfe_counting.specs.Protections.{numbers_right}
 use Rattle.wfe_counting.specs.Tries.{tries_right}
@@ -116,7 +117,10 @@ pub record IsLawful (layout : Layout) (items : List Item) : Type 0 where
   -- schedule: under Hazard Eras and Wait-Free Eras the number in a Held or Null counts its seat's turns
   -- in part: not under 2GE
   pub numbers : is_ibr layout.config.scheme ≡ false → EachTurn numbers_right (heard_of layout items)
-  -- steps: under Wait-Free Eras a whole protection takes at most 3 * tries + 12 turns of its seat, one that follows three more
+  -- schedule: a seat hands another seat's index word on only while the owner's entries say that it publishes
+  pub handed : is_ibr layout.config.scheme ≡ false → EachTurn handed_right (heard_of layout items)
+  -- steps: under Wait-Free Eras a whole protection tells its row or null after at most 3 * tries + 12 turns of its seat,
+  -- one that follows after three more
   pub bounded : is_wfe layout.config.scheme ≡ true → EachTurn (turns_bounded layout.config.tries) (heard_of layout items)
   -- schedule: among any later items that have more steps of a seat than its call has left, the call ends
   pub ends : (i : ℕ) → i < layout.config.seats → CallFinishes layout items i
