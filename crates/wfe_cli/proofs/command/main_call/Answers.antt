@@ -1,20 +1,21 @@
+use Rattle.std.proofs.Common.{rules}
 use Rattle.wfe_cli.proofs.Complete.{complete}
 use Rattle.wfe_cli.proofs.Headline.{given_lawful, keeps_of}
 use Rattle.wfe_cli.proofs.Jobs.{nothing_kept, nothing_summarized, replays_as, summarizes_as}
 use Rattle.wfe_cli.proofs.command.main_call.Goals as goal
 
 pub returns-in-Ok-Some-clause-replays : goal.returns-in-Ok-Some-clause-replays
-returns-in-Ok-Some-clause-replays g c asks = keeps_of _ c.perform.result _ _ _ _ _ (replays_as _ _ _ c.perform.result _ _ _ _ _ c.in-Ok-Some.ensures.job asks c.perform.ensures.does)
+returns-in-Ok-Some-clause-replays g c asks = keeps_of _ c.perform.result _ _ _ _ _ (replays_as _ _ _ c.perform.result _ _ _ _ _ (search rules) asks c.perform.ensures.does)
 
 pub returns-in-Ok-Some-clause-lawful : goal.returns-in-Ok-Some-clause-lawful
 returns-in-Ok-Some-clause-lawful g c = given_lawful
 
 pub returns-in-Ok-Some-clause-generates : goal.returns-in-Ok-Some-clause-generates
-returns-in-Ok-Some-clause-generates g c seed turns asks = summarizes_as _ _ _ seed turns c.perform.result _ _ _ _ _ c.in-Ok-Some.ensures.job asks c.perform.ensures.does
+returns-in-Ok-Some-clause-generates g c seed turns asks = summarizes_as _ _ _ seed turns c.perform.result _ _ _ _ _ (search rules) asks c.perform.ensures.does
 
 pub returns-in-Ok-Some-clause-complete : goal.returns-in-Ok-Some-clause-complete
 returns-in-Ok-Some-clause-complete g c asks bytes progress told good reads writes =
-    complete _ c.perform.result _ _ _ _ _ (replays_as _ _ _ c.perform.result _ _ _ _ _ c.in-Ok-Some.ensures.job asks c.perform.ensures.does)
+    complete _ c.perform.result _ _ _ _ _ (replays_as _ _ _ c.perform.result _ _ _ _ _ (search rules) asks c.perform.ensures.does)
     bytes progress told good (λ fault. reads (c.perform.ensures.read fault)) (λ fault. writes (c.perform.ensures.write fault))
 
 pub returns-in-Ok-None-clause-lawful : goal.returns-in-Ok-None-clause-lawful
