@@ -2,6 +2,7 @@ pub mod Clears
 pub mod Early
 pub mod Finding
 pub mod Fitting
+pub mod Following
 pub mod Indexing
 pub mod Leads
 pub mod Linking

@@ -1,4 +1,5 @@
 pub mod Clearing
 pub mod Finding
+pub mod Following
 pub mod Indexing
 pub mod Linking

@@ -4,6 +4,7 @@
 
 ghost use Rattle.wfe_roots.specs.Clearing.{RecordsClearRows};
 ghost use Rattle.wfe_roots.specs.Finding.{RecordsFindRoots};
+ghost use Rattle.wfe_roots.specs.Following.{RecordsFollowHead};
 ghost use Rattle.wfe_roots.specs.Indexing.{RecordsUseIndexes};
 ghost use Rattle.wfe_roots.specs.Linking.{RecordsLinkHeld};
 
@@ -29,4 +30,10 @@ pub fn records_find_roots()
 /// clears at indexes 0 and 1, and each other call that protects at index 0.
 pub fn records_use_indexes()
     ensures { RecordsUseIndexes }
+{}
+
+/// Where a seat tells at index 1 that a row stands, the row that the head has stands at its index 0,
+/// and where it tells there that there is none, some row does.
+pub fn records_follow_head()
+    ensures { RecordsFollowHead }
 {}
