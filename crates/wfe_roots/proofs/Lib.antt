@@ -6,4 +6,5 @@ pub mod Following
 pub mod Indexing
 pub mod Leads
 pub mod Linking
+pub mod Sources
 pub mod Ways

@@ -3,3 +3,4 @@ pub mod Finding
 pub mod Following
 pub mod Indexing
 pub mod Linking
+pub mod Sources
