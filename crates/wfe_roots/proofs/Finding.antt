@@ -86,7 +86,7 @@ rooting_later (events.Null index count) h = absurd (cc)
 rooting_later event h = refl
 
 -- a step of the seat
-fits_by : (w : World) (i : ℕ) (phase : Phase) → Seats w → (w.seat i).phase ≡ phase → RunFits w.layout.config.buckets phase
+pub fits_by : (w : World) (i : ℕ) (phase : Phase) → Seats w → (w.seat i).phase ≡ phase → RunFits w.layout.config.buckets phase
 fits_by w i Idle s e = tt
 fits_by w i (Runs why base) s e = let r = run_of w i why base s e in (r.suited, r.shape)
 fits_by w i (Scans later at) s e = tt

@@ -4,8 +4,10 @@
 
 ghost use Rattle.wfe_roots.specs.Clearing.{RecordsClearRows};
 ghost use Rattle.wfe_roots.specs.Finding.{RecordsFindRoots};
+ghost use Rattle.wfe_roots.specs.Following.{RecordsFollowHead};
 ghost use Rattle.wfe_roots.specs.Indexing.{RecordsUseIndexes};
 ghost use Rattle.wfe_roots.specs.Linking.{RecordsLinkHeld};
+ghost use Rattle.wfe_roots.specs.Sources.{RecordsFindSources};
 
 /// A seat tells that a row stands at an index no more only where the row stands there.
 pub fn records_clear_rows()
@@ -29,4 +31,16 @@ pub fn records_find_roots()
 /// clears at indexes 0 and 1, and each other call that protects at index 0.
 pub fn records_use_indexes()
     ensures { RecordsUseIndexes }
+{}
+
+/// Where a seat tells at index 1 that a row stands, the row that the head has stands at its index 0,
+/// and where it tells there that there is none, some row does.
+pub fn records_follow_head()
+    ensures { RecordsFollowHead }
+{}
+
+/// What a call tells at an index other than 1, that a row stands or that there is none, its root had
+/// at a position of the call: its key's bucket, the tail for an enqueue, the head for a dequeue.
+pub fn records_find_sources()
+    ensures { RecordsFindSources }
 {}
