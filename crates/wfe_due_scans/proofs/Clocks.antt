@@ -527,7 +527,7 @@ tick_count : (every era : ℕ) (x : ClockTally) (same : Bool) → (along (clock_
 tick_count every era x true = refl
 tick_count every era x false = refl
 
-move_due : (every : ℕ) (at : MoveAt) (found : ℕ) (x : ClockTally) → (along (clock_by every) (move_front at found) x).due ≡ x.due
+pub move_due : (every : ℕ) (at : MoveAt) (found : ℕ) (x : ClockTally) → (along (clock_by every) (move_front at found) x).due ≡ x.due
 move_due every (ExchangeClock era) found x = tick_due every era x (found == era)
 move_due every at found x = refl
 

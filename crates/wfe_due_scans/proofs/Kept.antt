@@ -2,6 +2,7 @@
 use Rattle.std.proofs.Common.{ℕ, ◌≡◌, Bool, true, false, List, [], ◌∷◌, refl, sym, ap, ◌∙◌, subst, arith}
 use Rattle.std.proofs.lemmas.Bool.Decides.{nat_tests}
 use Rattle.std.specs.Prelude.{◌==◌, nat_lt}
+use Rattle.wfe_words.specs.Place.{is_valid}
 use Rattle.wfe_words.specs.declared.layout.Layout.{Layout}
 use Rattle.wfe_defs.specs.declared.call.Call.{Call}
 use Rattle.wfe_defs.specs.declared.event.Event.{Event}
@@ -56,24 +57,24 @@ each_open every last [] x h = tt
 each_open every last (event ∷ told) x h = (open_right last event x (first_of (is_open event) (all_of is_open told) h), each_open every last told (clock_by every event x) (rest_of (is_open event) (all_of is_open told) h))
 
 -- a seat's tally fits where it stands
-record SeatClock (last : ℕ) (phase : Phase) (post : Post) (x : ClockTally) : Type 0 where
-  retired : x.retired ≡ post.retired
-  fits : PhaseFits last phase x
+pub record SeatClock (last : ℕ) (phase : Phase) (post : Post) (x : ClockTally) : Type 0 where
+  pub retired : x.retired ≡ post.retired
+  pub fits : PhaseFits last phase x
 
 left_fits : (last : ℕ) (outcome : CallOutcome) (x : ClockTally) → OutFits last outcome x → PhaseFits last (phase_left outcome) x
 left_fits last (GoesOn phase) x f = f
 left_fits last (Answers answer) x f = tt
 
 -- what a history keeps
-record KeepsClocks (layout : Layout) (made : Made) : Type 0 where
-  base : Keeps layout made
-  seats : (k : ℕ) → SeatClock layout.config.last_era (made.world.seat k).phase (made.world.seat k).post (clock_tally layout.config.every k made.past)
-  law : Each (clocks_ok layout.config) made.past
+pub record KeepsClocks (layout : Layout) (made : Made) : Type 0 where
+  pub base : Keeps layout made
+  pub seats : (k : ℕ) → SeatClock layout.config.last_era (made.world.seat k).phase (made.world.seat k).post (clock_tally layout.config.every k made.past)
+  pub law : Each (clocks_ok layout.config) made.past
 
-abbrev fronts : World → ℕ → List Event
+abbrev pub fronts : World → ℕ → List Event
 fronts w i = front (w.seat i).phase (counted (w.seat i).post) (finds w i)
 
-own_lands : (layout : Layout) (made : Made) (i : ℕ) (k : KeepsClocks layout made) → Lands layout.config.every layout.config.last_era (clock_tally layout.config.every i made.past) (made.world.seat i).phase (fronts made.world i) (turn (made.world.seat i) (finds made.world i)).outcome
+pub own_lands : (layout : Layout) (made : Made) (i : ℕ) (k : KeepsClocks layout made) → Lands layout.config.every layout.config.last_era (clock_tally layout.config.every i made.past) (made.world.seat i).phase (fronts made.world i) (turn (made.world.seat i) (finds made.world i)).outcome
 own_lands layout made i k =
     let w : World = made.world in
     let own : Local = w.seat i in
@@ -160,7 +161,7 @@ begin_fits every last w i k call p false e g =
     subst (λ (l : Local). SeatClock last l.phase l.post (clock_tally every k (Then p i (events.Begin call)))) (sym (begin_stays w i k call e))
     (subst (λ (x : ClockTally). SeatClock last (w.seat k).phase (w.seat k).post x) (sym (seen_other (clock_by every) no_clock k i p (events.Begin call) e)) (g k))
 
-item_keeps : (layout : Layout) (made : Made) (item : Item) (fit : Bool) → fits made.world item ≡ fit → KeepsClocks layout made → KeepsClocks layout (done_if made item fit)
+pub item_keeps : (layout : Layout) (made : Made) (item : Item) (fit : Bool) → fits made.world item ≡ fit → KeepsClocks layout made → KeepsClocks layout (done_if made item fit)
 item_keeps layout made item false f g = g
 item_keeps layout made (Begins i call) true f g =
     let b = begins_right i made.world.layout.config.seats (is_busy made.world i) f in
@@ -170,11 +171,13 @@ item_keeps layout made (Steps i) true f g =
     let y = rest_of (nat_lt i made.world.layout.config.seats) (is_busy made.world i) f in
     record { base = step_keeps layout made i b y g.base; seats = λ m. step_fits layout made i g m (m == i) refl; law = step_law layout made i y g }
 
+pub first_clocks : (layout : Layout) → is_valid layout ≡ true → KeepsClocks layout (first_made layout)
+first_clocks layout d = record { base = first_keeps layout d; seats = λ k. record { retired = refl; fits = tt }; law = tt }
+
 items_keep : (layout : Layout) (items : List Item) (made : Made) → KeepsClocks layout made → KeepsClocks layout (made_from made items)
 items_keep layout [] made g = g
 items_keep layout (item ∷ items) made g = items_keep layout items (did made item) (item_keeps layout made item (fits made.world item) refl g)
 
 pub records_keep_outcomes : RecordsKeepOutcomes
 records_keep_outcomes layout items d =
-    let g = items_keep layout items (first_made layout) (record { base = first_keeps layout d; seats = λ k. record { retired = refl; fits = tt }; law = tt }) in
-    entries_of_each (clocks_ok layout.config) (record_of layout items) g.law
+    let g = items_keep layout items (first_made layout) (first_clocks layout d) in entries_of_each (clocks_ok layout.config) (record_of layout items) g.law

@@ -4,3 +4,5 @@ pub mod Keeps
 pub mod Kept
 pub mod Lands
 pub mod Still
+pub mod Timely
+pub mod Times

@@ -1,2 +1,3 @@
 pub mod Outcomes
 pub mod Scans
+pub mod Times

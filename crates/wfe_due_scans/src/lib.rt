@@ -5,6 +5,7 @@
 
 ghost use Rattle.wfe_due_scans.specs.Outcomes.{RecordsKeepOutcomes};
 ghost use Rattle.wfe_due_scans.specs.Scans.{RecordsMoveWhereDue, RecordsScanWhereDue};
+ghost use Rattle.wfe_due_scans.specs.Times.{RecordsKeepTimes};
 
 /// A call that only scans reads each guard once. A call in which the number of its seat's
 /// retirements became a multiple of `every` does so once after that. A put, a remove or an enqueue
@@ -25,4 +26,11 @@ pub fn records_move_where_due()
 /// where it has told none since it had to.
 pub fn records_keep_outcomes()
     ensures { RecordsKeepOutcomes }
+{}
+
+/// An era that another moved the clock to is later than the clock where the call began, or where it
+/// has retired a row since, and at most the clock where it ends; a last era is the clock where it
+/// ends.
+pub fn records_keep_times()
+    ensures { RecordsKeepTimes }
 {}
