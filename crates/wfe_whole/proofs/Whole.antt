@@ -24,10 +24,13 @@ use Rattle.wfe_counting.proofs.OneStep as one_step
 use Rattle.wfe_counting.proofs.Tried as tries
 use Rattle.wfe_due_scans.proofs.Keeps as due
 use Rattle.wfe_due_scans.proofs.Kept as clock
+use Rattle.wfe_due_scans.proofs.Timely as times
 use Rattle.wfe_roots.proofs.Clears as clears
 use Rattle.wfe_roots.proofs.Finding as finds
 use Rattle.wfe_roots.proofs.Indexing as indexes
+use Rattle.wfe_roots.proofs.Following as follows
 use Rattle.wfe_roots.proofs.Linking as links
+use Rattle.wfe_roots.proofs.Sources as sources
 use Rattle.wfe_finish.proofs.Finishes as finishes
 use Rattle.wfe_whole.specs.Whole.{HistoriesLawful}
 
@@ -53,6 +56,8 @@ histories_are_lawful layout items valid =
       clears = clears.records_clear_rows layout items valid;
       indexes = indexes.records_use_indexes layout items valid;
       finds = finds.records_find_roots layout items valid;
+      sources = sources.records_find_sources layout items valid;
+      follows = follows.records_follow_head layout items valid;
       links = links.records_link_held layout items valid;
       bare = bare.records_end_bare layout items valid;
       map = maps.records_keep_map layout items valid;
@@ -64,6 +69,7 @@ histories_are_lawful layout items valid =
       refusals = placing.records_refuse layout items valid;
       reasons = reasons.records_keep_reasons layout items valid;
       clock = clock.records_keep_outcomes layout items valid;
+      times = times.records_keep_times layout items valid;
       turns = turns.histories_count layout items valid;
       one_step = one_step.turns_tell_one layout items valid;
       numbers = numbers.protections_count layout items valid;

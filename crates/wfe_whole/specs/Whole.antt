@@ -34,10 +34,13 @@ use Rattle.wfe_counting.specs.Tries.{tries_right}
 use Rattle.wfe_counting.specs.Turns.{EachTurn}
 use Rattle.wfe_due_scans.specs.Outcomes.{ClockOutcomes}
 use Rattle.wfe_due_scans.specs.Scans.{DueMoves, DueScans}
+use Rattle.wfe_due_scans.specs.Times.{ClockTimes}
 use Rattle.wfe_roots.specs.Clearing.{ClearLaw}
 use Rattle.wfe_roots.specs.Finding.{FindLaw}
+use Rattle.wfe_roots.specs.Following.{FollowLaw}
 use Rattle.wfe_roots.specs.Indexing.{IndexLaw}
 use Rattle.wfe_roots.specs.Linking.{LinkLaw}
+use Rattle.wfe_roots.specs.Sources.{SourceLaw}
 use Rattle.wfe_finish.specs.Finish.{CallFinishes}
 
 pub record IsLawful (layout : Layout) (items : List Item) : Type 0 where
@@ -74,7 +77,7 @@ pub record IsLawful (layout : Layout) (items : List Item) : Type 0 where
   -- eras: a seat publishes at its own guards, but that a helper hands an index word what its own helper word publishes
   pub guards : GuardLaw layout.config.scheme (record_of layout items)
   -- holding: what stands after the last item is taken, and the guard of its index publishes an interval that meets its life
-  -- in part: not that the row was a root's when it came to stand, nor that it stands while a get tells what it read there
+  -- in part: not that the row of the version that a get tells stands there then
   pub held : (k j s : ℕ) → stood_at k j (record_of layout items) ≡ Some s → is_held layout.config k j s (record_of layout items) ≡ true
   -- holding: a seat tells that a row stands at an index no more only where the row stands there
   pub clears : ClearLaw (record_of layout items)
@@ -82,6 +85,11 @@ pub record IsLawful (layout : Layout) (items : List Item) : Type 0 where
   pub indexes : IndexLaw (record_of layout items)
   -- holding: where a call ends it has held the row of its root, or told that there is none
   pub finds : FindLaw (record_of layout items)
+  -- holding: what a call holds at its root, or that there is nothing, the root had at a position of the call
+  pub sources : SourceLaw layout.config (record_of layout items)
+  -- holding: where the next link of the head's row is followed, that row stands at index 0
+  -- in part: not that what is held is the next row, or that there was none, while the head had that row
+  pub follows : FollowLaw layout.config.slots (record_of layout items)
   -- holding: the row that a link replaces, or behind which it links, stands at index 0, and the head's next row at index 1
   pub links : LinkLaw layout.config.slots (record_of layout items)
   -- holding: where a call ends nothing stands at an index of its seat but 2
@@ -108,8 +116,9 @@ pub record IsLawful (layout : Layout) (items : List Item) : Type 0 where
   -- in part: not why no row was free, nor how often a call begins anew
   pub reasons : ReasonLaw layout.config (record_of layout items)
   -- answers: what a call answers of the clock is what it has told of it
-  -- in part: not that an era which another seat has told, or the last one, is the clock then
   pub clock : ClockOutcomes layout.config (record_of layout items)
+  -- answers: an era that another seat moved the clock to came after the call had to move it, and a last era is the clock
+  pub times : ClockTimes (record_of layout items)
   -- schedule: calls start on free seats, busy seats take turns, an End comes last in its turn and counts the turns of its call
   pub turns : IsCounted layout items
   -- schedule: a turn tells at most one event of those that an atomic step makes
