@@ -87,7 +87,7 @@ pub record IsLawful (layout : Layout) (items : List Item) : Type 0 where
   pub finds : FindLaw (record_of layout items)
   -- holding: what a call holds at its root, or that there is nothing, the root had at a position of the call
   pub sources : SourceLaw layout.config (record_of layout items)
-  -- holding: where the next link of the head's row is followed, that row stands at index 0
+  -- holding: where a row is held at index 1 the head's row stands at index 0, and where there is none some row does
   -- in part: not that what is held is the next row, or that there was none, while the head had that row
   pub follows : FollowLaw layout.config.slots (record_of layout items)
   -- holding: the row that a link replaces, or behind which it links, stands at index 0, and the head's next row at index 1
