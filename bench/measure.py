@@ -84,6 +84,27 @@ def timed(program, trace):
         return seconds, sink.read()
 
 
+def idle_trace(lines):
+    """A trace of so many lines that do nothing."""
+    setting = "wfe 1\nscheme he\nseats 1\nindexes 3\nslots 8\nbuckets 1\ntries 2\nevery 1\nlast_era 100\nlast_version 100\nbegin\n"
+    return (setting + "0 run\n" * lines + "end\n").encode()
+
+
+def least_space(program, trace):
+    """The least limit on address space, in KiB and to 1 percent, within which a run is done."""
+    def runs(limit):
+        with open(trace, "rb") as source:
+            return subprocess.run(["sh", "-c", f'ulimit -v {limit}; exec "$0" replay', program], stdin=source,
+                                  stdout=subprocess.DEVNULL, stderr=subprocess.DEVNULL, check=False).returncode == 0
+    low, high = 0, 1024
+    while not runs(high):
+        low, high = high, 2 * high
+    while high - low > high // 100:
+        middle = (low + high) // 2
+        low, high = (low, middle) if runs(middle) else (middle, high)
+    return high
+
+
 # Functions whose names show that they make the text of a line or hand bytes on.
 PRINTS = re.compile(r"wfe_trace|wfe_telling|wfe_outside|write|fmt|itoa|digits|memcpy|memmove")
 
@@ -143,6 +164,13 @@ def main():
                 print(f"printing: {printing:.0%} of the instructions; the greatest shares:")
                 for share, name in greatest:
                     print(f"  {share:6.1%} {name}")
+        sizes = []
+        for lines in (10, 2796184):
+            trace = os.path.join(folder, "idle")
+            with open(trace, "wb") as sink:
+                sink.write(idle_trace(lines))
+            sizes.append((os.path.getsize(trace), least_space(program, trace)))
+        print("address space: " + ", ".join(f"{space} KiB for a trace of {size} bytes" for size, space in sizes))
 
 
 if __name__ == "__main__":
