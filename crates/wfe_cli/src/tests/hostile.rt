@@ -3,21 +3,6 @@ use crate::tests::{HEADER, SETTING, expect, joined};
 use std::test::Fail;
 use wfe_trace::{Reason, Status};
 
-// The setting, by its lines.
-const LINES: [&[u8]; 11] = [
-    b"wfe 1\n",
-    b"scheme he\n",
-    b"seats 1\n",
-    b"indexes 3\n",
-    b"slots 8\n",
-    b"buckets 1\n",
-    b"tries 2\n",
-    b"every 1\n",
-    b"last_era 100\n",
-    b"last_version 100\n",
-    b"begin\n",
-];
-
 #[test]
 fn a_line_of_200_bytes_is_judged_and_a_longer_one_is_not(rt: HostRuntime) -> Result<(), Fail> {
     let cases: [(usize, Reason, &[u8]); 2] = [
@@ -35,21 +20,40 @@ fn a_line_of_200_bytes_is_judged_and_a_longer_one_is_not(rt: HostRuntime) -> Res
 
 #[test]
 fn a_setting_out_of_range_is_bad_in_its_line(rt: HostRuntime) -> Result<(), Fail> {
-    let cases: [(usize, &[u8], Reason, &[u8]); 5] = [
-        (2, b"seats 0\n", Reason::Range, b"bad 3 range\n"),
-        (2, b"seats 01\n", Reason::Number, b"bad 3 number\n"),
-        (3, b"indexes 2\n", Reason::Range, b"bad 4 range\n"),
-        (4, b"slots 65537\n", Reason::Range, b"bad 5 range\n"),
-        (8, b"last_era 4294967296\n", Reason::Range, b"bad 9 range\n"),
+    let cases: [(&[u8], u64, Reason, &[u8]); 5] = [
+        (
+            b"wfe 1\nscheme he\nseats 0\n",
+            3,
+            Reason::Range,
+            b"bad 3 range\n",
+        ),
+        (
+            b"wfe 1\nscheme he\nseats 01\n",
+            3,
+            Reason::Number,
+            b"bad 3 number\n",
+        ),
+        (
+            b"wfe 1\nscheme he\nseats 1\nindexes 2\n",
+            4,
+            Reason::Range,
+            b"bad 4 range\n",
+        ),
+        (
+            b"wfe 1\nscheme he\nseats 1\nindexes 3\nslots 65537\n",
+            5,
+            Reason::Range,
+            b"bad 5 range\n",
+        ),
+        (
+            b"wfe 1\nscheme he\nseats 1\nindexes 3\nslots 8\nbuckets 1\ntries 2\nevery 1\nlast_era 4294967296\n",
+            9,
+            Reason::Range,
+            b"bad 9 range\n",
+        ),
     ];
-    for (place, line, reason, output) in cases {
-        let front = joined(&rt, &LINES[..place])?;
-        let trace = joined(&rt, &[&front, line])?;
-        let bad = Status::BadTrace {
-            line: place as u64 + 1,
-            reason,
-        };
-        expect(&rt, &trace, bad, output)?;
+    for (trace, line, reason, output) in cases {
+        expect(&rt, trace, Status::BadTrace { line, reason }, output)?;
     }
     Ok(())
 }

@@ -40,16 +40,14 @@ impl Source for Repeats {
     ghost faults = { λ _. 0 };
 
     fn read(&mut self, buf: &mut [u8]) -> Result<usize, Failed> {
-        let mut count = 0;
-        for byte in buf.iter_mut() {
+        for (i, byte) in buf.iter_mut().enumerate() {
             let Some(next) = self.byte_at(self.given) else {
-                return Ok(count);
+                return Ok(i);
             };
             *byte = next;
             self.given = self.given.saturating_add(1);
-            count += 1;
         }
-        Ok(count)
+        Ok(buf.len())
     }
 }
 
