@@ -25,7 +25,7 @@ root_by layout word =
     if nat_lt word (number layout Head) then roots.Bucket (word - number layout (Bucket 0))
     else if word == number layout Head then roots.Head
     else if word == number layout Tail then roots.Tail
-    else roots.Next ((word - number layout (Row 0 0)) / (3 + 2 * layout.config.pairs))
+    else roots.Next ((word - link_number layout (roots.Next 0)) / (3 + 2 * layout.config.pairs))
 
 root_by-link : (layout : Layout) (root : Root) → RootFits layout root → root_by layout (link_number layout root) ≡ root
 unfolding number

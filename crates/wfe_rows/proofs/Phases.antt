@@ -244,10 +244,10 @@ did_dequeues slots i mem v (SwingTail head row) next desk n g w p =
     (words_plain slots mem v (memory.Cas Tail (head + 1) (row + 1)) refl w)
     p
     (clearing_next_leaves Again next desk (enqueues.told_link roots.Tail row (mem Tail == head + 1)))
-did_dequeues slots i mem v (TakeNumber head row) next desk n g w p =
-    did_stays slots i mem mem v (Works (Dequeuing (TakeNumber head row))) desk.list (dequeues.dequeue_turn (TakeNumber head row) next desk (mem (Row row 1))) g w p (record { hand = refl; right = refl; list = refl })
-did_dequeues slots i mem v (TakeValue head row number) next desk n g w p =
-    did_stays slots i mem mem v (Works (Dequeuing (TakeValue head row number))) desk.list (dequeues.dequeue_turn (TakeValue head row number) next desk (mem (Row row 2))) g w p (record { hand = refl; right = refl; list = refl })
+did_dequeues slots i mem v (TakeNumber head slot) next desk n g w p =
+    did_stays slots i mem mem v (Works (Dequeuing (TakeNumber head slot))) desk.list (dequeues.dequeue_turn (TakeNumber head slot) next desk (mem (Row slot 1))) g w p (record { hand = refl; right = refl; list = refl })
+did_dequeues slots i mem v (TakeValue head slot number) next desk n g w p =
+    did_stays slots i mem mem v (Works (Dequeuing (TakeValue head slot number))) desk.list (dequeues.dequeue_turn (TakeValue head slot number) next desk (mem (Row slot 2))) g w p (record { hand = refl; right = refl; list = refl })
 did_dequeues slots i mem v (ExchangeHead head row number value) next desk n g w p =
     did_pops slots i mem v head row number value next desk (mem Head == head + 1) refl (n.follows head row number value refl) (n.apart head row number value refl) g w p
 

@@ -341,10 +341,10 @@ dequeue_went slots i mem v l (LoadTail parent) next desk c g w =
     load_went i v l mem (dequeues.dequeue_turn (LoadTail parent) next desk (mem Tail)) g (record { stood = w.stood; heads = w.heads; follows = λ h link u. cc; some = λ h link u. cc; leads = λ h u k. tail_loaded mem parent h u; blank = λ s u. cc; items = refl; loads = follow_begins (scheme_of next) parent (mem (Row parent 0)) })
 dequeue_went slots i mem v l (SwingTail parent row) next desk c g w =
     went_swings i v l mem parent (row + 1) (dequeues.dequeue_turn (SwingTail parent row) next desk (mem Tail)) (mem Tail == parent + 1) refl (w.follows parent (row + 1) (both_same parent (row + 1))) (omega arith) g (clearing_next_quiet Again next desk (enqueues.told_link roots.Tail row (mem Tail == parent + 1)))
-dequeue_went slots i mem v l (TakeNumber parent row) next desk c g w =
-    load_went i v l mem (dequeues.dequeue_turn (TakeNumber parent row) next desk (mem (Row row 1))) g (record { stood = w.stood; heads = w.heads; follows = w.follows; some = w.some; leads = w.leads; blank = λ s u. cc; items = refl; loads = tt })
-dequeue_went slots i mem v l (TakeValue parent row number) next desk c g w =
-    load_went i v l mem (dequeues.dequeue_turn (TakeValue parent row number) next desk (mem (Row row 2))) g (record { stood = w.stood; heads = w.heads; follows = w.follows; some = w.some; leads = w.leads; blank = λ s u. cc; items = refl; loads = tt })
+dequeue_went slots i mem v l (TakeNumber parent slot) next desk c g w =
+    load_went i v l mem (dequeues.dequeue_turn (TakeNumber parent slot) next desk (mem (Row slot 1))) g (record { stood = w.stood; heads = w.heads; follows = w.follows; some = w.some; leads = w.leads; blank = λ s u. cc; items = refl; loads = tt })
+dequeue_went slots i mem v l (TakeValue parent slot number) next desk c g w =
+    load_went i v l mem (dequeues.dequeue_turn (TakeValue parent slot number) next desk (mem (Row slot 2))) g (record { stood = w.stood; heads = w.heads; follows = w.follows; some = w.some; leads = w.leads; blank = λ s u. cc; items = refl; loads = tt })
 dequeue_went slots i mem v l (ExchangeHead parent row number value) next desk c g w =
     went_pops i v l mem parent row number value next desk (mem Head == parent + 1) refl c g w
 
