@@ -436,6 +436,46 @@ fn a_reader_of_wait_free_eras_answers_its_own_request(rt: HostRuntime) -> Result
 }
 
 #[test]
+fn a_reader_whose_request_a_mover_answers_ends_in_time(rt: HostRuntime) -> Result<(), Fail> {
+    let setting = setting(&rt, b"wfe", b"4", b"100")?;
+    expect_among(
+        &rt,
+        &setting,
+        b"2 put 7 70\n2 run\n0 hold 7\n0 step 3\n1 advance\n1 run\n3 advance\n3 step 5\n0 step 3\n3 run\n2 put 7 71\n2 run\n1 advance\n1 run\n0 run\n0 release\n0 run\nend\n",
+        &[
+            b"2 end 13 done 1 still\n",
+            b"1 end 6 moved 2\n",
+            b"3 end 6 moved 3\n",
+            b"2 end 20 done 2 still\n",
+            b"1 end 13 moved 4\n",
+            b"0 held 2 1 12\n",
+            b"0 reserve h0 none\n0 end 14 holding 1\n",
+            b"0 clear 2 1\n",
+            b"0 end 1 released\n",
+        ],
+    )
+}
+
+#[test]
+fn a_full_table_recovers_once_its_reader_has_let_go(rt: HostRuntime) -> Result<(), Fail> {
+    expect_among(
+        &rt,
+        b"wfe 1\nscheme he\nseats 2\nindexes 3\nslots 2\nbuckets 1\ntries 2\nevery 1\nlast_era 100\nlast_version 100\nbegin\n",
+        b"0 put 7 70\n0 run\n1 hold 7\n1 run\n0 put 7 71\n0 run\n0 put 7 72\n0 run\n1 release\n1 run\n0 put 7 72\n0 run\nend\n",
+        &[
+            b"0 end 13 done 1 still\n",
+            b"1 end 4 holding 0\n",
+            b"0 end 28 done 2 moved 2\n",
+            b"0 end 30 full\n",
+            b"1 clear 2 0\n",
+            b"1 end 1 released\n",
+            b"0 back 0\n0 give 0 3\n",
+            b"0 end 50 done 3 moved 5\n",
+        ],
+    )
+}
+
+#[test]
 fn a_dequeue_that_is_overtaken_begins_anew(rt: HostRuntime) -> Result<(), Fail> {
     let setting = setting(&rt, b"he", b"2", b"1")?;
     expect_among(

@@ -21,10 +21,12 @@ use Rattle.wfe_core.specs.Ready.{EraFits, IndexFits, LinkFits, Plausible, RootFi
 use Rattle.wfe_core.specs.SlowPath.{answer_in, lost_turn, own_request}
 use Rattle.wfe_core.specs.Valid.{IsValid}
 use Rattle.wfe_eras.proofs.Machines.{held_post_keeps}
-use Rattle.wfe_fast.specs.Phases.{at_of, protect_phase}
+use Rattle.wfe_fast.specs.Phases.{at_of, protect_phase, turn_by}
 use Rattle.wfe_fast.specs.declared.protect.At.{At}
 use Rattle.wfe_fast.specs.declared.protect.At.TheVariants as ats
 use Rattle.wfe_fast.specs.declared.protect.WfeProtect.{WfeProtect}
+use Rattle.wfe_fast.specs.declared.turn_at.TurnAt.{TurnAt}
+use Rattle.wfe_fast.specs.declared.turn_at.TurnAt.TheVariants as turns
 use Rattle.wfe_drive.specs.ByHand.{IsAt, IsPoised, IsSeen, LeadsWithin}
 
 -- a number of these few is an era and a link
@@ -90,6 +92,21 @@ answer_next post (Some (requests.Answered link era)) t l = (link_fits post link 
 next : (post : Post) (root : Root) (word n : ℕ) (at : ProtectAt) → IndexFits post 2 → RootFits post.layout root → link_number post.layout root ≡ word → protect_ready at 2 post → IsAt (Protect Alone 2 root n at) post word
 next post root word n at i r k h = (refl, k, (i, r, h))
 
+-- a step of a turn
+turn_after : (post : Post) (root : Root) (word n found first era : ℕ) (last : Bool) (at : TurnAt) → IsValid post → link_number post.layout root ≡ word → IndexFits post 2 → RootFits post.layout root
+    → protect_ready (turn_by first era last at) 2 post → protect_plausible (turn_by first era last at) post found → tag_of post 2 + 1 < 4294967295 → LeadsWithin post.layout.config.slots found
+    → IsOn (protect_turn Alone 2 root n (turn_by first era last at) post found).outcome (protect_turn Alone 2 root n (turn_by first era last at) post found).post word
+turn_after post root word n found first era last turns.PublishHelper v k i r h p t l = next post root word n (LoadOwnLink first era last) i r k tt
+turn_after post root word n found first era last turns.LoadOwnLink v k i r h p t l = next post root word n (CheckOwnClock first era last found) i r k p
+turn_after post root word n found first era last (turns.CheckOwnClock link) v k i r h p t l =
+    pick word (found == era) (goes post [] (Protect Alone 2 root n (AnswerOwn first era link))) (goes post [] (Protect Alone 2 root n (lost_turn first last found)))
+    (λ e. next post root word n (AnswerOwn first era link) i r k (h, let q = p.0 in grind (arith, nat_tests)))
+    (λ e. next post root word n (lost_turn first last found) i r k (lost_next post first found last))
+turn_after post root word n found first era last (turns.AnswerOwn link) v k i r h p t l =
+    pick word (found == own_request post 2 root) (goes post [] (Protect Alone 2 root n (TakeAnswer link era))) (goes post [] (Protect Alone 2 root n (answer_in (read_request found))))
+    (λ e. next post root word n (TakeAnswer link era) i r k (h.0, t))
+    (λ e. next post root word n (answer_in (read_request found)) i r k (answer_next post (read_request found) t l))
+
 next_after : (post : Post) (root : Root) (word n found : ℕ) (at : At) → IsValid post → link_number post.layout root ≡ word → IndexFits post 2 → RootFits post.layout root → protect_ready (at_of at) 2 post
     → protect_plausible (at_of at) post found → tag_of post 2 + 1 < 4294967295 → LeadsWithin post.layout.config.slots found
     → IsOn (protect_turn Alone 2 root n (at_of at) post found).outcome (protect_turn Alone 2 root n (at_of at) post found).post word
@@ -104,16 +121,7 @@ next_after post root word n found (ats.CheckClock era failed link) v k i r h p t
     (λ e. next post root word n (PublishEra found (Failed (failed + 1))) i r k (let f = h.0 in omega arith))
 next_after post root word n found ats.PublishRequest v k i r h p t l = next post root word n LoadOwnClock i r k tt
 next_after post root word n found ats.LoadOwnClock v k i r h p t l = next post root word n (PublishHelper found found false) i r k tt
-next_after post root word n found (ats.PublishHelper first era last) v k i r h p t l = next post root word n (LoadOwnLink first era last) i r k tt
-next_after post root word n found (ats.LoadOwnLink first era last) v k i r h p t l = next post root word n (CheckOwnClock first era last found) i r k p
-next_after post root word n found (ats.CheckOwnClock first era last link) v k i r h p t l =
-    pick word (found == era) (goes post [] (Protect Alone 2 root n (AnswerOwn first era link))) (goes post [] (Protect Alone 2 root n (lost_turn first last found)))
-    (λ e. next post root word n (AnswerOwn first era link) i r k (h, let q = p.0 in grind (arith, nat_tests)))
-    (λ e. next post root word n (lost_turn first last found) i r k (lost_next post first found last))
-next_after post root word n found (ats.AnswerOwn first era link) v k i r h p t l =
-    pick word (found == own_request post 2 root) (goes post [] (Protect Alone 2 root n (TakeAnswer link era))) (goes post [] (Protect Alone 2 root n (answer_in (read_request found))))
-    (λ e. next post root word n (TakeAnswer link era) i r k (h.0, t))
-    (λ e. next post root word n (answer_in (read_request found)) i r k (answer_next post (read_request found) t l))
+next_after post root word n found (ats.Turn turn) v k i r h p t l = turn_after post root word n found turn.first turn.era turn.last turn.at v k i r h p t l
 next_after post root word n found (ats.LoadAnswer first) v k i r h p t l = next post root word n (answer_in (read_request found)) i r k (answer_next post (read_request found) t l)
 next_after post root word n found (ats.TakeAnswer link era) v k i r h p t l =
     held_post_keeps (λ q. IsAt (Protect Alone 2 root n (WithdrawRequest link era)) q word) (with_tag post 2 (tag_of post 2 + 1)) 2 root link (refl, k, (i, r, h.0)) (λ slot. (refl, k, (i, r, h.0)))

@@ -3,5 +3,6 @@
 #![tactic(auto)]
 
 mod protect;
+mod turn_at;
 
 pub use protect::WfeProtect;

@@ -2,6 +2,8 @@
 //! request that it sees pending, and hands its own reservation over to the reader.
 #![tactic(auto)]
 
+mod help_at;
 mod move_clock;
 
-pub use move_clock::{MoveClock, asking_word};
+pub use help_at::asking_word;
+pub use move_clock::{MoveClock, tell_helper};

@@ -1,78 +1,34 @@
 // The steps of a move of the clock.
-ghost use Rattle.std.specs.Prelude.{◌≡◌, ◌<◌, ◌≤◌};
+ghost use Rattle.std.specs.Prelude.{◌≡◌, ◌<◌, ◌≤◌, [], ◌∷◌, length};
+ghost use Rattle.wfe_defs.specs.declared.event.Event.TheVariants as events;
+ghost use Rattle.wfe_defs.specs.declared.event.Guard.TheVariants as guards;
+ghost use Rattle.wfe_core.specs.Guards.{one_era as era_span};
+ghost use Rattle.wfe_core.specs.Machine.{after};
 ghost use Rattle.wfe_core.specs.MoveClock.{next_request as request_after, met as met_at, moving};
+ghost use Rattle.wfe_core.specs.Phases.{Goes};
 ghost use Rattle.wfe_core.specs.Phases.Base.{Move};
 ghost use Rattle.wfe_core.specs.Phases.MoveAt.{LoadEra};
-ghost use Rattle.wfe_core.specs.Ready.{AskedFits, RootFits};
-ghost use Rattle.wfe_core.specs.SlowPath.{asking};
+ghost use Rattle.wfe_core.specs.Posts.{reserves_helper};
+ghost use Rattle.wfe_core.specs.Ready.{AskedFits, IsReady, Plausible};
 ghost use Rattle.wfe_core.specs.Valid.{IsValid};
 ghost use Rattle.wfe_words.specs.Packed.{read_request as request_in};
-ghost use Rattle.wfe_help.specs.Phases.{at_of, move_phase};
+ghost use Rattle.wfe_help.specs.Phases.{at_of, help_of, move_phase};
 
-use wfe_core::{Machine, Op, Post, Told, link_word_number, one_era, root_at};
-use wfe_defs::{ClockMove, Event, Guard, Root};
-use wfe_words::{
-    Request, Reservation, read_request, read_reservation, request_word, reservation_word,
-};
-
-// A request that was seen pending: whose it is, its tag and index, and the link that it asks for.
-#[derive(Clone, Copy)]
-pub struct Asked {
-    pub seat: u32,
-    pub tag: u32,
-    pub index: u32,
-    pub root: Root,
-}
+use crate::help_at::{Asked, HelpAt, asking_word, help_op};
+use wfe_core::{Machine, Op, Post, Told, one_era, root_at};
+use wfe_defs::{ClockMove, Event, Guard};
+use wfe_words::{Request, Reservation, read_request, read_reservation, reservation_word};
 
 // The step to come.
 #[derive(Clone, Copy)]
 pub enum At {
-    LoadEra {
-        helps: bool,
-    },
-    LoadRequest {
-        era: u32,
-        seat: u32,
-        shows: bool,
-    },
-    ShowEra {
-        era: u32,
-        asked: Asked,
-    },
-    LoadAsked {
-        era: u32,
-        asked: Asked,
-    },
-    CheckEra {
-        era: u32,
-        asked: Asked,
-        link: u32,
-    },
-    AnswerAsked {
-        era: u32,
-        asked: Asked,
-        link: u32,
-    },
-    LoadReserved {
-        era: u32,
-        asked: Asked,
-        link: u32,
-    },
-    HandOver {
-        era: u32,
-        asked: Asked,
-        link: u32,
-        old: u32,
-    },
-    HideEra {
-        era: u32,
-    },
-    HideLate {
-        seen: u32,
-    },
-    ExchangeClock {
-        era: u32,
-    },
+    LoadEra { helps: bool },
+    LoadRequest { era: u32, seat: u32, shows: bool },
+    ShowEra { era: u32, asked: Asked },
+    Help { era: u32, asked: Asked, at: HelpAt },
+    HideEra { era: u32 },
+    HideLate { seen: u32 },
+    ExchangeClock { era: u32 },
 }
 
 /// Tries once to move the clock by one era, from the era that it loads before it looks at any request.
@@ -93,20 +49,11 @@ impl MoveClock {
     }
 }
 
-/// A seat's request word while its request for a link, at an index and under the index's tag, is
-/// pending.
-pub fn asking_word(post: &Post, tag: u32, index: u32, root: Root) -> u64
-    requires valid { IsValid post.now }
-    requires tag { tag < 4294967295 }
-    requires index { index < post.now.layout.config.indexes }
-    requires root { RootFits post.now.layout root }
-    ensures { result ≡ asking post.now.layout tag index root }
+// A step for a request, under an era.
+fn helping(era: u32, asked: Asked, at: HelpAt) -> At
+    ensures { at_of result ≡ help_of era asked at }
 {
-    request_word(Request::Pending {
-        tag,
-        index,
-        word: link_word_number(post.layout, root),
-    })
+    At::Help { era, asked, at }
 }
 
 // The step after a seat's request: the next seat's, or the end of the round.
@@ -144,12 +91,99 @@ fn met(post: &Post, era: u32, seat: u32, shows: bool, found: u64) -> At
                 root: root_at(post.layout, word),
             };
             if shows {
-                At::LoadAsked { era, asked }
+                helping(era, asked, HelpAt::LoadAsked)
             } else {
                 At::ShowEra { era, asked }
             }
         }
         _ => next_request(post, era, seat, shows),
+    }
+}
+
+// The step after the clock was loaded.
+fn after_clock(helps: bool, era: u32) -> At
+    ensures { at_of result ≡ moving helps era }
+{
+    if helps {
+        At::LoadRequest {
+            era,
+            seat: 0,
+            shows: false,
+        }
+    } else {
+        At::ExchangeClock { era }
+    }
+}
+
+/// Tells what the seat's helper word publishes: an era, or nothing for 0.
+pub fn tell_helper(post: &Post, told: &mut Told, era: u32)
+    requires { told.old ≡ [] }
+    ensures { told.new ≡ reserves_helper post.now era }
+{
+    told.push(Event::Reserve {
+        guard: Guard::Helper { seat: post.seat },
+        span: one_era(era),
+    });
+}
+
+// Tells the hand-over of a request's index word.
+fn tell_handed(told: &mut Told, era: u32, asked: Asked)
+    requires { told.old ≡ [] }
+    ensures { told.new ≡ events.Reserve (guards.Index asked.seat asked.index) (era_span era) ∷ [] }
+{
+    told.push(Event::Reserve {
+        guard: Guard::Index {
+            seat: asked.seat,
+            index: asked.index,
+        },
+        span: one_era(era),
+    });
+}
+
+// The step after one for a request.
+fn help(post: &Post, found: u64, told: &mut Told, era: u32, asked: Asked, at: HelpAt) -> At
+    requires valid { IsValid post.now }
+    requires ready { IsReady (Move (help_of era asked at)) post.now }
+    requires plausible { Plausible (Move (help_of era asked at)) post.now found }
+    requires empty { told.old ≡ [] }
+    ensures post { (after (Move (help_of era asked at)) post.now found).post ≡ post.now }
+    ensures told { told.new ≡ (after (Move (help_of era asked at)) post.now found).told }
+    ensures few { length told.new ≤ 1 }
+    ensures outcome { (after (Move (help_of era asked at)) post.now found).outcome ≡ Goes (Move (at_of result)) }
+{
+    match at {
+        HelpAt::LoadAsked => helping(era, asked, HelpAt::CheckEra { link: found as u32 }),
+        HelpAt::CheckEra { link } => {
+            if found != era as u64 {
+                return At::HideLate { seen: found as u32 };
+            }
+            helping(era, asked, HelpAt::AnswerAsked { link })
+        }
+        HelpAt::AnswerAsked { link } => {
+            if found != asking_word(post, asked.tag, asked.index, asked.root) {
+                return next_request(post, era, asked.seat, true);
+            }
+            helping(era, asked, HelpAt::LoadReserved { link })
+        }
+        HelpAt::LoadReserved { link } => {
+            let reserved = read_reservation(found);
+            if reserved.tag != asked.tag {
+                return next_request(post, era, asked.seat, true);
+            }
+            let old = reserved.era;
+            helping(era, asked, HelpAt::HandOver { link, old })
+        }
+        HelpAt::HandOver { old, .. } => {
+            if found
+                == reservation_word(Reservation {
+                    era: old,
+                    tag: asked.tag,
+                })
+            {
+                tell_handed(told, era, asked);
+            }
+            next_request(post, era, asked.seat, true)
+        }
     }
 }
 
@@ -165,7 +199,7 @@ impl Machine for MoveClock {
 
     fn next_op(&self, post: &Post) -> Op {
         match self.at {
-            At::LoadEra { .. } | At::CheckEra { .. } => Op::Load {
+            At::LoadEra { .. } => Op::Load {
                 word: post.layout.clock(),
             },
             At::LoadRequest { seat, .. } => Op::Load {
@@ -175,33 +209,7 @@ impl Machine for MoveClock {
                 word: post.layout.helper(post.seat),
                 value: reservation_word(Reservation { era, tag: 0 }),
             },
-            At::LoadAsked { asked, .. } => Op::Load {
-                word: link_word_number(post.layout, asked.root),
-            },
-            At::AnswerAsked { era, asked, link } => Op::Cas {
-                word: post.layout.request(asked.seat),
-                old: asking_word(post, asked.tag, asked.index, asked.root),
-                new: request_word(Request::Answered { link, era }),
-            },
-            At::LoadReserved { asked, .. } => Op::Load {
-                word: post.layout.index(asked.seat, asked.index),
-            },
-            At::HandOver {
-                era,
-                asked,
-                old,
-                ..
-            } => Op::Cas {
-                word: post.layout.index(asked.seat, asked.index),
-                old: reservation_word(Reservation {
-                    era: old,
-                    tag: asked.tag,
-                }),
-                new: reservation_word(Reservation {
-                    era,
-                    tag: asked.tag + 1,
-                }),
-            },
+            At::Help { era, asked, at } => help_op(post, era, asked, at),
             At::HideEra { .. } | At::HideLate { .. } => Op::Store {
                 word: post.layout.helper(post.seat),
                 value: 0,
@@ -221,92 +229,20 @@ impl Machine for MoveClock {
                 if era == post.layout.config().last_era {
                     return Some(ClockMove::EraSpent { era });
                 }
-                self.at = if helps {
-                    At::LoadRequest {
-                        era,
-                        seat: 0,
-                        shows: false,
-                    }
-                } else {
-                    At::ExchangeClock { era }
-                };
+                self.at = after_clock(helps, era);
             }
             At::LoadRequest { era, seat, shows } => self.at = met(post, era, seat, shows, found),
             At::ShowEra { era, asked } => {
-                told.push(Event::Reserve {
-                    guard: Guard::Helper { seat: post.seat },
-                    span: one_era(era),
-                });
-                self.at = At::LoadAsked { era, asked };
+                tell_helper(post, told, era);
+                self.at = helping(era, asked, HelpAt::LoadAsked);
             }
-            At::LoadAsked { era, asked } => {
-                self.at = At::CheckEra {
-                    era,
-                    asked,
-                    link: found as u32,
-                }
-            }
-            At::CheckEra { era, asked, link } => {
-                self.at = if found == era as u64 {
-                    At::AnswerAsked { era, asked, link }
-                } else {
-                    At::HideLate { seen: found as u32 }
-                }
-            }
-            At::AnswerAsked { era, asked, link } => {
-                self.at = if found == asking_word(post, asked.tag, asked.index, asked.root) {
-                    At::LoadReserved { era, asked, link }
-                } else {
-                    next_request(post, era, asked.seat, true)
-                }
-            }
-            At::LoadReserved { era, asked, link } => {
-                let reserved = read_reservation(found);
-                self.at = if reserved.tag == asked.tag {
-                    At::HandOver {
-                        era,
-                        asked,
-                        link,
-                        old: reserved.era,
-                    }
-                } else {
-                    next_request(post, era, asked.seat, true)
-                }
-            }
-            At::HandOver {
-                era,
-                asked,
-                old,
-                ..
-            } => {
-                if found
-                    == reservation_word(Reservation {
-                        era: old,
-                        tag: asked.tag,
-                    })
-                {
-                    told.push(Event::Reserve {
-                        guard: Guard::Index {
-                            seat: asked.seat,
-                            index: asked.index,
-                        },
-                        span: one_era(era),
-                    });
-                }
-                self.at = next_request(post, era, asked.seat, true);
-            }
+            At::Help { era, asked, at } => self.at = help(post, found, told, era, asked, at),
             At::HideEra { era } => {
-                told.push(Event::Reserve {
-                    guard: Guard::Helper { seat: post.seat },
-                    span: None,
-                });
+                tell_helper(post, told, 0);
                 self.at = At::ExchangeClock { era };
             }
             At::HideLate { seen } => {
-                told.push(Event::Reserve {
-                    guard: Guard::Helper { seat: post.seat },
-                    span: None,
-                });
+                tell_helper(post, told, 0);
                 return Some(ClockMove::Other { seen });
             }
             At::ExchangeClock { era } => {
