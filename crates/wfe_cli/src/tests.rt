@@ -469,8 +469,7 @@ fn a_full_table_recovers_once_its_reader_has_let_go(rt: HostRuntime) -> Result<(
             b"0 end 30 full\n",
             b"1 clear 2 0\n",
             b"1 end 1 released\n",
-            b"0 back 0\n",
-            b"0 give 0 ",
+            b"0 back 0\n0 reserve i0.0 4 4\n0 held 0 1 4\n0 give 0 4\n",
             b"0 end 50 done 3 moved 5\n",
         ],
     )
