@@ -3,6 +3,7 @@
 #![tactic(auto)]
 
 ghost use Rattle.wfe_current.specs.Current.{ClockBetween, RecordsGiveCurrent, RecordsReserveCurrent, RecordsRetireCurrent};
+ghost use Rattle.wfe_current.specs.Rising.{RecordsRaiseEras, RecordsRaiseSpans};
 
 /// An era was the clock at a position after an entry just where it lies between the clock there and
 /// the present one.
@@ -26,4 +27,17 @@ pub fn records_retire_current()
 /// mover of the clock hands over.
 pub fn records_reserve_current()
     ensures { RecordsReserveCurrent }
+{}
+
+/// An interval of 2GE begins with one era. From one withdrawal to the next its lower end stays and
+/// its upper end rises.
+pub fn records_raise_spans()
+    ensures { RecordsRaiseSpans }
+{}
+
+/// The eras that a seat tells of its own index word rise until it tells nothing of it, while its
+/// helper word publishes nothing: under Hazard Eras in each protection, under Wait-Free Eras in the
+/// tries of each.
+pub fn records_raise_eras()
+    ensures { RecordsRaiseEras }
 {}
