@@ -25,14 +25,14 @@ use Rattle.wfe_core.specs.Posts.{tag_of}
 use Rattle.wfe_core.specs.SlowPath.{own_request, asking}
 use Rattle.wfe_core.specs.Steps as steps
 use Rattle.wfe_core.specs.World.{World}
-use Rattle.wfe_covers.proofs.Fresh.{work_fresh, resume_fresh}
-use Rattle.wfe_covers.proofs.Scans.{scan_starts}
-use Rattle.wfe_covers.specs.Tries.{starts_base, is_start}
 use Rattle.wfe_eras.specs.Frame.{phase_left}
 use Rattle.wfe_requests.proofs.Kept.{at_of}
 use Rattle.wfe_requests.specs.NextDeals.{protect_deals, move_deals, base_deals, phase_deals}
 use Rattle.wfe_requests.specs.Views.{View, Deal}
 use Rattle.wfe_requests.specs.Views.Deal.{Quiet, Open, Answered, Passed, Taken}
+use Rattle.wfe_covers.proofs.Fresh.{work_fresh, resume_fresh}
+use Rattle.wfe_covers.proofs.Scans.{scan_starts}
+use Rattle.wfe_covers.specs.Tries.{starts_base, is_start}
 use Rattle.wfe_origins.specs.Tracked.{opened_by}
 use Rattle.wfe_origins.specs.Origins.{OriginsNeeds}
 use Rattle.wfe_origins.proofs.Deals.{answered_is, passed_is}

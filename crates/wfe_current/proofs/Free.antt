@@ -20,9 +20,9 @@ use Rattle.wfe_laws.specs.Record.Past.{Then}
 use Rattle.wfe_laws.specs.Schedule as schedule
 use Rattle.wfe_laws.specs.Schedule.History.{Blank, Starts, Turns}
 use Rattle.wfe_history.specs.History.{Item, world_of, record_of}
-use Rattle.wfe_holding.specs.Holding.{value_of}
-use Rattle.wfe_blocks.specs.Blocks.{same_guard}
 use Rattle.wfe_reuse.proofs.Passes.{first_of, rest_of}
+use Rattle.wfe_blocks.specs.Blocks.{same_guard}
+use Rattle.wfe_holding.specs.Holding.{value_of}
 use Rattle.wfe_turns.specs.Heard.{IsCounted, heard_of}
 use Rattle.wfe_turns.proofs.Counted.{histories_count}
 use Rattle.wfe_counting.specs.Protections.{is_index, one_more, reserved_of, turns_since}

@@ -20,9 +20,6 @@ use Rattle.wfe_core.specs.Phases.Base.{Protect, Move}
 use Rattle.wfe_core.specs.Posts.{counted, tag_of}
 use Rattle.wfe_core.specs.SlowPath.{own_request, asking, answer_in}
 use Rattle.wfe_core.specs.World.{World, start, begin, step, finds, is_busy}
-use Rattle.wfe_covers.proofs.Begun.{first_begins}
-use Rattle.wfe_covers.proofs.Held.{finds_at}
-use Rattle.wfe_covers.specs.Tries.{starts_base, is_start}
 use Rattle.wfe_eras.proofs.Frame.{seat_stays, begin_stays, begin_begins}
 use Rattle.wfe_eras.specs.Seats.{Seats}
 use Rattle.wfe_requests.proofs.Answering.{heard, word_by_open}
@@ -32,9 +29,11 @@ use Rattle.wfe_requests.specs.Deals.{is_quiet, is_open, asked_at, answered_with}
 use Rattle.wfe_requests.specs.NextDeals.{next_deals}
 use Rattle.wfe_requests.specs.Roles.{knows}
 use Rattle.wfe_requests.specs.Standing.{request_of, Requests}
-use Rattle.wfe_requests.specs.Views.{View, Deal, Role}
-use Rattle.wfe_requests.specs.Views.{Role as roles}
+use Rattle.wfe_requests.specs.Views.{View, Deal, Role, Role as roles}
 use Rattle.wfe_requests.specs.Views.Deal.{Quiet, Open, Answered, Passed, Taken}
+use Rattle.wfe_covers.proofs.Begun.{first_begins}
+use Rattle.wfe_covers.proofs.Held.{finds_at}
+use Rattle.wfe_covers.specs.Tries.{starts_base, is_start}
 use Rattle.wfe_origins.specs.Tracked.{opened_by}
 use Rattle.wfe_origins.specs.Origins.{OriginsNeeds}
 use Rattle.wfe_origins.proofs.Heard.{stands_as}

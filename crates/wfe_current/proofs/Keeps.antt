@@ -20,7 +20,6 @@ use Rattle.wfe_core.specs.Phases.Base.{Begin, Protect, Allocate, Retire, Move}
 use Rattle.wfe_core.specs.Posts.{counted}
 use Rattle.wfe_core.specs.Steps as steps
 use Rattle.wfe_core.specs.World.{World, begin, step, finds, is_busy, told_in}
-use Rattle.wfe_covers.proofs.Held.{finds_at}
 use Rattle.wfe_eras.proofs.Frame.{after_seated, begun_seated, seat_stays, seat_steps, begin_stays, begin_begins}
 use Rattle.wfe_eras.proofs.Kept.{begun_fits}
 use Rattle.wfe_eras.specs.Frame.{Seated}
@@ -31,6 +30,8 @@ use Rattle.wfe_rows.specs.Agree.{first_rows, rows_after}
 use Rattle.wfe_rows.specs.Chain.{first_line, line_after}
 use Rattle.wfe_rows.specs.Queue.{Line}
 use Rattle.wfe_rows.specs.Rows.{View}
+use Rattle.wfe_covers.proofs.Held.{finds_at}
+use Rattle.wfe_origins.specs.Origins.{OriginsNeeds}
 use Rattle.wfe_laws.specs.Record.{Past, Each, EachEntry, tells_of}
 use Rattle.wfe_laws.specs.Record.Past.{Then}
 use Rattle.wfe_laws.proofs.Entries.{entries_of_each}
@@ -39,7 +40,6 @@ use Rattle.wfe_inv.specs.Known.{Known}
 use Rattle.wfe_inv.proofs.Begun.{known_start, known_begin}
 use Rattle.wfe_inv.proofs.Kept.{known_kept, asked_next}
 use Rattle.wfe_inv.proofs.Whole.{origins_need}
-use Rattle.wfe_origins.specs.Origins.{OriginsNeeds}
 use Rattle.wfe_lawful.proofs.Each.{all_of, begins_right, steps_right}
 use Rattle.wfe_lawful.proofs.Machines.{is_within, told_within}
 use Rattle.wfe_era_law.specs.EraLaw.{clock_of}

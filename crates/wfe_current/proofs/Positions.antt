@@ -6,9 +6,9 @@ use Rattle.wfe_defs.specs.declared.event.Event.{Event}
 use Rattle.wfe_defs.specs.declared.event.Event.TheVariants as events
 use Rattle.wfe_laws.specs.Record.{Past, Test, tells_of, value_since, begins, own}
 use Rattle.wfe_laws.specs.Record.Past.{Start, Then}
+use Rattle.wfe_reuse.proofs.Passes.{first_of, rest_of}
 use Rattle.wfe_lawful.proofs.Each.{all_of}
 use Rattle.wfe_lawful.proofs.Machines.{is_within}
-use Rattle.wfe_reuse.proofs.Passes.{first_of, rest_of}
 use Rattle.wfe_era_law.specs.EraLaw.{ticked_by, clock_of}
 use Rattle.wfe_current.specs.Current.{was_clock, cuts, ClockBetween}
 

@@ -2,8 +2,8 @@
 use Rattle.std.proofs.Common.{ℕ, ◌≡◌, ◌<◌, Bool, true, false, List, [], ◌∷◌, Option, None, refl, sym, ap, ◌∙◌, subst, arith}
 use Rattle.std.proofs.lemmas.Bool.Decides.{nat_tests}
 use Rattle.std.specs.Prelude.{◌==◌, is_some}
-use Rattle.wfe_words.specs.Packed.{reservation_word}
-use Rattle.wfe_words.specs.Place.{is_valid, Place as places}
+use Rattle.wfe_words.specs.Place.Place.{Clock}
+use Rattle.wfe_words.specs.Place.{is_valid}
 use Rattle.wfe_words.specs.declared.config.SchemeKind.{SchemeKind}
 use Rattle.wfe_words.specs.declared.config.SchemeKind.TheVariants.{He, Ibr, Wfe}
 use Rattle.wfe_words.specs.declared.layout.Layout.{Layout}
@@ -16,7 +16,6 @@ use Rattle.wfe_defs.specs.declared.event.Root.{Root}
 use Rattle.wfe_defs.specs.declared.lifetime.Interval.{Interval}
 use Rattle.wfe_core.specs.declared.post.Post.{Post}
 use Rattle.wfe_core.specs.Calls.{Why, Phase, Idle, Runs, Scans, Works, ReadGuard, GiveBack}
-use Rattle.wfe_core.specs.Links.{link_number}
 use Rattle.wfe_core.specs.Locals.{Local, after, begun}
 use Rattle.wfe_core.specs.Phases.{Aim, Tries, Endless, Failed, ProtectAt, MoveAt, Base}
 use Rattle.wfe_core.specs.Phases.ProtectAt.{LoadClock, PublishEra, LoadAnswer, TakeAnswer, RaiseUpper}
@@ -24,41 +23,40 @@ use Rattle.wfe_core.specs.Phases.MoveAt.{HandOver}
 use Rattle.wfe_core.specs.Phases.Base.{Begin, Protect, Move}
 use Rattle.wfe_core.specs.Posts.{counted}
 use Rattle.wfe_core.specs.World.{World, begin, step, finds, is_busy, told_in}
-use Rattle.wfe_covers.specs.Covers.{shown}
-use Rattle.wfe_covers.proofs.Held.{finds_at}
+use Rattle.wfe_eras.specs.Eras.{PhaseEras}
 use Rattle.wfe_eras.proofs.Frame.{after_seated, begun_seated, seat_stays, seat_steps, begin_stays, begin_begins}
 use Rattle.wfe_eras.proofs.Kept.{begun_fits}
 use Rattle.wfe_eras.specs.Frame.{is_ibr, Seated}
 use Rattle.wfe_eras.specs.Seats.{tries_fit, PostFits, PhaseFits}
-use Rattle.wfe_requests.specs.Deals.{is_quiet}
-use Rattle.wfe_requests.specs.Views.{View as Asked, Deal}
-use Rattle.wfe_requests.specs.Views.Deal.{Answered}
-use Rattle.wfe_requests.proofs.Kept.{at_of, requests_begin, requests_start}
+use Rattle.wfe_requests.specs.Roles.{shows}
+use Rattle.wfe_requests.specs.Views.{Role, View as Asked}
+use Rattle.wfe_requests.proofs.Kept.{requests_begin, requests_start}
 use Rattle.wfe_rows.specs.Agree.{first_rows, rows_after}
 use Rattle.wfe_rows.specs.Chain.{first_line, line_after}
 use Rattle.wfe_rows.specs.Queue.{Line}
 use Rattle.wfe_rows.specs.Rows.{View}
+use Rattle.wfe_covers.specs.Covers.{shown}
+use Rattle.wfe_handover.proofs.Shown.{helper_shows}
+use Rattle.wfe_origins.proofs.Heard.{stands_as}
+use Rattle.wfe_origins.specs.Origins.{OriginsNeeds}
 use Rattle.wfe_laws.specs.Record.{Past, Each, EachEntry}
 use Rattle.wfe_laws.proofs.Entries.{entries_of_each}
 use Rattle.wfe_history.specs.History.{Item, Begins, Steps, Made, fits, done, done_if, did, made_from, first_made, record_of}
-use Rattle.wfe_holding.specs.Holding.{value_of}
-use Rattle.wfe_holding.proofs.Holds.{record_values}
 use Rattle.wfe_inv.specs.Known.{Known}
 use Rattle.wfe_inv.proofs.Begun.{known_start, known_begin}
 use Rattle.wfe_inv.proofs.Kept.{known_kept, asked_next}
 use Rattle.wfe_inv.proofs.Shown.{shown_span}
 use Rattle.wfe_inv.proofs.Whole.{origins_need, handover_need}
-use Rattle.wfe_origins.specs.Origins.{OriginsNeeds}
-use Rattle.wfe_origins.proofs.Deals.{passed_is}
-use Rattle.wfe_origins.proofs.Opened.{move_fit}
-use Rattle.wfe_lawful.proofs.Each.{begins_right, steps_right}
 use Rattle.wfe_reuse.proofs.Passes.{First, step_goes}
+use Rattle.wfe_holding.specs.Holding.{value_of}
+use Rattle.wfe_holding.proofs.Holds.{record_values}
+use Rattle.wfe_lawful.proofs.Each.{begins_right, steps_right}
 use Rattle.wfe_current.specs.Rising.{span_rises, era_rises, RecordsRaiseSpans, RecordsRaiseEras}
 use Rattle.wfe_current.proofs.Free.{free_index}
 use Rattle.wfe_current.proofs.Keeps.{OfItems, next_items}
 use Rattle.wfe_current.proofs.Rises.{era_under, protect_risen, PhaseRisen, PhaseRaises, risen_grows, risen_owed}
-use Rattle.wfe_current.proofs.RiseTells.{growth_ok, Leads, leads_each, leads_closed, protect_stands, move_apart, base_stands, base_leads}
-use Rattle.wfe_current.proofs.RiseSteps.{SeatRisen, other_phase, own_protect}
+use Rattle.wfe_current.proofs.RiseTells.{growth_ok, Leads, leads_each, leads_closed, protect_stands, move_shows, base_stands, base_leads}
+use Rattle.wfe_current.proofs.RiseSteps.{some_era, SeatRisen, other_phase, own_protect}
 
 -- what a history keeps
 record Growing (layout : Layout) (made : Made) : Type 0 where
@@ -127,36 +125,28 @@ step_risen layout made i m false e d b g =
     (other_phase w i m g.rows g.asked (w.seat m).phase e (handover_need w i g.rows g.line g.asked b k) (k.seats.fits i).post.seat k.requests refl (g.seats m))
 
 -- what a step tells
-move_free : (w : World) (i : ℕ) (z : Asked) (why : Why) (at : MoveAt) → OriginsNeeds w i z → (w.seat i).phase ≡ Runs why (Move at) → move_apart i (finds w i) at
-move_free w i z why (HandOver era seat tag index root link old) n q = λ h.
-    let a = at_of w i z n.valid n.below n.seats n.needs n.requests in
-    let f : finds w i ≡ w.mem (places.Index seat index) = finds_at w i (Runs why (Move (HandOver era seat tag index root link old))) q in
-    let s : (w.mem (places.Index seat index) == reservation_word (record { era = old; tag = tag })) ≡ true = subst (λ (x : ℕ). (x == reservation_word (record { era = old; tag = tag })) ≡ true) f h in
-    let o = passed_is w.mem w.seat i z why era seat tag index root link old a q s in
-    by (seat == i) refl (move_fit w i z why (HandOver era seat tag index root link old) n q) o
-  where
-    by : (same : Bool) → (seat == i) ≡ same → is_quiet (z.deal i) ≡ true → z.deal seat ≡ Answered tag index (link_number (w.seat i).post.layout root) link era i → same ≡ false
-    by false e q o = refl
-    by true e q o = let p : i ≡ seat = grind (arith, nat_tests) in quiet_one (z.deal seat) (subst (λ (n : ℕ). is_quiet (z.deal n) ≡ true) p q) o
-      where
-        quiet_one : (d : Deal) → is_quiet d ≡ true → d ≡ Answered tag index (link_number (w.seat i).post.layout root) link era i → true ≡ false
-        quiet_one d a b = cc
-move_free w i z why at n q = tt
+move_of : (w : World) (i : ℕ) (z : Asked) (why : Why) (at : MoveAt) → OriginsNeeds w i z → (w.seat i).phase ≡ Runs why (Move at) → move_shows (shown w (Helper i)) at
+move_of w i z why (HandOver era seat tag index root link old) n q =
+    let p : Phase = Runs why (Move (HandOver era seat tag index root link old)) in
+    let o : (z.helper i == era) ≡ true = subst (λ (x : Role). shows x (z.helper i) ≡ true) (stands_as w z i p n.requests q) (n.requests.parts.shown i) in
+    let m = subst (λ (x : Phase). PhaseEras w.layout (w.mem Clock) (w.seat i).post x) q (n.eras.seats i).phase in
+    subst (λ (x : Option Interval). is_some x ≡ true) (sym (helper_shows w z i n.requests)) (some_era (z.helper i) era era o m.helps.mover.era_in.some (omega arith))
+move_of w i z why at n q = tt
 
 span_stands : (layout : Layout) (post : Post) (at : ProtectAt) (why : Why) (aim : Aim) (index : ℕ) (root : Root) (n : ℕ) → post.layout ≡ layout → PhaseFits layout post (Runs why (Protect aim index root n at)) → protect_stands at post
 span_stands layout post (RaiseUpper era) why aim index root n e f = f.posted (ap (λ (table : Layout). is_ibr table.config.scheme) e ∙ f.fits)
 span_stands layout post at why aim index root n e f = tt
 
-stands_of : (w : World) (i : ℕ) (z : Asked) (why : Why) (base : Base) → OriginsNeeds w i z → (w.seat i).phase ≡ Runs why base → base_stands i (finds w i) base (counted (w.seat i).post)
-stands_of w i z why (Begin at) n q = let f = subst (λ (p : Phase). PhaseFits w.layout (w.seat i).post p) q (n.seats.fits i).phase in f.posted
-stands_of w i z why (Protect aim index root made at) n q =
+stands_of : (value : Guard → Option Interval) (w : World) (i : ℕ) (z : Asked) (why : Why) (base : Base) → value (Helper i) ≡ shown w (Helper i) → OriginsNeeds w i z → (w.seat i).phase ≡ Runs why base → base_stands (value (Helper i)) base (counted (w.seat i).post)
+stands_of value w i z why (Begin at) e n q = let f = subst (λ (p : Phase). PhaseFits w.layout (w.seat i).post p) q (n.seats.fits i).phase in f.posted
+stands_of value w i z why (Protect aim index root made at) e n q =
     counted_stands at (span_stands w.layout (w.seat i).post at why aim index root made (n.seats.fits i).post.layout (subst (λ (p : Phase). PhaseFits w.layout (w.seat i).post p) q (n.seats.fits i).phase))
   where
     counted_stands : (at : ProtectAt) → protect_stands at (w.seat i).post → protect_stands at (counted (w.seat i).post)
     counted_stands (RaiseUpper era) h = h
     counted_stands at h = tt
-stands_of w i z why (Move at) n q = move_free w i z why at n q
-stands_of w i z why base n q = tt
+stands_of value w i z why (Move at) e n q = subst (λ (x : Option Interval). move_shows x at) (sym e) (move_of w i z why at n q)
+stands_of value w i z why base e n q = tt
 
 abbrev value_in : Past → Guard → Option Interval
 value_in p guard = value_of guard p
@@ -171,7 +161,7 @@ risen_in value w i post index at e h = tt
 phase_leads : (w : World) (i : ℕ) (z : Asked) (p : Past) (phase : Phase) → OriginsNeeds w i z → ((guard : Guard) → value_of guard p ≡ shown w guard) → shown w (Whole i) ≡ (w.seat i).post.span → (w.seat i).phase ≡ phase → SeatRisen w i → First (λ post told. Leads i (value_in p) told) phase (counted (w.seat i).post) (finds w i)
 phase_leads w i z p Idle n e s q h = tt
 phase_leads w i z p (Runs why base) n e s q h =
-    base_leads i (value_in p) base (counted (w.seat i).post) (finds w i) (record { seat = (n.seats.fits i).post.seat; span = e (Whole i) ∙ s }) (stands_of w i z why base n q)
+    base_leads i (value_in p) base (counted (w.seat i).post) (finds w i) (record { seat = (n.seats.fits i).post.seat; span = e (Whole i) ∙ s }) (stands_of (value_in p) w i z why base (e (Helper i)) n q)
     (λ aim index root made at b. risen_in (value_in p) w i (w.seat i).post index at e (subst (PhaseRisen (λ (j : ℕ). shown w (Index i j)) (shown w (Helper i)) (w.seat i).post) (q ∙ ap (λ (x : Base). Runs why x) b) h))
 phase_leads w i z p (Scans later (ReadGuard number)) n e s q h = (refl, refl)
 phase_leads w i z p (Scans later (GiveBack place slot)) n e s q h = (refl, refl)

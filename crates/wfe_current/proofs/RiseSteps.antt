@@ -13,8 +13,6 @@ use Rattle.wfe_core.specs.Phases.ProtectAt.{LoadClock, PublishEra, CheckClock, C
 use Rattle.wfe_core.specs.Phases.Base.{Protect}
 use Rattle.wfe_core.specs.Posts.{counted, upper}
 use Rattle.wfe_core.specs.World.{World, step, finds}
-use Rattle.wfe_covers.specs.Covers.{shown}
-use Rattle.wfe_covers.proofs.Held.{finds_at}
 use Rattle.wfe_eras.specs.Eras.{SpanIn, PhaseEras}
 use Rattle.wfe_requests.specs.Deals.{is_quiet}
 use Rattle.wfe_requests.specs.Roles.{shows, publishes}
@@ -22,6 +20,8 @@ use Rattle.wfe_requests.specs.Standing.{Requests}
 use Rattle.wfe_requests.specs.Views.{View as Asked, Deal, Role}
 use Rattle.wfe_requests.specs.Views.Deal.{Answered}
 use Rattle.wfe_rows.specs.Rows.{View}
+use Rattle.wfe_covers.specs.Covers.{shown}
+use Rattle.wfe_covers.proofs.Held.{finds_at}
 use Rattle.wfe_handover.proofs.Deals.{handed_deal}
 use Rattle.wfe_handover.proofs.Others.{other_index, other_helper}
 use Rattle.wfe_handover.proofs.Shown.{helper_shows, index_shows}
@@ -65,7 +65,7 @@ other_phase w i k v z (Scans later at) o needs s r q h = tt
 other_phase w i k v z (Works work) o needs s r q h = tt
 
 -- the seat that steps
-some_era : (helper era first : ℕ) → (helper == era) ≡ true → 1 ≤ first → first ≤ era → is_some (one_era helper) ≡ true
+pub some_era : (helper era first : ℕ) → (helper == era) ≡ true → 1 ≤ first → first ≤ era → is_some (one_era helper) ≡ true
 some_era helper era first h a b = by (helper == 0) refl
   where
     by : (none : Bool) → (helper == 0) ≡ none → is_some (if none then None else from_to helper helper) ≡ true

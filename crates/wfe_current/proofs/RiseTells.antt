@@ -1,7 +1,7 @@
 -- What a step tells of guards grows: what its seat was about to publish is later than what is published.
 use Rattle.std.proofs.Common.{ℕ, ◌≡◌, ◌<◌, ◌+◌, ◌-◌, Bool, true, false, List, [], ◌∷◌, ◌++◌, Option, Some, None, refl, sym, ap, ◌∙◌, subst, arith}
 use Rattle.std.proofs.lemmas.Bool.Decides.{nat_tests}
-use Rattle.std.specs.Prelude.{◌==◌, ◌||◌, not, is_some, if◌then◌else◌}
+use Rattle.std.specs.Prelude.{◌==◌, ◌||◌, is_some, if◌then◌else◌}
 use Rattle.wfe_words.specs.Packed.{reservation_word, read_reservation}
 use Rattle.wfe_words.specs.declared.config.SchemeKind.{SchemeKind}
 use Rattle.wfe_words.specs.declared.config.SchemeKind.TheVariants.{He, Ibr, Wfe}
@@ -32,17 +32,17 @@ use Rattle.wfe_core.specs.SlowPath.{own_request, asking}
 use Rattle.wfe_core.specs.WriteRow.{last_written}
 use Rattle.wfe_laws.specs.Record.{Past, Test, Each, tells_of}
 use Rattle.wfe_laws.specs.Record.Past.{Then}
+use Rattle.wfe_reuse.proofs.Passes.{is_quiet, all_quiet, both, first_of, rest_of, Closed}
 use Rattle.wfe_holding.specs.Holding.{value_of}
 use Rattle.wfe_lawful.proofs.Each.{all_of}
 use Rattle.wfe_lawful.proofs.Machines.{of_along}
-use Rattle.wfe_reuse.proofs.Passes.{is_quiet, all_quiet, both, first_of, rest_of, Closed}
 use Rattle.wfe_current.specs.Rising.{span_grows, era_grows}
 use Rattle.wfe_current.proofs.Rises.{era_under, protect_risen}
 
 -- both laws in one, by what each guard publishes
 abbrev pub grows_right : (teller : ℕ) → (value : Guard → Option Interval) → Event → Bool
 grows_right i value (events.Reserve (Whole seat) span) = span_grows (value (Whole seat)) span
-grows_right i value (events.Reserve (Index seat index) span) = not (seat == i) || (is_some (value (Helper i)) || era_grows (value (Index seat index)) span)
+grows_right i value (events.Reserve (Index seat index) span) = is_some (value (Helper i)) || era_grows (value (Index seat index)) span
 grows_right i value event = true
 
 abbrev pub growth_ok : Test
@@ -59,17 +59,16 @@ none_spans : (x : Option Interval) → span_grows x None ≡ true
 none_spans None = refl
 none_spans (Some span) = refl
 
-none_eras : (own asked : Bool) (x : Option Interval) → (not own || (asked || era_grows x None)) ≡ true
-none_eras false asked x = refl
-none_eras true true x = refl
-none_eras true false None = refl
-none_eras true false (Some span) = refl
+none_eras : (asked : Bool) (x : Option Interval) → (asked || era_grows x None) ≡ true
+none_eras true x = refl
+none_eras false None = refl
+none_eras false (Some span) = refl
 
 flat_right : (i : ℕ) (value : Guard → Option Interval) (event : Event) → is_flat event ≡ true → grows_right i value event ≡ true
 flat_right i value (events.Reserve (Helper seat) span) h = refl
 flat_right i value (events.Reserve (Whole seat) None) h = none_spans (value (Whole seat))
 flat_right i value (events.Reserve (Whole seat) (Some span)) h = absurd (cc)
-flat_right i value (events.Reserve (Index seat index) None) h = none_eras (seat == i) (is_some (value (Helper i))) (value (Index seat index))
+flat_right i value (events.Reserve (Index seat index) None) h = none_eras (is_some (value (Helper i))) (value (Index seat index))
 flat_right i value (events.Reserve (Index seat index) (Some span)) h = absurd (cc)
 flat_right i value event h = refl
 
@@ -129,23 +128,15 @@ under_grows (Some span) era h = by (era == 0)
     by false = h
 
 own_grows : (seat i index era : ℕ) (value : Guard → Option Interval) → seat ≡ i → era_under (value (Index i index)) era ≡ true → grows_right i value (events.Reserve (Index seat index) (one_era era)) ≡ true
-own_grows seat i index era value e h = any (not (seat == i)) (is_some (value (Helper i))) (era_grows (value (Index seat index)) (one_era era)) (subst (λ (n : ℕ). era_grows (value (Index n index)) (one_era era) ≡ true) (sym e) (under_grows (value (Index i index)) era h))
+own_grows seat i index era value e h =
+    any (is_some (value (Helper i))) (era_grows (value (Index seat index)) (one_era era)) (subst (λ (n : ℕ). era_grows (value (Index n index)) (one_era era) ≡ true) (sym e) (under_grows (value (Index i index)) era h))
   where
-    any : (a b c : Bool) → c ≡ true → (a || (b || c)) ≡ true
-    any true b c h = refl
-    any false true c h = refl
-    any false false c h = h
+    any : (a b : Bool) → b ≡ true → (a || b) ≡ true
+    any true b h = refl
+    any false b h = h
 
 asked_grows : (seat i index era : ℕ) (value : Guard → Option Interval) → is_some (value (Helper i)) ≡ true → grows_right i value (events.Reserve (Index seat index) (one_era era)) ≡ true
-asked_grows seat i index era value h = any (not (seat == i)) (is_some (value (Helper i))) (era_grows (value (Index seat index)) (one_era era)) h
-  where
-    any : (a b c : Bool) → b ≡ true → (a || (b || c)) ≡ true
-    any true b c h = refl
-    any false true c h = refl
-    any false false c h = absurd (cc)
-
-handed_grows : (seat i index era : ℕ) (value : Guard → Option Interval) → (seat == i) ≡ false → grows_right i value (events.Reserve (Index seat index) (one_era era)) ≡ true
-handed_grows seat i index era value h = rw h refl
+asked_grows seat i index era value h = rw h refl
 
 -- an interval begins, or is raised
 begun_grows : (old : Option Interval) (era : ℕ) → old ≡ None → span_grows old (from_to era era) ≡ true
@@ -232,16 +223,16 @@ allocate_leads i value (ClaimSlot birth walk) post found =
     leads_if i value _ _ (allocates.is_claimed found walk.slot) (no_leads i value t.told (walking_told birth post (allocates.walk_past post.layout.config.slots walk found))) (refl, refl)
 allocate_leads i value (StoreLife birth slot) post found = tt
 
--- a mover hands over to another seat
-abbrev pub move_apart : (i found : ℕ) → MoveAt → Type 0
-move_apart i found (HandOver era seat tag index root link old) = (found == reservation_word (record { era = old; tag = tag })) ≡ true → (seat == i) ≡ false
-move_apart i found at = Unit {0}
+-- a mover hands over while its helper word publishes
+abbrev pub move_shows : (helper : Option Interval) → MoveAt → Type 0
+move_shows helper (HandOver era seat tag index root link old) = is_some helper ≡ true
+move_shows helper at = Unit {0}
 
-hand_leads : (i : ℕ) (value : Guard → Option Interval) (era seat tag index old : ℕ) (post : Post) (same : Bool) → (same ≡ true → (seat == i) ≡ false) → Leads i value (movers.after_hand_over era seat tag index old post same).told
-hand_leads i value era seat tag index old post true h = (handed_grows seat i index era value (h refl), refl)
+hand_leads : (i : ℕ) (value : Guard → Option Interval) (era seat tag index old : ℕ) (post : Post) (same : Bool) → is_some (value (Helper i)) ≡ true → Leads i value (movers.after_hand_over era seat tag index old post same).told
+hand_leads i value era seat tag index old post true h = (asked_grows seat i index era value h, refl)
 hand_leads i value era seat tag index old post false h = tt
 
-move_leads : (i : ℕ) (value : Guard → Option Interval) (at : MoveAt) (post : Post) (found : ℕ) → move_apart i found at → Leads i value (machine.move_turn at post found).told
+move_leads : (i : ℕ) (value : Guard → Option Interval) (at : MoveAt) (post : Post) (found : ℕ) → move_shows (value (Helper i)) at → Leads i value (machine.move_turn at post found).told
 move_leads i value (LoadEra helps) post found a = leads_if i value _ _ (found == post.layout.config.last_era) tt tt
 move_leads i value (LoadRequest era seat shows) post found a = tt
 move_leads i value (ShowEra era seat tag index root) post found a = (refl, refl)
@@ -258,13 +249,13 @@ cleared_leads : (i : ℕ) (value : Guard → Option Interval) (index : ℕ) (x :
 cleared_leads i value index x guard h = flat_leads i value _ (of_along is_flat (cleared index x) (events.Reserve guard None ∷ []) (cleared_flat index x) (both (is_flat (events.Reserve guard None)) true h refl))
 
 -- what a machine's step needs
-abbrev pub base_stands : (i found : ℕ) → Base → Post → Type 0
-base_stands i found (Begin at) post = post.span ≡ None
-base_stands i found (Protect aim index root made at) post = protect_stands at post
-base_stands i found (Move at) post = move_apart i found at
-base_stands i found base post = Unit {0}
+abbrev pub base_stands : (helper : Option Interval) → Base → Post → Type 0
+base_stands helper (Begin at) post = post.span ≡ None
+base_stands helper (Protect aim index root made at) post = protect_stands at post
+base_stands helper (Move at) post = move_shows helper at
+base_stands helper base post = Unit {0}
 
-pub base_leads : (i : ℕ) (value : Guard → Option Interval) (base : Base) (post : Post) (found : ℕ) → Shows i value post → base_stands i found base post → (base_rises : (aim : Aim) (index : ℕ) (root : Root) (made : ℕ) (at : ProtectAt) → base ≡ Protect aim index root made at → protect_risen (λ (j : ℕ). value (Index i j)) (value (Helper i)) post index at)
+pub base_leads : (i : ℕ) (value : Guard → Option Interval) (base : Base) (post : Post) (found : ℕ) → Shows i value post → base_stands (value (Helper i)) base post → (base_rises : (aim : Aim) (index : ℕ) (root : Root) (made : ℕ) (at : ProtectAt) → base ≡ Protect aim index root made at → protect_risen (λ (j : ℕ). value (Index i j)) (value (Helper i)) post index at)
     → Leads i value (machine.after base post found).told
 base_leads i value (Begin LoadLower) post found s k f = tt
 base_leads i value (Begin (PublishSpan era)) post found s k f = (begun_grows (value (Whole post.seat)) era (whole_value i value post s ∙ k), refl)

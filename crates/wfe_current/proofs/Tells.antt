@@ -4,11 +4,14 @@ use Rattle.std.specs.Prelude.{◌==◌, if◌then◌else◌}
 use Rattle.wfe_words.specs.Packed.{reservation_word, read_reservation}
 use Rattle.wfe_words.specs.declared.config.SchemeKind.{SchemeKind}
 use Rattle.wfe_words.specs.declared.config.SchemeKind.TheVariants.{He, Ibr, Wfe}
+use Rattle.wfe_words.specs.Place.Place.{Clock}
+use Rattle.wfe_words.specs.declared.layout.Layout.{Layout}
 use Rattle.wfe_defs.specs.declared.event.Event.{Event}
 use Rattle.wfe_defs.specs.declared.event.Event.TheVariants as events
 use Rattle.wfe_defs.specs.declared.event.Guard.{Guard}
 use Rattle.wfe_defs.specs.declared.event.Root.{Root}
 use Rattle.wfe_defs.specs.declared.event.Root.TheVariants as roots
+use Rattle.wfe_defs.specs.declared.event.Guard.TheVariants.{Index, Whole}
 use Rattle.wfe_core.specs.declared.post.Post.{Post}
 use Rattle.wfe_core.specs.Allocate as allocates
 use Rattle.wfe_core.specs.Calls.{ScanAt, Phase, Idle, Runs, Scans, Works, ReadGuard, GiveBack}
@@ -29,15 +32,12 @@ use Rattle.wfe_core.specs.Rounds.{scheme_of, clear_told}
 use Rattle.wfe_core.specs.SlowPath.{own_request, asking}
 use Rattle.wfe_core.specs.World.{World, finds, told_in}
 use Rattle.wfe_core.specs.WriteRow.{last_written}
+use Rattle.wfe_eras.specs.Eras.{protect_eras, allocate_eras, retire_eras, move_eras, base_eras, PhaseEras}
 use Rattle.wfe_laws.specs.Record.{Past, Test, Each, tells_of, begins, own}
 use Rattle.wfe_laws.specs.Record.Past.{Then}
+use Rattle.wfe_reuse.proofs.Passes.{is_quiet, all_quiet, both, first_of, rest_of, Closed, First, scan_told, step_goes}
 use Rattle.wfe_lawful.proofs.Each.{all_of}
 use Rattle.wfe_lawful.proofs.Machines.{of_along}
-use Rattle.wfe_reuse.proofs.Passes.{is_quiet, all_quiet, both, first_of, rest_of, Closed, First, scan_told, step_goes}
-use Rattle.wfe_eras.specs.Eras.{protect_eras, allocate_eras, retire_eras, move_eras, base_eras, PhaseEras}
-use Rattle.wfe_words.specs.Place.Place.{Clock}
-use Rattle.wfe_words.specs.declared.layout.Layout.{Layout}
-use Rattle.wfe_defs.specs.declared.event.Guard.TheVariants.{Index, Whole}
 use Rattle.wfe_era_law.specs.EraLaw.{clock_of}
 use Rattle.wfe_current.specs.Current.{was_clock, cuts, upper_current}
 use Rattle.wfe_current.proofs.Ages.{protect_since, allocate_since, retire_since, move_since, base_since, PhaseSince}

@@ -1,5 +1,5 @@
 -- The laws on how what a guard publishes grows, over records: the interval of 2GE, and the eras of a protection.
-use Rattle.std.specs.Prelude.{◌≡◌, ◌==◌, ◌&&◌, ◌||◌, not, is_some, nat_lt, Bool, true, List, Option, Some, None}
+use Rattle.std.specs.Prelude.{◌≡◌, ◌==◌, ◌&&◌, ◌||◌, is_some, nat_lt, Bool, true, List, Option, Some, None}
 use Rattle.wfe_words.specs.Place.{is_valid}
 use Rattle.wfe_words.specs.declared.layout.Layout.{Layout}
 use Rattle.wfe_defs.specs.declared.event.Event.TheVariants as events
@@ -29,9 +29,9 @@ era_grows None span = true
 era_grows (Some old) None = true
 era_grows (Some old) (Some span) = nat_lt old.hi span.hi
 
--- so are those that a seat tells of its own index word until it tells nothing of it, while its helper word publishes nothing
+-- so are those that a seat whose helper word publishes nothing tells of an index word, until that publishes nothing
 abbrev pub era_rises : Test
-era_rises p i (events.Reserve (Index seat index) span) = not (seat == i) || (is_some (value_of (Helper i) p) || era_grows (value_of (Index seat index) p) span)
+era_rises p i (events.Reserve (Index seat index) span) = is_some (value_of (Helper i) p) || era_grows (value_of (Index seat index) p) span
 era_rises p i event = true
 
 abbrev pub ErasRise : Past → Type 0

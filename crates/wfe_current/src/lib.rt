@@ -35,9 +35,9 @@ pub fn records_raise_spans()
     ensures { RecordsRaiseSpans }
 {}
 
-/// The eras that a seat tells of its own index word rise until it tells nothing of it, while its
-/// helper word publishes nothing: under Hazard Eras in each protection, under Wait-Free Eras in the
-/// tries of each.
+/// The eras that a seat whose helper word publishes nothing tells of an index word rise until that
+/// publishes nothing: under Hazard Eras in each protection, under Wait-Free Eras in the tries of
+/// each.
 pub fn records_raise_eras()
     ensures { RecordsRaiseEras }
 {}
