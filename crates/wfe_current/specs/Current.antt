@@ -22,7 +22,7 @@ abbrev pub cuts : (slot : ℕ) → Event → Bool
 cuts s (events.Cut slot) = s == slot
 cuts s event = false
 
--- a row is given with a birth era that was the clock at a position of the same call
+-- a row's birth era was the clock somewhere in the call that the row is given to
 abbrev pub birth_current : Test
 birth_current p i (events.Give slot birth) = was_clock (begins i) birth p
 birth_current p i event = true

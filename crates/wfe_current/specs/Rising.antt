@@ -9,7 +9,7 @@ use Rattle.wfe_laws.specs.Record.{Past, Test, EachEntry}
 use Rattle.wfe_history.specs.History.{Item, record_of}
 use Rattle.wfe_holding.specs.Holding.{value_of}
 
--- an interval begins with one era; until it is withdrawn its lower end stays, and its upper end rises
+-- an interval begins with one era; until it is withdrawn its lower end is kept, and each change raises its upper end
 abbrev pub span_grows : Option Interval → Option Interval → Bool
 span_grows None None = true
 span_grows None (Some span) = span.lo == span.hi

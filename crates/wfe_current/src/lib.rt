@@ -11,7 +11,7 @@ pub fn clock_between()
     ensures { ClockBetween }
 {}
 
-/// A row is given with a birth era that was the clock at a position of the same call.
+/// A row's birth era was the clock somewhere in the call that the row is given to.
 pub fn records_give_current()
     ensures { RecordsGiveCurrent }
 {}
@@ -29,8 +29,8 @@ pub fn records_reserve_current()
     ensures { RecordsReserveCurrent }
 {}
 
-/// An interval of 2GE begins with one era. From one withdrawal to the next its lower end stays and
-/// its upper end rises.
+/// An interval of 2GE begins with one era. Until it is withdrawn its lower end is kept, and each
+/// change raises its upper end.
 pub fn records_raise_spans()
     ensures { RecordsRaiseSpans }
 {}
