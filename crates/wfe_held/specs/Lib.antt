@@ -1,1 +1,2 @@
+pub mod Gots
 pub mod Resting

@@ -2,6 +2,7 @@
 //! whichever seats make their steps. Each function here does nothing, and carries a theorem.
 #![tactic(auto)]
 
+ghost use Rattle.wfe_held.specs.Gots.{RecordsTellRows};
 ghost use Rattle.wfe_held.specs.Resting.{RecordsRestGuards};
 
 /// Where a call ends, its seat's helper word and its index words 0 and 1 publish nothing, and its
@@ -9,4 +10,11 @@ ghost use Rattle.wfe_held.specs.Resting.{RecordsRestGuards};
 /// publishes an interval exactly where a row stands at index 2.
 pub fn records_rest_guards()
     ensures { RecordsRestGuards }
+{}
+
+/// A get that tells version 0 of its bucket has found none at its index 0. Where it tells a later
+/// version, the row that was linked at the bucket's root for the change of that version stands at the
+/// get's index 0.
+pub fn records_tell_rows()
+    ensures { RecordsTellRows }
 {}
