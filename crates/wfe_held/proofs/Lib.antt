@@ -1,4 +1,7 @@
+pub mod Behind
+pub mod Following
 pub mod Gots
+pub mod Nexts
 pub mod Nulled
 pub mod Resting
 pub mod Rowed

@@ -1,2 +1,3 @@
 pub mod Gots
+pub mod Nexts
 pub mod Resting

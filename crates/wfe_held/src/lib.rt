@@ -3,6 +3,7 @@
 #![tactic(auto)]
 
 ghost use Rattle.wfe_held.specs.Gots.{RecordsTellRows};
+ghost use Rattle.wfe_held.specs.Nexts.{RecordsFollowNexts};
 ghost use Rattle.wfe_held.specs.Resting.{RecordsRestGuards};
 
 /// Where a call ends, its seat's helper word and its index words 0 and 1 publish nothing, and its
@@ -17,4 +18,11 @@ pub fn records_rest_guards()
 /// get's index 0.
 pub fn records_tell_rows()
     ensures { RecordsTellRows }
+{}
+
+/// Where a seat tells at index 1 that a row stands, it is the next row of the row that the head has.
+/// Where it tells there that there is none, a row stands at its index 0, and at a position of the
+/// call the head had that row and no row was next to it.
+pub fn records_follow_nexts()
+    ensures { RecordsFollowNexts }
 {}
