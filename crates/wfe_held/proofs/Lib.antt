@@ -1,5 +1,7 @@
 pub mod Behind
+pub mod Flat
 pub mod Following
+pub mod Forms
 pub mod Gots
 pub mod Nexts
 pub mod Nulled
@@ -7,4 +9,5 @@ pub mod Resting
 pub mod Rowed
 pub mod Spans
 pub mod Spent
+pub mod Throughout
 pub mod Valued

@@ -1,3 +1,4 @@
 pub mod Gots
 pub mod Nexts
+pub mod Positions
 pub mod Resting

@@ -4,6 +4,7 @@
 
 ghost use Rattle.wfe_held.specs.Gots.{RecordsTellRows};
 ghost use Rattle.wfe_held.specs.Nexts.{RecordsFollowNexts};
+ghost use Rattle.wfe_held.specs.Positions.{RecordsHoldThroughout};
 ghost use Rattle.wfe_held.specs.Resting.{RecordsRestGuards};
 
 /// Where a call ends, its seat's helper word and its index words 0 and 1 publish nothing, and its
@@ -25,4 +26,11 @@ pub fn records_tell_rows()
 /// call the head had that row and no row was next to it.
 pub fn records_follow_nexts()
     ensures { RecordsFollowNexts }
+{}
+
+/// At each position of the record, also between two entries that one step tells, a row that stands at
+/// an index of a seat is taken, and the guard of that index publishes an interval that meets the row's
+/// life.
+pub fn records_hold_throughout()
+    ensures { RecordsHoldThroughout }
 {}
