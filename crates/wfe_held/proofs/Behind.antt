@@ -49,7 +49,7 @@ use Rattle.wfe_rows.proofs.Went.{same_number}
 use Rattle.wfe_answers.proofs.Answering.{within_of}
 use Rattle.wfe_links.specs.Links.{links_to}
 use Rattle.wfe_roots.proofs.Leads.{Leads, leads_of}
-use Rattle.wfe_held.specs.Nexts.{is_last}
+use Rattle.wfe_held.specs.Behind.{is_last}
 use Rattle.wfe_held.proofs.Nexts.{Nexts, nexts_step, nexts_first}
 
 -- where a next link is null, the head had its row and no row was next to it, at a position of the seat's call

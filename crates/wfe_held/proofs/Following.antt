@@ -53,7 +53,7 @@ use Rattle.wfe_told.proofs.Rows.{own_told, own_post, step_adds}
 use Rattle.wfe_told.proofs.Turns.{Adds, is_later}
 use Rattle.wfe_roots.proofs.Leads.{Leads, leads_of}
 use Rattle.wfe_roots.proofs.Ways.{record_each}
-use Rattle.wfe_held.specs.Nexts.{is_last, was_last, nexts_ok, RecordsFollowNexts}
+use Rattle.wfe_held.specs.Behind.{is_last, was_last, behind_ok, RecordsFollowNexts}
 use Rattle.wfe_held.proofs.Behind.{had_none, within_none, carried_none, reloaded_next, behind_of}
 use Rattle.wfe_held.proofs.Nexts.{Nexts}
 
@@ -75,12 +75,12 @@ rest_none true b h = absurd (cc)
 rest_none false b h = h
 
 -- nothing is told at index 1
-other_ok : (slots : ℕ) (p : Past) (i : ℕ) (event : Event) → is_one event ≡ false → nexts_ok slots p i event ≡ true
+other_ok : (slots : ℕ) (p : Past) (i : ℕ) (event : Event) → is_one event ≡ false → behind_ok slots p i event ≡ true
 other_ok slots p i (events.Held index slot count) h = rw h refl
 other_ok slots p i (events.Null index count) h = rw h refl
 other_ok slots p i event h = refl
 
-other_each : (slots i : ℕ) (told : List Event) (p : Past) → list_any is_one told ≡ false → Each (nexts_ok slots) p → Each (nexts_ok slots) (tells_of p i told)
+other_each : (slots i : ℕ) (told : List Event) (p : Past) → list_any is_one told ≡ false → Each (behind_ok slots) p → Each (behind_ok slots) (tells_of p i told)
 other_each slots i [] p h g = g
 other_each slots i (event ∷ told) p h g = other_each slots i told (Then p i event) (rest_none (is_one event) (list_any is_one told) h) (other_ok slots p i event (first_none (is_one event) (list_any is_one told) h), g)
 
@@ -89,7 +89,7 @@ later_one (events.Held index slot count) h = absurd (cc)
 later_one (events.Null index count) h = absurd (cc)
 later_one event h = refl
 
-later_each : (slots i : ℕ) (told : List Event) (p : Past) → list_all is_later told ≡ true → Each (nexts_ok slots) p → Each (nexts_ok slots) (tells_of p i told)
+later_each : (slots i : ℕ) (told : List Event) (p : Past) → list_all is_later told ≡ true → Each (behind_ok slots) p → Each (behind_ok slots) (tells_of p i told)
 later_each slots i [] p h g = g
 later_each slots i (event ∷ told) p h g =
     let a : is_later event ≡ true = grind (arith, nat_tests) in
@@ -156,16 +156,16 @@ either_true : (a b : Bool) → b ≡ true → (a || b) ≡ true
 either_true true b h = refl
 either_true false b h = h
 
-null_each : (slots i index head n : ℕ) (q : Past) (null : Bool) → stood_at i 0 q ≡ Some head → (if null then held_since (begins i) (is_last slots head) q else true) ≡ true → Each (nexts_ok slots) q → Each (nexts_ok slots) (tells_of q i (if null then events.Null index n ∷ [] else []))
+null_each : (slots i index head n : ℕ) (q : Past) (null : Bool) → stood_at i 0 q ≡ Some head → (if null then held_since (begins i) (is_last slots head) q else true) ≡ true → Each (behind_ok slots) q → Each (behind_ok slots) (tells_of q i (if null then events.Null index n ∷ [] else []))
 null_each slots i index head n q true s h g = (either_true (not (index == 1)) (was_last slots i q (stood_at i 0 q)) (subst (λ (x : Option ℕ). was_last slots i q x ≡ true) (sym s) h), g)
 null_each slots i index head n q false s h g = g
 
-if_each : (slots i : ℕ) (p : Past) (c : Bool) (t u : Turn) → (c ≡ true → Each (nexts_ok slots) (tells_of p i t.told)) → Each (nexts_ok slots) (tells_of p i u.told) → Each (nexts_ok slots) (tells_of p i (if c then t else u).told)
+if_each : (slots i : ℕ) (p : Past) (c : Bool) (t u : Turn) → (c ≡ true → Each (behind_ok slots) (tells_of p i t.told)) → Each (behind_ok slots) (tells_of p i u.told) → Each (behind_ok slots) (tells_of p i (if c then t else u).told)
 if_each slots i p true t u a b = a refl
 if_each slots i p false t u a b = b
 
-ended_each : (slots i : ℕ) (p : Past) (aim : Aim) (index : ℕ) (root : Root) (n link era : ℕ) (post : Post) (told : List Event) → Each (nexts_ok slots) (tells_of p i told) → Each (nexts_ok slots) (tells_of p i (concluded aim index root n link era post told).told)
-ended_each slots i p aim index root n link era post told h = subst (λ (es : List Event). Each (nexts_ok slots) (tells_of p i es)) (sym (concluded_told aim index root n link era post told)) h
+ended_each : (slots i : ℕ) (p : Past) (aim : Aim) (index : ℕ) (root : Root) (n link era : ℕ) (post : Post) (told : List Event) → Each (behind_ok slots) (tells_of p i told) → Each (behind_ok slots) (tells_of p i (concluded aim index root n link era post told).told)
+ended_each slots i p aim index root n link era post told h = subst (λ (es : List Event). Each (behind_ok slots) (tells_of p i es)) (sym (concluded_told aim index root n link era post told)) h
 
 reserve_stood : (i : ℕ) (p : Past) (guard : Guard) (span : Option Interval) → stood_at i 0 (Then p i (events.Reserve guard span)) ≡ stood_at i 0 p
 reserve_stood i p guard span = by (i == i)
@@ -174,8 +174,8 @@ reserve_stood i p guard span = by (i == i)
     by true = refl
     by false = refl
 
-protect_each : (slots i : ℕ) (p : Past) (aim : Aim) (index head n : ℕ) (at : ProtectAt) (post : Post) (found : ℕ) → stood_at i 0 p ≡ Some head → ((x : ℕ) → carries_at found (upper post.span) at x ≡ true → had_none slots p i (roots.Next head) x ≡ true) → Each (nexts_ok slots) p
-    → Each (nexts_ok slots) (tells_of p i (machine.protect_turn aim index (roots.Next head) n at post found).told)
+protect_each : (slots i : ℕ) (p : Past) (aim : Aim) (index head n : ℕ) (at : ProtectAt) (post : Post) (found : ℕ) → stood_at i 0 p ≡ Some head → ((x : ℕ) → carries_at found (upper post.span) at x ≡ true → had_none slots p i (roots.Next head) x ≡ true) → Each (behind_ok slots) p
+    → Each (behind_ok slots) (tells_of p i (machine.protect_turn aim index (roots.Next head) n at post found).told)
 protect_each slots i p aim index head n (LoadClock tries) post found s h g = g
 protect_each slots i p aim index head n (PublishEra era tries) post found s h g = (refl, g)
 protect_each slots i p aim index head n (LoadLink era tries) post found s h g = g
@@ -204,7 +204,7 @@ protect_each slots i p aim index head n (RaiseUpper era) post found s h g = (ref
 row_is : (slot : ℕ) (x : Option ℕ) → x ≡ Some slot → is_row slot x ≡ true
 row_is slot x e = ap (is_row slot) e ∙ same_number slot
 
-reload_each : (slots i parent index slot n found : ℕ) (post : Post) (p : Past) (same : Bool) → (found == parent + 1) ≡ same → head_at slots p + 1 ≡ found → (found ≡ parent + 1 → next_at parent p ≡ Some slot) → Each (nexts_ok slots) p → Each (nexts_ok slots) (tells_of p i (after_reload parent index slot n post found).told)
+reload_each : (slots i parent index slot n found : ℕ) (post : Post) (p : Past) (same : Bool) → (found == parent + 1) ≡ same → head_at slots p + 1 ≡ found → (found ≡ parent + 1 → next_at parent p ≡ Some slot) → Each (behind_ok slots) p → Each (behind_ok slots) (tells_of p i (after_reload parent index slot n post found).told)
 reload_each slots i parent index slot n found post p true q a h g =
     let m : found ≡ parent + 1 = number_of found (parent + 1) q in
     let at : head_at slots p ≡ parent = head_is found parent found (head_at slots p) a refl m in
@@ -219,11 +219,11 @@ record Sees (slots : ℕ) (w : World) (i : ℕ) (v : View) (l : Line) (z : Asked
   links : Origins (had_none slots p) w z
   queue : (s : ℕ) → stands_on (w.seat i).phase s ≡ true → stood_at i 0 p ≡ Some s
 
-follow_each : (slots : ℕ) (w : World) (i : ℕ) (v : View) (l : Line) (z : Asked) (p : Past) (head tail : ℕ) (base : Base) → (w.seat i).phase ≡ Runs (FollowsHead head tail) base → Sees slots w i v l z p → Each (nexts_ok slots) p → Each (nexts_ok slots) (tells_of p i (machine.after base (counted (w.seat i).post) (finds w i)).told)
+follow_each : (slots : ℕ) (w : World) (i : ℕ) (v : View) (l : Line) (z : Asked) (p : Past) (head tail : ℕ) (base : Base) → (w.seat i).phase ≡ Runs (FollowsHead head tail) base → Sees slots w i v l z p → Each (behind_ok slots) p → Each (behind_ok slots) (tells_of p i (machine.after base (counted (w.seat i).post) (finds w i)).told)
 follow_each slots w i v l z p head tail (Protect aim index root count at) q k g =
     let r = run_of w i (FollowsHead head tail) (Protect aim index root count at) k.known.seats q in
     let stood : stood_at i 0 p ≡ Some head = k.queue head (ap (λ (x : Phase). stands_on x head) q ∙ same_number head) in
-    subst (λ (y : Root). Each (nexts_ok slots) (tells_of p i (machine.protect_turn aim index y (bump count) at (counted (w.seat i).post) (finds w i)).told)) (sym r.shape.of)
+    subst (λ (y : Root). Each (behind_ok slots) (tells_of p i (machine.protect_turn aim index y (bump count) at (counted (w.seat i).post) (finds w i)).told)) (sym r.shape.of)
     (protect_each slots i p aim index head (bump count) at (counted (w.seat i).post) (finds w i) stood
     (λ x h. subst (λ (y : Root). had_none slots p i y x ≡ true) r.shape.of (carried_none slots w i z p (FollowsHead head tail) aim index root count at x q k.links h)) g)
 follow_each slots w i v l z p head tail (Reload parent index slot era count) q k g =
@@ -232,7 +232,7 @@ follow_each slots w i v l z p head tail (Reload parent index slot era count) q k
     (λ m. reloaded_next w i v l z p (FollowsHead head tail) parent index slot era count q (sym f ∙ m) k.known k.nexts) g
 follow_each slots w i v l z p head tail base q k g = let r = run_of w i (FollowsHead head tail) base k.known.seats q in let s : suits base ToFollow ≡ true = r.suited in absurd (cc)
 
-own_each : (slots : ℕ) (w : World) (i : ℕ) (v : View) (l : Line) (z : Asked) (p : Past) (phase : Phase) → (w.seat i).phase ≡ phase → Sees slots w i v l z p → Each (nexts_ok slots) p → Each (nexts_ok slots) (tells_of p i (own_told phase (counted (w.seat i).post) (finds w i)))
+own_each : (slots : ℕ) (w : World) (i : ℕ) (v : View) (l : Line) (z : Asked) (p : Past) (phase : Phase) → (w.seat i).phase ≡ phase → Sees slots w i v l z p → Each (behind_ok slots) p → Each (behind_ok slots) (tells_of p i (own_told phase (counted (w.seat i).post) (finds w i)))
 own_each slots w i v l z p Idle q k g = g
 own_each slots w i v l z p (Runs (FollowsHead head tail) base) q k g = follow_each slots w i v l z p head tail base q k g
 own_each slots w i v l z p (Runs why base) q k g =
@@ -242,15 +242,15 @@ own_each slots w i v l z p (Scans later (ReadGuard number)) q k g = (refl, g)
 own_each slots w i v l z p (Scans later (GiveBack place slot)) q k g = (refl, g)
 own_each slots w i v l z p (Works work) q k g = g
 
-step_nexts : (slots : ℕ) (w : World) (i : ℕ) (v : View) (l : Line) (z : Asked) (p : Past) → Sees slots w i v l z p → Each (nexts_ok slots) p → Each (nexts_ok slots) (tells_of p i (told_in w i))
+step_nexts : (slots : ℕ) (w : World) (i : ℕ) (v : View) (l : Line) (z : Asked) (p : Past) → Sees slots w i v l z p → Each (behind_ok slots) p → Each (behind_ok slots) (tells_of p i (told_in w i))
 step_nexts slots w i v l z p k g =
     let own : List Event = own_told (w.seat i).phase (counted (w.seat i).post) (finds w i) in
     let x : Adds (own_post (w.seat i).phase (counted (w.seat i).post) (finds w i)) own (turn (w.seat i) (finds w i)) = step_adds w i in
-    let one : Each (nexts_ok slots) (tells_of p i own) = own_each slots w i v l z p (w.seat i).phase refl k g in
-    subst (λ (q : Past). Each (nexts_ok slots) q) (sym (ap (tells_of p i) x.is ∙ tells_both i own x.more p)) (later_each slots i x.more (tells_of p i own) x.later one)
+    let one : Each (behind_ok slots) (tells_of p i own) = own_each slots w i v l z p (w.seat i).phase refl k g in
+    subst (λ (q : Past). Each (behind_ok slots) q) (sym (ap (tells_of p i) x.is ∙ tells_both i own x.more p)) (later_each slots i x.more (tells_of p i own) x.later one)
 
 pub records_follow_nexts : RecordsFollowNexts
-records_follow_nexts layout items d = record_each layout (nexts_ok layout.config.slots) items (record {
+records_follow_nexts layout items d = record_each layout (behind_ok layout.config.slots) items (record {
   begins = λ p i call. refl;
   steps = λ path i t g.
       let b = behind_of layout path d in

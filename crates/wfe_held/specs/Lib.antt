@@ -1,4 +1,4 @@
+pub mod Behind
 pub mod Gots
-pub mod Nexts
 pub mod Positions
 pub mod Resting

@@ -2,8 +2,8 @@
 //! whichever seats make their steps. Each function here does nothing, and carries a theorem.
 #![tactic(auto)]
 
+ghost use Rattle.wfe_held.specs.Behind.{RecordsFollowNexts};
 ghost use Rattle.wfe_held.specs.Gots.{RecordsTellRows};
-ghost use Rattle.wfe_held.specs.Nexts.{RecordsFollowNexts};
 ghost use Rattle.wfe_held.specs.Positions.{RecordsHoldThroughout};
 ghost use Rattle.wfe_held.specs.Resting.{RecordsRestGuards};
 

@@ -20,14 +20,14 @@ was_last slots i p (Some row) = held_since (begins i) (is_last slots row) p
 
 -- Where a seat tells at index 1 that a row stands, it is the next row of the row that the head has. Where it tells there that there
 -- is none, some row stands at its index 0, and no row was next to that while the head had it, at a position of the call.
-abbrev pub nexts_ok : (slots : ℕ) → Test
-nexts_ok slots p i (events.Held index slot steps) = not (index == 1) || is_row slot (next_at (head_at slots p) p)
-nexts_ok slots p i (events.Null index steps) = not (index == 1) || was_last slots i p (stood_at i 0 p)
-nexts_ok slots p i event = true
+abbrev pub behind_ok : (slots : ℕ) → Test
+behind_ok slots p i (events.Held index slot steps) = not (index == 1) || is_row slot (next_at (head_at slots p) p)
+behind_ok slots p i (events.Null index steps) = not (index == 1) || was_last slots i p (stood_at i 0 p)
+behind_ok slots p i event = true
 
-abbrev pub NextLaw : (slots : ℕ) → Past → Type 0
-NextLaw slots r = EachEntry (nexts_ok slots) r
+abbrev pub BehindLaw : (slots : ℕ) → Past → Type 0
+BehindLaw slots r = EachEntry (behind_ok slots) r
 
 -- each history's record keeps it, whatever calls begin and whichever seats make their steps
 abbrev pub RecordsFollowNexts : Type 0
-RecordsFollowNexts = (layout : Layout) (items : List Item) → is_valid layout ≡ true → NextLaw layout.config.slots (record_of layout items)
+RecordsFollowNexts = (layout : Layout) (items : List Item) → is_valid layout ≡ true → BehindLaw layout.config.slots (record_of layout items)
