@@ -7,9 +7,9 @@ ghost use Rattle.wfe_held.specs.Gots.{RecordsTellRows};
 ghost use Rattle.wfe_held.specs.Positions.{RecordsHoldThroughout};
 ghost use Rattle.wfe_held.specs.Resting.{RecordsRestGuards};
 
-/// Where a call ends, its seat's helper word and its index words 0 and 1 publish nothing, and its
-/// index word 2 publishes an interval exactly where a row stands there. Under 2GE its interval word
-/// publishes an interval exactly where a row stands at index 2.
+/// A seat whose call ends leaves nothing published at its helper word and at its indexes 0 and 1. At
+/// index 2 it publishes as long as a row is held there, and else nothing; under 2GE its interval word
+/// does so.
 pub fn records_rest_guards()
     ensures { RecordsRestGuards }
 {}
