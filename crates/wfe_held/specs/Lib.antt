@@ -1,0 +1,4 @@
+pub mod Behind
+pub mod Gots
+pub mod Positions
+pub mod Resting
