@@ -418,7 +418,7 @@ step_lacks layout made i b y k =
     let q : Past = tells_of made.past i t.told in
     subst (λ (r : Past). Each (lacks_ok c) r) (sym (tells_both i t.told (told_end t.post t.outcome) made.past)) (ends_lacks c i q t.post t.outcome (own_out layout made i b y k) (each_lacks c i t.told made.past o.told.goes k.lacks))
 
-step_keeps : (layout : Layout) (made : Made) (i : ℕ) → i < made.world.layout.config.seats → is_busy made.world i ≡ true → Keeps layout made → Keeps layout (done made (Steps i))
+pub step_keeps : (layout : Layout) (made : Made) (i : ℕ) → i < made.world.layout.config.seats → is_busy made.world i ≡ true → Keeps layout made → Keeps layout (done made (Steps i))
 step_keeps layout made i b y k =
     let w : World = made.world in
     let c : Config = w.layout.config in
@@ -466,7 +466,7 @@ begin_walks w i m call p false e g =
     subst (λ (l : Local). WalkPhase c.slots (lates c r m) l.phase) (sym (begin_stays w i m call e))
     (walk_more c.slots (lates c p m) (lates c r m) (λ s h. lates_on c p r m s (o.since s) h) (w.seat m).phase (g.walks m))
 
-begin_keeps : (layout : Layout) (made : Made) (i : ℕ) (call : Call) → is_busy made.world i ≡ false → Keeps layout made → Keeps layout (done made (Begins i call))
+pub begin_keeps : (layout : Layout) (made : Made) (i : ℕ) (call : Call) → is_busy made.world i ≡ false → Keeps layout made → Keeps layout (done made (Begins i call))
 begin_keeps layout made i call f k = record {
   once = once.begin_keeps layout made i call f k.once;
   answers = answering.begin_keeps made.world.layout.config.buckets made i call f k.answers;
@@ -478,7 +478,7 @@ begin_keeps layout made i call f k = record {
   lacks = (refl, k.lacks);
 }
 
-first_keeps : (layout : Layout) → is_valid layout ≡ true → Keeps layout (first_made layout)
+pub first_keeps : (layout : Layout) → is_valid layout ≡ true → Keeps layout (first_made layout)
 first_keeps layout d = record {
   once = once.first_keeps layout d;
   answers = answering.first_keeps layout d;

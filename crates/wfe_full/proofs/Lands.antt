@@ -62,20 +62,27 @@ no_room_fits c task false z d w k r a u = record { seeks = k; reads = r; walked 
 full_fits : (c : Config) (task : Task) (post : Post) (desk : Desk) (told : List Event) (at : AllocateAt) (z : Now) → task_fills task (Allocate at) ≡ true → WalkFits c task z → SeesFull c z → Within z → OutFits c (steps.filled_by task allocate_ends.Full post desk told).outcome z
 full_fits c (Changes kept) post desk told at z h f a u =
     clearing_fits c (Changes (alters.with_walked kept)) (alters.no_room kept.walked) post desk told z
-    (no_room_fits c (Changes (alters.with_walked kept)) kept.walked z f.fits refl (f.tie.seeks h) (f.tie.reads h) a u)
+    (no_room_fits c (Changes (alters.with_walked kept)) kept.walked z f.fits refl (f.tie.seeks h) (f.tie.reads refl) a u)
 full_fits c (Enqueues kept) post desk told at z h f a u =
     clearing_fits c (Enqueues (enqueues.item_walked kept)) (alters.no_room kept.walked) post desk told z
-    (no_room_fits c (Enqueues (enqueues.item_walked kept)) kept.walked z f.fits refl (f.tie.seeks h) (f.tie.reads h) a u)
+    (no_room_fits c (Enqueues (enqueues.item_walked kept)) kept.walked z f.fits refl (f.tie.seeks h) (f.tie.reads refl) a u)
 full_fits c (Gets key) post desk told at z h f a u = absurd (cc)
 full_fits c (Holds key) post desk told at z h f a u = absurd (cc)
 full_fits c Dequeues post desk told at z h f a u = absurd (cc)
 
-given_fits : (c : Config) (task : Task) (slot birth : ℕ) (post : Post) (desk : Desk) (told : List Event) (at : AllocateAt) (z : Now) → task_fills task (Allocate at) ≡ true → OutFits c (steps.filled_by task (allocate_ends.Given slot birth) post desk told).outcome z
-given_fits c (Changes kept) slot birth post desk told at z h = other_task c (Changes (alters.with_taken kept slot)) z refl
-given_fits c (Enqueues kept) slot birth post desk told at z h = other_task c (Enqueues (enqueues.item_taken kept slot)) z refl
-given_fits c (Gets key) slot birth post desk told at z h = absurd (cc)
-given_fits c (Holds key) slot birth post desk told at z h = absurd (cc)
-given_fits c Dequeues slot birth post desk told at z h = absurd (cc)
+filled_reads : (c : Config) (task : Task) (at : AllocateAt) (z : Now) → task_fills task (Allocate at) ≡ true → WalkFits c task z → z.search.reads ≡ reads_in (guards c) task
+filled_reads c (Changes kept) at z h f = f.tie.reads refl
+filled_reads c (Enqueues kept) at z h f = f.tie.reads refl
+filled_reads c (Gets key) at z h f = absurd (cc)
+filled_reads c (Holds key) at z h f = absurd (cc)
+filled_reads c Dequeues at z h f = absurd (cc)
+
+given_fits : (c : Config) (task : Task) (slot birth : ℕ) (post : Post) (desk : Desk) (told : List Event) (at : AllocateAt) (z : Now) → task_fills task (Allocate at) ≡ true → z.search.reads ≡ reads_in (guards c) task → OutFits c (steps.filled_by task (allocate_ends.Given slot birth) post desk told).outcome z
+given_fits c (Changes kept) slot birth post desk told at z h r = record { seeks = λ s. absurd (cc); reads = λ s. r }
+given_fits c (Enqueues kept) slot birth post desk told at z h r = record { seeks = λ s. absurd (cc); reads = λ s. r }
+given_fits c (Gets key) slot birth post desk told at z h r = absurd (cc)
+given_fits c (Holds key) slot birth post desk told at z h r = absurd (cc)
+given_fits c Dequeues slot birth post desk told at z h r = absurd (cc)
 
 walking_fits : (c : Config) (task : Task) (desk : Desk) (birth : ℕ) (post : Post) (x : Option Walk) (at : AllocateAt) (z : Now) → task_fills task (Allocate at) ≡ true → WalkFits c task z → ((allocates.walking birth post x).outcome ≡ Ends (Allocated allocate_ends.Full) → SeesFull c z) → Within z → OutFits c (steps.run_turn (Fills task) desk (allocates.walking birth post x)).outcome z
 walking_fits c task desk birth post None at z h f a u = full_fits c task post desk [] at z h f (a refl) u
@@ -100,7 +107,7 @@ claim_fits : (c : Config) (task : Task) (birth : ℕ) (walk : Walk) (post : Post
 claim_fits c task birth walk post desk found true z e h f a u =
     let b : (allocates.walking birth post (allocates.walk_past post.layout.config.slots walk found)).outcome ≡ Ends (Allocated allocate_ends.Full) → SeesFull c z = λ full. a (rw e full) in
     rw e (walking_fits c task desk birth post (allocates.walk_past post.layout.config.slots walk found) (ClaimSlot birth walk) z h f b u)
-claim_fits c task birth walk post desk found false z e h f a u = rw e tt
+claim_fits c task birth walk post desk found false z e h f a u = rw e (filled_reads c task (ClaimSlot birth walk) z h f)
 
 write_fits : (c : Config) (task : Task) (desk : Desk) (slot place : ℕ) (row : RowOf) (post : Post) (found : ℕ) (last : Bool) (z : Now) → (place == last_written row) ≡ last → TaskFits c task z → OutFits c (steps.run_turn (Fills task) desk (machine.after (Write slot row place) post found)).outcome z
 write_fits c task desk slot place row post found true z e f = rw e (written_fits c task post desk [] z f)
@@ -111,7 +118,7 @@ fills_fits : (c : Config) (z : Now) (task : Task) (base : Base) (post : Post) (d
 fills_fits c z task (Allocate LoadBirth) post desk found h s f a u = f
 fills_fits c z task (Allocate (ClaimSlot birth walk)) post desk found h s f a u =
     claim_fits c task birth walk post desk found (allocates.is_claimed found walk.slot) z refl h f a u
-fills_fits c z task (Allocate (StoreLife birth slot)) post desk found h s f a u = given_fits c task slot birth post desk [] (StoreLife birth slot) z h
+fills_fits c z task (Allocate (StoreLife birth slot)) post desk found h s f a u = given_fits c task slot birth post desk [] (StoreLife birth slot) z h f
 fills_fits c z task (Write slot row place) post desk found h s f a u = write_fits c task desk slot place row post found (place == last_written row) z refl f
 fills_fits c z task (Begin at) post desk found h s f a u = absurd (cc)
 fills_fits c z task (Protect aim index root steps at) post desk found h s f a u = absurd (cc)
@@ -213,7 +220,7 @@ later_on c n Counted x y e m f = ap (λ (t : Search). t.seeks) e ∙ f
 fill_on : (c : Config) (task : Task) (base : Base) (x y : Now) → Onto x y → FillFits c task base x → FillFits c task base y
 fill_on c task (Allocate LoadBirth) x y o f = record { tie = task_on c task x y o f.tie; fits = o.fits f.fits }
 fill_on c task (Allocate (ClaimSlot birth walk)) x y o f = record { tie = task_on c task x y o f.tie; fits = o.fits f.fits }
-fill_on c task (Allocate (StoreLife birth slot)) x y o f = tt
+fill_on c task (Allocate (StoreLife birth slot)) x y o f = ap (λ (t : Search). t.reads) o.search ∙ f
 fill_on c task (Begin at) x y o f = task_on c task x y o f
 fill_on c task (Protect aim index root steps at) x y o f = task_on c task x y o f
 fill_on c task (Reload parent index slot era steps) x y o f = task_on c task x y o f
@@ -364,15 +371,15 @@ turn_fits z (Works work) post desk found p f d a u = work_fits post.layout.confi
 
 -- a call begins
 pub first_fits : (c : Config) (call : Call) (post : Post) (was since : ℕ → Bool) (fits : Bool) → PhaseFits c (steps.first_phase call post) (record { search = record { seeks = seeks_row call; reads = 0 }; was = was; since = since; fits = fits })
-first_fits c (names.Get key) post was since fits = round_fits c (Gets key) post _ (other_task c (Gets key) _ refl)
+first_fits c (names.Get key) post was since fits = round_fits c (Gets key) post _ (other_task c (Gets key) _ refl refl)
 first_fits c (names.Put key value) post was since fits = round_fits c _ post _ (record { seeks = λ h. refl; reads = λ h. refl })
 first_fits c (names.Remove key) post was since fits = round_fits c _ post _ (record { seeks = λ h. refl; reads = λ h. refl })
 first_fits c (names.Enqueue value) post was since fits = round_fits c _ post _ (record { seeks = λ h. refl; reads = λ h. refl })
-first_fits c names.Dequeue post was since fits = round_fits c Dequeues post _ (other_task c Dequeues _ refl)
+first_fits c names.Dequeue post was since fits = round_fits c Dequeues post _ (other_task c Dequeues _ refl refl)
 first_fits c (names.Hold key) post was since fits = held_fits (stands post 2)
   where
     held_fits : (x : Option ℕ) → PhaseFits c (steps.holding key post x) (record { search = record { seeks = false; reads = 0 }; was = was; since = since; fits = fits })
-    held_fits None = round_fits c (Holds key) post _ (other_task c (Holds key) _ refl)
+    held_fits None = round_fits c (Holds key) post _ (other_task c (Holds key) _ refl refl)
     held_fits (Some slot) = tt
 first_fits c names.Release post was since fits = tt
 first_fits c names.Advance post was since fits = tt

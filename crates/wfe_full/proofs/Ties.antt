@@ -56,6 +56,12 @@ is_free (Changes kept) = holds_none kept.taken
 is_free (Enqueues kept) = holds_none kept.taken
 is_free task = false
 
+-- a row is sought or was taken
+abbrev pub is_maker : Task → Bool
+is_maker (Changes kept) = true
+is_maker (Enqueues kept) = true
+is_maker task = false
+
 abbrev pub is_walked : Task → Bool
 is_walked (Changes kept) = kept.walked
 is_walked (Enqueues kept) = kept.walked
@@ -69,7 +75,7 @@ reads_in all task = 0
 
 pub record TaskFits (c : Config) (task : Task) (z : Now) : Type 0 where
   pub seeks : is_free task ≡ true → z.search.seeks ≡ true
-  pub reads : is_free task ≡ true → z.search.reads ≡ reads_in (guards c) task
+  pub reads : is_maker task ≡ true → z.search.reads ≡ reads_in (guards c) task
 
 -- a walk has failed for the first time, and of the scan that makes room so many guards are read
 pub record RoomFits (c : Config) (n : ℕ) (task : Task) (z : Now) : Type 0 where
@@ -112,7 +118,7 @@ pub record WalkFits (c : Config) (task : Task) (z : Now) : Type 0 where
 abbrev pub FillFits : Config → Task → Base → Now → Type 0
 FillFits c task (Allocate LoadBirth) z = WalkFits c task z
 FillFits c task (Allocate (ClaimSlot birth walk)) z = WalkFits c task z
-FillFits c task (Allocate (StoreLife birth slot)) z = Unit {0}
+FillFits c task (Allocate (StoreLife birth slot)) z = z.search.reads ≡ reads_in (guards c) task
 FillFits c task base z = TaskFits c task z
 
 abbrev pub WhyFits : Config → Why → Base → Now → Type 0
@@ -174,8 +180,8 @@ abbrev pub OutcomeSure : Task → Outcome → Post → Now → Type 0
 OutcomeSure task (Goes base) post z = Unit {0}
 OutcomeSure task (Ends ending) post z = TaskSure task ending post z
 
-pub other_task : (c : Config) (task : Task) (z : Now) → is_free task ≡ false → TaskFits c task z
-other_task c task z f = record { seeks = λ h. absurd (cc); reads = λ h. absurd (cc) }
+pub other_task : (c : Config) (task : Task) (z : Now) → is_free task ≡ false → is_maker task ≡ false → TaskFits c task z
+other_task c task z f m = record { seeks = λ h. absurd (cc); reads = λ h. absurd (cc) }
 
 -- the end of a round
 pub round_fits : (c : Config) (task : Task) (post : Post) (z : Now) → TaskFits c task z → PhaseFits c (round task post) z
@@ -244,13 +250,13 @@ get_fits c key (FindValue slot version pair) post desk found z = got_fits c key 
 again_change : (c : Config) (kept later : ChangeKept) (z : Now) → later.taken ≡ kept.taken → later.walked ≡ kept.walked → TaskFits c (Changes kept) z → TaskFits c (Changes later) z
 again_change c kept later z t w f = record {
   seeks = λ h. f.seeks (ap holds_none (sym t) ∙ h);
-  reads = λ h. f.reads (ap holds_none (sym t) ∙ h) ∙ ap (λ (x : Bool). if x then guards c else 0) (sym w);
+  reads = λ h. f.reads refl ∙ ap (λ (x : Bool). if x then guards c else 0) (sym w);
 }
 
 again_item : (c : Config) (kept later : EnqueueKept) (z : Now) → later.taken ≡ kept.taken → later.walked ≡ kept.walked → TaskFits c (Enqueues kept) z → TaskFits c (Enqueues later) z
 again_item c kept later z t w f = record {
   seeks = λ h. f.seeks (ap holds_none (sym t) ∙ h);
-  reads = λ h. f.reads (ap holds_none (sym t) ∙ h) ∙ ap (λ (x : Bool). if x then guards c else 0) (sym w);
+  reads = λ h. f.reads refl ∙ ap (λ (x : Bool). if x then guards c else 0) (sym w);
 }
 
 change_fills : (c : Config) (kept : ChangeKept) (x : Option ℕ) (z : Now) → TaskFits c (Changes kept) z → z.fits ≡ true → FillFits c (Changes kept) (alters.filling_by kept x) z
@@ -337,16 +343,16 @@ followed_row_fits c head next post desk told false z = tt
 followed_fits : (c : Config) (head tail : ℕ) (ending : FollowEnd) (post : Post) (desk : Desk) (told : List Event) (z : Now) → OutFits c (dequeues.followed head tail ending post desk told).outcome z
 followed_fits c head tail (follow_ends.Followed slot) post desk told z = followed_row_fits c head slot post desk told (tail == head + 1) z
 followed_fits c head tail follow_ends.NoNext post desk told z = clearing_next_fits c (Answering the_answers.Empty) post desk told z (λ h. absurd (cc))
-followed_fits c head tail (follow_ends.RootMoved seen) post desk told z = clearing_next_fits c Again post desk told z (other_task c Dequeues z refl)
+followed_fits c head tail (follow_ends.RootMoved seen) post desk told z = clearing_next_fits c Again post desk told z (other_task c Dequeues z refl refl)
 
 taken_fits : (c : Config) (head next number value : ℕ) (post : Post) (desk : Desk) (same : Bool) (z : Now) → OutFits c (dequeues.taken head next number value post desk same).outcome z
 taken_fits c head next number value post desk true z =
     clearing_next_fits c (Retiring head (the_answers.Taken number value moves.Still)) post desk (events.Link roots.Head next ∷ events.Cut head ∷ events.Taken number value ∷ []) z refl
-taken_fits c head next number value post desk false z = clearing_next_fits c Again post desk [] z (other_task c Dequeues z refl)
+taken_fits c head next number value post desk false z = clearing_next_fits c Again post desk [] z (other_task c Dequeues z refl refl)
 
 dequeue_fits : (c : Config) (at : DequeueAt) (post : Post) (desk : Desk) (found : ℕ) (z : Now) → OutFits c (dequeues.dequeue_turn at post desk found).outcome z
 dequeue_fits c (LoadTail head) post desk found z = tt
-dequeue_fits c (SwingTail head next) post desk found z = clearing_next_fits c Again post desk (enqueues.told_link roots.Tail next (found == head + 1)) z (other_task c Dequeues z refl)
+dequeue_fits c (SwingTail head next) post desk found z = clearing_next_fits c Again post desk (enqueues.told_link roots.Tail next (found == head + 1)) z (other_task c Dequeues z refl refl)
 dequeue_fits c (TakeNumber head next) post desk found z = tt
 dequeue_fits c (TakeValue head next number) post desk found z = tt
 dequeue_fits c (ExchangeHead head next number value) post desk found z = taken_fits c head next number value post desk (found == head + 1) z
@@ -383,15 +389,15 @@ opened_fits c task (Clocked clock) post desk told z d f = f
 
 followed_by_fits : (c : Config) (head tail : ℕ) (ending : Ending) (post : Post) (desk : Desk) (told : List Event) (z : Now) → OutFits c (steps.followed_by head tail ending post desk told).outcome z
 followed_by_fits c head tail (Followed ending) post desk told z = followed_fits c head tail ending post desk told z
-followed_by_fits c head tail Done post desk told z = closed_fits c Dequeues Again post desk told z (other_task c Dequeues z refl)
-followed_by_fits c head tail (Protected end) post desk told z = closed_fits c Dequeues Again post desk told z (other_task c Dequeues z refl)
-followed_by_fits c head tail (Allocated end) post desk told z = closed_fits c Dequeues Again post desk told z (other_task c Dequeues z refl)
-followed_by_fits c head tail (Retired life) post desk told z = closed_fits c Dequeues Again post desk told z (other_task c Dequeues z refl)
-followed_by_fits c head tail (Clocked clock) post desk told z = closed_fits c Dequeues Again post desk told z (other_task c Dequeues z refl)
+followed_by_fits c head tail Done post desk told z = closed_fits c Dequeues Again post desk told z (other_task c Dequeues z refl refl)
+followed_by_fits c head tail (Protected end) post desk told z = closed_fits c Dequeues Again post desk told z (other_task c Dequeues z refl refl)
+followed_by_fits c head tail (Allocated end) post desk told z = closed_fits c Dequeues Again post desk told z (other_task c Dequeues z refl refl)
+followed_by_fits c head tail (Retired life) post desk told z = closed_fits c Dequeues Again post desk told z (other_task c Dequeues z refl refl)
+followed_by_fits c head tail (Clocked clock) post desk told z = closed_fits c Dequeues Again post desk told z (other_task c Dequeues z refl refl)
 
 released_fits : (c : Config) (key : Option ℕ) (post : Post) (desk : Desk) (told : List Event) (z : Now) → OutFits c (steps.released key post desk told).outcome z
 released_fits c None post desk told z = λ h. absurd (cc)
-released_fits c (Some key) post desk told z = round_fits c (Holds key) post z (other_task c (Holds key) z refl)
+released_fits c (Some key) post desk told z = round_fits c (Holds key) post z (other_task c (Holds key) z refl refl)
 
 -- whatever the machine makes
 pub resumed_opens : (c : Config) (task : Task) (desk : Desk) (post : Post) (told : List Event) (outcome : Outcome) (z : Now) → OutcomeSure task outcome post z → TaskFits c task z → OutFits c (steps.resumed (Opens task) desk post told outcome).outcome z
