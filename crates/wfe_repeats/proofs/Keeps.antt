@@ -1,7 +1,7 @@
 -- The record of each history keeps the law on how often a call begins anew.
 use Rattle.std.proofs.Common.{ℕ, ◌≡◌, ◌≤◌, ◌<◌, ◌+◌, ◌-◌, ◌*◌, ◌%◌, Bool, true, false, List, [], ◌∷◌, length, Option, Some, None, refl, sym, ap, ◌∙◌, subst, arith}
 use Rattle.std.proofs.lemmas.Bool.Decides.{nat_tests}
-use Rattle.std.specs.Prelude.{◌==◌, ◌||◌, not, nat_le, nat_lt, if◌then◌else◌}
+use Rattle.std.specs.Prelude.{◌==◌, nat_le, nat_lt, if◌then◌else◌}
 use Rattle.wfe_words.specs.Place.{is_valid}
 use Rattle.wfe_words.specs.Place.Place.{Tail}
 use Rattle.wfe_words.specs.declared.config.Config.{Config}
@@ -52,20 +52,25 @@ use Rattle.wfe_full.proofs.Keeps as full
 use Rattle.wfe_full.proofs.Keeps.{now_of}
 use Rattle.wfe_full.proofs.Ties as ties
 use Rattle.wfe_full.specs.Room.{Search, search_by, no_search, search_of}
-use Rattle.wfe_repeats.specs.Repeats.{finds_few, finds_of, may_repeat, moves_before, moves_of, repeats_ok, tails_of, whole_scan, RecordsKeepRepeats}
+use Rattle.wfe_repeats.specs.Repeats.{finds_of, moves_before, moves_of, repeats_ok, tails_of, whole_scan, RecordsKeepRepeats}
 use Rattle.wfe_repeats.proofs.Finds.{both_finds, finds_in, opens_now, phase_top, run_opens, step_finds, told_finds, top_of}
+use Rattle.wfe_repeats.proofs.Gets.{gets_begin, gets_start, gets_step, once_more}
+use Rattle.wfe_rest.specs.Losses.{Losses, opens_fit, phase_fit}
 use Rattle.wfe_repeats.proofs.Losing.{Few}
 use Rattle.wfe_repeats.proofs.Paces.{Paced, counted_for, few_of, paced_begin, paced_step}
-use Rattle.wfe_repeats.proofs.Records.{began_stays, before_stays, before_zero, finds_others, finds_tells, moves_grow, whole_grows, whole_once}
+use Rattle.wfe_repeats.proofs.Records.{is_counted, began_stays, before_stays, before_zero, finds_others, finds_tells, moves_grow, whole_grows, whole_once}
 use Rattle.wfe_repeats.proofs.Shift.{rounds_alike, shifted}
 use Rattle.wfe_repeats.proofs.Tails.{tails_step}
 
 -- the call has found its root no more often than it may
 abbrev pub MayFind : Config → ℕ → Past → Type 0
-MayFind c k p = may_repeat (began_of k p) ≡ true → finds_of k p + moves_before c k p ≤ 1 + moves_of c (began_of k p) p + whole_scan (guards c) (search_of k p)
+MayFind c k p = finds_of k p + moves_before c k p ≤ 1 + moves_of c (began_of k p) p + whole_scan (guards c) (search_of k p)
 
 abbrev pub before_of : Config → Past → ℕ → ℕ
 before_of c p k = moves_before c k p
+
+abbrev pub once_of : Past → ℕ → ℕ
+once_of p k = once_more (began_of k p)
 
 -- what a history keeps
 record Keeps (layout : Layout) (made : Made) : Type 0 where
@@ -76,6 +81,7 @@ record Keeps (layout : Layout) (made : Made) : Type 0 where
   known : Known made.world rows line asked
   tails : tails_of made.past ≡ line.number (made.world.mem Tail - 1)
   rounds : Rounds (shifted made.world (before_of made.world.layout.config made.past)) line asked
+  gets : Losses (shifted made.world (once_of made.past))
   found : (k : ℕ) → finds_of k made.past ≡ (made.world.seat k).rounds
   may : (k : ℕ) → MayFind made.world.layout.config k made.past
   law : Each (repeats_ok made.world.layout.config) made.past
@@ -104,9 +110,9 @@ same_moves layout made k call = refl
 
 -- nothing more is found
 quiet_find : (c : Config) (i : ℕ) (told : List Event) (p : Past) → all_of is_within told ≡ true → finds_in told ≤ 0 → MayFind c i p → MayFind c i (tells_of p i told)
-quiet_find c i told p n f g = λ h.
+quiet_find c i told p n f g =
     let e : began_of i (tells_of p i told) ≡ began_of i p = began_stays i i told p n in
-    let r = g (sym (ap may_repeat e) ∙ h) in
+    let r = g in
     let a = finds_tells i told p n in
     let b = told_finds (finds_of i p) told in
     let d = before_stays c i i told p n in
@@ -117,7 +123,7 @@ quiet_find c i told p n f g = λ h.
 
 -- the root is found, and no more rounds than may be were lost before
 found_once : (c : Config) (i : ℕ) (told : List Event) (p : Past) (rounds lost : ℕ) → all_of is_within told ≡ true → finds_in told ≤ 1 → finds_of i p ≡ rounds → rounds + moves_before c i p ≤ moves_of c (began_of i p) p + lost → lost ≤ whole_scan (guards c) (search_of i p) → MayFind c i (tells_of p i told)
-found_once c i told p rounds lost n f o r l = λ h.
+found_once c i told p rounds lost n f o r l =
     let e : began_of i (tells_of p i told) ≡ began_of i p = began_stays i i told p n in
     let a = finds_tells i told p n in
     let b = told_finds (finds_of i p) told in
@@ -127,8 +133,13 @@ found_once c i told p rounds lost n f o r l = λ h.
     let w = whole_grows (guards c) i told p n in
     omega (arith, o, r, l, a, b, d, m, s, w, f)
 
-none_may : (c : Config) (i : ℕ) (p q : Past) (call : Call) → began_of i q ≡ began_of i p → began_of i p ≡ Some call → may_repeat (Some call) ≡ false → MayFind c i q
-none_may c i p q call e b n = λ h. let f : may_repeat (began_of i q) ≡ false = ap may_repeat (e ∙ b) ∙ n in absurd (cc)
+-- a get has not found its root before
+get_finds : (c : Config) (i : ℕ) (told : List Event) (p : Past) → all_of is_within told ≡ true → finds_in told ≤ 1 → finds_of i p ≡ 0 → moves_before c i p ≡ 0 → MayFind c i (tells_of p i told)
+get_finds c i told p n f z m =
+    let a = finds_tells i told p n in
+    let b = told_finds (finds_of i p) told in
+    let d = before_stays c i i told p n in
+    omega (arith, z, m, a, b, d, f)
 
 change_moves : (t : Tally) (change : Change) → world_moves t (call_for change) ≡ t.count (key_of change % t.buckets)
 change_moves t (changes.Put key value) = refl
@@ -138,25 +149,43 @@ top_one : (index : ℕ) (zero : Bool) → (index == 0) ≡ zero → top_of false
 top_one index true e = rw e (omega arith)
 top_one index false e = rw e (omega arith)
 
+-- what is known of a round that has not found its root: of a get, that none has; of a hold, that none is told
+abbrev TaskOnce : Config → Task → (rounds : ℕ) → List Event → Type 0
+TaskOnce c (Gets key) rounds told = rounds ≤ 1
+TaskOnce c (Holds key) rounds told = finds_in told ≤ 0
+TaskOnce c task rounds told = Unit {0}
+
+task_once : (c : Config) (task : Task) (rounds : ℕ) (told : List Event) → opens_fit c rounds task false → finds_in told ≤ top_of false (index_of task) → TaskOnce c task rounds told
+task_once c (Gets key) rounds told o f = o
+task_once c (Holds key) rounds told o f = f
+task_once c (Changes kept) rounds told o f = tt
+task_once c (Enqueues kept) rounds told o f = tt
+task_once c Dequeues rounds told o f = tt
+
 task_finds : (layout : Layout) (made : Made) (i : ℕ) (told : List Event) (k : Keeps layout made) (task : Task) → began_of i made.past ≡ Some (made.world.seat i).call → TaskServes (made.world.seat i).call task
     → ties.TaskFits made.world.layout.config task (now_of made.world.layout.config i made.past) → task_paced (tally made.world k.line) task ((made.world.seat i).rounds + moves_before made.world.layout.config i made.past)
-    → all_of is_within told ≡ true → finds_in told ≤ 1 → MayFind made.world.layout.config i (tells_of made.past i told)
-task_finds layout made i told k (Gets key) b s f p n t = none_may made.world.layout.config i made.past (tells_of made.past i told) (made.world.seat i).call (began_stays i i told made.past n) b (ap (λ (x : Call). may_repeat (Some x)) s)
-task_finds layout made i told k (Holds key) b s f p n t = none_may made.world.layout.config i made.past (tells_of made.past i told) (made.world.seat i).call (began_stays i i told made.past n) b (ap (λ (x : Call). may_repeat (Some x)) s)
-task_finds layout made i told k (Changes kept) b s f p n t =
+    → all_of is_within told ≡ true → finds_in told ≤ 1 → TaskOnce made.world.layout.config task ((made.world.seat i).rounds + once_of made.past i) told → MayFind made.world.layout.config i (tells_of made.past i told)
+task_finds layout made i told k (Gets key) b s f p n t u =
+    let c : Config = made.world.layout.config in
+    let z : moves_before c i made.past ≡ 0 = before_zero c i made.past (made.world.seat i).call b (ap is_counted s) in
+    let one : once_of made.past i ≡ 1 = ap once_more b ∙ ap (λ (x : Call). once_more (Some x)) s in
+    let o = k.found i in
+    get_finds c i told made.past n t (omega (arith, o, one, u)) z
+task_finds layout made i told k (Holds key) b s f p n t u = quiet_find made.world.layout.config i told made.past n u (k.may i)
+task_finds layout made i told k (Changes kept) b s f p n t v =
     let c : Config = made.world.layout.config in
     let u : Tally = tally made.world k.line in
     let call : Call = (made.world.seat i).call in
     let m : moves_of c (began_of i made.past) made.past ≡ u.count (key_of kept.change % u.buckets) =
     ap (λ (x : Option Call). moves_of c x made.past) b ∙ same_moves layout made k call ∙ ap (world_moves u) s ∙ change_moves u kept.change in
     found_once c i told made.past (made.world.seat i).rounds (once kept.walked) n t (k.found i) (omega (arith, m, p)) (whole_once (guards c) (search_of i made.past) kept.walked (f.reads refl))
-task_finds layout made i told k (Enqueues kept) b s f p n t =
+task_finds layout made i told k (Enqueues kept) b s f p n t v =
     let c : Config = made.world.layout.config in
     let u : Tally = tally made.world k.line in
     let call : Call = (made.world.seat i).call in
     let m : moves_of c (began_of i made.past) made.past ≡ u.passes = ap (λ (x : Option Call). moves_of c x made.past) b ∙ same_moves layout made k call ∙ ap (world_moves u) s in
     found_once c i told made.past (made.world.seat i).rounds (once kept.walked) n t (k.found i) (omega (arith, m, p)) (whole_once (guards c) (search_of i made.past) kept.walked (f.reads refl))
-task_finds layout made i told k Dequeues b s f p n t =
+task_finds layout made i told k Dequeues b s f p n t v =
     let c : Config = made.world.layout.config in
     let u : Tally = tally made.world k.line in
     let call : Call = (made.world.seat i).call in
@@ -177,7 +206,9 @@ own_opens layout made i told k task base false g e y n f =
     let p : why_paced u ((w.seat i).rounds + m) base (Opens task) = subst (λ (phase : Phase). phase_paced u ((w.seat i).rounds + m) phase) e (k.rounds.paced i) in
     let q : task_paced u task ((w.seat i).rounds + m) = subst (λ (x : Bool). task_paced u task (lost_by ((w.seat i).rounds + m) x)) g p in
     let one : finds_in told ≤ 1 = let a = top_one (index_of task) (index_of task == 0) refl in omega (arith, a, f) in
-    task_finds layout made i told k task (r.began y) s fits q n one
+    let v : opens_fit c ((w.seat i).rounds + once_of made.past i) task (is_told base) = subst (λ (phase : Phase). phase_fit c ((w.seat i).rounds + once_of made.past i) phase) e (k.gets.few i) in
+    let x : opens_fit c ((w.seat i).rounds + once_of made.past i) task false = subst (λ (y : Bool). opens_fit c ((w.seat i).rounds + once_of made.past i) task y) g v in
+    task_finds layout made i told k task (r.began y) s fits q n one (task_once c task ((w.seat i).rounds + once_of made.past i) told x f)
 
 own_runs : (layout : Layout) (made : Made) (i : ℕ) (told : List Event) (k : Keeps layout made) (why : Why) (base : Base) → (made.world.seat i).phase ≡ Runs why base → is_busy made.world i ≡ true → all_of is_within told ≡ true → finds_in told ≤ opens_now (Runs why base)
     → MayFind made.world.layout.config i (tells_of made.past i told)
@@ -213,9 +244,9 @@ told_top w i =
 
 -- of other seats nothing is found, and more may be
 other_may : (c : Config) (k i : ℕ) (told : List Event) (p : Past) → (k == i) ≡ false → all_of is_within told ≡ true → MayFind c k p → MayFind c k (tells_of p i told)
-other_may c k i told p e n g = λ h.
+other_may c k i told p e n g =
     let b : began_of k (tells_of p i told) ≡ began_of k p = began_stays k i told p n in
-    let r = g (sym (ap may_repeat b) ∙ h) in
+    let r = g in
     let a = finds_others k i told p e in
     let d = before_stays c k i told p n in
     let m = moves_grow c (began_of k p) i told p n in
@@ -269,7 +300,7 @@ paced_of layout made g k =
       zero = λ y h. before_zero c k made.past (w.seat k).call (r.began y) h;
       most = λ y h.
           let b = r.began y in
-          let a = g.may k (ap may_repeat b ∙ h) in
+          let a = g.may k in
           let m : moves_of c (began_of k made.past) made.past ≡ world_moves (tally w g.line) (w.seat k).call = ap (λ (x : Option Call). moves_of c x made.past) b ∙ same_moves layout made g (w.seat k).call in
           let f = moves_most (tally w g.line) c.last_version (w.seat k).call (few_of w g.rows g.line g.asked g.known) in
           let x = whole_most (guards c) (search_of k made.past) in
@@ -289,13 +320,9 @@ open_each c i (event ∷ told) p h g = open_each c i told (Then p i event) (rest
 few_by : (finds before moves whole : ℕ) → finds + before ≤ 1 + moves + whole → nat_le finds (1 + (moves - before) + whole) ≡ true
 few_by finds before moves whole h = let a : finds ≤ 1 + (moves - before) + whole = omega (arith, h) in grind (arith, nat_tests)
 
-may_few : (c : Config) (i : ℕ) (p : Past) (flag : Bool) → may_repeat (began_of i p) ≡ flag → MayFind c i p → (not flag || finds_few c i p) ≡ true
-may_few c i p false e g = refl
-may_few c i p true e g = few_by (finds_of i p) (moves_before c i p) (moves_of c (began_of i p) p) (whole_scan (guards c) (search_of i p)) (g e)
-
 end_each : (c : Config) (i : ℕ) (q : Past) (post : Post) (outcome : CallOutcome) → MayFind c i q → Each (repeats_ok c) q → Each (repeats_ok c) (tells_of q i (told_end post outcome))
 end_each c i q post (GoesOn phase) f g = g
-end_each c i q post (Answers answer) f g = (may_few c i q (may_repeat (began_of i q)) refl f, g)
+end_each c i q post (Answers answer) f g = (few_by (finds_of i q) (moves_before c i q) (moves_of c (began_of i q) q) (whole_scan (guards c) (search_of i q)) f, g)
 
 step_law : (layout : Layout) (made : Made) (i : ℕ) → is_busy made.world i ≡ true → Keeps layout made → Each (repeats_ok made.world.layout.config) (tells_of made.past i (told_in made.world i))
 step_law layout made i y k =
@@ -323,6 +350,7 @@ step_keeps layout made i b y k =
       known = known_kept w i k.rows k.line k.asked q.0 b k.known q.1.facts q.1.deal;
       tails = tails_step w i k.rows k.line k.asked made.past k.known k.tails;
       rounds = paced_step w i k.rows k.line k.asked q.0 (before_of c made.past) (before_of c (tells_of made.past i (told_in w i))) b k.known (paced_of layout made k) q.1.deal (λ m. before_stays c m i (told_in w i) made.past (within_of w i)) k.rounds;
+      gets = gets_step w i k.rows k.line k.asked (once_of made.past) (once_of (tells_of made.past i (told_in w i))) b k.known ((k.full.answers.seats i).serves y) (ap once_more ((k.full.answers.seats i).began y)) (λ m. ap once_more (began_stays m i (told_in w i) made.past (within_of w i))) k.gets;
       found = λ m. step_found layout made i m (m == i) refl k;
       may = λ m. step_may layout made i m (m == i) refl y k;
       law = step_law layout made i y k;
@@ -384,15 +412,15 @@ begin_found w i m call p false e g = finds_others m i (events.Begin call ∷ [])
 begin_may : (c : Config) (i m : ℕ) (call : Call) (p : Past) (same : Bool) → (m == i) ≡ same → ((k : ℕ) → MayFind c k p) → MayFind c m (Then p i (events.Begin call))
 begin_may c i m call p true e g =
     let q : i ≡ m = grind (arith, nat_tests) in
-    subst (λ (j : ℕ). MayFind c j (Then p i (events.Begin call))) q (λ h.
+    subst (λ (j : ℕ). MayFind c j (Then p i (events.Begin call))) q (
     let a = finds_now i call p in
     let b = before_now c i call p in
     let s : moves_of c (began_of i (Then p i (events.Begin call))) (Then p i (events.Begin call)) ≡ moves_of c (Some call) p =
     ap (λ (x : Option Call). moves_of c x (Then p i (events.Begin call))) (began_now i call p) ∙ begin_moves c (Some call) i call p in
     omega (arith, a, b, s))
-begin_may c i m call p false e g = λ h.
+begin_may c i m call p false e g =
     let o = began_other m i call p e in
-    let r = g m (sym (ap may_repeat o) ∙ h) in
+    let r = g m in
     let a = finds_others m i (events.Begin call ∷ []) p e in
     let b = before_other c m i call p e in
     let s : moves_of c (began_of m (Then p i (events.Begin call))) (Then p i (events.Begin call)) ≡ moves_of c (began_of m p) p =
@@ -414,6 +442,7 @@ begin_keeps layout made i call f k =
       known = known_begin w i call k.rows k.line k.asked q.0 f k.known q.1.facts q.1.deal;
       tails = k.tails;
       rounds = paced_begin w i call k.line k.asked q.0 (before_of c made.past) (before_of c r) f k.known.requests q.1.deal (λ j e. before_other c j i call made.past e) (counted_by (tally w k.line) call (moves_before c i r) (before_now c i call made.past ∙ same_moves layout made k call)) k.rounds;
+      gets = gets_begin w i call (once_of made.past) (once_of r) (λ j e. ap once_more (began_other j i call made.past e)) (ap once_more (began_now i call made.past)) k.known.losses k.gets;
       found = λ m. begin_found w i m call made.past (m == i) refl k.found;
       may = λ m. begin_may c i m call made.past (m == i) refl k.may;
       law = (refl, k.law);
@@ -433,9 +462,10 @@ first_keeps layout d =
       asked = q.0;
       known = known;
       tails = refl;
-      rounds = rounds_alike (start layout) (start layout).seat (shifted (start layout) (before_of layout.config Start)).seat (first_line layout) q.0 (λ m. record { phase = refl; post = refl; rounds = refl }) known.rounds;
+      rounds = rounds_alike (start layout) (start layout).seat (shifted (start layout) (before_of layout.config Start)).seat (first_line layout) q.0 (λ m. record { phase = refl; post = refl; desk = refl; rounds = refl }) known.rounds;
+      gets = gets_start layout (once_of Start);
       found = λ m. refl;
-      may = λ m h. absurd (cc);
+      may = λ m. omega arith;
       law = tt;
     }
 

@@ -1,4 +1,5 @@
 pub mod Finds
+pub mod Gets
 pub mod Keeps
 pub mod Losing
 pub mod Paces

@@ -8,7 +8,7 @@ use Rattle.wfe_core.specs.Rest.{is_told, lost_by, rounds_most}
 use Rattle.wfe_core.specs.Rounds.{key_of}
 use Rattle.wfe_core.specs.Calls.{ChangeKept, EnqueueKept, Task, Gets, Changes, Holds, Enqueues, Dequeues, Next, Again, MakeRoom, Answering, Retiring, AfterScan, Answered, Repeated, Counted, Why, Opens, FollowsHead, Fills, ClearsNext, Clears, Finishes, GivesUp, Retires, Tidies, Advances, Releases, EnqueueAt, LoadNumber, LoadNext, PassTail, ExchangeNext, ExchangeTail, DequeueAt, LoadTail, SwingTail, TakeNumber, TakeValue, ExchangeHead, Work, Getting, Changing, Enqueuing, Dequeuing, Phase, Idle, Runs, Scans, Works}
 use Rattle.wfe_core.specs.Locals.{busy_in}
-use Rattle.wfe_repeats.specs.Repeats.{may_repeat}
+use Rattle.wfe_repeats.proofs.Records.{is_counted}
 use Rattle.wfe_answers.proofs.Owed.{Serves, WhyServes, WorkServes, LaterServes, TaskServes, FreeServes}
 use Rattle.wfe_rest.specs.Losses.{InRound, LostRound, tells_fit, opens_fit, fills_fit, lost_fit, next_fit, finish_fit, later_fit, why_fit, work_fit, phase_fit}
 use Rattle.wfe_rounds.specs.Tallies.{Tally, once, changes_so_far, passes_so_far, task_paced, fills_paced, next_paced, later_paced, why_paced, enqueue_paced, dequeue_paced, work_paced, phase_paced}
@@ -18,10 +18,6 @@ pub record Few (t : Tally) (last : ℕ) : Type 0 where
   pub count : (b : ℕ) → t.count b ≤ last
   pub passes : t.passes ≤ 2 * last
   pub takes : t.takes ≤ 2 * last
-
--- of other calls nothing is counted
-abbrev pub is_counted : Call → Bool
-is_counted call = may_repeat (Some call)
 
 once_most : (walked : Bool) → once walked ≤ 1
 once_most true = omega arith

@@ -32,7 +32,8 @@ use Rattle.wfe_rows.specs.Chain.{line_after, queue_of}
 use Rattle.wfe_rows.specs.Queue.{Line}
 use Rattle.wfe_rows.specs.Rows.{View}
 use Rattle.wfe_defs.specs.declared.event.Root.{Root}
-use Rattle.wfe_repeats.proofs.Losing.{Few, is_counted, phase_more}
+use Rattle.wfe_repeats.proofs.Losing.{Few, phase_more}
+use Rattle.wfe_repeats.proofs.Records.{is_counted}
 use Rattle.wfe_repeats.proofs.Shift.{rounds_alike, shifted, shifted_step, tracked_alike}
 
 pub rounds_need : (w : World) (i : ℕ) (v : View) (l : Line) (z : Asked) → i < w.layout.config.seats → Known w v l z → RoundsNeeds w i v l z
@@ -64,7 +65,7 @@ shifted_losses w v l z n k g r = record {
 
 -- counts that are the same
 pub same_shift : (w : World) (l : Line) (z : Asked) (n m : ℕ → ℕ) → ((k : ℕ) → m k ≡ n k) → Rounds (shifted w n) l z → Rounds (shifted w m) l z
-same_shift w l z n m e r = rounds_alike w (shifted w n).seat (shifted w m).seat l z (λ k. record { phase = refl; post = refl; rounds = ap (λ (x : ℕ). (w.seat k).rounds + x) (sym (e k)) }) r
+same_shift w l z n m e r = rounds_alike w (shifted w n).seat (shifted w m).seat l z (λ k. record { phase = refl; post = refl; desk = refl; rounds = ap (λ (x : ℕ). (w.seat k).rounds + x) (sym (e k)) }) r
 
 pub paced_step : (w : World) (i : ℕ) (v : View) (l : Line) (z next : Asked) (n m : ℕ → ℕ) → i < w.layout.config.seats → Known w v l z → ((k : ℕ) → Paced w n k) → next.deal ≡ next_deals w i z.deal → ((k : ℕ) → m k ≡ n k) → Rounds (shifted w n) l z → Rounds (shifted (step w i) m) (line_after w i l) next
 paced_step w i v l z next n m b k g d e r = same_shift (step w i) (line_after w i l) next n m e (shifted_step w i v l z next n (rounds_need w i v l z b k) (shifted_losses w v l z n k g r) d r)

@@ -22,7 +22,7 @@ use Rattle.wfe_reasons.proofs.Later.{Later, later_all, later_same, within_none}
 use Rattle.wfe_reuse.proofs.Passes.{first_of, rest_of}
 use Rattle.wfe_full.proofs.Since.{others_begin, others_own}
 use Rattle.wfe_full.specs.Room.{Search, search_by, no_search, search_of}
-use Rattle.wfe_repeats.specs.Repeats.{is_found, finds_of, may_repeat, tails_by, tails_of, moves_of, moves_before, whole_scan}
+use Rattle.wfe_repeats.specs.Repeats.{is_found, finds_of, tails_by, tails_of, moves_of, moves_before, whole_scan}
 
 same_number : (i : ℕ) → (i == i) ≡ true
 same_number i = grind (arith, nat_tests)
@@ -75,6 +75,14 @@ pub before_stays : (c : Config) (k i : ℕ) (told : List Event) (p : Past) → a
 before_stays c k i told p h =
     ap (λ (call : Option Call). value_since (begins k) (moves_of c call) (tells_of p i told)) (began_stays k i told p h) ∙ value_stays (moves_of c (began_of k p)) k i told p h
 
+-- of other calls nothing is counted
+abbrev pub is_counted : Call → Bool
+is_counted (calls.Put key value) = true
+is_counted (calls.Remove key) = true
+is_counted (calls.Enqueue value) = true
+is_counted calls.Dequeue = true
+is_counted call = false
+
 zero_if : (x : Bool) (n : ℕ) → n ≡ 0 → (if x then 0 else n) ≡ 0
 zero_if true n e = refl
 zero_if false n e = e
@@ -83,14 +91,14 @@ value_zero : (k : ℕ) (p : Past) → value_since (begins k) (λ q. 0) p ≡ 0
 value_zero k Start = refl
 value_zero k (Then p i event) = zero_if (begins k p i event) (value_since (begins k) (λ q. 0) p) (value_zero k p)
 
-plain_zero : (c : Config) (k : ℕ) (p : Past) (call : Call) → may_repeat (Some call) ≡ false → value_since (begins k) (moves_of c (Some call)) p ≡ 0
+plain_zero : (c : Config) (k : ℕ) (p : Past) (call : Call) → is_counted call ≡ false → value_since (begins k) (moves_of c (Some call)) p ≡ 0
 plain_zero c k p (calls.Put key value) h = absurd (cc)
 plain_zero c k p (calls.Remove key) h = absurd (cc)
 plain_zero c k p (calls.Enqueue value) h = absurd (cc)
 plain_zero c k p calls.Dequeue h = absurd (cc)
 plain_zero c k p call h = value_zero k p
 
-pub before_zero : (c : Config) (k : ℕ) (p : Past) (call : Call) → began_of k p ≡ Some call → may_repeat (Some call) ≡ false → moves_before c k p ≡ 0
+pub before_zero : (c : Config) (k : ℕ) (p : Past) (call : Call) → began_of k p ≡ Some call → is_counted call ≡ false → moves_before c k p ≡ 0
 before_zero c k p call e h = ap (λ (x : Option Call). value_since (begins k) (moves_of c x) p) e ∙ plain_zero c k p call h
 
 -- what makes a call begin anew never falls

@@ -34,10 +34,10 @@ more_rounds l n = record { phase = l.phase; post = l.post; desk = l.desk; call =
 abbrev pub shifted : World → (ℕ → ℕ) → World
 shifted w n = record { layout = w.layout; mem = w.mem; seat = λ k. more_rounds (w.seat k) (n k); book = w.book }
 
-shifted_seats : (w : World) (n : ℕ → ℕ) → Seats w → Seats (shifted w n)
+pub shifted_seats : (w : World) (n : ℕ → ℕ) → Seats w → Seats (shifted w n)
 shifted_seats w n s = record { fits = λ k. record { post = (s.fits k).post; phase = (s.fits k).phase } }
 
-shifted_eras : (w : World) (n : ℕ → ℕ) → Eras w → Eras (shifted w n)
+pub shifted_eras : (w : World) (n : ℕ → ℕ) → Eras w → Eras (shifted w n)
 shifted_eras w n e = record { some = e.some; most = e.most; words = e.words; seats = λ k. record { post = (e.seats k).post; phase = (e.seats k).phase } }
 
 pub shifted_requests : (w : World) (n : ℕ → ℕ) (z : Asked) → Requests w z → Requests (shifted w n) z
@@ -87,11 +87,12 @@ more_told (event ∷ told) rounds n = ap (λ (k : ℕ). rounds_told k told) (one
 pub record Alike (one two : Local) : Type 0 where
   pub phase : one.phase ≡ two.phase
   pub post : one.post ≡ two.post
+  pub desk : one.desk ≡ two.desk
   pub rounds : one.rounds ≡ two.rounds
 
 settled_alike : (l : Local) (n : ℕ) (post : Post) (desk : Desk) (told : List Event) (outcome : CallOutcome) → Alike (settled_by (more_rounds l n) post desk (rounds_told (l.rounds + n) told) outcome) (more_rounds (settled_by l post desk (rounds_told l.rounds told) outcome) n)
-settled_alike l n post desk told (GoesOn phase) = record { phase = refl; post = refl; rounds = more_told told l.rounds n }
-settled_alike l n post desk told (Answers answer) = record { phase = refl; post = refl; rounds = more_told told l.rounds n }
+settled_alike l n post desk told (GoesOn phase) = record { phase = refl; post = refl; desk = refl; rounds = more_told told l.rounds n }
+settled_alike l n post desk told (Answers answer) = record { phase = refl; post = refl; desk = refl; rounds = more_told told l.rounds n }
 
 alike_by : (w : World) (i k : ℕ) (n : ℕ → ℕ) (same : Bool) → (k == i) ≡ same → Alike ((step (shifted w n) i).seat k) (more_rounds ((step w i).seat k) (n k))
 alike_by w i k n true e =
@@ -102,7 +103,7 @@ alike_by w i k n true e =
     (subst (λ (l : Local). Alike (settled (more_rounds (w.seat i) (n i)) t) (more_rounds l (n i))) (sym (seat_steps w i)) (settled_alike (w.seat i) (n i) t.post (noting t.desk (told_by t)) (told_by t) t.outcome)))
 alike_by w i k n false e =
     subst (λ (l : Local). Alike l (more_rounds ((step w i).seat k) (n k))) (sym (seat_stays (shifted w n) i k e))
-    (subst (λ (l : Local). Alike (more_rounds (w.seat k) (n k)) (more_rounds l (n k))) (sym (seat_stays w i k e)) (record { phase = refl; post = refl; rounds = refl }))
+    (subst (λ (l : Local). Alike (more_rounds (w.seat k) (n k)) (more_rounds l (n k))) (sym (seat_stays w i k e)) (record { phase = refl; post = refl; desk = refl; rounds = refl }))
 
 pub step_alike : (w : World) (i k : ℕ) (n : ℕ → ℕ) → Alike ((step (shifted w n) i).seat k) ((shifted (step w i) n).seat k)
 step_alike w i k n = alike_by w i k n (k == i) refl

@@ -1,5 +1,5 @@
 -- The law on how often a call begins anew, over records.
-use Rattle.std.specs.Prelude.{ℕ, ◌≡◌, ◌==◌, ◌+◌, ◌-◌, ◌||◌, not, nat_le, Bool, true, false, if◌then◌else◌, List, length, Option, Some}
+use Rattle.std.specs.Prelude.{ℕ, ◌≡◌, ◌==◌, ◌+◌, ◌-◌, nat_le, Bool, true, false, if◌then◌else◌, List, length, Option, Some}
 use Rattle.wfe_words.specs.Place.{is_valid}
 use Rattle.wfe_words.specs.declared.config.Config.{Config}
 use Rattle.wfe_words.specs.declared.layout.Layout.{Layout}
@@ -37,7 +37,7 @@ tails_of Start = 0
 tails_of (Then p i event) = tails_by event (tails_of p)
 
 -- what makes a call begin anew: changes of the bucket of a put or a remove; values queued and links to the tail for an enqueue, values
--- taken and links to the tail for a dequeue
+-- taken and links to the tail for a dequeue; nothing for any other call
 abbrev pub moves_of : Config → Option Call → Past → ℕ
 moves_of c (Some (calls.Put key value)) p = count_of (bucket_of c.buckets key) p
 moves_of c (Some (calls.Remove key)) p = count_of (bucket_of c.buckets key) p
@@ -57,17 +57,9 @@ whole_scan all search = if nat_le all search.reads then 1 else 0
 abbrev pub finds_few : Config → ℕ → Past → Bool
 finds_few c i p = nat_le (finds_of i p) (1 + (moves_of c (began_of i p) p - moves_before c i p) + whole_scan (guards c) (search_of i p))
 
--- a call of which that is said
-abbrev pub may_repeat : Option Call → Bool
-may_repeat (Some (calls.Put key value)) = true
-may_repeat (Some (calls.Remove key)) = true
-may_repeat (Some (calls.Enqueue value)) = true
-may_repeat (Some calls.Dequeue) = true
-may_repeat call = false
-
 -- so where a call ends
 abbrev pub repeats_ok : Config → Test
-repeats_ok c p i (events.End steps answer) = not (may_repeat (began_of i p)) || finds_few c i p
+repeats_ok c p i (events.End steps answer) = finds_few c i p
 repeats_ok c p i event = true
 
 abbrev pub RepeatLaw : Config → Past → Type 0

@@ -4,9 +4,10 @@
 
 ghost use Rattle.wfe_repeats.specs.Repeats.{RecordsKeepRepeats};
 
-/// A put, a remove, an enqueue or a dequeue tells once that its root was found, and once more at most
-/// for each change of its bucket, or for each value queued or taken and each link to the tail, since
-/// it began; and once more where it has made a scan.
+/// A call tells once at most that its root was found, and once more for each change of the bucket of
+/// a put or a remove since it began, for each value queued and each link to the tail since an enqueue
+/// began, for each value taken and each link to the tail since a dequeue began; and once more where
+/// it has made a scan.
 pub fn records_keep_repeats()
     ensures { RecordsKeepRepeats }
 {}
