@@ -1,0 +1,6 @@
+pub mod Keeps
+pub mod Lacks
+pub mod Lands
+pub mod Sees
+pub mod Since
+pub mod Ties
