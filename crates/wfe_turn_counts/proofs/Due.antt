@@ -1,4 +1,5 @@
 -- Along a history it is known which helper words publish, and which have to be withdrawn.
+use Rattle.wfe_eras.specs.Frame.{is_ibr}
 use Rattle.std.proofs.Common.{ℕ, ◌≡◌, ◌+◌, Bool, true, false, List, [], ◌∷◌, ◌++◌, refl, sym, ap, ◌∙◌, subst, arith, Option, Some, None}
 use Rattle.std.proofs.lemmas.Bool.Decides.{nat_tests}
 use Rattle.std.specs.Prelude.{◌==◌, nat_le, nat_lt, if◌then◌else◌}
@@ -6,6 +7,7 @@ use Rattle.wfe_words.specs.Packed.{reservation_word, read_reservation, read_requ
 use Rattle.wfe_words.specs.declared.packed.Request.{Request}
 use Rattle.wfe_words.specs.declared.packed.Request.TheVariants as requests
 use Rattle.wfe_words.specs.declared.config.Config.{Config}
+use Rattle.wfe_words.specs.declared.layout.Layout.{Layout}
 use Rattle.wfe_defs.specs.declared.call.Call.{Call}
 use Rattle.wfe_defs.specs.declared.event.Event.{Event}
 use Rattle.wfe_defs.specs.declared.event.Root.{Root}
@@ -38,7 +40,7 @@ use Rattle.wfe_laws.specs.Record.Past.{Then}
 use Rattle.wfe_laws.specs.Schedule as schedule
 use Rattle.wfe_laws.specs.Schedule.{record_of}
 use Rattle.wfe_laws.specs.Schedule.History.{Blank, Starts, Turns}
-use Rattle.wfe_history.specs.History.{Begins, Steps, Made, done}
+use Rattle.wfe_history.specs.History.{Begins, Steps, Made, done, first_made}
 use Rattle.wfe_rows.proofs.Went.{same_number}
 use Rattle.wfe_inv.specs.Inv.{Inv}
 use Rattle.wfe_inv.proofs.Shapes.{eras_of}
@@ -51,16 +53,16 @@ use Rattle.wfe_turn_counts.proofs.Leaving.{is_first, is_new, Leads, Left, steppe
 use Rattle.wfe_turn_counts.proofs.Withdrawing.{shown_along, at_shows, move_shows, base_shows, phase_shows, base_leaves, phase_leaves, tells_link, base_finds, phase_finds, Shows, PhaseEra, first_shown, shows_closed}
 
 -- in how many turns the helper word has to be withdrawn, by where its seat stands
-abbrev at_due : Root → ProtectAt → ℕ
+abbrev pub at_due : Root → ProtectAt → ℕ
 at_due root (WithdrawRequest link era) = if tells_link root link then 2 else 0
 at_due root (WithdrawHelper link era) = if tells_link root link then 1 else 0
 at_due root at = 0
 
-abbrev base_due : Base → ℕ
+abbrev pub base_due : Base → ℕ
 base_due (Protect aim index root steps at) = at_due root at
 base_due base = 0
 
-abbrev phase_due : Phase → ℕ
+abbrev pub phase_due : Phase → ℕ
 phase_due (Runs why base) = base_due base
 phase_due phase = 0
 
@@ -202,9 +204,9 @@ new_base (Move at) h = absurd (cc)
 new_base base h = (refl, refl)
 
 -- what is known of a seat
-record Tied (publishes : Bool) (left : ℕ) (phase : Phase) : Type 0 where
-  shown : publishes ≡ phase_shows phase
-  due : left ≡ phase_due phase
+pub record Tied (publishes : Bool) (left : ℕ) (phase : Phase) : Type 0 where
+  pub shown : publishes ≡ phase_shows phase
+  pub due : left ≡ phase_due phase
 
 new_tied : (phase : Phase) → is_new phase ≡ true → Tied false 0 phase
 new_tied Idle h = record { shown = refl; due = refl }
@@ -215,15 +217,15 @@ new_tied (Works work) h = record { shown = refl; due = refl }
 abbrev after_due : Phase → ℕ
 after_due phase = if phase_finds phase then 2 else one_less (phase_due phase)
 
-out_tied : (shown : Bool) (due : ℕ) (why : Why) (outcome : Outcome) (next : Phase) → Out shown due outcome → Leads why outcome next → Tied shown due next
-out_tied shown due why (Goes base) next o l = subst (λ (phase : Phase). Tied shown due phase) (sym l) (record { shown = sym o.0; due = sym o.1 })
-out_tied shown due why (Ends ending) next o l = let t = new_tied next l in record { shown = o.0 ∙ t.shown; due = o.1 ∙ t.due }
+out_tied : (interval shown : Bool) (due : ℕ) (why : Why) (outcome : Outcome) (next : Phase) → Out shown due outcome → Leads interval why outcome next → Tied shown due next
+out_tied interval shown due why (Goes base) next o l = subst (λ (phase : Phase). Tied shown due phase) (sym l) (record { shown = sym o.0; due = sym o.1 })
+out_tied interval shown due why (Ends ending) next o l = let t = new_tied next l.0 in record { shown = o.0 ∙ t.shown; due = o.1 ∙ t.due }
 
-left_tied : (phase : Phase) (post : Post) (found : ℕ) (next : Phase) → Left phase post found next → Tied (phase_leaves phase) (after_due phase) next
-left_tied Idle post found next l = new_tied next l
-left_tied (Runs why base) post found next l = out_tied (base_leaves base) (next_due base) why (machine.after base post found).outcome next (base_out base post found) l
-left_tied (Scans later at) post found next l = new_tied next l
-left_tied (Works work) post found next l = new_tied next l
+left_tied : (interval : Bool) (phase : Phase) (post : Post) (found : ℕ) (next : Phase) → Left interval phase post found next → Tied (phase_leaves phase) (after_due phase) next
+left_tied interval Idle post found next l = new_tied next l
+left_tied interval (Runs why base) post found next l = out_tied interval (base_leaves base) (next_due base) why (machine.after base post found).outcome next (base_out base post found) l
+left_tied interval (Scans later at) post found next l = new_tied next l
+left_tied interval (Works work) post found next l = new_tied next l
 
 -- the law at a turn
 withdraw_law : (i : ℕ) (why : Why) (at : ProtectAt) (aim : Aim) (index : ℕ) (root : Root) (made : ℕ) (post : Post) (desk : Desk) (found : ℕ) → post.seat ≡ i → withdraws_by i (at_due root at) (told_by (steps.phase_turn (Runs why (Protect aim index root made at)) post desk found)) ≡ true
@@ -283,9 +285,9 @@ shown_stays k i [] p e = refl
 shown_stays k i (event ∷ told) p e = shown_stays k i told (Then p i event) e ∙ rw e refl
 
 -- along a history
-record Keeps (made : Made) (h : schedule.History) : Type 0 where
-  seats : (k : ℕ) → Tied (shown_of k (record_of h)) (due_of k h) (made.world.seat k).phase
-  law : EachTurn withdrawn_right h
+pub record Keeps (made : Made) (h : schedule.History) : Type 0 where
+  pub seats : (k : ℕ) → Tied (shown_of k (record_of h)) (due_of k h) (made.world.seat k).phase
+  pub law : EachTurn withdrawn_right h
 
 own_told : (w : World) (i : ℕ) → Inv w → Shows i (phase_shows (w.seat i).phase) (phase_leaves (w.seat i).phase) (phase_finds (w.seat i).phase) (told_in w i)
 own_told w i a =
@@ -304,7 +306,7 @@ step_own w h i a t =
     let k = a.known in
     let phase : Phase = (w.seat i).phase in
     let o = own_told w i a in
-    let l : Tied (phase_leaves phase) (after_due phase) ((step w i).seat i).phase = left_tied phase (counted (w.seat i).post) (finds w i) ((step w i).seat i).phase (stepped_leads w i k.valid k.seats) in
+    let l : Tied (phase_leaves phase) (after_due phase) ((step w i).seat i).phase = left_tied (is_ibr w.layout.config.scheme) phase (counted (w.seat i).post) (finds w i) ((step w i).seat i).phase (stepped_leads w i k.valid k.seats) in
     let s : shown_of i (tells_of (record_of h) i (told_in w i)) ≡ phase_leaves phase = shown_tells i (told_in w i) (record_of h) ∙ ap (shown_along i (told_in w i)) t.shown ∙ o.left in
     let f : found_shown i (told_in w i) (shown_of i (record_of h)) ≡ phase_finds phase = ap (found_shown i (told_in w i)) t.shown ∙ o.found in
     let d : due_of i (Turns h i (told_in w i)) ≡ after_due phase =
@@ -326,7 +328,7 @@ step_law w h i a t =
     let f = k.seats.fits i in
     ap (λ (n : ℕ). withdraws_by i n (told_in w i)) t.due ∙ phase_law i (w.seat i).phase (counted (w.seat i).post) (w.seat i).desk (finds w i) f.post.seat
 
-step_kept : (made : Made) (h : schedule.History) (i : ℕ) → Around made h → Keeps made h → Keeps (done made (Steps i)) (Turns h i (told_in made.world i))
+pub step_kept : (made : Made) (h : schedule.History) (i : ℕ) → Around made h → Keeps made h → Keeps (done made (Steps i)) (Turns h i (told_in made.world i))
 step_kept made h i a g = record {
   seats = λ k. step_seats made.world h i k (k == i) refl a.known g.seats;
   law = (step_law made.world h i a.known (g.seats i), g.law);
@@ -360,12 +362,14 @@ begin_seats w h i k call false e a y t =
     let q : (w.seat k).phase ≡ ((begin w i call).seat k).phase = sym (ap (λ (l : Local). l.phase) (begin_stays w i k call e)) in
     record { shown = starts_same h i k call ∙ u.shown ∙ ap phase_shows q; due = u.due ∙ ap phase_due q }
 
-begin_kept : (made : Made) (h : schedule.History) (i : ℕ) (call : Call) → Around made h → is_busy made.world i ≡ false → Keeps made h → Keeps (done made (Begins i call)) (Starts h i call)
+pub begin_kept : (made : Made) (h : schedule.History) (i : ℕ) (call : Call) → Around made h → is_busy made.world i ≡ false → Keeps made h → Keeps (done made (Begins i call)) (Starts h i call)
 begin_kept made h i call a y g = record { seats = λ k. begin_seats made.world h i k call (k == i) refl a.known y g.seats; law = g.law }
 
 kept : Kept Keeps
 kept = record { begins = λ made h i call a b f g. begin_kept made h i call a f g; steps = λ made h i a b y g. step_kept made h i a g }
 
+pub first_kept : (layout : Layout) → Keeps (first_made layout) Blank
+first_kept layout = record { seats = λ k. record { shown = refl; due = refl }; law = tt }
+
 pub withdrawals_follow : WithdrawalsFollow
-withdrawals_follow layout items d =
-    let g = history_keeps layout Keeps kept d items (record { seats = λ k. record { shown = refl; due = refl }; law = tt }) in g.law
+withdrawals_follow layout items d = let g = history_keeps layout Keeps kept d items (first_kept layout) in g.law

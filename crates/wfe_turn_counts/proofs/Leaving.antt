@@ -1,5 +1,7 @@
 -- Where a seat stands after a step: at what its machine goes on to, or at the first phase of something else.
-use Rattle.std.proofs.Common.{ℕ, ◌≡◌, Bool, true, false, List, refl, sym, subst}
+use Rattle.wfe_core.specs.declared.ends.FollowEnd.TheVariants as follow_ends
+use Rattle.wfe_core.specs.Phases.Ending.{Followed}
+use Rattle.std.proofs.Common.{ℕ, ◌≡◌, Bool, true, false, List, refl, sym, subst, ap, ◌∙◌}
 use Rattle.std.specs.Prelude.{◌==◌, ◌&&◌}
 use Rattle.wfe_words.specs.Place.{is_valid}
 use Rattle.wfe_words.specs.declared.config.SchemeKind.{SchemeKind}
@@ -10,7 +12,7 @@ use Rattle.wfe_defs.specs.declared.event.Event.{Event}
 use Rattle.wfe_core.specs.declared.post.Post.{Post}
 use Rattle.wfe_core.specs.Desks.{Desk}
 use Rattle.wfe_core.specs.Machine as machine
-use Rattle.wfe_core.specs.Phases.{ProtectAt, AllocateAt, RetireAt, MoveAt, BeginAt, Base, Outcome, Goes, Ends}
+use Rattle.wfe_core.specs.Phases.{Tries, Endless, Failed, ProtectAt, AllocateAt, RetireAt, MoveAt, BeginAt, Base, Outcome, Goes, Ends, Ending}
 use Rattle.wfe_core.specs.Phases.BeginAt.{LoadLower}
 use Rattle.wfe_core.specs.Phases.ProtectAt.{LoadClock, LoadWithin}
 use Rattle.wfe_core.specs.Phases.AllocateAt.{LoadBirth}
@@ -18,11 +20,11 @@ use Rattle.wfe_core.specs.Phases.RetireAt.{LoadLife}
 use Rattle.wfe_core.specs.Phases.MoveAt.{LoadEra}
 use Rattle.wfe_core.specs.Phases.Base.{Begin, Protect, Reload, Clear, Finish, Release, Allocate, Write, GiveUp, Retire, Move}
 use Rattle.wfe_core.specs.Posts.{counted}
-use Rattle.wfe_core.specs.Rounds.{scheme_of, protect_at, release_base}
+use Rattle.wfe_core.specs.Rounds.{scheme_of, protect_at, release_base, clear_base, clearing_next_by}
 use Rattle.wfe_core.specs.Steps as steps
 use Rattle.wfe_core.specs.World.{World, step, finds}
-use Rattle.wfe_core.specs.Calls.{Why, Phase, Idle, Runs, Scans, Works}
-use Rattle.wfe_eras.specs.Frame.{Grows, Passed, phase_left}
+use Rattle.wfe_core.specs.Calls.{Why, Phase, Idle, Runs, Scans, Works, FollowsHead, ClearsNext, Again}
+use Rattle.wfe_eras.specs.Frame.{Grows, Passed, phase_left, is_ibr}
 use Rattle.wfe_eras.specs.Seats.{PostFits, PhaseFits, Seats}
 use Rattle.wfe_eras.proofs.Inside.{shape_moves}
 use Rattle.wfe_eras.proofs.Kept.{counted_fits, run_counted}
@@ -35,8 +37,12 @@ abbrev pub begins_at : BeginAt → Bool
 begins_at LoadLower = true
 begins_at at = false
 
+abbrev pub tries_none : Tries → Bool
+tries_none Endless = true
+tries_none (Failed count) = count == 0
+
 abbrev pub protects_at : ProtectAt → Bool
-protects_at (LoadClock tries) = true
+protects_at (LoadClock tries) = tries_none tries
 protects_at LoadWithin = true
 protects_at at = false
 
@@ -110,22 +116,37 @@ new_grows layout k v =
       works = λ post work s q. refl;
     }
 
+-- where the head has moved, index 1 is cleared
+abbrev pub Moved : (interval : Bool) → Why → Ending → Phase → Type 0
+Moved interval (FollowsHead head tail) (Followed (follow_ends.RootMoved seen)) phase = interval ≡ false → phase ≡ Runs (ClearsNext Again) (Clear 1)
+Moved interval why ending phase = Unit {0}
+
 -- the machine goes on to this phase, or it has ended and the phase is new
-abbrev pub Leads : Why → Outcome → Phase → Type 0
-Leads why (Goes base) phase = phase ≡ Runs why base
-Leads why (Ends ending) phase = is_new phase ≡ true
+abbrev pub Leads : (interval : Bool) → Why → Outcome → Phase → Type 0
+Leads interval why (Goes base) phase = phase ≡ Runs why base
+Leads interval why (Ends ending) phase = (is_new phase ≡ true) × Moved interval why ending phase
 
-abbrev pub Left : Phase → Post → ℕ → Phase → Type 0
-Left Idle post found next = is_new next ≡ true
-Left (Runs why base) post found next = Leads why (machine.after base post found).outcome next
-Left (Scans later at) post found next = is_new next ≡ true
-Left (Works work) post found next = is_new next ≡ true
+abbrev pub Left : (interval : Bool) → Phase → Post → ℕ → Phase → Type 0
+Left interval Idle post found next = is_new next ≡ true
+Left interval (Runs why base) post found next = Leads interval why (machine.after base post found).outcome next
+Left interval (Scans later at) post found next = is_new next ≡ true
+Left interval (Works work) post found next = is_new next ≡ true
 
-resumed_leads : (layout : Layout) (k : ℕ) → is_valid layout ≡ true → (why : Why) (desk : Desk) (post : Post) (told : List Event) (outcome : Outcome) → PostFits layout k post → Passed (PhaseFits layout) why post outcome → Leads why outcome (phase_left (steps.resumed why desk post told outcome).outcome)
+cleared_next : (scheme : SchemeKind) (post : Post) (desk : Desk) (told : List Event) → is_ibr scheme ≡ false → phase_left (clearing_next_by Again post desk told (clear_base scheme 1)).outcome ≡ Runs (ClearsNext Again) (Clear 1)
+cleared_next He post desk told n = refl
+cleared_next Ibr post desk told n = absurd (cc)
+cleared_next Wfe post desk told n = refl
+
+moved_next : (layout : Layout) (why : Why) (ending : Ending) (post : Post) (desk : Desk) (told : List Event) → post.layout ≡ layout → Moved (is_ibr layout.config.scheme) why ending (phase_left (steps.resume why ending post desk told).outcome)
+moved_next layout (FollowsHead head tail) (Followed (follow_ends.RootMoved seen)) post desk told e = λ n. cleared_next (scheme_of post) post desk told (ap (λ (table : Layout). is_ibr table.config.scheme) e ∙ n)
+moved_next layout why ending post desk told e = tt
+
+resumed_leads : (layout : Layout) (k : ℕ) → is_valid layout ≡ true → (why : Why) (desk : Desk) (post : Post) (told : List Event) (outcome : Outcome) → PostFits layout k post → Passed (PhaseFits layout) why post outcome → Leads (is_ibr layout.config.scheme) why outcome (phase_left (steps.resumed why desk post told outcome).outcome)
 resumed_leads layout k v why desk post told (Goes base) q p = refl
-resumed_leads layout k v why desk post told (Ends ending) q p = let l = resume_left (new_grows layout k v) why ending post desk told p q in l.phase
+resumed_leads layout k v why desk post told (Ends ending) q p =
+    let l = resume_left (new_grows layout k v) why ending post desk told p q in (l.phase, moved_next layout why ending post desk told q.layout)
 
-turn_leads : (layout : Layout) (k : ℕ) → is_valid layout ≡ true → (phase : Phase) (post : Post) (desk : Desk) (found : ℕ) → PostFits layout k post → PhaseFits layout post phase → Left phase (counted post) found (phase_left (steps.phase_turn phase (counted post) desk found).outcome)
+turn_leads : (layout : Layout) (k : ℕ) → is_valid layout ≡ true → (phase : Phase) (post : Post) (desk : Desk) (found : ℕ) → PostFits layout k post → PhaseFits layout post phase → Left (is_ibr layout.config.scheme) phase (counted post) found (phase_left (steps.phase_turn phase (counted post) desk found).outcome)
 turn_leads layout k v Idle post desk found q f = refl
 turn_leads layout k v (Runs why base) post desk found q f =
     let t = machine.after base (counted post) found in
@@ -135,10 +156,10 @@ turn_leads layout k v (Scans later at) post desk found q f = let l = scan_left (
 turn_leads layout k v (Works work) post desk found q f = let l = work_left (new_grows layout k v) work (counted post) desk found f (counted_fits layout k post q) in l.phase
 
 -- a step of a seat
-pub stepped_leads : (w : World) (i : ℕ) → is_valid w.layout ≡ true → Seats w → Left (w.seat i).phase (counted (w.seat i).post) (finds w i) ((step w i).seat i).phase
+pub stepped_leads : (w : World) (i : ℕ) → is_valid w.layout ≡ true → Seats w → Left (is_ibr w.layout.config.scheme) (w.seat i).phase (counted (w.seat i).post) (finds w i) ((step w i).seat i).phase
 stepped_leads w i v s =
     let a = s.fits i in
-    subst (λ (next : Phase). Left (w.seat i).phase (counted (w.seat i).post) (finds w i) next) (sym (stepped_phase w i)) (turn_leads w.layout i v (w.seat i).phase (w.seat i).post (w.seat i).desk (finds w i) a.post a.phase)
+    subst (λ (next : Phase). Left (is_ibr w.layout.config.scheme) (w.seat i).phase (counted (w.seat i).post) (finds w i) next) (sym (stepped_phase w i)) (turn_leads w.layout i v (w.seat i).phase (w.seat i).post (w.seat i).desk (finds w i) a.post a.phase)
 
 -- a call begins
 pub first_new : (layout : Layout) (k : ℕ) → is_valid layout ≡ true → (call : Call) (post : Post) → PostFits layout k post → is_new (steps.first_phase call post) ≡ true

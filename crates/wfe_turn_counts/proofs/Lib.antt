@@ -1,3 +1,9 @@
 pub mod Due
+pub mod Helping
+pub mod Lasting
 pub mod Leaving
+pub mod Machines
+pub mod Tried
+pub mod Trying
+pub mod Underway
 pub mod Withdrawing

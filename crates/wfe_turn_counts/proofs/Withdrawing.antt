@@ -1,7 +1,7 @@
 -- The helper word of a reader is withdrawn in the second turn after the one with which it takes an answer.
 use Rattle.std.proofs.Common.{ℕ, ◌≡◌, ◌≤◌, ◌-◌, ◌+◌, Bool, true, false, List, [], ◌∷◌, ◌++◌, Option, Some, None, refl, ap, ◌∙◌, arith}
 use Rattle.std.proofs.lemmas.Bool.Decides.{nat_tests}
-use Rattle.std.specs.Prelude.{◌==◌, ◌&&◌, ◌||◌, is_some, if◌then◌else◌}
+use Rattle.std.specs.Prelude.{◌==◌, ◌&&◌, ◌||◌, is_some, if◌then◌else◌, is_none}
 use Rattle.wfe_words.specs.Packed.{reservation_word, read_reservation}
 use Rattle.wfe_words.specs.declared.config.SchemeKind.{SchemeKind}
 use Rattle.wfe_words.specs.declared.config.SchemeKind.TheVariants.{He, Ibr, Wfe}
@@ -126,13 +126,13 @@ found_both i [] ys b = refl
 found_both i (x ∷ xs) ys b = or_along (is_found x && b) _ _ _ (found_both i xs ys (shown_by i x b))
 
 -- events that tell nothing of guards, and hold nothing
-abbrev is_mute : Event → Bool
+abbrev pub is_mute : Event → Bool
 is_mute (events.Reserve guard span) = false
 is_mute (events.Held index slot steps) = false
 is_mute (events.Null index steps) = false
 is_mute event = true
 
-abbrev all_mute : List Event → Bool
+abbrev pub all_mute : List Event → Bool
 all_mute [] = true
 all_mute (event ∷ told) = is_mute event && all_mute told
 
@@ -145,7 +145,7 @@ mute_unfound (events.Held index slot steps) h = absurd (cc)
 mute_unfound (events.Null index steps) h = absurd (cc)
 mute_unfound event h = refl
 
-mute_shows : (i : ℕ) (told : List Event) (b : Bool) → all_mute told ≡ true → Shows i b b false told
+pub mute_shows : (i : ℕ) (told : List Event) (b : Bool) → all_mute told ≡ true → Shows i b b false told
 mute_shows i [] b h = record { left = refl; found = refl }
 mute_shows i (event ∷ told) b h =
     let q : shown_by i event b ≡ b = mute_one i event b (first_of (is_mute event) (all_mute told) h) in
@@ -159,15 +159,15 @@ quiet_one (events.Held index slot steps) h = absurd (cc)
 quiet_one (events.Null index steps) h = absurd (cc)
 quiet_one event h = refl
 
-quiet_mute : (told : List Event) → all_quiet told ≡ true → all_mute told ≡ true
+pub quiet_mute : (told : List Event) → all_quiet told ≡ true → all_mute told ≡ true
 quiet_mute [] h = refl
 quiet_mute (event ∷ told) h = both (is_mute event) (all_mute told) (quiet_one event (first_of (is_quiet event) (all_quiet told) h)) (quiet_mute told (rest_of (is_quiet event) (all_quiet told) h))
 
-cleared_mute : (index : ℕ) (o : Option ℕ) → all_mute (cleared index o) ≡ true
+pub cleared_mute : (index : ℕ) (o : Option ℕ) → all_mute (cleared index o) ≡ true
 cleared_mute index None = refl
 cleared_mute index (Some slot) = refl
 
-clear_mute : (scheme : SchemeKind) (post : Post) (index : ℕ) → all_mute (clear_told scheme post index) ≡ true
+pub clear_mute : (scheme : SchemeKind) (post : Post) (index : ℕ) → all_mute (clear_told scheme post index) ≡ true
 clear_mute He post index = refl
 clear_mute Ibr post index = cleared_mute index (stands post index)
 clear_mute Wfe post index = refl
@@ -190,17 +190,22 @@ shows_closed i b c f = record {
   clears = λ post told index h. shows_along i b c f told (clear_told (scheme_of post) post index) (clear_mute (scheme_of post) post index) h;
 }
 
--- a seat whose helper word publishes nothing, and that tells nothing of helper words
-abbrev is_plain : Event → Bool
-is_plain (events.Reserve (Helper seat) span) = false
+-- events that publish nothing in a helper word
+abbrev pub is_plain : Event → Bool
+is_plain (events.Reserve (Helper seat) span) = is_none span
 is_plain event = true
 
-abbrev all_plain : List Event → Bool
+abbrev pub all_plain : List Event → Bool
 all_plain [] = true
 all_plain (event ∷ told) = is_plain event && all_plain told
 
 plain_one : (i : ℕ) (event : Event) → is_plain event ≡ true → shown_by i event false ≡ false
-plain_one i (events.Reserve (Helper seat) span) h = absurd (cc)
+plain_one i (events.Reserve (Helper seat) None) h = helper_by (seat == i)
+  where
+    helper_by : (same : Bool) → (if same then false else false) ≡ false
+    helper_by true = refl
+    helper_by false = refl
+plain_one i (events.Reserve (Helper seat) (Some span)) h = absurd (cc)
 plain_one i (events.Reserve (Index seat index) span) h = refl
 plain_one i (events.Reserve (Whole seat) span) h = refl
 plain_one i event h = refl
@@ -216,11 +221,11 @@ plain_shows i (event ∷ told) h =
     let s = plain_shows i told (rest_of (is_plain event) (all_plain told) h) in
     record { left = rw q s.left; found = rw (and_false (is_found event)) (rw q s.found) }
 
-plain_along : (xs ys : List Event) → all_plain xs ≡ true → all_plain ys ≡ true → all_plain (xs ++ ys) ≡ true
+pub plain_along : (xs ys : List Event) → all_plain xs ≡ true → all_plain ys ≡ true → all_plain (xs ++ ys) ≡ true
 plain_along [] ys h k = k
 plain_along (x ∷ xs) ys h k = both (is_plain x) (all_plain (xs ++ ys)) (first_of (is_plain x) (all_plain xs) h) (plain_along xs ys (rest_of (is_plain x) (all_plain xs) h) k)
 
-plain_if : (c : Bool) (t u : Turn) → all_plain t.told ≡ true → all_plain u.told ≡ true → all_plain (if c then t else u).told ≡ true
+pub plain_if : (c : Bool) (t u : Turn) → all_plain t.told ≡ true → all_plain u.told ≡ true → all_plain (if c then t else u).told ≡ true
 plain_if true t u h k = h
 plain_if false t u h k = k
 
@@ -232,17 +237,17 @@ next_plain : (index n : ℕ) (none : Bool) → all_plain (if none then events.Nu
 next_plain index n true = refl
 next_plain index n false = refl
 
-held_plain : (index : ℕ) (root : Root) (link n : ℕ) → all_plain (protects.told_held index root link n) ≡ true
+pub held_plain : (index : ℕ) (root : Root) (link n : ℕ) → all_plain (protects.told_held index root link n) ≡ true
 held_plain index (roots.Next parent) link n = next_plain index n (link == 0)
 held_plain index (roots.Bucket bucket) link n = link_plain index (link - 1) n (link == 0)
 held_plain index roots.Head link n = link_plain index (link - 1) n (link == 0)
 held_plain index roots.Tail link n = link_plain index (link - 1) n (link == 0)
 
-concluded_plain : (aim : Aim) (index : ℕ) (root : Root) (n link era : ℕ) (post : Post) (told : List Event) → all_plain told ≡ true → all_plain (protects.concluded aim index root n link era post told).told ≡ true
+pub concluded_plain : (aim : Aim) (index : ℕ) (root : Root) (n link era : ℕ) (post : Post) (told : List Event) → all_plain told ≡ true → all_plain (protects.concluded aim index root n link era post told).told ≡ true
 concluded_plain Alone index root n link era post told h = h
 concluded_plain Follows index root n link era post told h = plain_if (link == 0) _ _ h h
 
-cleared_plain : (index : ℕ) (o : Option ℕ) → all_plain (cleared index o) ≡ true
+pub cleared_plain : (index : ℕ) (o : Option ℕ) → all_plain (cleared index o) ≡ true
 cleared_plain index None = refl
 cleared_plain index (Some slot) = refl
 
@@ -250,17 +255,17 @@ walking_plain : (birth : ℕ) (post : Post) (x : Option Walk) → all_plain (all
 walking_plain birth post None = refl
 walking_plain birth post (Some walk) = refl
 
-allocate_plain : (at : AllocateAt) (post : Post) (found : ℕ) → all_plain (machine.allocate_turn at post found).told ≡ true
+pub allocate_plain : (at : AllocateAt) (post : Post) (found : ℕ) → all_plain (machine.allocate_turn at post found).told ≡ true
 allocate_plain LoadBirth post found = refl
 allocate_plain (ClaimSlot birth walk) post found = plain_if (allocates.is_claimed found walk.slot) _ _ (walking_plain birth post (allocates.walk_past post.layout.config.slots walk found)) refl
 allocate_plain (StoreLife birth slot) post found = refl
 
-retire_plain : (at : RetireAt) (post : Post) (found : ℕ) → all_plain (machine.retire_turn at post found).told ≡ true
+pub retire_plain : (at : RetireAt) (post : Post) (found : ℕ) → all_plain (machine.retire_turn at post found).told ≡ true
 retire_plain (LoadLife slot) post found = refl
 retire_plain (LoadRetire slot birth) post found = refl
 retire_plain (StoreRetired slot birth retire) post found = refl
 
-begin_plain : (at : BeginAt) (post : Post) (found : ℕ) → all_plain (machine.begin_turn at post found).told ≡ true
+pub begin_plain : (at : BeginAt) (post : Post) (found : ℕ) → all_plain (machine.begin_turn at post found).told ≡ true
 begin_plain LoadLower post found = refl
 begin_plain (PublishSpan era) post found = refl
 

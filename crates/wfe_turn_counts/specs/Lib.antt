@@ -1,1 +1,3 @@
+pub mod Helping
+pub mod Underway
 pub mod Withdrawing
