@@ -3,6 +3,7 @@
 #![tactic(auto)]
 
 ghost use Rattle.wfe_turn_counts.specs.Helping.{RecordsKeepHelpers};
+ghost use Rattle.wfe_turn_counts.specs.Raising.{RecordsKeepRaises};
 ghost use Rattle.wfe_turn_counts.specs.Underway.{ProtectionsLast};
 ghost use Rattle.wfe_turn_counts.specs.Withdrawing.{WithdrawalsFollow};
 
@@ -23,4 +24,10 @@ pub fn protections_last()
 /// has published more eras in the protection's index word than it has tries.
 pub fn records_keep_helpers()
     ensures { RecordsKeepHelpers }
+{}
+
+/// Under 2GE the number in a Held or Null is two more than three times the number of times that the seat has
+/// raised its interval since its last Begin, Held, Null or Clear, and for a row held at index 1 one more.
+pub fn records_keep_raises()
+    ensures { RecordsKeepRaises }
 {}
