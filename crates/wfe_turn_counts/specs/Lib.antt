@@ -1,0 +1,4 @@
+pub mod Helping
+pub mod Raising
+pub mod Underway
+pub mod Withdrawing
