@@ -13,7 +13,7 @@ use Rattle.wfe_laws.specs.StateAt.{changes_of, count_of, with_change}
 use Rattle.wfe_lawful.specs.QueueLaw.{taken_of}
 use Rattle.wfe_reuse.proofs.Passes.{rest_of}
 use Rattle.wfe_few_retired.specs.Few.{one, count, told, takes_out}
-use Rattle.wfe_few_retired.proofs.Counting.{count_sum, count_where}
+use Rattle.wfe_few_retired.proofs.Counting.{count_sum, count_where, order_next, none_low}
 
 -- changes of a bucket, and of buckets below a number
 abbrev changes_in : (ℕ → Bool) → Test
@@ -34,25 +34,10 @@ abbrev is_taken : Test
 is_taken p i (events.Taken number value) = true
 is_taken p i event = false
 
-order_next : (n i : ℕ) → one (nat_lt i (suc n)) ≡ one (nat_lt i n) + one (n == i)
-order_next n i = by_order (nat_lt i (suc n)) (nat_lt i n) (n == i) refl refl refl
-  where
-    by_order : (a b c : Bool) → nat_lt i (suc n) ≡ a → nat_lt i n ≡ b → (n == i) ≡ c → one a ≡ one b + one c
-    by_order true true true e f g = absurd (grind (arith, nat_tests))
-    by_order true true false e f g = refl
-    by_order true false true e f g = refl
-    by_order true false false e f g = absurd (grind (arith, nat_tests))
-    by_order false true c e f g = absurd (grind (arith, nat_tests))
-    by_order false false true e f g = absurd (grind (arith, nat_tests))
-    by_order false false false e f g = refl
-
 below_part : (n : ℕ) (p : Past) (i : ℕ) (event : Event) → one (of_below (suc n) p i event) ≡ one (of_below n p i event) + one (of_bucket n p i event)
 below_part n p i (events.Put bucket version key value) = order_next n bucket
 below_part n p i (events.Removed bucket version key) = order_next n bucket
 below_part n p i event = refl
-
-none_low : (i : ℕ) → nat_lt i zero ≡ false
-none_low i = grind (arith, nat_tests)
 
 none_part : (p : Past) (i : ℕ) (event : Event) → of_below zero p i event ≡ false
 none_part p i (events.Put bucket version key value) = none_low bucket

@@ -35,6 +35,15 @@ pub each_before : (ok : Test) (p : Past) (later : List Entry) → Each ok (tells
 each_before ok p [] h = h
 each_before ok p (x ∷ later) h = (each_before ok (Then p x.seat x.event) later h).1
 
+-- the entries of one seat alone
+pub own_part : (kind same : Bool) → same ≡ true → one (kind && same) ≡ one kind
+own_part true same e = rw e refl
+own_part false same e = refl
+
+pub other_part : (kind same : Bool) → same ≡ false → one (kind && same) ≡ 0
+other_part true same e = rw e refl
+other_part false same e = refl
+
 -- events of a kind told by one seat, and by seats below a number
 abbrev pub by_seat : (Event → Bool) → ℕ → Test
 by_seat kind k p i event = kind event && k == i
@@ -42,9 +51,8 @@ by_seat kind k p i event = kind event && k == i
 abbrev pub by_below : (Event → Bool) → ℕ → Test
 by_below kind n p i event = kind event && nat_lt i n
 
-part_next : (kind : Bool) (n i : ℕ) → one (kind && nat_lt i (suc n)) ≡ one (kind && nat_lt i n) + one (kind && n == i)
-part_next false n i = refl
-part_next true n i = by_order (nat_lt i (suc n)) (nat_lt i n) (n == i) refl refl refl
+pub order_next : (n i : ℕ) → one (nat_lt i (suc n)) ≡ one (nat_lt i n) + one (n == i)
+order_next n i = by_order (nat_lt i (suc n)) (nat_lt i n) (n == i) refl refl refl
   where
     by_order : (a b c : Bool) → nat_lt i (suc n) ≡ a → nat_lt i n ≡ b → (n == i) ≡ c → one a ≡ one b + one c
     by_order true true true e f g = absurd (grind (arith, nat_tests))
@@ -55,16 +63,19 @@ part_next true n i = by_order (nat_lt i (suc n)) (nat_lt i n) (n == i) refl refl
     by_order false false true e f g = absurd (grind (arith, nat_tests))
     by_order false false false e f g = refl
 
+part_next : (kind : Bool) (n i : ℕ) → one (kind && nat_lt i (suc n)) ≡ one (kind && nat_lt i n) + one (kind && n == i)
+part_next false n i = refl
+part_next true n i = order_next n i
+
 pub below_next : (kind : Event → Bool) (n : ℕ) (p : Past) → count (by_below kind (suc n)) p ≡ count (by_below kind n) p + count (by_seat kind n) p
 below_next kind n p = count_sum (by_below kind (suc n)) (by_below kind n) (by_seat kind n) (λ q i event. part_next (kind event) n i) p
 
+pub none_low : (i : ℕ) → nat_lt i zero ≡ false
+none_low i = grind (arith, nat_tests)
+
 none_below : (kind : Bool) (i : ℕ) → one (kind && nat_lt i zero) ≡ 0
 none_below false i = refl
-none_below true i = by_test (nat_lt i zero) refl
-  where
-    by_test : (a : Bool) → nat_lt i zero ≡ a → one a ≡ 0
-    by_test true e = absurd (grind (arith, nat_tests))
-    by_test false e = refl
+none_below true i = ap one (none_low i)
 
 below_none : (kind : Event → Bool) (p : Past) → count (by_below kind zero) p ≡ 0
 below_none kind Start = refl
@@ -84,12 +95,7 @@ all_below : (kind : Event → Bool) (n : ℕ) (p : Past) → above p ≤ n → c
 all_below kind n Start h = refl
 all_below kind n (Then p i event) h =
     let low : nat_lt i n ≡ true = grind (arith, nat_tests) in
-    let e : one (kind event && nat_lt i n) ≡ one (kind event) = rw low (with_true (kind event)) in
-    omega (arith, all_below kind n p (omega arith), e)
-  where
-    with_true : (a : Bool) → one (a && true) ≡ one a
-    with_true true = refl
-    with_true false = refl
+    omega (arith, all_below kind n p (omega arith), own_part (kind event) (nat_lt i n) low)
 
 -- and of all seats
 pub told_less : (kind more : Event → Bool) (p : Past) → ((k : ℕ) → count (by_seat kind k) p ≤ count (by_seat more k) p) → told kind p ≤ told more p

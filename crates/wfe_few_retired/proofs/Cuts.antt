@@ -1,7 +1,7 @@
 -- No more rows are retired than cut, and no more cut than changes were made and values taken.
 use Rattle.std.proofs.Common.{ℕ, ◌≡◌, ◌≤◌, ◌+◌, Bool, true, false, List, [], ◌∷◌, length, Option, Some, None, refl, ap, subst, arith}
 use Rattle.std.proofs.lemmas.Bool.Decides.{nat_tests}
-use Rattle.std.specs.Prelude.{◌==◌, ◌&&◌, ◌||◌}
+use Rattle.std.specs.Prelude.{◌==◌, ◌||◌}
 use Rattle.wfe_defs.specs.declared.event.Event.{Event}
 use Rattle.wfe_defs.specs.declared.event.Event.TheVariants as events
 use Rattle.wfe_defs.specs.declared.event.Root.TheVariants as roots
@@ -11,7 +11,7 @@ use Rattle.wfe_placing.specs.Order.{Due, due_at, due_cut, due_linked, meets_due,
 use Rattle.wfe_placing.specs.Order.Due.{NoneDue, CutDue, ChangeDue, QueuedDue, TakenDue}
 use Rattle.wfe_placing.specs.Retiring.{without_one, has_slot, cuts_by, cuts_of, retires_right, retiring_ok}
 use Rattle.wfe_few_retired.specs.Few.{one, count, told, is_retire, takes_out}
-use Rattle.wfe_few_retired.proofs.Counting.{by_seat, told_less}
+use Rattle.wfe_few_retired.proofs.Counting.{by_seat, other_part, own_part, told_less}
 
 -- the event cuts a row
 abbrev pub is_cut : Event → Bool
@@ -37,14 +37,6 @@ own_event (events.Retire slot birth retire) x cut retired h g = omega (arith, sh
 own_event (events.Begin call) x cut retired h g = omega arith
 own_event event x cut retired h g = omega arith
 
-part : (kind same : Bool) → same ≡ true → one (kind && same) ≡ one kind
-part true same e = rw e refl
-part false same e = refl
-
-no_part : (kind same : Bool) → same ≡ false → one (kind && same) ≡ 0
-no_part true same e = rw e refl
-no_part false same e = refl
-
 -- what a seat has retired, and what its call has still to retire, it has cut
 abbrev SeatCuts : ℕ → Past → Type 0
 SeatCuts k p = count (by_seat is_retire k) p + length (cuts_of k p) ≤ count (by_seat is_cut k) p
@@ -54,10 +46,10 @@ entry_cuts k i p event true e h g =
     let q : i ≡ k = grind (arith, nat_tests) in
     let r : retires_right event (cuts_of k p) ≡ true = subst (λ (j : ℕ). retires_right event (cuts_of j p) ≡ true) q h in
     let n : length (cuts_of k (Then p i event)) ≡ length (cuts_by event (cuts_of k p)) = rw e refl in
-    omega (arith, n, part (is_retire event) (k == i) e, part (is_cut event) (k == i) e, own_event event (cuts_of k p) (count (by_seat is_cut k) p) (count (by_seat is_retire k) p) r g)
+    omega (arith, n, own_part (is_retire event) (k == i) e, own_part (is_cut event) (k == i) e, own_event event (cuts_of k p) (count (by_seat is_cut k) p) (count (by_seat is_retire k) p) r g)
 entry_cuts k i p event false e h g =
     let n : length (cuts_of k (Then p i event)) ≡ length (cuts_of k p) = rw e refl in
-    omega (arith, n, no_part (is_retire event) (k == i) e, no_part (is_cut event) (k == i) e, g)
+    omega (arith, n, other_part (is_retire event) (k == i) e, other_part (is_cut event) (k == i) e, g)
 
 seat_cuts : (k : ℕ) (p : Past) → Each retiring_ok p → SeatCuts k p
 seat_cuts k Start h = omega arith

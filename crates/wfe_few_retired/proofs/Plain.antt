@@ -18,17 +18,17 @@ use Rattle.wfe_due_scans.proofs.Keeps.{records_scan_where_due, records_move_wher
 use Rattle.wfe_due_scans.proofs.Kept.{records_keep_outcomes}
 use Rattle.wfe_few_retired.specs.Few.{one, told, is_retire}
 use Rattle.wfe_few_retired.specs.Plain.{total_retires, plain_by, plain_tally, plain_clock_by, plain_clock, RecordsCountPlainly, RecordsScanPlainly, RecordsMovePlainly, RecordsAnswerPlainly}
-use Rattle.wfe_few_retired.proofs.Counting.{count_less, count_later}
+use Rattle.wfe_few_retired.proofs.Counting.{count_less, count_later, other_part, own_part}
 use Rattle.wfe_few_retired.proofs.Few.{records_retire_few}
 
 -- one seat has retired no more than all, and no more at a position than in the whole record
-own_part : (kind same : Bool) → one (kind && same) ≤ one kind
-own_part true true = omega arith
-own_part true false = omega arith
-own_part false same = omega arith
+less_part : (kind same : Bool) → one (kind && same) ≤ one kind
+less_part true true = omega arith
+less_part true false = omega arith
+less_part false same = omega arith
 
 own_less : (i : ℕ) (p : Past) → total_retires i p ≤ told is_retire p
-own_less i p = count_less (λ q k event. is_retire event && i == k) (λ q k event. is_retire event) (λ q k event. own_part (is_retire event) (i == k)) p
+own_less i p = count_less (λ q k event. is_retire event && i == k) (λ q k event. is_retire event) (λ q k event. less_part (is_retire event) (i == k)) p
 
 abbrev LowRetires : ℕ → Past → Type 0
 LowRetires i p = total_retires i p < 18446744073709551615
@@ -53,21 +53,13 @@ clock_counts every (events.Begin call) x = omega arith
 clock_counts every (events.Era era) x = omega arith
 clock_counts every event x = omega arith
 
-with_own : (kind same : Bool) → same ≡ true → one (kind && same) ≡ one kind
-with_own true same e = rw e refl
-with_own false same e = refl
-
-with_other : (kind same : Bool) → same ≡ false → one (kind && same) ≡ 0
-with_other true same e = rw e refl
-with_other false same e = refl
-
 tally_entry : (every i k : ℕ) (p : Past) (event : Event) (same : Bool) → (i == k) ≡ same → (plain_tally every i p).retired ≡ total_retires i p → (plain_tally every i (Then p k event)).retired ≡ total_retires i (Then p k event)
 tally_entry every i k p event true e h =
     let n : (plain_tally every i (Then p k event)).retired ≡ (plain_by every event (plain_tally every i p)).retired = rw e refl in
-    omega (arith, n, one_counts every event (plain_tally every i p), with_own (is_retire event) (i == k) e, h)
+    omega (arith, n, one_counts every event (plain_tally every i p), own_part (is_retire event) (i == k) e, h)
 tally_entry every i k p event false e h =
     let n : (plain_tally every i (Then p k event)).retired ≡ (plain_tally every i p).retired = rw e refl in
-    omega (arith, n, with_other (is_retire event) (i == k) e, h)
+    omega (arith, n, other_part (is_retire event) (i == k) e, h)
 
 tally_retired : (every i : ℕ) (p : Past) → (plain_tally every i p).retired ≡ total_retires i p
 tally_retired every i Start = refl
@@ -76,10 +68,10 @@ tally_retired every i (Then p k event) = tally_entry every i k p event (i == k) 
 clock_entry : (every i k : ℕ) (p : Past) (event : Event) (same : Bool) → (i == k) ≡ same → (plain_clock every i p).retired ≡ total_retires i p → (plain_clock every i (Then p k event)).retired ≡ total_retires i (Then p k event)
 clock_entry every i k p event true e h =
     let n : (plain_clock every i (Then p k event)).retired ≡ (plain_clock_by every event (plain_clock every i p)).retired = rw e refl in
-    omega (arith, n, clock_counts every event (plain_clock every i p), with_own (is_retire event) (i == k) e, h)
+    omega (arith, n, clock_counts every event (plain_clock every i p), own_part (is_retire event) (i == k) e, h)
 clock_entry every i k p event false e h =
     let n : (plain_clock every i (Then p k event)).retired ≡ (plain_clock every i p).retired = rw e refl in
-    omega (arith, n, with_other (is_retire event) (i == k) e, h)
+    omega (arith, n, other_part (is_retire event) (i == k) e, h)
 
 clock_retired : (every i : ℕ) (p : Past) → (plain_clock every i p).retired ≡ total_retires i p
 clock_retired every i Start = refl
