@@ -21,8 +21,6 @@ use Rattle.wfe_counting.proofs.Counting as numbers
 use Rattle.wfe_counting.proofs.Handed as handed
 use Rattle.wfe_counting.proofs.OneStep as one_step
 use Rattle.wfe_counting.proofs.Tried as tries
-use Rattle.wfe_due_scans.proofs.Keeps as due
-use Rattle.wfe_due_scans.proofs.Kept as clock
 use Rattle.wfe_due_scans.proofs.Timely as times
 use Rattle.wfe_roots.proofs.Clears as clears
 use Rattle.wfe_roots.proofs.Finding as finds
@@ -45,6 +43,8 @@ use Rattle.wfe_turn_counts.proofs.Raised as raised
 use Rattle.wfe_turn_counts.proofs.Underway as underway
 use Rattle.wfe_call_counts.proofs.Ends as call_counts
 use Rattle.wfe_open_calls.proofs.Keeps as open_calls
+use Rattle.wfe_few_retired.proofs.Few as few
+use Rattle.wfe_few_retired.proofs.Plain as plain
 use Rattle.wfe_whole.specs.Whole.{HistoriesLawful}
 
 pub histories_are_lawful : HistoriesLawful
@@ -67,12 +67,13 @@ histories_are_lawful layout items valid =
         blocks = scans.records_keep_scans layout items valid;
         reads = reads.records_read_guards layout items valid;
         counts = counts.records_count_scans layout items valid;
-        due = due.records_scan_where_due layout items valid;
+        due = plain.records_scan_plainly layout items valid;
+        few = few.records_retire_few layout items valid;
         room = rooms.records_scan_for_room layout items valid;
       };
       eras = record {
         numbers = eras.records_keep_eras layout items valid;
-        moves = due.records_move_where_due layout items valid;
+        moves = plain.records_move_plainly layout items valid;
         births_current = current.records_give_current layout items valid;
         births = births.records_keep_births layout items valid;
         retires_current = current.records_retire_current layout items valid;
@@ -111,7 +112,7 @@ histories_are_lawful layout items valid =
         lacks = rooms.records_keep_lacks layout items valid;
         retires = placing.records_count_retires layout items valid;
         refusals = placing.records_refuse layout items valid;
-        clock = clock.records_keep_outcomes layout items valid;
+        clock = plain.records_answer_plainly layout items valid;
         times = times.records_keep_times layout items valid;
         repeats = repeating.records_keep_repeats layout items valid;
       };

@@ -4,7 +4,7 @@ use Rattle.wfe_laws.specs.Record.{Past}
 use Rattle.wfe_answers.specs.AnswersTold.{AnswersLaw}
 use Rattle.wfe_placing.specs.Retiring.{RefusalLaw, RetireCounts}
 use Rattle.wfe_reasons.specs.Reasons.{ReasonLaw}
-use Rattle.wfe_due_scans.specs.Outcomes.{ClockOutcomes}
+use Rattle.wfe_few_retired.specs.Plain.{PlainOutcomes}
 use Rattle.wfe_due_scans.specs.Times.{ClockTimes}
 use Rattle.wfe_full.specs.Full.{FullLaw}
 use Rattle.wfe_full.specs.Lacking.{LackLaw}
@@ -26,7 +26,7 @@ pub record AnswerLaw (config : Config) (r : Past) : Type 0 where
   -- only a call that answers Done, Queued or Taken has told a change, or a link that is not to the tail
   pub refusals : RefusalLaw r
   -- what a call answers of the clock is what it has told of it
-  pub clock : ClockOutcomes config r
+  pub clock : PlainOutcomes config r
   -- an era that another seat moved the clock to came after the call had to move it, and a last era is the clock
   pub times : ClockTimes r
   -- a call finds its root once, and once more for each change of its bucket or move of the queue since it began, and a scan

@@ -4,7 +4,7 @@ use Rattle.wfe_laws.specs.Record.{Past}
 use Rattle.wfe_once.specs.Births.{BirthLaw}
 use Rattle.wfe_era_law.specs.EraLaw.{EraLaw as NumberLaw}
 use Rattle.wfe_era_law.specs.GuardLaw.{GuardLaw}
-use Rattle.wfe_due_scans.specs.Scans.{DueMoves}
+use Rattle.wfe_few_retired.specs.Plain.{PlainMoves}
 use Rattle.wfe_current.specs.Current.{BirthsCurrent, ReservesCurrent, RetiresCurrent}
 use Rattle.wfe_current.specs.Rising.{SpansRise}
 
@@ -13,7 +13,7 @@ pub record EraLaw (config : Config) (r : Past) : Type 0 where
   -- the clock rises by one up to the last era; what is published, given and retired has eras up to the clock
   pub numbers : NumberLaw config r
   -- the clock is moved only by an Advance or before a scan of the call, once at most for each
-  pub moves : DueMoves config r
+  pub moves : PlainMoves config r
   -- a row's birth era was the clock somewhere in the call that the row is given to
   pub births_current : BirthsCurrent r
   -- a row is retired with the birth era of its last Give

@@ -4,7 +4,8 @@ use Rattle.wfe_laws.specs.Record.{Past}
 use Rattle.wfe_blocks.specs.Blocks.{ScanLaw as BlockLaw}
 use Rattle.wfe_blocks.specs.Counts.{CountLaw}
 use Rattle.wfe_blocks.specs.Reads.{ReadLaw}
-use Rattle.wfe_due_scans.specs.Scans.{DueScans}
+use Rattle.wfe_few_retired.specs.Few.{FewRetired}
+use Rattle.wfe_few_retired.specs.Plain.{PlainScans}
 use Rattle.wfe_full.specs.Room.{RoomScans}
 
 -- Each scan keeps just the rows whose lives meet reservations that it read.
@@ -16,6 +17,8 @@ pub record ScanLaw (config : Config) (r : Past) : Type 0 where
   -- a call that only scans reads each guard once, and answers how many lives are kept and how many rows went back
   pub counts : CountLaw config r
   -- a call scans where a scan is due, may scan before it is given a row, and scans nowhere else
-  pub due : DueScans config r
+  pub due : PlainScans config r
+  -- no more rows are retired than changes were made and values taken, so that a count of 64 bits has room for all
+  pub few : FewRetired config r
   -- a call that has no row yet reads a guard only where each row was taken at a position of the call before
   pub room : RoomScans config r
