@@ -227,7 +227,7 @@ small_bound tries j n h = by (j == 1)
 one_bound : (tries j n : ℕ) → (j == 1) ≡ true → n ≤ 3 * tries + 16 → n ≤ bound tries j
 one_bound tries j n e h = rw e h
 
-pub why_base : (c : Config) (u : ℕ) (why : Why) (base : Base) (j times last : ℕ) → protects (kind_of why) ≡ true → why_tried c u why base j times last ≡ base_tried c base j times last
+why_base : (c : Config) (u : ℕ) (why : Why) (base : Base) (j times last : ℕ) → protects (kind_of why) ≡ true → why_tried c u why base j times last ≡ base_tried c base j times last
 why_base c u (Opens task) base j times last h = refl
 why_base c u (FollowsHead head tail) base j times last h = refl
 why_base c u (ClearsNext next) base j times last h = absurd (cc)

@@ -6,8 +6,6 @@ pub mod Leaving
 pub mod Machines
 pub mod Raised
 pub mod Raising
-pub mod Risen
-pub mod Rising
 pub mod Tried
 pub mod Trying
 pub mod Underway

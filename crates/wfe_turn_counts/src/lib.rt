@@ -4,7 +4,6 @@
 
 ghost use Rattle.wfe_turn_counts.specs.Helping.{RecordsKeepHelpers};
 ghost use Rattle.wfe_turn_counts.specs.Raising.{RecordsKeepRaises};
-ghost use Rattle.wfe_turn_counts.specs.Rising.{RecordsKeepRises};
 ghost use Rattle.wfe_turn_counts.specs.Underway.{ProtectionsLast};
 ghost use Rattle.wfe_turn_counts.specs.Withdrawing.{WithdrawalsFollow};
 
@@ -31,10 +30,4 @@ pub fn records_keep_helpers()
 /// raised its interval since its last Begin, Held, Null or Clear, and for a row held at index 1 one more.
 pub fn records_keep_raises()
     ensures { RecordsKeepRaises }
-{}
-
-/// Under Hazard Eras and Wait-Free Eras, until its tries are used up, a protection publishes later and later
-/// eras at its index word.
-pub fn records_keep_rises()
-    ensures { RecordsKeepRises }
 {}
