@@ -1,0 +1,207 @@
+-- The laws on records by name, and how each judges an entry.
+use Rattle.std.specs.Prelude.{ℕ, zero, suc, ◌&&◌, Bool, true, Option, Some, None}
+use Rattle.wfe_words.specs.declared.config.Config.{Config}
+use Rattle.wfe_words.specs.declared.config.SchemeKind.{SchemeKind}
+use Rattle.wfe_words.specs.declared.config.SchemeKind.TheVariants.{He, Ibr, Wfe}
+use Rattle.wfe_defs.specs.declared.event.Event.{Event}
+use Rattle.wfe_defs.specs.declared.event.Event.TheVariants as events
+use Rattle.wfe_laws.specs.Record.{Past, Test}
+use Rattle.wfe_laws.specs.Record.Past.{Then}
+use Rattle.wfe_laws.specs.MapLaw.{map_ok}
+use Rattle.wfe_reuse.specs.Law.{reuse_ok, stood_at}
+use Rattle.wfe_lawful.specs.QueueLaw.{queue_ok}
+use Rattle.wfe_lawful.specs.StepLaw.{steps_ok}
+use Rattle.wfe_once.specs.Births.{birth_ok}
+use Rattle.wfe_once.specs.Once.{back_ok, once_ok}
+use Rattle.wfe_blocks.specs.Blocks.{scan_ok}
+use Rattle.wfe_blocks.specs.Counts.{count_ok}
+use Rattle.wfe_blocks.specs.Reads.{read_ok}
+use Rattle.wfe_era_law.specs.EraLaw.{era_ok}
+use Rattle.wfe_era_law.specs.GuardLaw.{guard_ok}
+use Rattle.wfe_answers.specs.AnswersTold.{answers_ok}
+use Rattle.wfe_placing.specs.Nexts.{nexts_ok}
+use Rattle.wfe_placing.specs.Order.{order_ok}
+use Rattle.wfe_placing.specs.Placing.{placing_ok}
+use Rattle.wfe_placing.specs.Retiring.{refusing_ok, retires_ok, retiring_ok}
+use Rattle.wfe_bare_ends.specs.BareEnds.{bare_ok}
+use Rattle.wfe_reasons.specs.Reasons.{reasons_ok}
+use Rattle.wfe_due_scans.specs.Outcomes.{clocks_ok}
+use Rattle.wfe_due_scans.specs.Scans.{moves_ok, scans_ok}
+use Rattle.wfe_due_scans.specs.Times.{times_ok}
+use Rattle.wfe_roots.specs.Clearing.{clears_ok}
+use Rattle.wfe_roots.specs.Finding.{finds_ok}
+use Rattle.wfe_roots.specs.Following.{follows_ok}
+use Rattle.wfe_roots.specs.Indexing.{indexes_ok}
+use Rattle.wfe_roots.specs.Linking.{links_ok}
+use Rattle.wfe_roots.specs.Sources.{sources_ok}
+use Rattle.wfe_holding.specs.Holding.{is_held}
+use Rattle.wfe_held.specs.Behind.{behind_ok}
+use Rattle.wfe_held.specs.Gots.{gots_ok}
+use Rattle.wfe_held.specs.Resting.{rests_ok}
+use Rattle.wfe_full.specs.Full.{full_ok}
+use Rattle.wfe_full.specs.Lacking.{lacks_ok}
+use Rattle.wfe_full.specs.Room.{room_ok}
+use Rattle.wfe_repeats.specs.Repeats.{repeats_ok}
+use Rattle.wfe_turn_counts.specs.Helping.{helper_ok}
+use Rattle.wfe_turn_counts.specs.Raising.{raise_ok}
+use Rattle.wfe_call_counts.specs.Ends.{end_ok}
+use Rattle.wfe_open_calls.specs.Open.{open_ok}
+use Rattle.wfe_current.specs.Current.{birth_current, reserve_current, retire_current}
+use Rattle.wfe_current.specs.Rising.{era_rises, span_rises}
+
+-- the laws on records, each under the name that it has among all that histories keep
+pub data Law : Type 0 where
+  Reuse : Law
+  Clears : Law
+  Indexes : Law
+  Free : Law
+  Back : Law
+  Placing : Law
+  Order : Law
+  Nexts : Law
+  Retiring : Law
+  Blocks : Law
+  Reads : Law
+  Counts : Law
+  Due : Law
+  Room : Law
+  Eras : Law
+  Moves : Law
+  BirthsCurrent : Law
+  Births : Law
+  RetiresCurrent : Law
+  ReservesCurrent : Law
+  SpansRise : Law
+  Guards : Law
+  Throughout : Law
+  Sources : Law
+  Finds : Law
+  Gots : Law
+  Links : Law
+  Follows : Law
+  Behind : Law
+  Bare : Law
+  Rests : Law
+  Map : Law
+  Queue : Law
+  Steps : Law
+  Helpers : Law
+  ErasRise : Law
+  Raises : Law
+  CallSteps : Law
+  Told : Law
+  Reasons : Law
+  Full : Law
+  Lacks : Law
+  Retires : Law
+  Refusals : Law
+  Clock : Law
+  Times : Law
+  Repeats : Law
+  InCalls : Law
+
+-- the row that an event gives, or tells unused or back
+abbrev pub freed : Event → Option ℕ
+freed (events.Give slot birth) = Some slot
+freed (events.Unused slot) = Some slot
+freed (events.Back slot) = Some slot
+freed event = None
+
+-- no row is freed or given that stands at an index of these seats
+abbrev unheld : ℕ → ℕ → Test
+unheld s zero p i e = true
+unheld s (suc k) p i e = reuse_ok k 0 s p i e && reuse_ok k 1 s p i e && reuse_ok k 2 s p i e && unheld s k p i e
+
+abbrev unheld_if : Option ℕ → ℕ → Test
+unheld_if None seats p i e = true
+unheld_if (Some s) seats p i e = unheld s seats p i e
+
+-- what stands is held
+abbrev held_if : Config → ℕ → ℕ → Option ℕ → Past → Bool
+held_if c k j None p = true
+held_if c k j (Some s) p = is_held c k j s p
+
+abbrev all_held : Config → ℕ → Past → Bool
+all_held c zero p = true
+all_held c (suc k) p = held_if c k 0 (stood_at k 0 p) p && held_if c k 1 (stood_at k 1 p) p && held_if c k 2 (stood_at k 2 p) p && all_held c k p
+
+-- only these events change what stands, what is taken, and what is published
+abbrev pub held_by : Config → Event → Past → Bool
+held_by c (events.Held index slot steps) p = all_held c c.seats p
+held_by c (events.Reserve guard span) p = all_held c c.seats p
+held_by c (events.Give slot birth) p = all_held c c.seats p
+held_by c (events.Unused slot) p = all_held c c.seats p
+held_by c (events.Retire slot birth retire) p = all_held c c.seats p
+held_by c (events.Back slot) p = all_held c c.seats p
+held_by c e p = true
+
+-- so it is with this row, and with each one before it
+abbrev all_rows : (ℕ → Test) → ℕ → Test
+all_rows ok zero p i e = ok 0 p i e
+all_rows ok (suc s) p i e = ok (suc s) p i e && all_rows ok s p i e
+
+-- what is proved of one scheme alone
+abbrev steps_by : SchemeKind → ℕ → Test
+steps_by Wfe tries p i e = steps_ok tries p i e
+steps_by He tries p i e = true
+steps_by Ibr tries p i e = true
+
+abbrev helpers_by : SchemeKind → ℕ → Test
+helpers_by Wfe tries p i e = helper_ok tries 0 p i e && helper_ok tries 1 p i e && helper_ok tries 2 p i e
+helpers_by He tries p i e = true
+helpers_by Ibr tries p i e = true
+
+abbrev raises_by : SchemeKind → Test
+raises_by Ibr p i e = raise_ok p i e
+raises_by He p i e = true
+raises_by Wfe p i e = true
+
+abbrev pub test_of : Config → Law → Test
+test_of c Reuse p i e = unheld_if (freed e) c.seats p i e
+test_of c Clears p i e = clears_ok p i e
+test_of c Indexes p i e = indexes_ok p i e
+test_of c Free p i e = once_ok c.slots p i e
+test_of c Back p i e = back_ok p i e
+test_of c Placing p i e = placing_ok p i e
+test_of c Order p i e = order_ok c.slots p i e
+test_of c Nexts p i e = nexts_ok c.slots p i e
+test_of c Retiring p i e = retiring_ok p i e
+test_of c Blocks p i e = scan_ok c p i e
+test_of c Reads p i e = read_ok p i e
+test_of c Counts p i e = count_ok c p i e
+test_of c Due p i e = scans_ok c p i e
+test_of c Room p i e = all_rows (room_ok c.slots) c.slots p i e
+test_of c Eras p i e = era_ok c p i e
+test_of c Moves p i e = moves_ok c p i e
+test_of c BirthsCurrent p i e = birth_current p i e
+test_of c Births p i e = birth_ok p i e
+test_of c RetiresCurrent p i e = retire_current p i e
+test_of c ReservesCurrent p i e = reserve_current p i e
+test_of c SpansRise p i e = span_rises p i e
+test_of c Guards p i e = guard_ok c.scheme p i e
+test_of c Throughout p i e = held_by c e (Then p i e)
+test_of c Sources p i e = sources_ok c p i e
+test_of c Finds p i e = finds_ok p i e
+test_of c Gots p i e = gots_ok p i e
+test_of c Links p i e = links_ok c.slots p i e
+test_of c Follows p i e = follows_ok c.slots p i e
+test_of c Behind p i e = behind_ok c.slots p i e
+test_of c Bare p i e = bare_ok 0 p i e && bare_ok 1 p i e
+test_of c Rests p i e = rests_ok c.scheme p i e
+test_of c Map p i e = map_ok c.buckets p i e
+test_of c Queue p i e = queue_ok p i e
+test_of c Steps p i e = steps_by c.scheme c.tries p i e
+test_of c Helpers p i e = helpers_by c.scheme c.tries p i e
+test_of c ErasRise p i e = era_rises p i e
+test_of c Raises p i e = raises_by c.scheme p i e
+test_of c CallSteps p i e = end_ok c p i e
+test_of c Told p i e = answers_ok c.buckets p i e
+test_of c Reasons p i e = reasons_ok c p i e
+test_of c Full p i e = all_rows (full_ok c) c.slots p i e
+test_of c Lacks p i e = lacks_ok c p i e
+test_of c Retires p i e = retires_ok p i e
+test_of c Refusals p i e = refusing_ok p i e
+test_of c Clock p i e = clocks_ok c p i e
+test_of c Times p i e = times_ok p i e
+test_of c Repeats p i e = repeats_ok c p i e
+test_of c InCalls p i e = open_ok p i e

@@ -1,0 +1,11 @@
+pub mod Altered
+pub mod Changed
+pub mod Full
+pub mod Helped
+pub mod Intervals
+pub mod Judges
+pub mod Kept
+pub mod PutThenGet
+pub mod Queued
+pub mod Refusals
+pub mod Spent

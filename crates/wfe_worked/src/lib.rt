@@ -1,0 +1,54 @@
+//! Worked records. Each is told by a history, each law takes it, and a table says where each law
+//! refuses it once one line is dropped, told twice, told after the next one, or altered. So a reader
+//! sees what the laws tell apart. Each function here does nothing, and carries a theorem.
+#![tactic(auto)]
+
+ghost use Rattle.wfe_worked.specs.Full.{FullWorked};
+ghost use Rattle.wfe_worked.specs.Helped.{HelpedWorked};
+ghost use Rattle.wfe_worked.specs.Intervals.{IntervalsWorked};
+ghost use Rattle.wfe_worked.specs.Kept.{KeptWorked};
+ghost use Rattle.wfe_worked.specs.PutThenGet.{PutThenGetWorked};
+ghost use Rattle.wfe_worked.specs.Queued.{QueuedWorked};
+ghost use Rattle.wfe_worked.specs.Spent.{SpentWorked};
+ghost use Rattle.wfe_worked.specs.Refusals.{ReadersJudge};
+
+/// A plain reader, which looks at one line after another, takes a record exactly where the law of
+/// records holds of it.
+pub fn readers_judge()
+    ensures { ReadersJudge }
+{}
+
+/// A put of a key, and a get of it.
+pub fn a_put_then_a_get_is_worked()
+    ensures { PutThenGetWorked }
+{}
+
+/// A scan keeps a row that another seat holds, and a later one gives it back.
+pub fn a_kept_row_is_worked()
+    ensures { KeptWorked }
+{}
+
+/// Under 2GE a reader raises its interval, and its row goes back once it has let go.
+pub fn a_raised_interval_is_worked()
+    ensures { IntervalsWorked }
+{}
+
+/// A mover of the clock answers a reader's request.
+pub fn a_helped_reader_is_worked()
+    ensures { HelpedWorked }
+{}
+
+/// Two values are queued and taken, and then the queue is empty.
+pub fn queued_values_are_worked()
+    ensures { QueuedWorked }
+{}
+
+/// A put finds no free row, and a later one does after a scan.
+pub fn a_full_table_is_worked()
+    ensures { FullWorked }
+{}
+
+/// A bucket and the queue have come to their last version and number.
+pub fn spent_numbers_are_worked()
+    ensures { SpentWorked }
+{}
