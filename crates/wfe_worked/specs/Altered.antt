@@ -78,3 +78,15 @@ other_event (events.Taken number value) = events.Taken number (value + 1)
 abbrev pub altered : List Entry → List Entry
 altered [] = []
 altered (x ∷ xs) = record { seat = x.seat; event = other_event x.event } ∷ xs
+
+-- a protection or a call with so many steps more
+abbrev pub slower_event : Event → Event
+slower_event (events.End steps answer) = events.End (steps + 15) answer
+slower_event (events.Held index slot steps) = events.Held index slot (steps + 15)
+slower_event (events.Null index steps) = events.Null index (steps + 15)
+slower_event event = event
+
+-- the line tells more steps, if it tells any
+abbrev pub slowed : List Entry → List Entry
+slowed [] = []
+slowed (x ∷ xs) = record { seat = x.seat; event = slower_event x.event } ∷ xs

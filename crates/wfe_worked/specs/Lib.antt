@@ -5,6 +5,7 @@ pub mod Helped
 pub mod Intervals
 pub mod Judges
 pub mod Kept
+pub mod Moved
 pub mod PutThenGet
 pub mod Queued
 pub mod Refusals

@@ -39,57 +39,57 @@ put_then_get =
     ∷ said 0 (events.Reserve (guards.Index 0 0) None)
     ∷ said 0 (events.End 9 (answers.Got 1 (Some 70))) ∷ []
 
--- of each law the places at which it refuses a line that is dropped, told twice, told after the next one, or altered
+-- of each law the places at which it refuses a line that is dropped, told twice, told after the next one, altered, or slowed
 abbrev pub put_then_get_table : List Row
 put_then_get_table =
-    row Reuse [] [] [] (2 ∷ [])
-    ∷ row Clears (10 ∷ []) (12 ∷ []) [] (10 ∷ 12 ∷ [])
-    ∷ row Indexes (0 ∷ []) [] [] []
-    ∷ row Free [] (3 ∷ []) [] []
-    ∷ row Back [] [] [] []
-    ∷ row Placing (3 ∷ 4 ∷ []) (3 ∷ 4 ∷ []) (3 ∷ []) (3 ∷ 4 ∷ [])
-    ∷ row Order (4 ∷ 5 ∷ []) (4 ∷ 5 ∷ []) (3 ∷ 4 ∷ 5 ∷ []) []
-    ∷ row Nexts [] [] [] []
-    ∷ row Retiring [] [] [] []
-    ∷ row Blocks [] [] [] []
-    ∷ row Reads [] [] [] []
-    ∷ row Counts [] [] [] []
-    ∷ row Due [] [] [] []
-    ∷ row Room [] [] [] []
-    ∷ row Eras [] [] [] (1 ∷ 9 ∷ [])
-    ∷ row Moves [] [] [] []
-    ∷ row BirthsCurrent [] [] [] []
-    ∷ row Births [] [] [] []
-    ∷ row RetiresCurrent [] [] [] []
-    ∷ row ReservesCurrent [] [] [] (1 ∷ 9 ∷ [])
-    ∷ row SpansRise [] [] [] []
-    ∷ row Guards [] [] [] []
-    ∷ row Throughout (3 ∷ 9 ∷ 12 ∷ []) [] (9 ∷ 12 ∷ []) (2 ∷ 3 ∷ 10 ∷ [])
-    ∷ row Sources (0 ∷ 4 ∷ []) [] [] (2 ∷ 4 ∷ 10 ∷ [])
-    ∷ row Finds (2 ∷ 10 ∷ []) [] (7 ∷ []) []
-    ∷ row Gots (4 ∷ 5 ∷ 10 ∷ []) [] (4 ∷ 10 ∷ 11 ∷ []) (4 ∷ 10 ∷ 11 ∷ [])
-    ∷ row Links [] (4 ∷ []) [] []
-    ∷ row Follows [] [] [] []
-    ∷ row Behind [] [] [] []
-    ∷ row Bare (12 ∷ []) [] [] (2 ∷ [])
-    ∷ row Rests (6 ∷ 13 ∷ []) [] (6 ∷ 13 ∷ []) (6 ∷ 13 ∷ [])
-    ∷ row Map (5 ∷ []) (5 ∷ []) [] (5 ∷ 11 ∷ [])
-    ∷ row Queue [] [] [] []
-    ∷ row Steps [] [] [] []
-    ∷ row Helpers [] [] [] []
-    ∷ row ErasRise (6 ∷ []) (1 ∷ 9 ∷ []) [] (6 ∷ 13 ∷ [])
-    ∷ row Raises [] [] [] []
-    ∷ row CallSteps [] [] [] []
-    ∷ row Told (0 ∷ 5 ∷ 8 ∷ 11 ∷ []) (5 ∷ 11 ∷ []) (7 ∷ []) (0 ∷ 5 ∷ 8 ∷ 11 ∷ 14 ∷ [])
-    ∷ row Reasons [] [] [] []
-    ∷ row Full [] [] [] []
-    ∷ row Lacks [] [] [] []
-    ∷ row Retires [] [] [] []
-    ∷ row Refusals (8 ∷ []) [] [] []
-    ∷ row Clock [] [] [] (7 ∷ [])
-    ∷ row Times [] [] [] []
-    ∷ row Repeats [] (10 ∷ []) [] []
-    ∷ row InCalls (0 ∷ 7 ∷ 8 ∷ []) (0 ∷ 7 ∷ 8 ∷ 14 ∷ []) (0 ∷ 6 ∷ 7 ∷ 8 ∷ 13 ∷ []) [] ∷ []
+    row Reuse [] [] [] (2 ∷ []) []
+    ∷ row Clears (10 ∷ []) (12 ∷ []) [] (10 ∷ 12 ∷ []) []
+    ∷ row Indexes (0 ∷ []) [] [] [] []
+    ∷ row Free [] (3 ∷ []) [] [] []
+    ∷ row Back [] [] [] [] []
+    ∷ row Placing (3 ∷ 4 ∷ []) (3 ∷ 4 ∷ []) (3 ∷ []) (3 ∷ 4 ∷ []) []
+    ∷ row Order (4 ∷ 5 ∷ []) (4 ∷ 5 ∷ []) (3 ∷ 4 ∷ 5 ∷ []) [] []
+    ∷ row Nexts [] [] [] [] []
+    ∷ row Retiring [] [] [] [] []
+    ∷ row Blocks [] [] [] [] []
+    ∷ row Reads [] [] [] [] []
+    ∷ row Counts [] [] [] [] []
+    ∷ row Due [] [] [] [] []
+    ∷ row Room [] [] [] [] []
+    ∷ row Eras [] [] [] (1 ∷ 9 ∷ []) []
+    ∷ row Moves [] [] [] [] []
+    ∷ row BirthsCurrent [] [] [] [] []
+    ∷ row Births [] [] [] [] []
+    ∷ row RetiresCurrent [] [] [] [] []
+    ∷ row ReservesCurrent [] [] [] (1 ∷ 9 ∷ []) []
+    ∷ row SpansRise [] [] [] [] []
+    ∷ row Guards [] [] [] [] []
+    ∷ row Throughout (3 ∷ 9 ∷ 12 ∷ []) [] (9 ∷ 12 ∷ []) (2 ∷ 3 ∷ 10 ∷ []) []
+    ∷ row Sources (0 ∷ 4 ∷ []) [] [] (2 ∷ 4 ∷ 10 ∷ []) []
+    ∷ row Finds (2 ∷ 10 ∷ []) [] (7 ∷ []) [] []
+    ∷ row Gots (4 ∷ 5 ∷ 10 ∷ []) [] (4 ∷ 10 ∷ 11 ∷ []) (4 ∷ 10 ∷ 11 ∷ []) []
+    ∷ row Links [] (4 ∷ []) [] [] []
+    ∷ row Follows [] [] [] [] []
+    ∷ row Behind [] [] [] [] []
+    ∷ row Bare (12 ∷ []) [] [] (2 ∷ []) []
+    ∷ row Rests (6 ∷ 13 ∷ []) [] (6 ∷ 13 ∷ []) (6 ∷ 13 ∷ []) []
+    ∷ row Map (5 ∷ []) (5 ∷ []) [] (5 ∷ 11 ∷ []) []
+    ∷ row Queue [] [] [] [] []
+    ∷ row Steps [] [] [] [] []
+    ∷ row Helpers [] [] [] [] []
+    ∷ row ErasRise (6 ∷ []) (1 ∷ 9 ∷ []) [] (6 ∷ 13 ∷ []) []
+    ∷ row Raises [] [] [] [] []
+    ∷ row CallSteps [] [] [] [] []
+    ∷ row Told (0 ∷ 5 ∷ 8 ∷ 11 ∷ []) (5 ∷ 11 ∷ []) (7 ∷ []) (0 ∷ 5 ∷ 8 ∷ 11 ∷ 14 ∷ []) []
+    ∷ row Reasons [] [] [] [] []
+    ∷ row Full [] [] [] [] []
+    ∷ row Lacks [] [] [] [] []
+    ∷ row Retires [] [] [] [] []
+    ∷ row Refusals (8 ∷ []) [] [] [] []
+    ∷ row Clock [] [] [] (7 ∷ []) []
+    ∷ row Times [] [] [] [] []
+    ∷ row Repeats [] (10 ∷ []) [] [] []
+    ∷ row InCalls (0 ∷ 7 ∷ 8 ∷ []) (0 ∷ 7 ∷ 8 ∷ 14 ∷ []) (0 ∷ 6 ∷ 7 ∷ 8 ∷ 13 ∷ []) [] [] ∷ []
 
 abbrev pub PutThenGetWorked : Type 0
 PutThenGetWorked = IsWorked put_then_get_setting put_then_get_items put_then_get put_then_get_table

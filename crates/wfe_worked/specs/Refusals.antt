@@ -7,7 +7,7 @@ use Rattle.wfe_laws.specs.Record.{Test, EachEntry, tells}
 use Rattle.wfe_laws.specs.Record.Past.{Start}
 use Rattle.wfe_history.specs.History.{Item, record_of}
 use Rattle.wfe_history.specs.Among.{entries}
-use Rattle.wfe_worked.specs.Altered.{altered}
+use Rattle.wfe_worked.specs.Altered.{altered, slowed}
 use Rattle.wfe_worked.specs.Changed.{doubled, dropped, reads, refused, swapped}
 use Rattle.wfe_worked.specs.Judges.{Law, test_of}
 use Rattle.wfe_worked.specs.Judges.Law.{Reuse, Clears, Indexes, Free, Back, Placing, Order, Nexts, Retiring, Blocks, Reads, Counts, Due, Room, Eras, Moves, BirthsCurrent, Births, RetiresCurrent, ReservesCurrent, SpansRise, Guards, Throughout, Sources, Finds, Gots, Links, Follows, Behind, Bare, Rests, Map, Queue, Steps, Helpers, ErasRise, Raises, CallSteps, Told, Reasons, Full, Lacks, Retires, Refusals, Clock, Times, Repeats, InCalls}
@@ -23,12 +23,13 @@ pub record Row : Type 0 where
   pub doubled : List ℕ
   pub swapped : List ℕ
   pub altered : List ℕ
+  pub slowed : List ℕ
 
-abbrev pub row : Law → (dropped doubled swapped altered : List ℕ) → Row
-row law d t s a = record { law = law; dropped = d; doubled = t; swapped = s; altered = a }
+abbrev pub row : Law → (dropped doubled swapped altered slowed : List ℕ) → Row
+row law d t s a n = record { law = law; dropped = d; doubled = t; swapped = s; altered = a; slowed = n }
 
 abbrev pub row_of : Config → List Entry → Law → Row
-row_of c lines law = row law (refused (test_of c law) dropped lines) (refused (test_of c law) doubled lines) (refused (test_of c law) swapped lines) (refused (test_of c law) altered lines)
+row_of c lines law = row law (refused (test_of c law) dropped lines) (refused (test_of c law) doubled lines) (refused (test_of c law) swapped lines) (refused (test_of c law) altered lines) (refused (test_of c law) slowed lines)
 
 abbrev pub rows_of : Config → List Entry → List Law → List Row
 rows_of c lines [] = []

@@ -1,12 +1,13 @@
 //! Worked records. Each is told by a history, each law takes it, and a table says where each law
-//! refuses it once one line is dropped, told twice, told after the next one, or altered. So a reader
-//! sees what the laws tell apart. Each function here does nothing, and carries a theorem.
+//! refuses it once one line is dropped, told twice, told after the next one, altered, or slowed. So a
+//! reader sees what the laws tell apart. Each function here does nothing, and carries a theorem.
 #![tactic(auto)]
 
 ghost use Rattle.wfe_worked.specs.Full.{FullWorked};
 ghost use Rattle.wfe_worked.specs.Helped.{HelpedWorked};
 ghost use Rattle.wfe_worked.specs.Intervals.{IntervalsWorked};
 ghost use Rattle.wfe_worked.specs.Kept.{KeptWorked};
+ghost use Rattle.wfe_worked.specs.Moved.{MovedWorked};
 ghost use Rattle.wfe_worked.specs.PutThenGet.{PutThenGetWorked};
 ghost use Rattle.wfe_worked.specs.Queued.{QueuedWorked};
 ghost use Rattle.wfe_worked.specs.Spent.{SpentWorked};
@@ -51,4 +52,9 @@ pub fn a_full_table_is_worked()
 /// A bucket and the queue have come to their last version and number.
 pub fn spent_numbers_are_worked()
     ensures { SpentWorked }
+{}
+
+/// Another seat moves the clock first, and then the clock has come to its last era.
+pub fn a_clock_that_others_move_is_worked()
+    ensures { MovedWorked }
 {}
