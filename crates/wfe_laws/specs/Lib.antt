@@ -1,4 +1,3 @@
-pub mod AnswerLaw
 pub mod MapLaw
 pub mod Record
 pub mod Schedule

@@ -41,6 +41,7 @@ use Rattle.wfe_turn_counts.proofs.Due as due_words
 use Rattle.wfe_turn_counts.proofs.Helping as helping
 use Rattle.wfe_turn_counts.proofs.Raised as raised
 use Rattle.wfe_turn_counts.proofs.Underway as underway
+use Rattle.wfe_asking.proofs.Kept as asking
 use Rattle.wfe_call_counts.proofs.Ends as call_counts
 use Rattle.wfe_open_calls.proofs.Keeps as open_calls
 use Rattle.wfe_few_retired.proofs.Few as few
@@ -100,6 +101,8 @@ histories_are_lawful layout items valid =
         lasts = λ f j. underway.protections_last layout items j valid f;
         withdrawals = due_words.withdrawals_follow layout items valid;
         helpers = helping.records_keep_helpers layout items valid;
+        shows = asking.records_show_late layout items valid;
+        takes = asking.records_take_late layout items valid;
         eras_rise = rising.records_raise_eras layout items valid;
         tries = tries.tries_count layout items valid;
         raises = raised.records_keep_raises layout items valid;

@@ -15,6 +15,7 @@ use Rattle.wfe_turn_counts.specs.Raising.{RaiseLaw}
 use Rattle.wfe_turn_counts.specs.Underway.{lasts_right}
 use Rattle.wfe_turn_counts.specs.Withdrawing.{withdrawn_right}
 use Rattle.wfe_call_counts.specs.Ends.{EndLaw}
+use Rattle.wfe_asking.specs.Asking.{ShowLaw, TakeLaw}
 
 -- Bounds and counts of steps, as the turns of the history and its record show them.
 pub record StepLaw (config : Config) (history : History) (r : Past) : Type 0 where
@@ -29,6 +30,11 @@ pub record StepLaw (config : Config) (history : History) (r : Past) : Type 0 whe
   pub withdrawals : EachTurn withdrawn_right history
   -- under Wait-Free Eras a helper word publishes only once the tries of a protection under way have failed
   pub helpers : is_wfe config.scheme ≡ true → HelperLaw config.tries r
+  -- under Wait-Free Eras a seat shows an era in a helper word only where its call may move the clock, or its tries have failed
+  pub shows : is_wfe config.scheme ≡ true → ShowLaw config r
+  -- under Wait-Free Eras a seat whose helper word shows an era publishes an index word of its own only where its tries there have
+  -- failed
+  pub takes : is_wfe config.scheme ≡ true → TakeLaw config.tries r
   -- the eras that a seat whose helper word publishes nothing tells of an index word rise until that publishes nothing
   pub eras_rise : ErasRise r
   -- under Hazard Eras a Held or Null tells three steps for each era that its index word published, and one, and a Held at index 1
@@ -36,5 +42,5 @@ pub record StepLaw (config : Config) (history : History) (r : Past) : Type 0 whe
   pub tries : is_he config.scheme ≡ true → EachTurn tries_right history
   -- under 2GE a Held or Null tells two steps, and three for each time that the interval was raised, and a Held at index 1 one more
   pub raises : is_ibr config.scheme ≡ true → RaiseLaw r
-  -- the steps of releases, scans and moves of the clock, and under Wait-Free Eras of holds and gets
+  -- the steps of releases, scans and advances, and under Wait-Free Eras of holds and gets
   pub calls : EndLaw config r

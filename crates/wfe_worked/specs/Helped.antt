@@ -12,7 +12,7 @@ use Rattle.wfe_defs.specs.declared.event.Root.TheVariants as roots
 use Rattle.wfe_core.specs.Guards.{from_to}
 use Rattle.wfe_history.specs.History.{Item, times}
 use Rattle.wfe_history.specs.Among.{call, said, setting, to_end}
-use Rattle.wfe_worked.specs.Judges.Law.{Reuse, Clears, Indexes, Free, Back, Placing, Order, Nexts, Retiring, Blocks, Reads, Counts, Due, Room, Eras, Moves, BirthsCurrent, Births, RetiresCurrent, ReservesCurrent, SpansRise, Guards, Throughout, Sources, Finds, Gots, Links, Follows, Behind, Bare, Rests, Map, Queue, Steps, Helpers, ErasRise, Raises, CallSteps, Told, Reasons, Full, Lacks, Retires, Refusals, Clock, Times, Repeats, InCalls}
+use Rattle.wfe_worked.specs.Judges.Law.{Reuse, Clears, Indexes, Free, Back, Placing, Order, Nexts, Retiring, Blocks, Reads, Counts, Due, Room, Eras, Moves, BirthsCurrent, Births, RetiresCurrent, ReservesCurrent, SpansRise, Guards, Throughout, Sources, Finds, Gots, Links, Follows, Behind, Bare, Rests, Map, Queue, Steps, Helpers, Shows, Takes, ErasRise, Raises, CallSteps, Told, Reasons, Full, Lacks, Retires, Refusals, Clock, Times, Repeats, InCalls}
 use Rattle.wfe_worked.specs.Refusals.{IsWorked, Row, row}
 
 abbrev pub helped_setting : Layout
@@ -105,6 +105,8 @@ helped_table =
     ∷ row Queue [] [] [] [] []
     ∷ row Steps [] [] [] [] (2 ∷ 19 ∷ 36 ∷ [])
     ∷ row Helpers (9 ∷ 14 ∷ []) [] [] [] []
+    ∷ row Shows (9 ∷ 14 ∷ 28 ∷ []) [] (28 ∷ []) (28 ∷ 37 ∷ []) []
+    ∷ row Takes (9 ∷ 14 ∷ 37 ∷ []) [] (35 ∷ []) (37 ∷ []) []
     ∷ row ErasRise (34 ∷ []) (1 ∷ 9 ∷ 14 ∷ 18 ∷ []) (34 ∷ []) (6 ∷ 9 ∷ 25 ∷ 41 ∷ []) []
     ∷ row Raises [] [] [] [] []
     ∷ row CallSteps [] [] (38 ∷ []) (10 ∷ 13 ∷ 28 ∷ []) (38 ∷ 42 ∷ [])

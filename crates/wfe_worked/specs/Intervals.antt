@@ -12,7 +12,7 @@ use Rattle.wfe_defs.specs.declared.event.Root.TheVariants as roots
 use Rattle.wfe_core.specs.Guards.{from_to}
 use Rattle.wfe_history.specs.History.{Item}
 use Rattle.wfe_history.specs.Among.{call, said, setting, to_end}
-use Rattle.wfe_worked.specs.Judges.Law.{Reuse, Clears, Indexes, Free, Back, Placing, Order, Nexts, Retiring, Blocks, Reads, Counts, Due, Room, Eras, Moves, BirthsCurrent, Births, RetiresCurrent, ReservesCurrent, SpansRise, Guards, Throughout, Sources, Finds, Gots, Links, Follows, Behind, Bare, Rests, Map, Queue, Steps, Helpers, ErasRise, Raises, CallSteps, Told, Reasons, Full, Lacks, Retires, Refusals, Clock, Times, Repeats, InCalls}
+use Rattle.wfe_worked.specs.Judges.Law.{Reuse, Clears, Indexes, Free, Back, Placing, Order, Nexts, Retiring, Blocks, Reads, Counts, Due, Room, Eras, Moves, BirthsCurrent, Births, RetiresCurrent, ReservesCurrent, SpansRise, Guards, Throughout, Sources, Finds, Gots, Links, Follows, Behind, Bare, Rests, Map, Queue, Steps, Helpers, Shows, Takes, ErasRise, Raises, CallSteps, Told, Reasons, Full, Lacks, Retires, Refusals, Clock, Times, Repeats, InCalls}
 use Rattle.wfe_worked.specs.Refusals.{IsWorked, Row, row}
 
 abbrev pub intervals_setting : Layout
@@ -106,6 +106,8 @@ intervals_table =
     ∷ row Queue [] [] [] [] []
     ∷ row Steps [] [] [] [] []
     ∷ row Helpers [] [] [] [] []
+    ∷ row Shows [] [] [] [] []
+    ∷ row Takes [] [] [] [] []
     ∷ row ErasRise [] [] [] [] []
     ∷ row Raises (6 ∷ 9 ∷ 16 ∷ []) (1 ∷ 9 ∷ 16 ∷ 17 ∷ 22 ∷ []) (15 ∷ 16 ∷ []) (6 ∷ []) (2 ∷ 10 ∷ 17 ∷ 23 ∷ [])
     ∷ row CallSteps (21 ∷ 42 ∷ []) (42 ∷ []) (42 ∷ []) (35 ∷ 39 ∷ []) (14 ∷ 38 ∷ 43 ∷ [])

@@ -44,6 +44,7 @@ use Rattle.wfe_full.specs.Room.{room_ok}
 use Rattle.wfe_repeats.specs.Repeats.{repeats_ok}
 use Rattle.wfe_turn_counts.specs.Helping.{helper_ok}
 use Rattle.wfe_turn_counts.specs.Raising.{raise_ok}
+use Rattle.wfe_asking.specs.Asking.{shows_ok, takes_ok}
 use Rattle.wfe_call_counts.specs.Ends.{end_ok}
 use Rattle.wfe_open_calls.specs.Open.{open_ok}
 use Rattle.wfe_current.specs.Current.{birth_current, reserve_current, retire_current}
@@ -86,6 +87,8 @@ pub data Law : Type 0 where
   Queue : Law
   Steps : Law
   Helpers : Law
+  Shows : Law
+  Takes : Law
   ErasRise : Law
   Raises : Law
   CallSteps : Law
@@ -151,6 +154,16 @@ helpers_by Wfe tries p i e = helper_ok tries 0 p i e && helper_ok tries 1 p i e 
 helpers_by He tries p i e = true
 helpers_by Ibr tries p i e = true
 
+abbrev shows_by : SchemeKind → Config → Test
+shows_by Wfe c p i e = shows_ok c p i e
+shows_by He c p i e = true
+shows_by Ibr c p i e = true
+
+abbrev takes_by : SchemeKind → ℕ → Test
+takes_by Wfe tries p i e = takes_ok tries p i e
+takes_by He tries p i e = true
+takes_by Ibr tries p i e = true
+
 abbrev raises_by : SchemeKind → Test
 raises_by Ibr p i e = raise_ok p i e
 raises_by He p i e = true
@@ -192,6 +205,8 @@ test_of c Map p i e = map_ok c.buckets p i e
 test_of c Queue p i e = queue_ok p i e
 test_of c Steps p i e = steps_by c.scheme c.tries p i e
 test_of c Helpers p i e = helpers_by c.scheme c.tries p i e
+test_of c Shows p i e = shows_by c.scheme c p i e
+test_of c Takes p i e = takes_by c.scheme c.tries p i e
 test_of c ErasRise p i e = era_rises p i e
 test_of c Raises p i e = raises_by c.scheme p i e
 test_of c CallSteps p i e = end_ok c p i e

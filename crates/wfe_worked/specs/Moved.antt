@@ -9,7 +9,7 @@ use Rattle.wfe_defs.specs.declared.call.ClockMove.TheVariants as moves
 use Rattle.wfe_defs.specs.declared.event.Event.TheVariants as events
 use Rattle.wfe_history.specs.History.{Item, times}
 use Rattle.wfe_history.specs.Among.{call, said, setting, to_end}
-use Rattle.wfe_worked.specs.Judges.Law.{Reuse, Clears, Indexes, Free, Back, Placing, Order, Nexts, Retiring, Blocks, Reads, Counts, Due, Room, Eras, Moves, BirthsCurrent, Births, RetiresCurrent, ReservesCurrent, SpansRise, Guards, Throughout, Sources, Finds, Gots, Links, Follows, Behind, Bare, Rests, Map, Queue, Steps, Helpers, ErasRise, Raises, CallSteps, Told, Reasons, Full, Lacks, Retires, Refusals, Clock, Times, Repeats, InCalls}
+use Rattle.wfe_worked.specs.Judges.Law.{Reuse, Clears, Indexes, Free, Back, Placing, Order, Nexts, Retiring, Blocks, Reads, Counts, Due, Room, Eras, Moves, BirthsCurrent, Births, RetiresCurrent, ReservesCurrent, SpansRise, Guards, Throughout, Sources, Finds, Gots, Links, Follows, Behind, Bare, Rests, Map, Queue, Steps, Helpers, Shows, Takes, ErasRise, Raises, CallSteps, Told, Reasons, Full, Lacks, Retires, Refusals, Clock, Times, Repeats, InCalls}
 use Rattle.wfe_worked.specs.Refusals.{IsWorked, Row, row}
 
 abbrev pub moved_setting : Layout
@@ -69,6 +69,8 @@ moved_table =
     ∷ row Queue [] [] [] [] []
     ∷ row Steps [] [] [] [] []
     ∷ row Helpers [] [] [] [] []
+    ∷ row Shows [] [] [] [] []
+    ∷ row Takes [] [] [] [] []
     ∷ row ErasRise [] [] [] [] []
     ∷ row Raises [] [] [] [] []
     ∷ row CallSteps [] [] [] (0 ∷ 1 ∷ 5 ∷ 8 ∷ 9 ∷ []) (3 ∷ 4 ∷ 7 ∷ 9 ∷ [])

@@ -12,7 +12,7 @@ use Rattle.wfe_defs.specs.declared.event.Root.TheVariants as roots
 use Rattle.wfe_core.specs.Guards.{from_to}
 use Rattle.wfe_history.specs.History.{Item}
 use Rattle.wfe_history.specs.Among.{call, said, setting, to_end}
-use Rattle.wfe_worked.specs.Judges.Law.{Reuse, Clears, Indexes, Free, Back, Placing, Order, Nexts, Retiring, Blocks, Reads, Counts, Due, Room, Eras, Moves, BirthsCurrent, Births, RetiresCurrent, ReservesCurrent, SpansRise, Guards, Throughout, Sources, Finds, Gots, Links, Follows, Behind, Bare, Rests, Map, Queue, Steps, Helpers, ErasRise, Raises, CallSteps, Told, Reasons, Full, Lacks, Retires, Refusals, Clock, Times, Repeats, InCalls}
+use Rattle.wfe_worked.specs.Judges.Law.{Reuse, Clears, Indexes, Free, Back, Placing, Order, Nexts, Retiring, Blocks, Reads, Counts, Due, Room, Eras, Moves, BirthsCurrent, Births, RetiresCurrent, ReservesCurrent, SpansRise, Guards, Throughout, Sources, Finds, Gots, Links, Follows, Behind, Bare, Rests, Map, Queue, Steps, Helpers, Shows, Takes, ErasRise, Raises, CallSteps, Told, Reasons, Full, Lacks, Retires, Refusals, Clock, Times, Repeats, InCalls}
 use Rattle.wfe_worked.specs.Refusals.{IsWorked, Row, row}
 
 abbrev pub put_then_get_setting : Layout
@@ -77,6 +77,8 @@ put_then_get_table =
     ∷ row Queue [] [] [] [] []
     ∷ row Steps [] [] [] [] []
     ∷ row Helpers [] [] [] [] []
+    ∷ row Shows [] [] [] [] []
+    ∷ row Takes [] [] [] [] []
     ∷ row ErasRise (6 ∷ []) (1 ∷ 9 ∷ []) [] (6 ∷ 13 ∷ []) []
     ∷ row Raises [] [] [] [] []
     ∷ row CallSteps [] [] [] [] []

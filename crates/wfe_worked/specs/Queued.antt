@@ -12,7 +12,7 @@ use Rattle.wfe_defs.specs.declared.event.Root.TheVariants as roots
 use Rattle.wfe_core.specs.Guards.{from_to}
 use Rattle.wfe_history.specs.History.{Item}
 use Rattle.wfe_history.specs.Among.{call, said, setting, to_end}
-use Rattle.wfe_worked.specs.Judges.Law.{Reuse, Clears, Indexes, Free, Back, Placing, Order, Nexts, Retiring, Blocks, Reads, Counts, Due, Room, Eras, Moves, BirthsCurrent, Births, RetiresCurrent, ReservesCurrent, SpansRise, Guards, Throughout, Sources, Finds, Gots, Links, Follows, Behind, Bare, Rests, Map, Queue, Steps, Helpers, ErasRise, Raises, CallSteps, Told, Reasons, Full, Lacks, Retires, Refusals, Clock, Times, Repeats, InCalls}
+use Rattle.wfe_worked.specs.Judges.Law.{Reuse, Clears, Indexes, Free, Back, Placing, Order, Nexts, Retiring, Blocks, Reads, Counts, Due, Room, Eras, Moves, BirthsCurrent, Births, RetiresCurrent, ReservesCurrent, SpansRise, Guards, Throughout, Sources, Finds, Gots, Links, Follows, Behind, Bare, Rests, Map, Queue, Steps, Helpers, Shows, Takes, ErasRise, Raises, CallSteps, Told, Reasons, Full, Lacks, Retires, Refusals, Clock, Times, Repeats, InCalls}
 use Rattle.wfe_worked.specs.Refusals.{IsWorked, Row, row}
 
 abbrev pub queued_setting : Layout
@@ -119,6 +119,8 @@ queued_table =
     ∷ row Queue (5 ∷ 15 ∷ 27 ∷ []) (5 ∷ 15 ∷ 27 ∷ 41 ∷ []) [] (5 ∷ 15 ∷ 27 ∷ 41 ∷ []) []
     ∷ row Steps [] [] [] [] []
     ∷ row Helpers [] [] [] [] []
+    ∷ row Shows [] [] [] [] []
+    ∷ row Takes [] [] [] [] []
     ∷ row ErasRise (8 ∷ 18 ∷ 29 ∷ 31 ∷ 43 ∷ 45 ∷ []) (1 ∷ 11 ∷ 21 ∷ 23 ∷ 35 ∷ 37 ∷ 49 ∷ 51 ∷ []) [] (8 ∷ 18 ∷ 29 ∷ 31 ∷ 43 ∷ 45 ∷ 53 ∷ 55 ∷ []) []
     ∷ row Raises [] [] [] [] []
     ∷ row CallSteps [] [] [] (20 ∷ 34 ∷ 48 ∷ []) []

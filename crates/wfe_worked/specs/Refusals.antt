@@ -10,11 +10,11 @@ use Rattle.wfe_history.specs.Among.{entries}
 use Rattle.wfe_worked.specs.Altered.{altered, slowed}
 use Rattle.wfe_worked.specs.Changed.{doubled, dropped, reads, refused, swapped}
 use Rattle.wfe_worked.specs.Judges.{Law, test_of}
-use Rattle.wfe_worked.specs.Judges.Law.{Reuse, Clears, Indexes, Free, Back, Placing, Order, Nexts, Retiring, Blocks, Reads, Counts, Due, Room, Eras, Moves, BirthsCurrent, Births, RetiresCurrent, ReservesCurrent, SpansRise, Guards, Throughout, Sources, Finds, Gots, Links, Follows, Behind, Bare, Rests, Map, Queue, Steps, Helpers, ErasRise, Raises, CallSteps, Told, Reasons, Full, Lacks, Retires, Refusals, Clock, Times, Repeats, InCalls}
+use Rattle.wfe_worked.specs.Judges.Law.{Reuse, Clears, Indexes, Free, Back, Placing, Order, Nexts, Retiring, Blocks, Reads, Counts, Due, Room, Eras, Moves, BirthsCurrent, Births, RetiresCurrent, ReservesCurrent, SpansRise, Guards, Throughout, Sources, Finds, Gots, Links, Follows, Behind, Bare, Rests, Map, Queue, Steps, Helpers, Shows, Takes, ErasRise, Raises, CallSteps, Told, Reasons, Full, Lacks, Retires, Refusals, Clock, Times, Repeats, InCalls}
 
 -- all laws on records
 abbrev pub laws : List Law
-laws = Reuse ∷ Clears ∷ Indexes ∷ Free ∷ Back ∷ Placing ∷ Order ∷ Nexts ∷ Retiring ∷ Blocks ∷ Reads ∷ Counts ∷ Due ∷ Room ∷ Eras ∷ Moves ∷ BirthsCurrent ∷ Births ∷ RetiresCurrent ∷ ReservesCurrent ∷ SpansRise ∷ Guards ∷ Throughout ∷ Sources ∷ Finds ∷ Gots ∷ Links ∷ Follows ∷ Behind ∷ Bare ∷ Rests ∷ Map ∷ Queue ∷ Steps ∷ Helpers ∷ ErasRise ∷ Raises ∷ CallSteps ∷ Told ∷ Reasons ∷ Full ∷ Lacks ∷ Retires ∷ Refusals ∷ Clock ∷ Times ∷ Repeats ∷ InCalls ∷ []
+laws = Reuse ∷ Clears ∷ Indexes ∷ Free ∷ Back ∷ Placing ∷ Order ∷ Nexts ∷ Retiring ∷ Blocks ∷ Reads ∷ Counts ∷ Due ∷ Room ∷ Eras ∷ Moves ∷ BirthsCurrent ∷ Births ∷ RetiresCurrent ∷ ReservesCurrent ∷ SpansRise ∷ Guards ∷ Throughout ∷ Sources ∷ Finds ∷ Gots ∷ Links ∷ Follows ∷ Behind ∷ Bare ∷ Rests ∷ Map ∷ Queue ∷ Steps ∷ Helpers ∷ Shows ∷ Takes ∷ ErasRise ∷ Raises ∷ CallSteps ∷ Told ∷ Reasons ∷ Full ∷ Lacks ∷ Retires ∷ Refusals ∷ Clock ∷ Times ∷ Repeats ∷ InCalls ∷ []
 
 -- of a law the places of a record, counted from 0, at which it refuses the record once the line there is changed
 pub record Row : Type 0 where

@@ -12,7 +12,7 @@ use Rattle.wfe_defs.specs.declared.event.Root.TheVariants as roots
 use Rattle.wfe_core.specs.Guards.{from_to}
 use Rattle.wfe_history.specs.History.{Item}
 use Rattle.wfe_history.specs.Among.{call, said, setting, to_end}
-use Rattle.wfe_worked.specs.Judges.Law.{Reuse, Clears, Indexes, Free, Back, Placing, Order, Nexts, Retiring, Blocks, Reads, Counts, Due, Room, Eras, Moves, BirthsCurrent, Births, RetiresCurrent, ReservesCurrent, SpansRise, Guards, Throughout, Sources, Finds, Gots, Links, Follows, Behind, Bare, Rests, Map, Queue, Steps, Helpers, ErasRise, Raises, CallSteps, Told, Reasons, Full, Lacks, Retires, Refusals, Clock, Times, Repeats, InCalls}
+use Rattle.wfe_worked.specs.Judges.Law.{Reuse, Clears, Indexes, Free, Back, Placing, Order, Nexts, Retiring, Blocks, Reads, Counts, Due, Room, Eras, Moves, BirthsCurrent, Births, RetiresCurrent, ReservesCurrent, SpansRise, Guards, Throughout, Sources, Finds, Gots, Links, Follows, Behind, Bare, Rests, Map, Queue, Steps, Helpers, Shows, Takes, ErasRise, Raises, CallSteps, Told, Reasons, Full, Lacks, Retires, Refusals, Clock, Times, Repeats, InCalls}
 use Rattle.wfe_worked.specs.Refusals.{IsWorked, Row, row}
 
 abbrev pub spent_setting : Layout
@@ -118,6 +118,8 @@ spent_table =
     ∷ row Queue (41 ∷ []) (41 ∷ 51 ∷ []) [] (41 ∷ 51 ∷ []) []
     ∷ row Steps [] [] [] [] []
     ∷ row Helpers [] [] [] [] []
+    ∷ row Shows [] [] [] [] []
+    ∷ row Takes [] [] [] [] []
     ∷ row ErasRise (11 ∷ 21 ∷ 28 ∷ 34 ∷ 44 ∷ []) (1 ∷ 6 ∷ 14 ∷ 25 ∷ 31 ∷ 37 ∷ 47 ∷ []) [] (3 ∷ 11 ∷ 21 ∷ 28 ∷ 34 ∷ 44 ∷ 54 ∷ []) []
     ∷ row Raises [] [] [] [] []
     ∷ row CallSteps [] [] [] [] []
