@@ -1,7 +1,7 @@
 -- The record of each history keeps the law of answers.
 use Rattle.std.proofs.Common.{ℕ, ◌≡◌, ◌<◌, ◌%◌, Bool, true, false, List, [], ◌∷◌, ◌++◌, Option, Some, None, refl, sym, ap, ◌∙◌, subst, arith}
 use Rattle.std.proofs.lemmas.Bool.Decides.{nat_tests}
-use Rattle.std.specs.Prelude.{◌==◌, ◌&&◌, not, nat_lt}
+use Rattle.std.specs.Prelude.{◌==◌, ◌&&◌}
 use Rattle.wfe_words.specs.Place.{is_valid}
 use Rattle.wfe_words.specs.declared.layout.Layout.{Layout}
 use Rattle.wfe_defs.specs.declared.call.Answer.{Answer}
@@ -17,16 +17,17 @@ use Rattle.wfe_core.specs.Posts.{counted}
 use Rattle.wfe_core.specs.Steps.{first_phase}
 use Rattle.wfe_core.specs.Calls.{CallTurn, CallOutcome, GoesOn, Answers}
 use Rattle.wfe_core.specs.World.{World, begin, step, finds, is_busy, told_in}
+use Rattle.wfe_core.proofs.Facts.{both, first_of, rest_of}
 use Rattle.wfe_eras.proofs.Frame.{seat_stays, seat_steps, begin_stays, begin_begins}
 use Rattle.wfe_laws.specs.MapLaw.{same_value}
 use Rattle.wfe_laws.specs.Record.{Past, Each, tells_of}
 use Rattle.wfe_laws.specs.Record.Past.{Then}
 use Rattle.wfe_laws.proofs.Entries.{entries_of_each}
-use Rattle.wfe_history.specs.History.{Item, Begins, Steps, Made, fits, done_if, did, done, made_from, first_made, record_of}
+use Rattle.wfe_history.specs.History.{Begins, Steps, Made, fits, done, first_made, record_of}
+use Rattle.wfe_history.proofs.Along.{Steady, items_keep}
 use Rattle.wfe_inv.specs.Inv.{Inv}
 use Rattle.wfe_inv.proofs.Begun.{inv_start, inv_begin}
 use Rattle.wfe_inv.proofs.Kept.{inv_kept}
-use Rattle.wfe_reuse.proofs.Passes.{both, first_of, rest_of}
 use Rattle.wfe_answers.specs.AnswersTold.{began_by, began_of, with_told, told_of, owes, suits, same_told, answer_right, answers_ok, RecordsKeepAnswers}
 use Rattle.wfe_lawful.proofs.Each.{all_of}
 use Rattle.wfe_lawful.proofs.Machines.{is_within, told_within, end_still}
@@ -202,13 +203,6 @@ begin_right n w i k call p false e g =
     (subst (λ (x : Option Call). Right n (w.seat k) x (told_of k (Then p i (events.Begin call)))) (sym (other_began k i p (events.Begin call) e))
     (subst (λ (x : List Event). Right n (w.seat k) (began_of k p) x) (sym (other_entry k i p (events.Begin call) e)) (g k)))
 
-begins_right : (seat seats : ℕ) (busy : Bool) → (nat_lt seat seats && not busy) ≡ true → busy ≡ false
-begins_right seat seats true h = absurd (grind (arith, nat_tests))
-begins_right seat seats false h = refl
-
-steps_right : (seat seats : ℕ) (busy : Bool) → (nat_lt seat seats && busy) ≡ true → seat < seats
-steps_right seat seats busy h = grind (arith, nat_tests)
-
 pub begin_keeps : (n : ℕ) (made : Made) (i : ℕ) (call : Call) → is_busy made.world i ≡ false → Keeps n made → Keeps n (done made (Begins i call))
 begin_keeps n made i call f g = record { table = g.table; known = inv_begin made.world i call f g.known; seats = λ k. begin_right n made.world i k call made.past (k == i) refl g.seats; law = (refl, g.law) }
 
@@ -222,20 +216,13 @@ step_keeps n made i b y g =
       law = step_each n i (made.world.seat i).call made.past (turn (made.world.seat i) (finds made.world i)) (owed n (made.world.seat i).call (made.world.seat i).phase) (within_of made.world i) (r.began y) (r.told y) (owes_of n made.world i g.table g.known (r.serves y)) g.law;
     }
 
-item_keeps : (n : ℕ) (made : Made) (item : Item) (fit : Bool) → fits made.world item ≡ fit → Keeps n made → Keeps n (done_if made item fit)
-item_keeps n made item false f g = g
-item_keeps n made (Begins i call) true f g = begin_keeps n made i call (begins_right i made.world.layout.config.seats (is_busy made.world i) f) g
-item_keeps n made (Steps i) true f g =
-    step_keeps n made i (steps_right i made.world.layout.config.seats (is_busy made.world i) f) (rest_of (nat_lt i made.world.layout.config.seats) (is_busy made.world i) f) g
-
-items_keep : (n : ℕ) (items : List Item) (made : Made) → Keeps n made → Keeps n (made_from made items)
-items_keep n [] made g = g
-items_keep n (item ∷ items) made g = items_keep n items (did made item) (item_keeps n made item (fits made.world item) refl g)
+steady : (n : ℕ) → Steady (Keeps n)
+steady n = record { begins = λ made i call b y g. begin_keeps n made i call y g; steps = λ made i b y g. step_keeps n made i b y g }
 
 pub first_keeps : (layout : Layout) → is_valid layout ≡ true → Keeps layout.config.buckets (first_made layout)
 first_keeps layout d = record { table = refl; known = inv_start layout d; seats = λ k. record { began = λ b. absurd (cc); told = λ b. absurd (cc); serves = λ b. absurd (cc) }; law = tt }
 
 pub records_keep_answers : RecordsKeepAnswers
 records_keep_answers layout items d =
-    let g = items_keep layout.config.buckets items (first_made layout) (first_keeps layout d) in
+    let g = items_keep (Keeps layout.config.buckets) (steady layout.config.buckets) items (first_made layout) (first_keeps layout d) in
     entries_of_each (answers_ok layout.config.buckets) (record_of layout items) g.law

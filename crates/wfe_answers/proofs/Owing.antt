@@ -37,7 +37,7 @@ use Rattle.wfe_core.specs.Phases.{Base, Ending, Outcome, Goes, Ends}
 use Rattle.wfe_core.specs.Phases.Ending.{Done, Protected, Followed, Allocated, Retired, Clocked}
 use Rattle.wfe_core.specs.Calls.{Task, Gets, Changes, Holds, Enqueues, Dequeues, Next, Again, MakeRoom, Answering, Retiring, AfterScan, Answered, Repeated, Counted, ChangeKept, EnqueueKept, GetAt, FindVersion, FindCount, FindKey, FindValue, ChangeAt, LoadVersion, LoadCount, LoadKey, LoadValue, ExchangeRoot, EnqueueAt, LoadNumber, LoadNext, PassTail, ExchangeNext, ExchangeTail, DequeueAt, LoadTail, SwingTail, TakeNumber, TakeValue, ExchangeHead, Work, Getting, Changing, Enqueuing, Dequeuing, ScanAt, ReadGuard, GiveBack, Why, Opens, FollowsHead, Fills, ClearsNext, Clears, Finishes, GivesUp, Retires, Tidies, Advances, Releases, Phase, Idle, Runs, Scans, Works}
 use Rattle.wfe_core.proofs.Frames.{after_same}
-use Rattle.wfe_reuse.proofs.Passes.{both}
+use Rattle.wfe_core.proofs.Facts.{both}
 use Rattle.wfe_answers.specs.AnswersTold.{owes, suits}
 use Rattle.wfe_lawful.proofs.Machines.{is_still, of_along, base_machine, clear_machine}
 use Rattle.wfe_answers.proofs.Owed.{call_for, TaskServes, NextServes, LaterServes, FreeServes, WhyServes, WorkServes, Serves, next_owed, later_owed, why_owed, enqueue_owed, work_owed, owed, Told, Owes, ends_clocked, EndsFor, told_machine, told_more, told_none, clock_owes, clock_suits, is_open, loud, loud_along, append_none}

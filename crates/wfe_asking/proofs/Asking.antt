@@ -25,20 +25,20 @@ use Rattle.wfe_core.specs.Phases.ProtectAt.{LoadClock, PublishEra, LoadLink, Che
 use Rattle.wfe_core.specs.Phases.MoveAt.{LoadEra, LoadRequest, ShowEra, LoadAsked, CheckEra, AnswerAsked, LoadReserved, HandOver, HideEra, HideLate, ExchangeClock}
 use Rattle.wfe_core.specs.Phases.Base.{Begin, Protect, Reload, Clear, Finish, Release, Allocate, Write, GiveUp, Retire, Move}
 use Rattle.wfe_core.specs.Calls.{Task, Gets, Changes, Holds, Enqueues, Dequeues, AfterScan, Answered, Repeated, Counted, Why, Opens, FollowsHead, Fills, ClearsNext, Clears, Finishes, GivesUp, Retires, Tidies, Advances, Releases}
+use Rattle.wfe_core.proofs.Facts.{same_number, both, first_of, rest_of}
 use Rattle.wfe_eras.specs.Seats.{Shaped, kind_of, suits, index_by}
 use Rattle.wfe_laws.specs.Record.{Past, Test, Each, tells_of}
 use Rattle.wfe_laws.specs.Record.Past.{Then}
-use Rattle.wfe_rows.proofs.Went.{same_number}
 use Rattle.wfe_lawful.proofs.Each.{all_of}
-use Rattle.wfe_reuse.proofs.Passes.{both, first_of, rest_of, Closed}
+use Rattle.wfe_reuse.proofs.Passes.{Closed}
 use Rattle.wfe_counting.proofs.Passing.{Apart}
 use Rattle.wfe_counting.proofs.Told.{is_dull, all_dull, concluded_told, allocate_dull, retire_dull}
 use Rattle.wfe_due_scans.specs.Scans.{Course, may_move, tally_of}
 use Rattle.wfe_due_scans.proofs.Courses as courses
 use Rattle.wfe_turn_counts.specs.Underway.{tried_of}
-use Rattle.wfe_turn_counts.specs.Withdrawing.{shown_of}
+use Rattle.wfe_withdrawals.specs.Withdrawing.{shown_of}
 use Rattle.wfe_turn_counts.proofs.Trying.{base_tried}
-use Rattle.wfe_turn_counts.proofs.Withdrawing.{is_mute, all_mute, quiet_mute, clear_mute, is_plain, all_plain, allocate_plain, retire_plain, base_shows}
+use Rattle.wfe_withdrawals.proofs.Withdrawing.{is_mute, all_mute, quiet_mute, clear_mute, is_plain, all_plain, allocate_plain, retire_plain, base_shows}
 use Rattle.wfe_asking.specs.Asking.{failed_at, failed_once}
 
 -- both laws at once

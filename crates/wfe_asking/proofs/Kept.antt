@@ -20,13 +20,12 @@ use Rattle.wfe_laws.specs.Record.{Past, Each, EachEntry}
 use Rattle.wfe_laws.proofs.Entries.{entries_of_each}
 use Rattle.wfe_laws.specs.Schedule as schedule
 use Rattle.wfe_laws.specs.Schedule.{record_of}
-use Rattle.wfe_laws.specs.Schedule.History.{Starts, Turns}
-use Rattle.wfe_history.specs.History.{Item, Begins, Steps, Made, done, first_made}
+use Rattle.wfe_history.specs.History.{Item, Made}
 use Rattle.wfe_history.specs.History as histories
 use Rattle.wfe_turns.specs.Heard.{IsCounted}
 use Rattle.wfe_turns.proofs.Counted.{histories_count}
 use Rattle.wfe_reuse.proofs.Passes.{First, step_goes}
-use Rattle.wfe_counting.proofs.Along.{Around, Kept, history_keeps}
+use Rattle.wfe_one_step.proofs.Along.{Around, Kept, history_keeps}
 use Rattle.wfe_counting.proofs.Passing.{Apart}
 use Rattle.wfe_counting.specs.Protections.{turns_since}
 use Rattle.wfe_due_scans.specs.Scans.{Tally, may_move, tally_of}
@@ -35,12 +34,12 @@ use Rattle.wfe_due_scans.proofs.Keeps as scans
 use Rattle.wfe_few_retired.specs.Plain.{plain_tally}
 use Rattle.wfe_few_retired.proofs.Plain.{records_count_plainly}
 use Rattle.wfe_turn_counts.specs.Underway.{tried_of, last_of}
-use Rattle.wfe_turn_counts.specs.Withdrawing.{shown_of}
+use Rattle.wfe_withdrawals.specs.Withdrawing.{shown_of}
 use Rattle.wfe_turn_counts.proofs.Lasting.{base_apart}
 use Rattle.wfe_turn_counts.proofs.Tried.{why_tried, phase_tried}
 use Rattle.wfe_turn_counts.proofs.Underway as underway
 use Rattle.wfe_turn_counts.proofs.Underway.{Lasts}
-use Rattle.wfe_turn_counts.proofs.Withdrawing.{phase_shows}
+use Rattle.wfe_withdrawals.proofs.Withdrawing.{phase_shows}
 use Rattle.wfe_asking.specs.Asking.{failed_once, shows_ok, takes_ok, RecordsShowLate, RecordsTakeLate}
 use Rattle.wfe_asking.proofs.Asking.{Asks, asks_ok, asks_closed, Tries, base_asks, move_course, told_each}
 

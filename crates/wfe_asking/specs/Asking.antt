@@ -11,7 +11,7 @@ use Rattle.wfe_history.specs.History.{Item, record_of}
 use Rattle.wfe_due_scans.specs.Scans.{may_move}
 use Rattle.wfe_few_retired.specs.Plain.{plain_tally}
 use Rattle.wfe_turn_counts.specs.Underway.{tried_of}
-use Rattle.wfe_turn_counts.specs.Withdrawing.{shown_of}
+use Rattle.wfe_withdrawals.specs.Withdrawing.{shown_of}
 
 -- a protection of seat i at the index has published more often than it has tries
 abbrev pub failed_at : (tries seat index : ℕ) → Past → Bool

@@ -1,7 +1,6 @@
 -- Where a call ends its seat is idle, and so nothing stands at its indexes but 2.
-use Rattle.std.proofs.Common.{ℕ, ◌≡◌, ◌<◌, Bool, true, false, List, [], ◌∷◌, ◌++◌, Option, Some, None, refl, sym, ap, ◌∙◌, subst, arith}
-use Rattle.std.proofs.lemmas.Bool.Decides.{nat_tests}
-use Rattle.std.specs.Prelude.{◌==◌, ◌&&◌, ◌||◌, not, nat_lt, is_none, if◌then◌else◌}
+use Rattle.std.proofs.Common.{ℕ, ◌≡◌, ◌<◌, Bool, true, false, List, [], ◌∷◌, ◌++◌, Option, Some, None, refl, sym, ap, ◌∙◌, subst}
+use Rattle.std.specs.Prelude.{◌==◌, ◌||◌, not, nat_lt, is_none, if◌then◌else◌}
 use Rattle.wfe_words.specs.Place.{is_valid}
 use Rattle.wfe_words.specs.declared.layout.Layout.{Layout}
 use Rattle.wfe_defs.specs.declared.call.Answer.{Answer}
@@ -12,6 +11,7 @@ use Rattle.wfe_core.specs.Calls.{Phase, CallTurn, CallOutcome, GoesOn, Answers}
 use Rattle.wfe_core.specs.Locals.{told_by, told_end, turn}
 use Rattle.wfe_core.specs.Posts.{stands}
 use Rattle.wfe_core.specs.World.{World, finds, is_busy, step}
+use Rattle.wfe_core.proofs.Facts.{first_of, rest_of}
 use Rattle.wfe_covers.specs.Rests.{Vacant, vacant}
 use Rattle.wfe_covers.proofs.Held.{stepped_phase}
 use Rattle.wfe_eras.specs.Frame.{phase_left}
@@ -20,9 +20,9 @@ use Rattle.wfe_laws.specs.Record.{Past, Each, tells_of}
 use Rattle.wfe_laws.specs.Record.Past.{Then}
 use Rattle.wfe_laws.proofs.Entries.{entries_of_each}
 use Rattle.wfe_history.specs.History.{Item, Begins, Steps, Made, fits, done, done_if, did, made_from, made_of, first_made, record_of}
+use Rattle.wfe_history.proofs.Along.{begins_right, low_seat, made_snoc, steps_busy}
 use Rattle.wfe_reuse.specs.Law.{stood_at}
 use Rattle.wfe_reuse.proofs.Keeps.{record_stands}
-use Rattle.wfe_reuse.proofs.Passes.{first_of, rest_of}
 use Rattle.wfe_lawful.proofs.Each.{all_of}
 use Rattle.wfe_answers.proofs.Owed.{is_open, Owes, owed}
 use Rattle.wfe_answers.proofs.Answering.{owes_of, tells_along}
@@ -35,10 +35,6 @@ Stood made = (k j : ℕ) → stood_at k j made.past ≡ stands (made.world.seat 
 
 stood_of : (layout : Layout) (path : List Item) (made : Made) → is_valid layout ≡ true → made ≡ made_of layout path → Stood made
 stood_of layout path made d e = subst Stood (sym e) (λ k j. record_stands layout path k j d)
-
-pub made_snoc : (made : Made) (path : List Item) (item : Item) → made_from made (path ++ item ∷ []) ≡ did (made_from made path) item
-made_snoc made [] item = refl
-made_snoc made (first ∷ path) item = made_snoc (did made first) path item
 
 -- the law along what a turn tells
 open_ok : (j i : ℕ) (p : Past) (event : Event) → is_open event ≡ true → bare_ok j p i event ≡ true
@@ -75,16 +71,6 @@ record Bare (layout : Layout) (made : Made) : Type 0 where
   answers : answering.Keeps layout.config.buckets made
   law : (j : ℕ) → Each (bare_ok j) made.past
 
-begins_right : (seat seats : ℕ) (busy : Bool) → (nat_lt seat seats && not busy) ≡ true → busy ≡ false
-begins_right seat seats true h = absurd (grind (arith, nat_tests))
-begins_right seat seats false h = refl
-
-steps_right : (seat seats : ℕ) (busy : Bool) → (nat_lt seat seats && busy) ≡ true → seat < seats
-steps_right seat seats busy h = grind (arith, nat_tests)
-
-steps_busy : (seat seats : ℕ) (busy : Bool) → (nat_lt seat seats && busy) ≡ true → busy ≡ true
-steps_busy seat seats busy h = rest_of (nat_lt seat seats) busy h
-
 step_bare : (layout : Layout) (made : Made) (i : ℕ) → i < made.world.layout.config.seats → is_busy made.world i ≡ true → Stood (done made (Steps i)) → Bare layout made → Bare layout (done made (Steps i))
 step_bare layout made i b y s g =
     let w : World = made.world in
@@ -101,7 +87,7 @@ item_bare layout made item false f s g = g
 item_bare layout made (Begins i call) true f s g =
     record { answers = answering.begin_keeps layout.config.buckets made i call (begins_right i made.world.layout.config.seats (is_busy made.world i) f) g.answers; law = λ j. (refl, g.law j) }
 item_bare layout made (Steps i) true f s g =
-    step_bare layout made i (steps_right i made.world.layout.config.seats (is_busy made.world i) f) (steps_busy i made.world.layout.config.seats (is_busy made.world i) f) s g
+    step_bare layout made i (low_seat i made.world.layout.config.seats (is_busy made.world i) f) (steps_busy (nat_lt i made.world.layout.config.seats) (is_busy made.world i) f) s g
 
 items_bare : (layout : Layout) (items path : List Item) (made : Made) → is_valid layout ≡ true → made ≡ made_of layout path → Bare layout made → Bare layout (made_from made items)
 items_bare layout [] path made d e g = g

@@ -1,6 +1,5 @@
 -- The record of scans after what a step tells that is of no scan; and the desk and the phase after such a step.
-use Rattle.std.proofs.Common.{ℕ, ◌≡◌, Bool, true, false, List, [], ◌∷◌, length, refl, ap, ◌∙◌, arith}
-use Rattle.std.proofs.lemmas.Bool.Decides.{nat_tests}
+use Rattle.std.proofs.Common.{ℕ, ◌≡◌, Bool, true, false, List, [], ◌∷◌, length, refl, ap, ◌∙◌}
 use Rattle.std.specs.Prelude.{◌==◌, ◌||◌, not}
 use Rattle.wfe_words.specs.declared.config.Config.{Config}
 use Rattle.wfe_defs.specs.declared.event.Event.{Event}
@@ -14,20 +13,17 @@ use Rattle.wfe_core.specs.Machine.{after}
 use Rattle.wfe_core.specs.Phases.{Base, Ending, Outcome, Goes, Ends}
 use Rattle.wfe_core.specs.Phases.Ending.{Done, Protected, Followed, Allocated, Retired, Clocked}
 use Rattle.wfe_core.specs.Steps.{phase_turn, resumed}
+use Rattle.wfe_core.proofs.Facts.{same_number, first_of, rest_of}
 use Rattle.wfe_eras.specs.Frame.{phase_left}
 use Rattle.wfe_covers.specs.Covers.{is_fresh}
 use Rattle.wfe_covers.proofs.Fresh.{work_fresh, resume_fresh}
 use Rattle.wfe_laws.specs.Record.{Past, Each, tells_of}
 use Rattle.wfe_laws.specs.Record.Past.{Then}
-use Rattle.wfe_reuse.proofs.Passes.{first_of, rest_of}
 use Rattle.wfe_once.specs.Rows.{list_of}
 use Rattle.wfe_once.proofs.Calm.{is_unread, all_of}
 use Rattle.wfe_once.proofs.Desks.{left_desk, left_at, resumed_desk, work_desk}
 use Rattle.wfe_blocks.specs.Blocks.{read_by, read_of, is_scan, scans_of, is_over, scan_by, scan_ok}
 use Rattle.wfe_blocks.proofs.Placed.{Rests}
-
-same_number : (i : ℕ) → (i == i) ≡ true
-same_number i = grind (arith, nat_tests)
 
 pub read_own : (all i : ℕ) (event : Event) (p : Past) → read_of all i (Then p i event) ≡ read_by all event (read_of all i p)
 read_own all i event p = rw (same_number i) refl

@@ -19,6 +19,7 @@ use Rattle.wfe_core.specs.Posts.{counted}
 use Rattle.wfe_core.specs.Scan.{Entry, giving_back, reading, with_read, with_back, unmet_from, scan_turn}
 use Rattle.wfe_core.specs.Steps.{phase_turn}
 use Rattle.wfe_core.specs.World.{World, begin, step, finds, is_busy, told_in}
+use Rattle.wfe_core.proofs.Facts.{same_number, both, first_of, rest_of}
 use Rattle.wfe_covers.specs.Covers.{upto_at}
 use Rattle.wfe_covers.proofs.Held.{settled_phase}
 use Rattle.wfe_eras.specs.Frame.{phase_left}
@@ -28,13 +29,13 @@ use Rattle.wfe_laws.specs.Record.{Past, Each, begins, own, tells_of}
 use Rattle.wfe_laws.specs.Record.Past.{Then}
 use Rattle.wfe_laws.specs.StateAt.{call_of}
 use Rattle.wfe_laws.proofs.Entries.{entries_of_each}
-use Rattle.wfe_history.specs.History.{Item, Begins, Steps, Made, fits, done, done_if, did, made_from, first_made, record_of}
+use Rattle.wfe_history.specs.History.{Begins, Steps, Made, fits, done, first_made, record_of}
+use Rattle.wfe_history.proofs.Along.{Steady, items_keep}
 use Rattle.wfe_rows.specs.Hands.{each_once, is_right, scans_right}
-use Rattle.wfe_reuse.proofs.Passes.{both, first_of, rest_of}
 use Rattle.wfe_once.specs.Rows.{list_of, without}
 use Rattle.wfe_once.proofs.Along.{list_own}
 use Rattle.wfe_once.proofs.Calm.{all_of, of_along, is_calm, run_calm, work_calm}
-use Rattle.wfe_once.proofs.Keeps.{Keeps, first_keeps, begin_keeps, step_keeps, begins_right, steps_right, settled_list, needs_of}
+use Rattle.wfe_once.proofs.Keeps.{Keeps, first_keeps, begin_keeps, step_keeps, settled_list, needs_of}
 use Rattle.wfe_once.proofs.Moves.{removed}
 use Rattle.wfe_blocks.specs.Counts.{is_scan_call, is_read, is_back, times, answers_scan, count_ok, RecordsCountScans}
 use Rattle.wfe_blocks.proofs.Keeps.{ScanFits, scans_fit}
@@ -87,9 +88,6 @@ times_other k i kind [] p h = refl
 times_other k i kind (event ∷ told) p h = times_other k i kind told (Then p i event) h ∙ times_one k i kind event p h
 
 -- what the seat tells itself
-same_number : (i : ℕ) → (i == i) ≡ true
-same_number i = grind (arith, nat_tests)
-
 times_read : (i : ℕ) (kind : Event → Bool) (event : Event) (p : Past) → begins i p i event ≡ false → kind event ≡ true → times i kind (Then p i event) ≡ times i kind p + 1
 times_read i kind event p b h = rw (b, h, same_number i) refl
 
@@ -338,15 +336,9 @@ step_item layout made i b g =
       law = t.each g.law;
     }
 
-item_counts : (layout : Layout) (made : Made) (item : Item) (fit : Bool) → fits made.world item ≡ fit → CountsScans layout made → CountsScans layout (done_if made item fit)
-item_counts layout made item false f g = g
-item_counts layout made (Begins i call) true f g = begin_item layout made i call (begins_right i made.world.layout.config.seats (is_busy made.world i) f) g
-item_counts layout made (Steps i) true f g = step_item layout made i (steps_right i made.world.layout.config.seats (is_busy made.world i) f) g
-
-items_count : (layout : Layout) (items : List Item) (made : Made) → CountsScans layout made → CountsScans layout (made_from made items)
-items_count layout [] made g = g
-items_count layout (item ∷ items) made g = items_count layout items (did made item) (item_counts layout made item (fits made.world item) refl g)
+steady : (layout : Layout) → Steady (CountsScans layout)
+steady layout = record { begins = λ made i call b y g. begin_item layout made i call y g; steps = λ made i b y g. step_item layout made i b g }
 
 pub records_count_scans : RecordsCountScans
 records_count_scans layout items d =
-    let g = items_count layout items (first_made layout) (record { base = first_keeps layout d; seats = λ k h. absurd (cc); law = tt }) in entries_of_each (count_ok layout.config) (record_of layout items) g.law
+    let g = items_keep (CountsScans layout) (steady layout) items (first_made layout) (record { base = first_keeps layout d; seats = λ k h. absurd (cc); law = tt }) in entries_of_each (count_ok layout.config) (record_of layout items) g.law

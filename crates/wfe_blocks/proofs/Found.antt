@@ -6,7 +6,7 @@ use Rattle.std.specs.List.{remove}
 use Rattle.wfe_defs.specs.declared.lifetime.Lifetime.{Lifetime}
 use Rattle.wfe_core.specs.Desks.{Seen}
 use Rattle.wfe_core.specs.Scan.{meets_any, Entry, first_unmet}
-use Rattle.wfe_reuse.proofs.Passes.{both, first_of, rest_of}
+use Rattle.wfe_core.proofs.Facts.{both, first_of, rest_of}
 use Rattle.wfe_blocks.specs.Blocks.{next_back, is_row}
 
 -- the lives before a place meet something read

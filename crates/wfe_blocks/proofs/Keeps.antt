@@ -27,10 +27,11 @@ use Rattle.wfe_eras.proofs.Frame.{seat_stays, seat_steps, begin_stays, begin_beg
 use Rattle.wfe_laws.specs.Record.{Past, Each, tells_of}
 use Rattle.wfe_laws.specs.Record.Past.{Then}
 use Rattle.wfe_laws.proofs.Entries.{entries_of_each}
-use Rattle.wfe_history.specs.History.{Item, Begins, Steps, Made, fits, done, done_if, did, made_from, first_made, record_of}
+use Rattle.wfe_history.specs.History.{Begins, Steps, Made, fits, done, first_made, record_of}
+use Rattle.wfe_history.proofs.Along.{Steady, items_keep}
 use Rattle.wfe_once.specs.Rows.{list_of}
 use Rattle.wfe_once.proofs.Calm.{is_unread, all_of, run_unread, work_unread}
-use Rattle.wfe_once.proofs.Keeps.{Keeps, first_keeps, begin_keeps, step_keeps, begins_right, steps_right, settled_list}
+use Rattle.wfe_once.proofs.Keeps.{Keeps, first_keeps, begin_keeps, step_keeps, settled_list}
 use Rattle.wfe_blocks.specs.Blocks.{read_by, read_of, is_scan, scans_of, scan_by, scan_ok, RecordsKeepScans}
 use Rattle.wfe_blocks.proofs.Calm.{read_own, scans_own, read_other, scans_other, RestsAt, told_same, told_rests, one_allowed, told_each, unread_rests, unread_same, run_report, work_report, run_fresh, works_fresh}
 use Rattle.wfe_blocks.proofs.Placed.{Rests, PlacedAt, Placed, fresh_placed, TurnPlaced, scan_event, scan_placed, scan_tells, scan_reads, scan_allowed}
@@ -240,14 +241,8 @@ step_scanned layout made i b g =
       law = t.each g.law;
     }
 
-item_scanned : (layout : Layout) (made : Made) (item : Item) (fit : Bool) → fits made.world item ≡ fit → Scanned layout made → Scanned layout (done_if made item fit)
-item_scanned layout made item false f g = g
-item_scanned layout made (Begins i call) true f g = begin_scanned layout made i call (begins_right i made.world.layout.config.seats (is_busy made.world i) f) g
-item_scanned layout made (Steps i) true f g = step_scanned layout made i (steps_right i made.world.layout.config.seats (is_busy made.world i) f) g
-
-items_scanned : (layout : Layout) (items : List Item) (made : Made) → Scanned layout made → Scanned layout (made_from made items)
-items_scanned layout [] made g = g
-items_scanned layout (item ∷ items) made g = items_scanned layout items (did made item) (item_scanned layout made item (fits made.world item) refl g)
+steady : (layout : Layout) → Steady (Scanned layout)
+steady layout = record { begins = λ made i call b y g. begin_scanned layout made i call y g; steps = λ made i b y g. step_scanned layout made i b g }
 
 first_scanned : (layout : Layout) → is_valid layout ≡ true → Scanned layout (first_made layout)
 first_scanned layout d = record {
@@ -257,4 +252,4 @@ first_scanned layout d = record {
 }
 
 pub records_keep_scans : RecordsKeepScans
-records_keep_scans layout items d = let g = items_scanned layout items (first_made layout) (first_scanned layout d) in entries_of_each (scan_ok layout.config) (record_of layout items) g.law
+records_keep_scans layout items d = let g = items_keep (Scanned layout) (steady layout) items (first_made layout) (first_scanned layout d) in entries_of_each (scan_ok layout.config) (record_of layout items) g.law

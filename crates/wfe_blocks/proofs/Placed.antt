@@ -15,11 +15,11 @@ use Rattle.wfe_core.specs.Calls.{AfterScan, Answered, Repeated, Counted, ScanAt,
 use Rattle.wfe_core.specs.Desks.{Desk, Report, Seen}
 use Rattle.wfe_core.specs.Guards.{guards, guard_at, published}
 use Rattle.wfe_core.specs.Scan.{Entry, read_before, scanned, giving_back, reading, with_kept, with_read, with_back, unmet_from, scan_turn}
+use Rattle.wfe_core.proofs.Facts.{both}
 use Rattle.wfe_eras.specs.Frame.{phase_left}
 use Rattle.wfe_eras.specs.Seats.{scan_fits}
 use Rattle.wfe_covers.specs.Covers.{is_fresh}
 use Rattle.wfe_covers.proofs.Fresh.{round_fresh}
-use Rattle.wfe_reuse.proofs.Passes.{both}
 use Rattle.wfe_blocks.specs.Blocks.{read_by, next_back, is_row, is_over, is_partial, next_number, same_guard, scan_by}
 use Rattle.wfe_blocks.proofs.Found.{met_before, met_none, PlaceOf, place_from, met_remove}
 

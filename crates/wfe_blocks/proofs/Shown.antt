@@ -26,6 +26,7 @@ use Rattle.wfe_core.specs.Posts.{counted, lower, upper, tag_of}
 use Rattle.wfe_core.specs.Scan.{scan_turn}
 use Rattle.wfe_core.specs.Steps.{phase_move, phase_turn}
 use Rattle.wfe_core.specs.World.{World, start, step, finds, is_busy, told_in}
+use Rattle.wfe_core.proofs.Facts.{first_of, rest_of}
 use Rattle.wfe_covers.specs.Covers.{shown}
 use Rattle.wfe_eras.specs.Eras.{PhaseEras, ErasNeeds, SpanIn, base_eras, begin_eras, protect_eras, move_eras}
 use Rattle.wfe_eras.specs.Frame.{is_ibr}
@@ -33,15 +34,15 @@ use Rattle.wfe_eras.specs.Seats.{PhaseFits, Run}
 use Rattle.wfe_laws.specs.Record.{Past, Each, tells_of}
 use Rattle.wfe_laws.specs.Record.Past.{Then}
 use Rattle.wfe_laws.proofs.Entries.{entries_of_each}
-use Rattle.wfe_history.specs.History.{Item, Begins, Steps, Made, fits, done, done_if, did, made_from, first_made, record_of}
+use Rattle.wfe_history.specs.History.{Begins, Steps, Made, fits, done, first_made, record_of}
+use Rattle.wfe_history.proofs.Along.{Steady, items_keep}
 use Rattle.wfe_inv.proofs.Ready.{eras_need}
 use Rattle.wfe_inv.proofs.Shown.{clock_small}
-use Rattle.wfe_reuse.proofs.Passes.{first_of, rest_of}
 use Rattle.wfe_told.proofs.Rows.{own_told, step_filter}
 use Rattle.wfe_told.proofs.Turns.{is_later}
 use Rattle.wfe_once.proofs.Along.{along, along_kind}
 use Rattle.wfe_once.proofs.Calm.{is_unread, all_of, run_unread, work_unread}
-use Rattle.wfe_once.proofs.Keeps.{Keeps, first_keeps, begin_keeps, step_keeps, begins_right, steps_right}
+use Rattle.wfe_once.proofs.Keeps.{Keeps, first_keeps, begin_keeps, step_keeps}
 use Rattle.wfe_blocks.specs.Reads.{reserved_by, reserved, same_span, read_ok, RecordsReadGuards}
 use Rattle.wfe_blocks.proofs.Placed.{scan_event, scan_tells}
 use Rattle.wfe_blocks.proofs.Reserves.{is_guard, of_guards, BaseWords, ProtectWords, PhaseWords, phase_shows}
@@ -211,15 +212,9 @@ step_read layout made i b g = record {
   law = phase_each i (made.world.seat i).phase (made.world.seat i).post (made.world.seat i).desk made.world.mem made.past g.shows g.law;
 }
 
-item_read : (layout : Layout) (made : Made) (item : Item) (fit : Bool) → fits made.world item ≡ fit → Read layout made → Read layout (done_if made item fit)
-item_read layout made item false f g = g
-item_read layout made (Begins i call) true f g = begin_read layout made i call (begins_right i made.world.layout.config.seats (is_busy made.world i) f) g
-item_read layout made (Steps i) true f g = step_read layout made i (steps_right i made.world.layout.config.seats (is_busy made.world i) f) g
-
-items_read : (layout : Layout) (items : List Item) (made : Made) → Read layout made → Read layout (made_from made items)
-items_read layout [] made g = g
-items_read layout (item ∷ items) made g = items_read layout items (did made item) (item_read layout made item (fits made.world item) refl g)
+steady : (layout : Layout) → Steady (Read layout)
+steady layout = record { begins = λ made i call b y g. begin_read layout made i call y g; steps = λ made i b y g. step_read layout made i b g }
 
 pub records_read_guards : RecordsReadGuards
 records_read_guards layout items d =
-    let g = items_read layout items (first_made layout) (record { base = first_keeps layout d; shows = start_shown layout; law = tt }) in entries_of_each read_ok (record_of layout items) g.law
+    let g = items_keep (Read layout) (steady layout) items (first_made layout) (record { base = first_keeps layout d; shows = start_shown layout; law = tt }) in entries_of_each read_ok (record_of layout items) g.law

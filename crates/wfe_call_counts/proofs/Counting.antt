@@ -18,8 +18,8 @@ use Rattle.wfe_core.specs.Phases.{Alone, MoveAt, Base}
 use Rattle.wfe_core.specs.Phases.MoveAt.{LoadEra, ExchangeClock}
 use Rattle.wfe_core.specs.Phases.Base.{Protect, Clear, Release, Move}
 use Rattle.wfe_core.specs.Calls.{Gets, Holds, Answering, Counted, Opens, Clears, Advances, Releases, ScanAt, ReadGuard, GiveBack, GetAt, FindVersion, FindCount, FindKey, FindValue, Getting, Phase, Runs, Scans, Works, CallOutcome, GoesOn, Answers}
+use Rattle.wfe_core.proofs.Facts.{both}
 use Rattle.wfe_eras.specs.Seats.{is_wfe, Kind, suits}
-use Rattle.wfe_reuse.proofs.Passes.{both}
 use Rattle.wfe_call_counts.specs.Ends.{steps_right}
 
 -- the only phase of a release

@@ -29,6 +29,7 @@ use Rattle.wfe_core.specs.Steps as steps
 use Rattle.wfe_core.specs.World.{World, begin, step, finds, is_busy, told_in}
 use Rattle.wfe_core.specs.Calls.{Counted, Advances, Releases, ScanAt, ReadGuard, GiveBack, Phase, Runs, Scans, CallTurn, CallOutcome, GoesOn, Answers}
 use Rattle.wfe_core.proofs.Frames.{after_same}
+use Rattle.wfe_core.proofs.Facts.{same_number, both, first_of, rest_of}
 use Rattle.wfe_eras.specs.Seats.{is_wfe, PhaseFits, Run}
 use Rattle.wfe_eras.specs.Slots.{PhaseIn}
 use Rattle.wfe_eras.proofs.Frame.{seat_stays, seat_steps, begin_stays, begin_begins}
@@ -36,15 +37,13 @@ use Rattle.wfe_laws.specs.Record.{Past, Each, tells_of}
 use Rattle.wfe_laws.specs.Record.Past.{Then}
 use Rattle.wfe_laws.proofs.Entries.{entries_of_each}
 use Rattle.wfe_laws.specs.Schedule as schedule
-use Rattle.wfe_laws.specs.Schedule.History.{Blank, Starts, Turns}
-use Rattle.wfe_history.specs.History.{Begins, Steps, Made, done, first_made}
+use Rattle.wfe_laws.specs.Schedule.History.{Starts, Turns}
+use Rattle.wfe_history.specs.History.{Begins, Steps, Made, done}
 use Rattle.wfe_history.specs.History as histories
 use Rattle.wfe_requests.proofs.Paced.{in_time}
 use Rattle.wfe_requests.proofs.Falling.{moves_on}
-use Rattle.wfe_rows.proofs.Went.{same_number}
 use Rattle.wfe_covers.proofs.Held.{stepped_post}
 use Rattle.wfe_inv.specs.Inv.{Inv}
-use Rattle.wfe_reuse.proofs.Passes.{both, first_of, rest_of}
 use Rattle.wfe_answers.specs.AnswersTold.{began_of}
 use Rattle.wfe_answers.proofs.Answering as answering
 use Rattle.wfe_answers.proofs.Answering.{began_along, tells_along, first_all, owes_of, within_of}
@@ -52,7 +51,7 @@ use Rattle.wfe_answers.proofs.Moves.{phase_ends}
 use Rattle.wfe_answers.proofs.Owed.{is_open}
 use Rattle.wfe_answers.proofs.Owing.{PhaseEnds}
 use Rattle.wfe_lawful.proofs.Each.{all_of}
-use Rattle.wfe_counting.proofs.Along.{Around, Kept, history_keeps}
+use Rattle.wfe_one_step.proofs.Along.{Around, Kept, history_keeps}
 use Rattle.wfe_call_counts.specs.Ends.{backs_by, backs_of, steps_right, end_ok, RecordsKeepEnds}
 use Rattle.wfe_call_counts.proofs.Counting.{at_release, at_scan, at_advance, at_hold, at_get, call_steps, Out, release_out, scan_small, backs_at, scan_out}
 use Rattle.wfe_call_counts.proofs.Courses.{Facts, wfe_scheme, advance_out, hold_out, get_out}

@@ -1,6 +1,5 @@
 -- Each step keeps what rows of the map show, and what seats know of them.
-use Rattle.std.proofs.Common.{ℕ, ◌≤◌, ◌+◌, ◌*◌, ◌≡◌, Bool, true, false, arith, refl, ap, ◌∙◌, sym, subst, List, ◌++◌, length}
-use Rattle.std.proofs.lemmas.Bool.Decides.{nat_tests}
+use Rattle.std.proofs.Common.{ℕ, ◌≤◌, ◌+◌, ◌*◌, ◌≡◌, Bool, true, false, refl, ap, ◌∙◌, sym, subst, List, ◌++◌, length}
 use Rattle.std.proofs.lemmas.List.{append_assoc}
 use Rattle.std.specs.Prelude.{◌==◌, if◌then◌else◌, None}
 use Rattle.wfe_words.specs.Place.{Place}
@@ -20,6 +19,7 @@ use Rattle.wfe_core.specs.Steps.{phase_move, phase_turn}
 use Rattle.wfe_core.specs.Locals.{Local, turn, settled, settled_by, told_by, told_end, rounds_told}
 use Rattle.wfe_core.specs.World.{World, step, finds, told_in}
 use Rattle.wfe_core.specs.Calls.{ChangeKept, EnqueueKept, Changes, ChangeAt, LoadVersion, LoadCount, LoadKey, LoadValue, ExchangeRoot, EnqueueAt, LoadNumber, LoadNext, PassTail, ExchangeNext, ExchangeTail, Getting, Changing, Enqueuing, Dequeuing, Phase, Idle, Runs, Scans, Works, CallTurn, CallOutcome, GoesOn, Answers}
+use Rattle.wfe_core.proofs.Facts.{number_is}
 use Rattle.wfe_rows.specs.Rows.{View, Good, made}
 use Rattle.wfe_rows.specs.Rows.Status.{Born}
 use Rattle.wfe_rows.specs.Rows.RowMove.{Stays, Appends}
@@ -44,9 +44,6 @@ use Rattle.wfe_contents.proofs.Rounds.{Adds, Turns, plain_knows, clearing_adds}
 use Rattle.wfe_contents.proofs.Shelves.{WordsStay, calm_shelved, keeps_all, joined_far, joined_shelved, exchanged_book, linked_booked, exchanged_far, Linking, Latest, exchanged_shelved}
 use Rattle.wfe_contents.proofs.Turns.{GetOwes, Shown}
 use Rattle.wfe_contents.proofs.Views.{Keeps, keeps_made, unlinks, settled_stays, owned_stays}
-
-number_is : (a b : ℕ) → (a == b) ≡ true → a ≡ b
-number_is a b h = grind (arith, nat_tests)
 
 -- what a step leaves: what rows show, what the seat itself knows, and that rows that stood show the same
 pub record Did (n : ℕ) (a b : Book) (v u : View) (after : Place → ℕ) (left : Phase) (told : List Event) : Type 0 where

@@ -7,15 +7,13 @@ use Rattle.wfe_words.specs.Place.Place.{Row}
 use Rattle.wfe_core.specs.Phases.{Base}
 use Rattle.wfe_core.specs.Phases.Base.{Begin, Protect, Reload, Clear, Finish, Release, Allocate, Write, GiveUp, Retire, Move}
 use Rattle.wfe_core.specs.Calls.{EnqueueKept, EnqueueAt, LoadNumber, LoadNext, PassTail, ExchangeNext, ExchangeTail, ChangeKept, Gets, Changes, Holds, Enqueues, Dequeues, Opens, FollowsHead, Fills, ClearsNext, Clears, Finishes, GivesUp, Retires, Tidies, Advances, Releases, GetAt, FindVersion, FindCount, FindKey, FindValue, ChangeAt, LoadVersion, LoadCount, LoadKey, LoadValue, ExchangeRoot, Getting, Changing, Enqueuing, Dequeuing, Phase, Idle, Runs, Scans, Works}
+use Rattle.wfe_core.proofs.Facts.{same_number}
 use Rattle.wfe_contents.specs.Shelf.{Shelf}
 use Rattle.wfe_contents.specs.Knows.{ItemKnows, EnqueueKnows, enqueue_owns, Ground, Knows, GetKnows, ChangeKnows, FillKnows, FoundRow, AtRow, AtKey, Decided, reads_in, get_reads, owns_in, base_owns, change_owns}
 use Rattle.wfe_contents.proofs.Told.{SameSlot}
 
 abbrev pub on : ℕ → Shelf → (Place → ℕ) → Ground
 on n shelf mem = record { buckets = n; shelf = shelf; mem = mem }
-
-pub same_number : (n : ℕ) → (n == n) ≡ true
-same_number n = grind (arith, nat_tests)
 
 pub is_number : (a b : ℕ) → a ≡ b → (a == b) ≡ true
 is_number a b h = grind (arith, nat_tests)

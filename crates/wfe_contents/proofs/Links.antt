@@ -11,6 +11,7 @@ use Rattle.wfe_defs.specs.declared.fold.Change.{Change}
 use Rattle.wfe_core.specs.Book.{Book}
 use Rattle.wfe_core.specs.Memory.{upd}
 use Rattle.wfe_core.specs.Calls.{ChangeKept}
+use Rattle.wfe_core.proofs.Facts.{number_is}
 use Rattle.wfe_rows.specs.Rows.{Status, View, Good, made}
 use Rattle.wfe_rows.specs.Rows.Status.{Born, Linked, Cut}
 use Rattle.wfe_rows.specs.Rows.RowMove.{Links, Replaces}
@@ -21,9 +22,6 @@ use Rattle.wfe_contents.specs.Knows.{Decided}
 use Rattle.wfe_contents.specs.Contents.{Shelved}
 use Rattle.wfe_contents.proofs.Lasts.{on}
 use Rattle.wfe_contents.proofs.Shelves.{Linking, Latest}
-
-number_is : (a b : ℕ) → (a == b) ≡ true → a ≡ b
-number_is a b h = grind (arith, nat_tests)
 
 upd_own : {A : Type 0} (f : ℕ → A) (i : ℕ) (x : A) → upd f i x i ≡ x
 upd_own f i x = let own : (i == i) ≡ true = grind (arith, nat_tests) in rw own refl

@@ -19,6 +19,7 @@ use Rattle.wfe_core.specs.Change.{told_linked, told_cut, told_change, changed_bu
 use Rattle.wfe_core.specs.Memory.{upd}
 use Rattle.wfe_core.specs.Phases.{QueueRow}
 use Rattle.wfe_core.specs.Calls.{ChangeKept}
+use Rattle.wfe_core.proofs.Facts.{number_is}
 use Rattle.wfe_rows.specs.Rows.{Status, View, made}
 use Rattle.wfe_rows.specs.Rows.Status.{Linked, InQueue}
 use Rattle.wfe_rows.specs.Rows.RowMove.{Appends}
@@ -29,9 +30,6 @@ use Rattle.wfe_contents.proofs.Told.{SameBook, SameSlot, same_slot}
 use Rattle.wfe_contents.proofs.Lasts.{on}
 use Rattle.wfe_contents.proofs.Lists.{after_append}
 use Rattle.wfe_contents.proofs.Views.{Keeps}
-
-number_is : (a b : ℕ) → (a == b) ≡ true → a ≡ b
-number_is a b h = grind (arith, nat_tests)
 
 number_of : (a b : ℕ) → a ≡ b → (a == b) ≡ true
 number_of a b h = grind (arith, nat_tests)

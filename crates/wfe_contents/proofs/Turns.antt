@@ -16,10 +16,11 @@ use Rattle.wfe_core.specs.Rounds.{bucket_of, clearing}
 use Rattle.wfe_core.specs.Get as gets
 use Rattle.wfe_core.specs.Change as alters
 use Rattle.wfe_core.specs.Calls.{ChangeKept, Task, Changes, Next, Again, Answering, GetAt, FindVersion, FindCount, FindKey, FindValue, ChangeAt, LoadVersion, LoadCount, LoadKey, LoadValue, ExchangeRoot}
+use Rattle.wfe_core.proofs.Facts.{same_number}
 use Rattle.wfe_contents.specs.Shelf.{Shelf, Shows}
 use Rattle.wfe_contents.specs.Knows.{Ground, pair_at, FoundRow, FoundKeys, GetKnows, AtCount, AtValue, Decided, ChangeKnows, FillKnows, changes_in, get_reads}
 use Rattle.wfe_contents.proofs.Told.{all_calm}
-use Rattle.wfe_contents.proofs.Lasts.{on, same_number, is_number}
+use Rattle.wfe_contents.proofs.Lasts.{on, is_number}
 use Rattle.wfe_contents.proofs.Lists.{take_next, value_next, value_here}
 use Rattle.wfe_contents.proofs.Reading.{version_shown, count_shown, key_shown, value_shown}
 use Rattle.wfe_contents.proofs.Told.{calm_claimed, FromRow}

@@ -11,6 +11,7 @@ use Rattle.wfe_core.specs.Phases.AllocateAt.{LoadBirth, ClaimSlot, StoreLife}
 use Rattle.wfe_core.specs.Phases.RetireAt.{LoadLife, LoadRetire, StoreRetired}
 use Rattle.wfe_core.specs.Phases.Base.{Begin, Protect, Reload, Clear, Finish, Release, Allocate, Write, GiveUp, Retire, Move}
 use Rattle.wfe_core.specs.Calls.{EnqueueKept, ChangeKept, Why, Opens, FollowsHead, Fills, ClearsNext, Clears, Finishes, GivesUp, Retires, Tidies, Advances, Releases, ScanAt, ReadGuard, GiveBack, ChangeAt, LoadVersion, LoadCount, LoadKey, LoadValue, ExchangeRoot, EnqueueAt, LoadNumber, LoadNext, PassTail, ExchangeNext, ExchangeTail, DequeueAt, LoadTail, SwingTail, TakeNumber, TakeValue, ExchangeHead, Work, Getting, Changing, Enqueuing, Dequeuing, Phase, Idle, Runs, Scans, Works}
+use Rattle.wfe_core.proofs.Facts.{number_is}
 use Rattle.wfe_rows.specs.Rows.{Status, View, Good, RowMove, made}
 use Rattle.wfe_rows.specs.Rows.Hand.{Taken}
 use Rattle.wfe_rows.specs.Rows.Status.{Free, Claimed, Born, Linked, InQueue, Cut, Sealed, Listed}
@@ -25,9 +26,6 @@ use Rattle.wfe_contents.specs.Knows.{base_owns, owns_in}
 use Rattle.wfe_contents.proofs.Machines.{writes_in}
 use Rattle.wfe_contents.proofs.Phases.{change_links, work_links, links_in}
 use Rattle.wfe_contents.proofs.Steps.{joins}
-
-number_is : (a b : ℕ) → (a == b) ≡ true → a ≡ b
-number_is a b h = grind (arith, nat_tests)
 
 -- a machine that writes a row has it in hand
 base_taken : (base : Base) (s : ℕ) → base_owns base s ≡ true → hand_base base ≡ Taken s

@@ -6,6 +6,7 @@ use Rattle.wfe_words.specs.declared.config.SchemeKind.{SchemeKind}
 use Rattle.wfe_words.specs.declared.config.SchemeKind.TheVariants.{He, Ibr, Wfe}
 use Rattle.wfe_defs.specs.declared.event.Event.{Event}
 use Rattle.wfe_defs.specs.declared.event.Event.TheVariants as events
+use Rattle.wfe_core.proofs.Facts.{both, first_of, rest_of}
 use Rattle.wfe_eras.specs.Frame.{is_ibr}
 use Rattle.wfe_eras.specs.Seats.{is_wfe}
 use Rattle.wfe_laws.specs.Record.{Past, Each, tells_of}
@@ -19,8 +20,7 @@ use Rattle.wfe_lawful.proofs.Counts.{records_keep_steps}
 use Rattle.wfe_lawful.proofs.Each.{all_of}
 use Rattle.wfe_turns.specs.Heard.{heard_of, IsCounted}
 use Rattle.wfe_turns.proofs.Counted.{histories_count}
-use Rattle.wfe_reuse.proofs.Passes.{both, first_of, rest_of}
-use Rattle.wfe_counting.specs.Turns.{EachTurn}
+use Rattle.wfe_one_step.specs.Turns.{EachTurn}
 use Rattle.wfe_counting.specs.Protections.{reserved_of, turns_since, number_right, event_right, events_right, numbers_right}
 use Rattle.wfe_counting.specs.Bounded.{event_bounded, events_bounded, turns_bounded, ProtectionsEnd}
 use Rattle.wfe_counting.proofs.Counting.{protections_count}

@@ -23,6 +23,7 @@ use Rattle.wfe_core.specs.Phases.ProtectAt.{LoadClock, PublishEra, LoadLink, Che
 use Rattle.wfe_core.specs.Phases.MoveAt.{HandOver}
 use Rattle.wfe_core.specs.Phases.Base.{Begin, Protect, Reload, Clear, Finish, Release, Allocate, Write, GiveUp, Retire, Move}
 use Rattle.wfe_core.specs.Calls.{Why, Phase, Idle, Runs, Scans, Works, ReadGuard, GiveBack, CallTurn}
+use Rattle.wfe_core.proofs.Facts.{same_number, both, first_of, rest_of}
 use Rattle.wfe_laws.specs.Schedule as schedule
 use Rattle.wfe_laws.specs.Schedule.{record_of, turns_of}
 use Rattle.wfe_laws.specs.Schedule.History.{Blank, Starts, Turns}
@@ -35,7 +36,6 @@ use Rattle.wfe_requests.specs.Deals.{answered_with, in_time}
 use Rattle.wfe_requests.specs.Standing.{Requests}
 use Rattle.wfe_requests.specs.Views.{Deal}
 use Rattle.wfe_requests.specs.Views.Deal.{Quiet, Open, Answered, Passed, Taken}
-use Rattle.wfe_rows.proofs.Went.{same_number}
 use Rattle.wfe_covers.specs.Rests.{spare}
 use Rattle.wfe_covers.proofs.Held.{stepped_post, stepped_phase, finds_at}
 use Rattle.wfe_handover.proofs.Asks.{Asker, asker, fits_at}
@@ -45,10 +45,10 @@ use Rattle.wfe_inv.specs.Inv.{Inv}
 use Rattle.wfe_inv.proofs.Shapes.{eras_of}
 use Rattle.wfe_inv.proofs.Guards.{rests_need}
 use Rattle.wfe_inv.proofs.Whole.{handover_need}
-use Rattle.wfe_reuse.proofs.Passes.{both, first_of, rest_of, First, step_goes}
-use Rattle.wfe_counting.specs.Turns.{EachTurn}
+use Rattle.wfe_reuse.proofs.Passes.{First, step_goes}
+use Rattle.wfe_one_step.specs.Turns.{EachTurn}
 use Rattle.wfe_counting.specs.Protections.{reserved_of, turns_since, event_right, events_right, numbers_right, ProtectionsCount}
-use Rattle.wfe_counting.proofs.Along.{Around, Kept, history_keeps}
+use Rattle.wfe_one_step.proofs.Along.{Around, Kept, history_keeps}
 use Rattle.wfe_counting.proofs.Fits.{own, base_own, Clean, Fits, Left, first_fits}
 use Rattle.wfe_counting.proofs.Passing.{SomeEra, Apart, turned, base_comes}
 use Rattle.wfe_counting.proofs.Runs.{phase_x, PhaseRight, Seat, u_after, turn_fits, turn_rights}

@@ -1,11 +1,7 @@
-pub mod Along
 pub mod Bounded
 pub mod Counting
 pub mod Fits
-pub mod Handed
-pub mod OneStep
 pub mod Passing
 pub mod Protects
 pub mod Runs
 pub mod Told
-pub mod Tried

@@ -1,5 +1,4 @@
 -- A step inside a machine keeps what a seat has published where it stands, and the numbers that it tells are right.
-use Rattle.wfe_reuse.proofs.Passes.{both}
 use Rattle.std.proofs.Common.{ℕ, ◌≡◌, ◌≢◌, ◌≤◌, ◌-◌, ◌+◌, Bool, true, false, List, [], ◌∷◌, length, Option, Some, None, refl, sym, ap, ◌∙◌, arith}
 use Rattle.std.proofs.lemmas.Bool.Decides.{nat_tests}
 use Rattle.std.specs.Prelude.{◌==◌, ◌&&◌, ◌||◌, ◌*◌, nat_le, if◌then◌else◌, not}
@@ -29,13 +28,13 @@ use Rattle.wfe_core.specs.Phases.ProtectAt.{LoadClock, PublishEra, LoadLink, Che
 use Rattle.wfe_core.specs.Phases.MoveAt.{HandOver}
 use Rattle.wfe_core.specs.Phases.Base.{Begin, Protect, Reload, Clear, Finish, Release, Allocate, Write, GiveUp, Retire, Move}
 use Rattle.wfe_core.specs.Calls.{Task, Gets, Changes, Holds, Enqueues, Dequeues, Why, Opens, FollowsHead, Fills, ClearsNext, Clears, Finishes, GivesUp, Retires, Tidies, Advances, Releases}
+use Rattle.wfe_core.proofs.Facts.{same_number, both}
 use Rattle.wfe_eras.specs.Frame.{is_ibr}
 use Rattle.wfe_eras.specs.Seats.{is_he, is_wfe, try_fits, index_by, root_by, kind_of, protects}
 use Rattle.wfe_covers.proofs.Stands.{with_row_same, with_row_other}
 use Rattle.wfe_counting.specs.Protections.{reserved_by, number_right}
 use Rattle.wfe_counting.proofs.Fits.{tried, free_why, holds_why, is_hold, Clean, since, paced, stands_taken, taken}
 use Rattle.wfe_counting.proofs.Told.{reserved_along, dull_reserved, cleared_dull, concluded_told, move_dull, allocate_dull, retire_dull, write_dull, index_more, index_none, index_other, held_reserved, reserved_both}
-use Rattle.wfe_rows.proofs.Went.{same_number}
 
 -- what a machine's step makes of what the seat has published at its index word j
 abbrev pub protect_x : (index : ℕ) → ProtectAt → ℕ → ℕ → ℕ

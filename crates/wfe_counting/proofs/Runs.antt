@@ -26,6 +26,7 @@ use Rattle.wfe_core.specs.Phases.Base.{Begin, Protect, Reload, Clear, Finish, Re
 use Rattle.wfe_core.specs.declared.ends.FollowEnd.TheVariants as follow_ends
 use Rattle.wfe_core.specs.Phases.Ending.{Followed}
 use Rattle.wfe_core.specs.Calls.{Task, Gets, Changes, Holds, Enqueues, Dequeues, Why, Opens, FollowsHead, Fills, ClearsNext, Clears, Finishes, GivesUp, Retires, Tidies, Advances, Releases, Next, ReadGuard, GiveBack, Phase, Idle, Runs, Scans, Works}
+use Rattle.wfe_core.proofs.Facts.{first_of, rest_of}
 use Rattle.wfe_rows.specs.Hands.{runs_right, task_fills}
 use Rattle.wfe_eras.specs.Frame.{is_ibr, Moves, Passed}
 use Rattle.wfe_eras.specs.Seats.{is_he, Kind, protect_fits, kind_of, suits, PostFits, PhaseFits, Run}
@@ -33,7 +34,7 @@ use Rattle.wfe_eras.proofs.Inside.{shape_moves}
 use Rattle.wfe_eras.proofs.Kept.{counted_fits, run_counted}
 use Rattle.wfe_covers.specs.Rests.{spare, bare, beside, within, deep, vacant_released}
 use Rattle.wfe_covers.proofs.Stands.{with_row_other, withdrawn_other}
-use Rattle.wfe_reuse.proofs.Passes.{first_of, rest_of, First}
+use Rattle.wfe_reuse.proofs.Passes.{First}
 use Rattle.wfe_counting.specs.Protections.{event_right, events_right}
 use Rattle.wfe_counting.proofs.Fits.{free_why, holds_why, is_hold, fills_task, Clean, since, paced, taken, base_own, Fits, Passes, Resumes, Left, work_fits, scan_fits, resumed_fits}
 use Rattle.wfe_counting.proofs.Told.{dull_rights, cleared_dull, move_dull, allocate_dull, retire_dull, write_dull, right_along}

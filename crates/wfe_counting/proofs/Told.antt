@@ -25,10 +25,10 @@ use Rattle.wfe_core.specs.Phases.AllocateAt.{LoadBirth, ClaimSlot, StoreLife}
 use Rattle.wfe_core.specs.Phases.RetireAt.{LoadLife, LoadRetire, StoreRetired}
 use Rattle.wfe_core.specs.Phases.MoveAt.{LoadEra, LoadRequest, ShowEra, LoadAsked, CheckEra, AnswerAsked, LoadReserved, HandOver, HideEra, HideLate, ExchangeClock}
 use Rattle.wfe_core.specs.Phases.Base.{Write}
+use Rattle.wfe_core.proofs.Facts.{same_number, both, first_of, rest_of}
 use Rattle.wfe_laws.specs.Record.{Past, tells_of}
 use Rattle.wfe_laws.specs.Record.Past.{Then}
-use Rattle.wfe_rows.proofs.Went.{same_number}
-use Rattle.wfe_reuse.proofs.Passes.{is_quiet, all_quiet, both, first_of, rest_of, Closed}
+use Rattle.wfe_reuse.proofs.Passes.{is_quiet, all_quiet, Closed}
 use Rattle.wfe_counting.specs.Protections.{one_more, reserved_by, reserved_of, event_right, events_right}
 
 -- along what a step tells

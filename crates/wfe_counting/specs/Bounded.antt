@@ -9,7 +9,7 @@ use Rattle.wfe_laws.specs.Schedule.{History}
 use Rattle.wfe_laws.specs.Schedule.History.{Turns}
 use Rattle.wfe_history.specs.History.{Item}
 use Rattle.wfe_turns.specs.Heard.{heard_of}
-use Rattle.wfe_counting.specs.Turns.{EachTurn}
+use Rattle.wfe_one_step.specs.Turns.{EachTurn}
 use Rattle.wfe_counting.specs.Protections.{turns_since}
 
 -- The turns since the one that published the index word, and the one before it. A row held at index 1 was followed: the head is loaded

@@ -14,7 +14,7 @@ use Rattle.wfe_laws.specs.Schedule.{History, record_of, turns_of}
 use Rattle.wfe_laws.specs.Schedule.History.{Blank, Starts, Turns}
 use Rattle.wfe_history.specs.History.{Item}
 use Rattle.wfe_turns.specs.Heard.{heard_of}
-use Rattle.wfe_counting.specs.Turns.{EachTurn}
+use Rattle.wfe_one_step.specs.Turns.{EachTurn}
 
 -- the guard is this index word
 abbrev pub is_index : (seat index : ℕ) → Guard → Bool

@@ -36,11 +36,12 @@ use Rattle.wfe_laws.specs.Record.{Past, Each, EachEntry, tells_of}
 use Rattle.wfe_laws.specs.Record.Past.{Then}
 use Rattle.wfe_laws.proofs.Entries.{entries_of_each}
 use Rattle.wfe_history.specs.History.{Item, Begins, Steps, Made, fits, done, done_if, did, made_from, made_of, first_made, record_of}
+use Rattle.wfe_history.proofs.Along.{begins_right, low_seat, made_snoc}
 use Rattle.wfe_inv.specs.Known.{Known}
 use Rattle.wfe_inv.proofs.Begun.{known_start, known_begin}
 use Rattle.wfe_inv.proofs.Kept.{known_kept, asked_next}
 use Rattle.wfe_inv.proofs.Whole.{origins_need}
-use Rattle.wfe_lawful.proofs.Each.{all_of, begins_right, steps_right}
+use Rattle.wfe_lawful.proofs.Each.{all_of}
 use Rattle.wfe_lawful.proofs.Machines.{is_within, told_within}
 use Rattle.wfe_era_law.specs.EraLaw.{clock_of}
 use Rattle.wfe_era_law.proofs.Keeps.{record_clock}
@@ -56,13 +57,9 @@ pub record OfItems (layout : Layout) (made : Made) : Type 0 where
   pub items : List Item
   pub is : made ≡ made_of layout items
 
-made_snoc : (items : List Item) (item : Item) (made : Made) → made_from made (items ++ item ∷ []) ≡ did (made_from made items) item
-made_snoc [] item made = refl
-made_snoc (first ∷ items) item made = made_snoc items item (did made first)
-
 pub next_items : (layout : Layout) (made : Made) (item : Item) → fits made.world item ≡ true → OfItems layout made → OfItems layout (done made item)
 next_items layout made item e h =
-    record { items = h.items ++ item ∷ []; is = ap (λ (x : Bool). done_if made item x) (sym e) ∙ ap (λ (m : Made). did m item) h.is ∙ sym (made_snoc h.items item (first_made layout)) }
+    record { items = h.items ++ item ∷ []; is = ap (λ (x : Bool). done_if made item x) (sym e) ∙ ap (λ (m : Made). did m item) h.is ∙ sym (made_snoc (first_made layout) h.items item) }
 
 pub tie : (layout : Layout) (made : Made) → is_valid layout ≡ true → OfItems layout made → clock_of made.past ≡ made.world.mem Clock
 tie layout made d h = subst (λ (m : Made). clock_of m.past ≡ m.world.mem Clock) (sym h.is) (record_clock layout h.items d)
@@ -198,7 +195,7 @@ begin_current layout made i call d h f g =
 item_current : (layout : Layout) (made : Made) (item : Item) (fit : Bool) → fits made.world item ≡ fit → is_valid layout ≡ true → Current layout made → Current layout (done_if made item fit)
 item_current layout made item false f d g = g
 item_current layout made (Begins i call) true f d g = begin_current layout made i call d f (begins_right i made.world.layout.config.seats (is_busy made.world i) f) g
-item_current layout made (Steps i) true f d g = step_current layout made i d f (steps_right i made.world.layout.config.seats (is_busy made.world i) f) g
+item_current layout made (Steps i) true f d g = step_current layout made i d f (low_seat i made.world.layout.config.seats (is_busy made.world i) f) g
 
 items_current : (layout : Layout) (items : List Item) (made : Made) → is_valid layout ≡ true → Current layout made → Current layout (made_from made items)
 items_current layout [] made d g = g

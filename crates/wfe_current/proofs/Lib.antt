@@ -1,11 +1,6 @@
 pub mod Ages
 pub mod Answers
-pub mod Free
 pub mod Heard
 pub mod Keeps
 pub mod Positions
-pub mod RiseKeeps
-pub mod RiseSteps
-pub mod RiseTells
-pub mod Rises
 pub mod Tells

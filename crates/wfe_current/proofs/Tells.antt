@@ -32,10 +32,11 @@ use Rattle.wfe_core.specs.Rounds.{scheme_of, clear_told}
 use Rattle.wfe_core.specs.SlowPath.{own_request, asking}
 use Rattle.wfe_core.specs.World.{World, finds, told_in}
 use Rattle.wfe_core.specs.WriteRow.{last_written}
+use Rattle.wfe_core.proofs.Facts.{both, first_of, rest_of}
 use Rattle.wfe_eras.specs.Eras.{protect_eras, allocate_eras, retire_eras, move_eras, base_eras, PhaseEras}
 use Rattle.wfe_laws.specs.Record.{Past, Test, Each, tells_of, begins, own}
 use Rattle.wfe_laws.specs.Record.Past.{Then}
-use Rattle.wfe_reuse.proofs.Passes.{is_quiet, all_quiet, both, first_of, rest_of, Closed, First, scan_told, step_goes}
+use Rattle.wfe_reuse.proofs.Passes.{is_quiet, all_quiet, Closed, First, scan_told, step_goes}
 use Rattle.wfe_lawful.proofs.Each.{all_of}
 use Rattle.wfe_lawful.proofs.Machines.{of_along}
 use Rattle.wfe_era_law.specs.EraLaw.{clock_of}

@@ -1,2 +1,1 @@
 pub mod Current
-pub mod Rising

@@ -3,7 +3,6 @@
 #![tactic(auto)]
 
 ghost use Rattle.wfe_current.specs.Current.{ClockBetween, RecordsGiveCurrent, RecordsReserveCurrent, RecordsRetireCurrent};
-ghost use Rattle.wfe_current.specs.Rising.{RecordsRaiseEras, RecordsRaiseSpans};
 
 /// An era was the clock at a position after an entry just where it lies between the clock there and
 /// the present one.
@@ -27,17 +26,4 @@ pub fn records_retire_current()
 /// mover of the clock hands over.
 pub fn records_reserve_current()
     ensures { RecordsReserveCurrent }
-{}
-
-/// An interval of 2GE begins with one era. Until it is withdrawn its lower end is kept, and each
-/// change raises its upper end.
-pub fn records_raise_spans()
-    ensures { RecordsRaiseSpans }
-{}
-
-/// The eras that a seat whose helper word publishes nothing tells of an index word rise until that
-/// publishes nothing: under Hazard Eras in each protection, under Wait-Free Eras in the tries of
-/// each.
-pub fn records_raise_eras()
-    ensures { RecordsRaiseEras }
 {}

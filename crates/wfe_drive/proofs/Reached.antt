@@ -25,7 +25,8 @@ use Rattle.wfe_cells.specs.Bridge.{AsksWithin}
 use Rattle.wfe_cells.specs.Memory.{HoldsStart}
 use Rattle.wfe_cells.specs.Unit.{IsStep, IsUnit, MayUnit, SeatView, Shows, TableView, after_start, after_unit, answer_in, asked, begun_seat, fresh_seat, seat_after, seat_at, turned, unit_turn, with_seat}
 use Rattle.wfe_cells.proofs.Units.{busy-shown, first-start, may_unit, start-begin, unit-step, unit_turn-turn, made}
-use Rattle.wfe_history.specs.History.{Begins, Item, Made, Steps, did, done, done_if, first_made, fits, made_from, made_of, world_of}
+use Rattle.wfe_history.specs.History.{Begins, Item, Made, Steps, did, done, done_if, first_made, fits, made_of, world_of}
+use Rattle.wfe_history.proofs.Along.{made_snoc}
 use Rattle.wfe_inv.specs.Inv.{Inv}
 use Rattle.wfe_inv.proofs.Kept.{inv_ready}
 use Rattle.wfe_inv.proofs.Reached.{inv_reached}
@@ -34,10 +35,6 @@ use Rattle.wfe_turns.proofs.Counted.{histories_count}
 use Rattle.wfe_drive.specs.Reached.{IsReached, first_table, units_left}
 
 -- one item more
-made_snoc : (made : Made) (path : List Item) (item : Item) → made_from made (path ++ item ∷ []) ≡ did (made_from made path) item
-made_snoc made [] item = refl
-made_snoc made (first ∷ path) item = made_snoc (did made first) path item
-
 -- an item that fits is done
 fit_done : (made : Made) (item : Item) → fits made.world item ≡ true → did made item ≡ done made item
 fit_done made item f = ap (done_if made item) f

@@ -1,7 +1,7 @@
 -- The record of each history keeps the laws on which calls scan and which move the clock.
 use Rattle.std.proofs.Common.{ℕ, ◌≡◌, ◌<◌, Bool, true, false, List, [], ◌∷◌, ◌++◌, refl, sym, ap, ◌∙◌, subst, arith}
 use Rattle.std.proofs.lemmas.Bool.Decides.{nat_tests}
-use Rattle.std.specs.Prelude.{◌==◌, nat_lt}
+use Rattle.std.specs.Prelude.{◌==◌}
 use Rattle.wfe_words.specs.Place.{is_valid}
 use Rattle.wfe_words.specs.declared.layout.Layout.{Layout}
 use Rattle.wfe_defs.specs.declared.call.Call.{Call}
@@ -14,6 +14,7 @@ use Rattle.wfe_core.specs.Guards.{guards}
 use Rattle.wfe_core.specs.Locals.{Local, begun, begun_post, told_end, turn}
 use Rattle.wfe_core.specs.Posts.{counted}
 use Rattle.wfe_core.specs.World.{World, begin, step, finds, is_busy, told_in}
+use Rattle.wfe_core.proofs.Facts.{both, first_of, rest_of}
 use Rattle.wfe_covers.proofs.Held.{stepped_phase, stepped_post}
 use Rattle.wfe_eras.specs.Frame.{phase_left}
 use Rattle.wfe_eras.specs.Seats.{scan_fits, PhaseFits as Shapes}
@@ -28,13 +29,12 @@ use Rattle.wfe_rows.specs.Rows.{View}
 use Rattle.wfe_laws.specs.Record.{Past, Each, EachEntry, tells_of}
 use Rattle.wfe_laws.specs.Record.Past.{Then}
 use Rattle.wfe_laws.proofs.Entries.{entries_of_each}
-use Rattle.wfe_history.specs.History.{Item, Begins, Steps, Made, fits, done, done_if, did, made_from, made_of, first_made, record_of}
+use Rattle.wfe_history.specs.History.{Item, Begins, Steps, Made, fits, done, made_of, first_made, record_of}
+use Rattle.wfe_history.proofs.Along.{Steady, items_keep}
 use Rattle.wfe_inv.specs.Known.{Known}
 use Rattle.wfe_inv.proofs.Begun.{known_start, known_begin}
 use Rattle.wfe_inv.proofs.Kept.{known_kept, asked_next}
 use Rattle.wfe_once.proofs.Along.{along}
-use Rattle.wfe_once.proofs.Keeps.{begins_right, steps_right}
-use Rattle.wfe_reuse.proofs.Passes.{both, first_of, rest_of}
 use Rattle.wfe_lawful.proofs.Each.{all_of}
 use Rattle.wfe_answers.proofs.Answering as answering
 use Rattle.wfe_answers.proofs.Answering.{owes_of}
@@ -244,15 +244,8 @@ begin_keeps layout made i call f g =
       law = (refl, g.law);
     }
 
-item_keeps : (layout : Layout) (made : Made) (item : Item) (fit : Bool) → fits made.world item ≡ fit → Keeps layout made → Keeps layout (done_if made item fit)
-item_keeps layout made item false f g = g
-item_keeps layout made (Begins i call) true f g = begin_keeps layout made i call (begins_right i made.world.layout.config.seats (is_busy made.world i) f) g
-item_keeps layout made (Steps i) true f g =
-    step_keeps layout made i (steps_right i made.world.layout.config.seats (is_busy made.world i) f) (rest_of (nat_lt i made.world.layout.config.seats) (is_busy made.world i) f) g
-
-items_keep : (layout : Layout) (items : List Item) (made : Made) → Keeps layout made → Keeps layout (made_from made items)
-items_keep layout [] made g = g
-items_keep layout (item ∷ items) made g = items_keep layout items (did made item) (item_keeps layout made item (fits made.world item) refl g)
+steady : (layout : Layout) → Steady (Keeps layout)
+steady layout = record { begins = λ made i call b y g. begin_keeps layout made i call y g; steps = λ made i b y g. step_keeps layout made i b y g }
 
 pub first_keeps : (layout : Layout) → is_valid layout ≡ true → Keeps layout (first_made layout)
 first_keeps layout d =
@@ -269,7 +262,7 @@ first_keeps layout d =
     }
 
 history_keeps : (layout : Layout) (items : List Item) → is_valid layout ≡ true → Keeps layout (made_of layout items)
-history_keeps layout items d = items_keep layout items (first_made layout) (first_keeps layout d)
+history_keeps layout items d = items_keep (Keeps layout) (steady layout) items (first_made layout) (first_keeps layout d)
 
 each_of : (layout : Layout) (items : List Item) → is_valid layout ≡ true → EachEntry (λ q m event. course_right (guards layout.config) event (tally_of layout.config.every m q)) (record_of layout items)
 each_of layout items d = let g = history_keeps layout items d in entries_of_each (λ q m event. course_right (guards layout.config) event (tally_of layout.config.every m q)) (record_of layout items) g.law

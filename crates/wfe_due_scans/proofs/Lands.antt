@@ -29,9 +29,10 @@ use Rattle.wfe_core.specs.Phases.MoveAt.{LoadEra, LoadRequest, ShowEra, LoadAske
 use Rattle.wfe_core.specs.Phases.Base.{Begin, Protect, Reload, Clear, Finish, Release, Allocate, Write, GiveUp, Retire, Move}
 use Rattle.wfe_core.specs.Phases.Ending.{Done, Protected, Followed, Allocated, Retired, Clocked}
 use Rattle.wfe_core.specs.Calls.{Task, Gets, Changes, Holds, Enqueues, Dequeues, Again, AfterScan, Answered, Repeated, Counted, ScanAt, ReadGuard, GiveBack, Why, Opens, FollowsHead, Fills, ClearsNext, Clears, Finishes, GivesUp, Retires, Tidies, Advances, Releases, Phase, Idle, Runs, Scans, Works}
+use Rattle.wfe_core.proofs.Facts.{both, rest_of}
 use Rattle.wfe_eras.specs.Seats.{ToFill, ToRetire, ToMove, kind_of, suits, scan_fits}
 use Rattle.wfe_rows.specs.Hands.{holds_none, task_fills, runs_right}
-use Rattle.wfe_reuse.proofs.Passes.{both, rest_of, scan_told}
+use Rattle.wfe_reuse.proofs.Passes.{scan_told}
 use Rattle.wfe_due_scans.specs.Scans.{Course, Plain, Advancing, MayScan, MustScan, Reading, Tally, first_course, moved_course, read_course, retired_course, may_read, is_settled, may_move}
 use Rattle.wfe_due_scans.proofs.Still.{claim_front, tick_front, base_front, front}
 use Rattle.wfe_due_scans.proofs.Courses.{is_may, is_fresh, is_walked, TaskFits, NextFits, LaterFits, AfterFits, at_guard, at_end, ScanAtFits, FillFits, WhyFits, PhaseFits, OutFits, Lands, other_task, round_fits, closed_fits, clearing_fits, work_fits, silent_lands, resumed_opens, resumed_follows, resumed_next, resumed_clears, resumed_finishes, resumed_gives, resumed_releases}

@@ -1,11 +1,8 @@
-//! What the record of each history says of which calls scan, which move the clock and what they
-//! answer of it, whatever calls begin and whichever seats make their steps. Each function here does
-//! nothing, and carries a theorem.
+//! What the record of each history says of which calls scan and which move the clock, whatever calls
+//! begin and whichever seats make their steps. Each function here does nothing, and carries a theorem.
 #![tactic(auto)]
 
-ghost use Rattle.wfe_due_scans.specs.Outcomes.{RecordsKeepOutcomes};
 ghost use Rattle.wfe_due_scans.specs.Scans.{RecordsMoveWhereDue, RecordsScanWhereDue};
-ghost use Rattle.wfe_due_scans.specs.Times.{RecordsKeepTimes};
 
 /// A call that only scans reads each guard once. A call in which the number of its seat's
 /// retirements became a multiple of `every` does so once after that. A put, a remove or an enqueue
@@ -18,19 +15,4 @@ pub fn records_scan_where_due()
 /// come; once at most for each.
 pub fn records_move_where_due()
     ensures { RecordsMoveWhereDue }
-{}
-
-/// What a call answers of the clock: that it is still, just where it is no Advance and the number of
-/// its seat's retirements did not become a multiple of `every` in it; an era that it moved the clock
-/// to, just where it has told that era; that another moved it or that the last era is reached, only
-/// where it has told none since it had to.
-pub fn records_keep_outcomes()
-    ensures { RecordsKeepOutcomes }
-{}
-
-/// An era that another moved the clock to is later than the clock where the call began, or where it
-/// has retired a row since, and at most the clock where it ends; a last era is the clock where it
-/// ends.
-pub fn records_keep_times()
-    ensures { RecordsKeepTimes }
 {}

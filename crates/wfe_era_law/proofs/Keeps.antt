@@ -1,5 +1,5 @@
 -- A history's record keeps the law on eras.
-use Rattle.std.proofs.Common.{ℕ, ◌≡◌, ◌<◌, Bool, true, false, List, [], ◌∷◌, refl, ap, ◌∙◌, subst}
+use Rattle.std.proofs.Common.{ℕ, ◌≡◌, ◌<◌, true, false, List, [], ◌∷◌, refl, ap, ◌∙◌, subst}
 use Rattle.std.specs.List.{filter}
 use Rattle.wfe_words.specs.Place.{is_valid}
 use Rattle.wfe_words.specs.Place.Place.{Clock}
@@ -14,11 +14,11 @@ use Rattle.wfe_rows.specs.Hands.{row_move}
 use Rattle.wfe_laws.specs.Record.{Past, Each, tells_of}
 use Rattle.wfe_laws.specs.Record.Past.{Then}
 use Rattle.wfe_laws.proofs.Entries.{entries_of_each}
-use Rattle.wfe_history.specs.History.{Item, Begins, Steps, Made, fits, done, done_if, did, made_from, made_of, first_made, record_of}
+use Rattle.wfe_history.specs.History.{Item, Begins, Steps, Made, fits, done, made_of, first_made, record_of}
+use Rattle.wfe_history.proofs.Along.{Steady, items_keep}
 use Rattle.wfe_told.specs.Told.{move_of}
 use Rattle.wfe_told.proofs.Births.{retires_given}
 use Rattle.wfe_once.proofs.Along.{along, along_kind, Single, single_each}
-use Rattle.wfe_once.proofs.Keeps.{begins_right, steps_right}
 use Rattle.wfe_holding.proofs.Holds.{Held, begin_held, step_held, first_held, given_need, ranges_of}
 use Rattle.wfe_era_law.specs.EraLaw.{ticked_by, clock_of, era_ok, RecordsKeepEras, RecordClock}
 use Rattle.wfe_defs.specs.declared.event.Guard.TheVariants.{Helper}
@@ -72,17 +72,11 @@ step_dated layout made i b g =
       guards = single_each is_reserve (guard_ok layout.config.scheme) (guard_kind layout.config.scheme) i (told_in w i) made.past (owned_of layout made i g.held) g.guards;
     }
 
-item_dated : (layout : Layout) (made : Made) (item : Item) (fit : Bool) → fits made.world item ≡ fit → Dated layout made → Dated layout (done_if made item fit)
-item_dated layout made item false f g = g
-item_dated layout made (Begins i call) true f g = begin_dated layout made i call (begins_right i made.world.layout.config.seats (is_busy made.world i) f) g
-item_dated layout made (Steps i) true f g = step_dated layout made i (steps_right i made.world.layout.config.seats (is_busy made.world i) f) g
-
-items_dated : (layout : Layout) (items : List Item) (made : Made) → Dated layout made → Dated layout (made_from made items)
-items_dated layout [] made g = g
-items_dated layout (item ∷ items) made g = items_dated layout items (did made item) (item_dated layout made item (fits made.world item) refl g)
+steady : (layout : Layout) → Steady (Dated layout)
+steady layout = record { begins = λ made i call b y g. begin_dated layout made i call y g; steps = λ made i b y g. step_dated layout made i b g }
 
 history_dated : (layout : Layout) (items : List Item) → is_valid layout ≡ true → Dated layout (made_of layout items)
-history_dated layout items d = items_dated layout items (first_made layout) (record { held = first_held layout d; clock = refl; law = tt; guards = tt })
+history_dated layout items d = items_keep (Dated layout) (steady layout) items (first_made layout) (record { held = first_held layout d; clock = refl; law = tt; guards = tt })
 
 pub records_keep_eras : RecordsKeepEras
 records_keep_eras layout items d = let g = history_dated layout items d in entries_of_each (era_ok layout.config) (record_of layout items) g.law

@@ -39,13 +39,13 @@ use Rattle.wfe_told.proofs.Turns.{is_later}
 use Rattle.wfe_holding.proofs.Values.{Ranges}
 use Rattle.std.specs.Prelude.{◌||◌, ◌&&◌, ◌==◌}
 use Rattle.wfe_core.specs.World.{finds}
-use Rattle.wfe_reuse.proofs.Passes.{first_of}
 use Rattle.wfe_eras.specs.Seats.{is_wfe}
 use Rattle.wfe_requests.specs.Standing.{Requests}
 use Rattle.wfe_requests.specs.Views.{View as Asked, Role as role}
 use Rattle.wfe_handover.proofs.Asks.{role_at}
 use Rattle.wfe_handover.proofs.Shown.{helper_shows}
 use Rattle.wfe_core.specs.Links.{link_number}
+use Rattle.wfe_core.proofs.Facts.{first_of}
 use Rattle.wfe_covers.specs.Covers.{shown}
 use Rattle.wfe_holding.specs.Holding.{reserved_by, value_of}
 use Rattle.wfe_era_law.specs.GuardLaw.{seat_of, same_span, guard_ok}

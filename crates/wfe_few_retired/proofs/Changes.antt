@@ -6,12 +6,12 @@ use Rattle.wfe_defs.specs.declared.event.Event.{Event}
 use Rattle.wfe_defs.specs.declared.event.Event.TheVariants as events
 use Rattle.wfe_defs.specs.declared.fold.Change.{Change}
 use Rattle.wfe_defs.specs.declared.fold.Change.TheVariants as changes
+use Rattle.wfe_core.proofs.Facts.{rest_of}
 use Rattle.wfe_laws.specs.MapLaw.{map_ok}
 use Rattle.wfe_laws.specs.Record.{Past, Test, Each}
 use Rattle.wfe_laws.specs.Record.Past.{Start, Then}
 use Rattle.wfe_laws.specs.StateAt.{changes_of, count_of, with_change}
 use Rattle.wfe_lawful.specs.QueueLaw.{taken_of}
-use Rattle.wfe_reuse.proofs.Passes.{rest_of}
 use Rattle.wfe_few_retired.specs.Few.{one, count, told, takes_out}
 use Rattle.wfe_few_retired.proofs.Counting.{count_sum, count_where, order_next, none_low}
 

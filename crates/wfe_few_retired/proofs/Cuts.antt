@@ -7,8 +7,8 @@ use Rattle.wfe_defs.specs.declared.event.Event.TheVariants as events
 use Rattle.wfe_defs.specs.declared.event.Root.TheVariants as roots
 use Rattle.wfe_laws.specs.Record.{Past, Each}
 use Rattle.wfe_laws.specs.Record.Past.{Start, Then}
-use Rattle.wfe_placing.specs.Order.{Due, due_at, due_cut, due_linked, meets_due, order_ok}
-use Rattle.wfe_placing.specs.Order.Due.{NoneDue, CutDue, ChangeDue, QueuedDue, TakenDue}
+use Rattle.wfe_ordering.specs.Order.{Due, due_at, due_cut, due_linked, meets_due, order_ok}
+use Rattle.wfe_ordering.specs.Order.Due.{NoneDue, CutDue, ChangeDue, QueuedDue, TakenDue}
 use Rattle.wfe_placing.specs.Retiring.{without_one, has_slot, cuts_by, cuts_of, retires_right, retiring_ok}
 use Rattle.wfe_few_retired.specs.Few.{one, count, told, is_retire, takes_out}
 use Rattle.wfe_few_retired.proofs.Counting.{by_seat, other_part, own_part, told_less}

@@ -11,10 +11,10 @@ use Rattle.wfe_defs.specs.Entry.{Entry}
 use Rattle.wfe_laws.specs.Record.{Past, Each, tells}
 use Rattle.wfe_history.specs.History.{Item, record_of}
 use Rattle.wfe_lawful.proofs.Maps.{records_keep_map}
-use Rattle.wfe_placing.specs.Order.{OrderLaw, order_ok}
+use Rattle.wfe_ordering.specs.Order.{OrderLaw, order_ok}
 use Rattle.wfe_placing.specs.Retiring.{retiring_ok}
 use Rattle.wfe_placing.proofs.Keeps.{records_retire_cuts}
-use Rattle.wfe_placing.proofs.Ordered.{records_keep_order}
+use Rattle.wfe_ordering.proofs.Ordered.{records_keep_order}
 use Rattle.wfe_few_retired.specs.Few.{told, is_retire, takes_out, RecordsRetireFew}
 use Rattle.wfe_few_retired.proofs.Cuts.{retired_taken}
 use Rattle.wfe_few_retired.proofs.Counting.{each_before}

@@ -13,9 +13,9 @@ use Rattle.wfe_laws.specs.Record.{Past, tells}
 use Rattle.wfe_laws.specs.Record.Past.{Start, Then}
 use Rattle.wfe_history.specs.History.{Item, record_of}
 use Rattle.wfe_due_scans.specs.Scans.{Tally, tally_by, tally_of, retired_course, scan_right, move_right}
-use Rattle.wfe_due_scans.specs.Outcomes.{ClockTally, clock_by, clock_tally, clock_right}
+use Rattle.wfe_clock_answers.specs.Outcomes.{ClockTally, clock_by, clock_tally, clock_right}
 use Rattle.wfe_due_scans.proofs.Keeps.{records_scan_where_due, records_move_where_due}
-use Rattle.wfe_due_scans.proofs.Kept.{records_keep_outcomes}
+use Rattle.wfe_clock_answers.proofs.Kept.{records_keep_outcomes}
 use Rattle.wfe_few_retired.specs.Few.{one, told, is_retire}
 use Rattle.wfe_few_retired.specs.Plain.{total_retires, plain_by, plain_tally, plain_clock_by, plain_clock, RecordsCountPlainly, RecordsScanPlainly, RecordsMovePlainly, RecordsAnswerPlainly}
 use Rattle.wfe_few_retired.proofs.Counting.{count_less, count_later, other_part, own_part}

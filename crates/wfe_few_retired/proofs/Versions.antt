@@ -1,6 +1,6 @@
 -- In the record of each history no bucket has more changes than there are versions, and no more values were taken than there are
 -- numbers.
-use Rattle.std.proofs.Common.{ℕ, ◌≡◌, ◌≤◌, ◌<◌, Bool, true, false, List, [], ◌∷◌, length, refl, sym, subst, arith}
+use Rattle.std.proofs.Common.{ℕ, ◌≡◌, ◌≤◌, ◌<◌, true, false, List, length, refl, sym, subst, arith}
 use Rattle.wfe_words.specs.Place.{is_valid}
 use Rattle.wfe_words.specs.declared.layout.Layout.{Layout}
 use Rattle.wfe_defs.specs.declared.call.Call.{Call}
@@ -10,12 +10,12 @@ use Rattle.wfe_items.specs.Gives.{QueueCounts}
 use Rattle.wfe_items.proofs.Gives.{items_count}
 use Rattle.wfe_laws.specs.Record.{Past}
 use Rattle.wfe_laws.specs.StateAt.{changes_of, count_of}
-use Rattle.wfe_history.specs.History.{Item, Begins, Steps, Made, fits, done_if, did, done, made_from, made_of, first_made}
+use Rattle.wfe_history.specs.History.{Item, Begins, Steps, Made, done, made_of, first_made}
+use Rattle.wfe_history.proofs.Along.{Steady, items_keep}
 use Rattle.wfe_inv.specs.Inv.{Inv}
 use Rattle.wfe_inv.proofs.Begun.{inv_start, inv_begin}
 use Rattle.wfe_inv.proofs.Kept.{inv_kept}
 use Rattle.wfe_lawful.specs.QueueLaw.{taken_of}
-use Rattle.wfe_lawful.proofs.Each.{begins_right, steps_right}
 use Rattle.wfe_lawful.proofs.Maps.{told_changes}
 use Rattle.wfe_lawful.proofs.Queues.{Agrees, told_agrees}
 
@@ -42,14 +42,8 @@ step_keeps layout made i b g = record {
   agrees = told_agrees i (told_in made.world i) made.past made.world.book g.agrees;
 }
 
-item_keeps : (layout : Layout) (made : Made) (item : Item) (fit : Bool) → fits made.world item ≡ fit → Keeps layout made → Keeps layout (done_if made item fit)
-item_keeps layout made item false f g = g
-item_keeps layout made (Begins i call) true f g = begin_keeps layout made i call (begins_right i made.world.layout.config.seats (is_busy made.world i) f) g
-item_keeps layout made (Steps i) true f g = step_keeps layout made i (steps_right i made.world.layout.config.seats (is_busy made.world i) f) g
-
-items_keep : (layout : Layout) (items : List Item) (made : Made) → Keeps layout made → Keeps layout (made_from made items)
-items_keep layout [] made g = g
-items_keep layout (item ∷ items) made g = items_keep layout items (did made item) (item_keeps layout made item (fits made.world item) refl g)
+steady : (layout : Layout) → Steady (Keeps layout)
+steady layout = record { begins = λ made i call b y g. begin_keeps layout made i call y g; steps = λ made i b y g. step_keeps layout made i b g }
 
 -- bounds of a record
 pub record Bounds (most : ℕ) (p : Past) : Type 0 where
@@ -68,5 +62,5 @@ bounds_kept layout made g =
 
 pub record_bounds : (layout : Layout) (items : List Item) → is_valid layout ≡ true → Bounds layout.config.last_version (made_of layout items).past
 record_bounds layout items d =
-    bounds_kept layout (made_of layout items) (items_keep layout items (first_made layout)
+    bounds_kept layout (made_of layout items) (items_keep (Keeps layout) (steady layout) items (first_made layout)
     (record { table = refl; known = inv_start layout d; changes = λ b. refl; agrees = record { queued = refl; taken = refl } }))

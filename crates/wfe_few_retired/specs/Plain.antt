@@ -11,7 +11,7 @@ use Rattle.wfe_laws.specs.Record.{Past, Test, EachEntry, tells}
 use Rattle.wfe_history.specs.History.{Item, record_of}
 use Rattle.wfe_placing.specs.Seen.{seen}
 use Rattle.wfe_due_scans.specs.Scans.{Tally, tally_by, tally_of, no_tally, retired_course, scan_right, move_right}
-use Rattle.wfe_due_scans.specs.Outcomes.{ClockTally, clock_by, clock_tally, no_clock, clock_right}
+use Rattle.wfe_clock_answers.specs.Outcomes.{ClockTally, clock_by, clock_tally, no_clock, clock_right}
 use Rattle.wfe_few_retired.specs.Few.{count, is_retire}
 
 -- how many rows a seat has retired in all its calls

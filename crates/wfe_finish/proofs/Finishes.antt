@@ -1,7 +1,7 @@
 -- Each call ends within the steps of its own that it has left.
 use Rattle.std.proofs.Common.{ℕ, ◌≡◌, ◌≤◌, ◌<◌, ◌+◌, ◌^◌, Bool, true, false, List, [], ◌∷◌, ◌++◌, refl, sym, ap, subst, arith}
 use Rattle.std.proofs.lemmas.Bool.Decides.{nat_tests}
-use Rattle.std.specs.Prelude.{◌==◌, ◌&&◌, not, nat_lt, if◌then◌else◌}
+use Rattle.std.specs.Prelude.{◌==◌, ◌&&◌, nat_lt, if◌then◌else◌}
 use Rattle.wfe_words.specs.Place.{is_valid}
 use Rattle.wfe_words.specs.Place.Place.{Clock}
 use Rattle.wfe_words.specs.declared.layout.Layout.{Layout}
@@ -11,6 +11,7 @@ use Rattle.wfe_core.specs.Rest.{rest, rest_of}
 use Rattle.wfe_core.specs.World.{World, begin, step, is_busy}
 use Rattle.wfe_eras.proofs.Frame.{begin_stays}
 use Rattle.wfe_history.specs.History.{Item, Begins, Steps, Made, fits, done_if, did, made_from, first_made, made_of}
+use Rattle.wfe_history.proofs.Along.{Steady, item_keeps, items_keep, begins_right, low_seat}
 use Rattle.wfe_inv.specs.Ends.{CallsEnd}
 use Rattle.wfe_inv.specs.Inv.{Inv}
 use Rattle.wfe_inv.proofs.Begun.{inv_start, inv_begin}
@@ -23,21 +24,8 @@ record Goes (layout : Layout) (w : World) : Type 0 where
   table : w.layout ≡ layout
   known : Inv w
 
-begins_right : (seat seats : ℕ) (busy : Bool) → (nat_lt seat seats && not busy) ≡ true → busy ≡ false
-begins_right seat seats true h = absurd (grind (arith, nat_tests))
-begins_right seat seats false h = refl
-
-steps_right : (seat seats : ℕ) (busy : Bool) → (nat_lt seat seats && busy) ≡ true → seat < seats
-steps_right seat seats busy h = grind (arith, nat_tests)
-
-item_goes : (layout : Layout) (made : Made) (item : Item) (fit : Bool) → fits made.world item ≡ fit → Goes layout made.world → Goes layout (done_if made item fit).world
-item_goes layout made item false f g = g
-item_goes layout made (Begins k call) true f g = record { table = g.table; known = inv_begin made.world k call (begins_right k made.world.layout.config.seats (is_busy made.world k) f) g.known }
-item_goes layout made (Steps k) true f g = record { table = g.table; known = inv_kept made.world k (steps_right k made.world.layout.config.seats (is_busy made.world k) f) g.known }
-
-items_go : (layout : Layout) (items : List Item) (made : Made) → Goes layout made.world → Goes layout (made_from made items).world
-items_go layout [] made g = g
-items_go layout (item ∷ items) made g = items_go layout items (did made item) (item_goes layout made item (fits made.world item) refl g)
+steady : (layout : Layout) → Steady (λ made. Goes layout made.world)
+steady layout = record { begins = λ made k call b y g. record { table = g.table; known = inv_begin made.world k call y g.known }; steps = λ made k b y g. record { table = g.table; known = inv_kept made.world k b g.known } }
 
 -- an item leaves a call that is still under way fewer steps by its own, and no more
 apart : (busy : Bool) → busy ≡ true → busy ≡ false → ⊥
@@ -72,7 +60,7 @@ item_rest : (layout : Layout) (i : ℕ) (made : Made) (item : Item) (fit : Bool)
 item_rest layout i made (Begins k call) false f b l g h = omega arith
 item_rest layout i made (Steps k) false f b l g h = skipped made.world i k (i == k) refl b l f
 item_rest layout i made (Begins k call) true f b l g h = begin_rest made.world i k call (other_seat made.world i k (i == k) refl b (begins_right k made.world.layout.config.seats (is_busy made.world k) f))
-item_rest layout i made (Steps k) true f b l g h = made_step made.world i k (i == k) refl (steps_right k made.world.layout.config.seats (is_busy made.world k) f) g.known h
+item_rest layout i made (Steps k) true f b l g h = made_step made.world i k (i == k) refl (low_seat k made.world.layout.config.seats (is_busy made.world k) f) g.known h
 
 -- so the call ends among enough of them
 record Ends (made : Made) (more : List Item) (i : ℕ) : Type 0 where
@@ -95,7 +83,7 @@ finishes layout i more made false e l g h = record { first = []; last = more; cu
 finishes layout i [] made true e l g h = absurd (none_left (rest made.world i) (h e))
 finishes layout i (item ∷ more) made true e l g h =
     let next : Made = did made item in
-    let n = item_goes layout made item (fits made.world item) refl g in
+    let n = item_keeps (λ made. Goes layout made.world) (steady layout) made item (fits made.world item) refl g in
     let r = finishes layout i more next (is_busy next.world i) refl l n
     (λ b. fewer (rest next.world i) (rest made.world i) (is_own i item) (steps_in i more) (item_rest layout i made item (fits made.world item) refl e (in_table layout i made.world l g) g b) (h e)) in
     record { first = item ∷ r.first; last = r.last; cut = ap (λ (rest : List Item). item ∷ rest) r.cut; idle = r.idle }
@@ -114,7 +102,7 @@ few_of w i l a = let c : CallsEnd w i = inv_ends w i l a in c.few i
 pub calls_finish : CallsFinish
 calls_finish layout items i d l =
     let made : Made = made_of layout items in
-    let g = items_go layout items (first_made layout) (first_goes layout d) in
+    let g = items_keep (λ made. Goes layout made.world) (steady layout) items (first_made layout) (first_goes layout d) in
     record {
       few = few_of made.world i (in_table layout i made.world l g) g.known;
       ends = λ more h.

@@ -19,6 +19,7 @@ use Rattle.wfe_core.specs.Calls.{AfterScan, Answered, Repeated, Counted, ScanAt,
 use Rattle.wfe_core.specs.Locals.{Local, begun, begun_post, told_end, turn}
 use Rattle.wfe_core.specs.Posts.{counted}
 use Rattle.wfe_core.specs.World.{World, begin, step, finds, is_busy, told_in}
+use Rattle.wfe_core.proofs.Facts.{both, first_of, rest_of}
 use Rattle.wfe_covers.proofs.Held.{stepped_phase}
 use Rattle.wfe_eras.specs.Frame.{phase_left}
 use Rattle.wfe_eras.proofs.Frame.{seat_stays, begin_stays, begin_begins}
@@ -26,13 +27,13 @@ use Rattle.wfe_rows.specs.Rows.{is_taken}
 use Rattle.wfe_laws.specs.Record.{Past, Each, begins, own, held_since, tells_of}
 use Rattle.wfe_laws.specs.Record.Past.{Start, Then}
 use Rattle.wfe_laws.proofs.Entries.{entries_of_each}
-use Rattle.wfe_history.specs.History.{Item, Begins, Steps, Made, fits, done, done_if, did, made_from, made_of, first_made, record_of}
+use Rattle.wfe_history.specs.History.{Item, Begins, Steps, Made, fits, done, made_of, first_made, record_of}
+use Rattle.wfe_history.proofs.Along.{Steady, items_keep}
 use Rattle.wfe_once.specs.Rows.{taken_at}
 use Rattle.wfe_once.proofs.Along.{along}
 use Rattle.wfe_once.proofs.Calm.{is_unread}
 use Rattle.wfe_once.proofs.Keeps as once
-use Rattle.wfe_once.proofs.Keeps.{begins_right, steps_right}
-use Rattle.wfe_reuse.proofs.Passes.{both, first_of, rest_of, scan_told}
+use Rattle.wfe_reuse.proofs.Passes.{scan_told}
 use Rattle.wfe_lawful.proofs.Each.{all_of}
 use Rattle.wfe_lawful.proofs.Machines.{is_within}
 use Rattle.wfe_answers.proofs.Answering as answering
@@ -490,18 +491,11 @@ first_keeps layout d = record {
   lacks = tt;
 }
 
-item_keeps : (layout : Layout) (made : Made) (item : Item) (fit : Bool) → fits made.world item ≡ fit → Keeps layout made → Keeps layout (done_if made item fit)
-item_keeps layout made item false f g = g
-item_keeps layout made (Begins i call) true f g = begin_keeps layout made i call (begins_right i made.world.layout.config.seats (is_busy made.world i) f) g
-item_keeps layout made (Steps i) true f g =
-    step_keeps layout made i (steps_right i made.world.layout.config.seats (is_busy made.world i) f) (rest_of (nat_lt i made.world.layout.config.seats) (is_busy made.world i) f) g
-
-items_keep : (layout : Layout) (items : List Item) (made : Made) → Keeps layout made → Keeps layout (made_from made items)
-items_keep layout [] made g = g
-items_keep layout (item ∷ items) made g = items_keep layout items (did made item) (item_keeps layout made item (fits made.world item) refl g)
+steady : (layout : Layout) → Steady (Keeps layout)
+steady layout = record { begins = λ made i call b y g. begin_keeps layout made i call y g; steps = λ made i b y g. step_keeps layout made i b y g }
 
 history_keeps : (layout : Layout) (items : List Item) → is_valid layout ≡ true → Keeps layout (made_of layout items)
-history_keeps layout items d = items_keep layout items (first_made layout) (first_keeps layout d)
+history_keeps layout items d = items_keep (Keeps layout) (steady layout) items (first_made layout) (first_keeps layout d)
 
 record AllKept (c : Config) (r : Past) : Type 0 where
   rooms : (s : ℕ) → s ≤ c.slots → Each (room_ok c.slots s) r

@@ -22,8 +22,8 @@ use Rattle.wfe_core.specs.Phases.{Base, Outcome, Goes, Ends}
 use Rattle.wfe_core.specs.Phases.Ending.{Done, Protected, Followed, Allocated, Retired, Clocked}
 use Rattle.wfe_core.specs.Calls.{Task, Gets, Changes, Holds, Enqueues, Dequeues, Opens, EnqueueKept, LoadCount, LoadValue, LoadNext, Changing, Enqueuing, Phase, Idle, Runs, Scans, Works}
 use Rattle.wfe_core.specs.World.{World, finds}
+use Rattle.wfe_core.proofs.Facts.{same_number, both, first_of, rest_of}
 use Rattle.wfe_answers.proofs.Owed.{Serves, call_for}
-use Rattle.wfe_contents.proofs.Lasts.{same_number}
 use Rattle.wfe_covers.proofs.Held.{finds_at}
 use Rattle.wfe_laws.specs.MapLaw.{was_current}
 use Rattle.wfe_laws.specs.Record.{Past, begins, held_since}
@@ -31,7 +31,6 @@ use Rattle.wfe_laws.specs.StateAt.{bucket_of, changes_of, count_of}
 use Rattle.wfe_lawful.specs.QueueLaw.{queued_of}
 use Rattle.wfe_reads.specs.Reads.{numbers_in}
 use Rattle.wfe_requests.specs.Views.{View as Asked}
-use Rattle.wfe_reuse.proofs.Passes.{both, first_of, rest_of}
 use Rattle.wfe_rows.specs.Queue.{Line, stands_on}
 use Rattle.wfe_rows.specs.Rows.{View}
 use Rattle.wfe_reasons.specs.Seen.{begun_at, has_had, is_there, pairs_at}

@@ -17,13 +17,13 @@ use Rattle.wfe_core.specs.Posts.{stands}
 use Rattle.wfe_core.specs.Rounds.{begin_base, begin_span, release_base, round, round_by, scheme_of}
 use Rattle.wfe_core.specs.Scan as scan
 use Rattle.wfe_core.specs.Steps as steps
+use Rattle.wfe_core.proofs.Facts.{both, first_of, rest_of}
 use Rattle.wfe_eras.specs.Frame.{phase_left}
 use Rattle.wfe_laws.specs.Record.{Past, Test, begins, own, held_since, tells_of}
 use Rattle.wfe_laws.specs.Record.Past.{Start, Then}
 use Rattle.wfe_lawful.proofs.Each.{all_of}
 use Rattle.wfe_once.proofs.Calm as calm
 use Rattle.wfe_once.proofs.Calm.{is_unread, run_unread, work_unread}
-use Rattle.wfe_reuse.proofs.Passes.{both, first_of, rest_of}
 use Rattle.wfe_walks.specs.Walks.{WalkPhase}
 use Rattle.wfe_words.specs.declared.config.SchemeKind.{SchemeKind}
 use Rattle.wfe_words.specs.declared.config.SchemeKind.TheVariants.{He, Ibr, Wfe}

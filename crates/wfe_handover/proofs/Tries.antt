@@ -21,6 +21,7 @@ use Rattle.wfe_core.specs.Phases.Base.{Protect}
 use Rattle.wfe_core.specs.Protect.{concluded}
 use Rattle.wfe_core.specs.SlowPath.{own_request, answer_in, lost_turn}
 use Rattle.wfe_core.specs.Machine.{protect_move, protect_turn}
+use Rattle.wfe_core.proofs.Facts.{both}
 use Rattle.wfe_eras.specs.Seats.{is_wfe, protect_fits}
 use Rattle.wfe_rows.specs.Rows.{Status}
 use Rattle.wfe_covers.specs.Held.{leads, under, tries_protect, tries_base}
@@ -51,9 +52,6 @@ Rose clock status post index root at j s = (stands post j ≡ Some s) ⊎ ((j �
 from_check : (clock : ℕ) (status : ℕ → Status) (post : Post) (index : ℕ) (root : Root) (era : ℕ) (tries : Tries) (link j s : ℕ) → (stands post j ≡ Some s) ⊎ ((j ≡ index) × ((leads link s && (clock == era && under status root)) ≡ true)) → Rose clock status post index root (CheckClock era tries link) j s
 from_check clock status post index root era tries link j s (inl x) = inl x
 from_check clock status post index root era tries link j s (inr x) = inr (x.0, inl x.1)
-
-both : (x y : Bool) → x ≡ true → y ≡ true → (x && y) ≡ true
-both x y a b = grind (arith, nat_tests)
 
 from_taken : (clock : ℕ) (status : ℕ → Status) (post : Post) (index : ℕ) (root : Root) (link era j s : ℕ) → Rises status post index root link j s → Rose clock status post index root (TakeAnswer link era) j s
 from_taken clock status post index root link era j s (inl x) = inl x

@@ -8,6 +8,7 @@ use Rattle.wfe_defs.specs.declared.event.Event.{Event}
 use Rattle.wfe_defs.specs.declared.event.Event.TheVariants as events
 use Rattle.wfe_defs.specs.declared.event.Guard.{Guard}
 use Rattle.wfe_defs.specs.declared.lifetime.Interval.{Interval}
+use Rattle.wfe_core.proofs.Facts.{first_of, rest_of}
 use Rattle.wfe_ends.specs.Standing as told
 use Rattle.wfe_holding.specs.Holding.{is_held}
 use Rattle.wfe_laws.specs.Record.{Past, Test, Each, tells_of}
@@ -15,7 +16,6 @@ use Rattle.wfe_laws.specs.Record.Past.{Then}
 use Rattle.wfe_lawful.proofs.Each.{all_of}
 use Rattle.wfe_placing.proofs.Tells.{tells_both}
 use Rattle.wfe_reuse.specs.Law.{stood_at, is_row}
-use Rattle.wfe_reuse.proofs.Passes.{first_of, rest_of}
 
 -- an event that changes nothing of guards, lives and taken rows
 abbrev pub is_flat : Event → Bool

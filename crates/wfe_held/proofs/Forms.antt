@@ -34,12 +34,13 @@ use Rattle.wfe_core.specs.Phases.MoveAt.{LoadEra, LoadRequest, ShowEra, LoadAske
 use Rattle.wfe_core.specs.Phases.Base.{Begin, Protect, Reload, Clear, Finish, Release, Allocate, Write, GiveUp, Retire, Move}
 use Rattle.wfe_core.specs.Phases.Ending.{Done, Protected, Followed, Allocated, Retired, Clocked}
 use Rattle.wfe_core.specs.Calls.{Task, Next, Again, MakeRoom, Answering, Retiring, AfterScan, Answered, Repeated, Counted, Why, Opens, FollowsHead, Fills, ClearsNext, Clears, Finishes, GivesUp, Retires, Tidies, Advances, Releases, GiveBack, Runs, Scans, CallTurn, CallOutcome, GoesOn, Answers}
+use Rattle.wfe_core.proofs.Facts.{first_of, rest_of}
 use Rattle.wfe_counting.proofs.Told.{concluded_told}
 use Rattle.wfe_eras.specs.Frame.{is_ibr}
 use Rattle.wfe_eras.specs.Seats.{Run, ToClear, is_wfe, suits, protect_fits}
 use Rattle.wfe_lawful.proofs.Each.{all_of}
 use Rattle.wfe_lawful.proofs.Machines.{of_along}
-use Rattle.wfe_reuse.proofs.Passes.{is_quiet, all_quiet, first_of, rest_of, Closed, step_goes}
+use Rattle.wfe_reuse.proofs.Passes.{is_quiet, all_quiet, Closed, step_goes}
 use Rattle.wfe_held.proofs.Flat.{is_flat, is_settled, is_clearing}
 
 -- rows are cleared, and last comes one event

@@ -1,13 +1,3 @@
-pub mod Behind
 pub mod Flat
-pub mod Following
 pub mod Forms
-pub mod Gots
-pub mod Nexts
-pub mod Nulled
-pub mod Resting
-pub mod Rowed
-pub mod Spans
-pub mod Spent
 pub mod Throughout
-pub mod Valued

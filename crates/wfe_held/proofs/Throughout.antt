@@ -24,11 +24,13 @@ use Rattle.wfe_core.specs.Phases.{Aim, Base}
 use Rattle.wfe_core.specs.Phases.ProtectAt.{TakeAnswer}
 use Rattle.wfe_core.specs.Phases.Base.{Protect}
 use Rattle.wfe_core.specs.Calls.{ReadGuard, GiveBack, Why, Phase, Idle, Runs, Scans, Works}
+use Rattle.wfe_core.proofs.Facts.{same_number, rest_of}
 use Rattle.wfe_covers.proofs.Resting.{rests_give}
 use Rattle.wfe_ends.specs.Standing as told
 use Rattle.wfe_ends.proofs.Held.{held_stands}
 use Rattle.wfe_eras.specs.Seats.{Seats}
 use Rattle.wfe_history.specs.History.{Item, Begins, Steps, Made, fits, done, done_if, did, made_from, first_made, made_of, record_of, world_of}
+use Rattle.wfe_history.proofs.Along.{low_seat, made_snoc}
 use Rattle.wfe_holding.specs.Holding.{is_held}
 use Rattle.wfe_holding.proofs.Holds.{records_hold}
 use Rattle.wfe_inv.specs.Inv.{Inv}
@@ -40,17 +42,14 @@ use Rattle.wfe_laws.proofs.Entries.{entries_of_each}
 use Rattle.wfe_lawful.proofs.Each.{all_of}
 use Rattle.wfe_lawful.proofs.Machines.{of_along}
 use Rattle.wfe_reuse.specs.Law.{stood_at, is_row}
-use Rattle.wfe_once.proofs.Keeps.{steps_right}
 use Rattle.wfe_reuse.proofs.Keeps.{record_stands}
-use Rattle.wfe_reuse.proofs.Passes.{rest_of}
 use Rattle.wfe_roots.proofs.Ways.{Turning}
-use Rattle.wfe_rows.proofs.Went.{same_number}
 use Rattle.wfe_told.proofs.Rows.{own_told, own_post, step_adds}
 use Rattle.wfe_told.proofs.Turns.{Adds, is_later}
 use Rattle.wfe_held.specs.Positions.{RecordsHoldThroughout}
 use Rattle.wfe_held.proofs.Flat.{is_flat, is_at, holds_ok, Good, good_ok, late_each, take_each, plain_each}
 use Rattle.wfe_held.proofs.Forms.{Shape, Even, Late, is_taking, run_shape, back_shape}
-use Rattle.wfe_held.proofs.Resting.{next_made}
+use Rattle.wfe_resting.proofs.Resting.{next_made}
 
 row_some : (s : ℕ) (x : Option ℕ) → is_row s x ≡ true → x ≡ Some s
 row_some s None h = absurd (cc)
@@ -185,16 +184,12 @@ step_each layout path i k j s d t g =
     phase_each layout.config k j s w i (record_of layout path) (w.seat i).phase refl (inv_reached layout path d) (λ n. record_stands layout path i n d)
     (record { now = good_at layout path k j s d; last = good_next layout path i k j s d t; held = λ h o. stands_next layout path i k j s d t h o }) g
 
-made_snoc : (made : Made) (path : List Item) (item : Item) → made_from made (path ++ item ∷ []) ≡ did (made_from made path) item
-made_snoc made [] item = refl
-made_snoc made (first ∷ path) item = made_snoc (did made first) path item
-
 item_each : (layout : Layout) (path : List Item) (item : Item) (fit : Bool) (k j s : ℕ) → is_valid layout ≡ true → fits (world_of layout path) item ≡ fit → Each (holds_ok layout.config k j s) (record_of layout path) → Each (holds_ok layout.config k j s) (done_if (made_of layout path) item fit).past
 item_each layout path item false k j s d f g = g
 item_each layout path (Begins i call) true k j s d f g = (good_ok (is_row s (stood_at k j (record_of layout path))) (is_held layout.config k j s (record_of layout path)) (good_at layout path k j s d), g)
 item_each layout path (Steps i) true k j s d f g =
     let w : World = world_of layout path in
-    step_each layout path i k j s d (record { seat = steps_right i w.layout.config.seats (is_busy w i) f; busy = rest_of (nat_lt i w.layout.config.seats) (is_busy w i) f }) g
+    step_each layout path i k j s d (record { seat = low_seat i w.layout.config.seats (is_busy w i) f; busy = rest_of (nat_lt i w.layout.config.seats) (is_busy w i) f }) g
 
 items_each : (layout : Layout) (items path : List Item) (made : Made) (k j s : ℕ) → is_valid layout ≡ true → made ≡ made_of layout path → Each (holds_ok layout.config k j s) made.past → Each (holds_ok layout.config k j s) (made_from made items).past
 items_each layout [] path made k j s d e g = g

@@ -1,4 +1,1 @@
-pub mod Behind
-pub mod Gots
 pub mod Positions
-pub mod Resting

@@ -17,6 +17,7 @@ use Rattle.wfe_core.specs.Phases.{Base}
 use Rattle.wfe_core.specs.Posts.{stands}
 use Rattle.wfe_core.specs.Scan.{meets_span}
 use Rattle.wfe_core.specs.World.{World, start, step, is_busy, told_in}
+use Rattle.wfe_core.proofs.Facts.{both, first_of}
 use Rattle.wfe_requests.specs.Views.{View as Asked}
 use Rattle.wfe_rows.specs.Agree.{first_rows, rows_after}
 use Rattle.wfe_requests.proofs.Kept.{requests_begin, requests_start}
@@ -29,7 +30,8 @@ use Rattle.wfe_covers.specs.Held.{own_guard}
 use Rattle.wfe_covers.proofs.Kept.{before_at}
 use Rattle.wfe_laws.specs.Record.{Past, tells_of}
 use Rattle.wfe_laws.specs.Record.Past.{Start, Then}
-use Rattle.wfe_history.specs.History.{Item, Begins, Steps, Made, fits, done, done_if, did, made_from, made_of, first_made, record_of, world_of}
+use Rattle.wfe_history.specs.History.{Item, Begins, Steps, Made, fits, done, made_of, first_made, record_of, world_of}
+use Rattle.wfe_history.proofs.Along.{Steady, items_keep}
 use Rattle.wfe_told.specs.Births.{Given, GivenNeeds, given_after}
 use Rattle.wfe_told.proofs.Births.{given_start, given_begin, given_kept}
 use Rattle.wfe_told.specs.Told.{is_of_rows, row_events, birth_in, move_of}
@@ -42,11 +44,9 @@ use Rattle.wfe_inv.proofs.Rows.{rows_need, covers_need}
 use Rattle.wfe_inv.proofs.Shapes.{run_of, eras_of}
 use Rattle.wfe_inv.proofs.Shown.{clock_small}
 use Rattle.wfe_reuse.proofs.Keeps.{record_stands}
-use Rattle.wfe_reuse.proofs.Passes.{both, first_of}
 use Rattle.wfe_once.specs.Rows.{taken_by, taken_at}
 use Rattle.wfe_once.proofs.Along.{along, along_kind, taken_tells, taken_quiet}
 use Rattle.wfe_once.proofs.Moves.{taken_made}
-use Rattle.wfe_once.proofs.Keeps.{begins_right, steps_right}
 use Rattle.wfe_holding.specs.Holding.{value_of, birth_of, retire_of, ended_by, life_at, is_held, RecordsHold, RecordValues}
 use Rattle.wfe_holding.proofs.Lives.{retire_tells, retire_quiet, birth_tells, retire_made}
 use Rattle.wfe_holding.proofs.Values.{reserved, Ranges, step_agrees}
@@ -174,14 +174,8 @@ step_held layout made i b g =
       tied = tied_step made.world i g.rows g.line g.asked made.past g.births k g.tied;
     }
 
-item_held : (layout : Layout) (made : Made) (item : Item) (fit : Bool) → fits made.world item ≡ fit → Held layout made → Held layout (done_if made item fit)
-item_held layout made item false f g = g
-item_held layout made (Begins i call) true f g = begin_held layout made i call (begins_right i made.world.layout.config.seats (is_busy made.world i) f) g
-item_held layout made (Steps i) true f g = step_held layout made i (steps_right i made.world.layout.config.seats (is_busy made.world i) f) g
-
-items_held : (layout : Layout) (items : List Item) (made : Made) → Held layout made → Held layout (made_from made items)
-items_held layout [] made g = g
-items_held layout (item ∷ items) made g = items_held layout items (did made item) (item_held layout made item (fits made.world item) refl g)
+steady : (layout : Layout) → Steady (Held layout)
+steady layout = record { begins = λ made i call b y g. begin_held layout made i call y g; steps = λ made i b y g. step_held layout made i b g }
 
 pub first_held : (layout : Layout) → is_valid layout ≡ true → Held layout (first_made layout)
 first_held layout d =
@@ -197,7 +191,7 @@ first_held layout d =
     }
 
 pub history_held : (layout : Layout) (items : List Item) → is_valid layout ≡ true → Held layout (made_of layout items)
-history_held layout items d = items_held layout items (first_made layout) (first_held layout d)
+history_held layout items d = items_keep (Held layout) (steady layout) items (first_made layout) (first_held layout d)
 
 pub record_values : RecordValues
 record_values layout items guard d = let g = history_held layout items d in g.tied.values guard

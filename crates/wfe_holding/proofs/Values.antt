@@ -1,6 +1,5 @@
 -- What a step tells of guards is what it writes into their words.
 use Rattle.std.proofs.Common.{ℕ, ◌≡◌, ◌≤◌, ◌<◌, ◌+◌, ◌-◌, Bool, true, false, List, [], ◌∷◌, ◌++◌, Option, Some, None, refl, sym, ap, ◌∙◌, subst, arith}
-use Rattle.std.proofs.lemmas.Bool.Decides.{nat_tests}
 use Rattle.std.specs.Prelude.{◌==◌, ◌&&◌, is_some, if◌then◌else◌}
 use Rattle.wfe_words.specs.Packed.{halves, read_reservation, read_span, reservation_word}
 use Rattle.wfe_words.specs.Place.{Place, same, Place as places}
@@ -25,7 +24,7 @@ use Rattle.wfe_core.specs.Get.{get_move}
 use Rattle.wfe_core.specs.Guards.{guard_place, published, one_era, from_to, interval_in}
 use Rattle.wfe_core.specs.Machine as machine
 use Rattle.wfe_core.specs.Memory as memory
-use Rattle.wfe_core.specs.Memory.{Move as Act, Load, Store, Cas, Or, And, written, put, place_in, change, bump}
+use Rattle.wfe_core.specs.Memory.{Move as Act, Load, Store, Cas, Or, And, written, put, place_in, bump}
 use Rattle.wfe_core.specs.MoveClock as movers
 use Rattle.wfe_core.specs.Phases.{Aim, Alone, Follows, BeginAt, ProtectAt, AllocateAt, RetireAt, MoveAt, Walk, Base}
 use Rattle.wfe_core.specs.Phases.BeginAt.{LoadLower, PublishSpan}
@@ -41,12 +40,13 @@ use Rattle.wfe_core.specs.Scan.{scan_move}
 use Rattle.wfe_core.specs.Spans.{eras_word}
 use Rattle.wfe_core.specs.Steps as steps
 use Rattle.wfe_core.specs.World.{World, step, finds, told_in}
+use Rattle.wfe_core.proofs.Facts.{number_is, both, first_of, rest_of}
 use Rattle.wfe_covers.specs.Covers.{shown}
 use Rattle.wfe_eras.specs.Frame.{is_ibr}
 use Rattle.wfe_eras.specs.Seats.{Run}
 use Rattle.wfe_eras.specs.Eras.{SpanIn, base_eras}
 use Rattle.wfe_inv.proofs.Shown.{word_era}
-use Rattle.wfe_reuse.proofs.Passes.{is_quiet, all_quiet, first_of, rest_of, both, Closed, First, scan_told, step_goes}
+use Rattle.wfe_reuse.proofs.Passes.{is_quiet, all_quiet, Closed, First, scan_told, step_goes}
 use Rattle.wfe_blocks.specs.Blocks.{same_guard}
 use Rattle.wfe_holding.specs.Holding.{reserved_by}
 
@@ -151,9 +151,6 @@ place_same (Index a i) (Whole b) = refl
 place_same (Whole a) (Helper b) = refl
 place_same (Whole a) (Index b j) = refl
 place_same (Whole a) (Whole b) = refl
-
-number_is : (a b : ℕ) → (a == b) ≡ true → a ≡ b
-number_is a b h = grind (arith, nat_tests)
 
 pair_is : (a i b j : ℕ) → (a == b && i == j) ≡ true → Index a i ≡ Index b j
 pair_is a i b j h =

@@ -16,6 +16,7 @@ use Rattle.wfe_core.specs.Phases.Base.{Begin, Protect, Reload, Clear, Finish, Re
 use Rattle.wfe_core.specs.Calls.{Why, Phase, Idle, Runs, Scans, Works}
 use Rattle.wfe_core.proofs.Roots.{root_at_link}
 use Rattle.wfe_core.specs.World.{World}
+use Rattle.wfe_core.proofs.Facts.{both, first_of}
 use Rattle.wfe_eras.specs.Eras.{Eras}
 use Rattle.wfe_eras.specs.Seats.{Seats}
 use Rattle.wfe_eras.specs.Slots.{Slots}
@@ -141,11 +142,6 @@ asked_root w k z x d s t q a =
 
 -- the row of an answer is held by the word of the seat that gave it, or by the index word; an answer that is taken is the
 -- protection's own
-both : (a b : Bool) → a ≡ true → b ≡ true → (a && b) ≡ true
-both true true h k = refl
-both true false h k = cc
-both false b h k = cc
-
 same_one : (s : ℕ) → (s == s) ≡ true
 same_one s = grind (arith, nat_tests)
 
@@ -296,10 +292,6 @@ opened_word tag index word (Open t j w) h = grind (arith, nat_tests)
 opened_word tag index word (Answered t j w l e m) h = absurd (cc)
 opened_word tag index word (Passed t j w l e) h = absurd (cc)
 opened_word tag index word (Taken t j w l e) h = absurd (cc)
-
-first_of : (a b : Bool) → (a && b) ≡ true → a ≡ true
-first_of true b h = refl
-first_of false b h = h
 
 second_of : (a b : Bool) → (a && b) ≡ true → b ≡ true
 second_of true b h = h

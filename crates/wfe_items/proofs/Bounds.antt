@@ -25,6 +25,7 @@ use Rattle.wfe_core.specs.Steps.{phase_turn}
 use Rattle.wfe_core.specs.Locals.{told_by, told_end}
 use Rattle.wfe_core.specs.World.{World}
 use Rattle.wfe_core.specs.Calls.{ChangeKept, EnqueueKept, Changes, Retiring, ChangeAt, LoadVersion, LoadCount, LoadKey, LoadValue, ExchangeRoot, EnqueueAt, LoadNumber, LoadNext, PassTail, ExchangeNext, ExchangeTail, DequeueAt, LoadTail, SwingTail, TakeNumber, TakeValue, ExchangeHead, Getting, Changing, Enqueuing, Dequeuing, Phase, Idle, Runs, Scans, Works, CallTurn}
+use Rattle.wfe_core.proofs.Facts.{number_is}
 use Rattle.wfe_eras.specs.Slots.{Slots, PhaseIn, ChangeIn, ChangeAtIn}
 use Rattle.wfe_rows.specs.Rows.{View}
 use Rattle.wfe_rows.specs.Agree.{Agree}
@@ -39,7 +40,7 @@ use Rattle.wfe_reads.specs.Reads.{Reads}
 use Rattle.wfe_items.specs.Items.{Shown}
 use Rattle.wfe_items.specs.Bounded.{BoundedStart, BoundedBegin, BoundedKept}
 use Rattle.wfe_reads.proofs.Events.{mute_append, end_mute, mute_book}
-use Rattle.wfe_items.proofs.Follow.{finds_phase, LineIn, WalksIn, number_is, phase_finds}
+use Rattle.wfe_items.proofs.Follow.{finds_phase, LineIn, WalksIn, phase_finds}
 use Rattle.wfe_items.proofs.Steps.{first_booked}
 use Rattle.wfe_reads.proofs.Turns.{phase_turns}
 use Rattle.wfe_words.specs.Place.Place.{Head, Row}

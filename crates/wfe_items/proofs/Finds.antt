@@ -8,6 +8,7 @@ use Rattle.wfe_defs.specs.declared.event.Root.TheVariants as roots
 use Rattle.wfe_core.specs.declared.post.Post.{Post}
 use Rattle.wfe_core.specs.Calls.{ChangeKept, EnqueueKept, GetAt, FindVersion, FindCount, FindKey, FindValue, ChangeAt, LoadVersion, LoadCount, LoadKey, LoadValue, ExchangeRoot, EnqueueAt, LoadNumber, LoadNext, PassTail, ExchangeNext, ExchangeTail, DequeueAt, LoadTail, SwingTail, TakeNumber, TakeValue, ExchangeHead, Work, Getting, Changing, Enqueuing, Dequeuing, Phase, Works}
 use Rattle.wfe_core.specs.World.{World}
+use Rattle.wfe_core.proofs.Facts.{same_number}
 use Rattle.wfe_eras.specs.Slots.{work_finds, get_finds, change_finds, enqueue_finds, dequeue_finds}
 use Rattle.wfe_rows.specs.Rows.{View, is_settled}
 use Rattle.wfe_rows.specs.Queue.{Line}
@@ -19,7 +20,7 @@ use Rattle.wfe_items.specs.Items.{Items}
 use Rattle.wfe_reads.specs.Reads.{Reads}
 use Rattle.wfe_items.specs.Bounded.{Bounded}
 use Rattle.wfe_items.specs.Gives.{WorkFinds}
-use Rattle.wfe_items.proofs.Follow.{finds_phase, WalksIn, same_number}
+use Rattle.wfe_items.proofs.Follow.{finds_phase, WalksIn}
 
 -- a settled row of a bucket shows a version and a count in range
 

@@ -1,6 +1,5 @@
 -- What a step finds of the queue's rows, and a row to which a dequeue has followed the head's next link.
 use Rattle.std.proofs.Common.{ℕ, ◌≡◌, ◌+◌, Bool, true, false, arith, refl, ap, sym, ◌∙◌, [], ◌∷◌}
-use Rattle.std.proofs.lemmas.Bool.Decides.{nat_tests}
 use Rattle.std.specs.Prelude.{◌==◌, if◌then◌else◌}
 use Rattle.wfe_words.specs.Place.{Place}
 use Rattle.wfe_words.specs.Place.Place.{Head, Tail, Row}
@@ -19,6 +18,7 @@ use Rattle.wfe_core.specs.Phases.{Aim, Alone, Follows, ProtectAt, Base, Outcome,
 use Rattle.wfe_core.specs.Phases.Ending.{Done, Protected, Followed, Allocated, Retired, Clocked}
 use Rattle.wfe_core.specs.Phases.Base.{Begin, Protect, Reload, Clear, Finish, Release, Allocate, Write, GiveUp, Retire, Move}
 use Rattle.wfe_core.specs.Calls.{EnqueueKept, Why, Opens, FollowsHead, Fills, ClearsNext, Clears, Finishes, GivesUp, Retires, Tidies, Advances, Releases, EnqueueAt, LoadNumber, LoadNext, PassTail, ExchangeNext, ExchangeTail, DequeueAt, LoadTail, SwingTail, TakeNumber, TakeValue, ExchangeHead, Work, Getting, Changing, Enqueuing, Dequeuing, Phase, Idle, Runs, Scans, Works}
+use Rattle.wfe_core.proofs.Facts.{same_number, number_is}
 use Rattle.wfe_rows.specs.Rows.{View}
 use Rattle.wfe_rows.specs.Follow.{LoadsBase}
 use Rattle.wfe_rows.specs.Queue.{Line, InLine, Walks}
@@ -56,12 +56,6 @@ unlanded l (Ends (Followed ending)) h = unfollowed l ending h
 unlanded l (Ends (Allocated ending)) h = tt
 unlanded l (Ends (Retired life)) h = tt
 unlanded l (Ends (Clocked clock)) h = tt
-
-pub number_is : (a b : ℕ) → (a == b) ≡ true → a ≡ b
-number_is a b h = grind (arith, nat_tests)
-
-pub same_number : (n : ℕ) → (n == n) ≡ true
-same_number n = grind (arith, nat_tests)
 
 -- the row after the head
 pub after_head : (v : View) (l : Line) (mem : Place → ℕ) (head slot : ℕ) → LineIn v l mem → v.head ≡ head + 1 → mem (Row head 0) ≡ slot + 1 → NextRight l slot

@@ -22,6 +22,7 @@ use Rattle.wfe_core.specs.Desks.{Desk}
 use Rattle.wfe_core.specs.Steps.{phase_turn}
 use Rattle.wfe_core.specs.Locals.{told_by, told_end}
 use Rattle.wfe_core.specs.Calls.{ChangeKept, EnqueueKept, Changes, Retiring, ChangeAt, LoadVersion, LoadCount, LoadKey, LoadValue, ExchangeRoot, EnqueueAt, LoadNumber, LoadNext, PassTail, ExchangeNext, ExchangeTail, DequeueAt, LoadTail, SwingTail, TakeNumber, TakeValue, ExchangeHead, Getting, Changing, Enqueuing, Dequeuing, Phase, Idle, Runs, Scans, Works, CallTurn}
+use Rattle.wfe_core.proofs.Facts.{same_number, number_is}
 use Rattle.wfe_rows.specs.Rows.{View}
 use Rattle.wfe_rows.specs.Queue.{Line}
 use Rattle.wfe_stands.proofs.Rounds.{Adds, clearing_adds, clearing_next_adds}
@@ -29,7 +30,7 @@ use Rattle.wfe_reads.specs.Reads.{value_under, Reads}
 use Rattle.wfe_items.specs.Items.{Shown}
 use Rattle.wfe_items.specs.Gives.{LastNumber, EmptyRight, ItemsCount, TakenRight, QueueRight, AllQueueRight, ItemsTold}
 use Rattle.wfe_reads.proofs.Events.{first_mute, rest_mute, mute_append, clear_mute, end_mute}
-use Rattle.wfe_items.proofs.Follow.{finds_phase, LineIn, WalksIn, number_is, same_number, phase_finds}
+use Rattle.wfe_items.proofs.Follow.{finds_phase, LineIn, WalksIn, phase_finds}
 use Rattle.wfe_reads.proofs.Turns.{phase_turns}
 use Rattle.wfe_reads.specs.Turns.{is_mute, all_mute, change_hits, enqueue_hits, dequeue_hits, hits, Turns}
 

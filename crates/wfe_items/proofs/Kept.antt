@@ -10,6 +10,7 @@ use Rattle.wfe_core.specs.Posts.{counted}
 use Rattle.wfe_core.specs.Locals.{Local, turn, settled}
 use Rattle.wfe_core.specs.Calls.{EnqueueKept, ExchangeNext, Enqueuing, AfterScan, GiveBack, Phase, Scans, Works}
 use Rattle.wfe_core.specs.World.{World, step, finds}
+use Rattle.wfe_core.proofs.Facts.{number_is}
 use Rattle.wfe_eras.specs.Frame.{phase_left, Seated}
 use Rattle.wfe_eras.specs.Slots.{PhaseIn}
 use Rattle.wfe_eras.proofs.Frame.{seat_stays, seat_steps, settled_seated}
@@ -30,7 +31,6 @@ use Rattle.wfe_contents.specs.Knows.{Knows}
 use Rattle.wfe_stands.specs.Stands.{nexts_in}
 use Rattle.wfe_reads.specs.Reads.{Reads}
 use Rattle.wfe_items.specs.Items.{Items, ItemsNeeds, ItemsKept}
-use Rattle.wfe_items.proofs.Follow.{number_is}
 use Rattle.wfe_items.proofs.Rows.{returned_queue}
 use Rattle.wfe_items.proofs.Shown.{Kept, reads_grown}
 use Rattle.wfe_items.proofs.Steps.{Did, Rests, phase_did}

@@ -9,6 +9,7 @@ use Rattle.wfe_words.specs.Place.Place.{Row}
 use Rattle.wfe_core.specs.Book.{Book}
 use Rattle.wfe_core.specs.Phases.{Base}
 use Rattle.wfe_core.specs.Calls.{EnqueueKept, Task, Gets, Changes, Holds, Enqueues, Dequeues, Why, Opens, FollowsHead, Fills, ClearsNext, Clears, Finishes, GivesUp, Retires, Tidies, Advances, Releases, EnqueueAt, LoadNumber, LoadNext, PassTail, ExchangeNext, ExchangeTail, DequeueAt, LoadTail, SwingTail, TakeNumber, TakeValue, ExchangeHead, Work, Getting, Changing, Enqueuing, Dequeuing, Phase, Idle, Runs, Scans, Works}
+use Rattle.wfe_core.proofs.Facts.{number_is}
 use Rattle.wfe_rows.specs.Rows.{View}
 use Rattle.wfe_rows.specs.Queue.{Line, moved_line, stands_on}
 use Rattle.wfe_rows.specs.Queue.LineMove.{Joins}
@@ -17,9 +18,6 @@ use Rattle.wfe_stands.specs.Stands.{nexts_in}
 use Rattle.wfe_reads.specs.Reads.{value_under, numbers_in, values_in, Reads}
 use Rattle.wfe_items.specs.Items.{Shown}
 use Rattle.wfe_items.proofs.Rows.{Lower}
-
-number_is : (a b : ℕ) → (a == b) ≡ true → a ≡ b
-number_is a b h = grind (arith, nat_tests)
 
 -- values that were queued stay under their numbers
 pub value_stays : (queued : List ℕ) (value n : ℕ) → 0 < n → n ≤ length queued → value_under (queued ++ value ∷ []) n ≡ value_under queued n

@@ -24,6 +24,7 @@ use Rattle.wfe_core.specs.Scan as scan
 use Rattle.wfe_core.specs.Steps.{phase_move, phase_turn}
 use Rattle.wfe_core.specs.Locals.{told_by, told_end}
 use Rattle.wfe_core.specs.Calls.{ChangeKept, EnqueueKept, Changes, Retiring, ChangeAt, LoadVersion, LoadCount, LoadKey, LoadValue, ExchangeRoot, EnqueueAt, LoadNumber, LoadNext, PassTail, ExchangeNext, ExchangeTail, DequeueAt, LoadTail, SwingTail, TakeNumber, TakeValue, ExchangeHead, Work, Getting, Changing, Enqueuing, Dequeuing, Phase, Idle, Runs, Scans, Works, CallTurn}
+use Rattle.wfe_core.proofs.Facts.{same_number, number_is}
 use Rattle.wfe_eras.specs.Frame.{phase_left}
 use Rattle.wfe_eras.proofs.Frame.{written_own}
 use Rattle.wfe_rows.specs.Rows.{View, Good, made}
@@ -43,7 +44,7 @@ use Rattle.wfe_stands.proofs.Rounds.{Adds, clearing_adds, clearing_next_adds, sc
 use Rattle.wfe_reads.specs.Reads.{Reads}
 use Rattle.wfe_items.specs.Items.{Shown}
 use Rattle.wfe_reads.proofs.Events.{mute_append, clear_mute, end_mute, mute_book, booked_append}
-use Rattle.wfe_items.proofs.Follow.{finds_phase, LineIn, WalksIn, number_is, same_number, phase_finds}
+use Rattle.wfe_items.proofs.Follow.{finds_phase, LineIn, WalksIn, phase_finds}
 use Rattle.wfe_items.proofs.Rows.{queues, Mild, mild_made, phase_mild, popped_queue, Lower, same_lower, phase_lower, enqueue_keeps}
 use Rattle.wfe_items.proofs.Shown.{Kept, mild_shown, Joining, joined_shown, Grown, lower_grown, joined_grown}
 use Rattle.wfe_reads.proofs.Turns.{phase_turns, bare_reads, free_bare}

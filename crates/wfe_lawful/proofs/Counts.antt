@@ -28,13 +28,14 @@ use Rattle.wfe_core.specs.Phases.MoveAt.{LoadEra, LoadRequest, ShowEra, LoadAske
 use Rattle.wfe_core.specs.Phases.Base.{Begin, Protect, Reload, Clear, Finish, Release, Allocate, Write, GiveUp, Retire, Move}
 use Rattle.wfe_core.specs.Calls.{Why, Opens, FollowsHead, Fills, ClearsNext, Clears, Finishes, GivesUp, Retires, Tidies, Advances, Releases, ScanAt, ReadGuard, GiveBack, Phase, Idle, Runs, Scans, Works}
 use Rattle.wfe_core.specs.World.{World, finds, told_in}
+use Rattle.wfe_core.proofs.Facts.{both, first_of, rest_of}
 use Rattle.wfe_eras.specs.Frame.{is_ibr}
 use Rattle.wfe_eras.specs.Seats.{is_wfe, protect_fits, kind_of, reloads, index_by, Run}
 use Rattle.wfe_requests.specs.Paces.{InTime}
 use Rattle.wfe_inv.specs.Inv.{Inv}
 use Rattle.wfe_inv.proofs.Shapes.{run_of}
 use Rattle.wfe_inv.proofs.Tells.{inv_times}
-use Rattle.wfe_reuse.proofs.Passes.{is_quiet, all_quiet, both, first_of, rest_of, Closed, First, scan_told, step_goes}
+use Rattle.wfe_reuse.proofs.Passes.{is_quiet, all_quiet, Closed, First, scan_told, step_goes}
 use Rattle.wfe_lawful.specs.StepLaw.{few_steps, RecordsKeepSteps}
 use Rattle.wfe_lawful.proofs.Each.{all_of, Tells, record_each}
 

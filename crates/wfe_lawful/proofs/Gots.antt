@@ -25,6 +25,7 @@ use Rattle.wfe_core.specs.Phases.Ending.{Done, Protected, Followed, Allocated, R
 use Rattle.wfe_core.specs.Calls.{Task, Gets, Changes, Holds, Enqueues, Dequeues, GetAt, FindVersion, FindCount, FindKey, FindValue, Work, Getting, Changing, Enqueuing, Dequeuing, Why, Opens, FollowsHead, Fills, ClearsNext, Clears, Finishes, GivesUp, Retires, Tidies, Advances, Releases, Phase, Idle, Runs, Scans, Works}
 use Rattle.wfe_core.specs.World.{World, finds, told_in}
 use Rattle.wfe_core.proofs.Frames.{after_same}
+use Rattle.wfe_core.proofs.Facts.{both}
 use Rattle.wfe_requests.specs.Views.{View as Asked}
 use Rattle.wfe_rows.specs.Queue.{Line}
 use Rattle.wfe_rows.specs.Rows.{View}
@@ -32,7 +33,7 @@ use Rattle.wfe_origins.specs.Tracked.{root_in}
 use Rattle.wfe_contents.specs.Knows.{Knows, GetKnows, FoundRow}
 use Rattle.wfe_contents.proofs.Lasts.{on}
 use Rattle.wfe_inv.specs.Known.{Known}
-use Rattle.wfe_reuse.proofs.Passes.{both, Closing, First, scan_told, get_allows, ending_allows, why_allows, outcome_allows, work_allows, phase_allows, step_closes}
+use Rattle.wfe_reuse.proofs.Passes.{Closing, First, scan_told, get_allows, ending_allows, why_allows, outcome_allows, work_allows, phase_allows, step_closes}
 use Rattle.wfe_lawful.proofs.Current.{Current, shelf_since, since_is, link_since}
 use Rattle.wfe_lawful.proofs.Each.{all_of}
 use Rattle.wfe_lawful.proofs.Machines.{is_machine, is_still, of_along, of_weaker, machine_still, base_machine, scan_machine, clear_machine, cut_still, link_still, end_still}

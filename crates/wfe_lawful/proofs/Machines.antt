@@ -30,7 +30,8 @@ use Rattle.wfe_core.specs.Phases.RetireAt.{LoadLife, LoadRetire, StoreRetired}
 use Rattle.wfe_core.specs.Phases.MoveAt.{LoadEra, LoadRequest, ShowEra, LoadAsked, CheckEra, AnswerAsked, LoadReserved, HandOver, HideEra, HideLate, ExchangeClock}
 use Rattle.wfe_core.specs.Phases.Base.{Begin, Protect, Reload, Clear, Finish, Release, Allocate, Write, GiveUp, Retire, Move}
 use Rattle.wfe_core.specs.Calls.{ScanAt, ReadGuard, GiveBack, Phase, Idle, Runs, Scans, Works, CallOutcome, GoesOn, Answers}
-use Rattle.wfe_reuse.proofs.Passes.{is_quiet, all_quiet, both, first_of, rest_of, Closed, Closing, Any, First, phase_any, scan_told, step_goes, step_closes}
+use Rattle.wfe_core.proofs.Facts.{both, first_of, rest_of}
+use Rattle.wfe_reuse.proofs.Passes.{is_quiet, all_quiet, Closed, Closing, Any, First, phase_any, scan_told, step_goes, step_closes}
 use Rattle.wfe_lawful.proofs.Each.{all_of}
 
 -- an event of a machine or of a scan

@@ -1,7 +1,7 @@
 -- The record of each history keeps the law of the map.
 use Rattle.std.proofs.Common.{ℕ, ◌≡◌, ◌≤◌, ◌<◌, ◌+◌, ◌%◌, Bool, true, false, List, [], ◌∷◌, ◌++◌, length, take, Option, Some, None, refl, sym, ap, ◌∙◌, subst, arith}
 use Rattle.std.proofs.lemmas.Bool.Decides.{nat_tests}
-use Rattle.std.specs.Prelude.{◌==◌, ◌&&◌, not, nat_le, nat_lt, if◌then◌else◌}
+use Rattle.std.specs.Prelude.{◌==◌, ◌&&◌, nat_le, if◌then◌else◌}
 use Rattle.wfe_words.specs.Place.{is_valid}
 use Rattle.wfe_words.specs.declared.layout.Layout.{Layout}
 use Rattle.wfe_defs.specs.Pairs.{pairs_after, value_in}
@@ -14,6 +14,7 @@ use Rattle.wfe_defs.specs.declared.fold.Change.TheVariants as the_changes
 use Rattle.wfe_core.specs.Book.{Book, booked, booked_all}
 use Rattle.wfe_core.specs.Posts.{counted}
 use Rattle.wfe_core.specs.World.{World, start, begin, step, finds, is_busy, told_in}
+use Rattle.wfe_core.proofs.Facts.{both, first_of, rest_of}
 use Rattle.wfe_requests.specs.Views.{Deal}
 use Rattle.wfe_requests.specs.Views.{View as Asked}
 use Rattle.wfe_requests.proofs.Kept.{requests_start, requests_begin}
@@ -27,13 +28,13 @@ use Rattle.wfe_laws.specs.Record.Past.{Start, Then}
 use Rattle.wfe_laws.specs.StateAt.{with_change, changes_of, count_of, value_at}
 use Rattle.wfe_laws.specs.MapLaw.{same_value, was_current, map_ok}
 use Rattle.wfe_laws.proofs.Entries.{entries_of_each}
-use Rattle.wfe_history.specs.History.{Item, Begins, Steps, Made, fits, done_if, did, done, made_from, first_made, record_of}
+use Rattle.wfe_history.specs.History.{Begins, Steps, Made, done, first_made, record_of}
+use Rattle.wfe_history.proofs.Along.{Steady, items_keep}
 use Rattle.wfe_inv.specs.Inv.{TellsRight as StepTells}
 use Rattle.wfe_inv.specs.Known.{Known}
 use Rattle.wfe_inv.proofs.Begun.{known_start, known_begin}
 use Rattle.wfe_inv.proofs.Kept.{known_kept, asked_next}
 use Rattle.wfe_inv.proofs.Tells.{inv_tells}
-use Rattle.wfe_reuse.proofs.Passes.{both, first_of, rest_of}
 use Rattle.wfe_lawful.specs.MapKept.{RecordsKeepMap}
 use Rattle.wfe_lawful.proofs.Current.{Current, base_begun, current_start, current_begin, current_kept, current_same}
 use Rattle.wfe_lawful.proofs.Each.{all_of}
@@ -126,18 +127,18 @@ still_each n i [] p h g = g
 still_each n i (event ∷ told) p h g = still_each n i told (Then p i event) (rest_of (is_still event) (all_of is_still told) h) (still_ok n i p event (first_of (is_still event) (all_of is_still told) h), g)
 
 -- what a step tells: at most one event of the map
-record Steady (i : ℕ) (base : ℕ → ℕ) (a : Book) (p : Past) : Type 0 where
+record Unmoved (i : ℕ) (base : ℕ → ℕ) (a : Book) (p : Past) : Type 0 where
   changes : (b : ℕ) → changes_of b p ≡ a.changes b
   begun : (b : ℕ) → base_of p i b ≡ base b
 
-event_each : (n i : ℕ) (base : ℕ → ℕ) (a : Book) (event : Event) (told : List Event) (p : Past) (still : Bool) → is_still event ≡ still → Steady i base a p → is_within event ≡ true → (if still then one_loud told else all_of is_still told) ≡ true → got_new n base event ≡ true → TellsRight n a event
-    → (Steady i base a (Then p i event) → one_loud told ≡ true → Each (map_ok n) (Then p i event) → Each (map_ok n) (tells_of (Then p i event) i told))
+event_each : (n i : ℕ) (base : ℕ → ℕ) (a : Book) (event : Event) (told : List Event) (p : Past) (still : Bool) → is_still event ≡ still → Unmoved i base a p → is_within event ≡ true → (if still then one_loud told else all_of is_still told) ≡ true → got_new n base event ≡ true → TellsRight n a event
+    → (Unmoved i base a (Then p i event) → one_loud told ≡ true → Each (map_ok n) (Then p i event) → Each (map_ok n) (tells_of (Then p i event) i told))
     → Each (map_ok n) p → Each (map_ok n) (tells_of (Then p i event) i told)
 event_each n i base a event told p true e s y h g r later t =
     later (record { changes = λ b. still_change b i p event e ∙ s.changes b; begun = λ b. one_base p i i b event y ∙ s.begun b }) h (still_ok n i p event e, t)
 event_each n i base a event told p false e s y h g r later t = still_each n i told (Then p i event) h (one_ok n i base a p event s.changes s.begun g r, t)
 
-told_each : (n i : ℕ) (base : ℕ → ℕ) (a : Book) (told : List Event) (p : Past) → Steady i base a p → all_of is_within told ≡ true → one_loud told ≡ true → all_of (got_new n base) told ≡ true → AllRight n a told → Each (map_ok n) p → Each (map_ok n) (tells_of p i told)
+told_each : (n i : ℕ) (base : ℕ → ℕ) (a : Book) (told : List Event) (p : Past) → Unmoved i base a p → all_of is_within told ≡ true → one_loud told ≡ true → all_of (got_new n base) told ≡ true → AllRight n a told → Each (map_ok n) p → Each (map_ok n) (tells_of p i told)
 told_each n i base a [] p s y h g r t = t
 told_each n i base a (event ∷ told) p s y h g r t =
     event_each n i base a event told p (is_still event) refl s (first_of (is_within event) (all_of is_within told) y) h (first_of (got_new n base event) (all_of (got_new n base) told) g) r.0
@@ -157,17 +158,10 @@ record Keeps (layout : Layout) (made : Made) : Type 0 where
 step_law : (w : World) (i : ℕ) (v : View) (l : Line) (z : Asked) (layout : Layout) (p : Past) → w.layout ≡ layout → i < w.layout.config.seats → Known w v l z → Current (base_of p) w z → ((b : ℕ) → changes_of b p ≡ w.book.changes b) → Each (map_ok layout.config.buckets) p → Each (map_ok layout.config.buckets) (tells_of p i (told_in w i))
 step_law w i v l z layout p e b a c h t =
     let m : StepTells w i = inv_tells w i b (record { rows = v; line = l; asked = z; known = a }) in
-    let s : Steady i (base_of p i) w.book p = record { changes = h; begun = λ bucket. refl } in
+    let s : Unmoved i (base_of p i) w.book p = record { changes = h; begun = λ bucket. refl } in
     subst (λ (table : Layout). Each (map_ok table.config.buckets) (tells_of p i (told_in w i))) e
     (told_each w.layout.config.buckets i (base_of p i) w.book (told_in w i) p s (told_within (w.seat i).phase (counted (w.seat i).post) (w.seat i).desk (finds w i)) (told_loud (w.seat i).phase (counted (w.seat i).post) (w.seat i).desk (finds w i))
     (told_new w i v l z (base_of p) a c) m.map (subst (λ (table : Layout). Each (map_ok table.config.buckets) p) (sym e) t))
-
-begins_right : (seat seats : ℕ) (busy : Bool) → (nat_lt seat seats && not busy) ≡ true → busy ≡ false
-begins_right seat seats true h = absurd (grind (arith, nat_tests))
-begins_right seat seats false h = refl
-
-steps_right : (seat seats : ℕ) (busy : Bool) → (nat_lt seat seats && busy) ≡ true → seat < seats
-steps_right seat seats busy h = grind (arith, nat_tests)
 
 begin_keeps : (layout : Layout) (made : Made) (i : ℕ) (call : Call) → is_busy made.world i ≡ false → Keeps layout made → Keeps layout (done made (Begins i call))
 begin_keeps layout made i call f g =
@@ -203,14 +197,8 @@ step_keeps layout made i b g =
       law = step_law made.world i g.rows g.line g.asked layout made.past g.table b k g.current g.changes g.law;
     }
 
-item_keeps : (layout : Layout) (made : Made) (item : Item) (fit : Bool) → fits made.world item ≡ fit → Keeps layout made → Keeps layout (done_if made item fit)
-item_keeps layout made item false f g = g
-item_keeps layout made (Begins i call) true f g = begin_keeps layout made i call (begins_right i made.world.layout.config.seats (is_busy made.world i) f) g
-item_keeps layout made (Steps i) true f g = step_keeps layout made i (steps_right i made.world.layout.config.seats (is_busy made.world i) f) g
-
-items_keep : (layout : Layout) (items : List Item) (made : Made) → Keeps layout made → Keeps layout (made_from made items)
-items_keep layout [] made g = g
-items_keep layout (item ∷ items) made g = items_keep layout items (did made item) (item_keeps layout made item (fits made.world item) refl g)
+steady : (layout : Layout) → Steady (Keeps layout)
+steady layout = record { begins = λ made i call b y g. begin_keeps layout made i call y g; steps = λ made i b y g. step_keeps layout made i b g }
 
 first_keeps : (layout : Layout) → is_valid layout ≡ true → Keeps layout (first_made layout)
 first_keeps layout d =
@@ -228,5 +216,5 @@ first_keeps layout d =
 
 pub records_keep_map : RecordsKeepMap
 records_keep_map layout items d =
-    let g = items_keep layout items (first_made layout) (first_keeps layout d) in
+    let g = items_keep (Keeps layout) (steady layout) items (first_made layout) (first_keeps layout d) in
     entries_of_each (map_ok layout.config.buckets) (record_of layout items) g.law

@@ -1,7 +1,7 @@
 -- The record of each history keeps the law of the queue.
 use Rattle.std.proofs.Common.{ℕ, ◌≡◌, ◌≤◌, ◌<◌, ◌+◌, ◌-◌, Bool, true, false, List, [], ◌∷◌, ◌++◌, length, refl, sym, ap, ◌∙◌, subst, arith}
 use Rattle.std.proofs.lemmas.Bool.Decides.{nat_tests}
-use Rattle.std.specs.Prelude.{◌==◌, ◌&&◌, not, nat_le, nat_lt, slice_index_or, if◌then◌else◌}
+use Rattle.std.specs.Prelude.{◌==◌, ◌&&◌, nat_le, slice_index_or, if◌then◌else◌}
 use Rattle.wfe_defs.specs.declared.call.Call.{Call}
 use Rattle.wfe_defs.specs.declared.event.Event.{Event}
 use Rattle.wfe_defs.specs.declared.event.Event.TheVariants as events
@@ -9,16 +9,17 @@ use Rattle.wfe_defs.specs.declared.event.Root.TheVariants as roots
 use Rattle.wfe_core.specs.Book.{Book, booked, booked_all}
 use Rattle.wfe_core.specs.Posts.{counted}
 use Rattle.wfe_core.specs.World.{finds, is_busy, told_in}
+use Rattle.wfe_core.proofs.Facts.{both, first_of, rest_of}
 use Rattle.wfe_items.specs.Gives.{QueueRight, AllQueueRight}
 use Rattle.wfe_laws.specs.Record.{Past, Each, tells_of}
 use Rattle.wfe_laws.specs.Record.Past.{Then}
 use Rattle.wfe_laws.proofs.Entries.{entries_of_each}
-use Rattle.wfe_history.specs.History.{Item, Begins, Steps, Made, fits, done_if, did, done, made_from, first_made, record_of}
+use Rattle.wfe_history.specs.History.{Begins, Steps, Made, done, first_made, record_of}
+use Rattle.wfe_history.proofs.Along.{Steady, items_keep}
 use Rattle.wfe_inv.specs.Inv.{Inv, TellsRight}
 use Rattle.wfe_inv.proofs.Begun.{inv_start, inv_begin}
 use Rattle.wfe_inv.proofs.Kept.{inv_kept}
 use Rattle.wfe_inv.proofs.Tells.{inv_tells}
-use Rattle.wfe_reuse.proofs.Passes.{both, first_of, rest_of}
 use Rattle.wfe_lawful.specs.QueueLaw.{queued_of, taken_of, queue_ok, RecordsKeepQueue}
 use Rattle.wfe_lawful.proofs.Each.{all_of}
 use Rattle.wfe_lawful.proofs.Machines.{is_still, one_loud, told_loud}
@@ -105,13 +106,6 @@ record Keeps (made : Made) : Type 0 where
   agrees : Agrees made.world.book made.past
   law : Each queue_ok made.past
 
-begins_right : (seat seats : ℕ) (busy : Bool) → (nat_lt seat seats && not busy) ≡ true → busy ≡ false
-begins_right seat seats true h = absurd (grind (arith, nat_tests))
-begins_right seat seats false h = refl
-
-steps_right : (seat seats : ℕ) (busy : Bool) → (nat_lt seat seats && busy) ≡ true → seat < seats
-steps_right seat seats busy h = grind (arith, nat_tests)
-
 begin_keeps : (made : Made) (i : ℕ) (call : Call) → is_busy made.world i ≡ false → Keeps made → Keeps (done made (Begins i call))
 begin_keeps made i call f g =
     let o = g.agrees in
@@ -126,16 +120,10 @@ step_keeps made i b g =
       law = told_each i made.world.book (told_in made.world i) made.past g.agrees (told_loud (made.world.seat i).phase (counted (made.world.seat i).post) (made.world.seat i).desk (finds made.world i)) m.queue g.law;
     }
 
-item_keeps : (made : Made) (item : Item) (fit : Bool) → fits made.world item ≡ fit → Keeps made → Keeps (done_if made item fit)
-item_keeps made item false f g = g
-item_keeps made (Begins i call) true f g = begin_keeps made i call (begins_right i made.world.layout.config.seats (is_busy made.world i) f) g
-item_keeps made (Steps i) true f g = step_keeps made i (steps_right i made.world.layout.config.seats (is_busy made.world i) f) g
-
-items_keep : (items : List Item) (made : Made) → Keeps made → Keeps (made_from made items)
-items_keep [] made g = g
-items_keep (item ∷ items) made g = items_keep items (did made item) (item_keeps made item (fits made.world item) refl g)
+steady : Steady Keeps
+steady = record { begins = λ made i call b y g. begin_keeps made i call y g; steps = λ made i b y g. step_keeps made i b g }
 
 pub records_keep_queue : RecordsKeepQueue
 records_keep_queue layout items d =
-    let g = items_keep items (first_made layout) (record { known = inv_start layout d; agrees = record { queued = refl; taken = refl }; law = tt }) in
+    let g = items_keep Keeps steady items (first_made layout) (record { known = inv_start layout d; agrees = record { queued = refl; taken = refl }; law = tt }) in
     entries_of_each queue_ok (record_of layout items) g.law

@@ -1,7 +1,7 @@
 -- The version under which a row was linked last changes by no step that takes or frees no such row.
 use Rattle.std.proofs.Common.{ℕ, ◌≡◌, Bool, true, false, List, [], ◌∷◌, arith, refl, sym, ap, subst, ◌∙◌}
 use Rattle.std.proofs.lemmas.Bool.Decides.{nat_tests}
-use Rattle.std.specs.Prelude.{◌==◌, ◌-◌, ◌&&◌, if◌then◌else◌}
+use Rattle.std.specs.Prelude.{◌==◌, ◌-◌, if◌then◌else◌}
 use Rattle.wfe_defs.specs.declared.event.Event.{Event}
 use Rattle.wfe_defs.specs.declared.event.Event.TheVariants as events
 use Rattle.wfe_defs.specs.declared.event.Root.TheVariants as roots
@@ -11,6 +11,7 @@ use Rattle.wfe_core.specs.Calls.{Phase, CallTurn, CallOutcome, GoesOn, Answers}
 use Rattle.wfe_core.specs.Locals.{turn, told_end, told_by}
 use Rattle.wfe_core.specs.Posts.{counted}
 use Rattle.wfe_core.specs.World.{World, step, finds}
+use Rattle.wfe_core.proofs.Facts.{same_number, first_of, rest_of}
 use Rattle.wfe_covers.specs.Covers.{takes_or_frees}
 use Rattle.wfe_rows.specs.Hands.{row_move, linked_row}
 use Rattle.wfe_rows.specs.Rows.{RowMove}
@@ -37,14 +38,6 @@ one_version f s a (events.Link roots.Head slot) n h = refl
 one_version f s a (events.Link roots.Tail slot) n h = refl
 one_version f s a event n h = refl
 
-first_of : (x y : Bool) → (x && y) ≡ true → x ≡ true
-first_of true y h = refl
-first_of false y h = h
-
-rest_of : (x y : Bool) → (x && y) ≡ true → y ≡ true
-rest_of true y h = h
-rest_of false y h = absurd (cc)
-
 all_version : (f : ℕ → Bool) (s : ℕ) (told : List Event) (a : Book) → f s ≡ false → links_in f told ≡ true → ((booked_all a told).row s).version ≡ (a.row s).version
 all_version f s [] a n h = refl
 all_version f s (event ∷ told) a n h = all_version f s told (booked a event) n (rest_of (links_one f event) (links_in f told) h) ∙ one_version f s a event n (first_of (links_one f event) (links_in f told) h)
@@ -53,19 +46,16 @@ all_version f s (event ∷ told) a n h = all_version f s told (booked a event) n
 abbrev Taking : World → ℕ → ℕ → Bool
 Taking w i s = takes_or_frees (row_move (w.seat i).phase (w.seat i).post (finds w i)) s
 
-same_slot : (n : ℕ) → (n == n) ≡ true
-same_slot n = grind (arith, nat_tests)
-
 change_taking : (bucket slot link : ℕ) (null : Bool) → takes_or_frees (if null then RowMove.Links bucket slot else RowMove.Replaces bucket slot (link - 1)) slot ≡ true
-change_taking bucket slot link true = same_slot slot
-change_taking bucket slot link false = same_slot slot
+change_taking bucket slot link true = same_number slot
+change_taking bucket slot link false = same_number slot
 
 change_takes : (bucket slot link : ℕ) (same : Bool) → same ≡ true → takes_or_frees (if same then linked_row bucket slot link else Stays) slot ≡ true
 change_takes bucket slot link true e = change_taking bucket slot link (link == 0)
 change_takes bucket slot link false e = cc
 
 enqueue_takes : (slot : ℕ) (same : Bool) → same ≡ true → takes_or_frees (if same then Appends slot else Stays) slot ≡ true
-enqueue_takes slot true e = same_slot slot
+enqueue_takes slot true e = same_number slot
 enqueue_takes slot false e = cc
 
 links_of : (w : World) (i : ℕ) → LinksOf (λ s. takes_or_frees (row_move (w.seat i).phase (w.seat i).post (finds w i)) s) (w.seat i).phase (finds w i)

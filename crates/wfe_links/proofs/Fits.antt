@@ -14,6 +14,7 @@ use Rattle.wfe_core.specs.Phases.{Base}
 use Rattle.wfe_core.specs.Phases.Base.{Begin, Protect, Reload, Clear, Finish, Release, Allocate, Write, GiveUp, Retire, Move}
 use Rattle.wfe_core.specs.Calls.{Task, Gets, Changes, Holds, Enqueues, Dequeues, Why, Opens, FollowsHead, Fills, ClearsNext, Clears, Finishes, GivesUp, Retires, Tidies, Advances, Releases, AfterScan, GiveBack, Phase, Idle, Runs, Scans, Works}
 use Rattle.wfe_core.specs.World.{World, step, finds}
+use Rattle.wfe_core.proofs.Facts.{same_number, first_of, rest_of}
 use Rattle.wfe_eras.specs.Seats.{Reloads, PhaseFits, task_root, root_by, kind_of, suits}
 use Rattle.wfe_covers.specs.Covers.{takes_or_frees}
 use Rattle.wfe_covers.specs.Held.{under}
@@ -42,9 +43,6 @@ or_next x b c false e h g = g e h
 
 one_up : (x : ℕ) → (x == 0) ≡ false → x ≡ x - 1 + 1
 one_up x h = grind (arith, nat_tests)
-
-same_number : (n : ℕ) → (n == n) ≡ true
-same_number n = grind (arith, nat_tests)
 
 equal_number : (m n : ℕ) → m ≡ n → (m == n) ≡ true
 equal_number m n h = grind (arith, nat_tests)
@@ -146,14 +144,6 @@ stays_here w i v l z k x n t u e = n.stays k (x - 1) (subst (λ (y : ℕ). Track
 
 lined_here : (w : World) (i : ℕ) (v : View) (l : Line) (z : Asking) (k x : ℕ) → LinksNeeds w i v l z → Tracked w z k x → under v.status (root_in w k) ≡ true → (x == 0) ≡ false → l.lined (x - 1) ≡ true → RowStays w i v l (x - 1)
 lined_here w i v l z k x n t u e h = lined_stays w i v l (x - 1) n.queue n.both (far_back w i (x - 1) v (stays_here w i v l z k x n t u e)) h
-
-first_of : (a b : Bool) → (a && b) ≡ true → a ≡ true
-first_of true b h = refl
-first_of false b h = h
-
-rest_of : (a b : Bool) → (a && b) ≡ true → b ≡ true
-rest_of true b h = h
-rest_of false b h = absurd (cc)
 
 -- whether a row, while it is in the queue, is the head
 leads_is : (q : Bool) (head x : ℕ) → (x == 0) ≡ false → (not q || head == x) ≡ true → q ≡ true → head ≡ x - 1 + 1

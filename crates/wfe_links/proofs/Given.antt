@@ -1,5 +1,5 @@
 -- What tracked links give to the contents of rows and to the queue.
-use Rattle.std.proofs.Common.{ℕ, ◌≡◌, ◌<◌, ◌+◌, ◌-◌, ◌%◌, Bool, true, false, Some, arith, refl, ap, subst}
+use Rattle.std.proofs.Common.{ℕ, ◌≡◌, ◌<◌, ◌+◌, ◌-◌, ◌%◌, Bool, true, Some, arith, ap, subst}
 use Rattle.std.proofs.lemmas.Bool.Decides.{nat_tests}
 use Rattle.std.specs.Prelude.{◌==◌, ◌&&◌, ◌||◌, not}
 use Rattle.wfe_words.specs.Place.Place.{Row}
@@ -15,6 +15,7 @@ use Rattle.wfe_core.specs.Phases.{Aim, ProtectAt, Base, Ends, Protected}
 use Rattle.wfe_core.specs.Phases.Base.{Protect}
 use Rattle.wfe_core.specs.Calls.{Gets, Changes, Why, Opens, FollowsHead, Runs}
 use Rattle.wfe_core.specs.World.{World, finds}
+use Rattle.wfe_core.proofs.Facts.{first_of, rest_of}
 use Rattle.wfe_eras.specs.Seats.{root_by}
 use Rattle.wfe_requests.specs.Views.{View as Asking}
 use Rattle.wfe_rows.specs.Rows.{View}
@@ -50,14 +51,6 @@ tail_link w v l (roots.Bucket b) s e h = absurd (cc)
 tail_link w v l roots.Head s e h = absurd (cc)
 tail_link w v l roots.Tail s e h = subst (λ (n : ℕ). l.lined n ≡ true) (one_less s) (not_null s (l.lined (s + 1 - 1)) h)
 tail_link w v l (roots.Next parent) s e h = absurd (cc)
-
-first_of : (a b : Bool) → (a && b) ≡ true → a ≡ true
-first_of true b h = refl
-first_of false b h = h
-
-rest_of : (a b : Bool) → (a && b) ≡ true → b ≡ true
-rest_of true b h = h
-rest_of false b h = absurd (cc)
 
 leads_is : (q : Bool) (head x : ℕ) → (not q || head == x) ≡ true → q ≡ true → head ≡ x
 leads_is q head x h p = grind (arith, nat_tests)

@@ -1,11 +1,11 @@
 -- What a record says after all that a step tells: of rows, only the events of rows count.
-use Rattle.std.proofs.Common.{ℕ, ◌≡◌, Bool, true, false, List, [], ◌∷◌, refl, ap, ◌∙◌, arith}
-use Rattle.std.proofs.lemmas.Bool.Decides.{nat_tests}
+use Rattle.std.proofs.Common.{ℕ, ◌≡◌, Bool, true, false, List, [], ◌∷◌, refl, ap, ◌∙◌}
 use Rattle.std.specs.Prelude.{◌==◌}
 use Rattle.std.specs.List.{filter}
 use Rattle.wfe_defs.specs.declared.event.Event.{Event}
 use Rattle.wfe_defs.specs.declared.event.Event.TheVariants as events
 use Rattle.wfe_defs.specs.declared.lifetime.Lifetime.{Lifetime}
+use Rattle.wfe_core.proofs.Facts.{same_number}
 use Rattle.wfe_laws.specs.Record.{Past, Test, Each, tells_of}
 use Rattle.wfe_laws.specs.Record.Past.{Then}
 use Rattle.wfe_told.specs.Told.{is_of_rows}
@@ -33,9 +33,6 @@ taken_tells slots s i (event ∷ told) p = taken_tells slots s i told (Then p i 
 pub retired_tells : (s i : ℕ) (told : List Event) (p : Past) → retired_at s (tells_of p i told) ≡ along (retired_by s) told (retired_at s p)
 retired_tells s i [] p = refl
 retired_tells s i (event ∷ told) p = retired_tells s i told (Then p i event)
-
-same_number : (i : ℕ) → (i == i) ≡ true
-same_number i = grind (arith, nat_tests)
 
 pub list_own : (i : ℕ) (event : Event) (p : Past) → list_of i (Then p i event) ≡ list_by event (list_of i p)
 list_own i event p = rw (same_number i) refl

@@ -22,14 +22,15 @@ use Rattle.wfe_rows.specs.Rows.RowMove.{Stays, Claims, Bears, Drops, Links, Repl
 use Rattle.wfe_laws.specs.Record.{Past, Each, tells_of}
 use Rattle.wfe_laws.specs.Record.Past.{Then}
 use Rattle.wfe_laws.proofs.Entries.{entries_of_each}
-use Rattle.wfe_history.specs.History.{Item, Begins, Steps, Made, fits, done, done_if, did, made_from, first_made, record_of}
+use Rattle.wfe_history.specs.History.{Begins, Steps, Made, done, first_made, record_of}
+use Rattle.wfe_history.proofs.Along.{Steady, items_keep}
 use Rattle.wfe_told.specs.Births.{Given, GivenNeeds, given_by, given_all}
 use Rattle.wfe_told.specs.Told.{is_of_rows, row_events, birth_in, move_of}
 use Rattle.wfe_told.proofs.Births.{given_start, given_begin, given_kept, retires_given}
 use Rattle.wfe_told.proofs.Rows.{rows_told}
 use Rattle.wfe_once.specs.Births.{born_by, born_at, birth_ok, RecordsKeepBirths}
 use Rattle.wfe_once.proofs.Along.{Single, OfKind, single_each}
-use Rattle.wfe_once.proofs.Keeps.{begins_right, steps_right, needs_of}
+use Rattle.wfe_once.proofs.Keeps.{needs_of}
 
 -- what is told of births
 one_born : (event : Event) (given : ℕ → ℕ) (s : ℕ) (x : ℕ) → x ≡ given s → born_by s event x ≡ given_by event given s
@@ -124,14 +125,8 @@ step_births layout made i b g =
       law = single_each is_of_rows birth_ok birth_kind i (told_in w i) p (subst (λ (es : List Event). Single birth_ok p i es) (sym (rows_told w i)) s) g.law;
     }
 
-item_births : (layout : Layout) (made : Made) (item : Item) (fit : Bool) → fits made.world item ≡ fit → BirthsKept layout made → BirthsKept layout (done_if made item fit)
-item_births layout made item false f g = g
-item_births layout made (Begins i call) true f g = begin_births layout made i call (begins_right i made.world.layout.config.seats (is_busy made.world i) f) g
-item_births layout made (Steps i) true f g = step_births layout made i (steps_right i made.world.layout.config.seats (is_busy made.world i) f) g
-
-items_births : (layout : Layout) (items : List Item) (made : Made) → BirthsKept layout made → BirthsKept layout (made_from made items)
-items_births layout [] made g = g
-items_births layout (item ∷ items) made g = items_births layout items (did made item) (item_births layout made item (fits made.world item) refl g)
+steady : (layout : Layout) → Steady (BirthsKept layout)
+steady layout = record { begins = λ made i call b y g. begin_births layout made i call y g; steps = λ made i b y g. step_births layout made i b g }
 
 first_births : (layout : Layout) → is_valid layout ≡ true → BirthsKept layout (first_made layout)
 first_births layout d =
@@ -139,4 +134,4 @@ first_births layout d =
     record { rows = first_rows layout; line = first_line layout; asked = q.0; known = known_start layout q.0 d q.1.facts q.1.deal; given = given_start layout; law = tt }
 
 pub records_keep_births : RecordsKeepBirths
-records_keep_births layout items d = let g = items_births layout items (first_made layout) (first_births layout d) in entries_of_each birth_ok (record_of layout items) g.law
+records_keep_births layout items d = let g = items_keep (BirthsKept layout) (steady layout) items (first_made layout) (first_births layout d) in entries_of_each birth_ok (record_of layout items) g.law

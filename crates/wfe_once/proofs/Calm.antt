@@ -25,7 +25,7 @@ use Rattle.wfe_core.specs.Phases.RetireAt.{LoadLife, LoadRetire, StoreRetired}
 use Rattle.wfe_core.specs.Phases.MoveAt.{LoadEra, LoadRequest, ShowEra, LoadAsked, CheckEra, AnswerAsked, LoadReserved, HandOver, HideEra, HideLate, ExchangeClock}
 use Rattle.wfe_core.specs.Phases.Base.{Begin, Protect, Reload, Clear, Finish, Release, Allocate, Write, GiveUp, Retire, Move}
 use Rattle.wfe_core.specs.Calls.{Runs, Works}
-use Rattle.wfe_reuse.proofs.Passes.{is_quiet, all_quiet, both, first_of, rest_of, Closed, step_goes}
+use Rattle.wfe_reuse.proofs.Passes.{is_quiet, all_quiet, Closed, step_goes}
 use Rattle.wfe_words.specs.Packed.{read_reservation, reservation_word}
 use Rattle.wfe_core.specs.Calls.{Why, Work}
 use Rattle.wfe_core.specs.Phases.{Turn, Outcome, Goes, Ends}
@@ -33,6 +33,7 @@ use Rattle.wfe_core.specs.Phases.Ending.{Done, Protected, Followed, Allocated, R
 use Rattle.wfe_core.specs.Posts.{upper, reserves_helper}
 use Rattle.wfe_core.specs.SlowPath.{own_request, asking}
 use Rattle.wfe_core.specs.WriteRow.{last_written}
+use Rattle.wfe_core.proofs.Facts.{both, first_of, rest_of}
 use Rattle.std.specs.Prelude.{◌==◌, ◌&&◌, if◌then◌else◌}
 
 -- no guard is read, and no row goes back

@@ -1,7 +1,7 @@
 -- A history's record says of the rows what is so, and so each of its entries keeps the laws.
-use Rattle.std.proofs.Common.{ℕ, ◌≡◌, ◌<◌, Bool, true, false, List, [], ◌∷◌, refl, sym, ap, ◌∙◌, subst, arith}
+use Rattle.std.proofs.Common.{ℕ, ◌≡◌, ◌<◌, Bool, true, false, List, refl, sym, ap, ◌∙◌, subst, arith}
 use Rattle.std.proofs.lemmas.Bool.Decides.{nat_tests}
-use Rattle.std.specs.Prelude.{◌==◌, ◌&&◌, ◌||◌, not, nat_lt, if◌then◌else◌}
+use Rattle.std.specs.Prelude.{◌==◌, ◌&&◌, ◌||◌, not, if◌then◌else◌}
 use Rattle.std.specs.List.{list_any}
 use Rattle.wfe_words.specs.Place.{is_valid}
 use Rattle.wfe_words.specs.declared.layout.Layout.{Layout}
@@ -15,6 +15,7 @@ use Rattle.wfe_core.specs.Desks.{Desk, noting}
 use Rattle.wfe_core.specs.Locals.{Local, after, settled_by, rounds_told, told_by, turn}
 use Rattle.wfe_core.specs.Posts.{counted}
 use Rattle.wfe_core.specs.World.{World, start, begin, step, finds, is_busy, told_in}
+use Rattle.wfe_core.proofs.Facts.{both}
 use Rattle.wfe_requests.specs.Views.{View as Asked}
 use Rattle.wfe_requests.proofs.Kept.{requests_begin, requests_start}
 use Rattle.wfe_rows.specs.Agree.{first_rows, rows_after}
@@ -30,12 +31,12 @@ use Rattle.wfe_eras.proofs.Frame.{seat_stays, seat_steps}
 use Rattle.wfe_laws.specs.Record.{Past, Each, tells_of}
 use Rattle.wfe_laws.specs.Record.Past.{Start, Then}
 use Rattle.wfe_laws.proofs.Entries.{entries_of_each}
-use Rattle.wfe_history.specs.History.{Item, Begins, Steps, Made, fits, done, done_if, did, made_from, made_of, first_made, record_of}
+use Rattle.wfe_history.specs.History.{Item, Begins, Steps, Made, done, made_of, first_made, record_of}
+use Rattle.wfe_history.proofs.Along.{Steady, items_keep}
 use Rattle.wfe_inv.specs.Known.{Known}
 use Rattle.wfe_inv.proofs.Begun.{known_start, known_begin}
 use Rattle.wfe_inv.proofs.Kept.{known_kept, asked_next}
 use Rattle.wfe_inv.proofs.Rows.{covers_need}
-use Rattle.wfe_reuse.proofs.Passes.{both}
 use Rattle.wfe_told.specs.Told.{is_of_rows, of_rows, row_events, birth_in, move_of}
 use Rattle.wfe_told.proofs.Rows.{rows_told}
 use Rattle.wfe_once.specs.Once.{once_ok, back_ok, RecordsKeepOnce, RecordsGoBackOnce}
@@ -268,13 +269,6 @@ step_back w i v p n h t =
     let s : Single back_ok p i (row_events b (move_of w i)) = back_move w i b v p (move_of w i) (before_at w i v n) h in
     single_each is_of_rows back_ok back_kind i (told_in w i) p (subst (λ (es : List Event). Single back_ok p i es) (sym (rows_told w i)) s) t
 
-pub begins_right : (seat seats : ℕ) (busy : Bool) → (nat_lt seat seats && not busy) ≡ true → busy ≡ false
-begins_right seat seats true h = absurd (grind (arith, nat_tests))
-begins_right seat seats false h = refl
-
-pub steps_right : (seat seats : ℕ) (busy : Bool) → (nat_lt seat seats && busy) ≡ true → seat < seats
-steps_right seat seats busy h = grind (arith, nat_tests)
-
 pub begin_keeps : (layout : Layout) (made : Made) (i : ℕ) (call : Call) → is_busy made.world i ≡ false → Keeps layout made → Keeps layout (done made (Begins i call))
 begin_keeps layout made i call f g =
     let k = g.known in
@@ -306,14 +300,8 @@ step_keeps layout made i b g =
       backs = step_back made.world i g.rows made.past n g.shows g.backs;
     }
 
-item_keeps : (layout : Layout) (made : Made) (item : Item) (fit : Bool) → fits made.world item ≡ fit → Keeps layout made → Keeps layout (done_if made item fit)
-item_keeps layout made item false f g = g
-item_keeps layout made (Begins i call) true f g = begin_keeps layout made i call (begins_right i made.world.layout.config.seats (is_busy made.world i) f) g
-item_keeps layout made (Steps i) true f g = step_keeps layout made i (steps_right i made.world.layout.config.seats (is_busy made.world i) f) g
-
-items_keep : (layout : Layout) (items : List Item) (made : Made) → Keeps layout made → Keeps layout (made_from made items)
-items_keep layout [] made g = g
-items_keep layout (item ∷ items) made g = items_keep layout items (did made item) (item_keeps layout made item (fits made.world item) refl g)
+steady : (layout : Layout) → Steady (Keeps layout)
+steady layout = record { begins = λ made i call b y g. begin_keeps layout made i call y g; steps = λ made i b y g. step_keeps layout made i b g }
 
 pub first_keeps : (layout : Layout) → is_valid layout ≡ true → Keeps layout (first_made layout)
 first_keeps layout d =
@@ -330,7 +318,7 @@ first_keeps layout d =
     }
 
 pub history_keeps : (layout : Layout) (items : List Item) → is_valid layout ≡ true → Keeps layout (made_of layout items)
-history_keeps layout items d = items_keep layout items (first_made layout) (first_keeps layout d)
+history_keeps layout items d = items_keep (Keeps layout) (steady layout) items (first_made layout) (first_keeps layout d)
 
 pub record_shows : RecordShows
 record_shows layout items d = let g = history_keeps layout items d in record { rows = g.rows; agree = g.known.whole.both.rows; shows = g.shows }

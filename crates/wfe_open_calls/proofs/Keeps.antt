@@ -4,12 +4,12 @@ use Rattle.std.proofs.lemmas.Bool.Decides.{nat_tests}
 use Rattle.std.specs.Prelude.{◌==◌, ◌&&◌, not, if◌then◌else◌}
 use Rattle.wfe_defs.specs.declared.event.Event.{Event}
 use Rattle.wfe_defs.specs.declared.event.Event.TheVariants as events
+use Rattle.wfe_core.proofs.Facts.{first_of, rest_of}
 use Rattle.wfe_laws.specs.Record.{Past, Each, tells_of}
 use Rattle.wfe_laws.specs.Record.Past.{Then}
 use Rattle.wfe_laws.specs.Schedule as schedule
 use Rattle.wfe_laws.specs.Schedule.History.{Blank, Starts, Turns}
 use Rattle.wfe_laws.proofs.Entries.{entries_of_each}
-use Rattle.wfe_reuse.proofs.Passes.{first_of, rest_of}
 use Rattle.wfe_turns.specs.Heard.{heard_of}
 use Rattle.wfe_turns.proofs.Counted.{histories_count}
 use Rattle.wfe_open_calls.specs.Open.{is_open, open_ok, opened_by, RecordsOpenCalls}

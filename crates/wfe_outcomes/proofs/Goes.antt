@@ -1,7 +1,5 @@
 -- A history keeps the invariant, what walks have seen, and what movers have met.
-use Rattle.std.proofs.Common.{ℕ, ◌≡◌, ◌<◌, Bool, true, false, refl, sym, subst, arith, List, [], ◌∷◌}
-use Rattle.std.proofs.lemmas.Bool.Decides.{nat_tests}
-use Rattle.std.specs.Prelude.{◌&&◌, not, nat_lt}
+use Rattle.std.proofs.Common.{ℕ, ◌≡◌, ◌<◌, Bool, true, false, refl, sym, subst, List, [], ◌∷◌}
 use Rattle.wfe_words.specs.Place.{is_valid}
 use Rattle.wfe_words.specs.declared.layout.Layout.{Layout}
 use Rattle.wfe_defs.specs.declared.call.Call.{Call}
@@ -15,6 +13,7 @@ use Rattle.wfe_rows.specs.Chain.{first_line, line_after}
 use Rattle.wfe_rows.specs.Queue.{Line}
 use Rattle.wfe_rows.specs.Rows.{View}
 use Rattle.wfe_history.specs.History.{Item, Begins, Steps, Made, fits, done, done_if, did, made_from, made_of, first_made}
+use Rattle.wfe_history.proofs.Along.{begins_right, low_seat}
 use Rattle.wfe_inv.specs.Known.{Known}
 use Rattle.wfe_inv.proofs.Begun.{known_start, known_begin}
 use Rattle.wfe_inv.proofs.Kept.{known_kept, asked_next}
@@ -42,13 +41,6 @@ meeting_need made i v l z b k = record { valid = k.valid; below = b; seats = k.s
 
 pub given_need : (made : Made) (i : ℕ) (v : View) (l : Line) (z : Asked) → Known made.world v l z → GivenNeeds made.world i v
 given_need made i v l z k = record { valid = k.valid; seats = k.seats; needs = rows_need made.world i v l k.seats k.eras k.whole.both; rows = k.whole.both.rows }
-
-begins_right : (seat seats : ℕ) (busy : Bool) → (nat_lt seat seats && not busy) ≡ true → busy ≡ false
-begins_right seat seats true h = absurd (grind (arith, nat_tests))
-begins_right seat seats false h = refl
-
-steps_right : (seat seats : ℕ) (busy : Bool) → (nat_lt seat seats && busy) ≡ true → seat < seats
-steps_right seat seats busy h = grind (arith, nat_tests)
 
 begin_goes : (layout : Layout) (made : Made) (i : ℕ) (call : Call) (s : Sights) → is_busy made.world i ≡ false → Goes layout made s → Goes layout (done made (Begins i call)) s
 begin_goes layout made i call s f g =
@@ -83,7 +75,7 @@ step_goes layout made i s b g =
 item_goes : (layout : Layout) (made : Made) (item : Item) (s : Sights) (fit : Bool) → fits made.world item ≡ fit → Goes layout made s → Goes layout (done_if made item fit) (sights_if made.world item fit s)
 item_goes layout made item s false f g = g
 item_goes layout made (Begins i call) s true f g = begin_goes layout made i call s (begins_right i made.world.layout.config.seats (is_busy made.world i) f) g
-item_goes layout made (Steps i) s true f g = step_goes layout made i s (steps_right i made.world.layout.config.seats (is_busy made.world i) f) g
+item_goes layout made (Steps i) s true f g = step_goes layout made i s (low_seat i made.world.layout.config.seats (is_busy made.world i) f) g
 
 items_go : (layout : Layout) (items : List Item) (made : Made) (s : Sights) → Goes layout made s → Goes layout (made_from made items) (sights_from made items s)
 items_go layout [] made s g = g

@@ -1,11 +1,8 @@
 pub mod Comes
 pub mod Fronts
 pub mod Keeps
-pub mod Linked
 pub mod Marks
 pub mod Moved
-pub mod Nexts
-pub mod Ordered
 pub mod Shapes
 pub mod Sums
 pub mod Tells

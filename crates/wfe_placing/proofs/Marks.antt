@@ -18,10 +18,10 @@ use Rattle.wfe_core.specs.Posts.{counted}
 use Rattle.wfe_core.specs.Steps.{phase_turn}
 use Rattle.wfe_core.specs.Calls.{ChangeKept, EnqueueKept, LoadVersion, LoadCount, LoadKey, LoadValue, ExchangeRoot, LoadNumber, LoadNext, PassTail, ExchangeNext, ExchangeTail, LoadTail, SwingTail, TakeNumber, TakeValue, ExchangeHead, Work, Getting, Changing, Enqueuing, Dequeuing, Phase, Idle, Runs, Scans, Works, CallTurn, CallOutcome, GoesOn, Answers}
 use Rattle.wfe_core.specs.World.{World, finds}
+use Rattle.wfe_core.proofs.Facts.{first_of, rest_of}
 use Rattle.wfe_rows.specs.Hands.{row_move}
 use Rattle.wfe_told.specs.Told.{is_of_rows, row_events, birth_in, move_of}
 use Rattle.wfe_told.proofs.Rows.{rows_told}
-use Rattle.wfe_reuse.proofs.Passes.{first_of, rest_of}
 use Rattle.wfe_answers.proofs.Owed.{append_none}
 use Rattle.wfe_lawful.proofs.Each.{all_of}
 use Rattle.wfe_lawful.proofs.Machines.{is_machine, of_along, of_weaker, base_machine, scan_machine}

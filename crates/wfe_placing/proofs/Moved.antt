@@ -8,12 +8,11 @@ use Rattle.wfe_defs.specs.declared.event.Root.TheVariants as roots
 use Rattle.wfe_core.specs.declared.post.Post.{Post}
 use Rattle.wfe_core.specs.Calls.{Phase}
 use Rattle.wfe_core.specs.Memory.{upd}
+use Rattle.wfe_core.proofs.Facts.{same_number, first_of, rest_of}
 use Rattle.wfe_rows.specs.Rows.{Hand, RowMove, View, made}
 use Rattle.wfe_rows.specs.Rows.Hand.{Empty, New, Taken, Old, Known, Dated}
 use Rattle.wfe_rows.specs.Rows.RowMove.{Stays, Claims, Bears, Drops, Links, Replaces, Appends, Pops, Reads, Seals, Lists, Returns}
-use Rattle.wfe_rows.proofs.Went.{same_number}
 use Rattle.wfe_once.proofs.Along.{along}
-use Rattle.wfe_reuse.proofs.Passes.{first_of, rest_of}
 use Rattle.wfe_lawful.proofs.Each.{all_of}
 use Rattle.wfe_placing.specs.Placing.{Given, Without, InHand, Placed, given_by, is_without, is_in_hand, places_right}
 use Rattle.wfe_placing.specs.Retiring.{without_one, has_slot, cuts_by, retires_right, retires_by, changed_by}

@@ -9,10 +9,10 @@ use Rattle.wfe_defs.specs.declared.call.Call.{Call}
 use Rattle.wfe_defs.specs.declared.call.Call.TheVariants as calls
 use Rattle.wfe_defs.specs.declared.event.Event.{Event}
 use Rattle.wfe_defs.specs.declared.event.Event.TheVariants as events
+use Rattle.wfe_core.proofs.Facts.{first_of, rest_of}
 use Rattle.wfe_laws.specs.Record.{Past}
 use Rattle.wfe_laws.specs.Record.Past.{Start, Then}
 use Rattle.wfe_once.proofs.Along.{along}
-use Rattle.wfe_reuse.proofs.Passes.{first_of, rest_of}
 use Rattle.wfe_answers.specs.AnswersTold.{with_told, told_of, owes, suits, same_event, same_told, answer_right}
 use Rattle.wfe_placing.specs.Placing.{Given, given_by, places_right}
 use Rattle.wfe_placing.specs.Retiring.{cuts_by, retires_right, retires_by, retires_for, changed_by, is_change}

@@ -3,7 +3,7 @@ use Rattle.std.proofs.Common.{ℕ, ◌≡◌, Bool, true, false, List, [], ◌�
 use Rattle.std.specs.Prelude.{◌==◌}
 use Rattle.std.specs.List.{filter}
 use Rattle.wfe_defs.specs.declared.event.Event.{Event}
-use Rattle.wfe_rows.proofs.Went.{same_number}
+use Rattle.wfe_core.proofs.Facts.{same_number}
 use Rattle.wfe_laws.specs.Record.{Past, Each, tells_of}
 use Rattle.wfe_laws.specs.Record.Past.{Then}
 use Rattle.wfe_once.proofs.Along.{along}

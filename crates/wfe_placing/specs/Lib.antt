@@ -1,5 +1,3 @@
-pub mod Nexts
-pub mod Order
 pub mod Placing
 pub mod Retiring
 pub mod Seen

@@ -30,6 +30,7 @@ use Rattle.wfe_core.specs.Phases.Ending.{Protected, Followed}
 use Rattle.wfe_core.specs.Phases.Base.{Begin, Protect, Reload, Clear, Finish, Release, Allocate, Write, GiveUp, Retire, Move}
 use Rattle.wfe_core.specs.Calls.{Task, Changes, Holds, ChangeKept, EnqueueKept, ChangeAt, LoadCount, LoadValue, EnqueueAt, LoadNext, Work, Changing, Enqueuing, Why, Opens, FollowsHead, Releases, Phase, Idle, Runs, Scans, Works}
 use Rattle.wfe_core.specs.World.{World, finds}
+use Rattle.wfe_core.proofs.Facts.{both}
 use Rattle.wfe_answers.proofs.Owed.{Serves, WhyServes, WorkServes, call_for}
 use Rattle.wfe_ends.specs.Nulls.{is_null}
 use Rattle.wfe_ends.specs.Standing.{is_held}
@@ -41,7 +42,6 @@ use Rattle.wfe_lawful.specs.QueueLaw.{queued_of}
 use Rattle.wfe_requests.proofs.Standings.{machine_stands}
 use Rattle.wfe_requests.specs.Parents.{OutcomeStands, base_stands, phase_stands, protect_stands}
 use Rattle.wfe_requests.specs.Views.{View as Asked}
-use Rattle.wfe_reuse.proofs.Passes.{both}
 use Rattle.wfe_reuse.specs.Law.{stood_at, is_row}
 use Rattle.wfe_rows.specs.Queue.{Line}
 use Rattle.wfe_rows.specs.Rows.{View}

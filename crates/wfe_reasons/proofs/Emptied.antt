@@ -18,7 +18,7 @@ use Rattle.wfe_core.specs.Phases.ProtectAt.{LoadClock, PublishEra, LoadLink, Che
 use Rattle.wfe_core.specs.Phases.Base.{Begin, Protect, Reload, Clear, Finish, Release, Allocate, Write, GiveUp, Retire, Move}
 use Rattle.wfe_core.specs.Calls.{Gets, Changes, Holds, Enqueues, Dequeues, Why, Opens, FollowsHead, Fills, ClearsNext, Clears, Finishes, GivesUp, Retires, Tidies, Advances, Releases, Phase, Idle, Runs, Scans, Works}
 use Rattle.wfe_core.specs.World.{World, start, begin, step, is_busy, finds}
-use Rattle.wfe_contents.proofs.Lasts.{same_number}
+use Rattle.wfe_core.proofs.Facts.{same_number, both, first_of, rest_of}
 use Rattle.wfe_ends.proofs.Nulls.{nulls_end}
 use Rattle.wfe_ends.specs.Nulls.{ended_at, ended_base}
 use Rattle.wfe_eras.specs.Seats.{Seats, Run, root_by}
@@ -36,7 +36,6 @@ use Rattle.wfe_requests.specs.NextDeals.{next_deals}
 use Rattle.wfe_requests.specs.Standing.{Requests}
 use Rattle.wfe_requests.specs.Views.{View as Asked}
 use Rattle.wfe_requests.specs.Views.Deal.{Quiet}
-use Rattle.wfe_reuse.proofs.Passes.{both, first_of, rest_of}
 use Rattle.wfe_rows.specs.Chain.{queue_of}
 use Rattle.wfe_rows.specs.Queue.{Line, heads_on, stands_on}
 use Rattle.wfe_rows.specs.Rows.{View}

@@ -16,6 +16,7 @@ use Rattle.wfe_core.specs.Locals.{Local, begun_post, rounds_told, settled_by, to
 use Rattle.wfe_core.specs.Posts.{stands}
 use Rattle.wfe_core.specs.Steps.{first_phase}
 use Rattle.wfe_core.specs.World.{World, start, begin, step, finds, is_busy, told_in}
+use Rattle.wfe_core.proofs.Facts.{first_of, rest_of}
 use Rattle.wfe_covers.proofs.Begun.{first_begins}
 use Rattle.wfe_covers.proofs.Held.{settled_post}
 use Rattle.wfe_eras.proofs.Frame.{begin_begins, begin_stays, seat_stays, seat_steps}
@@ -35,13 +36,13 @@ use Rattle.wfe_laws.proofs.Entries.{entries_of_each}
 use Rattle.wfe_laws.specs.Record.{Past, Each, tells_of}
 use Rattle.wfe_laws.specs.Record.Past.{Start, Then}
 use Rattle.wfe_history.specs.History.{Item, Begins, Steps, Made, fits, done_if, did, done, first_made, made_from, made_of, record_of}
+use Rattle.wfe_history.proofs.Along.{begins_right, low_seat, made_snoc}
 use Rattle.wfe_inv.proofs.Begun.{known_start, known_begin}
 use Rattle.wfe_inv.proofs.Kept.{known_kept, asked_next}
 use Rattle.wfe_reuse.proofs.Keeps.{record_stands}
-use Rattle.wfe_reuse.proofs.Passes.{first_of, rest_of}
 use Rattle.wfe_reuse.specs.Law.{stood_at}
 use Rattle.wfe_lawful.proofs.Current.{base_begun, current_start, current_begin, current_kept, current_same}
-use Rattle.wfe_lawful.proofs.Each.{all_of, begins_right, steps_right}
+use Rattle.wfe_lawful.proofs.Each.{all_of}
 use Rattle.wfe_lawful.proofs.Machines.{is_within}
 use Rattle.wfe_lawful.proofs.Maps.{base_of, begin_base, told_base, told_changes}
 use Rattle.wfe_lawful.proofs.Queues.{Agrees, told_agrees}
@@ -50,7 +51,7 @@ use Rattle.wfe_answers.proofs.Answering as answering
 use Rattle.wfe_answers.proofs.Answering.{first_all, owes_of, tells_along, within_of, began_along}
 use Rattle.wfe_answers.proofs.Owed.{is_open, Owes, owed}
 use Rattle.wfe_answers.specs.AnswersTold.{began_of, told_of}
-use Rattle.wfe_bare_ends.proofs.Bare.{end_stood, made_snoc}
+use Rattle.wfe_bare_ends.proofs.Bare.{end_stood}
 use Rattle.wfe_reasons.specs.Seen.{all_taken, was_empty}
 use Rattle.wfe_reasons.specs.Reasons.{reason, reasons_ok, RecordsKeepReasons}
 use Rattle.wfe_reasons.proofs.Decides.{Kept, Right, kept_lasts, step_decides}
@@ -310,7 +311,7 @@ item_keeps : (layout : Layout) (made : Made) (item : Item) (fit : Bool) → fits
 item_keeps layout made item false f s g = g
 item_keeps layout made (Begins i call) true f s g = begin_keeps layout made i call (begins_right i made.world.layout.config.seats (is_busy made.world i) f) g
 item_keeps layout made (Steps i) true f s g =
-    step_keeps layout made i (steps_right i made.world.layout.config.seats (is_busy made.world i) f) (rest_of (nat_lt i made.world.layout.config.seats) (is_busy made.world i) f) s g
+    step_keeps layout made i (low_seat i made.world.layout.config.seats (is_busy made.world i) f) (rest_of (nat_lt i made.world.layout.config.seats) (is_busy made.world i) f) s g
 
 -- the record of a history says what stands
 stood_of : (layout : Layout) (path : List Item) (made : Made) → is_valid layout ≡ true → made ≡ made_of layout path → Stood made

@@ -13,11 +13,11 @@ use Rattle.wfe_defs.specs.declared.event.Event.{Event}
 use Rattle.wfe_defs.specs.declared.event.Event.TheVariants as events
 use Rattle.wfe_defs.specs.declared.fold.Change.{Change}
 use Rattle.wfe_defs.specs.declared.fold.Change.TheVariants as the_changes
+use Rattle.wfe_core.proofs.Facts.{both, first_of, rest_of}
 use Rattle.wfe_laws.specs.MapLaw.{was_current}
 use Rattle.wfe_laws.specs.Record.{Past, begins, own, told_since, tells_of}
 use Rattle.wfe_laws.specs.Record.Past.{Then}
 use Rattle.wfe_laws.specs.StateAt.{bucket_of, changes_of, count_of, with_change}
-use Rattle.wfe_reuse.proofs.Passes.{both, first_of, rest_of}
 use Rattle.wfe_lawful.proofs.Each.{all_of}
 use Rattle.wfe_lawful.proofs.Machines.{is_within}
 use Rattle.wfe_lawful.specs.QueueLaw.{queued_of}

@@ -19,7 +19,8 @@ use Rattle.wfe_core.specs.Phases.{Base, Ends}
 use Rattle.wfe_core.specs.Phases.Ending.{Protected}
 use Rattle.wfe_core.specs.Calls.{ChangeKept, EnqueueKept, LoadCount, LoadValue, LoadNext, Task, Changes, Opens, Changing, Enqueuing, Phase, Runs, Works}
 use Rattle.wfe_core.specs.World.{World, finds}
-use Rattle.wfe_contents.proofs.Lasts.{on, same_number}
+use Rattle.wfe_core.proofs.Facts.{same_number}
+use Rattle.wfe_contents.proofs.Lasts.{on}
 use Rattle.wfe_contents.proofs.Lists.{take_next}
 use Rattle.wfe_contents.proofs.Reading.{count_shown, value_shown}
 use Rattle.wfe_contents.specs.Knows.{AtCount, AtValue, Knows, pair_at, reads_in}

@@ -12,11 +12,11 @@ use Rattle.wfe_defs.specs.declared.fold.Change.{Change}
 use Rattle.wfe_defs.specs.declared.fold.Change.TheVariants as changes
 use Rattle.wfe_core.specs.Change as alters
 use Rattle.wfe_core.specs.Rounds.{key_of}
+use Rattle.wfe_core.proofs.Facts.{both, first_of, rest_of}
 use Rattle.wfe_answers.proofs.Owed.{call_for}
 use Rattle.wfe_laws.specs.MapLaw.{was_current}
 use Rattle.wfe_laws.specs.Record.{Past}
 use Rattle.wfe_laws.specs.StateAt.{count_of}
-use Rattle.wfe_reuse.proofs.Passes.{both, first_of, rest_of}
 use Rattle.wfe_reasons.specs.Seen.{begun_at, has_had, is_there, pairs_at}
 use Rattle.wfe_reasons.specs.Reasons.{put_reason, remove_reason, reason}
 

@@ -30,9 +30,9 @@ use Rattle.wfe_core.specs.Phases.ProtectAt.{LoadClock, PublishEra, LoadLink, Che
 use Rattle.wfe_core.specs.Phases.Base.{Begin, Protect, Reload, Clear, Finish, Release, Allocate, Write, GiveUp, Retire, Move}
 use Rattle.wfe_core.specs.Calls.{Task, Gets, Changes, Holds, Enqueues, Dequeues, Why, Opens, FollowsHead, Fills, ClearsNext, Clears, Finishes, GivesUp, Retires, Tidies, Advances, Releases, Phase, Idle, Runs, Scans, Works, CallTurn, CallOutcome, GoesOn, Answers}
 use Rattle.wfe_core.specs.World.{World, finds, told_in}
+use Rattle.wfe_core.proofs.Facts.{same_number, both, first_of, rest_of}
 use Rattle.wfe_eras.specs.Frame.{phase_left}
 use Rattle.wfe_eras.specs.Seats.{Aimed, Run, Seats, task_root}
-use Rattle.wfe_contents.proofs.Lasts.{same_number}
 use Rattle.wfe_covers.proofs.Fresh.{resume_fresh, work_fresh}
 use Rattle.wfe_covers.proofs.Scans.{scan_starts}
 use Rattle.wfe_covers.specs.Tries.{is_start, starts_base}
@@ -44,7 +44,6 @@ use Rattle.wfe_inv.proofs.Shapes.{run_of}
 use Rattle.wfe_laws.specs.Record.{Past, begins, own, told_since, tells_of}
 use Rattle.wfe_laws.specs.Record.Past.{Then}
 use Rattle.wfe_origins.proofs.Plain.{is_move, ends_plain, out_moves, out_plain, moves_on, plain_after}
-use Rattle.wfe_reuse.proofs.Passes.{both, first_of, rest_of}
 use Rattle.wfe_lawful.proofs.Each.{all_of}
 use Rattle.wfe_lawful.proofs.Machines.{is_within}
 use Rattle.wfe_reasons.specs.Seen.{has_told}

@@ -31,11 +31,12 @@ use Rattle.wfe_core.specs.Phases.RetireAt.{LoadLife, LoadRetire, StoreRetired}
 use Rattle.wfe_core.specs.Phases.MoveAt.{LoadEra, LoadRequest, ShowEra, LoadAsked, CheckEra, AnswerAsked, LoadReserved, HandOver, HideEra, HideLate, ExchangeClock}
 use Rattle.wfe_core.specs.Phases.Base.{Begin, Protect, Reload, Clear, Finish, Release, Allocate, Write, GiveUp, Retire, Move}
 use Rattle.wfe_core.specs.Calls.{Why, Opens, FollowsHead, Fills, ClearsNext, Clears, Finishes, GivesUp, Retires, Tidies, Advances, Releases, Phase, Idle, Runs, Scans, Works, ReadGuard, GiveBack, ScanAt}
+use Rattle.wfe_core.proofs.Facts.{both, first_of, rest_of}
 use Rattle.wfe_eras.specs.Seats.{Run}
 use Rattle.wfe_lawful.proofs.Each.{all_of}
 use Rattle.wfe_lawful.proofs.Machines.{of_along}
 use Rattle.wfe_rest.proofs.Closings.{rounds_join}
-use Rattle.wfe_reuse.proofs.Passes.{is_quiet, all_quiet, both, first_of, rest_of, Closed, First, scan_told, step_goes}
+use Rattle.wfe_reuse.proofs.Passes.{is_quiet, all_quiet, Closed, First, scan_told, step_goes}
 use Rattle.wfe_repeats.proofs.Shift.{more_told}
 
 abbrev pub finds_in : List Event → ℕ

@@ -1,7 +1,7 @@
 -- The record of each history keeps the law on how often a call begins anew.
 use Rattle.std.proofs.Common.{ℕ, ◌≡◌, ◌≤◌, ◌<◌, ◌+◌, ◌-◌, ◌*◌, ◌%◌, Bool, true, false, List, [], ◌∷◌, length, Option, Some, None, refl, sym, ap, ◌∙◌, subst, arith}
 use Rattle.std.proofs.lemmas.Bool.Decides.{nat_tests}
-use Rattle.std.specs.Prelude.{◌==◌, nat_le, nat_lt, if◌then◌else◌}
+use Rattle.std.specs.Prelude.{◌==◌, nat_le, if◌then◌else◌}
 use Rattle.wfe_words.specs.Place.{is_valid}
 use Rattle.wfe_words.specs.Place.Place.{Tail}
 use Rattle.wfe_words.specs.declared.config.Config.{Config}
@@ -22,6 +22,7 @@ use Rattle.wfe_core.specs.Calls.{Task, Gets, Changes, Holds, Enqueues, Dequeues,
 use Rattle.wfe_core.specs.Desks.{noting}
 use Rattle.wfe_core.specs.Locals.{Local, rounds_told, settled_by, told_by, told_end, turn}
 use Rattle.wfe_core.specs.World.{World, start, begin, step, finds, is_busy, told_in}
+use Rattle.wfe_core.proofs.Facts.{same_number, first_of, rest_of}
 use Rattle.wfe_eras.specs.Seats.{Run}
 use Rattle.wfe_eras.proofs.Frame.{seat_stays, seat_steps, begin_stays, begin_begins}
 use Rattle.wfe_inv.proofs.Begun.{known_start, known_begin}
@@ -38,14 +39,14 @@ use Rattle.wfe_laws.specs.Record.{Past, Each, begins, tells_of, value_since}
 use Rattle.wfe_laws.specs.Record.Past.{Start, Then}
 use Rattle.wfe_laws.specs.StateAt.{count_of}
 use Rattle.wfe_laws.proofs.Entries.{entries_of_each}
-use Rattle.wfe_history.specs.History.{Item, Begins, Steps, Made, fits, done, done_if, did, made_from, first_made, record_of}
-use Rattle.wfe_lawful.proofs.Each.{all_of, begins_right, steps_right}
+use Rattle.wfe_history.specs.History.{Begins, Steps, Made, fits, done, first_made, record_of}
+use Rattle.wfe_history.proofs.Along.{Steady, items_keep}
+use Rattle.wfe_lawful.proofs.Each.{all_of}
 use Rattle.wfe_lawful.proofs.Machines.{is_within}
 use Rattle.wfe_answers.proofs.Answering.{first_all, owes_of, tells_along, within_of}
 use Rattle.wfe_answers.proofs.Owed.{Owes, Serves, TaskServes, call_for, is_open, owed}
 use Rattle.wfe_answers.specs.AnswersTold.{began_of}
 use Rattle.wfe_placing.proofs.Tells.{seen_stays}
-use Rattle.wfe_reuse.proofs.Passes.{first_of, rest_of}
 use Rattle.wfe_rounds.specs.Rounds.{Rounds}
 use Rattle.wfe_rounds.specs.Tallies.{Tally, once, tally, phase_paced, task_paced, why_paced}
 use Rattle.wfe_full.proofs.Keeps as full
@@ -365,9 +366,6 @@ begin_moves c (Some (calls.Enqueue value)) i call p = refl
 begin_moves c (Some calls.Dequeue) i call p = refl
 begin_moves c (Some x) i call p = refl
 
-same_number : (i : ℕ) → (i == i) ≡ true
-same_number i = grind (arith, nat_tests)
-
 began_now : (i : ℕ) (call : Call) (p : Past) → began_of i (Then p i (events.Begin call)) ≡ Some call
 began_now i call p = rw (same_number i) refl
 
@@ -469,17 +467,10 @@ first_keeps layout d =
       law = tt;
     }
 
-item_keeps : (layout : Layout) (made : Made) (item : Item) (fit : Bool) → fits made.world item ≡ fit → Keeps layout made → Keeps layout (done_if made item fit)
-item_keeps layout made item false f g = g
-item_keeps layout made (Begins i call) true f g = begin_keeps layout made i call (begins_right i made.world.layout.config.seats (is_busy made.world i) f) g
-item_keeps layout made (Steps i) true f g =
-    step_keeps layout made i (steps_right i made.world.layout.config.seats (is_busy made.world i) f) (rest_of (nat_lt i made.world.layout.config.seats) (is_busy made.world i) f) g
-
-items_keep : (layout : Layout) (items : List Item) (made : Made) → Keeps layout made → Keeps layout (made_from made items)
-items_keep layout [] made g = g
-items_keep layout (item ∷ items) made g = items_keep layout items (did made item) (item_keeps layout made item (fits made.world item) refl g)
+steady : (layout : Layout) → Steady (Keeps layout)
+steady layout = record { begins = λ made i call b y g. begin_keeps layout made i call y g; steps = λ made i b y g. step_keeps layout made i b y g }
 
 pub records_keep_repeats : RecordsKeepRepeats
 records_keep_repeats layout items d =
-    let g = items_keep layout items (first_made layout) (first_keeps layout d) in
+    let g = items_keep (Keeps layout) (steady layout) items (first_made layout) (first_keeps layout d) in
     entries_of_each (repeats_ok layout.config) (record_of layout items) (subst (λ (table : Layout). Each (repeats_ok table.config) (record_of layout items)) g.full.once.table g.law)

@@ -10,6 +10,7 @@ use Rattle.wfe_defs.specs.declared.event.Event.{Event}
 use Rattle.wfe_defs.specs.declared.event.Event.TheVariants as events
 use Rattle.wfe_defs.specs.declared.event.Root.TheVariants as roots
 use Rattle.wfe_core.specs.Locals.{round_told, rounds_told}
+use Rattle.wfe_core.proofs.Facts.{same_number, first_of, rest_of}
 use Rattle.wfe_laws.specs.Record.{Past, begins, value_since, tells_of}
 use Rattle.wfe_laws.specs.Record.Past.{Start, Then}
 use Rattle.wfe_laws.specs.StateAt.{bucket_of, changes_of, count_of}
@@ -19,13 +20,9 @@ use Rattle.wfe_lawful.specs.QueueLaw.{queued_of, taken_of}
 use Rattle.wfe_answers.specs.AnswersTold.{began_by, began_of}
 use Rattle.wfe_placing.proofs.Tells.{seen_own}
 use Rattle.wfe_reasons.proofs.Later.{Later, later_all, later_same, within_none}
-use Rattle.wfe_reuse.proofs.Passes.{first_of, rest_of}
 use Rattle.wfe_full.proofs.Since.{others_begin, others_own}
 use Rattle.wfe_full.specs.Room.{Search, search_by, no_search, search_of}
 use Rattle.wfe_repeats.specs.Repeats.{is_found, finds_of, tails_by, tails_of, moves_of, moves_before, whole_scan}
-
-same_number : (i : ℕ) → (i == i) ≡ true
-same_number i = grind (arith, nat_tests)
 
 -- finds
 one_found : (i index n : ℕ) → (if (index == 0) && (i == i) then n + 1 else n) ≡ (if index == 0 then n + 1 else n)

@@ -14,7 +14,7 @@ use Rattle.wfe_core.specs.declared.post.Post.{Post}
 use Rattle.wfe_core.specs.Change.{told_change, changed_bucket}
 use Rattle.wfe_core.specs.Enqueue.{told_link}
 use Rattle.wfe_core.specs.Memory as memory
-use Rattle.wfe_core.specs.Memory.{place_in, written, upd}
+use Rattle.wfe_core.specs.Memory.{written}
 use Rattle.wfe_core.specs.Machine.{base_move}
 use Rattle.wfe_core.specs.Phases.{Base}
 use Rattle.wfe_core.specs.Phases.Base.{Write}
@@ -34,7 +34,7 @@ use Rattle.wfe_once.proofs.Along.{along}
 use Rattle.wfe_repeats.specs.Repeats.{tails_by}
 use Rattle.wfe_placing.proofs.Fronts.{linked_front, queued_front, taken_front}
 use Rattle.wfe_placing.proofs.Marks.{is_marked, marks}
-use Rattle.wfe_placing.proofs.Ordered.{whole_comes}
+use Rattle.wfe_ordering.proofs.Ordered.{whole_comes}
 use Rattle.wfe_core.specs.Calls.{CallOutcome, GoesOn, Answers}
 use Rattle.wfe_core.specs.Locals.{told_end}
 use Rattle.wfe_core.specs.World.{World, step, told_in}
@@ -48,7 +48,7 @@ use Rattle.wfe_rows.specs.Hands.{hand_in, is_right}
 use Rattle.wfe_rows.specs.Chain.{line_after}
 use Rattle.wfe_laws.specs.Record.{Past, tells_of}
 use Rattle.wfe_repeats.specs.Repeats.{tails_of}
-use Rattle.wfe_placing.proofs.Nexts.{Here, found_by}
+use Rattle.wfe_ordering.proofs.Nexts.{Here, found_by}
 use Rattle.wfe_rounds.proofs.Worlds.{next_number}
 use Rattle.wfe_rows.specs.Queue.LineMove.{Joins, Keeps}
 use Rattle.wfe_rows.specs.Chain.{queue_of}

@@ -29,7 +29,7 @@ use Rattle.wfe_core.specs.Phases.{RowOf}
 use Rattle.wfe_covers.specs.Held.{index_base}
 use Rattle.wfe_covers.proofs.Stands.{with_row_same, with_row_other, withdrawn_same, withdrawn_other}
 use Rattle.wfe_reuse.specs.Law.{stood_by}
-use Rattle.wfe_reuse.proofs.Passes.{first_of, rest_of, is_quiet, all_quiet, Closed}
+use Rattle.wfe_reuse.proofs.Passes.{is_quiet, all_quiet, Closed}
 use Rattle.wfe_core.specs.Phases.{Tries}
 use Rattle.wfe_core.specs.Posts.{upper}
 use Rattle.wfe_core.specs.SlowPath.{own_request, asking}
@@ -37,6 +37,7 @@ use Rattle.wfe_core.specs.Follow.{after_reload}
 use Rattle.wfe_words.specs.Packed.{read_reservation}
 use Rattle.wfe_defs.specs.declared.event.Guard.TheVariants as the_guards
 use Rattle.wfe_core.specs.Guards.{one_era}
+use Rattle.wfe_core.proofs.Facts.{first_of, rest_of}
 
 -- what these events make of what stood
 abbrev pub stood : ℕ → List Event → Option ℕ → Option ℕ

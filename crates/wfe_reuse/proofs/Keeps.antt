@@ -1,7 +1,7 @@
 -- The record of each history keeps the law on reuse.
 use Rattle.std.proofs.Common.{ℕ, zero, suc, ◌≡◌, ◌<◌, ◌≤◌, Bool, true, false, List, [], ◌∷◌, length, Option, Some, None, refl, sym, ap, ◌∙◌, subst, arith}
 use Rattle.std.proofs.lemmas.Bool.Decides.{nat_tests}
-use Rattle.std.specs.Prelude.{◌==◌, ◌&&◌, ◌||◌, not, nat_lt, if◌then◌else◌}
+use Rattle.std.specs.Prelude.{◌==◌, ◌&&◌, ◌||◌, not, if◌then◌else◌}
 use Rattle.wfe_words.specs.Place.{is_valid}
 use Rattle.wfe_words.specs.declared.layout.Layout.{Layout}
 use Rattle.wfe_defs.specs.declared.call.Call.{Call}
@@ -16,11 +16,13 @@ use Rattle.wfe_core.specs.Phases.Base.{Begin, Protect, Reload, Clear, Finish, Re
 use Rattle.wfe_core.specs.Calls.{Why, CallTurn, CallOutcome, GoesOn, Answers, ScanAt, ReadGuard, GiveBack, Phase, Idle, Runs, Scans, Works}
 use Rattle.wfe_core.proofs.Ranges.{bounds_of}
 use Rattle.wfe_core.specs.World.{World, start, begin, step, finds, told_in, is_busy}
+use Rattle.wfe_core.proofs.Facts.{first_of, rest_of}
 use Rattle.wfe_eras.specs.Seats.{Seats}
 use Rattle.wfe_eras.proofs.Frame.{seat_stays, seat_steps, begin_stays, begin_begins}
 use Rattle.wfe_laws.specs.Record.{Past, Each, tells_of}
 use Rattle.wfe_laws.specs.Record.Past.{Then}
-use Rattle.wfe_history.specs.History.{Item, Begins, Steps, Made, fits, done_if, did, done, made_from, first_made, made_of, record_of}
+use Rattle.wfe_history.specs.History.{Item, Begins, Steps, Made, fits, done, first_made, made_of, record_of}
+use Rattle.wfe_history.proofs.Along.{Steady, items_keep}
 use Rattle.wfe_laws.proofs.Entries.{entries_of_each}
 use Rattle.wfe_rows.specs.Hands.{row_move}
 use Rattle.wfe_covers.specs.Covers.{takes_or_frees}
@@ -33,7 +35,7 @@ use Rattle.wfe_reuse.specs.Reuse.{is_reuse, reuses}
 use Rattle.wfe_reuse.specs.Law.{stood_by, stood_at, is_row, reuse_ok, RecordsKeepReuse, RecordStands}
 use Rattle.wfe_reuse.proofs.Follows.{stood, Follow, base_follows, follow_closed}
 use Rattle.wfe_reuse.proofs.Never.{no_reuse}
-use Rattle.wfe_reuse.proofs.Passes.{first_of, rest_of, First, scan_told, step_goes}
+use Rattle.wfe_reuse.proofs.Passes.{First, scan_told, step_goes}
 use Rattle.wfe_reuse.proofs.Told.{told_free}
 use Rattle.wfe_reuse.proofs.Unheld.{is_unheld, unheld, phase_holds_none, told_unheld}
 
@@ -184,13 +186,6 @@ record Keeps (layout : Layout) (made : Made) : Type 0 where
   pub stands : (k j : ℕ) → stood_at k j made.past ≡ stands (made.world.seat k).post j
   pub law : (k j s : ℕ) → Each (reuse_ok k j s) made.past
 
-begins_right : (seat seats : ℕ) (busy : Bool) → (nat_lt seat seats && not busy) ≡ true → busy ≡ false
-begins_right seat seats true h = absurd (grind (arith, nat_tests))
-begins_right seat seats false h = refl
-
-steps_right : (seat seats : ℕ) (busy : Bool) → (nat_lt seat seats && busy) ≡ true → seat < seats
-steps_right seat seats busy h = grind (arith, nat_tests)
-
 begin_stood : (k i j : ℕ) (call : Call) (p : Past) → stood_at k j (Then p i (events.Begin call)) ≡ stood_at k j p
 begin_stood k i j call p = same_either (k == i) (stood_at k j p)
 
@@ -213,14 +208,8 @@ step_keeps layout made i b g =
       law = λ k j s. step_each made.world i k j s made.past (phase_holds_none (made.world.seat i).phase) refl a (g.stands k j) (g.law k j s);
     }
 
-item_keeps : (layout : Layout) (made : Made) (item : Item) (fit : Bool) → fits made.world item ≡ fit → Keeps layout made → Keeps layout (done_if made item fit)
-item_keeps layout made item false f g = g
-item_keeps layout made (Begins i call) true f g = begin_keeps layout made i call (begins_right i made.world.layout.config.seats (is_busy made.world i) f) g
-item_keeps layout made (Steps i) true f g = step_keeps layout made i (steps_right i made.world.layout.config.seats (is_busy made.world i) f) g
-
-items_keep : (layout : Layout) (items : List Item) (made : Made) → Keeps layout made → Keeps layout (made_from made items)
-items_keep layout [] made g = g
-items_keep layout (item ∷ items) made g = items_keep layout items (did made item) (item_keeps layout made item (fits made.world item) refl g)
+steady : (layout : Layout) → Steady (Keeps layout)
+steady layout = record { begins = λ made i call b y g. begin_keeps layout made i call y g; steps = λ made i b y g. step_keeps layout made i b g }
 
 none_stands : (layout : Layout) (k j : ℕ) → None ≡ stands ((start layout).seat k).post j
 none_stands layout k zero = refl
@@ -234,7 +223,7 @@ none_stands layout k (suc (suc (suc (suc (suc (suc (suc zero))))))) = refl
 none_stands layout k (suc (suc (suc (suc (suc (suc (suc (suc j)))))))) = refl
 
 history_keeps : (layout : Layout) (items : List Item) → is_valid layout ≡ true → Keeps layout (made_of layout items)
-history_keeps layout items d = items_keep layout items (first_made layout) (record { table = refl; known = inv_start layout d; stands = λ k j. none_stands layout k j; law = λ k j s. tt })
+history_keeps layout items d = items_keep (Keeps layout) (steady layout) items (first_made layout) (record { table = refl; known = inv_start layout d; stands = λ k j. none_stands layout k j; law = λ k j s. tt })
 
 pub record_stands : RecordStands
 record_stands layout items k j d = let g = history_keeps layout items d in g.stands k j

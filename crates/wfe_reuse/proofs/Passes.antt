@@ -30,6 +30,7 @@ use Rattle.wfe_core.specs.Rounds.{scheme_of, bucket_of, index_of, taken_of, fini
 use Rattle.wfe_core.specs.Phases.{Base, Ending, Outcome, Goes, Ends}
 use Rattle.wfe_core.specs.Phases.Ending.{Done, Protected, Followed, Allocated, Retired, Clocked}
 use Rattle.wfe_core.specs.Calls.{Task, Gets, Changes, Holds, Enqueues, Dequeues, Next, Again, MakeRoom, Answering, Retiring, AfterScan, Answered, Repeated, Counted, ChangeKept, EnqueueKept, GetAt, FindVersion, FindCount, FindKey, FindValue, ChangeAt, LoadVersion, LoadCount, LoadKey, LoadValue, ExchangeRoot, EnqueueAt, LoadNumber, LoadNext, PassTail, ExchangeNext, ExchangeTail, DequeueAt, LoadTail, SwingTail, TakeNumber, TakeValue, ExchangeHead, Work, Getting, Changing, Enqueuing, Dequeuing, ScanAt, ReadGuard, GiveBack, Why, Opens, FollowsHead, Fills, ClearsNext, Clears, Finishes, GivesUp, Retires, Tidies, Advances, Releases, Phase, Idle, Runs, Scans, Works, CallTurn, CallOutcome, GoesOn, Answers}
+use Rattle.wfe_core.proofs.Facts.{both, first_of, rest_of}
 
 -- events of what calls read and link, and of their end
 abbrev pub is_quiet : Event → Bool
@@ -46,18 +47,6 @@ is_quiet event = false
 abbrev pub all_quiet : List Event → Bool
 all_quiet [] = true
 all_quiet (event ∷ told) = is_quiet event && all_quiet told
-
-pub both : (a b : Bool) → a ≡ true → b ≡ true → (a && b) ≡ true
-both true b h k = k
-both false b h k = h
-
-pub first_of : (a b : Bool) → (a && b) ≡ true → a ≡ true
-first_of true b h = refl
-first_of false b h = h
-
-pub rest_of : (a b : Bool) → (a && b) ≡ true → b ≡ true
-rest_of true b h = h
-rest_of false b h = absurd (cc)
 
 quiet_along : (xs ys : List Event) → all_quiet xs ≡ true → all_quiet ys ≡ true → all_quiet (xs ++ ys) ≡ true
 quiet_along [] ys h k = k

@@ -27,9 +27,10 @@ use Rattle.wfe_core.specs.Phases.RetireAt.{LoadLife, LoadRetire, StoreRetired}
 use Rattle.wfe_core.specs.Phases.MoveAt.{LoadEra, LoadRequest, ShowEra, LoadAsked, CheckEra, AnswerAsked, LoadReserved, HandOver, HideEra, HideLate, ExchangeClock}
 use Rattle.wfe_core.specs.Phases.Base.{Begin, Protect, Reload, Clear, Finish, Release, Allocate, Write, GiveUp, Retire, Move}
 use Rattle.wfe_core.specs.Calls.{ScanAt, ReadGuard, GiveBack, Phase, Idle, Runs, Scans, Works}
+use Rattle.wfe_core.proofs.Facts.{first_of, rest_of}
 use Rattle.wfe_rows.specs.Hands.{base_row, scan_row, row_move}
 use Rattle.wfe_covers.specs.Covers.{takes_or_frees}
-use Rattle.wfe_reuse.proofs.Passes.{is_quiet, all_quiet, first_of, rest_of, Closed, First, scan_told, step_goes}
+use Rattle.wfe_reuse.proofs.Passes.{is_quiet, all_quiet, Closed, First, scan_told, step_goes}
 use Rattle.wfe_reuse.specs.Reuse.{is_reuse, reuses}
 
 -- these events neither give nor free the row

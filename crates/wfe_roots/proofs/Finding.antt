@@ -2,7 +2,7 @@
 use Rattle.std.proofs.Common.{ℕ, ◌≡◌, Bool, true, false, List, [], ◌∷◌, Option, Some, refl, sym, ap, ◌∙◌, subst, inl, inr, arith}
 use Rattle.std.proofs.lemmas.Bool.Decides.{nat_tests}
 use Rattle.std.specs.List.{list_any}
-use Rattle.std.specs.Prelude.{◌==◌, ◌||◌, not, nat_lt}
+use Rattle.std.specs.Prelude.{◌==◌, ◌||◌, not}
 use Rattle.wfe_words.specs.Place.{is_valid}
 use Rattle.wfe_words.specs.declared.layout.Layout.{Layout}
 use Rattle.wfe_defs.specs.declared.call.Call.{Call}
@@ -14,17 +14,17 @@ use Rattle.wfe_core.specs.Desks.{Desk, noting}
 use Rattle.wfe_core.specs.Locals.{Local, busy_in, settled_by, begun, begun_post, told_by, told_end, rounds_told, turn}
 use Rattle.wfe_core.specs.Posts.{counted}
 use Rattle.wfe_core.specs.World.{World, begin, step, finds, is_busy, told_in}
+use Rattle.wfe_core.proofs.Facts.{same_number, first_of, rest_of}
 use Rattle.wfe_ends.proofs.Tests.{Calm, step_any}
 use Rattle.wfe_eras.specs.Frame.{phase_left}
 use Rattle.wfe_eras.specs.Seats.{Seats}
 use Rattle.wfe_eras.proofs.Frame.{seat_stays, seat_steps, begin_stays, begin_begins}
-use Rattle.wfe_history.specs.History.{Item, Begins, Steps, Made, fits, done_if, did, made_from, first_made, record_of, world_of}
+use Rattle.wfe_history.specs.History.{Item, Made, first_made, record_of, world_of}
+use Rattle.wfe_history.proofs.Along.{Steady, items_keep}
 use Rattle.wfe_inv.proofs.Shapes.{run_of}
 use Rattle.wfe_laws.specs.Record.{Past, Each, tells_of}
 use Rattle.wfe_laws.specs.Record.Past.{Then}
 use Rattle.wfe_once.proofs.Along.{along}
-use Rattle.wfe_once.proofs.Keeps.{begins_right, steps_right}
-use Rattle.wfe_reuse.proofs.Passes.{first_of, rest_of}
 use Rattle.wfe_lawful.proofs.Each.{all_of}
 use Rattle.wfe_lawful.proofs.Machines.{is_within}
 use Rattle.wfe_answers.specs.AnswersTold.{began_of, began_by}
@@ -33,7 +33,6 @@ use Rattle.wfe_answers.proofs.Answering.{first_all, owes_of, within_of}
 use Rattle.wfe_answers.proofs.Owed.{is_open, Serves, Owes, owed}
 use Rattle.wfe_placing.proofs.Sums.{along_both}
 use Rattle.wfe_placing.proofs.Tells.{seen_other, seen_tells, seen_stays, tells_both}
-use Rattle.wfe_rows.proofs.Went.{same_number}
 use Rattle.wfe_told.proofs.Turns.{is_later}
 use Rattle.wfe_roots.specs.Finding.{has_root, rooted_by, rooted_of, finds_ok, RecordsFindRoots}
 use Rattle.wfe_roots.proofs.Early.{is_early, is_rooting, Fate, RunFits, phase_fate, first_early}
@@ -146,27 +145,21 @@ record FindsKept (layout : Layout) (made : Made) : Type 0 where
   answers : answering.Keeps layout.config.buckets made
   found : AllFound made.world made.past
 
-item_kept : (layout : Layout) (made : Made) (item : Item) (fit : Bool) → fits made.world item ≡ fit → FindsKept layout made → FindsKept layout (done_if made item fit)
-item_kept layout made item false f g = g
-item_kept layout made (Begins i call) true f g = record {
-  answers = answering.begin_keeps layout.config.buckets made i call (begins_right i made.world.layout.config.seats (is_busy made.world i) f) g.answers;
-  found = λ k. begin_found made.world i k call made.past (k == i) refl g.found;
+steady : (layout : Layout) → Steady (FindsKept layout)
+steady layout = record {
+  begins = λ made i call b y g. record {
+    answers = answering.begin_keeps layout.config.buckets made i call y g.answers;
+    found = λ k. begin_found made.world i k call made.past (k == i) refl g.found;
+  };
+  steps = λ made i b y g. record {
+    answers = answering.step_keeps layout.config.buckets made i b y g.answers;
+    found = λ k. step_found made.world i k made.past (k == i) refl g.answers.known.known.seats ((g.answers.seats i).serves y) y g.found;
+  };
 }
-item_kept layout made (Steps i) true f g =
-    let b = steps_right i made.world.layout.config.seats (is_busy made.world i) f in
-    let y = rest_of (nat_lt i made.world.layout.config.seats) (is_busy made.world i) f in
-    record {
-      answers = answering.step_keeps layout.config.buckets made i b y g.answers;
-      found = λ k. step_found made.world i k made.past (k == i) refl g.answers.known.known.seats ((g.answers.seats i).serves y) y g.found;
-    }
-
-items_kept : (layout : Layout) (items : List Item) (made : Made) → FindsKept layout made → FindsKept layout (made_from made items)
-items_kept layout [] made g = g
-items_kept layout (item ∷ items) made g = items_kept layout items (did made item) (item_kept layout made item (fits made.world item) refl g)
 
 found_of : (layout : Layout) (path : List Item) → is_valid layout ≡ true → AllFound (world_of layout path) (record_of layout path)
 found_of layout path d =
-    let g = items_kept layout path (first_made layout) (record { answers = answering.first_keeps layout d; found = λ k b. absurd (cc) }) in
+    let g = items_keep (FindsKept layout) (steady layout) path (first_made layout) (record { answers = answering.first_keeps layout d; found = λ k b. absurd (cc) }) in
     g.found
 
 -- the law along what a step tells

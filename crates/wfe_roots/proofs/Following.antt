@@ -21,19 +21,19 @@ use Rattle.wfe_core.specs.Phases.Base.{Begin, Protect, Reload, Clear, Finish, Re
 use Rattle.wfe_core.specs.Posts.{stands, counted, cleared, upper}
 use Rattle.wfe_core.specs.Protect.{told_held}
 use Rattle.wfe_core.specs.World.{World, finds, told_in}
+use Rattle.wfe_core.proofs.Facts.{same_number}
 use Rattle.wfe_ends.proofs.Tests.{Calm, at_shows, base_shows, base_any}
 use Rattle.wfe_eras.specs.Seats.{ToFollow, Shaped, suits, kind_of, protects, reloads, index_by}
 use Rattle.wfe_history.specs.History.{record_of, world_of}
 use Rattle.wfe_laws.specs.Record.{Past, Each, tells_of}
 use Rattle.wfe_laws.specs.Record.Past.{Then}
-use Rattle.wfe_placing.specs.Order.{head_at}
-use Rattle.wfe_placing.proofs.Nexts.{found_by}
-use Rattle.wfe_placing.proofs.Ordered.{head_is}
+use Rattle.wfe_ordering.specs.Order.{head_at}
+use Rattle.wfe_ordering.proofs.Nexts.{found_by}
+use Rattle.wfe_ordering.proofs.Ordered.{head_is}
 use Rattle.wfe_placing.proofs.Tells.{tells_both}
 use Rattle.wfe_reuse.specs.Law.{stood_at, is_row}
 use Rattle.wfe_reuse.proofs.Keeps.{record_stands}
 use Rattle.wfe_rows.proofs.Phases.{number_of}
-use Rattle.wfe_rows.proofs.Went.{same_number}
 use Rattle.wfe_rows.specs.Queue.{stands_on}
 use Rattle.wfe_told.proofs.Rows.{own_told, own_post, step_adds}
 use Rattle.wfe_told.proofs.Turns.{Adds, is_later}

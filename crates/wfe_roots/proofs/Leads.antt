@@ -1,5 +1,5 @@
 -- Where roots lead by the record of a history is where their words lead.
-use Rattle.std.proofs.Common.{ℕ, ◌≡◌, ◌<◌, ◌+◌, Bool, true, false, List, [], ◌∷◌, refl, sym, ap, ◌∙◌, subst}
+use Rattle.std.proofs.Common.{ℕ, ◌≡◌, ◌<◌, ◌+◌, true, false, List, refl, sym, ap, ◌∙◌, subst}
 use Rattle.wfe_words.specs.Place.{Place, is_valid}
 use Rattle.wfe_words.specs.Place.Place.{Head, Tail, Bucket}
 use Rattle.wfe_words.specs.declared.layout.Layout.{Layout}
@@ -11,19 +11,20 @@ use Rattle.wfe_core.specs.Calls.{CallOutcome, GoesOn, Answers}
 use Rattle.wfe_core.specs.Locals.{told_end}
 use Rattle.wfe_core.specs.World.{World, is_busy, step, told_in}
 use Rattle.wfe_covers.proofs.Kept.{before_at}
-use Rattle.wfe_history.specs.History.{Item, Begins, Steps, Made, fits, done, done_if, did, made_from, first_made, record_of, world_of}
+use Rattle.wfe_history.specs.History.{Item, Begins, Steps, Made, fits, done, first_made, record_of, world_of}
+use Rattle.wfe_history.proofs.Along.{Steady, items_keep}
 use Rattle.wfe_inv.specs.Known.{Known}
 use Rattle.wfe_inv.proofs.Begun.{known_start, known_begin}
 use Rattle.wfe_inv.proofs.Kept.{known_kept, asked_next}
 use Rattle.wfe_laws.specs.Record.{Past, tells_of}
 use Rattle.wfe_once.proofs.Along.{along}
-use Rattle.wfe_once.proofs.Keeps.{begins_right, steps_right, needs_of}
-use Rattle.wfe_placing.specs.Nexts.{tail_by, tail_at}
-use Rattle.wfe_placing.specs.Order.{bucket_at, head_at}
+use Rattle.wfe_once.proofs.Keeps.{needs_of}
+use Rattle.wfe_ordering.specs.Nexts.{tail_by, tail_at}
+use Rattle.wfe_ordering.specs.Order.{bucket_at, head_at}
 use Rattle.wfe_placing.proofs.Comes.{agree_of}
 use Rattle.wfe_placing.proofs.Marks.{is_marked}
-use Rattle.wfe_placing.proofs.Nexts.{Here, tail_moved}
-use Rattle.wfe_placing.proofs.Ordered.{word_of, Roots, roots_step, whole_comes}
+use Rattle.wfe_ordering.proofs.Nexts.{Here, tail_moved}
+use Rattle.wfe_ordering.proofs.Ordered.{word_of, Roots, roots_step, whole_comes}
 use Rattle.wfe_requests.specs.Views.{View as Asked}
 use Rattle.wfe_requests.proofs.Kept.{requests_begin, requests_start}
 use Rattle.wfe_rows.specs.Agree.{first_rows, rows_after}
@@ -92,14 +93,8 @@ step_kept layout made i b g =
       tail = tail_step w i g.rows g.line g.asked made.past g.known g.tail;
     }
 
-item_kept : (layout : Layout) (made : Made) (item : Item) (fit : Bool) → fits made.world item ≡ fit → LeadsKept layout made → LeadsKept layout (done_if made item fit)
-item_kept layout made item false f g = g
-item_kept layout made (Begins i call) true f g = begin_kept layout made i call (begins_right i made.world.layout.config.seats (is_busy made.world i) f) g
-item_kept layout made (Steps i) true f g = step_kept layout made i (steps_right i made.world.layout.config.seats (is_busy made.world i) f) g
-
-items_kept : (layout : Layout) (items : List Item) (made : Made) → LeadsKept layout made → LeadsKept layout (made_from made items)
-items_kept layout [] made g = g
-items_kept layout (item ∷ items) made g = items_kept layout items (did made item) (item_kept layout made item (fits made.world item) refl g)
+steady : (layout : Layout) → Steady (LeadsKept layout)
+steady layout = record { begins = λ made i call b y g. begin_kept layout made i call y g; steps = λ made i b y g. step_kept layout made i b g }
 
 first_kept : (layout : Layout) → is_valid layout ≡ true → LeadsKept layout (first_made layout)
 first_kept layout d =
@@ -116,7 +111,7 @@ first_kept layout d =
 
 pub leads_of : (layout : Layout) (path : List Item) → is_valid layout ≡ true → Leads layout.config.slots (world_of layout path).mem (record_of layout path)
 leads_of layout path d =
-    let g = items_kept layout path (first_made layout) (first_kept layout d) in
+    let g = items_keep (LeadsKept layout) (steady layout) path (first_made layout) (first_kept layout d) in
     let a = agree_of (world_of layout path) g.rows g.line g.asked g.known in
     record {
       buckets = λ b. g.roots.buckets b ∙ sym (a.words.roots b);

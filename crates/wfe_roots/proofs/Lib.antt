@@ -1,9 +1,6 @@
-pub mod Clears
 pub mod Early
 pub mod Finding
-pub mod Fitting
 pub mod Following
-pub mod Indexing
 pub mod Leads
 pub mod Linking
 pub mod Sources

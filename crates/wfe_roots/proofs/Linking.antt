@@ -19,25 +19,24 @@ use Rattle.wfe_core.specs.Locals.{told_end, turn}
 use Rattle.wfe_core.specs.Posts.{stands, counted}
 use Rattle.wfe_core.specs.World.{World, finds, told_in}
 use Rattle.wfe_core.specs.Calls.{ChangeKept, EnqueueKept, LoadVersion, LoadCount, LoadKey, LoadValue, ExchangeRoot, LoadNumber, LoadNext, PassTail, ExchangeNext, ExchangeTail, LoadTail, SwingTail, TakeNumber, TakeValue, ExchangeHead, Getting, Changing, Enqueuing, Dequeuing, Phase, Idle, Runs, Scans, Works, CallTurn, CallOutcome, GoesOn, Answers}
+use Rattle.wfe_core.proofs.Facts.{same_number, both, first_of, rest_of}
 use Rattle.wfe_laws.specs.Record.{Past, Each, tells_of}
 use Rattle.wfe_laws.specs.Record.Past.{Then}
 use Rattle.wfe_history.specs.History.{Item, record_of, world_of}
 use Rattle.wfe_reuse.specs.Law.{stood_at, is_row}
 use Rattle.wfe_reuse.proofs.Keeps.{record_stands}
-use Rattle.wfe_reuse.proofs.Passes.{both, first_of, rest_of}
 use Rattle.wfe_rows.proofs.Phases.{number_of}
-use Rattle.wfe_rows.proofs.Went.{same_number}
 use Rattle.wfe_stands.specs.Stands.{Stood}
 use Rattle.wfe_lawful.proofs.Each.{all_of}
 use Rattle.wfe_lawful.proofs.Machines.{of_weaker}
 use Rattle.wfe_answers.specs.AnswersTold.{began_of}
 use Rattle.wfe_answers.proofs.Owed.{Serves}
-use Rattle.wfe_placing.specs.Nexts.{tail_at}
-use Rattle.wfe_placing.specs.Order.{bucket_at, head_at}
+use Rattle.wfe_ordering.specs.Nexts.{tail_at}
+use Rattle.wfe_ordering.specs.Order.{bucket_at, head_at}
 use Rattle.wfe_placing.proofs.Fronts.{linked_front, queued_front, taken_front}
 use Rattle.wfe_placing.proofs.Marks.{is_common, ordered, InOrder, tells, step_order}
-use Rattle.wfe_placing.proofs.Nexts.{found_by}
-use Rattle.wfe_placing.proofs.Ordered.{word_of, head_is}
+use Rattle.wfe_ordering.proofs.Nexts.{found_by}
+use Rattle.wfe_ordering.proofs.Ordered.{word_of, head_is}
 use Rattle.wfe_placing.proofs.Tells.{tells_both}
 use Rattle.wfe_roots.specs.Linking.{is_dequeue, stands_for, links_ok, RecordsLinkHeld}
 use Rattle.wfe_roots.proofs.Leads.{Leads, leads_of}

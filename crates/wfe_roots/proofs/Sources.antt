@@ -25,10 +25,12 @@ use Rattle.wfe_core.specs.Phases.Base.{Protect, Reload, Clear, Release}
 use Rattle.wfe_core.specs.Posts.{counted, cleared, stands, upper}
 use Rattle.wfe_core.specs.Protect.{told_held}
 use Rattle.wfe_core.specs.World.{World, finds, is_busy, told_in}
+use Rattle.wfe_core.proofs.Facts.{same_number, both, first_of, rest_of}
 use Rattle.wfe_covers.proofs.Held.{finds_at}
 use Rattle.wfe_ends.proofs.Tests.{Calm, at_shows, base_shows, phase_shows, step_any}
 use Rattle.wfe_eras.specs.Seats.{Seats, protects, reloads, kind_of, index_by, task_root}
 use Rattle.wfe_history.specs.History.{Item, Begins, Steps, Made, fits, done_if, did, made_from, made_of, first_made, record_of, world_of}
+use Rattle.wfe_history.proofs.Along.{begins_right, low_seat, made_snoc}
 use Rattle.wfe_inv.specs.Known.{Known}
 use Rattle.wfe_inv.proofs.Begun.{known_start, known_begin}
 use Rattle.wfe_inv.proofs.Kept.{known_kept, asked_next}
@@ -39,24 +41,21 @@ use Rattle.wfe_laws.specs.Record.{Past, Each, tells_of, begins, held_since}
 use Rattle.wfe_laws.specs.Record.Past.{Start, Then}
 use Rattle.wfe_lawful.proofs.Each.{all_of}
 use Rattle.wfe_lawful.proofs.Machines.{is_within}
-use Rattle.wfe_once.proofs.Keeps.{begins_right, steps_right}
 use Rattle.wfe_origins.specs.Origins.{Origins}
 use Rattle.wfe_origins.specs.Tracked.{carries_at, carries_in, root_for, root_in, Tracked, Carried, Given, Helped}
 use Rattle.wfe_origins.proofs.Came.{aimed_at, link_busy, helps_busy}
 use Rattle.wfe_origins.proofs.Kept.{origins_kept, origins_start, origins_begin}
-use Rattle.wfe_placing.specs.Nexts.{tail_at}
-use Rattle.wfe_placing.specs.Order.{bucket_at, head_at}
-use Rattle.wfe_placing.proofs.Ordered.{word_of}
+use Rattle.wfe_ordering.specs.Nexts.{tail_at}
+use Rattle.wfe_ordering.specs.Order.{bucket_at, head_at}
+use Rattle.wfe_ordering.proofs.Ordered.{word_of}
 use Rattle.wfe_requests.specs.Deals.{fits as fits_role, is_quiet}
 use Rattle.wfe_requests.specs.Standing.{Requests, role_of}
 use Rattle.wfe_requests.specs.Views.{Deal, Role, View as Asked}
 use Rattle.wfe_requests.proofs.Kept.{idle_of, requests_begin, requests_start}
-use Rattle.wfe_reuse.proofs.Passes.{both, first_of, rest_of}
 use Rattle.wfe_rows.specs.Agree.{first_rows, rows_after}
 use Rattle.wfe_rows.specs.Chain.{first_line, line_after}
 use Rattle.wfe_rows.specs.Queue.{Line}
 use Rattle.wfe_rows.specs.Rows.{View}
-use Rattle.wfe_rows.proofs.Went.{same_number}
 use Rattle.wfe_told.proofs.Turns.{is_later}
 use Rattle.wfe_answers.specs.AnswersTold.{began_of}
 use Rattle.wfe_answers.proofs.Answering.{within_of}
@@ -175,7 +174,7 @@ item_kept layout made (Begins i call) true f l g =
     }
 item_kept layout made (Steps i) true f l g =
     let w : World = made.world in
-    let b = steps_right i w.layout.config.seats (is_busy w i) f in
+    let b = low_seat i w.layout.config.seats (is_busy w i) f in
     let q = asked_next w i g.rows g.line g.asked b g.known in
     let told : List Event = told_in w i in
     record {
@@ -191,10 +190,6 @@ item_kept layout made (Steps i) true f l g =
           })
           g.links;
     }
-
-made_snoc : (made : Made) (path : List Item) (item : Item) → made_from made (path ++ item ∷ []) ≡ did (made_from made path) item
-made_snoc made [] item = refl
-made_snoc made (first ∷ path) item = made_snoc (did made first) path item
 
 items_kept : (layout : Layout) (items path : List Item) (made : Made) → is_valid layout ≡ true → made ≡ made_of layout path → SourcesKept layout made → SourcesKept layout (made_from made items)
 items_kept layout [] path made d e g = g

@@ -7,11 +7,11 @@ use Rattle.wfe_words.specs.declared.layout.Layout.{Layout}
 use Rattle.wfe_defs.specs.declared.call.Call.{Call}
 use Rattle.wfe_defs.specs.declared.event.Event.TheVariants as events
 use Rattle.wfe_core.specs.World.{World, is_busy, told_in}
+use Rattle.wfe_core.proofs.Facts.{rest_of}
 use Rattle.wfe_laws.specs.Record.{Past, Test, Each, EachEntry, tells_of}
 use Rattle.wfe_laws.proofs.Entries.{entries_of_each}
 use Rattle.wfe_history.specs.History.{Item, Begins, Steps, Made, fits, done_if, did, made_from, made_of, first_made, record_of, world_of}
-use Rattle.wfe_once.proofs.Keeps.{begins_right, steps_right}
-use Rattle.wfe_reuse.proofs.Passes.{rest_of}
+use Rattle.wfe_history.proofs.Along.{Steady, items_keep, low_seat, made_snoc}
 use Rattle.wfe_answers.proofs.Answering as answering
 
 -- a seat that makes a step where a history has come to
@@ -24,16 +24,12 @@ pub record Along (layout : Layout) (ok : Test) : Type 0 where
   pub begins : (p : Past) (i : ℕ) (call : Call) → ok p i (events.Begin call) ≡ true
   pub steps : (path : List Item) (i : ℕ) → Turning layout path i → Each ok (record_of layout path) → Each ok (tells_of (record_of layout path) i (told_in (world_of layout path) i))
 
-made_snoc : (made : Made) (path : List Item) (item : Item) → made_from made (path ++ item ∷ []) ≡ did (made_from made path) item
-made_snoc made [] item = refl
-made_snoc made (first ∷ path) item = made_snoc (did made first) path item
-
 item_each : (layout : Layout) (ok : Test) → Along layout ok → (path : List Item) (item : Item) (fit : Bool) → fits (world_of layout path) item ≡ fit → Each ok (record_of layout path) → Each ok (done_if (made_of layout path) item fit).past
 item_each layout ok a path item false f g = g
 item_each layout ok a path (Begins i call) true f g = (a.begins (record_of layout path) i call, g)
 item_each layout ok a path (Steps i) true f g =
     let w : World = world_of layout path in
-    a.steps path i (record { seat = steps_right i w.layout.config.seats (is_busy w i) f; busy = rest_of (nat_lt i w.layout.config.seats) (is_busy w i) f }) g
+    a.steps path i (record { seat = low_seat i w.layout.config.seats (is_busy w i) f; busy = rest_of (nat_lt i w.layout.config.seats) (is_busy w i) f }) g
 
 items_each : (layout : Layout) (ok : Test) → Along layout ok → (items path : List Item) (made : Made) → made ≡ made_of layout path → Each ok made.past → Each ok (made_from made items).past
 items_each layout ok a [] path made e g = g
@@ -46,15 +42,8 @@ pub record_each : (layout : Layout) (ok : Test) (items : List Item) → Along la
 record_each layout ok items a = entries_of_each ok (record_of layout items) (items_each layout ok a items [] (first_made layout) refl tt)
 
 -- what a history has told of its answers
-answers_item : (n : ℕ) (made : Made) (item : Item) (fit : Bool) → fits made.world item ≡ fit → answering.Keeps n made → answering.Keeps n (done_if made item fit)
-answers_item n made item false f g = g
-answers_item n made (Begins i call) true f g = answering.begin_keeps n made i call (begins_right i made.world.layout.config.seats (is_busy made.world i) f) g
-answers_item n made (Steps i) true f g =
-    answering.step_keeps n made i (steps_right i made.world.layout.config.seats (is_busy made.world i) f) (rest_of (nat_lt i made.world.layout.config.seats) (is_busy made.world i) f) g
-
-answers_items : (n : ℕ) (items : List Item) (made : Made) → answering.Keeps n made → answering.Keeps n (made_from made items)
-answers_items n [] made g = g
-answers_items n (item ∷ items) made g = answers_items n items (did made item) (answers_item n made item (fits made.world item) refl g)
+steady : (n : ℕ) → Steady (answering.Keeps n)
+steady n = record { begins = λ made i call b y g. answering.begin_keeps n made i call y g; steps = λ made i b y g. answering.step_keeps n made i b y g }
 
 pub answers_of : (layout : Layout) (path : List Item) → is_valid layout ≡ true → answering.Keeps layout.config.buckets (made_of layout path)
-answers_of layout path d = answers_items layout.config.buckets path (first_made layout) (answering.first_keeps layout d)
+answers_of layout path d = items_keep (answering.Keeps layout.config.buckets) (steady layout.config.buckets) path (first_made layout) (answering.first_keeps layout d)

@@ -6,7 +6,7 @@ use Rattle.wfe_defs.specs.declared.event.Event.TheVariants as events
 use Rattle.wfe_laws.specs.Record.{Past, Test, EachEntry}
 use Rattle.wfe_history.specs.History.{Item, record_of}
 use Rattle.wfe_reuse.specs.Law.{stood_at, is_row}
-use Rattle.wfe_placing.specs.Order.{head_at}
+use Rattle.wfe_ordering.specs.Order.{head_at}
 
 -- Where a seat tells at index 1 that a row stands, the row that the head has stands at its index 0, and where it tells at index 1
 -- that there is none, some row stands at its index 0.

@@ -10,8 +10,8 @@ use Rattle.wfe_laws.specs.Record.{Past, Test, EachEntry}
 use Rattle.wfe_history.specs.History.{Item, record_of}
 use Rattle.wfe_reuse.specs.Law.{stood_at, is_row}
 use Rattle.wfe_answers.specs.AnswersTold.{began_of}
-use Rattle.wfe_placing.specs.Nexts.{tail_at}
-use Rattle.wfe_placing.specs.Order.{bucket_at, head_at}
+use Rattle.wfe_ordering.specs.Nexts.{tail_at}
+use Rattle.wfe_ordering.specs.Order.{bucket_at, head_at}
 
 abbrev pub is_dequeue : Option Call → Bool
 is_dequeue (Some calls.Dequeue) = true

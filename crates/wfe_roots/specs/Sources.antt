@@ -10,8 +10,8 @@ use Rattle.wfe_laws.specs.MapLaw.{same_value}
 use Rattle.wfe_laws.specs.Record.{Past, Test, EachEntry, begins, held_since}
 use Rattle.wfe_history.specs.History.{Item, record_of}
 use Rattle.wfe_answers.specs.AnswersTold.{began_of}
-use Rattle.wfe_placing.specs.Nexts.{tail_at}
-use Rattle.wfe_placing.specs.Order.{bucket_at, head_at}
+use Rattle.wfe_ordering.specs.Nexts.{tail_at}
+use Rattle.wfe_ordering.specs.Order.{bucket_at, head_at}
 
 -- the row that a call found at its root, or that there is none, is what the root had at a position of the call
 abbrev pub has_had : Config → ℕ → Past → Option Call → Option ℕ → Bool

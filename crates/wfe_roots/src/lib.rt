@@ -1,18 +1,11 @@
-//! What the record of each history says of the rows that calls protect: which stand where, and at
-//! which roots they were found. Each function here does nothing, and carries a theorem.
+//! What the record of each history says of the rows that calls protect: at which roots they were found, and
+//! which stand where a row is linked. Each function here does nothing, and carries a theorem.
 #![tactic(auto)]
 
-ghost use Rattle.wfe_roots.specs.Clearing.{RecordsClearRows};
 ghost use Rattle.wfe_roots.specs.Finding.{RecordsFindRoots};
 ghost use Rattle.wfe_roots.specs.Following.{RecordsFollowHead};
-ghost use Rattle.wfe_roots.specs.Indexing.{RecordsUseIndexes};
 ghost use Rattle.wfe_roots.specs.Linking.{RecordsLinkHeld};
 ghost use Rattle.wfe_roots.specs.Sources.{RecordsFindSources};
-
-/// A seat tells that a row stands at an index no more only where the row stands there.
-pub fn records_clear_rows()
-    ensures { RecordsClearRows }
-{}
 
 /// Where a seat links a row at a root, the row that the root had stands at its index 0; where it links
 /// one behind a row of the queue, that row does. What the head is linked to stands at its index 1, and
@@ -25,12 +18,6 @@ pub fn records_link_held()
 /// that the row of its root stands, or that there is none.
 pub fn records_find_roots()
     ensures { RecordsFindRoots }
-{}
-
-/// A hold protects and clears at index 2, where only a release clears too; a dequeue protects and
-/// clears at indexes 0 and 1, and each other call that protects at index 0.
-pub fn records_use_indexes()
-    ensures { RecordsUseIndexes }
 {}
 
 /// Where a seat tells at index 1 that a row stands, the row that the head has stands at its index 0,

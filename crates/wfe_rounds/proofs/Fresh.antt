@@ -25,6 +25,7 @@ use Rattle.wfe_core.specs.Rest.{is_told, lost_by}
 use Rattle.wfe_core.specs.Rounds.{helps, key_of}
 use Rattle.wfe_core.specs.World.{World, step}
 use Rattle.wfe_core.specs.declared.post.Post.{Post}
+use Rattle.wfe_core.proofs.Facts.{same_number}
 use Rattle.wfe_defs.specs.declared.event.Root.{Root}
 use Rattle.wfe_eras.specs.Seats.{PhaseFits, Run, Seats}
 use Rattle.wfe_origins.specs.Origins.{loads_asked, loads_at, loads_link}
@@ -35,9 +36,6 @@ use Rattle.wfe_rounds.specs.Tallies.{Tally, changes_so_far, passes_so_far, phase
 use Rattle.wfe_rows.specs.Chain.{line_after}
 use Rattle.wfe_rows.specs.Queue.{Line}
 use Rattle.std.specs.Prelude.{nat_le, not, ◌==◌, ◌&&◌, ◌||◌, ◌%◌}
-
-same_number : (n : ℕ) → (n == n) ≡ true
-same_number n = grind (arith, nat_tests)
 
 some_number : (n : ℕ) → 0 < n → (n == 0) ≡ false
 some_number n h = grind (arith, nat_tests, h)

@@ -28,13 +28,14 @@ use Rattle.wfe_rows.proofs.Runs.{only_fills}
 use Rattle.wfe_rows.proofs.Steps.{no_fill, of_old, of_known, of_dated, life_cut, old_life}
 use Rattle.std.proofs.Common.{None, ◌&&◌}
 use Rattle.wfe_rows.proofs.Queued.{queue_needs, far_by, world_went}
-use Rattle.wfe_rows.proofs.Went.{Others, Went, same_number, both_same}
+use Rattle.wfe_rows.proofs.Went.{Others, Went, both_same}
 use Rattle.wfe_rows.specs.Queue.{Line, in_queue, blanks_in, line_move}
 use Rattle.wfe_rows.specs.Agree.{rows_after}
 use Rattle.wfe_rows.specs.Facts.{LinedStays, QueueEnds}
 use Rattle.wfe_core.specs.Calls.{EnqueueKept, LoadNumber, PassTail, LoadTail, Enqueuing, Dequeuing, Works}
 use Rattle.wfe_core.specs.World.{step}
 use Rattle.wfe_core.specs.Locals.{turn}
+use Rattle.wfe_core.proofs.Facts.{same_number}
 use Rattle.wfe_words.specs.Place.Place.{Row}
 
 -- the list as contracts see it

@@ -30,15 +30,13 @@ use Rattle.wfe_rows.specs.Follow.{at_loaded, base_loaded, is_follows, is_next, L
 use Rattle.wfe_rows.specs.Queue.{stands_on}
 use Rattle.wfe_core.specs.Dequeue.{follow_base}
 use Rattle.wfe_core.specs.Calls.{Opens, FollowsHead, Fills, ClearsNext, Clears, Finishes, GivesUp, Retires, Tidies, Advances, Releases, Phase, Idle, Runs, Scans, Works}
+use Rattle.wfe_core.proofs.Facts.{same_number}
 use Rattle.wfe_rows.proofs.Steps.{no_fill}
 
 -- where the machine goes on
 abbrev pub OutLoads : ℕ → ℕ → Outcome → Type 0
 OutLoads h next (Goes base) = LoadsBase h base next
 OutLoads h next (Ends ending) = Unit {0}
-
-same_number : (n : ℕ) → (n == n) ≡ true
-same_number n = grind (arith, nat_tests)
 
 -- a protection that goes on with no link loaded, or with this one
 none_loaded : (h next index n : ℕ) (at : ProtectAt) → ((link : ℕ) → at_loaded at link ≡ true → next ≡ link) → LoadsBase h (Protect Follows index (roots.Next h) n at) next

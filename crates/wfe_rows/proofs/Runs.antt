@@ -31,6 +31,7 @@ use Rattle.wfe_core.specs.Protect as protects
 use Rattle.wfe_core.specs.MoveClock as movers
 use Rattle.wfe_words.specs.Packed.{reservation_word}
 use Rattle.wfe_core.specs.Posts.{reserves_helper}
+use Rattle.wfe_core.proofs.Facts.{same_number}
 use Rattle.wfe_rows.specs.Hands.{hand_why, task_fills}
 use Rattle.wfe_rows.proofs.Words.{is_writing}
 use Rattle.wfe_rows.proofs.Rounds.{closed_leaves, finishing_leaves, clearing_leaves, leaves_along}
@@ -237,9 +238,6 @@ task_empty Dequeues at h = cc
 pub spent_leaves : (task : Task) (at : AllocateAt) (post : Post) (desk : Desk) (told : List Event) → task_fills task (Allocate at) ≡ true → Leaves Empty desk.list (steps.resume (Fills task) (Allocated allocate_ends.Full) post desk told)
 spent_leaves task at post desk told h =
     leaves_along (hand_task task) Empty desk.list (steps.resume (Fills task) (Allocated allocate_ends.Full) post desk told) (task_empty task at h) (full_leaves task post desk told)
-
-same_number : (n : ℕ) → (n == n) ≡ true
-same_number n = grind (arith, nat_tests)
 
 pub given_leaves : (task : Task) (at : AllocateAt) (slot birth : ℕ) (post : Post) (desk : Desk) (told : List Event) → task_fills task (Allocate at) ≡ true → Leaves (Taken slot) desk.list (steps.resume (Fills task) (Allocated (allocate_ends.Given slot birth)) post desk told)
 given_leaves (Gets key) at slot birth post desk told h = absurd (cc)

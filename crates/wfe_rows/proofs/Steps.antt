@@ -197,9 +197,6 @@ did_claims slots i mem v task birth walk post desk false e below g w p =
     (record { hand = refl; right = fills_allocate task (ClaimSlot birth walk) (StoreLife birth walk.slot) p.right; list = refl })
 
 -- what the hand says of its row
-same_slot : (n : ℕ) → (n == n) ≡ true
-same_slot n = grind (arith, nat_tests)
-
 pub of_new : (slots : ℕ) (v : View) (i slot : ℕ) → Good slots v → v.hand i ≡ New slot → v.status slot ≡ Claimed i
 of_new slots v i slot g h = grind (arith, nat_tests, g.hands i slot)
 

@@ -1,6 +1,5 @@
 -- The steps of a call's own and those of a scan, and what comes after a machine: what is in hand, and the list.
 use Rattle.std.proofs.Common.{ℕ, zero, suc, ◌+◌, ◌-◌, ◌≡◌, Bool, true, false, arith, refl, ap, ◌∙◌, sym, List, [], ◌∷◌}
-use Rattle.std.proofs.lemmas.Bool.Decides.{nat_tests}
 use Rattle.std.specs.Prelude.{◌==◌, nat_lt, Option, Some, None}
 use Rattle.wfe_defs.specs.declared.call.Answer.TheVariants as the_answers
 use Rattle.wfe_defs.specs.declared.event.Event.TheVariants as events
@@ -31,6 +30,7 @@ use Rattle.std.specs.List.{remove}
 use Rattle.wfe_defs.specs.declared.event.Guard.{Guard}
 use Rattle.wfe_defs.specs.declared.event.Root.TheVariants as roots
 use Rattle.wfe_core.specs.Desks.{Seen}
+use Rattle.wfe_core.proofs.Facts.{same_number}
 use Rattle.wfe_rows.specs.Hands.{stands_at}
 use Rattle.wfe_rows.proofs.Rounds.{round_hand, round_right, closed_leaves, clearing_leaves, clearing_next_leaves, leaves_along, deciding_leaves, got_leaves, followed_leaves}
 
@@ -90,12 +90,9 @@ found_more : (life : Lifetime) (lives : List Lifetime) (n : ℕ) (x : Option sca
 found_more life lives n None h = tt
 found_more life lives n (Some entry) h = (suc h.0, omega (arith, h.1), h.2)
 
-same_slot : (slot : ℕ) → (slot == slot) ≡ true
-same_slot slot = grind (arith, nat_tests)
-
 found_by : (read : List Seen) (n : ℕ) (life : Lifetime) (lives : List Lifetime) (met : Bool) → FoundIn lives (n + 1) (scan.first_unmet read (n + 1) lives) → FoundIn (life ∷ lives) n (elim met [ true ↦ scan.first_unmet read (n + 1) lives | false ↦ Some (n, life) ])
 found_by read n life lives true h = found_more life lives n (scan.first_unmet read (n + 1) lives) h
-found_by read n life lives false h = (0, omega arith, same_slot life.slot)
+found_by read n life lives false h = (0, omega arith, same_number life.slot)
 
 first_found : (read : List Seen) (n : ℕ) (lives : List Lifetime) → FoundIn lives n (scan.first_unmet read n lives)
 first_found read n [] = tt

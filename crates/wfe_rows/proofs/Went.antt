@@ -12,12 +12,13 @@ use Rattle.wfe_core.specs.Calls.{EnqueueKept, Enqueues, Again, Retiring, Exchang
 use Rattle.wfe_words.specs.Place.{Place, claim_word, claim_others}
 use Rattle.wfe_words.specs.Place.Place.{Head, Tail, Claim, Row}
 use Rattle.wfe_core.specs.Memory as memory
-use Rattle.wfe_core.specs.Memory.{place_in, written, upd}
+use Rattle.wfe_core.specs.Memory.{written, upd}
 use Rattle.wfe_rows.specs.Rows.{Status, View, made}
 use Rattle.wfe_rows.specs.Rows.Status.{Born, Listed}
 use Rattle.wfe_rows.specs.Rows.RowMove.{Stays, Appends, Pops, Returns}
 use Rattle.wfe_defs.specs.declared.event.Root.TheVariants as roots
-use Rattle.wfe_core.specs.Memory.{Load, Store, Cas, Or, And, put, change}
+use Rattle.wfe_core.specs.Memory.{Store, Cas, And}
+use Rattle.wfe_core.proofs.Facts.{same_number}
 use Rattle.wfe_defs.specs.declared.call.ClockMove.TheVariants as clock_moves
 use Rattle.wfe_rows.specs.Queue.{Line, InLine, Walks, in_queue, is_past, stands_on, blanks_in, LineMove, moved_line}
 use Rattle.wfe_rows.specs.Queue.LineMove.{Keeps, Joins, Leaves}
@@ -54,9 +55,6 @@ abbrev pub WalksIn : Phase → View → Line → (Place → ℕ) → Type 0
 WalksIn phase v l mem = Walks phase (queue_of v) l (next_of mem) v.head (mem Tail)
 
 -- rows and links after these changes
-pub same_number : (n : ℕ) → (n == n) ≡ true
-same_number n = grind (arith, nat_tests)
-
 pub both_same : (a b : ℕ) → (a == a && (b == b)) ≡ true
 both_same a b = grind (arith, nat_tests)
 

@@ -15,7 +15,7 @@ use Rattle.std.specs.Prelude.{bit_or}
 use Rattle.wfe_words.specs.Place.{Place}
 use Rattle.wfe_words.specs.Place.Place.{Clock, Bucket, Head, Tail, Claim, Life, Row}
 use Rattle.wfe_core.specs.Memory as memory
-use Rattle.wfe_core.specs.Memory.{place_in, written, upd}
+use Rattle.wfe_core.specs.Memory.{written}
 use Rattle.wfe_core.specs.Phases.Base.{Begin, Protect, Reload, Clear, Finish, Release, Allocate, Write, GiveUp, Retire, Move}
 use Rattle.wfe_core.specs.Machine.{base_move}
 use Rattle.wfe_core.specs.WriteRow.{row_word}
@@ -25,9 +25,10 @@ use Rattle.wfe_rows.specs.Rows.Status.{Born}
 use Rattle.wfe_rows.specs.Agree.{Plays}
 use Rattle.wfe_words.specs.Place.{same}
 use Rattle.wfe_words.specs.Place.Place.{Helper, Index, Interval, Request, PlaceOf}
-use Rattle.wfe_core.specs.Memory.{Load, Store, Cas, Or, And, put, change}
+use Rattle.wfe_core.specs.Memory.{Load, Store, Cas, Or, And, change}
 use Rattle.std.specs.Prelude.{bit_and}
 use Rattle.wfe_core.specs.WriteRow.{row_word}
+use Rattle.wfe_core.proofs.Facts.{same_number}
 use Rattle.wfe_rows.specs.Facts.{is_born_by, RowWordsStay}
 use Rattle.wfe_rows.proofs.Words.{put_other}
 use Rattle.wfe_rows.proofs.Steps.{no_fill, of_taken}
@@ -53,9 +54,6 @@ unlinked mem (Store place value) s p h = put_other mem place (Row s p) value (ro
 unlinked mem (Cas place old new) s p h = put_other mem place (Row s p) (change (Cas place old new) (mem place)) (row_apart s p place h)
 unlinked mem (Or place bits) s p h = put_other mem place (Row s p) (bit_or (mem place) bits) (row_apart s p place h)
 unlinked mem (And place bits) s p h = put_other mem place (Row s p) (bit_and (mem place) bits) (row_apart s p place h)
-
-same_number : (n : ℕ) → (n == n) ≡ true
-same_number n = grind (arith, nat_tests)
 
 -- a row is written where it is filled
 not_own : (x : Status) (i : ℕ) → x ≡ Born i → is_born_by i x ≡ true

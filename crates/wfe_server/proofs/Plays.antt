@@ -29,7 +29,8 @@ use Rattle.wfe_server.specs.Given.{all_run, fit_pieces, made_pieces, past_entrie
 use Rattle.wfe_server.specs.Playing.{Played, call_most, is_playing, opened, seats_out, seats_run, started, unit_made, unit_out, units_made, units_out}
 use Rattle.wfe_server.proofs.Entries.{counted_told, rows_begun}
 use Rattle.wfe_server.proofs.Items.{begin_fits, did_fit, made_along, made_pieces-append, pieces_fit, pieces_idle, step_fits, times_idle}
-use Rattle.wfe_server.proofs.Runs.{Goes, first_goes, in_table, items_go}
+use Rattle.wfe_history.proofs.Along.{items_keep}
+use Rattle.wfe_server.proofs.Runs.{Goes, first_goes, in_table, steady}
 
 -- the table shows the World that the items come to, and the counts are those of its record
 pub record Plays (layout : Layout) (made : Made) (s : Played) : Type 0 where
@@ -70,7 +71,7 @@ unit_plays layout made s seat p h b =
     let n : IsStep (after_unit s.table seat) made.world seat (told_by (unit_turn s.table seat)) (answer_in (unit_turn s.table seat).outcome) = unit_is_step layout made s seat p h in
     let is : did made (Steps seat) ≡ done made (Steps seat) = step_done made seat (in_table layout seat made.world h p.goes) b in
     record {
-      goes = items_go layout (Steps seat ∷ []) made p.goes;
+      goes = items_keep (λ made. Goes layout made.world) (steady layout) (Steps seat ∷ []) made p.goes;
       shows = subst (λ (m : Made). Shows (after_unit s.table seat) m.world) (sym is) n.shows;
       seats = length-set s.table.seats seat (seat_after (unit_turn s.table seat)) ∙ p.seats;
       garbage = ap₂ (λ (rows : List WatchRow) (told : List Event). counted_all rows seat told) p.garbage n.told_is
@@ -125,7 +126,7 @@ begin_plays layout made s seat call p h b =
     let here : seat < length s.table.seats = subst (λ (n : ℕ). seat < n) (sym p.seats) h in
     let is : did made (Begins seat call) ≡ done made (Begins seat call) = did_fit made (Begins seat call) true (begin_fit layout made seat call p.goes h b) in
     record {
-      goes = items_go layout (Begins seat call ∷ []) made p.goes;
+      goes = items_keep (λ made. Goes layout made.world) (steady layout) (Begins seat call ∷ []) made p.goes;
       shows = subst (λ (m : Made). Shows (after_start s.table seat call) m.world) (sym is) (start-begin s.table made.world seat call p.shows here);
       seats = length-set s.table.seats seat (begun_seat (seat_at s.table seat) call) ∙ p.seats;
       garbage = p.garbage ∙ sym (rows_begun layout.config.seats seat call made.past h) ∙ ap (λ (m : Made). garbage_rows layout.config.seats (past_entries m.past)) (sym is);

@@ -1,12 +1,11 @@
 -- A seat that is run has no call under way in the end.
-use Rattle.std.proofs.Common.{Bool, List, [], ap, arith, false, refl, suc, subst, sym, true, zero, ℕ, ◌+◌, ◌<◌, ◌≤◌, ◌∙◌, ◌≡◌, ◌∷◌, ◌^◌}
-use Rattle.std.proofs.lemmas.Bool.Decides.{nat_tests}
-use Rattle.std.specs.Prelude.{nat_lt, not, ◌&&◌}
+use Rattle.std.proofs.Common.{Bool, [], ap, arith, false, refl, suc, subst, sym, true, zero, ℕ, ◌+◌, ◌<◌, ◌≤◌, ◌∙◌, ◌≡◌, ◌∷◌, ◌^◌}
 use Rattle.wfe_words.specs.Place.{is_valid}
 use Rattle.wfe_words.specs.declared.layout.Layout.{Layout}
 use Rattle.wfe_core.specs.Rest.{rest}
 use Rattle.wfe_core.specs.World.{World, is_busy, step}
-use Rattle.wfe_history.specs.History.{Begins, Item, Made, Steps, did, done_if, fits, first_made, made_from, made_of, times}
+use Rattle.wfe_history.specs.History.{Made, Steps, did, first_made, made_from, made_of, times}
+use Rattle.wfe_history.proofs.Along.{Steady, items_keep}
 use Rattle.wfe_inv.specs.Ends.{CallsEnd}
 use Rattle.wfe_inv.specs.Inv.{Inv}
 use Rattle.wfe_inv.proofs.Begun.{inv_begin, inv_start}
@@ -21,21 +20,8 @@ pub record Goes (layout : Layout) (w : World) : Type 0 where
   pub table : w.layout ≡ layout
   pub known : Inv w
 
-begins_right : (seat seats : ℕ) (busy : Bool) → (nat_lt seat seats && not busy) ≡ true → busy ≡ false
-begins_right seat seats true h = absurd (grind (arith, nat_tests))
-begins_right seat seats false h = refl
-
-steps_right : (seat seats : ℕ) (busy : Bool) → (nat_lt seat seats && busy) ≡ true → seat < seats
-steps_right seat seats busy h = grind (arith, nat_tests)
-
-item_goes : (layout : Layout) (made : Made) (item : Item) (fit : Bool) → fits made.world item ≡ fit → Goes layout made.world → Goes layout (done_if made item fit).world
-item_goes layout made item false f g = g
-item_goes layout made (Begins k call) true f g = record { table = g.table; known = inv_begin made.world k call (begins_right k made.world.layout.config.seats (is_busy made.world k) f) g.known }
-item_goes layout made (Steps k) true f g = record { table = g.table; known = inv_kept made.world k (steps_right k made.world.layout.config.seats (is_busy made.world k) f) g.known }
-
-pub items_go : (layout : Layout) (items : List Item) (made : Made) → Goes layout made.world → Goes layout (made_from made items).world
-items_go layout [] made g = g
-items_go layout (item ∷ items) made g = items_go layout items (did made item) (item_goes layout made item (fits made.world item) refl g)
+pub steady : (layout : Layout) → Steady (λ made. Goes layout made.world)
+steady layout = record { begins = λ made k call b y g. record { table = g.table; known = inv_begin made.world k call y g.known }; steps = λ made k b y g. record { table = g.table; known = inv_kept made.world k b g.known } }
 
 pub first_goes : (layout : Layout) → is_valid layout ≡ true → Goes layout (first_made layout).world
 first_goes layout d = record { table = refl; known = inv_start layout d }
@@ -58,7 +44,7 @@ ends_by layout seat (suc n) made true b h g few =
     let low : seat < made.world.layout.config.seats = in_table layout seat made.world h g in
     let is : next.world ≡ step made.world seat = ap (λ (m : Made). m.world) (did_fit made (Steps seat) true (step_fits made.world seat low b)) in
     let c : CallsEnd made.world seat = inv_ends made.world seat low g.known in
-    ends_by layout seat n next (is_busy next.world seat) refl h (items_go layout (Steps seat ∷ []) made g)
+    ends_by layout seat n next (is_busy next.world seat) refl h (items_keep (λ made. Goes layout made.world) (steady layout) (Steps seat ∷ []) made g)
     (λ y. fewer (rest next.world seat) (rest made.world seat) n
     (subst (λ (w : World). rest w seat + 1 ≤ rest made.world seat) (sym is) (c.falls (subst (λ (w : World). is_busy w seat ≡ true) is y)))
     (few b))
@@ -73,6 +59,6 @@ few_of w seat h a = let c : CallsEnd w seat = inv_ends w seat h a in most_of (re
 pub runs_end : RunsEnd
 runs_end layout items seat d h =
     let made : Made = made_of layout items in
-    let g = items_go layout items (first_made layout) (first_goes layout d) in
+    let g = items_keep (λ made. Goes layout made.world) (steady layout) items (first_made layout) (first_goes layout d) in
     ap (λ (m : Made). is_busy m.world seat) (made_along items (times call_most seat) (first_made layout))
     ∙ ends_by layout seat call_most made (is_busy made.world seat) refl h g (λ b. few_of made.world seat (in_table layout seat made.world h g) g.known)

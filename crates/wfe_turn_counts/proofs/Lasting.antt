@@ -24,13 +24,13 @@ use Rattle.wfe_core.specs.Phases.MoveAt.{HandOver}
 use Rattle.wfe_core.specs.Phases.Base.{Protect, Reload, Clear, Move}
 use Rattle.wfe_core.specs.Phases.Ending.{Done, Protected, Followed, Allocated, Retired, Clocked}
 use Rattle.wfe_core.specs.Calls.{Again, Why, Opens, FollowsHead, Fills, ClearsNext, Clears, Finishes, GivesUp, Retires, Tidies, Advances, Releases, ReadGuard, GiveBack, Phase, Idle, Runs, Scans, Works}
+use Rattle.wfe_core.proofs.Facts.{same_number, both, first_of, rest_of}
 use Rattle.wfe_eras.specs.Eras.{Eras}
 use Rattle.wfe_eras.specs.Frame.{is_ibr, Passed}
 use Rattle.wfe_eras.specs.Seats.{is_wfe, PhaseFits, Run, protect_fits, Kind, kind_of, suits, protects, reloads}
 use Rattle.wfe_laws.specs.Record.{Past, tells_of}
 use Rattle.wfe_laws.specs.Record.Past.{Start, Then}
 use Rattle.wfe_requests.proofs.Paced.{in_time}
-use Rattle.wfe_rows.proofs.Went.{same_number}
 use Rattle.wfe_covers.proofs.Held.{finds_at}
 use Rattle.wfe_handover.proofs.Asks.{Asker, asker}
 use Rattle.wfe_handover.proofs.Deals.{handed_deal}
@@ -38,14 +38,14 @@ use Rattle.wfe_handover.proofs.Words.{Handed}
 use Rattle.wfe_inv.specs.Inv.{Inv}
 use Rattle.wfe_inv.proofs.Shapes.{eras_of}
 use Rattle.wfe_inv.proofs.Whole.{handover_need}
-use Rattle.wfe_reuse.proofs.Passes.{both, first_of, rest_of, First, step_goes}
+use Rattle.wfe_reuse.proofs.Passes.{First, step_goes}
 use Rattle.wfe_counting.specs.Protections.{is_index, one_more, reserved_by, reserved_of}
 use Rattle.wfe_counting.proofs.Fits.{own, base_own, paced, taken, since}
 use Rattle.wfe_counting.proofs.Passing.{Apart, turned}
 use Rattle.wfe_turn_counts.specs.Underway.{tried_by, tried_of, last_by, last_of}
-use Rattle.wfe_turn_counts.proofs.Due as due
-use Rattle.wfe_turn_counts.proofs.Leaving.{tries_none, protects_at, is_first, is_new, Moved, Leads}
-use Rattle.wfe_turn_counts.proofs.Withdrawing.{tells_link}
+use Rattle.wfe_withdrawals.proofs.Due as due
+use Rattle.wfe_withdrawals.proofs.Leaving.{tries_none, protects_at, is_first, is_new, Moved, Leads}
+use Rattle.wfe_withdrawals.proofs.Withdrawing.{tells_link}
 use Rattle.wfe_turn_counts.proofs.Trying.{tried_along, last_along, at_tried, at_last, base_tried, Out, is_zero, other_of, Comes, comes_closed}
 use Rattle.wfe_turn_counts.proofs.Machines.{TriedEra, no_ibr}
 use Rattle.wfe_turn_counts.proofs.Tried.{is_other, other_tried, why_tried, phase_tried, is_follow, reload_one}

@@ -1,12 +1,5 @@
-pub mod Due
-pub mod Helping
-pub mod Intervals
 pub mod Lasting
-pub mod Leaving
 pub mod Machines
-pub mod Raised
-pub mod Raising
 pub mod Tried
 pub mod Trying
 pub mod Underway
-pub mod Withdrawing

@@ -1,5 +1,5 @@
 -- Each step of a machine keeps how often a protection under way has published.
-use Rattle.wfe_turn_counts.proofs.Leaving.{tries_none}
+use Rattle.wfe_withdrawals.proofs.Leaving.{tries_none}
 use Rattle.std.proofs.Common.{ℕ, ◌≡◌, ◌≤◌, ◌+◌, Bool, true, false, List, refl, sym, ◌∙◌, subst, arith, Option, Some, None}
 use Rattle.std.proofs.lemmas.Bool.Decides.{nat_tests}
 use Rattle.std.specs.Prelude.{◌==◌, ◌&&◌, ◌||◌, not, nat_le, if◌then◌else◌}
@@ -21,12 +21,12 @@ use Rattle.wfe_core.specs.SlowPath as slow
 use Rattle.wfe_core.specs.Phases.{Aim, Alone, Follows, Tries, Endless, Failed, ProtectAt, Base}
 use Rattle.wfe_core.specs.Phases.ProtectAt.{LoadClock, PublishEra, LoadLink, CheckClock, PublishRequest, LoadOwnClock, PublishHelper, LoadOwnLink, CheckOwnClock, AnswerOwn, LoadAnswer, TakeAnswer, WithdrawRequest, WithdrawHelper, LoadWithin, CheckUpper, RaiseUpper}
 use Rattle.wfe_core.specs.Phases.Base.{Protect}
+use Rattle.wfe_core.proofs.Facts.{both}
 use Rattle.wfe_eras.specs.Frame.{is_ibr}
 use Rattle.wfe_eras.specs.Seats.{protect_fits}
-use Rattle.wfe_reuse.proofs.Passes.{both}
 use Rattle.wfe_counting.proofs.Told.{index_more}
 use Rattle.wfe_turn_counts.specs.Underway.{tried_by}
-use Rattle.wfe_turn_counts.proofs.Withdrawing.{tells_link}
+use Rattle.wfe_withdrawals.proofs.Withdrawing.{tells_link}
 use Rattle.wfe_turn_counts.proofs.Trying.{tried_along, last_along, so_many, at_tried, at_last, base_tried, Made, made_if, on, own_of, other_of, zero_of, is_zero, told_last, told_other, told_own, conclude}
 
 -- the era that a try publishes is one

@@ -20,13 +20,13 @@ use Rattle.wfe_core.specs.Phases.MoveAt.{HandOver}
 use Rattle.wfe_core.specs.Phases.Base.{Begin, Protect, Reload, Clear, Finish, Release, Allocate, Write, GiveUp, Retire, Move}
 use Rattle.wfe_core.specs.Phases.Ending.{Done, Protected, Followed, Allocated, Retired, Clocked}
 use Rattle.wfe_core.specs.Calls.{Gets, Changes, Holds, Enqueues, Dequeues, Why, Opens, FollowsHead, Fills, ClearsNext, Clears, Finishes, GivesUp, Retires, Tidies, Advances, Releases, Phase, Runs}
+use Rattle.wfe_core.proofs.Facts.{first_of, rest_of}
 use Rattle.wfe_eras.specs.Frame.{is_ibr, Moves, Passed}
 use Rattle.wfe_eras.specs.Seats.{PostFits, PhaseFits, Run, protect_fits, Kind, kind_of, suits, protects, reloads, aim_by, index_by, root_by}
-use Rattle.wfe_reuse.proofs.Passes.{first_of, rest_of}
 use Rattle.wfe_counting.proofs.Passing.{Apart}
 use Rattle.wfe_counting.proofs.Told.{all_dull, cleared_dull, index_none, index_other, move_dull, allocate_dull, retire_dull, write_dull}
 use Rattle.wfe_turn_counts.specs.Underway.{tried_by}
-use Rattle.wfe_turn_counts.proofs.Withdrawing.{tells_link}
+use Rattle.wfe_withdrawals.proofs.Withdrawing.{tells_link}
 use Rattle.wfe_turn_counts.proofs.Trying.{tried_along, last_along, dull_tried, at_tried, at_last, base_tried, Out, Made, made_if, zero_of, is_zero}
 use Rattle.wfe_turn_counts.proofs.Machines.{TriedEra, no_ibr, protect_made}
 

@@ -1,5 +1,5 @@
 -- How often a protection under way has published, by where its seat stands, over each step of a machine.
-use Rattle.wfe_turn_counts.proofs.Leaving.{tries_none}
+use Rattle.wfe_withdrawals.proofs.Leaving.{tries_none}
 use Rattle.std.proofs.Common.{ℕ, ◌≡◌, ◌-◌, ◌+◌, Bool, true, false, List, [], ◌∷◌, ◌++◌, refl, ap, ◌∙◌, arith}
 use Rattle.std.proofs.lemmas.Bool.Decides.{nat_tests}
 use Rattle.std.specs.Prelude.{◌==◌, ◌&&◌, ◌||◌, not, nat_le, if◌then◌else◌}
@@ -17,10 +17,11 @@ use Rattle.wfe_core.specs.Phases.{Aim, Alone, Follows, Tries, Endless, Failed, P
 use Rattle.wfe_core.specs.Phases.ProtectAt.{LoadClock, PublishEra, LoadLink, CheckClock, WithdrawRequest, WithdrawHelper, LoadWithin, CheckUpper, RaiseUpper}
 use Rattle.wfe_core.specs.Phases.Base.{Protect, Reload}
 use Rattle.wfe_core.specs.Phases.Ending.{Followed}
-use Rattle.wfe_reuse.proofs.Passes.{both, first_of, rest_of, Closed}
+use Rattle.wfe_core.proofs.Facts.{both, first_of, rest_of}
+use Rattle.wfe_reuse.proofs.Passes.{Closed}
 use Rattle.wfe_counting.proofs.Told.{is_dull, all_dull}
 use Rattle.wfe_turn_counts.specs.Underway.{tried_by, last_by}
-use Rattle.wfe_turn_counts.proofs.Withdrawing.{is_mute, all_mute, quiet_mute, clear_mute, tells_link}
+use Rattle.wfe_withdrawals.proofs.Withdrawing.{is_mute, all_mute, quiet_mute, clear_mute, tells_link}
 
 -- along what a step tells
 abbrev pub tried_along : (seat index : ℕ) → List Event → ℕ → ℕ

@@ -16,6 +16,7 @@ use Rattle.wfe_core.specs.World.{World, begin, step, finds, is_busy, told_in}
 use Rattle.wfe_core.specs.Phases.{Base, Turn}
 use Rattle.wfe_core.specs.Phases.Base.{Protect, Reload}
 use Rattle.wfe_core.specs.Calls.{Why, Opens, FollowsHead, Fills, ClearsNext, Clears, Finishes, GivesUp, Retires, Tidies, Advances, Releases, Phase, Idle, Runs, Scans, Works}
+use Rattle.wfe_core.proofs.Facts.{same_number}
 use Rattle.wfe_eras.specs.Frame.{is_ibr, Moves}
 use Rattle.wfe_eras.specs.Seats.{is_wfe, PostFits, PhaseFits, Run, kind_of, suits, index_by}
 use Rattle.wfe_eras.proofs.Frame.{seat_stays, begin_stays, begin_begins}
@@ -26,19 +27,18 @@ use Rattle.wfe_laws.specs.Schedule as schedule
 use Rattle.wfe_laws.specs.Schedule.{record_of}
 use Rattle.wfe_laws.specs.Schedule.History.{Blank, Starts, Turns}
 use Rattle.wfe_history.specs.History.{Begins, Steps, Made, done, first_made}
-use Rattle.wfe_rows.proofs.Went.{same_number}
 use Rattle.wfe_inv.specs.Inv.{Inv}
-use Rattle.wfe_counting.specs.Turns.{EachTurn}
+use Rattle.wfe_one_step.specs.Turns.{EachTurn}
 use Rattle.wfe_counting.specs.Protections.{turns_since}
-use Rattle.wfe_counting.proofs.Along.{Around, Kept, history_keeps}
+use Rattle.wfe_one_step.proofs.Along.{Around, Kept, history_keeps}
 use Rattle.wfe_counting.proofs.Counting as counting
 use Rattle.wfe_counting.proofs.Counting.{published, since_of}
 use Rattle.wfe_counting.proofs.Fits.{own, base_own}
 use Rattle.wfe_counting.proofs.Passing.{turned}
-use Rattle.wfe_turn_counts.specs.Withdrawing.{due_of}
+use Rattle.wfe_withdrawals.specs.Withdrawing.{due_of}
 use Rattle.wfe_turn_counts.specs.Underway.{tried_of, last_of, under_way, lasts_right, ProtectionsLast}
-use Rattle.wfe_turn_counts.proofs.Due as due
-use Rattle.wfe_turn_counts.proofs.Leaving.{Left, stepped_leads, first_new}
+use Rattle.wfe_withdrawals.proofs.Due as due
+use Rattle.wfe_withdrawals.proofs.Leaving.{Left, stepped_leads, first_new}
 use Rattle.wfe_turn_counts.proofs.Trying.{tried_along, last_along, zero_of}
 use Rattle.wfe_turn_counts.proofs.Tried.{why_tried, phase_tried, Stage, is_follow, run_made}
 use Rattle.wfe_turn_counts.proofs.Lasting.{own_told, told_comes, tried_tells, last_tells, tried_stays, last_stays, base_apart, base_era, protect_turns, reload_turns, InBound, bound, phase_turns, new_tried, out_tried}

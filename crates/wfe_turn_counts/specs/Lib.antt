@@ -1,4 +1,1 @@
-pub mod Helping
-pub mod Raising
 pub mod Underway
-pub mod Withdrawing

@@ -11,9 +11,9 @@ use Rattle.wfe_laws.specs.Schedule.{History, record_of}
 use Rattle.wfe_laws.specs.Schedule.History.{Turns}
 use Rattle.wfe_history.specs.History.{Item}
 use Rattle.wfe_turns.specs.Heard.{heard_of}
-use Rattle.wfe_counting.specs.Turns.{EachTurn}
+use Rattle.wfe_one_step.specs.Turns.{EachTurn}
 use Rattle.wfe_counting.specs.Protections.{is_index, one_more, turns_since}
-use Rattle.wfe_turn_counts.specs.Withdrawing.{due_of}
+use Rattle.wfe_withdrawals.specs.Withdrawing.{due_of}
 
 -- an interval is one more; none, and what a protection ends with, begin anew
 abbrev pub tried_by : (seat index : ℕ) → Event → ℕ → ℕ

@@ -21,19 +21,20 @@ use Rattle.wfe_laws.specs.Schedule.History.{Blank, Starts, Turns}
 use Rattle.wfe_laws.specs.Record.{Past, tells_of}
 use Rattle.wfe_laws.specs.Record.Past.{Then}
 use Rattle.wfe_history.specs.History.{Item, Begins, Steps, Made, fits, done_if, did, done, made_from, first_made, made_of, world_of}
+use Rattle.wfe_history.proofs.Along.{begins_right, low_seat}
 use Rattle.wfe_inv.specs.Ends.{CallsEnd}
 use Rattle.wfe_inv.specs.Inv.{Inv}
 use Rattle.wfe_inv.proofs.Ends.{inv_ends}
-use Rattle.wfe_reuse.proofs.Passes.{both, first_of, rest_of}
 use Rattle.wfe_lawful.proofs.Each.{all_of}
 use Rattle.wfe_lawful.proofs.Machines.{is_within}
 use Rattle.wfe_answers.proofs.Answering as answering
-use Rattle.wfe_answers.proofs.Answering.{Right, owes_of, within_of}
+use Rattle.wfe_answers.proofs.Answering.{owes_of, within_of}
 use Rattle.wfe_answers.proofs.Owed.{is_open, Serves, OutServes, Owes, Told, owed, out_owed}
 use Rattle.wfe_turns.specs.Heard.{heard_if, heard_from, heard_of, HistoriesCount}
 use Rattle.wfe_words.specs.Place.{is_valid}
 use Rattle.wfe_answers.proofs.Owing.{first_serves}
 use Rattle.wfe_core.specs.Steps.{first_phase}
+use Rattle.wfe_core.proofs.Facts.{both, first_of, rest_of}
 use Rattle.wfe_words.specs.Place.Place.{Clock}
 use Rattle.wfe_turns.proofs.Steady.{turn_steps}
 
@@ -112,16 +113,6 @@ record Keeps (n : ℕ) (made : Made) (h : schedule.History) : Type 0 where
   tells : schedule.record_of h ≡ made.past
   timed : (k : ℕ) → Timed made.world h k
   counts : schedule.CountsTurns h
-
-begins_right : (seat seats : ℕ) (busy : Bool) → (nat_lt seat seats && not busy) ≡ true → busy ≡ false
-begins_right seat seats true h = absurd (grind (arith, nat_tests))
-begins_right seat seats false h = refl
-
-steps_right : (seat seats : ℕ) (busy : Bool) → (nat_lt seat seats && busy) ≡ true → seat < seats
-steps_right seat seats busy h = grind (arith, nat_tests)
-
-low_seat : (seat seats : ℕ) (b : Bool) → (nat_lt seat seats && b) ≡ true → seat < seats
-low_seat seat seats b h = grind (arith, nat_tests)
 
 first_busy : (call : Call) (l : Local) → busy_in (first_phase call (begun_post l.post)) ≡ true
 first_busy call l = phase_busy call (first_phase call (begun_post l.post)) (first_serves call (begun_post l.post))
@@ -262,7 +253,7 @@ item_keeps : (n : ℕ) (made : Made) (h : schedule.History) (item : Item) (fit :
 item_keeps n made h item false f g = g
 item_keeps n made h (Begins i call) true f g = begin_keeps n made h i call (low_seat i made.world.layout.config.seats (not (is_busy made.world i)) f) (begins_right i made.world.layout.config.seats (is_busy made.world i) f) g
 item_keeps n made h (Steps i) true f g =
-    step_keeps n made h i (steps_right i made.world.layout.config.seats (is_busy made.world i) f) (rest_of (nat_lt i made.world.layout.config.seats) (is_busy made.world i) f) g
+    step_keeps n made h i (low_seat i made.world.layout.config.seats (is_busy made.world i) f) (rest_of (nat_lt i made.world.layout.config.seats) (is_busy made.world i) f) g
 
 items_keep : (n : ℕ) (items : List Item) (made : Made) (h : schedule.History) → Keeps n made h → Keeps n (made_from made items) (heard_from made items h)
 items_keep n [] made h g = g

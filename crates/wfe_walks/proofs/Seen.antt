@@ -6,6 +6,7 @@ use Rattle.std.specs.Int.{bit_at}
 use Rattle.std.specs.Prelude.{bit_or, max}
 use Rattle.wfe_core.specs.Allocate.{is_claimed, next_slot, shown_of, shown_word, walk_at, walk_from, walk_on, walk_past}
 use Rattle.wfe_core.specs.Phases.{Walk}
+use Rattle.wfe_core.proofs.Facts.{number_is}
 use Rattle.wfe_walks.specs.Walks.{WalkSeen, has_passed, placed}
 use Rattle.wfe_words.specs.Place.{claim_bit, claim_word}
 use Rattle.std.specs.Prelude.{Option, Some, None, if◌then◌else◌, ◌==◌, ◌&&◌, ◌||◌}
@@ -31,9 +32,6 @@ starts_placed slots start = grind (arith, nat_tests)
 
 next_in : (slots slot : ℕ) → slot ≤ slots → next_slot slots slot ≤ slots
 next_in slots slot h = grind (arith, nat_tests)
-
-same_number : (a b : ℕ) → (a == b) ≡ true → a ≡ b
-same_number a b h = grind (arith, nat_tests)
 
 -- bits
 or_bits : (a b : ℕ) → a < 2 → b < 2 → (max a b == 1) ≡ true → ((a == 1) ≡ true) ⊎ ((b == 1) ≡ true)
@@ -61,7 +59,7 @@ shown_seen walk seen s x h = shown_by walk seen s (claim_word s == claim_word wa
 
 -- slots of one claim word are shown by the same
 shown_same : (walk : Walk) (a b : ℕ) → (claim_word a == claim_word b) ≡ true → shown_of walk a ≡ shown_of walk b
-shown_same walk a b h = ap (λ (c : ℕ). if c == claim_word walk.start then walk.first else if c == claim_word walk.slot then walk.shown else 0) (same_number (claim_word a) (claim_word b) h)
+shown_same walk a b h = ap (λ (c : ℕ). if c == claim_word walk.start then walk.first else if c == claim_word walk.slot then walk.shown else 0) (number_is (claim_word a) (claim_word b) h)
 
 near_seen : (walk : Walk) (seen : ℕ → Bool) (s next : ℕ) → Shows walk seen → (claim_word s == claim_word next) ≡ true → is_claimed (shown_of walk next) s ≡ true → seen s ≡ true
 near_seen walk seen s next x e h = shown_seen walk seen s x (subst (λ (word : ℕ). is_claimed word s ≡ true) (sym (shown_same walk s next e)) h)
@@ -83,7 +81,7 @@ first_by : (walk : Walk) (found : ℕ) (seen : ℕ → Bool) (s : ℕ) (same : B
 first_by walk found seen s true e x a h = by (or_claimed walk.first found s h) where
   by : (is_claimed walk.first s ≡ true) ⊎ (is_claimed found s ≡ true) → more_seen walk found seen s ≡ true
   by (inl k) = seen_before walk found seen s (x.first s a k)
-  by (inr k) = seen_now walk found seen s (let p = same_number (claim_word s) (claim_word walk.start) a in let q = same_number (claim_word walk.slot) (claim_word walk.start) e in grind (arith, nat_tests, p, q)) k
+  by (inr k) = seen_now walk found seen s (let p = number_is (claim_word s) (claim_word walk.start) a in let q = number_is (claim_word walk.slot) (claim_word walk.start) e in grind (arith, nat_tests, p, q)) k
 first_by walk found seen s false e x a h = seen_before walk found seen s (x.first s a h)
 
 word_shown : (walk : Walk) (found : ℕ) (seen : ℕ → Bool) → Shows walk seen → Shows (shown_word walk found) (more_seen walk found seen)
@@ -111,7 +109,7 @@ next_upto : (slots : ℕ) (walk : Walk) (seen : ℕ → Bool) (left slot : ℕ) 
 next_upto slots walk seen left slot a x b p u t s c h = by (either (has_passed walk.start (next_slot slots slot) s) (s == next_slot slots slot) h) where
   by : (has_passed walk.start (next_slot slots slot) s ≡ true) ⊎ ((s == next_slot slots slot) ≡ true) → seen s ≡ true
   by (inl k) = u s c (next_passed slots walk.start slot left s a b c p k)
-  by (inr k) = subst (λ (n : ℕ). seen n ≡ true) (sym (same_number s (next_slot slots slot) k)) (shown_seen walk seen (next_slot slots slot) x t)
+  by (inr k) = subst (λ (n : ℕ). seen n ≡ true) (sym (number_is s (next_slot slots slot) k)) (shown_seen walk seen (next_slot slots slot) x t)
 
 next_walk : (slots : ℕ) (walk : Walk) (seen : ℕ → Bool) (left slot : ℕ) → walk.start ≤ slots → Shows walk seen → slot ≤ slots → placed slots walk.start slot (suc left) ≡ true → UpTo slots walk seen slot → WalkSeen slots (walk_at walk (next_slot slots slot) left) seen
 next_walk slots walk seen left slot a x b p u = record {
@@ -152,7 +150,7 @@ past_seen slots walk found seen x t =
   where
     by : (s : ℕ) → s ≤ slots → (has_passed walk.start walk.slot s ≡ true) ⊎ ((s == walk.slot) ≡ true) → more_seen walk found seen s ≡ true
     by s c (inl k) = seen_before walk found seen s (x.passed s c k)
-    by s c (inr k) = subst (λ (n : ℕ). more_seen walk found seen n ≡ true) (sym (same_number s walk.slot k)) (seen_now walk found seen walk.slot (grind (arith, nat_tests)) t)
+    by s c (inr k) = subst (λ (n : ℕ). more_seen walk found seen n ≡ true) (sym (number_is s walk.slot k)) (seen_now walk found seen walk.slot (grind (arith, nat_tests)) t)
 
 -- a walk that begins
 pub begins_seen : (slots start : ℕ) (seen : ℕ → Bool) → start ≤ slots → WalkSeen slots (walk_from slots start) seen

@@ -5,7 +5,7 @@ use Rattle.wfe_answers.specs.AnswersTold.{AnswersLaw}
 use Rattle.wfe_placing.specs.Retiring.{RefusalLaw, RetireCounts}
 use Rattle.wfe_reasons.specs.Reasons.{ReasonLaw}
 use Rattle.wfe_few_retired.specs.Plain.{PlainOutcomes}
-use Rattle.wfe_due_scans.specs.Times.{ClockTimes}
+use Rattle.wfe_clock_times.specs.Times.{ClockTimes}
 use Rattle.wfe_full.specs.Full.{FullLaw}
 use Rattle.wfe_full.specs.Lacking.{LackLaw}
 use Rattle.wfe_repeats.specs.Repeats.{RepeatLaw}

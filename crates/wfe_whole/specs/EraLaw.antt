@@ -6,7 +6,7 @@ use Rattle.wfe_era_law.specs.EraLaw.{EraLaw as NumberLaw}
 use Rattle.wfe_era_law.specs.GuardLaw.{GuardLaw}
 use Rattle.wfe_few_retired.specs.Plain.{PlainMoves}
 use Rattle.wfe_current.specs.Current.{BirthsCurrent, ReservesCurrent, RetiresCurrent}
-use Rattle.wfe_current.specs.Rising.{SpansRise}
+use Rattle.wfe_rising.specs.Rising.{SpansRise}
 
 -- The clock, lifetimes and reservations.
 pub record EraLaw (config : Config) (r : Past) : Type 0 where

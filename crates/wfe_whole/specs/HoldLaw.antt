@@ -1,10 +1,10 @@
 -- What protections hold.
 use Rattle.wfe_words.specs.declared.config.Config.{Config}
 use Rattle.wfe_laws.specs.Record.{Past}
-use Rattle.wfe_held.specs.Behind.{BehindLaw}
-use Rattle.wfe_held.specs.Gots.{GotLaw}
+use Rattle.wfe_next_rows.specs.Behind.{BehindLaw}
+use Rattle.wfe_got_rows.specs.Gots.{GotLaw}
 use Rattle.wfe_held.specs.Positions.{HoldLaw as HeldThroughout}
-use Rattle.wfe_held.specs.Resting.{RestLaw}
+use Rattle.wfe_resting.specs.Resting.{RestLaw}
 use Rattle.wfe_bare_ends.specs.BareEnds.{BareLaw}
 use Rattle.wfe_roots.specs.Finding.{FindLaw}
 use Rattle.wfe_roots.specs.Following.{FollowLaw}

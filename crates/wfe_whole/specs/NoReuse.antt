@@ -1,8 +1,8 @@
 -- No row is used again while it stands.
 use Rattle.wfe_laws.specs.Record.{Past}
 use Rattle.wfe_reuse.specs.Law.{ReuseLaw}
-use Rattle.wfe_roots.specs.Clearing.{ClearLaw}
-use Rattle.wfe_roots.specs.Indexing.{IndexLaw}
+use Rattle.wfe_indexes.specs.Clearing.{ClearLaw}
+use Rattle.wfe_indexes.specs.Indexing.{IndexLaw}
 
 -- A row stands at an index of a seat from the Held that tells so to the Clear. While it does, it is not used again.
 pub record NoReuse (r : Past) : Type 0 where

@@ -2,8 +2,8 @@
 use Rattle.std.specs.Prelude.{ℕ}
 use Rattle.wfe_laws.specs.Record.{Past}
 use Rattle.wfe_once.specs.Once.{BackOnce, Once as OnceFree}
-use Rattle.wfe_placing.specs.Nexts.{NextsLaw}
-use Rattle.wfe_placing.specs.Order.{OrderLaw}
+use Rattle.wfe_ordering.specs.Nexts.{NextsLaw}
+use Rattle.wfe_ordering.specs.Order.{OrderLaw}
 use Rattle.wfe_placing.specs.Placing.{PlacingLaw}
 use Rattle.wfe_placing.specs.Retiring.{RetireLaw}
 

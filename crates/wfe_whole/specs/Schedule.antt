@@ -4,10 +4,10 @@ use Rattle.wfe_words.specs.declared.layout.Layout.{Layout}
 use Rattle.wfe_eras.specs.Frame.{is_ibr}
 use Rattle.wfe_history.specs.History.{Item, record_of}
 use Rattle.wfe_turns.specs.Heard.{IsCounted, heard_of}
-use Rattle.wfe_counting.specs.Handed.{handed_right}
-use Rattle.wfe_counting.specs.OneStep.{one_step}
+use Rattle.wfe_handovers.specs.Handed.{handed_right}
+use Rattle.wfe_one_step.specs.OneStep.{one_step}
 use Rattle.wfe_counting.specs.Protections.{numbers_right}
-use Rattle.wfe_counting.specs.Turns.{EachTurn}
+use Rattle.wfe_one_step.specs.Turns.{EachTurn}
 use Rattle.wfe_open_calls.specs.Open.{OpenLaw}
 use Rattle.wfe_finish.specs.Finish.{CallFinishes}
 

@@ -7,13 +7,13 @@ use Rattle.wfe_eras.specs.Frame.{is_ibr}
 use Rattle.wfe_eras.specs.Seats.{is_he, is_wfe}
 use Rattle.wfe_lawful.specs.StepLaw.{StepLaw as NumberLaw}
 use Rattle.wfe_counting.specs.Bounded.{turns_bounded}
-use Rattle.wfe_counting.specs.Tries.{tries_right}
-use Rattle.wfe_counting.specs.Turns.{EachTurn}
-use Rattle.wfe_current.specs.Rising.{ErasRise}
-use Rattle.wfe_turn_counts.specs.Helping.{HelperLaw}
-use Rattle.wfe_turn_counts.specs.Raising.{RaiseLaw}
+use Rattle.wfe_try_counts.specs.Tries.{tries_right}
+use Rattle.wfe_one_step.specs.Turns.{EachTurn}
+use Rattle.wfe_rising.specs.Rising.{ErasRise}
+use Rattle.wfe_asking.specs.Helping.{HelperLaw}
+use Rattle.wfe_raises.specs.Raising.{RaiseLaw}
 use Rattle.wfe_turn_counts.specs.Underway.{lasts_right}
-use Rattle.wfe_turn_counts.specs.Withdrawing.{withdrawn_right}
+use Rattle.wfe_withdrawals.specs.Withdrawing.{withdrawn_right}
 use Rattle.wfe_call_counts.specs.Ends.{EndLaw}
 use Rattle.wfe_asking.specs.Asking.{ShowLaw, TakeLaw}
 

@@ -1,10 +1,10 @@
 -- Plain readers judge as the laws do.
 use Rattle.std.proofs.Common.{◌≡◌, true, List, [], ◌∷◌, refl}
 use Rattle.wfe_defs.specs.Entry.{Entry}
+use Rattle.wfe_core.proofs.Facts.{both, first_of, rest_of}
 use Rattle.wfe_laws.specs.Record.{Past, Test, Each, tells}
 use Rattle.wfe_laws.specs.Record.Past.{Start, Then}
 use Rattle.wfe_laws.proofs.Entries.{entries_of_each, each_of_entries}
-use Rattle.wfe_reuse.proofs.Passes.{both, first_of, rest_of}
 use Rattle.wfe_worked.specs.Changed.{reads_on}
 use Rattle.wfe_worked.specs.Refusals.{ReadersJudge}
 

@@ -19,36 +19,36 @@ use Rattle.wfe_blocks.specs.Reads.{read_ok}
 use Rattle.wfe_era_law.specs.EraLaw.{era_ok}
 use Rattle.wfe_era_law.specs.GuardLaw.{guard_ok}
 use Rattle.wfe_answers.specs.AnswersTold.{answers_ok}
-use Rattle.wfe_placing.specs.Nexts.{nexts_ok}
-use Rattle.wfe_placing.specs.Order.{order_ok}
+use Rattle.wfe_ordering.specs.Nexts.{nexts_ok}
+use Rattle.wfe_ordering.specs.Order.{order_ok}
 use Rattle.wfe_placing.specs.Placing.{placing_ok}
 use Rattle.wfe_placing.specs.Retiring.{refusing_ok, retires_ok, retiring_ok}
 use Rattle.wfe_bare_ends.specs.BareEnds.{bare_ok}
 use Rattle.wfe_reasons.specs.Reasons.{reasons_ok}
-use Rattle.wfe_due_scans.specs.Outcomes.{clocks_ok}
+use Rattle.wfe_clock_answers.specs.Outcomes.{clocks_ok}
 use Rattle.wfe_due_scans.specs.Scans.{moves_ok, scans_ok}
-use Rattle.wfe_due_scans.specs.Times.{times_ok}
-use Rattle.wfe_roots.specs.Clearing.{clears_ok}
+use Rattle.wfe_clock_times.specs.Times.{times_ok}
+use Rattle.wfe_indexes.specs.Clearing.{clears_ok}
 use Rattle.wfe_roots.specs.Finding.{finds_ok}
 use Rattle.wfe_roots.specs.Following.{follows_ok}
-use Rattle.wfe_roots.specs.Indexing.{indexes_ok}
+use Rattle.wfe_indexes.specs.Indexing.{indexes_ok}
 use Rattle.wfe_roots.specs.Linking.{links_ok}
 use Rattle.wfe_roots.specs.Sources.{sources_ok}
 use Rattle.wfe_holding.specs.Holding.{is_held}
-use Rattle.wfe_held.specs.Behind.{behind_ok}
-use Rattle.wfe_held.specs.Gots.{gots_ok}
-use Rattle.wfe_held.specs.Resting.{rests_ok}
+use Rattle.wfe_next_rows.specs.Behind.{behind_ok}
+use Rattle.wfe_got_rows.specs.Gots.{gots_ok}
+use Rattle.wfe_resting.specs.Resting.{rests_ok}
 use Rattle.wfe_full.specs.Full.{full_ok}
 use Rattle.wfe_full.specs.Lacking.{lacks_ok}
 use Rattle.wfe_full.specs.Room.{room_ok}
 use Rattle.wfe_repeats.specs.Repeats.{repeats_ok}
-use Rattle.wfe_turn_counts.specs.Helping.{helper_ok}
-use Rattle.wfe_turn_counts.specs.Raising.{raise_ok}
+use Rattle.wfe_asking.specs.Helping.{helper_ok}
+use Rattle.wfe_raises.specs.Raising.{raise_ok}
 use Rattle.wfe_asking.specs.Asking.{shows_ok, takes_ok}
 use Rattle.wfe_call_counts.specs.Ends.{end_ok}
 use Rattle.wfe_open_calls.specs.Open.{open_ok}
 use Rattle.wfe_current.specs.Current.{birth_current, reserve_current, retire_current}
-use Rattle.wfe_current.specs.Rising.{era_rises, span_rises}
+use Rattle.wfe_rising.specs.Rising.{era_rises, span_rises}
 
 -- the laws on records, each under the name that it has among all that histories keep
 pub data Law : Type 0 where

@@ -1,5 +1,0 @@
-use Rattle.wfe_counting.proofs.Handed as handed
-use Rattle.wfe_counting.proofs.handovers_meet.Goals as goal
-
-pub returns : goal.returns
-returns c = handed.handovers_meet

@@ -1,0 +1,3 @@
+pub mod Gots
+pub mod Nulled
+pub mod Rowed

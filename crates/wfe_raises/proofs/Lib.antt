@@ -1,0 +1,3 @@
+pub mod Intervals
+pub mod Raised
+pub mod Raising

@@ -1,0 +1,4 @@
+pub mod Resting
+pub mod Spans
+pub mod Spent
+pub mod Valued

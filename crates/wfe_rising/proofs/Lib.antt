@@ -1,0 +1,5 @@
+pub mod Free
+pub mod RiseKeeps
+pub mod RiseSteps
+pub mod RiseTells
+pub mod Rises
