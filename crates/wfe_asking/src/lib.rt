@@ -7,7 +7,8 @@ ghost use Rattle.wfe_asking.specs.Helping.{RecordsKeepHelpers};
 
 /// Under Wait-Free Eras a seat shows an era in a helper word only where its call may move the clock, or where
 /// it has published more eras in an index word than it has tries, since that published none and since a Held
-/// or Null was told there. So no protection asks for help before its tries have failed.
+/// or Null was told there. So no protection asks for help before its tries have failed in a call that may not
+/// move the clock.
 pub fn records_show_late()
     ensures { RecordsShowLate }
 {}
