@@ -1,5 +1,6 @@
 -- What a step tells of helper words and of its seat's index words comes where it may.
 use Rattle.std.proofs.Common.{ℕ, ◌≡◌, ◌+◌, ◌-◌, Bool, true, false, List, [], ◌∷◌, ◌++◌, Option, Some, None, refl, sym, ◌∙◌, subst}
+use Rattle.std.proofs.lemmas.Bool.{or_left, or_right}
 use Rattle.std.specs.Prelude.{◌==◌, ◌&&◌, ◌||◌, if◌then◌else◌}
 use Rattle.wfe_words.specs.Packed.{reservation_word, read_reservation}
 use Rattle.wfe_words.specs.declared.config.Config.{Config}
@@ -131,14 +132,6 @@ taken : (both x : Bool) → x ≡ true → (if both then x else true) ≡ true
 taken true x h = h
 taken false x h = refl
 
-or_second : (a b : Bool) → b ≡ true → (a || b) ≡ true
-or_second true b h = refl
-or_second false b h = h
-
-or_first : (a b : Bool) → a ≡ true → (a || b) ≡ true
-or_first true b h = refl
-or_first false b h = absurd (cc)
-
 -- an index word of the seat, while its helper word shows nothing
 index_asks : (c : Config) (i : ℕ) (p : Past) (post : Post) (index era : ℕ) → shown_of i p ≡ false → Asks c i (reserves_index post index era) p
 index_asks c i p post index era h = (hidden (post.seat == i) (shown_of i p) (failed_at c.tries i index p) h, tt)
@@ -190,15 +183,15 @@ at_own index last b times h = by (index == index) (same_number index) (rest_of l
     by false e h = absurd (cc)
 
 task_once : (c : Config) (i : ℕ) (p : Past) (task : Task) → failed_at c.tries i (index_of task) p ≡ true → failed_once c.tries i p ≡ true
-task_once c i p (Holds key) h = or_second (failed_at c.tries i 0 p) (failed_at c.tries i 1 p || failed_at c.tries i 2 p) (or_second (failed_at c.tries i 1 p) (failed_at c.tries i 2 p) h)
-task_once c i p (Gets key) h = or_first (failed_at c.tries i 0 p) (failed_at c.tries i 1 p || failed_at c.tries i 2 p) h
-task_once c i p (Changes kept) h = or_first (failed_at c.tries i 0 p) (failed_at c.tries i 1 p || failed_at c.tries i 2 p) h
-task_once c i p (Enqueues kept) h = or_first (failed_at c.tries i 0 p) (failed_at c.tries i 1 p || failed_at c.tries i 2 p) h
-task_once c i p Dequeues h = or_first (failed_at c.tries i 0 p) (failed_at c.tries i 1 p || failed_at c.tries i 2 p) h
+task_once c i p (Holds key) h = or_right (failed_at c.tries i 0 p) (failed_at c.tries i 1 p || failed_at c.tries i 2 p) (or_right (failed_at c.tries i 1 p) (failed_at c.tries i 2 p) h)
+task_once c i p (Gets key) h = or_left (failed_at c.tries i 0 p) (failed_at c.tries i 1 p || failed_at c.tries i 2 p) h
+task_once c i p (Changes kept) h = or_left (failed_at c.tries i 0 p) (failed_at c.tries i 1 p || failed_at c.tries i 2 p) h
+task_once c i p (Enqueues kept) h = or_left (failed_at c.tries i 0 p) (failed_at c.tries i 1 p || failed_at c.tries i 2 p) h
+task_once c i p Dequeues h = or_left (failed_at c.tries i 0 p) (failed_at c.tries i 1 p || failed_at c.tries i 2 p) h
 
 why_once : (c : Config) (i : ℕ) (p : Past) (why : Why) (aim : Aim) (index : ℕ) (root : Root) (steps : ℕ) (at : ProtectAt) → suits (Protect aim index root steps at) (kind_of why) ≡ true → failed_at c.tries i (index_by why) p ≡ true → failed_once c.tries i p ≡ true
 why_once c i p (Opens task) aim index root steps at s h = task_once c i p task h
-why_once c i p (FollowsHead head tail) aim index root steps at s h = or_second (failed_at c.tries i 0 p) (failed_at c.tries i 1 p || failed_at c.tries i 2 p) (or_first (failed_at c.tries i 1 p) (failed_at c.tries i 2 p) h)
+why_once c i p (FollowsHead head tail) aim index root steps at s h = or_right (failed_at c.tries i 0 p) (failed_at c.tries i 1 p || failed_at c.tries i 2 p) (or_left (failed_at c.tries i 1 p) (failed_at c.tries i 2 p) h)
 why_once c i p (Fills task) aim index root steps at s h = absurd (cc)
 why_once c i p (ClearsNext next) aim index root steps at s h = absurd (cc)
 why_once c i p (Clears task next) aim index root steps at s h = absurd (cc)
@@ -220,7 +213,7 @@ protect_asks c i p buckets last why aim index root steps n (PublishHelper first 
     let t : failed_at c.tries i index p ≡ true = at_own index true (failed_at c.tries i index p) (tried_of i index p) s.tried in
     let a = s.shape in
     let f : failed_once c.tries i p ≡ true = why_once c i p why aim index root steps (PublishHelper first era final) s.suited (subst (λ (j : ℕ). failed_at c.tries i j p ≡ true) a.at t) in
-    helper_asks c i p post era (or_second (may_move (tally_of c.every i p).course) (failed_once c.tries i p) f)
+    helper_asks c i p post era (or_right (may_move (tally_of c.every i p).course) (failed_once c.tries i p) f)
 protect_asks c i p buckets last why aim index root steps n (LoadOwnLink first era final) post found s = tt
 protect_asks c i p buckets last why aim index root steps n (CheckOwnClock first era final link) post found s = asks_if c i p (found == era) _ _ tt tt
 protect_asks c i p buckets last why aim index root steps n (AnswerOwn first era link) post found s = asks_if c i p (found == slow.own_request post index root) _ _ tt tt
@@ -242,7 +235,7 @@ handed_asks c i p era seat tag index old post false a = tt
 move_asks : (c : Config) (i : ℕ) (p : Past) (at : MoveAt) (post : Post) (found : ℕ) → Apart i found (Move at) → may_move (tally_of c.every i p).course ≡ true → Asks c i (machine.move_turn at post found).told p
 move_asks c i p (LoadEra helps) post found a m = asks_if c i p (found == post.layout.config.last_era) _ _ tt tt
 move_asks c i p (LoadRequest era seat shows) post found a m = tt
-move_asks c i p (ShowEra era seat tag index root) post found a m = helper_asks c i p post era (or_first (may_move (tally_of c.every i p).course) (failed_once c.tries i p) m)
+move_asks c i p (ShowEra era seat tag index root) post found a m = helper_asks c i p post era (or_left (may_move (tally_of c.every i p).course) (failed_once c.tries i p) m)
 move_asks c i p (LoadAsked era seat tag index root) post found a m = tt
 move_asks c i p (CheckEra era seat tag index root link) post found a m = asks_if c i p (found == era) _ _ tt tt
 move_asks c i p (AnswerAsked era seat tag index root link) post found a m = asks_if c i p (found == slow.asking post.layout tag index root) _ _ tt tt
