@@ -2,12 +2,12 @@
 use Rattle.std.proofs.Common.{rules, ℕ, ◌≡◌, Option, Some, None, refl}
 use Rattle.wfe_core.specs.declared.post.Post.{Post}
 use Rattle.wfe_core.specs.CallReady.{IsCallReady}
-use Rattle.wfe_defs.specs.declared.call.Answer.TheVariants.{Nothing}
+use Rattle.wfe_core.specs.defs.declared.call.Answer.TheVariants.{Nothing}
 use Rattle.wfe_call_rounds.specs.Rounds.{opening_base, CloseAt, ClearsAt, FinishesAt, close_at, close_phase}
 use Rattle.wfe_core.specs.Calls.{Answering, Holds, Opens, Releases, Runs}
 use Rattle.wfe_core.specs.Rounds.{scheme_of, root_of, protect_base, round_by, begin_base, begin_span, release_base}
-use Rattle.wfe_words.specs.declared.config.SchemeKind.{SchemeKind}
-use Rattle.wfe_words.specs.declared.config.SchemeKind.TheVariants.{He, Ibr, Wfe}
+use Rattle.wfe_core.specs.words.declared.config.SchemeKind.{SchemeKind}
+use Rattle.wfe_core.specs.words.declared.config.SchemeKind.TheVariants.{He, Ibr, Wfe}
 use Rattle.wfe_core.specs.Desks.{Desk}
 use Rattle.wfe_core.specs.Phases.{Base}
 use Rattle.wfe_core.specs.Ready.{IsReady}

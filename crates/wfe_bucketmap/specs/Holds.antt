@@ -1,6 +1,6 @@
 -- Where a hold stands, as a phase of the model.
 use Rattle.std.specs.Prelude.{ℕ, Some}
-use Rattle.wfe_defs.specs.declared.call.Answer.TheVariants as answers
+use Rattle.wfe_core.specs.defs.declared.call.Answer.TheVariants as answers
 use Rattle.wfe_core.specs.declared.post.Post.{Post}
 use Rattle.wfe_core.specs.Phases.{Base}
 use Rattle.wfe_core.specs.Posts.{stands}

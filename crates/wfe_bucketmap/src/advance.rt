@@ -5,10 +5,9 @@ ghost use Rattle.wfe_core.specs.Rounds.{move_base};
 ghost use Rattle.wfe_core.specs.declared.post.Post.{Post};
 
 use std::marker::PhantomData;
-use wfe_core::{CallMachine, Desk, Machine, Op, Post, Told};
-use wfe_defs::Answer;
+use wfe_call_rounds::Scheme;
+use wfe_core::{Answer, CallMachine, Desk, Machine, Op, Post, Told};
 use wfe_help::MoveClock;
-use wfe_iface::Scheme;
 
 /// Tries once to move the clock to the next era.
 #[derive(Drop)]

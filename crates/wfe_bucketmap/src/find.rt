@@ -1,7 +1,7 @@
 // What a get reads of a row: the version, the count, the keys in order up to its own, and that key's
 // value.
 ghost use Rattle.std.specs.Prelude.{◌≡◌, ◌≤◌, true};
-ghost use Rattle.wfe_words.specs.Place.{is_valid};
+ghost use Rattle.wfe_core.specs.words.Place.{is_valid};
 ghost use Rattle.wfe_core.specs.CallReady.{get_plausible, get_ready};
 ghost use Rattle.wfe_core.specs.Get.{get_move};
 ghost use Rattle.wfe_core.specs.Memory.{numbered};

@@ -1,6 +1,6 @@
 // The call that gets a key's value.
 ghost use Rattle.std.specs.Prelude.{◌≡◌, ◌≤◌, [], length, ℕ};
-ghost use Rattle.wfe_defs.specs.declared.call.Answer.TheVariants.{Got as GotAnswer};
+ghost use Rattle.wfe_core.specs.defs.declared.call.Answer.TheVariants.{Got as GotAnswer};
 ghost use Rattle.wfe_core.specs.CallReady.{IsCallPlausible, IsCallReady};
 ghost use Rattle.wfe_core.specs.Calls.{Answering, Gets};
 ghost use Rattle.wfe_core.specs.DeskHeld.{desk_of};
@@ -16,10 +16,8 @@ ghost use Rattle.wfe_call_rounds.specs.Steps.{Steps};
 
 use crate::find::{Find, Found};
 use crate::get_at::GetAt;
-use wfe_call_rounds::{close, open, take_close, take_open};
-use wfe_core::{CallMachine, Desk, Op, Post, ProtectEnd, Told};
-use wfe_defs::{Answer, Event, Root};
-use wfe_iface::Scheme;
+use wfe_call_rounds::{Scheme, close, open, take_close, take_open};
+use wfe_core::{Answer, CallMachine, Desk, Event, Op, Post, ProtectEnd, Root, Told};
 
 /// Gets the value of a key: it protects the row of the key's bucket, and reads the version, the count
 /// and the keys up to its own.

@@ -14,10 +14,8 @@ ghost use Rattle.wfe_call_rounds.specs.Steps.{Steps};
 ghost use Rattle.wfe_bucketmap.specs.Holds.{hold_phase};
 
 use crate::hold_at::HoldAt;
-use wfe_call_rounds::{close, open, take_close, take_open};
-use wfe_core::{CallMachine, Desk, Machine, Op, Post, ProtectEnd, Told};
-use wfe_defs::{Answer, Root};
-use wfe_iface::Scheme;
+use wfe_call_rounds::{Scheme, close, open, take_close, take_open};
+use wfe_core::{Answer, CallMachine, Desk, Machine, Op, Post, ProtectEnd, Root, Told};
 
 /// Holds the row of a key's bucket until it is released. What the seat held before is let go first.
 #[derive(Drop)]

@@ -13,3 +13,4 @@ pub use advance::Advance;
 pub use get::Get;
 pub use hold::Hold;
 pub use release::Release;
+pub use wfe_call_rounds::{He, Ibr, Scheme, Wfe};

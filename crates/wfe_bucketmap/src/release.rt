@@ -4,9 +4,8 @@ ghost use Rattle.wfe_core.specs.Calls.{Releases, Runs};
 ghost use Rattle.wfe_core.specs.Rounds.{release_base};
 ghost use Rattle.wfe_core.specs.declared.post.Post.{Post};
 
-use wfe_core::{CallMachine, Desk, Machine, Op, Post, Told};
-use wfe_defs::Answer;
-use wfe_iface::Scheme;
+use wfe_call_rounds::Scheme;
+use wfe_core::{Answer, CallMachine, Desk, Machine, Op, Post, Told};
 
 /// Lets go of the row that the seat holds, if it holds one.
 #[derive(Drop)]

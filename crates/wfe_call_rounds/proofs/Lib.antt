@@ -1,2 +1,3 @@
+pub use Rattle.wfe_iface.proofs as iface
 pub mod Model
 pub mod Taken

@@ -2,13 +2,13 @@
 use Rattle.std.proofs.Common.{ℕ, ◌≡◌, ◌+◌, ◌<◌, List, ◌++◌, Option, Some, None, refl, sym, ap, subst, ◌∙◌, arith}
 use Rattle.std.proofs.lemmas.Bool.Decides.{nat_tests}
 use Rattle.std.specs.Prelude.{min}
-use Rattle.wfe_words.specs.declared.layout.Layout.{Layout}
-use Rattle.wfe_words.specs.declared.config.SchemeKind.{SchemeKind}
-use Rattle.wfe_words.specs.declared.config.SchemeKind.TheVariants.{He, Ibr, Wfe}
-use Rattle.wfe_defs.specs.declared.call.Answer.{Answer}
-use Rattle.wfe_defs.specs.declared.event.Event.{Event}
-use Rattle.wfe_defs.specs.declared.event.Root.{Root}
-use Rattle.wfe_defs.specs.declared.event.Root.TheVariants as roots
+use Rattle.wfe_core.specs.words.declared.layout.Layout.{Layout}
+use Rattle.wfe_core.specs.words.declared.config.SchemeKind.{SchemeKind}
+use Rattle.wfe_core.specs.words.declared.config.SchemeKind.TheVariants.{He, Ibr, Wfe}
+use Rattle.wfe_core.specs.defs.declared.call.Answer.{Answer}
+use Rattle.wfe_core.specs.defs.declared.event.Event.{Event}
+use Rattle.wfe_core.specs.defs.declared.event.Root.{Root}
+use Rattle.wfe_core.specs.defs.declared.event.Root.TheVariants as roots
 use Rattle.wfe_core.specs.declared.desk.Desk.{Desk as HeldDesk}
 use Rattle.wfe_core.specs.declared.post.Post.{Post}
 use Rattle.wfe_core.specs.Calls.{Task, Gets, Changes, Holds, Enqueues, Dequeues, Next, Phase, Why, Runs, Opens, CallTurn, GoesOn, goes_on}
@@ -24,10 +24,6 @@ use Rattle.wfe_core.proofs.Frames.{after_same}
 use Rattle.wfe_call_rounds.specs.Rounds.{OpensOn, open_base, opens_on, CloseAt, ClearsAt, FinishesAt, close_phase, CloseTurn, close_step, is_again, then_at, then_close}
 use Rattle.wfe_call_rounds.specs.Steps.{Steps}
 use Rattle.wfe_call_rounds.proofs.Model.{round_open, opens_goes, clears_at, finishes_at}
-
--- a count that was raised where it can be
-pub bumped : (more steps : ℕ) → steps < 18446744073709551616 → more ≡ min (steps + 1) 18446744073709551615 → more ≡ bump steps
-bumped more steps h e = grind (arith, nat_tests)
 
 -- the events of a step are noted, and End is told
 pub took_from : (t : CallTurn) (post : Post) (desk : Desk) (told all : List Event) (answer : Option Answer) (phase : Phase) (held : HeldDesk) → Steps t post desk told answer phase → all ≡ told ++ told_answer post answer → desk_of held ≡ noting desk all → Took t post held all answer phase
@@ -103,7 +99,7 @@ then_step task next stop desk last told turn p t o =
     )
     )
 
-then_over : (task : Task) (next : Next) (desk : Desk) (mid last : Post) (early told : List Event) (answer : Option Answer) (phase : Phase) (turn : CloseTurn) → mid ≡ turn.post → early ≡ turn.told → turn.at ≡ None → Steps (closed task next mid desk early) last desk told answer phase → Steps (then_close task next desk turn) last desk told answer phase
+pub then_over : (task : Task) (next : Next) (desk : Desk) (mid last : Post) (early told : List Event) (answer : Option Answer) (phase : Phase) (turn : CloseTurn) → mid ≡ turn.post → early ≡ turn.told → turn.at ≡ None → Steps (closed task next mid desk early) last desk told answer phase → Steps (then_close task next desk turn) last desk told answer phase
 then_over task next desk mid last early told answer phase turn p t o h =
     let same : then_close task next desk turn ≡ closed task next mid desk early =
     ap (λ (at : Option CloseAt). then_at task next desk turn.post turn.told at) o

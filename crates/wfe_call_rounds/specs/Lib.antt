@@ -1,2 +1,3 @@
+pub use Rattle.wfe_iface.specs as iface
 pub mod Rounds
 pub mod Steps

@@ -1,7 +1,7 @@
 -- A step of a call, before its events are noted.
 use Rattle.std.specs.Prelude.{◌≡◌, List, Option}
-use Rattle.wfe_defs.specs.declared.call.Answer.{Answer}
-use Rattle.wfe_defs.specs.declared.event.Event.{Event}
+use Rattle.wfe_core.specs.defs.declared.call.Answer.{Answer}
+use Rattle.wfe_core.specs.defs.declared.event.Event.{Event}
 use Rattle.wfe_core.specs.declared.post.Post.{Post}
 use Rattle.wfe_core.specs.Calls.{Phase, CallTurn}
 use Rattle.wfe_core.specs.DeskHeld.{Leads}

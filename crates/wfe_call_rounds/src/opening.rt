@@ -1,14 +1,13 @@
 // A round begins: what the scheme begins with, and then the protection of the root.
 ghost use Rattle.std.specs.Prelude.{◌≡◌, ◌≤◌, [], length, true, IfSome};
-ghost use Rattle.wfe_words.specs.Place.{is_valid};
+ghost use Rattle.wfe_core.specs.words.Place.{is_valid};
 ghost use Rattle.wfe_core.specs.Machine.{after, op_of};
 ghost use Rattle.wfe_core.specs.Ready.{IsReady, Plausible, RootFits, protect_within};
 ghost use Rattle.wfe_core.specs.Rounds.{protect_base};
 ghost use Rattle.wfe_core.specs.Valid.{IsValid};
 ghost use Rattle.wfe_call_rounds.specs.Rounds.{OpensOn, open_base, opening_base};
 
-use wfe_core::{Machine, Op, Post, ProtectEnd, Told, link_word_number};
-use wfe_defs::Root;
+use wfe_core::{Machine, Op, Post, ProtectEnd, Root, Told, link_word_number};
 use wfe_iface::Scheme;
 
 /// The first machines of a round: what the scheme begins with, if anything, and the protection of a

@@ -5,12 +5,12 @@ use Rattle.wfe_trace.specs.declared.item.Mode.TheVariants as modes
 use Rattle.wfe_trace.specs.declared.reason.BadLine.{BadLine}
 use Rattle.wfe_trace.specs.declared.reason.Status.{Status}
 use Rattle.wfe_trace.specs.declared.reason.Status.TheVariants as statuses
-use Rattle.wfe_server.specs.Replay.{Replays, IsRefused, came, whole}
-use Rattle.wfe_server.specs.Given.{Given, keeper}
-use Rattle.wfe_server.specs.Sunk.{Outside}
+use Rattle.wfe_server.specs.server_replay.Replay.{Replays, IsRefused, came, whole}
+use Rattle.wfe_server.specs.server_replay.Given.{Given, keeper}
+use Rattle.wfe_server.specs.server_replay.Sunk.{Outside}
 use Rattle.wfe_defs.specs.Entry.{Entry}
-use Rattle.wfe_server.specs.Trace.{Progress, progress_start, after_bytes, finished, ◌>>=◌}
-use Rattle.wfe_server.proofs.Bytes.{after_bytes-append, after_bytes-bad}
+use Rattle.wfe_server.specs.server_replay.Trace.{Progress, progress_start, after_bytes, finished, ◌>>=◌}
+use Rattle.wfe_server.proofs.server_replay.Bytes.{after_bytes-append, after_bytes-bad}
 
 -- a bad line among the first bytes is one of the whole
 bad_before : (first second : List ℕ) (bad : BadLine) → came first ≡ Err bad → whole (first ++ second) ≡ Err bad

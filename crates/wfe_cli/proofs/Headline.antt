@@ -2,17 +2,17 @@
 use Rattle.std.proofs.Common.{List, Option, ℕ, ◌≡◌}
 use Rattle.std.specs.Io.KnownBytes.{IsAtEnd}
 use Rattle.wfe_defs.specs.Entry.{Entry}
-use Rattle.wfe_generate.specs.Generated.{Generates}
-use Rattle.wfe_generate.specs.Turns.{generated, trace_of}
+use Rattle.wfe_server.specs.server_gen.Generated.{Generates}
+use Rattle.wfe_server.specs.server_gen.Turns.{generated, trace_of}
 use Rattle.wfe_trace.specs.declared.reason.Status.{Status}
 use Rattle.wfe_trace.specs.declared.reason.Status.TheVariants as statuses
-use Rattle.wfe_server.specs.Given.{Given, IsTaken, items, layout_of}
-use Rattle.wfe_server.specs.Replay.{IsReplayed, Replays, Says}
-use Rattle.wfe_server.specs.Sunk.{Outside}
-use Rattle.wfe_server.proofs.Lines.{good_taken}
-use Rattle.wfe_server.proofs.Plays.{valid_of}
-use Rattle.wfe_whole.specs.Whole.{HistoriesLawful}
-use Rattle.wfe_whole.proofs.Whole.{histories_are_lawful}
+use Rattle.wfe_server.specs.server_replay.Given.{Given, IsTaken, items, layout_of}
+use Rattle.wfe_server.specs.server_replay.Replay.{IsReplayed, Replays, Says}
+use Rattle.wfe_server.specs.server_replay.Sunk.{Outside}
+use Rattle.wfe_server.proofs.server_replay.Lines.{good_taken}
+use Rattle.wfe_server.proofs.server_replay.Plays.{valid_of}
+use Rattle.law_all.specs.Whole.{HistoriesLawful}
+use Rattle.law_all.proofs.Whole.{histories_are_lawful}
 use Rattle.wfe_cli.specs.Headline.{GivenLawful, HasLaws, IsDone, Keeps, Promises, Summarizes}
 
 pub given_lawful : GivenLawful

@@ -1,18 +1,18 @@
 -- What a job does, by what the words ask for; and that nothing is done where memory runs out before.
 use Rattle.std.proofs.Common.{List, [], Option, Some, ℕ, ◌≡◌, refl}
 use Rattle.std.proofs.KnownBytes.{Consumes-nil}
-use Rattle.wfe_command.specs.declared.job.Job.{Job}
-use Rattle.wfe_command.specs.declared.job.Job.TheVariants as jobs
+use Rattle.wfe_cli_job.specs.declared.job.Job.{Job}
+use Rattle.wfe_cli_job.specs.declared.job.Job.TheVariants as jobs
 use Rattle.wfe_defs.specs.Entry.{Entry}
-use Rattle.wfe_generate.specs.Generated.{Generates}
-use Rattle.wfe_generate.specs.Turns.{generated, trace_of}
-use Rattle.wfe_generate.proofs.History.{generated_taken}
-use Rattle.wfe_telling.proofs.Hearing.{hears_some_none}
-use Rattle.wfe_telling.proofs.Puts.{puts_some_none}
+use Rattle.wfe_server.specs.server_gen.Generated.{Generates}
+use Rattle.wfe_server.specs.server_gen.Turns.{generated, trace_of}
+use Rattle.wfe_server.proofs.server_gen.History.{generated_taken}
+use Rattle.wfe_server_out.proofs.Hearing.{hears_some_none}
+use Rattle.wfe_server_out.proofs.Puts.{puts_some_none}
 use Rattle.wfe_trace.specs.declared.reason.Status.{Status}
 use Rattle.wfe_trace.specs.declared.reason.Status.TheVariants as statuses
-use Rattle.wfe_server.specs.Replay.{Replays}
-use Rattle.wfe_server.specs.Sunk.{Outside}
+use Rattle.wfe_server.specs.server_replay.Replay.{Replays}
+use Rattle.wfe_server.specs.server_replay.Sunk.{Outside}
 use Rattle.wfe_cli.specs.Command.{Does}
 use Rattle.wfe_cli.specs.Headline.{Keeps, Summarizes}
 use Rattle.wfe_cli.proofs.Headline.{summarizes_of}

@@ -1,19 +1,19 @@
 -- The commands of the program.
 use Rattle.std.specs.Prelude.{◌≡◌, ◌≤◌, ◌⊎◌, ℕ, List, Option, Some, Ok, codes}
 use Rattle.std.specs.Io.KnownBytes.{Appends}
-use Rattle.wfe_command.specs.Jobs.{most_turns}
-use Rattle.wfe_command.specs.declared.job.Job.{Job}
-use Rattle.wfe_command.specs.declared.job.Job.TheVariants as jobs
+use Rattle.wfe_cli_job.specs.Jobs.{most_turns}
+use Rattle.wfe_cli_job.specs.declared.job.Job.{Job}
+use Rattle.wfe_cli_job.specs.declared.job.Job.TheVariants as jobs
 use Rattle.wfe_defs.specs.Entry.{Entry}
-use Rattle.wfe_generate.specs.Generated.{Generates}
+use Rattle.wfe_server.specs.server_gen.Generated.{Generates}
 use Rattle.wfe_outside.specs.Faults.{Rose}
 use Rattle.wfe_trace.specs.declared.reason.Status.{Status}
 use Rattle.wfe_trace.specs.declared.reason.Status.TheVariants as statuses
-use Rattle.wfe_telling.specs.Some.{AppendsSome}
-use Rattle.wfe_server.specs.Given.{Given}
-use Rattle.wfe_server.specs.Replay.{Replays, whole}
-use Rattle.wfe_server.specs.Sunk.{Outside}
-use Rattle.wfe_server.specs.Trace.{Progress}
+use Rattle.wfe_server_out.specs.Some.{AppendsSome}
+use Rattle.wfe_server.specs.server_replay.Given.{Given}
+use Rattle.wfe_server.specs.server_replay.Replay.{Replays, whole}
+use Rattle.wfe_server.specs.server_replay.Sunk.{Outside}
+use Rattle.wfe_server.specs.server_replay.Trace.{Progress}
 
 -- a job that the words can ask for
 abbrev pub Allowed : Job → Type 0

@@ -2,15 +2,15 @@
 use Rattle.std.specs.Prelude.{List, Ok, Option, Some, ℕ, ◌≡◌}
 use Rattle.std.specs.Io.KnownBytes.{Consumes, IsAtEnd}
 use Rattle.wfe_defs.specs.Entry.{Entry}
-use Rattle.wfe_generate.specs.Generated.{Generates}
-use Rattle.wfe_generate.specs.Turns.{generated, trace_of}
-use Rattle.wfe_telling.specs.Pieces.{heard_of}
+use Rattle.wfe_server.specs.server_gen.Generated.{Generates}
+use Rattle.wfe_server.specs.server_gen.Turns.{generated, trace_of}
+use Rattle.wfe_server_out.specs.Pieces.{heard_of}
 use Rattle.wfe_trace.specs.declared.reason.Status.{Status}
 use Rattle.wfe_trace.specs.declared.reason.Status.TheVariants as statuses
-use Rattle.wfe_server.specs.Given.{Given, IsTaken, given_out, given_record, items, layout_of, past_entries}
-use Rattle.wfe_server.specs.Replay.{IsReplayed, Says}
-use Rattle.wfe_server.specs.Sunk.{Outside}
-use Rattle.wfe_whole.specs.Whole.{IsLawful}
+use Rattle.wfe_server.specs.server_replay.Given.{Given, IsTaken, given_out, given_record, items, layout_of, past_entries}
+use Rattle.wfe_server.specs.server_replay.Replay.{IsReplayed, Says}
+use Rattle.wfe_server.specs.server_replay.Sunk.{Outside}
+use Rattle.law_all.specs.Whole.{IsLawful}
 
 -- the history of the lines is lawful, and what is put out of it tells the entries of its record, in order
 pub record HasLaws (given : Given) : Type 0 where

@@ -2,20 +2,17 @@
 ghost use Rattle.std.specs.Prelude.{◌≡◌, ◌≢◌, ◌≤◌, ℕ, None, Some, map, string_bytes};
 ghost use Rattle.wfe_cli.specs.Command.{Allowed, Does, IsComplete, IsGenerated, Refuses, status_number};
 ghost use Rattle.wfe_cli.specs.Headline.{GivenLawful, Keeps, Summarizes};
-ghost use Rattle.wfe_command.specs.Jobs.{asked};
+ghost use Rattle.wfe_cli_job.specs.Jobs.{asked};
 ghost use Rattle.wfe_outside.specs.Faults.{Rose};
-ghost use Rattle.wfe_server.specs.Sunk.{outside};
-ghost use Rattle.wfe_server.specs.Watched.{watch_text};
+ghost use Rattle.wfe_server.specs.server_replay.Sunk.{outside};
+ghost use Rattle.wfe_server.specs.server_replay.Watched.{watch_text};
 
 use std::alloc::Global;
 use std::thread::Threads;
-use wfe_cells::PlainCells;
-use wfe_command::{Job, job_of};
-use wfe_drive::Rig;
-use wfe_generate::generate;
+use wfe_cli_job::{Job, job_of};
 use wfe_outside::{Sink, Source, Watcher};
-use wfe_server::replay;
-use wfe_telling::write_all;
+use wfe_server::{PlainCells, Rig, generate, replay};
+use wfe_server_out::write_all;
 use wfe_trace::Status;
 
 // The line that lists the commands.

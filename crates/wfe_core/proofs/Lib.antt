@@ -1,3 +1,4 @@
+pub use Rattle.wfe_words.proofs as words
 pub mod CallFrames
 pub mod Facts
 pub mod Following

@@ -13,19 +13,19 @@ use Rattle.wfe_core.specs.Held.{ListFits}
 same_back : (a b : ℕ) → (a == b) ≡ (b == a)
 same_back a b = grind (arith, nat_tests)
 
-or_left : (a b : Bool) → (a || b) ≡ false → a ≡ false
+pub or_left : (a b : Bool) → (a || b) ≡ false → a ≡ false
 or_left true b h = h
 or_left false b h = refl
 
-or_right : (a b : Bool) → (a || b) ≡ false → b ≡ false
+pub or_right : (a b : Bool) → (a || b) ≡ false → b ≡ false
 or_right true b h = absurd (grind arith)
 or_right false b h = h
 
-or_more : (a b : Bool) → b ≡ true → (a || b) ≡ true
+pub or_more : (a b : Bool) → b ≡ true → (a || b) ≡ true
 or_more true b h = refl
 or_more false b h = h
 
-or_along : (a b c : Bool) → (b ≡ true → c ≡ true) → (a || b) ≡ true → (a || c) ≡ true
+pub or_along : (a b c : Bool) → (b ≡ true → c ≡ true) → (a || b) ≡ true → (a || c) ≡ true
 or_along true b c f h = refl
 or_along false b c f h = f h
 
@@ -70,7 +70,7 @@ slots_remove [] (suc i) = refl
 slots_remove (x ∷ xs) zero = refl
 slots_remove (x ∷ xs) (suc i) = ap (λ (zs : List ℕ). x.slot ∷ zs) (slots_remove xs i)
 
-slots_length : (xs : List Lifetime) → length (slots_of xs) ≡ length xs
+pub slots_length : (xs : List Lifetime) → length (slots_of xs) ≡ length xs
 slots_length [] = refl
 slots_length (x ∷ xs) = ap suc (slots_length xs)
 

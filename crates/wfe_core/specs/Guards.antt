@@ -1,7 +1,6 @@
 -- The words that publish reservations, and the order in which a scan reads them.
 use Rattle.std.specs.Prelude.{ℕ, ◌+◌, ◌-◌, ◌*◌, ◌/◌, ◌%◌, ◌==◌, if◌then◌else◌, nat_lt, Option, Some, None}
-use Rattle.wfe_words.specs.Place.{Place}
-use Rattle.wfe_words.specs.Place.{Place as places}
+use Rattle.wfe_words.specs.Place.{Place, Place as places}
 use Rattle.wfe_words.specs.Packed.{read_reservation, read_span}
 use Rattle.wfe_words.specs.declared.config.Config.{Config}
 use Rattle.wfe_words.specs.declared.config.SchemeKind.{SchemeKind}
@@ -59,3 +58,9 @@ abbrev pub published : Guard → ℕ → Option Interval
 published (Helper seat) word = one_era (read_reservation word).era
 published (Index seat index) word = one_era (read_reservation word).era
 published (Whole seat) word = interval_in (read_span word)
+
+-- the guard of a seat's index: its own word, or under 2GE the seat's interval word
+abbrev pub own_guard : SchemeKind → ℕ → ℕ → Guard
+own_guard He seat index = Index seat index
+own_guard Ibr seat index = Whole seat
+own_guard Wfe seat index = Index seat index

@@ -1,7 +1,6 @@
 -- The machines that calls are made of: what each phase asks for, and what it does with the answer.
 use Rattle.std.specs.Prelude.{ℕ, ◌==◌, ◌+◌}
-use Rattle.wfe_words.specs.Place.{claim_word, claim_mask, claim_others}
-use Rattle.wfe_words.specs.Place.{Place as places}
+use Rattle.wfe_words.specs.Place.{claim_word, claim_mask, claim_others, Place as places}
 use Rattle.wfe_words.specs.Packed.{answered_word, life_word, reservation_word}
 use Rattle.wfe_defs.specs.declared.event.Root.{Root}
 use Rattle.wfe_core.specs.declared.op.Op.{Op}

@@ -23,6 +23,13 @@ pub use machine::Machine;
 pub use op::Op;
 pub use post::Post;
 pub use told::Told;
+pub use wfe_defs::{
+    Answer, Call, Change, ClockMove, Event, Guard, Interval, Lifetime, NoMemory, Root, meets,
+};
+pub use wfe_words::{
+    Config, Layout, Life, Link, Request, Reservation, SchemeKind, Span, life_word, link_word,
+    read_life, read_request, read_reservation, request_word, reservation_word, span_word,
+};
 
 #[cfg(test)]
 mod tests;

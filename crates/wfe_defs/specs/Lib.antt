@@ -1,3 +1,4 @@
 pub mod Entry
+pub mod Events
 pub mod Meets
 pub mod Pairs

@@ -2,11 +2,11 @@
 use Rattle.std.proofs.Common.{arith, Bool, List, Option, Some, None, length, refl, subst, sym, true, false, ◌<◌, ◌≡◌, ◌≤◌, ◌∙◌, ℕ, ap}
 use Rattle.std.proofs.lemmas.Bool.Decides.{nat_tests}
 use Rattle.std.specs.Prelude.{IfNone, MatchOption, [], if◌then◌else◌, nat_le, ◌==◌, ◌+◌}
-use Rattle.wfe_words.specs.Packed.{read_request}
-use Rattle.wfe_words.specs.Place.{number, words}
-use Rattle.wfe_words.specs.declared.packed.Request.{Request}
-use Rattle.wfe_words.specs.declared.packed.Request.TheVariants as requests
-use Rattle.wfe_defs.specs.declared.event.Root.{Root}
+use Rattle.wfe_core.specs.words.Packed.{read_request}
+use Rattle.wfe_core.specs.words.Place.{number, words}
+use Rattle.wfe_core.specs.words.declared.packed.Request.{Request}
+use Rattle.wfe_core.specs.words.declared.packed.Request.TheVariants as requests
+use Rattle.wfe_core.specs.defs.declared.event.Root.{Root}
 use Rattle.wfe_core.specs.declared.op.Op.{Op}
 use Rattle.wfe_core.specs.declared.post.Post.{Post}
 use Rattle.wfe_core.specs.Links.{link_number}
@@ -20,7 +20,7 @@ use Rattle.wfe_core.specs.Protect.{protected, trying}
 use Rattle.wfe_core.specs.Ready.{EraFits, IndexFits, LinkFits, Plausible, RootFits, protect_plausible, protect_ready}
 use Rattle.wfe_core.specs.SlowPath.{answer_in, lost_turn, own_request}
 use Rattle.wfe_core.specs.Valid.{IsValid}
-use Rattle.wfe_eras.proofs.Machines.{held_post_keeps}
+use Rattle.law_answers.proofs.shapes.Machines.{held_post_keeps}
 use Rattle.wfe_fast.specs.Phases.{at_of, protect_phase, turn_by}
 use Rattle.wfe_fast.specs.declared.protect.At.{At}
 use Rattle.wfe_fast.specs.declared.protect.At.TheVariants as ats

@@ -1,13 +1,13 @@
 -- What a turn leaves of a seat, by its answer.
 use Rattle.std.proofs.Common.{List, ap, refl, true, ◌∙◌, ◌≡◌}
 use Rattle.std.specs.Prelude.{None, Option, Some}
-use Rattle.wfe_defs.specs.declared.call.Answer.{Answer}
-use Rattle.wfe_defs.specs.declared.event.Event.{Event}
+use Rattle.wfe_core.specs.defs.declared.call.Answer.{Answer}
+use Rattle.wfe_core.specs.defs.declared.event.Event.{Event}
 use Rattle.wfe_core.specs.Calls.{Answers, CallOutcome, CallTurn, GoesOn, Phase}
 use Rattle.wfe_core.specs.Locals.{busy_in}
 use Rattle.wfe_core.specs.declared.desk.Desk.{Desk as HeldDesk}
 use Rattle.wfe_core.specs.declared.post.Post.{Post}
-use Rattle.wfe_cells.specs.Unit.{Leaves, SeatView, answer_in, phase_after}
+use Rattle.wfe_drive_cells.specs.Unit.{Leaves, SeatView, answer_in, phase_after}
 
 -- without an answer the call goes on
 goes_by : (outcome : CallOutcome) (phase : Phase) → None ≡ answer_in outcome → phase ≡ phase_after outcome → ((next : Phase) → outcome ≡ GoesOn next → busy_in next ≡ true) → busy_in phase ≡ true

@@ -5,14 +5,14 @@ use Rattle.std.proofs.lemmas.List.{ext_get_or, get_or_past, length-set}
 use Rattle.std.proofs.lemmas.List.FromFn.{get_or-map-range_with_len, length-map-range_with_len, map-range_with_len_more}
 use Rattle.std.specs.Prelude.{Option, map, nat_lt, not, ◌&&◌}
 use Rattle.std.specs.List.{range_with_len}
-use Rattle.wfe_words.specs.Place.{is_valid, start_at, words}
-use Rattle.wfe_words.specs.declared.layout.Layout.{Layout}
-use Rattle.wfe_defs.specs.declared.call.Answer.{Answer}
-use Rattle.wfe_defs.specs.declared.call.Call.{Call}
-use Rattle.wfe_defs.specs.declared.event.Event.{Event}
+use Rattle.wfe_core.specs.words.Place.{is_valid, start_at, words}
+use Rattle.wfe_core.specs.words.declared.layout.Layout.{Layout}
+use Rattle.wfe_core.specs.defs.declared.call.Answer.{Answer}
+use Rattle.wfe_core.specs.defs.declared.call.Call.{Call}
+use Rattle.wfe_core.specs.defs.declared.event.Event.{Event}
 use Rattle.wfe_core.specs.CallReady.{IsCallPlausible, IsCallReady, NotesFit}
 use Rattle.wfe_core.specs.Valid.{IsValid}
-use Rattle.wfe_cells.specs.Operations.{answered, performed, word_in}
+use Rattle.wfe_drive_cells.specs.Operations.{answered, performed, word_in}
 use Rattle.wfe_core.specs.Calls.{CallTurn, GoesOn, Phase}
 use Rattle.wfe_core.specs.Desks.{Desk, no_notes}
 use Rattle.wfe_core.specs.Steps.{first_phase}
@@ -21,32 +21,24 @@ use Rattle.wfe_core.specs.Locals.{begun_post, busy_in, told_by}
 use Rattle.wfe_core.specs.MayStep.{MayStep}
 use Rattle.wfe_core.specs.Rest.{rest}
 use Rattle.wfe_core.specs.World.{World, begin, is_busy, step}
-use Rattle.wfe_cells.specs.Bridge.{AsksWithin}
-use Rattle.wfe_cells.specs.Memory.{HoldsStart}
-use Rattle.wfe_cells.specs.Unit.{IsStep, IsUnit, MayUnit, SeatView, Shows, TableView, after_start, after_unit, answer_in, asked, begun_seat, fresh_seat, seat_after, seat_at, turned, unit_turn, with_seat}
-use Rattle.wfe_cells.proofs.Units.{busy-shown, first-start, may_unit, start-begin, unit-step, unit_turn-turn, made}
-use Rattle.wfe_history.specs.History.{Begins, Item, Made, Steps, did, done, done_if, first_made, fits, made_of, world_of}
-use Rattle.wfe_history.proofs.Along.{made_snoc}
-use Rattle.wfe_inv.specs.Inv.{Inv}
-use Rattle.wfe_inv.proofs.Kept.{inv_ready}
-use Rattle.wfe_inv.proofs.Reached.{inv_reached}
-use Rattle.wfe_turns.specs.Heard.{IsCounted}
-use Rattle.wfe_turns.proofs.Counted.{histories_count}
+use Rattle.wfe_drive_cells.specs.Bridge.{AsksWithin}
+use Rattle.wfe_drive_cells.specs.Memory.{HoldsStart}
+use Rattle.wfe_drive_cells.specs.Unit.{IsStep, IsUnit, MayUnit, SeatView, Shows, TableView, after_start, after_unit, answer_in, asked, begun_seat, fresh_seat, seat_after, seat_at, turned, unit_turn, with_seat}
+use Rattle.wfe_drive_cells.proofs.Units.{busy-shown, first-start, may_unit, start-begin, unit-step, unit_turn-turn, made}
+use Rattle.law_answers.specs.history.History.{Begins, Item, Made, Steps, did, done, done_if, first_made, fits, made_of, world_of}
+use Rattle.law_answers.proofs.history.Along.{made_snoc}
+use Rattle.law_answers.specs.all.Inv.{Inv}
+use Rattle.law_answers.proofs.all.Inv.Kept.{inv_ready}
+use Rattle.law_answers.proofs.all.Inv.Reached.{inv_reached}
+use Rattle.law_answers.specs.Heard.{IsCounted}
+use Rattle.law_answers.proofs.Turns.Counted.{histories_count}
 use Rattle.wfe_drive.specs.Reached.{IsReached, first_table, units_left}
+use Rattle.wfe_core.proofs.Facts.{fits_free, fits_busy, lt_test as below}
 
 -- one item more
 -- an item that fits is done
 fit_done : (made : Made) (item : Item) → fits made.world item ≡ true → did made item ≡ done made item
 fit_done made item f = ap (done_if made item) f
-
-below : (seat seats : ℕ) → seat < seats → nat_lt seat seats ≡ true
-below seat seats h = grind (arith, nat_tests)
-
-busy_fits : (seat seats : ℕ) (busy : Bool) → seat < seats → busy ≡ true → (nat_lt seat seats && busy) ≡ true
-busy_fits seat seats busy h b = rw (below seat seats h, b) refl
-
-free_fits : (seat seats : ℕ) (busy : Bool) → seat < seats → busy ≡ false → (nat_lt seat seats && not busy) ≡ true
-free_fits seat seats busy h b = rw (below seat seats h, b) refl
 
 -- what is known of the World that the table shows
 record At (table : TableView) (seat : ℕ) (items : List Item) : Type 0 where
@@ -109,7 +101,7 @@ unit_reached old new seat told answer r u h b =
     let k : At old seat r.items = at_seat old seat r h in
     let n : IsStep new w seat told answer = unit_step old new seat told answer r u h in
     let layout : new.layout ≡ old.layout = ap (λ (t : TableView). t.layout) u.table_is in
-    let f : fits w (Steps seat) ≡ true = busy_fits seat w.layout.config.seats (is_busy w seat) k.below (sym (busy-shown old w seat s) ∙ b) in
+    let f : fits w (Steps seat) ≡ true = fits_busy seat w.layout.config.seats (is_busy w seat) k.below (sym (busy-shown old w seat s) ∙ b) in
     let e : world_of old.layout (r.items ++ Steps seat ∷ []) ≡ step w seat = ap (λ (m : Made). m.world) (made_snoc (first_made old.layout) r.items (Steps seat) ∙ fit_done (made_of old.layout r.items) (Steps seat) f) in
     record {
       valid = subst (λ (l : Layout). is_valid l ≡ true) (sym layout) r.valid;
@@ -140,7 +132,7 @@ start_reached table seat call r h b =
     let w : World = world_of table.layout r.items in
     let s : Shows table w = r.shows in
     let k : At table seat r.items = at_seat table seat r h in
-    let f : fits w (Begins seat call) ≡ true = free_fits seat w.layout.config.seats (is_busy w seat) k.below (sym (busy-shown table w seat s) ∙ b) in
+    let f : fits w (Begins seat call) ≡ true = fits_free seat w.layout.config.seats (is_busy w seat) k.below (sym (busy-shown table w seat s) ∙ b) in
     let e : world_of table.layout (r.items ++ Begins seat call ∷ []) ≡ begin w seat call = ap (λ (m : Made). m.world) (made_snoc (first_made table.layout) r.items (Begins seat call) ∙ fit_done (made_of table.layout r.items) (Begins seat call) f) in
     record {
       valid = r.valid;

@@ -1,8 +1,8 @@
 -- A protection that a test drives by hand: what holds between its steps, and what a step may find.
 use Rattle.std.specs.Prelude.{List, Some, ℕ, ◌≡◌, ◌≤◌, length}
-use Rattle.wfe_words.specs.Packed.{read_request}
-use Rattle.wfe_words.specs.Place.{words}
-use Rattle.wfe_words.specs.declared.packed.Request.TheVariants as requests
+use Rattle.wfe_core.specs.words.Packed.{read_request}
+use Rattle.wfe_core.specs.words.Place.{words}
+use Rattle.wfe_core.specs.words.declared.packed.Request.TheVariants as requests
 use Rattle.wfe_core.specs.declared.op.Op.{Op}
 use Rattle.wfe_core.specs.declared.op.Op.TheVariants as ops
 use Rattle.wfe_core.specs.declared.post.Post.{Post}

@@ -1,10 +1,10 @@
 -- The table at its start, that a history comes to what a table shows, and how few units a seat's call has left.
 use Rattle.std.specs.Prelude.{List, ◌^◌, ◌-◌, ◌≡◌, ℕ, length, map, true}
 use Rattle.std.specs.List.{range_with_len}
-use Rattle.wfe_words.specs.Place.{is_valid, start_at, words}
-use Rattle.wfe_words.specs.declared.layout.Layout.{Layout}
-use Rattle.wfe_cells.specs.Unit.{Shows, TableView, fresh_seat, seat_at}
-use Rattle.wfe_history.specs.History.{Item, world_of}
+use Rattle.wfe_core.specs.words.Place.{is_valid, start_at, words}
+use Rattle.wfe_core.specs.words.declared.layout.Layout.{Layout}
+use Rattle.wfe_drive_cells.specs.Unit.{Shows, TableView, fresh_seat, seat_at}
+use Rattle.law_answers.specs.history.History.{Item, world_of}
 
 -- each word as it starts, and each seat between calls
 abbrev pub first_table : Layout → TableView

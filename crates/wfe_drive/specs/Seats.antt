@@ -1,6 +1,6 @@
 -- A seat's state as code keeps it, under any of the schemes, and the seat that it shows.
 use Rattle.std.specs.Prelude.{true, Bool, false}
-use Rattle.wfe_words.specs.declared.config.SchemeKind.{SchemeKind}
+use Rattle.wfe_core.specs.words.declared.config.SchemeKind.{SchemeKind}
 use Rattle.wfe_core.specs.Calls.{Idle, Phase}
 use Rattle.wfe_core.specs.declared.post.Post.{Post}
 use Rattle.wfe_drive.specs.declared.engaged.Engaged.{Engaged}

@@ -1,6 +1,6 @@
 -- What holds of a seat's state between its units.
 use Rattle.std.specs.Prelude.{◌≡◌}
-use Rattle.wfe_words.specs.declared.config.SchemeKind.{SchemeKind}
+use Rattle.wfe_core.specs.words.declared.config.SchemeKind.{SchemeKind}
 use Rattle.wfe_core.specs.Calls.{Phase}
 use Rattle.wfe_core.specs.DeskHeld.{HasRoom}
 use Rattle.wfe_core.specs.Locals.{busy_in}

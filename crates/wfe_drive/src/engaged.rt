@@ -1,7 +1,7 @@
 // The call under way on a seat.
 ghost use Rattle.std.specs.Prelude.{◌≡◌, ◌<◌, [], length, true};
-ghost use Rattle.wfe_cells.specs.Operations.{answered, performed, word_in};
-ghost use Rattle.wfe_cells.specs.Unit.{Leaves};
+ghost use Rattle.wfe_drive_cells.specs.Operations.{answered, performed, word_in};
+ghost use Rattle.wfe_drive_cells.specs.Unit.{Leaves};
 ghost use Rattle.wfe_core.specs.CallReady.{IsCallPlausible, IsCallReady, NotesFit};
 ghost use Rattle.wfe_core.specs.DeskHeld.{HasRoom, desk_of};
 ghost use Rattle.wfe_core.specs.Posts.{counted};
@@ -10,9 +10,8 @@ ghost use Rattle.wfe_core.specs.Valid.{IsValid};
 ghost use Rattle.wfe_drive.specs.Seats.{Suits, engaged_phase, is_engaged};
 
 use crate::unit::make_unit;
-use wfe_cells::Cells;
-use wfe_core::{CallMachine, Desk, Post, Told};
-use wfe_defs::Answer;
+use wfe_core::{Answer, CallMachine, Desk, Post, Told};
+use wfe_drive_cells::Cells;
 
 /// A seat's call, by the table's scheme; none between calls.
 #[derive(Drop)]

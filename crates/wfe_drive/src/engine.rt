@@ -1,20 +1,18 @@
 // What a trace is replayed on.
 ghost use Rattle.std.specs.Prelude.{◌≡◌, ◌<◌, [], IfOk, IsTrue, false, true};
-ghost use Rattle.wfe_words.specs.Place.{is_valid};
-ghost use Rattle.wfe_cells.specs.Unit.{IsUnit, after_start, seat_at};
+ghost use Rattle.wfe_core.specs.words.Place.{is_valid};
+ghost use Rattle.wfe_drive_cells.specs.Unit.{IsUnit, after_start, seat_at};
 ghost use Rattle.wfe_core.specs.Locals.{busy_in};
 ghost use Rattle.wfe_drive.specs.Reached.{first_table, units_left};
 
 use crate::Rig;
 use std::alloc::Global;
-use wfe_cells::MakeCells;
-use wfe_core::Told;
-use wfe_defs::{Answer, Call, NoMemory};
-use wfe_words::Layout;
+use wfe_core::{Answer, Call, Layout, NoMemory, Told};
+use wfe_drive_cells::MakeCells;
 
 /// A table whose seats make the calls of a trace, one unit after another.
 pub trait Engine: Sized + Drop {
-    ghost use Rattle.wfe_cells.specs.Unit.{TableView};
+    ghost use Rattle.wfe_drive_cells.specs.Unit.{TableView};
 
     /// The words by number, and what the model knows of each seat.
     ghost table: { Self → TableView };

@@ -1,8 +1,8 @@
 // A table of words with its seats, of which one after another makes its units.
 ghost use Rattle.std.specs.Prelude.{◌≡◌, ◌<◌, [], IfOk, true, false};
-ghost use Rattle.wfe_words.specs.Place.{is_valid};
-ghost use Rattle.wfe_cells.specs.Memory.{HoldsStart};
-ghost use Rattle.wfe_cells.specs.Unit.{IsUnit, after_start, seat_at};
+ghost use Rattle.wfe_core.specs.words.Place.{is_valid};
+ghost use Rattle.wfe_drive_cells.specs.Memory.{HoldsStart};
+ghost use Rattle.wfe_drive_cells.specs.Unit.{IsUnit, after_start, seat_at};
 ghost use Rattle.wfe_core.specs.Locals.{busy_in};
 ghost use Rattle.wfe_core.specs.Steps.{first_phase};
 ghost use Rattle.wfe_core.specs.declared.post.Post.{Post};
@@ -14,10 +14,8 @@ use crate::scheme_calls::{HeCall, IbrCall, WfeCall};
 use crate::seat::SeatState;
 use std::alloc::Global;
 use std::marker::Model;
-use wfe_cells::Cells;
-use wfe_core::{CallMachine, Told};
-use wfe_defs::{Answer, Call, NoMemory};
-use wfe_words::{Layout, SchemeKind};
+use wfe_core::{Answer, Call, CallMachine, Layout, NoMemory, SchemeKind, Told};
+use wfe_drive_cells::Cells;
 
 type State = SeatState<HeCall, IbrCall, WfeCall>;
 
@@ -46,7 +44,7 @@ pub struct Rig<C: Cells> {
 }
 
 impl<C: Cells> Model for Rig<C> {
-    ghost use Rattle.wfe_cells.specs.Unit.{TableView};
+    ghost use Rattle.wfe_drive_cells.specs.Unit.{TableView};
     ghost use Rattle.wfe_drive.specs.Reached.{IsReached};
 
     ghost Value = { TableView };

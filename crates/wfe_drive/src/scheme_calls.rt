@@ -2,12 +2,10 @@
 ghost use Rattle.std.specs.Prelude.{◌≡◌};
 ghost use Rattle.wfe_core.specs.Steps.{first_phase};
 ghost use Rattle.wfe_core.specs.declared.post.Post.{Post};
-ghost use Rattle.wfe_words.specs.declared.config.SchemeKind.TheVariants as kinds;
+ghost use Rattle.wfe_core.specs.words.declared.config.SchemeKind.TheVariants as kinds;
 
-use wfe_calls::{CallOf, begin_call};
-use wfe_core::{CallMachine, Desk, Op, Post, Told};
-use wfe_defs::{Answer, Call};
-use wfe_iface::{He, Ibr, Wfe};
+use wfe_call_any::{CallOf, He, Ibr, Wfe, begin_call};
+use wfe_core::{Answer, Call, CallMachine, Desk, Op, Post, Told};
 
 /// A call under Hazard Eras.
 #[derive(Drop)]

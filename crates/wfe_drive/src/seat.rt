@@ -1,8 +1,8 @@
 // A seat of a rig: its post, its desk and its call, and the seat's part of a unit.
 ghost use Rattle.std.specs.Prelude.{◌≡◌, ◌<◌, [], IfOk, length, true, false};
-ghost use Rattle.wfe_words.specs.Place.{is_valid};
-ghost use Rattle.wfe_cells.specs.Operations.{answered, performed, word_in};
-ghost use Rattle.wfe_cells.specs.Unit.{SeatView, answer_in, asked, fresh_seat, seat_after, turned};
+ghost use Rattle.wfe_core.specs.words.Place.{is_valid};
+ghost use Rattle.wfe_drive_cells.specs.Operations.{answered, performed, word_in};
+ghost use Rattle.wfe_drive_cells.specs.Unit.{SeatView, answer_in, asked, fresh_seat, seat_after, turned};
 ghost use Rattle.wfe_core.specs.CallReady.{IsCallPlausible, IsCallReady, NotesFit};
 ghost use Rattle.wfe_core.specs.Calls.{GoesOn, Phase};
 ghost use Rattle.wfe_core.specs.Desks.{no_notes};
@@ -13,10 +13,8 @@ ghost use Rattle.wfe_drive.specs.Seats.{Suits, engaged_phase, is_engaged};
 use crate::engaged::Engaged;
 use std::alloc::Global;
 use std::marker::Model;
-use wfe_cells::Cells;
-use wfe_core::{CallMachine, Desk, Post, Told};
-use wfe_defs::{Answer, NoMemory};
-use wfe_words::Layout;
+use wfe_core::{Answer, CallMachine, Desk, Layout, NoMemory, Post, Told};
+use wfe_drive_cells::Cells;
 
 /// A seat of a table. It is seen as what the model knows of a seat: where its call stands, its post
 /// and its desk.
@@ -28,7 +26,7 @@ pub struct SeatState<H: CallMachine, I: CallMachine, W: CallMachine> {
 }
 
 impl<H: CallMachine, I: CallMachine, W: CallMachine> Model for SeatState<H, I, W> {
-    ghost use Rattle.wfe_cells.specs.Unit.{SeatView};
+    ghost use Rattle.wfe_drive_cells.specs.Unit.{SeatView};
     ghost use Rattle.wfe_core.specs.DeskHeld.{desk_of};
     ghost use Rattle.wfe_drive.specs.Seats.{engaged_phase};
     ghost use Rattle.wfe_drive.specs.Sound.{IsSound};

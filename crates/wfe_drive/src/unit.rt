@@ -1,16 +1,15 @@
 // One unit of a call machine over cells.
 ghost use Rattle.std.specs.Prelude.{◌≡◌, ◌<◌, [], length};
-ghost use Rattle.wfe_cells.specs.Operations.{answered, performed, word_in};
-ghost use Rattle.wfe_cells.specs.Unit.{Leaves};
+ghost use Rattle.wfe_drive_cells.specs.Operations.{answered, performed, word_in};
+ghost use Rattle.wfe_drive_cells.specs.Unit.{Leaves};
 ghost use Rattle.wfe_core.specs.CallReady.{IsCallPlausible, IsCallReady, NotesFit};
 ghost use Rattle.wfe_core.specs.DeskHeld.{HasRoom, desk_of};
 ghost use Rattle.wfe_core.specs.Posts.{counted};
 ghost use Rattle.wfe_core.specs.Steps.{call_op, phase_turn};
 ghost use Rattle.wfe_core.specs.Valid.{IsValid};
 
-use wfe_cells::Cells;
-use wfe_core::{CallMachine, Desk, Post, Told};
-use wfe_defs::Answer;
+use wfe_core::{Answer, CallMachine, Desk, Post, Told};
+use wfe_drive_cells::Cells;
 
 /// Makes one step of a seat's call, whatever machine it is: exactly one operation on the cells, and the
 /// model's turn of what it found. The events are told, and the answer is Some where the call ended. It

@@ -1,7 +1,7 @@
 // The steps of a protection under Wait-Free Eras.
 ghost use Rattle.std.specs.Prelude.{◌≡◌, ◌+◌, ◌<◌, ◌≤◌, [], length, true};
-ghost use Rattle.wfe_words.specs.Packed.{read_request as request_in};
-ghost use Rattle.wfe_words.specs.Place.{is_valid};
+ghost use Rattle.wfe_core.specs.words.Packed.{read_request as request_in};
+ghost use Rattle.wfe_core.specs.words.Place.{is_valid};
 ghost use Rattle.wfe_core.specs.Links.{link_number, root_at as root_of};
 ghost use Rattle.wfe_core.specs.Machine.{protect_turn};
 ghost use Rattle.wfe_core.specs.Phases.{Alone, Failed, Goes};
@@ -16,12 +16,10 @@ ghost use Rattle.wfe_fast.specs.Phases.{at_of, protect_phase, turn_of};
 
 use crate::turn_at::{OwnTurn, TurnAt, asking_own, turn_op};
 use wfe_core::{
-    Machine, Op, Post, ProtectEnd, Told, hold, index_word, link_word_number, one_era, protect_end,
-    root_at,
+    Event, Guard, Machine, Op, Post, ProtectEnd, Request, Reservation, Root, Told, hold,
+    index_word, link_word_number, one_era, protect_end, read_request, reservation_word, root_at,
 };
-use wfe_defs::{Event, Guard, Root};
 use wfe_help::tell_helper;
-use wfe_words::{Request, Reservation, read_request, reservation_word};
 
 // The step to come.
 #[derive(Clone, Copy)]

@@ -9,10 +9,10 @@ ghost use Rattle.wfe_core.specs.SlowPath.{own_request};
 ghost use Rattle.wfe_core.specs.Valid.{IsValid};
 ghost use Rattle.wfe_fast.specs.Phases.{turn_of};
 
-use wfe_core::{Op, Post, link_word_number};
-use wfe_defs::Root;
+use wfe_core::{
+    Op, Post, Request, Reservation, Root, link_word_number, request_word, reservation_word,
+};
 use wfe_help::asking_word;
-use wfe_words::{Request, Reservation, request_word, reservation_word};
 
 // The step to come of a turn.
 #[derive(Clone, Copy)]

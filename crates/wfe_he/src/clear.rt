@@ -3,8 +3,7 @@ ghost use Rattle.std.specs.Prelude.{◌≡◌, ◌<◌};
 ghost use Rattle.wfe_core.specs.Phases.Base.{Clear};
 ghost use Rattle.wfe_he.specs.Phases.{clear_phase};
 
-use wfe_core::{Machine, Op, Post, Told, index_word};
-use wfe_defs::{Event, Guard};
+use wfe_core::{Event, Guard, Machine, Op, Post, Told, index_word};
 
 /// Withdraws what an index of the seat publishes, in one step. It serves Hazard Eras and Wait-Free
 /// Eras.

@@ -1,6 +1,6 @@
 // The steps of a protection under Hazard Eras.
 ghost use Rattle.std.specs.Prelude.{◌≡◌, true};
-ghost use Rattle.wfe_words.specs.Place.{is_valid};
+ghost use Rattle.wfe_core.specs.words.Place.{is_valid};
 ghost use Rattle.wfe_core.specs.Links.{link_number, root_at as root_of};
 ghost use Rattle.wfe_core.specs.Phases.{Alone, Endless};
 ghost use Rattle.wfe_core.specs.Phases.Base.{Protect};
@@ -9,10 +9,9 @@ ghost use Rattle.wfe_core.specs.Ready.{RootFits};
 ghost use Rattle.wfe_he.specs.Phases.{protect_phase};
 
 use wfe_core::{
-    Machine, Op, Post, ProtectEnd, Told, hold, index_word, link_word_number, one_era, protect_end,
-    root_at,
+    Event, Guard, Machine, Op, Post, ProtectEnd, Root, Told, hold, index_word, link_word_number,
+    one_era, protect_end, root_at,
 };
-use wfe_defs::{Event, Guard, Root};
 
 // The step to come.
 #[derive(Clone, Copy)]

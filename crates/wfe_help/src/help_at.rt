@@ -8,9 +8,9 @@ ghost use Rattle.wfe_core.specs.SlowPath.{asking};
 ghost use Rattle.wfe_core.specs.Valid.{IsValid};
 ghost use Rattle.wfe_help.specs.Phases.{help_of};
 
-use wfe_core::{Op, Post, link_word_number};
-use wfe_defs::Root;
-use wfe_words::{Request, Reservation, request_word, reservation_word};
+use wfe_core::{
+    Op, Post, Request, Reservation, Root, link_word_number, request_word, reservation_word,
+};
 
 // A request that was seen pending: whose it is, its tag and index, and the link that it asks for.
 #[derive(Clone, Copy)]

@@ -1,7 +1,7 @@
 // The steps of a move of the clock.
 ghost use Rattle.std.specs.Prelude.{◌≡◌, ◌<◌, ◌≤◌, [], ◌∷◌, length};
-ghost use Rattle.wfe_defs.specs.declared.event.Event.TheVariants as events;
-ghost use Rattle.wfe_defs.specs.declared.event.Guard.TheVariants as guards;
+ghost use Rattle.wfe_core.specs.defs.declared.event.Event.TheVariants as events;
+ghost use Rattle.wfe_core.specs.defs.declared.event.Guard.TheVariants as guards;
 ghost use Rattle.wfe_core.specs.Guards.{one_era as era_span};
 ghost use Rattle.wfe_core.specs.Machine.{after};
 ghost use Rattle.wfe_core.specs.MoveClock.{next_request as request_after, met as met_at, moving};
@@ -11,13 +11,14 @@ ghost use Rattle.wfe_core.specs.Phases.MoveAt.{LoadEra};
 ghost use Rattle.wfe_core.specs.Posts.{reserves_helper};
 ghost use Rattle.wfe_core.specs.Ready.{AskedFits, IsReady, Plausible};
 ghost use Rattle.wfe_core.specs.Valid.{IsValid};
-ghost use Rattle.wfe_words.specs.Packed.{read_request as request_in};
+ghost use Rattle.wfe_core.specs.words.Packed.{read_request as request_in};
 ghost use Rattle.wfe_help.specs.Phases.{at_of, help_of, move_phase};
 
 use crate::help_at::{Asked, HelpAt, asking_word, help_op};
-use wfe_core::{Machine, Op, Post, Told, one_era, root_at};
-use wfe_defs::{ClockMove, Event, Guard};
-use wfe_words::{Request, Reservation, read_request, read_reservation, reservation_word};
+use wfe_core::{
+    ClockMove, Event, Guard, Machine, Op, Post, Request, Reservation, Told, one_era, read_request,
+    read_reservation, reservation_word, root_at,
+};
 
 // The step to come.
 #[derive(Clone, Copy)]

@@ -4,9 +4,7 @@ ghost use Rattle.wfe_core.specs.Phases.Base.{Begin};
 ghost use Rattle.wfe_core.specs.Phases.BeginAt.{LoadLower};
 ghost use Rattle.wfe_ibr.specs.Phases.{begin_phase};
 
-use wfe_core::{Machine, Op, Post, Told};
-use wfe_defs::{Event, Guard, Interval};
-use wfe_words::{Span, span_word};
+use wfe_core::{Event, Guard, Interval, Machine, Op, Post, Span, Told, span_word};
 
 // The step to come.
 #[derive(Clone, Copy)]

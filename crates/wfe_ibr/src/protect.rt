@@ -1,6 +1,6 @@
 // The steps of a protection under 2GE.
 ghost use Rattle.std.specs.Prelude.{◌≡◌, true};
-ghost use Rattle.wfe_words.specs.Place.{is_valid};
+ghost use Rattle.wfe_core.specs.words.Place.{is_valid};
 ghost use Rattle.wfe_core.specs.Links.{link_number, root_at as root_of};
 ghost use Rattle.wfe_core.specs.Phases.{Alone};
 ghost use Rattle.wfe_core.specs.Phases.Base.{Protect};
@@ -9,9 +9,10 @@ ghost use Rattle.wfe_core.specs.Ready.{RootFits};
 ghost use Rattle.wfe_ibr.specs.Phases.{protect_phase};
 ghost use Rattle.wfe_core.specs.Posts.{lower as lower_of, upper as upper_of};
 
-use wfe_core::{Machine, Op, Post, ProtectEnd, Told, hold, link_word_number, protect_end, root_at};
-use wfe_defs::{Event, Guard, Interval, Root};
-use wfe_words::{Span, span_word};
+use wfe_core::{
+    Event, Guard, Interval, Machine, Op, Post, ProtectEnd, Root, Span, Told, hold,
+    link_word_number, protect_end, root_at, span_word,
+};
 
 // The step to come.
 #[derive(Clone, Copy)]

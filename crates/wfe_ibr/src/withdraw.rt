@@ -3,8 +3,7 @@ ghost use Rattle.std.specs.Prelude.{◌≡◌};
 ghost use Rattle.wfe_core.specs.Phases.Base.{Finish, Release};
 ghost use Rattle.wfe_ibr.specs.Phases.{finish_phase, release_phase};
 
-use wfe_core::{Machine, Op, Post, Told};
-use wfe_defs::{Event, Guard};
+use wfe_core::{Event, Guard, Machine, Op, Post, Told};
 
 /// Withdraws the seat's interval, in one step.
 #[derive(Drop)]

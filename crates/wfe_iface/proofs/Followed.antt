@@ -2,7 +2,7 @@
 use Rattle.std.proofs.Common.{ℕ, ◌+◌, ◌<◌, arith, ◌≡◌, Bool, true, false, [], refl}
 use Rattle.std.proofs.lemmas.Bool.Decides.{nat_tests}
 use Rattle.std.specs.Prelude.{min, ◌==◌, if◌then◌else◌}
-use Rattle.wfe_defs.specs.declared.event.Root.{Root}
+use Rattle.wfe_core.specs.defs.declared.event.Root.{Root}
 use Rattle.wfe_core.specs.declared.post.Post.{Post}
 use Rattle.wfe_core.specs.Machine.{after, protect_turn}
 use Rattle.wfe_core.specs.Memory.{bump}

@@ -1,7 +1,7 @@
 -- Where a follow stands, as a phase of the model.
 use Rattle.std.specs.Prelude.{ℕ, ◌≡◌}
-use Rattle.wfe_defs.specs.declared.event.Root.{Root}
-use Rattle.wfe_defs.specs.declared.event.Root.TheVariants.{Next}
+use Rattle.wfe_core.specs.defs.declared.event.Root.{Root}
+use Rattle.wfe_core.specs.defs.declared.event.Root.TheVariants.{Next}
 use Rattle.wfe_core.specs.Follow.{following}
 use Rattle.wfe_core.specs.Phases.{Alone, Base}
 use Rattle.wfe_core.specs.Phases.ProtectAt.{LoadWithin}

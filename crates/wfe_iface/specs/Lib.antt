@@ -1,2 +1,2 @@
-pub mod Schemes
 pub mod Follows
+pub mod Schemes

@@ -5,13 +5,12 @@ ghost use Rattle.wfe_core.specs.Follow.{following};
 ghost use Rattle.wfe_core.specs.Ready.{SlotFits};
 ghost use Rattle.wfe_core.specs.Rounds.{protect_base};
 ghost use Rattle.wfe_core.specs.Valid.{IsValid};
-ghost use Rattle.wfe_defs.specs.declared.event.Root.TheVariants.{Next as NextOf};
+ghost use Rattle.wfe_core.specs.defs.declared.event.Root.TheVariants.{Next as NextOf};
 ghost use Rattle.wfe_iface.specs.Follows.{IsOf};
 
 use crate::Scheme;
 use crate::follow_at::At;
-use wfe_core::{FollowEnd, Machine, Op, Post, ProtectEnd, Told, link_word_number};
-use wfe_defs::{Event, Root};
+use wfe_core::{Event, FollowEnd, Machine, Op, Post, ProtectEnd, Root, Told, link_word_number};
 
 /// Protects the row after a row of the queue, at an index of the seat, and holds it once the head
 /// still leads to the parent after the protection.

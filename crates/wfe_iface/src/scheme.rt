@@ -1,7 +1,7 @@
 // What a scheme does for a call: its machines, and where it needs none.
 ghost use Rattle.std.specs.Prelude.{◌≡◌, ◌<◌, ◌≤◌, ◌+◌, ◌++◌, Bool, true, length};
-ghost use Rattle.wfe_words.specs.Place.{is_valid};
-ghost use Rattle.wfe_words.specs.declared.config.SchemeKind.{SchemeKind as Kind};
+ghost use Rattle.wfe_core.specs.words.Place.{is_valid};
+ghost use Rattle.wfe_core.specs.words.declared.config.SchemeKind.{SchemeKind as Kind};
 ghost use Rattle.wfe_core.specs.declared.ends.ProtectEnd.{ProtectEnd as End};
 ghost use Rattle.wfe_core.specs.Links.{link_number, root_at as root_of};
 ghost use Rattle.wfe_core.specs.Phases.Ending.{Done, Protected};

@@ -1,11 +1,10 @@
 // The three schemes. A machine that a scheme does not have is never made: its type is another
 // scheme's.
 ghost use Rattle.std.specs.Prelude.{true, false, refl};
-ghost use Rattle.wfe_words.specs.declared.config.SchemeKind.{SchemeKind as Kind};
+ghost use Rattle.wfe_core.specs.words.declared.config.SchemeKind.{SchemeKind as Kind};
 
 use crate::Scheme;
-use wfe_core::{Post, Told};
-use wfe_defs::Event;
+use wfe_core::{Event, Post, Told};
 use wfe_fast::WfeProtect;
 use wfe_he::{HeClear, HeProtect};
 use wfe_ibr::{IbrBegin, IbrFinish, IbrProtect, IbrRelease};
@@ -20,7 +19,7 @@ pub struct Ibr {}
 pub struct Wfe {}
 
 impl Scheme for He {
-    ghost use Rattle.wfe_words.specs.declared.config.SchemeKind.TheVariants.{He as HeKind};
+    ghost use Rattle.wfe_core.specs.words.declared.config.SchemeKind.TheVariants.{He as HeKind};
 
     ghost kind = { HeKind };
 
@@ -72,7 +71,7 @@ impl Scheme for He {
 }
 
 impl Scheme for Ibr {
-    ghost use Rattle.wfe_words.specs.declared.config.SchemeKind.TheVariants.{Ibr as IbrKind};
+    ghost use Rattle.wfe_core.specs.words.declared.config.SchemeKind.TheVariants.{Ibr as IbrKind};
 
     ghost kind = { IbrKind };
 
@@ -134,7 +133,7 @@ impl Scheme for Ibr {
 }
 
 impl Scheme for Wfe {
-    ghost use Rattle.wfe_words.specs.declared.config.SchemeKind.TheVariants.{Wfe as WfeKind};
+    ghost use Rattle.wfe_core.specs.words.declared.config.SchemeKind.TheVariants.{Wfe as WfeKind};
 
     ghost kind = { WfeKind };
 

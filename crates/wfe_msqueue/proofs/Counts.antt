@@ -1,7 +1,7 @@
 -- Where a call stands does not depend on how many steps it has made.
 use Rattle.std.proofs.Common.{ℕ, ◌≡◌, List, ◌++◌, Option, refl, sym, ap, subst}
-use Rattle.wfe_defs.specs.declared.call.Answer.{Answer}
-use Rattle.wfe_defs.specs.declared.event.Event.{Event}
+use Rattle.wfe_core.specs.defs.declared.call.Answer.{Answer}
+use Rattle.wfe_core.specs.defs.declared.event.Event.{Event}
 use Rattle.wfe_core.specs.declared.desk.Desk.{Desk as HeldDesk}
 use Rattle.wfe_core.specs.declared.post.Post.{Post}
 use Rattle.wfe_core.specs.Calls.{EnqueueKept, Enqueues, Dequeues, Phase}

@@ -1,8 +1,8 @@
 -- The ends of a call's rounds, as turns of the model.
 use Rattle.std.proofs.Common.{ℕ, ◌≡◌, Bool, List, Option, Some, None, sym, ap, subst, ◌∙◌}
-use Rattle.wfe_words.specs.declared.config.SchemeKind.{SchemeKind}
-use Rattle.wfe_defs.specs.declared.call.Answer.{Answer}
-use Rattle.wfe_defs.specs.declared.event.Event.{Event}
+use Rattle.wfe_slots.specs.words.declared.config.SchemeKind.{SchemeKind}
+use Rattle.wfe_core.specs.defs.declared.call.Answer.{Answer}
+use Rattle.wfe_core.specs.defs.declared.event.Event.{Event}
 use Rattle.wfe_core.specs.declared.post.Post.{Post}
 use Rattle.wfe_core.specs.Calls.{Task, Next, Phase, CallTurn}
 use Rattle.wfe_core.specs.Desks.{Desk}
@@ -11,15 +11,7 @@ use Rattle.wfe_core.specs.Steps.{phase_turn}
 use Rattle.wfe_call_rounds.specs.Rounds.{CloseAt, CloseTurn, close_from, close_step, close_phase, is_again, then_at, then_close}
 use Rattle.wfe_call_rounds.specs.Steps.{Steps}
 use Rattle.wfe_call_rounds.proofs.Model.{clearing_at}
-use Rattle.wfe_call_rounds.proofs.Taken.{closes_step, closed_step}
-
-then_over : (task : Task) (next : Next) (desk : Desk) (mid last : Post) (early told : List Event) (answer : Option Answer) (phase : Phase) (turn : CloseTurn) → mid ≡ turn.post → early ≡ turn.told → turn.at ≡ None → Steps (closed task next mid desk early) last desk told answer phase → Steps (then_close task next desk turn) last desk told answer phase
-then_over task next desk mid last early told answer phase turn p t o h =
-    let same : then_close task next desk turn ≡ closed task next mid desk early =
-    ap (λ (at : Option CloseAt). then_at task next desk turn.post turn.told at) o
-    ∙ (ap (λ (x : Post). closed task next x desk turn.told) (sym p) ∙ ap (λ (events : List Event). closed task next mid desk events) (sym t))
-    in
-    subst (λ (t : CallTurn). Steps t last desk told answer phase) (sym same) h
+use Rattle.wfe_call_rounds.proofs.Taken.{closes_step, closed_step, then_over}
 
 clearing_with : (task : Task) (next : Next) (kind : SchemeKind) (again : Bool) (post : Post) (desk : Desk) (told : List Event) → scheme_of post ≡ kind → again ≡ is_again next → clearing task next post desk told ≡ then_close task next desk (close_from kind (index_of task) again post told)
 clearing_with task next kind again post desk told s e =

@@ -1,12 +1,12 @@
 -- Where a dequeue stands, as a phase of the model.
-use Rattle.wfe_defs.specs.declared.call.Answer.TheVariants as answers
-use Rattle.wfe_defs.specs.declared.call.ClockMove.TheVariants as moves
+use Rattle.wfe_core.specs.defs.declared.call.Answer.TheVariants as answers
+use Rattle.wfe_core.specs.defs.declared.call.ClockMove.TheVariants as moves
 use Rattle.wfe_core.specs.declared.post.Post.{Post}
 use Rattle.wfe_core.specs.Phases.{Base}
 use Rattle.wfe_core.specs.Calls.{Dequeues, Opens, FollowsHead, ClearsNext, Phase, Runs, Works, Dequeuing}
 use Rattle.wfe_core.specs.Rounds.{round}
 use Rattle.wfe_call_rounds.specs.Rounds.{opening_base, close_at, close_phase}
-use Rattle.wfe_tidy.specs.Reclaims.{reclaim_phase}
+use Rattle.wfe_call_tidy.specs.Reclaims.{reclaim_phase}
 use Rattle.wfe_msqueue.specs.declared.dequeue_state.State.{State}
 use Rattle.wfe_msqueue.specs.declared.dequeue_state.State.TheVariants as states
 use Rattle.wfe_msqueue.specs.Dequeues.{at_of, next_of}

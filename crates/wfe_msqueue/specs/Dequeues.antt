@@ -1,8 +1,8 @@
 -- Where a dequeue's work on its rows stands, as phases of the model.
 use Rattle.std.specs.Prelude.{List}
-use Rattle.wfe_defs.specs.declared.call.Answer.TheVariants as answers
-use Rattle.wfe_defs.specs.declared.call.ClockMove.TheVariants as moves
-use Rattle.wfe_defs.specs.declared.event.Event.{Event}
+use Rattle.wfe_core.specs.defs.declared.call.Answer.TheVariants as answers
+use Rattle.wfe_core.specs.defs.declared.call.ClockMove.TheVariants as moves
+use Rattle.wfe_core.specs.defs.declared.event.Event.{Event}
 use Rattle.wfe_core.specs.declared.post.Post.{Post}
 use Rattle.wfe_core.specs.CallReady.{dequeue_ready}
 use Rattle.wfe_core.specs.Calls.{DequeueAt, LoadTail, SwingTail, TakeNumber, TakeValue, ExchangeHead, Next, Again, Answering, Retiring, FollowsHead, Runs, Works, Dequeuing, CallTurn, goes_on}

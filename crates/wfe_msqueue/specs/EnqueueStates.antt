@@ -6,7 +6,7 @@ use Rattle.wfe_core.specs.Rounds.{round}
 use Rattle.wfe_slots.specs.Phases.{allocate_phase, give_up_phase}
 use Rattle.wfe_slots.specs.Rows.{write_phase}
 use Rattle.wfe_call_rounds.specs.Rounds.{opening_base, close_at, close_phase}
-use Rattle.wfe_tidy.specs.Tidies.{tidy_phase}
+use Rattle.wfe_call_tidy.specs.Tidies.{tidy_phase}
 use Rattle.wfe_msqueue.specs.declared.enqueue_state.State.{State}
 use Rattle.wfe_msqueue.specs.declared.enqueue_state.State.TheVariants as states
 use Rattle.wfe_msqueue.specs.Enqueues.{at_of, next_of}

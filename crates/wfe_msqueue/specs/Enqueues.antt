@@ -1,6 +1,6 @@
 -- Where an enqueue's work on its rows stands, as phases of the model.
 use Rattle.std.specs.Prelude.{List}
-use Rattle.wfe_defs.specs.declared.event.Event.{Event}
+use Rattle.wfe_core.specs.defs.declared.event.Event.{Event}
 use Rattle.wfe_core.specs.declared.post.Post.{Post}
 use Rattle.wfe_core.specs.Calls.{EnqueueKept, EnqueueAt, LoadNumber, LoadNext, PassTail, ExchangeNext, ExchangeTail, Next, Again, MakeRoom, Answering, Enqueues, Fills, Runs, Works, Enqueuing, CallTurn, goes_on}
 use Rattle.wfe_core.specs.Desks.{Desk}

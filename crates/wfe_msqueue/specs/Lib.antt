@@ -1,4 +1,4 @@
-pub mod Dequeues
 pub mod DequeueStates
-pub mod Enqueues
+pub mod Dequeues
 pub mod EnqueueStates
+pub mod Enqueues

@@ -1,6 +1,6 @@
 // The call that takes the item at the queue's front.
 ghost use Rattle.std.specs.Prelude.{◌≡◌, ◌≤◌, ◌+◌, ◌==◌, [], length, List};
-ghost use Rattle.wfe_defs.specs.declared.event.Event.{Event};
+ghost use Rattle.wfe_core.specs.defs.declared.event.Event.{Event};
 ghost use Rattle.wfe_core.specs.CallReady.{IsCallPlausible, IsCallReady};
 ghost use Rattle.wfe_core.specs.Calls.{Dequeues};
 ghost use Rattle.wfe_core.specs.Dequeue.{followed as model_followed, followed_row};
@@ -20,11 +20,9 @@ ghost use Rattle.wfe_msqueue.specs.declared.dequeue_at.Dequeued.TheVariants.{Goe
 use super::dequeue_at::{DequeueAt, DequeueEnd, Dequeued};
 use super::dequeue_state::{Item, State};
 use super::links::link_to;
-use wfe_call_rounds::{close, open, take_close, take_open};
-use wfe_core::{CallMachine, Desk, FollowEnd, Machine, Op, Post, ProtectEnd, Told};
-use wfe_defs::{Answer, Root};
-use wfe_iface::{Follow, Scheme};
-use wfe_tidy::Reclaim;
+use wfe_call_rounds::{Follow, Scheme, close, open, take_close, take_open};
+use wfe_call_tidy::Reclaim;
+use wfe_core::{Answer, CallMachine, Desk, FollowEnd, Machine, Op, Post, ProtectEnd, Root, Told};
 
 /// Takes the item at the queue's front (Michael and Scott 1996): it protects the head's row and the
 /// row after it, reads the item there, and exchanges the head. The row that the head left is retired. It

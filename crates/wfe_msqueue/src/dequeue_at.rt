@@ -1,7 +1,7 @@
 // The work of a dequeue on its rows, between the protections of a round.
 ghost use Rattle.std.specs.Prelude.{◌≡◌, ◌≤◌, [], ◌∷◌, length};
-ghost use Rattle.wfe_defs.specs.declared.event.Event.TheVariants.{Cut as CutTold, Link as LinkTold, Taken as TakenTold};
-ghost use Rattle.wfe_defs.specs.declared.event.Root.TheVariants.{Head};
+ghost use Rattle.wfe_core.specs.defs.declared.event.Event.TheVariants.{Cut as CutTold, Link as LinkTold, Taken as TakenTold};
+ghost use Rattle.wfe_core.specs.defs.declared.event.Root.TheVariants.{Head};
 ghost use Rattle.wfe_core.specs.CallReady.{dequeue_plausible, dequeue_ready};
 ghost use Rattle.wfe_core.specs.Dequeue.{dequeue_move, dequeue_turn};
 ghost use Rattle.wfe_core.specs.Desks.{Desk};
@@ -11,8 +11,7 @@ ghost use Rattle.wfe_call_rounds.specs.Rounds.{is_again};
 ghost use Rattle.wfe_msqueue.specs.Dequeues.{LedWithin, at_of, led, next_of};
 
 use super::links::{link_to, tell_link};
-use wfe_core::{Op, Post, Told};
-use wfe_defs::{Event, Root};
+use wfe_core::{Event, Op, Post, Root, Told};
 
 // The step to come. `head` is the row that the head led to, `next` the row after it.
 #[derive(Clone, Copy)]

@@ -1,8 +1,8 @@
 // Where a dequeue stands.
 use super::dequeue_at::{DequeueAt, DequeueEnd};
 use wfe_call_rounds::{Closing, Opening};
+use wfe_call_tidy::Reclaim;
 use wfe_core::{FollowEnd, Machine, ProtectEnd};
-use wfe_tidy::Reclaim;
 
 // An item that was taken.
 #[derive(Clone, Copy)]

@@ -1,6 +1,6 @@
 // The call that puts an item at the queue's end.
 ghost use Rattle.std.specs.Prelude.{◌≡◌, ◌<◌, ◌≤◌, ◌+◌, [], length, List, None, false};
-ghost use Rattle.wfe_defs.specs.declared.event.Event.{Event};
+ghost use Rattle.wfe_core.specs.defs.declared.event.Event.{Event};
 ghost use Rattle.wfe_core.specs.CallReady.{EnqueueFits, IsCallPlausible, IsCallReady};
 ghost use Rattle.wfe_core.specs.Calls.{Enqueues, Fills, Runs};
 ghost use Rattle.wfe_core.specs.Change.{no_room as model_no_room};
@@ -19,12 +19,10 @@ ghost use Rattle.wfe_msqueue.specs.EnqueueStates.{enqueue_phase};
 
 use super::enqueue_at::{EnqueueAt, EnqueueEnd, Enqueued, Kept};
 use super::enqueue_state::State;
-use wfe_call_rounds::{close, open, take_close, take_open};
-use wfe_core::{AllocateEnd, CallMachine, Desk, Machine, Op, Post, ProtectEnd, Told};
-use wfe_defs::{Answer, Root};
-use wfe_iface::Scheme;
+use wfe_call_rounds::{Scheme, close, open, take_close, take_open};
+use wfe_call_tidy::Tidy;
+use wfe_core::{AllocateEnd, Answer, CallMachine, Desk, Machine, Op, Post, ProtectEnd, Root, Told};
 use wfe_slots::{Allocate, GiveUp, Row, WriteRow};
-use wfe_tidy::Tidy;
 
 /// Puts an item at the queue's end (Michael and Scott 1996): it protects the tail's row, writes a row of
 /// its own with the next number, links it after the tail's row, and moves the tail. It answers the

@@ -1,7 +1,7 @@
 // The work of an enqueue on its rows, between the protections of a round.
 ghost use Rattle.std.specs.Prelude.{◌≡◌, ◌<◌, ◌≤◌, ◌+◌, [], ◌∷◌, length};
-ghost use Rattle.wfe_defs.specs.declared.event.Event.TheVariants.{Link as LinkTold, Queued as QueuedTold};
-ghost use Rattle.wfe_defs.specs.declared.event.Root.TheVariants.{Next as NextOf};
+ghost use Rattle.wfe_core.specs.defs.declared.event.Event.TheVariants.{Link as LinkTold, Queued as QueuedTold};
+ghost use Rattle.wfe_core.specs.defs.declared.event.Root.TheVariants.{Next as NextOf};
 ghost use Rattle.wfe_core.specs.CallReady.{EnqueueFits, enqueue_plausible, enqueue_ready};
 ghost use Rattle.wfe_core.specs.Desks.{Desk};
 ghost use Rattle.wfe_core.specs.Enqueue.{enqueue_move, enqueue_turn};
@@ -11,8 +11,7 @@ ghost use Rattle.wfe_call_rounds.specs.Rounds.{is_again};
 ghost use Rattle.wfe_msqueue.specs.Enqueues.{at_of, kept_of, led, next_of};
 
 use super::links::{link_to, tell_link};
-use wfe_core::{Op, Post, Told};
-use wfe_defs::{Answer, Event, Root};
+use wfe_core::{Answer, Event, Op, Post, Root, Told};
 
 // What an enqueue keeps: its value, the row that it has taken and not linked, whether a walk for one
 // has failed, and, from the tail loaded last, the tail's row and that row's number.

@@ -1,10 +1,9 @@
 // Where an enqueue stands.
 use super::enqueue_at::{EnqueueAt, EnqueueEnd};
 use wfe_call_rounds::{Closing, Opening};
-use wfe_core::{Machine, ProtectEnd};
-use wfe_defs::Answer;
+use wfe_call_tidy::Tidy;
+use wfe_core::{Answer, Machine, ProtectEnd};
 use wfe_slots::{Allocate, GiveUp, WriteRow};
-use wfe_tidy::Tidy;
 
 // Before its first step, or before another round; the beginning of a round; the work on the rows; a row
 // that is taken, and one that is written; the end of the round, with how it ends; a row that was not

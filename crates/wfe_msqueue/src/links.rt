@@ -2,8 +2,7 @@
 ghost use Rattle.std.specs.Prelude.{◌≡◌, ◌<◌, ◌≤◌, ◌+◌, ◌++◌, length};
 ghost use Rattle.wfe_core.specs.Enqueue.{told_link};
 
-use wfe_core::Told;
-use wfe_defs::{Event, Root};
+use wfe_core::{Event, Root, Told};
 
 // The link that leads to a row.
 pub fn link_to(slot: u32) -> u64

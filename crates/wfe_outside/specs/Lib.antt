@@ -1,3 +1,4 @@
+pub use Rattle.wfe_defs.specs as defs
 pub mod Faults
 pub mod Memory
 pub mod Watched

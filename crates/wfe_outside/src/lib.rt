@@ -15,3 +15,4 @@ pub use memory::{CleanSource, MemSink, MemSource};
 pub use real::{StdSink, StdSource};
 pub use stream::{Failed, Sink, Source};
 pub use watcher::{WatchRow, Watcher};
+pub use wfe_defs::{Call, Command, Event, NoMemory};

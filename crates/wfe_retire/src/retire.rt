@@ -4,12 +4,10 @@ ghost use Rattle.std.specs.Prelude.{◌≡◌};
 ghost use Rattle.wfe_core.specs.Phases.Base.{Retire as Retiring};
 ghost use Rattle.wfe_core.specs.Phases.RetireAt.{LoadLife};
 ghost use Rattle.wfe_core.specs.Retire.{birth_in};
-ghost use Rattle.wfe_words.specs.Packed.{read_life as life_in};
+ghost use Rattle.wfe_core.specs.words.Packed.{read_life as life_in};
 ghost use Rattle.wfe_retire.specs.Phases.{retire_phase};
 
-use wfe_core::{Machine, Op, Post, Told};
-use wfe_defs::{Event, Lifetime};
-use wfe_words::{Life, life_word, read_life};
+use wfe_core::{Event, Life, Lifetime, Machine, Op, Post, Told, life_word, read_life};
 
 // The step to come.
 #[derive(Clone, Copy)]

@@ -1,7 +1,7 @@
 -- A scan's step, as the turn of a call that has the scan in it.
 use Rattle.std.proofs.Common.{ℕ, ◌≡◌, ◌+◌, Bool, true, false, List, Option, Some, None, refl}
 use Rattle.std.specs.Prelude.{nat_lt}
-use Rattle.wfe_defs.specs.declared.event.Event.{Event}
+use Rattle.wfe_core.specs.defs.declared.event.Event.{Event}
 use Rattle.wfe_core.specs.declared.post.Post.{Post}
 use Rattle.wfe_core.specs.Calls.{AfterScan, ScanAt, ReadGuard, GiveBack}
 use Rattle.wfe_core.specs.Desks.{Desk}

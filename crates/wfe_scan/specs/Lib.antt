@@ -1,1 +1,2 @@
+pub use Rattle.wfe_words.specs as words
 pub mod Scans

@@ -1,7 +1,7 @@
 -- A scan's steps, whatever comes after it.
 use Rattle.std.specs.Prelude.{ℕ, ◌≡◌, ◌<◌, ◌+◌, Bool, true, false, nat_lt, List, [], ◌∷◌, Option, Some, None}
-use Rattle.wfe_defs.specs.declared.event.Event.{Event}
-use Rattle.wfe_defs.specs.declared.event.Event.TheVariants as events
+use Rattle.wfe_core.specs.defs.declared.event.Event.{Event}
+use Rattle.wfe_core.specs.defs.declared.event.Event.TheVariants as events
 use Rattle.wfe_core.specs.declared.post.Post.{Post}
 use Rattle.wfe_core.specs.Desks.{Desk}
 use Rattle.wfe_core.specs.Guards.{guards, guard_at, published}

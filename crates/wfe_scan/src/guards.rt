@@ -4,8 +4,7 @@ ghost use Rattle.wfe_words.specs.Place.{has, is_valid, number as number_of};
 ghost use Rattle.wfe_core.specs.Guards.{guard_at as model_guard_at, guard_place, guards as model_guards, index_at as model_index_at, interval_in, published as model_published};
 ghost use Rattle.wfe_core.specs.Valid.{Bounds};
 
-use wfe_core::one_era;
-use wfe_defs::{Guard, Interval};
+use wfe_core::{Guard, Interval, one_era};
 use wfe_words::{Config, Layout, SchemeKind, read_reservation, read_span};
 
 // How many guards there are.

@@ -10,8 +10,7 @@ ghost use Rattle.wfe_scan.specs.Scans.{Leaves, giving, op_ready, scan_phase, sca
 
 use super::guards::{guard_at, guard_word, guards, published};
 use super::unmet::first_unmet;
-use wfe_core::{CallMachine, Desk, Op, Post, Told};
-use wfe_defs::{Answer, Event};
+use wfe_core::{Answer, CallMachine, Desk, Event, Op, Post, Told};
 
 // The step to come. Places are places of the retire list, from 0.
 #[derive(Clone, Copy)]

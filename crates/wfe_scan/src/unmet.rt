@@ -2,8 +2,7 @@
 ghost use Rattle.std.specs.Prelude.{◌≡◌, drop};
 ghost use Rattle.wfe_core.specs.Scan.{first_unmet as model_first_unmet, meets_any as model_meets_any, meets_span as model_meets_span};
 
-use wfe_core::RetireList;
-use wfe_defs::{Guard, Interval, Lifetime, meets};
+use wfe_core::{Guard, Interval, Lifetime, RetireList, meets};
 
 // A life meets what a guard published.
 fn meets_span(life: Lifetime, span: Option<Interval>) -> bool

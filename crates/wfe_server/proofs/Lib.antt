@@ -1,19 +1,2 @@
-pub mod Seats
-pub mod Tables
-pub mod Units
-pub mod Items
-pub mod Runs
-pub mod Entries
-pub mod Plays
-pub mod Lines
-pub mod Steps
-pub mod Streams
-pub mod Finishes
-pub mod Says
-pub mod Outs
-pub mod Bytes
-pub mod Going
-pub mod Endings
-pub mod ByteCounts
-pub mod FaultCounts
-pub mod WatchedLines
+pub use Rattle.wfe_server_gen.proofs as server_gen
+pub use Rattle.wfe_server_gen.proofs.server_replay as server_replay

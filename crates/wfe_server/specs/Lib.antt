@@ -1,10 +1,2 @@
-pub mod Trace
-pub mod Counts
-pub mod Playing
-pub mod Opening
-pub mod Sunk
-pub mod Given
-pub mod Replay
-pub mod Run
-pub mod Watched
-pub mod Ends
+pub use Rattle.wfe_server_gen.specs as server_gen
+pub use Rattle.wfe_server_gen.specs.server_replay as server_replay

@@ -1,11 +1,4 @@
-//! Replays a trace: takes its bytes as they come, plays its lines on a table, and puts the record out.
+//! What the program does with traces: it replays one, or makes one from a seed.
 #![tactic(auto)]
 
-mod play;
-mod progress;
-mod serve;
-mod stop;
-mod watched;
-
-pub use serve::replay;
-pub use watched::put_watched;
+pub use wfe_server_gen::{PlainCells, Rig, generate, replay};

@@ -1,7 +1,6 @@
 -- Where an allocation and a giving up stand, as phases of the model.
 use Rattle.std.specs.Prelude.{Option, Some, None}
-use Rattle.wfe_core.specs.Phases.{AllocateAt, Base}
-use Rattle.wfe_core.specs.Phases.{Walk as ModelWalk}
+use Rattle.wfe_core.specs.Phases.{AllocateAt, Base, Walk as ModelWalk}
 use Rattle.wfe_core.specs.Phases.AllocateAt.{LoadBirth, ClaimSlot, StoreLife}
 use Rattle.wfe_core.specs.Phases.Base.{Allocate as AllocatePhase, GiveUp as GiveUpPhase}
 use Rattle.wfe_slots.specs.declared.allocate.Allocate.{Allocate}

@@ -6,8 +6,7 @@ ghost use Rattle.wfe_core.specs.Phases.Base.{Allocate as Allocating};
 ghost use Rattle.wfe_slots.specs.Phases.{allocate_phase};
 
 use super::walk::{Walk, is_taken, slot_after};
-use wfe_core::{AllocateEnd, Machine, Op, Post, Told};
-use wfe_defs::Event;
+use wfe_core::{AllocateEnd, Event, Machine, Op, Post, Told};
 use wfe_words::{Life, life_word};
 
 // The step to come.

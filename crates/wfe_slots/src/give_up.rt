@@ -3,8 +3,7 @@ ghost use Rattle.std.specs.Prelude.{◌≡◌};
 ghost use Rattle.wfe_core.specs.Phases.Base.{GiveUp as GivingUp};
 ghost use Rattle.wfe_slots.specs.Phases.{give_up_phase};
 
-use wfe_core::{Machine, Op, Post, Told};
-use wfe_defs::Event;
+use wfe_core::{Event, Machine, Op, Post, Told};
 
 /// Gives up a row that was allocated and never linked, in one step.
 #[derive(Drop)]

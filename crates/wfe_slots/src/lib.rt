@@ -4,9 +4,14 @@
 
 mod allocate;
 mod give_up;
+mod pairs;
 mod walk;
 mod write_row;
 
 pub use allocate::Allocate;
 pub use give_up::GiveUp;
+pub use pairs::Pairs;
 pub use write_row::{Row, WriteRow};
+
+#[cfg(test)]
+mod tests;

@@ -3,8 +3,8 @@ ghost use Rattle.std.specs.Prelude.{◌≡◌, ◌<◌, ◌≤◌, ◌+◌, ◌*
 ghost use Rattle.wfe_core.specs.WriteRow.{first_written, last_written, pair_word as model_pair_word, row_word, writing};
 ghost use Rattle.wfe_slots.specs.Rows.{row_of, write_phase};
 
+use crate::Pairs;
 use wfe_core::{Machine, Op, Post, Told};
-use wfe_pairs::Pairs;
 
 /// What a row of the map or of the queue gets.
 #[derive(Drop)]

@@ -1,3 +1,4 @@
+pub use Rattle.wfe_words.specs as words
 pub mod Body
 pub mod Fits
 pub mod Good

@@ -18,6 +18,7 @@ pub use line::Line;
 pub use print::{print_bad, print_count, print_event, print_header, print_table, print_watch};
 pub use read::{TraceState, read_line};
 pub use reason::{BadLine, Reason, Status};
+pub use wfe_words::{Config, Layout, SchemeKind};
 pub use words::number_of;
 
 #[cfg(test)]

@@ -1,4 +1,4 @@
+pub mod Changes
 pub mod Counts
 pub mod Garbage
 pub mod Keys
-pub mod Changes

@@ -4,10 +4,8 @@ ghost use Rattle.std.specs.Prelude.{◌≡◌};
 use crate::Rig;
 use std::alloc::Global;
 use std::test::Fail;
-use wfe_cells::{MakeCells, PlainCells};
-use wfe_core::Told;
-use wfe_defs::{Answer, Call, Event};
-use wfe_words::{Config, Layout};
+use wfe_core::{Answer, Call, Config, Event, Layout, Told};
+use wfe_drive_cells::{MakeCells, PlainCells};
 
 /// How many units a call is given at most before a test gives up.
 const MOST: u32 = 10_000;

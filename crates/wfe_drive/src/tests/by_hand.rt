@@ -1,7 +1,7 @@
 // A protection of Wait-Free Eras in the hands of a test, which makes what other seats would do.
 ghost use Rattle.std.specs.Prelude.{◌≡◌, ◌<◌, length, IfNone, IfOk, true};
-ghost use Rattle.wfe_words.specs.Place.{is_valid, words};
-ghost use Rattle.wfe_cells.specs.Operations.{word_in};
+ghost use Rattle.wfe_core.specs.words.Place.{is_valid, words};
+ghost use Rattle.wfe_drive_cells.specs.Operations.{word_in};
 ghost use Rattle.wfe_fast.specs.Phases.{protect_phase};
 ghost use Rattle.wfe_drive.specs.ByHand.{IsPoised, IsSeen, LeadsWithin};
 
@@ -9,13 +9,12 @@ use crate::tests::overtaken::PAIR;
 use std::alloc::Global;
 use std::process::Abort;
 use std::test::Fail;
-use wfe_cells::{Cells, MakeCells, PlainCells};
-use wfe_core::{Machine, Op, Post, ProtectEnd, Told, link_word_number};
-use wfe_defs::{Event, Guard, Interval, Root};
-use wfe_fast::WfeProtect;
-use wfe_words::{
-    Layout, Link, Request, Reservation, link_word, read_request, request_word, reservation_word,
+use wfe_core::{
+    Event, Guard, Interval, Layout, Link, Machine, Op, Post, ProtectEnd, Request, Reservation,
+    Root, Told, link_word, link_word_number, read_request, request_word, reservation_word,
 };
+use wfe_drive_cells::{Cells, MakeCells, PlainCells};
+use wfe_fast::WfeProtect;
 
 // A protection of seat 0 at index 2, with the words that it works on, and the number of the word that
 // has the link.

@@ -4,8 +4,7 @@
 use crate::tests::bench::Bench;
 use std::process::Abort;
 use std::test::Fail;
-use wfe_defs::{Answer, Call, ClockMove};
-use wfe_words::{Config, SchemeKind};
+use wfe_core::{Answer, Call, ClockMove, Config, SchemeKind};
 
 const HE: SchemeKind = SchemeKind::He;
 

@@ -2,8 +2,7 @@
 use crate::tests::bench::Bench;
 use std::process::Abort;
 use std::test::Fail;
-use wfe_defs::{Answer, Call, ClockMove, Event, Guard, Interval};
-use wfe_words::{Config, SchemeKind};
+use wfe_core::{Answer, Call, ClockMove, Config, Event, Guard, Interval, SchemeKind};
 
 /// Two seats of Wait-Free Eras that try once.
 pub const PAIR: Config = Config {

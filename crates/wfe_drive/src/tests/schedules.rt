@@ -5,8 +5,7 @@ use rand_core::utils::NextWord;
 use rand_pcg::Pcg32;
 use std::process::Abort;
 use std::test::Fail;
-use wfe_defs::{Call, Event, Guard, Interval};
-use wfe_words::{Config, SchemeKind};
+use wfe_core::{Call, Config, Event, Guard, Interval, SchemeKind};
 
 /// How many turns a schedule has.
 const TURNS: u32 = 3_000;

@@ -2,7 +2,7 @@
 // taken, which stand at which index of which seat, and which each seat has retired.
 use std::alloc::Global;
 use std::test::Fail;
-use wfe_defs::{Event, Guard, Interval, Lifetime, meets};
+use wfe_core::{Event, Guard, Interval, Lifetime, meets};
 
 /// What is wrong with an event.
 #[derive(Clone, Copy, Debug, PartialEq, Eq)]

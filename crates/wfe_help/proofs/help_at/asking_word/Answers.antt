@@ -2,7 +2,7 @@ use Rattle.std.proofs.Common.{arith}
 use Rattle.std.proofs.lemmas.Bool.Decides.{nat_tests}
 use Rattle.std.proofs.lemmas.Grind.{common_steps}
 use Rattle.wfe_core.specs.Links.{link_place}
-use Rattle.wfe_words.proofs.Numbers.{number_below, words_few}
+use Rattle.wfe_core.proofs.words.Numbers.{number_below, words_few}
 use Rattle.wfe_help.proofs.help_at.asking_word.Goals as goal
 
 pub request_word-requires : goal.request_word-requires

@@ -1,5 +1,5 @@
 use Rattle.std.proofs.Common.{◌≡◌, None, Some, refl}
-use Rattle.wfe_defs.specs.declared.call.Answer.TheVariants.{Got}
+use Rattle.wfe_core.specs.defs.declared.call.Answer.TheVariants.{Got}
 use Rattle.wfe_core.specs.Calls.{Gets, Opens, Answering, Runs, Works, Getting}
 use Rattle.wfe_core.specs.Phases.Ending.{Protected}
 use Rattle.wfe_core.specs.DeskHeld.{desk_of}

@@ -4,10 +4,11 @@ use Rattle.wfe_core.specs.Memory.{bump}
 use Rattle.wfe_core.specs.Posts.{counted}
 use Rattle.wfe_core.specs.Steps.{phase_turn}
 use Rattle.wfe_call_rounds.specs.Steps.{Steps}
-use Rattle.wfe_call_rounds.proofs.Taken.{bumped, took_from, steps_along}
+use Rattle.wfe_call_rounds.proofs.Taken.{took_from, steps_along}
 use Rattle.wfe_bucketmap.specs.Gets.{get_phase}
 use Rattle.wfe_bucketmap.proofs.Turns.{get_phase_counted}
 use Rattle.wfe_bucketmap.proofs.get.GetCallMachine.take.Goals as goal
+use Rattle.wfe_call_rounds.proofs.iface.Followed.{bumped}
 
 pub returns-clause-took : goal.returns-clause-took
 returns-clause-took g c =

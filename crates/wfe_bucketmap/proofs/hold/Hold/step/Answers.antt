@@ -1,5 +1,5 @@
 use Rattle.std.proofs.Common.{Some, refl}
-use Rattle.wfe_defs.specs.declared.call.Answer.TheVariants.{Nothing}
+use Rattle.wfe_core.specs.defs.declared.call.Answer.TheVariants.{Nothing}
 use Rattle.wfe_core.specs.Calls.{Holds, Answering}
 use Rattle.wfe_core.specs.DeskHeld.{desk_of}
 use Rattle.wfe_call_rounds.specs.Rounds.{close_at, close_phase}

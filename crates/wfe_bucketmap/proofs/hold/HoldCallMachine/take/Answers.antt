@@ -4,10 +4,11 @@ use Rattle.wfe_core.specs.Memory.{bump}
 use Rattle.wfe_core.specs.Posts.{counted}
 use Rattle.wfe_core.specs.Steps.{phase_turn}
 use Rattle.wfe_call_rounds.specs.Steps.{Steps}
-use Rattle.wfe_call_rounds.proofs.Taken.{bumped, took_from, steps_along}
+use Rattle.wfe_call_rounds.proofs.Taken.{took_from, steps_along}
 use Rattle.wfe_bucketmap.specs.Holds.{hold_phase}
 use Rattle.wfe_bucketmap.proofs.Holding.{hold_phase_counted, hold_ready}
 use Rattle.wfe_bucketmap.proofs.hold.HoldCallMachine.take.Goals as goal
+use Rattle.wfe_call_rounds.proofs.iface.Followed.{bumped}
 
 pub step-answer-requires-clause-ready : goal.step-answer-requires-clause-ready
 step-answer-requires-clause-ready g c =

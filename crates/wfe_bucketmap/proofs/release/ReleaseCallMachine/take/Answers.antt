@@ -1,12 +1,13 @@
 use Rattle.std.proofs.Common.{◌≡◌, None, Some, refl, arith}
-use Rattle.wfe_defs.specs.declared.call.Answer.TheVariants.{Released}
+use Rattle.wfe_core.specs.defs.declared.call.Answer.TheVariants.{Released}
 use Rattle.wfe_core.specs.Calls.{Releases, Runs}
 use Rattle.wfe_core.specs.DeskHeld.{desk_of}
 use Rattle.wfe_core.specs.Memory.{bump}
 use Rattle.wfe_core.specs.Posts.{counted}
 use Rattle.wfe_core.specs.Steps.{phase_turn}
-use Rattle.wfe_call_rounds.proofs.Taken.{bumped, run_goes, run_ends, took_from}
+use Rattle.wfe_call_rounds.proofs.Taken.{run_goes, run_ends, took_from}
 use Rattle.wfe_bucketmap.proofs.release.ReleaseCallMachine.take.Goals as goal
+use Rattle.wfe_call_rounds.proofs.iface.Followed.{bumped}
 
 pub returns-in-None-clause-took : goal.returns-in-None-clause-took
 returns-in-None-clause-took g c =

@@ -1,6 +1,6 @@
 -- The seats are made one after another, and no call has begun.
 use Rattle.std.proofs.Common.{ap, rules}
-use Rattle.wfe_words.specs.declared.config.Config.{Config}
+use Rattle.wfe_core.specs.words.declared.config.Config.{Config}
 use Rattle.wfe_drive.proofs.Reached.{seats_more, table_first, table_reached}
 use Rattle.wfe_drive.proofs.rig.Rig.new.Goals as goal
 

@@ -1,7 +1,7 @@
 use Rattle.std.proofs.Common.{◌≡◌}
 use Rattle.std.specs.Prelude.{map}
 use Rattle.std.specs.List.{range_with_len}
-use Rattle.wfe_cells.specs.Unit.{fresh_seat}
+use Rattle.wfe_drive_cells.specs.Unit.{fresh_seat}
 use Rattle.wfe_drive.proofs.rig.Rig.new.Given as goal
 
 -- the seats so far

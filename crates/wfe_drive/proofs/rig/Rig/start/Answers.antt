@@ -1,9 +1,9 @@
 -- A call begins where the history goes on with its beginning.
 use Rattle.std.proofs.Common.{ap, subst, sym, ◌∙◌}
-use Rattle.wfe_words.specs.declared.config.Config.{Config}
-use Rattle.wfe_words.specs.declared.layout.Layout.{Layout}
+use Rattle.wfe_core.specs.words.declared.config.Config.{Config}
+use Rattle.wfe_core.specs.words.declared.layout.Layout.{Layout}
 use Rattle.wfe_core.specs.Locals.{begun_post}
-use Rattle.wfe_cells.specs.Unit.{TableView, after_start}
+use Rattle.wfe_drive_cells.specs.Unit.{TableView, after_start}
 use Rattle.wfe_drive.specs.Seats.{Suits}
 use Rattle.wfe_drive.proofs.Reached.{began_from, layout_from, seat_begun}
 use Rattle.wfe_drive.proofs.rig.Rig.start.Goals as goal

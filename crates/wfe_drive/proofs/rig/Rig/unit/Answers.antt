@@ -1,6 +1,6 @@
 -- The history that the table has come to gives the seat's code what it needs, and goes on with a step.
 use Rattle.std.proofs.Common.{slice_set, subst, ◌<◌}
-use Rattle.wfe_cells.specs.Unit.{TableView}
+use Rattle.wfe_drive_cells.specs.Unit.{TableView}
 use Rattle.wfe_drive.specs.Reached.{units_left}
 use Rattle.wfe_drive.proofs.Reached.{after_from, ready_from}
 use Rattle.wfe_drive.proofs.rig.Rig.unit.Goals as goal

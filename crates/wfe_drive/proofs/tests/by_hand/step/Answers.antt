@@ -1,6 +1,6 @@
 -- The step finds what it may, and leaves the protection at its next one.
 use Rattle.std.proofs.Common.{rules, subst}
-use Rattle.wfe_words.specs.declared.config.Config.{Config}
+use Rattle.wfe_core.specs.words.declared.config.Config.{Config}
 use Rattle.wfe_drive.specs.ByHand.{IsSeen, LeadsWithin}
 use Rattle.wfe_drive.proofs.ByHand.{if_none, step_plausible, step_poised}
 use Rattle.wfe_drive.proofs.tests.by_hand.step.Goals as goal

@@ -1,6 +1,6 @@
 use Rattle.std.proofs.Common.{◌≡◌, arith}
 use Rattle.wfe_core.specs.Memory.{bump}
-use Rattle.wfe_defs.specs.declared.event.Root.TheVariants.{Next}
+use Rattle.wfe_core.specs.defs.declared.event.Root.TheVariants.{Next}
 use Rattle.wfe_iface.specs.Follows.{alone}
 use Rattle.wfe_iface.proofs.Followed.{bumped, goes_alone}
 use Rattle.wfe_iface.proofs.follow.FollowMachine.take.Goals as goal

@@ -1,5 +1,5 @@
 use Rattle.std.proofs.Common.{◌≡◌, None, refl}
-use Rattle.wfe_defs.specs.declared.event.Root.TheVariants.{Tail}
+use Rattle.wfe_core.specs.defs.declared.event.Root.TheVariants.{Tail}
 use Rattle.wfe_core.specs.Calls.{Enqueues, Opens, Runs}
 use Rattle.wfe_core.specs.DeskHeld.{desk_of}
 use Rattle.wfe_core.specs.Phases.Ending.{Protected}

@@ -1,11 +1,11 @@
 use Rattle.std.proofs.Common.{arith}
 use Rattle.wfe_core.specs.declared.post.Post.{Post}
 use Rattle.wfe_core.specs.DeskHeld.{desk_of}
-use Rattle.wfe_call_rounds.proofs.Taken.{bumped}
 use Rattle.wfe_msqueue.specs.Enqueues.{kept_of}
 use Rattle.wfe_msqueue.specs.EnqueueStates.{enqueue_phase}
 use Rattle.wfe_msqueue.proofs.Counts.{enqueue_counted, took_counted}
 use Rattle.wfe_msqueue.proofs.enqueue.EnqueueCallMachine.take.Goals as goal
+use Rattle.wfe_call_rounds.proofs.iface.Followed.{bumped}
 
 pub returns-clause-took : goal.returns-clause-took
 returns-clause-took g c =

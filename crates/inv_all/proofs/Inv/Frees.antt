@@ -1,0 +1,93 @@
+-- A row that is given back is none that a call reads of, works on, or tries to protect.
+use Rattle.std.proofs.Common.{ℕ, ◌≡◌, ◌+◌, Bool, true, false, refl, sym, subst, arith, Some}
+use Rattle.std.proofs.lemmas.Bool.Decides.{nat_tests}
+use Rattle.std.specs.Prelude.{◌==◌}
+use Rattle.wfe_core.specs.words.declared.layout.Layout.{Layout}
+use Rattle.wfe_core.specs.defs.declared.event.Root.{Root}
+use Rattle.wfe_core.specs.declared.post.Post.{Post}
+use Rattle.wfe_core.specs.Posts.{stands}
+use Rattle.wfe_core.specs.Phases.{ProtectAt, Base}
+use Rattle.wfe_core.specs.Phases.ProtectAt.{LoadClock, PublishEra, LoadLink, CheckClock, PublishRequest, LoadOwnClock, PublishHelper, LoadOwnLink, CheckOwnClock, AnswerOwn, LoadAnswer, TakeAnswer, WithdrawRequest, WithdrawHelper, LoadWithin, CheckUpper, RaiseUpper}
+use Rattle.wfe_core.specs.Phases.Base.{Begin, Protect, Reload, Clear, Finish, Release, Allocate, Write, GiveUp, Retire, Move}
+use Rattle.wfe_core.specs.Calls.{Task, Gets, Changes, Holds, Enqueues, Dequeues, Opens, AfterScan, GiveBack, Phase, Scans}
+use Rattle.wfe_core.specs.World.{World, finds}
+use Rattle.inv_ends.specs.shapes.Seats.{task_root, Run}
+use Rattle.inv_steps_left.specs.rows.Hands.{row_move}
+use Rattle.inv_steps_left.specs.rows.Rows.{Status, View, is_settled}
+use Rattle.inv_steps_left.specs.rows.Tries.{at_tries, base_tries}
+use Rattle.inv_ends.specs.covers.Covers.{takes_or_frees, shown, CoversNeeds, Scanning}
+use Rattle.wfe_core.specs.Guards.{own_guard}
+use Rattle.inv_ends.specs.covers.Held.{under, Held}
+use Rattle.inv_ends.proofs.covers.Begun.{standing_stays}
+use Rattle.inv_ends.proofs.covers.Kept.{spans_past}
+use Rattle.inv_steps_left.specs.links.Tracked.{carries_at, carries_base, root_base}
+use Rattle.wfe_core.proofs.Facts.{true_not_false, same_number}
+
+-- the row that a scan gives back is made free
+pub back_frees : (w : World) (i : ℕ) (later : AfterScan) (place slot : ℕ) → (w.seat i).phase ≡ Scans later (GiveBack place slot) → takes_or_frees (row_move (w.seat i).phase (w.seat i).post (finds w i)) slot ≡ true
+back_frees w i later place slot e = let P : Phase → Type 0 = λ y. takes_or_frees (row_move y (w.seat i).post (finds w i)) slot ≡ true in subst P (sym e) (same_number slot)
+
+-- so it does not stand
+pub back_apart : (w : World) (i k j : ℕ) (v : View) (later : AfterScan) (place slot : ℕ) → CoversNeeds w i v → Scanning w → Held w v → (w.seat i).phase ≡ Scans later (GiveBack place slot) → stands (w.seat k).post j ≡ Some slot → ⊥
+back_apart w i k j v later place slot n c h e s = true_not_false (takes_or_frees (row_move (w.seat i).phase (w.seat i).post (finds w i)) slot) (back_frees w i later place slot e) (standing_stays w i k j slot v n c h s)
+
+-- what stands was linked
+pub stands_settled : (w : World) (k j s : ℕ) (v : View) → Held w v → stands (w.seat k).post j ≡ Some s → is_settled (v.status s) ≡ true
+stands_settled w k j s v h e = let c = (h.stood k j s e).covers in spans_past (shown w (own_guard w.layout.config.scheme k j)) (v.birth s) (v.status s) c.spans
+
+-- the root of a task leads to rows that are linked
+task_under : (status : ℕ → Status) (buckets : ℕ) (task : Task) → under status (task_root buckets task) ≡ true
+task_under status buckets (Gets key) = refl
+task_under status buckets (Changes kept) = refl
+task_under status buckets (Holds key) = refl
+task_under status buckets (Enqueues kept) = refl
+task_under status buckets Dequeues = refl
+
+under_by : (status : ℕ → Status) (buckets : ℕ) (task : Task) (root : Root) → root ≡ task_root buckets task → under status root ≡ true
+under_by status buckets task root e = subst (λ (r : Root). under status r ≡ true) (sym e) (task_under status buckets task)
+
+pub tried_under : (clock upto : ℕ) (status : ℕ → Status) (layout : Layout) (task : Task) (base : Base) (post : Post) (s : ℕ) → Run layout (Opens task) base post → base_tries clock upto base s ≡ true → under status (root_base base) ≡ true
+tried_under clock upto status layout task (Protect aim index root steps at) post s r t = under_by status layout.config.buckets task root r.shape.of
+tried_under clock upto status layout task (Begin at) post s r t = absurd (cc)
+tried_under clock upto status layout task (Reload parent index slot era steps) post s r t = absurd (cc)
+tried_under clock upto status layout task (Clear index) post s r t = absurd (cc)
+tried_under clock upto status layout task Finish post s r t = absurd (cc)
+tried_under clock upto status layout task Release post s r t = absurd (cc)
+tried_under clock upto status layout task (Allocate at) post s r t = absurd (cc)
+tried_under clock upto status layout task (Write slot row place) post s r t = absurd (cc)
+tried_under clock upto status layout task (GiveUp slot) post s r t = absurd (cc)
+tried_under clock upto status layout task (Retire at) post s r t = absurd (cc)
+tried_under clock upto status layout task (Move at) post s r t = absurd (cc)
+
+-- a protection that tries a link carries it
+tried_at : (clock upto : ℕ) (at : ProtectAt) (s : ℕ) → at_tries clock upto at s ≡ true → carries_at clock upto at (s + 1) ≡ true
+tried_at clock upto (LoadClock tries) s h = h
+tried_at clock upto (PublishEra era tries) s h = h
+tried_at clock upto (LoadLink era tries) s h = h
+tried_at clock upto (CheckClock era tries link) s h = h
+tried_at clock upto PublishRequest s h = h
+tried_at clock upto LoadOwnClock s h = h
+tried_at clock upto (PublishHelper first era last) s h = h
+tried_at clock upto (LoadOwnLink first era last) s h = h
+tried_at clock upto (CheckOwnClock first era last link) s h = h
+tried_at clock upto (AnswerOwn first era link) s h = h
+tried_at clock upto (LoadAnswer first) s h = h
+tried_at clock upto (TakeAnswer link era) s h = h
+tried_at clock upto (WithdrawRequest link era) s h = h
+tried_at clock upto (WithdrawHelper link era) s h = h
+tried_at clock upto LoadWithin s h = h
+tried_at clock upto (CheckUpper link) s h = h
+tried_at clock upto (RaiseUpper era) s h = h
+
+pub tried_carried : (clock upto : ℕ) (base : Base) (s : ℕ) → base_tries clock upto base s ≡ true → carries_base clock upto base (s + 1) ≡ true
+tried_carried clock upto (Protect aim index root steps at) s h = tried_at clock upto at s h
+tried_carried clock upto (Begin at) s h = absurd (cc)
+tried_carried clock upto (Reload parent index slot era steps) s h = absurd (cc)
+tried_carried clock upto (Clear index) s h = absurd (cc)
+tried_carried clock upto Finish s h = absurd (cc)
+tried_carried clock upto Release s h = absurd (cc)
+tried_carried clock upto (Allocate at) s h = absurd (cc)
+tried_carried clock upto (Write slot row place) s h = absurd (cc)
+tried_carried clock upto (GiveUp slot) s h = absurd (cc)
+tried_carried clock upto (Retire at) s h = absurd (cc)
+tried_carried clock upto (Move at) s h = absurd (cc)

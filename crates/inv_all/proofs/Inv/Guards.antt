@@ -1,0 +1,146 @@
+-- What the covers of rows take of other parts.
+use Rattle.std.proofs.Common.{ℕ, ◌≡◌, ◌≤◌, ◌<◌, Bool, true, false, refl, sym, subst, ap, ◌∙◌, arith, None, Some}
+use Rattle.std.proofs.lemmas.Bool.Decides.{nat_tests}
+use Rattle.std.specs.Prelude.{◌==◌, length, if◌then◌else◌}
+use Rattle.wfe_core.specs.words.Place.{is_valid}
+use Rattle.wfe_core.specs.words.Place.Place.{Clock, Index as IndexOf}
+use Rattle.wfe_core.specs.defs.declared.event.Guard.TheVariants.{Index}
+use Rattle.wfe_core.specs.defs.declared.event.Root.{Root}
+use Rattle.wfe_core.specs.declared.post.Post.{Post}
+use Rattle.wfe_core.specs.Guards.{one_era, from_to}
+use Rattle.wfe_core.specs.Posts.{stands}
+use Rattle.wfe_core.specs.Phases.{Aim, Tries, Base}
+use Rattle.wfe_core.specs.Phases.ProtectAt.{LoadLink}
+use Rattle.wfe_core.specs.Phases.Base.{Protect}
+use Rattle.wfe_core.specs.Calls.{Why, Opens, FollowsHead, Fills, ClearsNext, Clears, Finishes, GivesUp, Retires, Tidies, Advances, Releases, DequeueAt, LoadTail, SwingTail, TakeNumber, TakeValue, ExchangeHead, Getting, Changing, Enqueuing, Dequeuing, Phase, Idle, Runs, Scans, Works}
+use Rattle.wfe_core.proofs.Ranges.{bounds_of}
+use Rattle.wfe_core.specs.World.{World, step}
+use Rattle.inv_ends.specs.shapes.Eras.{Eras}
+use Rattle.inv_ends.specs.shapes.Seats.{Seats}
+use Rattle.inv_ends.proofs.shapes.Decode.{clock_next}
+use Rattle.inv_ends.specs.requests.Deals.{ahead}
+use Rattle.inv_ends.specs.requests.Parents as asked
+use Rattle.inv_ends.specs.requests.Roles.{publishes}
+use Rattle.inv_ends.specs.requests.Standing.{Requests, role_of, has_failed}
+use Rattle.inv_ends.specs.requests.Views.{Deal, Role, View as Asked}
+use Rattle.inv_ends.specs.requests.Views.Deal.{Quiet, Open, Answered, Passed, Taken}
+use Rattle.inv_ends.specs.requests.Views.Role.{Attempts}
+use Rattle.inv_steps_left.specs.rows.Agree.{Agree}
+use Rattle.inv_steps_left.specs.rows.Chain.{Both}
+use Rattle.inv_steps_left.specs.rows.Hands.{is_right, runs_right}
+use Rattle.inv_steps_left.specs.rows.Queue.{Line}
+use Rattle.inv_steps_left.specs.rows.Rows.{View}
+use Rattle.inv_ends.specs.covers.Covers.{Scanning, shown}
+use Rattle.inv_ends.specs.covers.Held.{index_base, follows_row, BaseNeeds, HeldNeeds}
+use Rattle.inv_ends.specs.covers.Parents.{has_parent, has_parent_why, has_parent_dequeue, Parents, ParentsNeeds}
+use Rattle.inv_ends.specs.covers.Rests.{Rests, RestsNeeds}
+use Rattle.inv_ends.proofs.covers.Following.{parents_give}
+use Rattle.inv_ends.proofs.covers.Guards.{guards_fit}
+use Rattle.inv_ends.proofs.covers.Resting.{rests_give}
+use Rattle.inv_all.proofs.Inv.Rows.{covers_need, roots_need}
+use Rattle.inv_all.proofs.Inv.Shapes.{eras_of, index_in, followed_of, grows_of, era_most}
+use Rattle.inv_all.proofs.Inv.Shown.{clock_small, word_era, shown_span}
+use Rattle.inv_handover.proofs.Deals.{few_ahead}
+use Rattle.inv_handover.proofs.Asks.{run_of}
+use Rattle.wfe_core.proofs.Facts.{below_length}
+
+mark_small : (w : World) (i j : ℕ) (z : Asked) → is_valid w.layout ≡ true → Eras w → Requests w z → z.mark i j < 4294967296
+mark_small w i j z d a q =
+    let m = q.parts.marks i j in
+    let f = few_ahead (z.deal i) j in
+    let l = q.parts.low i j in
+    let c = q.words.clocks in
+    let s = clock_small w d a in
+    omega arith
+
+same_era : (x era : ℕ) → (x == era) ≡ true → 0 < era → one_era x ≡ from_to era era
+same_era x era e p = let same : x ≡ era = grind (arith, nat_tests) in subst (λ (y : ℕ). one_era y ≡ from_to era era) (sym same) (some_era era (era == 0) refl p)
+  where
+    some_era : (era : ℕ) (none : Bool) → (era == 0) ≡ none → 0 < era → (if none then None else from_to era era) ≡ from_to era era
+    some_era era true e p = absurd (grind (arith, nat_tests))
+    some_era era false e p = refl
+
+pub published_of : (w : World) (i : ℕ) (z : Asked) (why : Why) (aim : Aim) (index : ℕ) (root : Root) (steps era : ℕ) (tries : Tries) → is_valid w.layout ≡ true → Eras w → Requests w z → (w.seat i).phase ≡ Runs why (Protect aim index root steps (LoadLink era tries))
+    → shown w (Index i index) ≡ from_to era era
+published_of w i z why aim index root steps era tries d a q e =
+    let r : Attempts index era (has_failed tries) ≡ z.role i = ap (role_of w.layout) (sym e) ∙ q.locals.roles i in
+    let p : publishes (Attempts index era (has_failed tries)) (z.era i) ≡ true = subst (λ (x : Role). publishes x (z.era i) ≡ true) (sym r) (q.parts.published i) in
+    let x = eras_of w i why (Protect aim index root steps (LoadLink era tries)) a e in
+    let y = x.some in
+    ap one_era (word_era (w.mem (IndexOf i index)) (z.era i index) (z.mark i index) (mark_small w i index z d a q) (q.words.indexes i index)) ∙ same_era (z.era i index) era p (omega arith)
+
+-- the row whose next link is followed stands at index 0
+why_tends : (why : Why) (base : Base) (post : Post) (row : ℕ) → asked.why_stands why base post → has_parent_why why row ≡ true → stands post 0 ≡ Some row
+why_tends (FollowsHead head tail) base post row s h = let same : head ≡ row = grind (arith, nat_tests) in s ∙ ap Some same
+why_tends (Opens task) base post row s h = absurd (cc)
+why_tends (Fills task) base post row s h = absurd (cc)
+why_tends (ClearsNext next) base post row s h = absurd (cc)
+why_tends (Clears task next) base post row s h = absurd (cc)
+why_tends (Finishes task next) base post row s h = absurd (cc)
+why_tends (GivesUp answer) base post row s h = absurd (cc)
+why_tends (Retires answer) base post row s h = absurd (cc)
+why_tends (Tidies later) base post row s h = absurd (cc)
+why_tends Advances base post row s h = absurd (cc)
+why_tends (Releases key) base post row s h = absurd (cc)
+
+dequeue_tends : (at : DequeueAt) (post : Post) (row : ℕ) → stands post 0 ≡ Some (asked.head_in at) → has_parent_dequeue at row ≡ true → stands post 0 ≡ Some row
+dequeue_tends (LoadTail head) post row s h = let same : head ≡ row = grind (arith, nat_tests) in s ∙ ap Some same
+dequeue_tends (SwingTail head next) post row s h = absurd (cc)
+dequeue_tends (TakeNumber head next) post row s h = absurd (cc)
+dequeue_tends (TakeValue head next number) post row s h = absurd (cc)
+dequeue_tends (ExchangeHead head next number value) post row s h = absurd (cc)
+
+tends : (phase : Phase) (post : Post) (row : ℕ) → asked.phase_stands phase post → has_parent phase row ≡ true → stands post 0 ≡ Some row
+tends Idle post row s h = absurd (cc)
+tends (Runs why base) post row s h = why_tends why base post row s h
+tends (Scans later at) post row s h = absurd (cc)
+tends (Works (Getting key at)) post row s h = absurd (cc)
+tends (Works (Changing kept at)) post row s h = absurd (cc)
+tends (Works (Enqueuing kept at)) post row s h = absurd (cc)
+tends (Works (Dequeuing at)) post row s h = dequeue_tends at post row s h
+
+room_of : (length : ℕ) → length ≡ 8 → 0 < length
+room_of length e = omega arith
+
+pub parents_of : (w : World) (i k : ℕ) (why : Why) (base : Base) (p : ℕ) → Seats w → asked.Parents w → (w.seat k).phase ≡ Runs why base → follows_row base p ≡ true → stands (w.seat k).post 0 ≡ Some p
+parents_of w i k why base p s a e f =
+    let n : ParentsNeeds w i = record { shape = λ j reason one q. run_of w j reason one s q; room = room_of (length (w.seat i).post.standing) (s.fits i).post.standing } in
+    let h : Parents w = record { stand = λ j row t. tends (w.seat j).phase (w.seat j).post row (a.stand j) t } in
+    parents_give w i k why base p n h e f
+
+-- nothing stands where the seat that steps takes from what a guard publishes
+right_of : (w : World) (i : ℕ) (v : View) (why : Why) (base : Base) → Agree w v → (w.seat i).phase ≡ Runs why base → runs_right why base ≡ true
+right_of w i v why base a e = subst (λ (y : Phase). is_right y (w.seat i).desk.list ≡ true) e (a.plays i).right
+
+pub rests_need : (w : World) (i : ℕ) (v : View) → Seats w → Agree w v → RestsNeeds w i
+rests_need w i v s a = record { shape = λ why base e. run_of w i why base s e; right = λ why base e. right_of w i v why base a e }
+
+pub base_need : (w : World) (i : ℕ) (v : View) (z : Asked) (why : Why) (base : Base) → i < w.layout.config.seats → is_valid w.layout ≡ true → Seats w → Eras w → Agree w v → Requests w z → Rests w → (w.seat i).phase ≡ Runs why base → BaseNeeds w i base
+base_need w i v z why base b d s a g q t e =
+    let r = run_of w i why base s e in
+    let n = index_in w.layout why base (w.seat i).post d r in
+    let m = (bounds_of w.layout d).indexes in
+    record {
+      fits = r.fits;
+      guard = guards_fit w.layout.config i (index_base base) b n;
+      index = below_length (index_base base) w.layout.config.indexes (length (w.seat i).post.standing) n m.1 (s.fits i).post.standing;
+      followed = followed_of w.layout why base (w.seat i).post r;
+      grows = grows_of w.layout (w.mem Clock) why base (w.seat i).post r (eras_of w i why base a e);
+      rests = λ j h. rests_give w i why base j (rests_need w i v s g) t e h;
+      published = λ aim index root steps era tries o. published_of w i z why aim index root steps era tries d a q (e ∙ ap (Runs why) o);
+    }
+
+pub held_need : (w : World) (i : ℕ) (v : View) (l : Line) (z : Asked) → i < w.layout.config.seats → is_valid w.layout ≡ true → Seats w → Eras w → Both w v l → Requests w z → asked.Parents w → Scanning w → Rests w → Eras (step w i) → HeldNeeds w i v
+held_need w i v l z b d s a g q p c t n = record {
+  covers = covers_need w i v l d s a g;
+  scans = c;
+  seat = (s.fits i).post.seat;
+  base = λ why base e. base_need w i v z why base b d s a g.rows q t e;
+  roots = roots_need w v l d a g;
+  spans = λ h. shown_span w i d a;
+  spans_next = λ h. shown_span (step w i) i d n;
+  eras = λ k why base e. era_most w.layout (w.mem Clock) (w.seat k).post base (a.seats k).post.span (eras_of w k why base a e);
+  some = a.some;
+  clock = (clock_next w i a).rises;
+  parents = λ k why base r e f. parents_of w i k why base r s p e f;
+}

@@ -1,0 +1,15 @@
+pub use Rattle.inv_steps_left.proofs.contents as contents
+pub use Rattle.inv_ends.proofs.covers as covers
+pub use Rattle.inv_ends.proofs as ends
+pub use Rattle.inv_handover.proofs as handover
+pub use Rattle.inv_steps_left.proofs.links as links
+pub use Rattle.inv_ends.proofs.requests as requests
+pub use Rattle.inv_steps_left.proofs.rows as rows
+pub use Rattle.inv_ends.proofs.shapes as shapes
+pub use Rattle.inv_steps_left.proofs as steps_left
+pub use Rattle.model_history.proofs as history
+pub mod Each
+pub mod Finish
+pub mod Inv
+pub mod Machines
+pub mod Outcomes

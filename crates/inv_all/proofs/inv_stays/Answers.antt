@@ -1,0 +1,5 @@
+use Rattle.inv_all.proofs.Inv.Tells as tells
+use Rattle.inv_all.proofs.inv_stays.Goals as goal
+
+pub returns : goal.returns
+returns c = tells.inv_stays

@@ -1,0 +1,56 @@
+-- The invariant, and that it holds at the start, when a call begins, and over each step.
+use Rattle.std.specs.Prelude.{ℕ, ◌≡◌, ◌<◌, true, false, Some}
+use Rattle.wfe_core.specs.words.Place.{is_valid}
+use Rattle.wfe_core.specs.words.declared.layout.Layout.{Layout}
+use Rattle.wfe_core.specs.defs.declared.call.Call.{Call}
+use Rattle.wfe_core.specs.MayStep.{MayStep}
+use Rattle.wfe_core.specs.Posts.{stands}
+use Rattle.wfe_core.specs.World.{World, start, begin, step, is_busy, finds, told_in}
+use Rattle.inv_ends.specs.requests.Views.{View as Asked}
+use Rattle.inv_steps_left.specs.rows.Hands.{row_move}
+use Rattle.inv_steps_left.specs.rows.Queue.{Line}
+use Rattle.inv_steps_left.specs.rows.Rows.{View}
+use Rattle.inv_ends.specs.covers.Covers.{takes_or_frees}
+use Rattle.wfe_core.specs.Guards.{own_guard}
+use Rattle.inv_ends.specs.covers.Held.{Holds}
+use Rattle.inv_steps_left.specs.contents.Told.{AllRight}
+use Rattle.inv_steps_left.specs.contents.Gives.{AllQueueRight}
+use Rattle.inv_all.specs.Known.{Known}
+
+-- views exist of which all parts hold
+pub record Inv (w : World) : Type 0 where
+  pub rows : View
+  pub line : Line
+  pub asked : Asked
+  pub known : Known w rows line asked
+
+-- it holds at the start of a table with a valid setting, and is kept where a call begins on a seat that is not busy, and by each
+-- step of a seat of the table
+abbrev pub InvStart : Type 0
+InvStart = (layout : Layout) → is_valid layout ≡ true → Inv (start layout)
+
+abbrev pub InvBegin : Type 0
+InvBegin = (w : World) (i : ℕ) (call : Call) → is_busy w i ≡ false → Inv w → Inv (begin w i call)
+
+abbrev pub InvKept : Type 0
+InvKept = (w : World) (i : ℕ) → i < w.layout.config.seats → Inv w → Inv (step w i)
+
+-- what the code of a seat's step may rest on
+abbrev pub InvReady : Type 0
+InvReady = (w : World) (i : ℕ) → i < w.layout.config.seats → Inv w → MayStep w i
+
+-- what a step tells of the map and of the queue is right by the book before it
+pub record TellsRight (w : World) (i : ℕ) : Type 0 where
+  pub map : AllRight w.layout.config.buckets w.book (told_in w i)
+  pub queue : AllQueueRight w.book (told_in w i)
+
+abbrev pub InvTells : Type 0
+InvTells = (w : World) (i : ℕ) → i < w.layout.config.seats → Inv w → TellsRight w i
+
+-- where a row stands at an index of a seat, a guard of the table covers it, and no step of any seat makes it free or claims it
+pub record StandsSafe (w : World) (i k j s : ℕ) (v : View) : Type 0 where
+  pub held : Holds w v (own_guard w.layout.config.scheme k j) s
+  pub stays : takes_or_frees (row_move (w.seat i).phase (w.seat i).post (finds w i)) s ≡ false
+
+abbrev pub InvStays : Type 0
+InvStays = (w : World) (i k j s : ℕ) (a : Inv w) → stands (w.seat k).post j ≡ Some s → StandsSafe w i k j s a.rows

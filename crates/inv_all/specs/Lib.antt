@@ -1,0 +1,18 @@
+pub use Rattle.inv_steps_left.specs.contents as contents
+pub use Rattle.inv_ends.specs.covers as covers
+pub use Rattle.inv_ends.specs as ends
+pub use Rattle.inv_handover.specs as handover
+pub use Rattle.inv_steps_left.specs.links as links
+pub use Rattle.inv_ends.specs.requests as requests
+pub use Rattle.inv_steps_left.specs.rows as rows
+pub use Rattle.inv_ends.specs.shapes as shapes
+pub use Rattle.inv_steps_left.specs as steps_left
+pub use Rattle.model_history.specs as history
+pub mod Ends
+pub mod Finish
+pub mod Histories
+pub mod Inv
+pub mod Known
+pub mod Outcomes
+pub mod Shows
+pub mod Sights

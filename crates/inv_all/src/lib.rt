@@ -1,0 +1,85 @@
+//! The invariant of the machines, joined of its parts, and what it gives of each history. Each function here does nothing, and carries
+//! a theorem.
+#![tactic(auto)]
+
+ghost use Rattle.inv_all.specs.Ends.{InvEnds};
+ghost use Rattle.inv_all.specs.Finish.{CallsFinish};
+ghost use Rattle.inv_all.specs.Histories.{InvReached, ReachedReady};
+ghost use Rattle.inv_all.specs.Inv.{InvBegin, InvKept, InvReady, InvStart, InvStays, InvTells};
+ghost use Rattle.inv_all.specs.Outcomes.{MachinesEnd};
+ghost use Rattle.inv_all.specs.Shows.{InvShows, InvTimes};
+
+/// The invariant holds at the start of a table with a valid setting.
+pub fn inv_start()
+    ensures { InvStart }
+{}
+
+/// A call that begins on a seat that is not busy keeps it.
+pub fn inv_begin()
+    ensures { InvBegin }
+{}
+
+/// Each step of a seat of the table keeps it.
+pub fn inv_kept()
+    ensures { InvKept }
+{}
+
+/// The code of a seat's next step has what it needs: its word is in the table, and what it knows and
+/// what it finds is in range.
+pub fn inv_ready()
+    ensures { InvReady }
+{}
+
+/// Each World that a history comes to has the invariant, whatever calls begin and whichever seats
+/// make their steps.
+pub fn inv_reached()
+    ensures { InvReached }
+{}
+
+/// In each such World the code of each seat may make its next step.
+pub fn reached_ready()
+    ensures { ReachedReady }
+{}
+
+/// What a step tells of the map and of the queue is right by what was told before it.
+pub fn inv_tells()
+    ensures { InvTells }
+{}
+
+/// A row that stands at an index of a seat is covered by the guard of that index, and no step of any
+/// seat makes it free or claims it.
+pub fn inv_stays()
+    ensures { InvStays }
+{}
+
+/// A protection of Wait-Free Eras has made no more steps than it may, each step of a move of the
+/// clock leaves fewer, and the clock waits for a pending request.
+pub fn inv_times()
+    ensures { InvTimes }
+{}
+
+/// The words show each bucket's last version and its pairs, no more was taken than queued, and where
+/// the head's row has no next link all that was queued was taken.
+pub fn inv_shows()
+    ensures { InvShows }
+{}
+
+/// Each step that does not end its call leaves it fewer steps, no step leaves another call more, and
+/// no call has 2 ^ 62 steps left: so each call ends, whatever other seats do.
+pub fn inv_ends()
+    ensures { InvEnds }
+{}
+
+/// In each World that a history comes to: a walk for a free row ends with Full only where each row
+/// was seen taken at a step of this walk; a mover of the clock exchanges it only where no request
+/// that it saw pending is pending any more; a row that a step holds is covered by the guard of its
+/// index; and a row that is given, unused, retired or back was free or the seat's own.
+pub fn machines_end()
+    ensures { MachinesEnd }
+{}
+
+/// Whatever calls other seats begin and whichever steps they make: among items that have more steps of
+/// a seat than its call has left, the call ends.
+pub fn calls_finish()
+    ensures { CallsFinish }
+{}

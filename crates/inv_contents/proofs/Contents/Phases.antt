@@ -1,0 +1,116 @@
+-- One step of a seat at any phase, where it links no row.
+use Rattle.std.proofs.Common.{ℕ, ◌+◌, ◌%◌, ◌≡◌, Bool, true, false, refl, sym, subst, List}
+use Rattle.std.specs.Prelude.{◌==◌}
+use Rattle.inv_rows.specs.words.Place.{Place}
+use Rattle.inv_rows.specs.words.Place.Place.{Bucket}
+use Rattle.inv_rows.specs.defs.declared.event.Root.TheVariants as roots
+use Rattle.inv_rows.specs.defs.declared.lifetime.Lifetime.{Lifetime}
+use Rattle.inv_rows.specs.model.declared.post.Post.{Post}
+use Rattle.inv_rows.specs.model.Desks.{Desk}
+use Rattle.inv_rows.specs.model.Machine as machine
+use Rattle.inv_rows.specs.model.Machine.{base_move}
+use Rattle.inv_rows.specs.model.Memory.{place_in, found, written}
+use Rattle.inv_rows.specs.model.Phases.{Base, Outcome, Turn}
+use Rattle.inv_rows.specs.model.Get as gets
+use Rattle.inv_rows.specs.model.Change as alters
+use Rattle.inv_rows.specs.model.Enqueue as enqueues
+use Rattle.inv_rows.specs.model.Dequeue as dequeues
+use Rattle.inv_rows.specs.model.Scan as scan
+use Rattle.inv_rows.specs.model.Steps.{run_turn, phase_move, phase_turn, work_move, work_turn}
+use Rattle.inv_rows.specs.model.Calls.{ChangeKept, Task, Gets, Changes, Holds, Enqueues, Dequeues, Why, Opens, FollowsHead, Fills, ClearsNext, Clears, Finishes, GivesUp, Retires, Tidies, Advances, Releases, GetAt, FindVersion, FindCount, FindKey, FindValue, ChangeAt, LoadVersion, LoadCount, LoadKey, LoadValue, ExchangeRoot, Work, Getting, Changing, Enqueuing, Dequeuing, Phase, Idle, Runs, Scans, Works}
+use Rattle.inv_rows.specs.Hands.{is_right, runs_right, task_fills}
+use Rattle.inv_contents.specs.Shelf.{Shelf}
+use Rattle.inv_contents.specs.Knows.{Ground, Knows, TaskKnows, WhyKnows, WorkKnows, ChangeKnows, reads_in, changes_in, work_reads}
+use Rattle.inv_contents.proofs.Contents.Lasts.{on}
+use Rattle.inv_contents.proofs.Contents.Rounds.{Turns, scan_turns}
+use Rattle.inv_contents.proofs.Contents.Turns.{GetOwes, Shown, get_turns, change_turns, missed_turns}
+use Rattle.inv_contents.proofs.Contents.Steps.{item_turns, joins, Holding, plain_turns, get_resumed, change_resumed, fill_turns, enqueue_turns, dequeue_turns}
+use Rattle.inv_contents.proofs.Contents.Machines.{base_calm}
+
+abbrev pub change_links : ChangeKept → ChangeAt → ℕ → Bool
+change_links kept (LoadVersion slot) word = false
+change_links kept (LoadCount slot) word = false
+change_links kept (LoadKey slot count) word = false
+change_links kept (LoadValue slot count key) word = false
+change_links kept (ExchangeRoot slot) word = word == kept.link
+
+abbrev pub work_links : Work → ℕ → Bool
+work_links (Getting key at) word = false
+work_links (Changing kept at) word = change_links kept at word
+work_links (Enqueuing kept at) word = joins at word
+work_links (Dequeuing at) word = false
+
+-- a step that found this word links a row
+abbrev pub links_in : Phase → ℕ → Bool
+links_in Idle word = false
+links_in (Runs why base) word = false
+links_in (Scans later at) word = false
+links_in (Works work) word = work_links work word
+
+-- what the protection of a bucket's root has shown
+pub record RootsHeld (n : ℕ) (a : Shelf) (phase : Phase) (outcome : Base → Outcome) : Type 0 where
+  pub gets : (key : ℕ) (base : Base) → phase ≡ Runs (Opens (Gets key)) base → Holding (outcome base) (λ s. a.root s ≡ roots.Bucket (key % n))
+  pub changes : (kept : ChangeKept) (base : Base) → phase ≡ Runs (Opens (Changes kept)) base → Holding (outcome base) (λ s. a.root s ≡ roots.Bucket (changes_in (on n a (λ p. 0)) kept))
+
+get_loads : (mem : Place → ℕ) (at : GetAt) → written mem (gets.get_move at) ≡ mem
+get_loads mem (FindVersion slot) = refl
+get_loads mem (FindCount slot version) = refl
+get_loads mem (FindKey slot version count pair) = refl
+get_loads mem (FindValue slot version pair) = refl
+
+opens_turns : (n : ℕ) (a : Shelf) (mem : Place → ℕ) (task : Task) (base : Base) (desk : Desk) (next : Post) (word : ℕ) → RootsHeld n a (Runs (Opens task) base) (λ b. (machine.after b next word).outcome) → Turns (on n a mem) (run_turn (Opens task) desk (machine.after base next word))
+opens_turns n a mem (Gets key) base desk next word r = let t : Turn = machine.after base next word in get_resumed (on n a mem) key desk t.post t.told t.outcome (base_calm base next word) (r.gets key base refl)
+opens_turns n a mem (Changes kept) base desk next word r = let t : Turn = machine.after base next word in change_resumed (on n a mem) kept desk t.post t.told t.outcome (base_calm base next word) (r.changes kept base refl)
+opens_turns n a mem (Holds key) base desk next word r = plain_turns (on n a mem) (Opens (Holds key)) base desk next word refl refl
+opens_turns n a mem (Enqueues kept) base desk next word r = plain_turns (on n a mem) (Opens (Enqueues kept)) base desk next word refl refl
+opens_turns n a mem Dequeues base desk next word r = plain_turns (on n a mem) (Opens Dequeues) base desk next word refl refl
+
+fills_turns : (n : ℕ) (a : Shelf) (mem : Place → ℕ) (task : Task) (base : Base) (post next : Post) (desk : Desk) → task_fills task base ≡ true → TaskKnows (on n a mem) task base
+    → Turns (on n a (written mem (base_move base post))) (run_turn (Fills task) desk (machine.after base next (found (base_move base post) (mem (place_in (base_move base post))))))
+fills_turns n a mem (Gets key) base post next desk r h = plain_turns (on n a (written mem (base_move base post))) (Fills (Gets key)) base desk next (found (base_move base post) (mem (place_in (base_move base post)))) refl refl
+fills_turns n a mem (Changes kept) base post next desk r h = fill_turns n a mem kept base post next desk r h
+fills_turns n a mem (Holds key) base post next desk r h = plain_turns (on n a (written mem (base_move base post))) (Fills (Holds key)) base desk next (found (base_move base post) (mem (place_in (base_move base post)))) refl refl
+fills_turns n a mem (Enqueues kept) base post next desk r h = item_turns n a mem kept base post next desk r h
+fills_turns n a mem Dequeues base post next desk r h = plain_turns (on n a (written mem (base_move base post))) (Fills Dequeues) base desk next (found (base_move base post) (mem (place_in (base_move base post)))) refl refl
+
+runs_turns : (n : ℕ) (a : Shelf) (mem : Place → ℕ) (why : Why) (base : Base) (post next : Post) (desk : Desk) → runs_right why base ≡ true → RootsHeld n a (Runs why base) (λ b. (machine.after b next (found (base_move base post) (mem (place_in (base_move base post))))).outcome) → WhyKnows (on n a mem) why base
+    → Turns (on n a (written mem (base_move base post))) (run_turn why desk (machine.after base next (found (base_move base post) (mem (place_in (base_move base post))))))
+runs_turns n a mem (Opens task) base post next desk y r h = opens_turns n a (written mem (base_move base post)) task base desk next (found (base_move base post) (mem (place_in (base_move base post)))) r
+runs_turns n a mem (Fills task) base post next desk y r h = fills_turns n a mem task base post next desk y h
+runs_turns n a mem (FollowsHead head tail) base post next desk y r h = plain_turns (on n a (written mem (base_move base post))) (FollowsHead head tail) base desk next (found (base_move base post) (mem (place_in (base_move base post)))) refl refl
+runs_turns n a mem (ClearsNext later) base post next desk y r h = plain_turns (on n a (written mem (base_move base post))) (ClearsNext later) base desk next (found (base_move base post) (mem (place_in (base_move base post)))) refl refl
+runs_turns n a mem (Clears task later) base post next desk y r h = plain_turns (on n a (written mem (base_move base post))) (Clears task later) base desk next (found (base_move base post) (mem (place_in (base_move base post)))) refl refl
+runs_turns n a mem (Finishes task later) base post next desk y r h = plain_turns (on n a (written mem (base_move base post))) (Finishes task later) base desk next (found (base_move base post) (mem (place_in (base_move base post)))) refl refl
+runs_turns n a mem (GivesUp answer) base post next desk y r h = plain_turns (on n a (written mem (base_move base post))) (GivesUp answer) base desk next (found (base_move base post) (mem (place_in (base_move base post)))) refl refl
+runs_turns n a mem (Retires answer) base post next desk y r h = plain_turns (on n a (written mem (base_move base post))) (Retires answer) base desk next (found (base_move base post) (mem (place_in (base_move base post)))) refl refl
+runs_turns n a mem (Tidies later) base post next desk y r h = plain_turns (on n a (written mem (base_move base post))) (Tidies later) base desk next (found (base_move base post) (mem (place_in (base_move base post)))) refl refl
+runs_turns n a mem Advances base post next desk y r h = plain_turns (on n a (written mem (base_move base post))) Advances base desk next (found (base_move base post) (mem (place_in (base_move base post)))) refl refl
+runs_turns n a mem (Releases key) base post next desk y r h = plain_turns (on n a (written mem (base_move base post))) (Releases key) base desk next (found (base_move base post) (mem (place_in (base_move base post)))) refl refl
+
+no_exchange : (g : Ground) (kept : ChangeKept) (slot : ℕ) (post : Post) (desk : Desk) (same : Bool) → same ≡ false → Turns g (alters.exchanged kept slot post desk same)
+no_exchange g kept slot post desk true l = absurd (cc)
+no_exchange g kept slot post desk false l = missed_turns g kept slot post desk
+
+changing_turns : (n : ℕ) (a : Shelf) (mem : Place → ℕ) (kept : ChangeKept) (at : ChangeAt) (post next : Post) (desk : Desk) → change_links kept at (found (alters.change_move kept at post) (mem (place_in (alters.change_move kept at post)))) ≡ false → Shown (λ s. kept.link == s + 1) a mem → ChangeKnows (on n a mem) kept at
+    → Turns (on n a (written mem (alters.change_move kept at post))) (alters.change_turn kept at next desk (found (alters.change_move kept at post) (mem (place_in (alters.change_move kept at post)))))
+changing_turns n a mem kept (LoadVersion slot) post next desk l r h = change_turns n a mem kept (LoadVersion slot) post next desk refl r h
+changing_turns n a mem kept (LoadCount slot) post next desk l r h = change_turns n a mem kept (LoadCount slot) post next desk refl r h
+changing_turns n a mem kept (LoadKey slot count) post next desk l r h = change_turns n a mem kept (LoadKey slot count) post next desk refl r h
+changing_turns n a mem kept (LoadValue slot count key) post next desk l r h = change_turns n a mem kept (LoadValue slot count key) post next desk refl r h
+changing_turns n a mem kept (ExchangeRoot slot) post next desk l r h = no_exchange (on n a (written mem (alters.change_move kept (ExchangeRoot slot) post))) kept slot next desk (mem (Bucket (alters.changed_bucket kept post)) == kept.link) l
+
+works_turns : (n : ℕ) (a : Shelf) (mem : Place → ℕ) (work : Work) (post next : Post) (desk : Desk) → work_links work (found (work_move work post) (mem (place_in (work_move work post)))) ≡ false → GetOwes n a next (work_reads work) → Shown (work_reads work) a mem → WorkKnows (on n a mem) work
+    → Turns (on n a (written mem (work_move work post))) (work_turn work next desk (found (work_move work post) (mem (place_in (work_move work post)))))
+works_turns n a mem (Getting key at) post next desk l o r h =
+    subst (λ (m : Place → ℕ). Turns (on n a m) (gets.get_turn key at next desk (found (gets.get_move at) (mem (place_in (gets.get_move at)))))) (sym (get_loads mem at)) (get_turns n a mem key at next desk o r h)
+works_turns n a mem (Changing kept at) post next desk l o r h = changing_turns n a mem kept at post next desk l r h
+works_turns n a mem (Enqueuing kept at) post next desk l o r h = enqueue_turns (on n a (written mem (enqueues.enqueue_move kept at))) kept at next desk (found (enqueues.enqueue_move kept at) (mem (place_in (enqueues.enqueue_move kept at)))) l
+works_turns n a mem (Dequeuing at) post next desk l o r h = dequeue_turns (on n a (written mem (dequeues.dequeue_move at))) at next desk (found (dequeues.dequeue_move at) (mem (place_in (dequeues.dequeue_move at))))
+
+pub phase_turns : (n : ℕ) (a : Shelf) (mem : Place → ℕ) (phase : Phase) (post next : Post) (desk : Desk) (list : List Lifetime) → is_right phase list ≡ true → links_in phase (found (phase_move phase post) (mem (place_in (phase_move phase post)))) ≡ false
+    → RootsHeld n a phase (λ b. (machine.after b next (found (phase_move phase post) (mem (place_in (phase_move phase post))))).outcome) → GetOwes n a next (reads_in phase) → Shown (reads_in phase) a mem → Knows (on n a mem) phase
+    → Turns (on n a (written mem (phase_move phase post))) (phase_turn phase next desk (found (phase_move phase post) (mem (place_in (phase_move phase post)))))
+phase_turns n a mem Idle post next desk list y l g o r h = record { calm = tt; knows = tt }
+phase_turns n a mem (Runs why base) post next desk list y l g o r h = runs_turns n a mem why base post next desk y g h
+phase_turns n a mem (Scans later at) post next desk list y l g o r h = scan_turns (on n a (written mem (scan.scan_move at post))) later at next desk (found (scan.scan_move at post) (mem (place_in (scan.scan_move at post))))
+phase_turns n a mem (Works work) post next desk list y l g o r h = works_turns n a mem work post next desk l o r h

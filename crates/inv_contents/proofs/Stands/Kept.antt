@@ -1,0 +1,56 @@
+-- What a call works on stands, from the start on and over every step.
+use Rattle.std.proofs.Common.{ℕ, refl, sym, subst}
+use Rattle.inv_rows.specs.words.declared.layout.Layout.{Layout}
+use Rattle.inv_rows.specs.model.declared.post.Post.{Post}
+use Rattle.inv_rows.specs.model.Desks.{Desk}
+use Rattle.inv_rows.specs.model.Posts.{counted}
+use Rattle.inv_rows.specs.model.Phases.{ProtectAt, Base}
+use Rattle.inv_rows.specs.model.Phases.ProtectAt.{WithdrawRequest, WithdrawHelper}
+use Rattle.inv_rows.specs.model.Phases.Base.{Begin, Protect, Reload, Clear, Finish, Release, Allocate, Write, GiveUp, Retire, Move}
+use Rattle.inv_rows.specs.model.Calls.{Why, Opens, FollowsHead, Fills, ClearsNext, Clears, Finishes, GivesUp, Retires, Tidies, Advances, Releases, Phase, Idle, Runs, Scans, Works}
+use Rattle.inv_rows.specs.model.Steps.{phase_turn, first_phase}
+use Rattle.inv_rows.specs.model.Scan.{scan_turn}
+use Rattle.inv_rows.specs.model.Locals.{Local, begun_post, turn}
+use Rattle.inv_rows.specs.model.World.{begin, step, finds}
+use Rattle.inv_requests.specs.shapes.Seats.{PostFits, PhaseFits}
+use Rattle.inv_requests.proofs.shapes.Frame.{seat_stays, seat_steps, begin_stays, begin_begins, settled_seated}
+use Rattle.inv_requests.proofs.shapes.Kept.{counted_fits, run_counted, one_moves}
+use Rattle.inv_requests.specs.Parents.{protect_stands, base_stands, why_stands, phase_stands}
+use Rattle.inv_requests.proofs.Paces.{Any}
+use Rattle.inv_contents.specs.Stands.{Stood, StandsStart, StandsBegin, StandsKept}
+use Rattle.inv_contents.proofs.Stands.Rounds.{TurnStood, free_stood, adds_stood, scan_told, scan_adds, first_free}
+use Rattle.inv_contents.proofs.Stands.Works.{work_stood}
+use Rattle.inv_contents.proofs.Stands.Machines.{run_stood}
+use Rattle.inv_requests.proofs.Parents.{protect_counted, why_counted}
+
+stood_counted : (phase : Phase) (post : Post) → Stood phase post → Stood phase (counted post)
+stood_counted phase post h = record { reads = λ s e. h.reads s e; queue = λ s e. h.queue s e; nexts = λ s e. h.nexts s e }
+
+turn_stood : (layout : Layout) (k : ℕ) (phase : Phase) (post : Post) (desk : Desk) (found : ℕ) → PostFits layout k post → PhaseFits layout post phase → phase_stands phase post → Stood phase post → TurnStood (phase_turn phase (counted post) desk found)
+turn_stood layout k Idle post desk found q f p h = free_stood Idle (counted post) refl
+turn_stood layout k (Runs why base) post desk found q f p h =
+    run_stood layout k why base (counted post) desk found (counted_fits layout k post q) (run_counted layout why base post f) (why_counted why base post p) (stood_counted (Runs why base) post h)
+turn_stood layout k (Scans later at) post desk found q f p h = adds_stood (scan_told at (counted post) found) (scan_turn later at (counted post) desk found) (scan_adds later at (counted post) desk found)
+turn_stood layout k (Works work) post desk found q f p h = work_stood work (counted post) desk found (stood_counted (Works work) post h)
+
+abbrev Stand : Post → Phase → Type 0
+Stand post phase = Stood phase post
+
+abbrev LocalStood : ℕ → Local → Type 0
+LocalStood n l = Stood l.phase l.post
+
+pub stands_kept : StandsKept
+stands_kept w i s p h =
+    let a = s.fits i in
+    let t : TurnStood (turn (w.seat i) (finds w i)) = turn_stood w.layout i (w.seat i).phase (w.seat i).post (w.seat i).desk (finds w i) a.post a.phase (p.stand i) (h.stood i) in
+    let l = settled_seated {Q = Any} {P = Stand} (w.seat i) (turn (w.seat i) (finds w i)) (record { post = tt; phase = t }) in
+    record { stood = λ k. one_moves LocalStood w.seat (step w i).seat i h.stood (seat_stays w i) (subst (LocalStood i) (sym (seat_steps w i)) l.phase) k }
+
+pub stands_begin : StandsBegin
+stands_begin w i call h = record {
+  stood = λ k. one_moves LocalStood w.seat (begin w i call).seat i h.stood (λ n e. begin_stays w i n call e)
+      (subst (LocalStood i) (sym (begin_begins w i call)) (free_stood (first_phase call (begun_post (w.seat i).post)) (begun_post (w.seat i).post) (first_free call (begun_post (w.seat i).post)))) k;
+}
+
+pub stands_start : StandsStart
+stands_start layout = record { stood = λ k. free_stood Idle _ refl }

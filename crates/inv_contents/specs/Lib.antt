@@ -1,0 +1,15 @@
+pub use Rattle.inv_rows.specs as rows
+pub use Rattle.inv_rows.specs.model as model
+pub use Rattle.inv_rows.specs.defs as defs
+pub use Rattle.inv_rows.specs.words as words
+pub mod Bounded
+pub mod Buckets
+pub mod Contents
+pub mod Gives
+pub mod Items
+pub mod Knows
+pub mod Reads
+pub mod Shelf
+pub mod Stands
+pub mod Told
+pub mod Turns

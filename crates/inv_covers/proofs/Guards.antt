@@ -1,0 +1,76 @@
+-- The numbers of guards, and a cover that is handed over.
+use Rattle.std.proofs.Common.{ℕ, ◌≤◌, ◌<◌, ◌+◌, ◌*◌, ◌-◌, ◌≡◌, ◌∙◌, true, false, arith, refl}
+use Rattle.std.proofs.lemmas.Bool.Decides.{nat_tests}
+use Rattle.std.proofs.lemmas.Nat.{div-mul-add, mod-mul-add}
+use Rattle.std.proofs.Math.Nat.{mul-le-mul_right}
+use Rattle.std.specs.Prelude.{nat_lt}
+use Rattle.inv_shapes.specs.words.declared.config.Config.{Config}
+use Rattle.inv_shapes.specs.words.declared.config.SchemeKind.{SchemeKind}
+use Rattle.inv_shapes.specs.words.declared.config.SchemeKind.TheVariants.{He, Ibr, Wfe}
+use Rattle.inv_shapes.specs.defs.declared.event.Guard.{Guard}
+use Rattle.inv_shapes.specs.defs.declared.event.Guard.TheVariants.{Helper, Index}
+use Rattle.inv_shapes.specs.defs.declared.lifetime.Lifetime.{Lifetime}
+use Rattle.inv_shapes.specs.model.Guards.{index_at, guards, guards_by, guard_by, own_guard}
+use Rattle.inv_shapes.specs.model.Desks.{Report}
+use Rattle.inv_shapes.specs.model.Calls.{Phase}
+use Rattle.inv_shapes.specs.words.Schemes.{is_wfe}
+use Rattle.inv_covers.specs.Covers.{has_met, number_by, life_of}
+use Rattle.inv_shapes.specs.model.World.{step}
+use Rattle.inv_rows.specs.Agree.{rows_after}
+use Rattle.inv_covers.proofs.Kept.{covers_kept}
+use Rattle.inv_covers.specs.Held.{GuardsFit, HelpersFit, HandedCovers, HandedKept}
+
+record Fits (scheme : SchemeKind) (config : Config) (guard : Guard) : Type 0 where
+  below : number_by scheme config guard < guards_by scheme config
+  is : guard_by scheme config (number_by scheme config guard) ≡ guard
+
+pair_below : (seats indexes k j : ℕ) → k < seats → j < indexes → k * indexes + j < seats * indexes
+pair_below seats indexes k j h l =
+    let m : (k + 1) * indexes ≤ seats * indexes = mul-le-mul_right indexes (omega arith) in
+    let e : (k + 1) * indexes ≡ k * indexes + indexes = grind arith in omega (arith, m, e)
+
+index_is : (config : Config) (k j : ℕ) → j < config.indexes → index_at config (k * config.indexes + j) ≡ Index k j
+index_is config k j l = rw (div-mul-add k config.indexes j l, mod-mul-add k config.indexes j l) refl
+
+late_index : (config : Config) (n : ℕ) → guard_by Wfe config (config.seats + n) ≡ index_at config n
+late_index config n =
+    let e : nat_lt (config.seats + n) config.seats ≡ false = grind (arith, nat_tests) in
+    let q : config.seats + n - config.seats ≡ n = omega arith in rw (e, q) refl
+
+own_fits_by : (scheme : SchemeKind) (config : Config) (k j : ℕ) → k < config.seats → j < config.indexes → Fits scheme config (own_guard scheme k j)
+own_fits_by He config k j h l = record { below = pair_below config.seats config.indexes k j h l; is = index_is config k j l }
+own_fits_by Ibr config k j h l = record { below = h; is = refl }
+own_fits_by Wfe config k j h l = record {
+  below = let b = pair_below config.seats config.indexes k j h l in omega (arith, b);
+  is = late_index config (k * config.indexes + j) ∙ index_is config k j l;
+}
+
+pub guards_fit : GuardsFit
+guards_fit config k j h l = let f = own_fits_by config.scheme config k j h l in record { below = f.below; is = f.is }
+
+helper_fits_by : (scheme : SchemeKind) (config : Config) (k : ℕ) → is_wfe scheme ≡ true → k < config.seats → Fits scheme config (Helper k)
+helper_fits_by He config k w h = absurd (cc)
+helper_fits_by Ibr config k w h = absurd (cc)
+helper_fits_by Wfe config k w h = record { below = omega (arith, h); is = (let e : nat_lt k config.seats ≡ true = grind (arith, nat_tests) in rw e refl) }
+
+pub helpers_fit : HelpersFit
+helpers_fit config k w h = let f = helper_fits_by config.scheme config k w h in record { below = f.below; is = f.is }
+
+-- a scan that has come to a guard has come to each one before it
+met_later : (all one two : ℕ) (phase : Phase) (report : Report) (life : Lifetime) → one ≤ two → has_met all phase report one life ≡ true → has_met all phase report two life ≡ true
+met_later all one two phase report life l h = grind (arith, nat_tests)
+
+helpers_first : (scheme : SchemeKind) (config : Config) (m k j : ℕ) → is_wfe scheme ≡ true → m < config.seats → number_by scheme config (Helper m) ≤ number_by scheme config (Index k j)
+helpers_first He config m k j w h = absurd (cc)
+helpers_first Ibr config m k j w h = absurd (cc)
+helpers_first Wfe config m k j w h = omega (arith, h)
+
+pub handed_covers : HandedCovers
+handed_covers w v m k j slot f b e c = record {
+  spans = rw e c.spans;
+  scans = λ i r h. met_later (guards w.layout.config) (number_by w.layout.config.scheme w.layout.config (Helper m)) (number_by w.layout.config.scheme w.layout.config (Index k j)) (w.seat i).phase (w.seat i).desk.report (life_of slot (v.birth slot) r) (helpers_first w.layout.config.scheme w.layout.config m k j f b) (c.scans i r h);
+}
+
+pub handed_kept : HandedKept
+handed_kept w i v m k j slot f n u b d e c =
+    handed_covers (step w i) (rows_after w i v) m k j slot f b e (covers_kept w i v (Helper m) slot n u (helpers_fit w.layout.config m f b) d c)

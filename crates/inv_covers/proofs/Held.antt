@@ -1,0 +1,516 @@
+-- What guards hold stays held over each step, under Hazard Eras and 2GE.
+use Rattle.std.proofs.Common.{ℕ, ◌≤◌, ◌+◌, ◌≡◌, ◌∙◌, sym, subst, ap, true, false, arith, refl, Bool, Option, Some, None, ◌⊎◌, inl, inr, List}
+use Rattle.std.proofs.lemmas.Bool.Decides.{nat_tests}
+use Rattle.std.specs.Prelude.{◌==◌}
+use Rattle.inv_shapes.specs.words.Place.{Place}
+use Rattle.inv_shapes.specs.words.Place.Place.{Clock, Head, Index as IndexOf}
+use Rattle.inv_shapes.specs.words.declared.config.SchemeKind.{SchemeKind}
+use Rattle.inv_shapes.specs.words.declared.config.SchemeKind.TheVariants.{He, Ibr, Wfe}
+use Rattle.inv_shapes.specs.defs.declared.event.Event.{Event}
+use Rattle.inv_shapes.specs.defs.declared.event.Guard.{Guard}
+use Rattle.inv_shapes.specs.defs.declared.event.Guard.TheVariants.{Index, Whole}
+use Rattle.inv_shapes.specs.defs.declared.event.Root.{Root}
+use Rattle.inv_shapes.specs.defs.declared.event.Root.TheVariants as roots
+use Rattle.inv_shapes.specs.defs.declared.lifetime.Interval.{Interval}
+use Rattle.inv_shapes.specs.model.declared.post.Post.{Post}
+use Rattle.inv_shapes.specs.model.Desks.{Desk, noting}
+use Rattle.inv_shapes.specs.model.Guards.{guard_place, from_to, own_guard}
+use Rattle.inv_shapes.specs.model.Links.{link_place, parent_of}
+use Rattle.inv_shapes.specs.model.Memory.{found, place_in, written, bump}
+use Rattle.inv_shapes.specs.model.Memory as memory
+use Rattle.inv_shapes.specs.model.Posts.{index_word, stands, upper, lower, counted}
+use Rattle.inv_shapes.specs.model.Phases.{Aim, Alone, Follows, Tries, Endless, Failed, ProtectAt, Base, Outcome, Goes, Ends, Turn}
+use Rattle.inv_shapes.specs.model.Phases.BeginAt.{LoadLower, PublishSpan}
+use Rattle.inv_shapes.specs.model.Phases.ProtectAt.{LoadClock, PublishEra, LoadLink, CheckClock, PublishRequest, LoadOwnClock, PublishHelper, LoadOwnLink, CheckOwnClock, AnswerOwn, LoadAnswer, TakeAnswer, WithdrawRequest, WithdrawHelper, LoadWithin, CheckUpper, RaiseUpper}
+use Rattle.inv_shapes.specs.model.Phases.Base.{Begin, Protect, Reload, Clear, Finish, Release, Allocate, Write, GiveUp, Retire, Move}
+use Rattle.inv_shapes.specs.model.Machine.{protect_move, base_move}
+use Rattle.inv_shapes.specs.model.Machine as machine
+use Rattle.inv_shapes.specs.model.Steps.{phase_turn, phase_move, resumed, work_turn}
+use Rattle.inv_shapes.specs.model.Scan.{scan_turn}
+use Rattle.inv_shapes.specs.model.Calls.{Why, Phase, Idle, Runs, Scans, Works, CallTurn, CallOutcome, GoesOn, Answers}
+use Rattle.inv_shapes.specs.model.Locals.{Local, move, turn, settled_by, told_by, rounds_told}
+use Rattle.inv_shapes.specs.model.World.{World, step, finds}
+use Rattle.inv_rows.specs.Rows.{Status, View, made, is_settled}
+use Rattle.inv_rows.specs.Rows.Status.{Free, Claimed, Born, Linked, InQueue, Cut, Sealed, Listed}
+use Rattle.inv_rows.specs.Hands.{row_move}
+use Rattle.inv_rows.specs.Agree.{Agree, rows_after}
+use Rattle.inv_shapes.specs.Frame.{phase_left}
+use Rattle.inv_shapes.specs.words.Schemes.{is_ibr, is_wfe}
+use Rattle.inv_shapes.specs.Seats.{protect_fits, base_fits}
+use Rattle.inv_shapes.proofs.Frame.{seat_stays, seat_steps}
+use Rattle.inv_covers.specs.Covers.{spans, shown, Covers, Widens}
+use Rattle.inv_covers.specs.Tries.{is_start, starts_base}
+use Rattle.inv_covers.specs.Held.{under, tries_protect, tries_base, index_base, Holds, Held, Followed, follows_row, rests_base, BaseNeeds, RootsNeeds, LoadsCover, HeldNeeds, HeldKept}
+use Rattle.inv_rows.specs.Queue.{in_queue}
+use Rattle.inv_covers.proofs.Fresh.{work_fresh, resume_fresh}
+use Rattle.inv_covers.proofs.Kept.{covers_kept, before_at, spans_past}
+use Rattle.inv_covers.proofs.Scans.{scan_shrinks, scan_starts}
+use Rattle.inv_covers.proofs.Stands.{withdrawn_apart}
+use Rattle.inv_covers.proofs.Stood.{Was, base_stood}
+use Rattle.inv_covers.proofs.Tried.{out_tries, out_index, loads_link, protect_tries, other_tries, is_protect, tried_quiet, loaded_quiet, protect_clock, start_untried, queued_back, tries_back}
+use Rattle.inv_covers.proofs.Words.{keeps, shown_kept, widens_same, stores_guard, base_other, base_quiet, scan_quiet, work_quiet}
+use Rattle.inv_rows.proofs.Queued.{queue_is}
+use Rattle.inv_shapes.proofs.model.Facts.{no_truth}
+
+-- a row that a root leads to is linked, and its life goes on
+abbrev pub is_live : Status → Bool
+is_live Free = false
+is_live (Claimed by) = false
+is_live (Born by) = false
+is_live (Linked bucket) = true
+is_live InQueue = true
+is_live (Cut by) = false
+is_live (Sealed by retire) = false
+is_live (Listed by retire) = false
+
+live_spans : (lo hi birth : ℕ) (status : Status) → is_live status ≡ true → birth ≤ hi → spans (from_to lo hi) birth status ≡ true
+live_spans lo hi birth (Linked bucket) h b = grind (arith, nat_tests)
+live_spans lo hi birth InQueue h b = grind (arith, nat_tests)
+live_spans lo hi birth Free h b = absurd (cc)
+live_spans lo hi birth (Claimed by) h b = absurd (cc)
+live_spans lo hi birth (Born by) h b = absurd (cc)
+live_spans lo hi birth (Cut by) h b = absurd (cc)
+live_spans lo hi birth (Sealed by retire) h b = absurd (cc)
+live_spans lo hi birth (Listed by retire) h b = absurd (cc)
+
+live_past : (status : Status) → is_live status ≡ true → is_settled status ≡ true
+live_past (Linked bucket) h = refl
+live_past InQueue h = refl
+live_past Free h = absurd (cc)
+live_past (Claimed by) h = absurd (cc)
+live_past (Born by) h = absurd (cc)
+live_past (Cut by) h = absurd (cc)
+live_past (Sealed by retire) h = absurd (cc)
+live_past (Listed by retire) h = absurd (cc)
+
+-- the row of a link that was loaded
+pub root_live : (w : World) (v : View) (root : Root) (s : ℕ) → RootsNeeds w v → w.mem (link_place root) ≡ s + 1 → under v.status root ≡ true → is_live (v.status s) ≡ true
+root_live w v (roots.Bucket bucket) s n l u = let e : v.status s ≡ Linked bucket = n.rows.good.roots bucket s (sym (n.rows.words.roots bucket) ∙ l) in rw e refl
+root_live w v roots.Head s n l u = let e : v.status s ≡ InQueue = n.rows.good.queue s (sym n.rows.words.head ∙ l) in rw e refl
+root_live w v roots.Tail s n l u = let e : v.status s ≡ InQueue = n.tail s l in rw e refl
+root_live w v (roots.Next parent) s n l u = let e : v.status s ≡ InQueue = n.nexts parent s (queue_is (v.status parent) u) l in rw e refl
+
+not_listed : (status : Status) (k r : ℕ) → is_live status ≡ true → status ≡ Listed k r → false ≡ true
+not_listed status k r h e = absurd (cc)
+
+-- a guard that publishes an interval up to the clock covers the row of a link that is loaded
+pub live_covers : (w : World) (v : View) (guard : Guard) (lo hi s : ℕ) → RootsNeeds w v → shown w guard ≡ from_to lo hi → w.mem Clock ≤ hi → is_live (v.status s) ≡ true → Covers w v guard s
+live_covers w v guard lo hi s n e c l = record {
+  spans = rw e (live_spans lo hi (v.birth s) (v.status s) l (let b = n.births s (live_past (v.status s) l) in omega (arith, b, c)));
+  scans = λ k r h. absurd (no_truth (not_listed (v.status s) k r l h));
+}
+
+pub loads_cover : LoadsCover
+loads_cover w v guard root lo hi slot n e c l u = live_covers w v guard lo hi slot n e c (root_live w v root slot n l u)
+
+-- what is held stays held
+pub holds_kept : (w : World) (i : ℕ) (v : View) (guard : Guard) (s : ℕ) → HeldNeeds w i v → Widens (shown w guard) (shown (step w i) guard) → Holds w v guard s → Holds (step w i) (rows_after w i v) guard s
+holds_kept w i v guard s n d h = record { fits = h.fits; covers = covers_kept w i v guard s n.covers n.scans h.fits d h.covers }
+
+-- the seat that steps
+pub settled_post : (l : Local) (post : Post) (desk : Desk) (rounds : ℕ) (outcome : CallOutcome) → (settled_by l post desk rounds outcome).post ≡ post
+settled_post l post desk rounds (GoesOn phase) = refl
+settled_post l post desk rounds (Answers answer) = refl
+
+pub settled_phase : (l : Local) (post : Post) (desk : Desk) (rounds : ℕ) (outcome : CallOutcome) → (settled_by l post desk rounds outcome).phase ≡ phase_left outcome
+settled_phase l post desk rounds (GoesOn phase) = refl
+settled_phase l post desk rounds (Answers answer) = refl
+
+pub stepped_post : (w : World) (i : ℕ) → ((step w i).seat i).post ≡ (turn (w.seat i) (finds w i)).post
+stepped_post w i = let l : Local = w.seat i in let t : CallTurn = turn l (finds w i) in ap (λ (x : Local). x.post) (seat_steps w i) ∙ settled_post l t.post (noting t.desk (told_by t)) (rounds_told l.rounds (told_by t)) t.outcome
+
+pub stepped_phase : (w : World) (i : ℕ) → ((step w i).seat i).phase ≡ phase_left (turn (w.seat i) (finds w i)).outcome
+stepped_phase w i = let l : Local = w.seat i in let t : CallTurn = turn l (finds w i) in ap (λ (x : Local). x.phase) (seat_steps w i) ∙ settled_phase l t.post (noting t.desk (told_by t)) (rounds_told l.rounds (told_by t)) t.outcome
+
+-- where a row stood that stands after a turn
+abbrev pub From : Phase → Post → ℕ → ℕ → ℕ → Type 0
+From Idle post x j s = stands post j ≡ Some s
+From (Runs why base) post x j s = stands (machine.after base (counted post) x).post j ≡ Some s
+From (Scans later at) post x j s = stands post j ≡ Some s
+From (Works work) post x j s = stands post j ≡ Some s
+
+pub resumed_from : (why : Why) (desk : Desk) (post : Post) (told : List Event) (outcome : Outcome) (j s : ℕ) → stands (resumed why desk post told outcome).post j ≡ Some s → stands post j ≡ Some s
+resumed_from why desk post told (Goes base) j s h = h
+resumed_from why desk post told (Ends ending) j s h = (resume_fresh why ending post desk told).shrinks j s h
+
+pub turn_from : (phase : Phase) (post : Post) (desk : Desk) (x j s : ℕ) → stands (phase_turn phase (counted post) desk x).post j ≡ Some s → From phase post x j s
+turn_from Idle post desk x j s h = h
+turn_from (Runs why base) post desk x j s h = let t : Turn = machine.after base (counted post) x in resumed_from why desk t.post t.told t.outcome j s h
+turn_from (Scans later at) post desk x j s h = scan_shrinks later at (counted post) desk x j s h
+turn_from (Works work) post desk x j s h = (work_fresh work (counted post) desk x).shrinks j s h
+
+-- what an own guard publishes
+pub kept_widens : (w : World) (i : ℕ) (guard : Guard) → keeps (move (w.seat i)) (guard_place guard) ≡ true → Widens (shown w guard) (shown (step w i) guard)
+kept_widens w i guard h = widens_same (shown w guard) (shown (step w i) guard) (shown_kept w i guard h)
+
+pub move_is : (w : World) (i : ℕ) (phase : Phase) → (w.seat i).phase ≡ phase → move (w.seat i) ≡ phase_move phase (w.seat i).post
+move_is w i phase e = ap (λ (p : Phase). phase_move p (w.seat i).post) e
+
+pub keeps_at : (w : World) (i : ℕ) (phase : Phase) (place : Place) → (w.seat i).phase ≡ phase → keeps (phase_move phase (w.seat i).post) place ≡ true → keeps (move (w.seat i)) place ≡ true
+keeps_at w i phase place e h = rw (move_is w i phase e) h
+
+index_keeps : (scheme : SchemeKind) (i j seat index value : ℕ) → (j == index) ≡ false → keeps (memory.Store (IndexOf seat index) value) (guard_place (own_guard scheme i j)) ≡ true
+index_keeps He i j seat index value e = grind (arith, nat_tests)
+index_keeps Ibr i j seat index value e = refl
+index_keeps Wfe i j seat index value e = grind (arith, nat_tests)
+
+ibr_guard : (scheme : SchemeKind) (i j : ℕ) → is_ibr scheme ≡ true → own_guard scheme i j ≡ Whole i
+ibr_guard He i j h = absurd (cc)
+ibr_guard Ibr i j h = refl
+ibr_guard Wfe i j h = absurd (cc)
+
+he_guard : (scheme : SchemeKind) (i j : ℕ) → is_ibr scheme ≡ false → own_guard scheme i j ≡ Index i j
+he_guard He i j h = refl
+he_guard Ibr i j h = absurd (cc)
+he_guard Wfe i j h = refl
+
+none_widens : (x y : Option Interval) → x ≡ None → Widens x y
+none_widens x y e = subst (λ (z : Option Interval). Widens z y) (sym e) tt
+
+raise_widens : (x : Option Interval) (era : ℕ) → upper x ≤ era → Widens x (from_to (lower x) era)
+raise_widens None era h = tt
+raise_widens (Some span) era h = (omega arith, h)
+
+nothing_stands : (post : Post) (j s : ℕ) → stands post j ≡ None → stands post j ≡ Some s → false ≡ true
+nothing_stands post j s a b = absurd (cc)
+
+-- nothing stands where the own guard is taken from
+rest_widens : (w : World) (i : ℕ) (v : View) (base : Base) (j s : ℕ) (old new : Option Interval) → rests_base base j ≡ true → BaseNeeds w i base → tries_base (w.mem Clock) v.status (w.seat i).post base s ≡ false → Was (w.mem Clock) v.status (w.seat i).post base j s → Widens old new
+rest_widens w i v base j s old new r b t (inl x) = absurd (no_truth (nothing_stands (w.seat i).post j s (b.rests j r) x))
+rest_widens w i v base j s old new r b t (inr x) = absurd (let y = x.1 in cc)
+
+era_widens : (w : World) (i : ℕ) (v : View) (why : Why) (aim : Aim) (index : ℕ) (root : Root) (steps era : ℕ) (tries : Tries) (j s : ℕ) (own : Bool) → (j == index) ≡ own → (w.seat i).phase ≡ Runs why (Protect aim index root steps (PublishEra era tries)) → BaseNeeds w i (Protect aim index root steps (PublishEra era tries)) → Was (w.mem Clock) v.status (w.seat i).post (Protect aim index root steps (PublishEra era tries)) j s
+    → Widens (shown w (own_guard w.layout.config.scheme i j)) (shown (step w i) (own_guard w.layout.config.scheme i j))
+era_widens w i v why aim index root steps era tries j s true o e b h =
+    rest_widens w i v (Protect aim index root steps (PublishEra era tries)) j s (shown w (own_guard w.layout.config.scheme i j)) (shown (step w i) (own_guard w.layout.config.scheme i j)) o b refl h
+era_widens w i v why aim index root steps era tries j s false o e b h =
+    kept_widens w i (own_guard w.layout.config.scheme i j) (keeps_at w i (Runs why (Protect aim index root steps (PublishEra era tries))) (guard_place (own_guard w.layout.config.scheme i j)) e (index_keeps w.layout.config.scheme i j (w.seat i).post.seat index (index_word (w.seat i).post index era) o))
+
+quiet_widens : (w : World) (i : ℕ) (why : Why) (base : Base) (j : ℕ) → is_wfe w.layout.config.scheme ≡ false → (w.seat i).phase ≡ Runs why base → base_fits w.layout.config base ≡ true → stores_guard base ≡ false → Widens (shown w (own_guard w.layout.config.scheme i j)) (shown (step w i) (own_guard w.layout.config.scheme i j))
+quiet_widens w i why base j f e b q =
+    kept_widens w i (own_guard w.layout.config.scheme i j) (keeps_at w i (Runs why base) (guard_place (own_guard w.layout.config.scheme i j)) e (base_quiet w.layout.config.scheme i j w.layout.config base (w.seat i).post f b q))
+
+-- under 2GE an interval begins where none stands, or rises
+whole_widens : (w : World) (i j : ℕ) → is_ibr w.layout.config.scheme ≡ true → Widens (shown w (Whole i)) (shown (step w i) (Whole i)) → Widens (shown w (own_guard w.layout.config.scheme i j)) (shown (step w i) (own_guard w.layout.config.scheme i j))
+whole_widens w i j f h = subst (λ (g : Guard). Widens (shown w g) (shown (step w i) g)) (sym (ibr_guard w.layout.config.scheme i j f)) h
+
+pub turned_post : (w : World) (i : ℕ) (phase : Phase) → (w.seat i).phase ≡ phase → ((step w i).seat i).post ≡ (phase_turn phase (counted (w.seat i).post) (w.seat i).desk (finds w i)).post
+turned_post w i phase e = stepped_post w i ∙ ap (λ (p : Phase). (phase_turn p (counted (w.seat i).post) (w.seat i).desk (finds w i)).post) e
+
+pub turned_phase : (w : World) (i : ℕ) (phase : Phase) → (w.seat i).phase ≡ phase → ((step w i).seat i).phase ≡ phase_left (phase_turn phase (counted (w.seat i).post) (w.seat i).desk (finds w i)).outcome
+turned_phase w i phase e = stepped_phase w i ∙ ap (λ (p : Phase). phase_left (phase_turn p (counted (w.seat i).post) (w.seat i).desk (finds w i)).outcome) e
+
+span_raised : (w : World) (i : ℕ) (v : View) (why : Why) (aim : Aim) (index : ℕ) (root : Root) (steps era : ℕ) → (w.seat i).phase ≡ Runs why (Protect aim index root steps (RaiseUpper era)) → is_ibr w.layout.config.scheme ≡ true → HeldNeeds w i v → upper (w.seat i).post.span ≤ era → Widens (shown w (Whole i)) (shown (step w i) (Whole i))
+span_raised w i v why aim index root steps era e f n u =
+    let old : shown w (Whole i) ≡ (w.seat i).post.span = n.spans f in
+    let new : shown (step w i) (Whole i) ≡ from_to (lower (w.seat i).post.span) era = n.spans_next f ∙ ap (λ (p : Post). p.span) (turned_post w i (Runs why (Protect aim index root steps (RaiseUpper era))) e) in
+    let k : Widens (w.seat i).post.span (from_to (lower (w.seat i).post.span) era) = raise_widens (w.seat i).post.span era u in
+    subst (λ (x : Option Interval). Widens x (shown (step w i) (Whole i))) (sym old) (subst (λ (y : Option Interval). Widens (w.seat i).post.span y) (sym new) k)
+
+-- the own guard of an index at which a row stands after a machine's step
+own_widens : (w : World) (i : ℕ) (v : View) (why : Why) (base : Base) (j s : ℕ) → is_wfe w.layout.config.scheme ≡ false → HeldNeeds w i v → (w.seat i).phase ≡ Runs why base → stands (machine.after base (counted (w.seat i).post) (finds w i)).post j ≡ Some s → Was (w.mem Clock) v.status (w.seat i).post base j s
+    → Widens (shown w (own_guard w.layout.config.scheme i j)) (shown (step w i) (own_guard w.layout.config.scheme i j))
+own_widens w i v why (Begin LoadLower) j s f n e h y = quiet_widens w i why (Begin LoadLower) j f e (n.base why (Begin LoadLower) e).fits refl
+own_widens w i v why (Begin (PublishSpan era)) j s f n e h y =
+    let b = n.base why (Begin (PublishSpan era)) e in
+    whole_widens w i j b.fits (none_widens (shown w (Whole i)) (shown (step w i) (Whole i)) (n.spans b.fits ∙ b.grows))
+own_widens w i v why (Protect aim index root steps (PublishEra era tries)) j s f n e h y =
+    era_widens w i v why aim index root steps era tries j s (j == index) refl e (n.base why (Protect aim index root steps (PublishEra era tries)) e) y
+own_widens w i v why (Protect aim index root steps (RaiseUpper era)) j s f n e h y =
+    let b = n.base why (Protect aim index root steps (RaiseUpper era)) e in
+    whole_widens w i j b.fits (span_raised w i v why aim index root steps era e b.fits n b.grows)
+own_widens w i v why (Protect aim index root steps (TakeAnswer link era)) j s f n e h y =
+    let b = (n.base why (Protect aim index root steps (TakeAnswer link era)) e).fits in absurd (cc)
+own_widens w i v why (Protect aim index root steps (LoadClock tries)) j s f n e h y = quiet_widens w i why (Protect aim index root steps (LoadClock tries)) j f e (n.base why (Protect aim index root steps (LoadClock tries)) e).fits refl
+own_widens w i v why (Protect aim index root steps (LoadLink era tries)) j s f n e h y = quiet_widens w i why (Protect aim index root steps (LoadLink era tries)) j f e (n.base why (Protect aim index root steps (LoadLink era tries)) e).fits refl
+own_widens w i v why (Protect aim index root steps (CheckClock era tries link)) j s f n e h y = quiet_widens w i why (Protect aim index root steps (CheckClock era tries link)) j f e (n.base why (Protect aim index root steps (CheckClock era tries link)) e).fits refl
+own_widens w i v why (Protect aim index root steps PublishRequest) j s f n e h y = quiet_widens w i why (Protect aim index root steps PublishRequest) j f e (n.base why (Protect aim index root steps PublishRequest) e).fits refl
+own_widens w i v why (Protect aim index root steps LoadOwnClock) j s f n e h y = quiet_widens w i why (Protect aim index root steps LoadOwnClock) j f e (n.base why (Protect aim index root steps LoadOwnClock) e).fits refl
+own_widens w i v why (Protect aim index root steps (PublishHelper first era last)) j s f n e h y = quiet_widens w i why (Protect aim index root steps (PublishHelper first era last)) j f e (n.base why (Protect aim index root steps (PublishHelper first era last)) e).fits refl
+own_widens w i v why (Protect aim index root steps (LoadOwnLink first era last)) j s f n e h y = quiet_widens w i why (Protect aim index root steps (LoadOwnLink first era last)) j f e (n.base why (Protect aim index root steps (LoadOwnLink first era last)) e).fits refl
+own_widens w i v why (Protect aim index root steps (CheckOwnClock first era last link)) j s f n e h y = quiet_widens w i why (Protect aim index root steps (CheckOwnClock first era last link)) j f e (n.base why (Protect aim index root steps (CheckOwnClock first era last link)) e).fits refl
+own_widens w i v why (Protect aim index root steps (AnswerOwn first era link)) j s f n e h y = quiet_widens w i why (Protect aim index root steps (AnswerOwn first era link)) j f e (n.base why (Protect aim index root steps (AnswerOwn first era link)) e).fits refl
+own_widens w i v why (Protect aim index root steps (LoadAnswer first)) j s f n e h y = quiet_widens w i why (Protect aim index root steps (LoadAnswer first)) j f e (n.base why (Protect aim index root steps (LoadAnswer first)) e).fits refl
+own_widens w i v why (Protect aim index root steps (WithdrawRequest link era)) j s f n e h y = quiet_widens w i why (Protect aim index root steps (WithdrawRequest link era)) j f e (n.base why (Protect aim index root steps (WithdrawRequest link era)) e).fits refl
+own_widens w i v why (Protect aim index root steps (WithdrawHelper link era)) j s f n e h y = quiet_widens w i why (Protect aim index root steps (WithdrawHelper link era)) j f e (n.base why (Protect aim index root steps (WithdrawHelper link era)) e).fits refl
+own_widens w i v why (Protect aim index root steps LoadWithin) j s f n e h y = quiet_widens w i why (Protect aim index root steps LoadWithin) j f e (n.base why (Protect aim index root steps LoadWithin) e).fits refl
+own_widens w i v why (Protect aim index root steps (CheckUpper link)) j s f n e h y = quiet_widens w i why (Protect aim index root steps (CheckUpper link)) j f e (n.base why (Protect aim index root steps (CheckUpper link)) e).fits refl
+own_widens w i v why (Clear index) j s f n e h y =
+    kept_widens w i (own_guard w.layout.config.scheme i j) (keeps_at w i (Runs why (Clear index)) (guard_place (own_guard w.layout.config.scheme i j)) e (index_keeps w.layout.config.scheme i j (w.seat i).post.seat index (index_word (w.seat i).post index 0) (withdrawn_apart (counted (w.seat i).post) index j s h)))
+own_widens w i v why Finish j s f n e h y =
+    rest_widens w i v Finish j s (shown w (own_guard w.layout.config.scheme i j)) (shown (step w i) (own_guard w.layout.config.scheme i j)) refl (n.base why Finish e) refl y
+own_widens w i v why Release j s f n e h y =
+    let o : (j == 2) ≡ false = withdrawn_apart (counted (w.seat i).post) 2 j s h in
+    rest_widens w i v Release j s (shown w (own_guard w.layout.config.scheme i j)) (shown (step w i) (own_guard w.layout.config.scheme i j)) (rw o refl) (n.base why Release e) refl y
+own_widens w i v why (Reload parent index slot era steps) j s f n e h y = quiet_widens w i why (Reload parent index slot era steps) j f e (n.base why (Reload parent index slot era steps) e).fits refl
+own_widens w i v why (Allocate at) j s f n e h y = quiet_widens w i why (Allocate at) j f e (n.base why (Allocate at) e).fits refl
+own_widens w i v why (Write slot row place) j s f n e h y = quiet_widens w i why (Write slot row place) j f e (n.base why (Write slot row place) e).fits refl
+own_widens w i v why (GiveUp slot) j s f n e h y = quiet_widens w i why (GiveUp slot) j f e (n.base why (GiveUp slot) e).fits refl
+own_widens w i v why (Retire at) j s f n e h y = quiet_widens w i why (Retire at) j f e (n.base why (Retire at) e).fits refl
+own_widens w i v why (Move at) j s f n e h y = quiet_widens w i why (Move at) j f e (n.base why (Move at) e).fits refl
+
+-- counting a step changes nothing that is tried
+pub tries_counted : (clock : ℕ) (status : ℕ → Status) (post : Post) (base : Base) (s : ℕ) → tries_base clock status (counted post) base s ≡ tries_base clock status post base s
+tries_counted clock status post (Begin at) s = refl
+tries_counted clock status post (Protect aim index root steps (LoadClock tries)) s = refl
+tries_counted clock status post (Protect aim index root steps at) s = refl
+tries_counted clock status post base s = refl
+
+was_counted : (clock : ℕ) (status : ℕ → Status) (post : Post) (base : Base) (j s : ℕ) → Was clock status (counted post) base j s → Was clock status post base j s
+was_counted clock status post base j s (inl x) = inl x
+was_counted clock status post base j s (inr x) = inr (x.0, sym (tries_counted clock status post base s) ∙ x.1)
+
+-- a row that stood, or that the try had loaded, was held
+was_held : (w : World) (i : ℕ) (v : View) (why : Why) (base : Base) (j s : ℕ) → Held w v → (w.seat i).phase ≡ Runs why base → Was (w.mem Clock) v.status (w.seat i).post base j s → Holds w v (own_guard w.layout.config.scheme i j) s
+was_held w i v why base j s h e (inl x) = h.stood i j s x
+was_held w i v why base j s h e (inr x) = rw x.0 (h.tried i why base s e x.1)
+
+-- the head's row is in the queue
+pub head_queued : (w : World) (v : View) (p : ℕ) → Agree w v → w.mem Head ≡ p + 1 → in_queue (v.status p) ≡ true
+head_queued w v p a e = let q : v.status p ≡ InQueue = a.good.queue p (sym a.words.head ∙ e) in rw q refl
+
+pub finds_at : (w : World) (i : ℕ) (phase : Phase) → (w.seat i).phase ≡ phase → finds w i ≡ found (phase_move phase (w.seat i).post) (w.mem (place_in (phase_move phase (w.seat i).post)))
+finds_at w i phase e = ap (λ (p : Phase). found (phase_move p (w.seat i).post) (w.mem (place_in (phase_move p (w.seat i).post)))) e
+
+-- what stands at an index of the seat that steps
+own_from : (w : World) (i : ℕ) (v : View) (phase : Phase) (j s : ℕ) → is_wfe w.layout.config.scheme ≡ false → HeldNeeds w i v → Held w v → (w.seat i).phase ≡ phase → From phase (w.seat i).post (finds w i) j s → Holds (step w i) (rows_after w i v) (own_guard w.layout.config.scheme i j) s
+own_from w i v Idle j s f n h e y =
+    holds_kept w i v (own_guard w.layout.config.scheme i j) s n (kept_widens w i (own_guard w.layout.config.scheme i j) (keeps_at w i Idle (guard_place (own_guard w.layout.config.scheme i j)) e refl)) (h.stood i j s y)
+own_from w i v (Runs why base) j s f n h e y =
+    let b = n.base why base e in
+    let x = finds_at w i (Runs why base) e in
+    let z : stands (machine.after base (counted (w.seat i).post) (found (base_move base (w.seat i).post) (w.mem (place_in (base_move base (w.seat i).post))))).post j ≡ Some s = subst (λ (k : ℕ). stands (machine.after base (counted (w.seat i).post) k).post j ≡ Some s) x y in
+    let q = base_stood v.status w.layout.config w.mem base (counted (w.seat i).post) (w.seat i).post j s f b.fits b.index (λ p. head_queued w v p n.covers.rows) z in
+    holds_kept w i v (own_guard w.layout.config.scheme i j) s n (own_widens w i v why base j s f n e y (was_counted (w.mem Clock) v.status (w.seat i).post base j s q)) (was_held w i v why base j s h e (was_counted (w.mem Clock) v.status (w.seat i).post base j s q))
+own_from w i v (Scans later at) j s f n h e y =
+    holds_kept w i v (own_guard w.layout.config.scheme i j) s n (kept_widens w i (own_guard w.layout.config.scheme i j) (keeps_at w i (Scans later at) (guard_place (own_guard w.layout.config.scheme i j)) e (scan_quiet w.layout.config.scheme i j at (w.seat i).post))) (h.stood i j s y)
+own_from w i v (Works work) j s f n h e y =
+    holds_kept w i v (own_guard w.layout.config.scheme i j) s n (kept_widens w i (own_guard w.layout.config.scheme i j) (keeps_at w i (Works work) (guard_place (own_guard w.layout.config.scheme i j)) e (work_quiet w.layout.config.scheme i j work (w.seat i).post))) (h.stood i j s y)
+
+own_stood : (w : World) (i : ℕ) (v : View) (j s : ℕ) → is_wfe w.layout.config.scheme ≡ false → HeldNeeds w i v → Held w v → stands ((step w i).seat i).post j ≡ Some s → Holds (step w i) (rows_after w i v) (own_guard w.layout.config.scheme i j) s
+own_stood w i v j s f n h y =
+    own_from w i v (w.seat i).phase j s f n h refl (turn_from (w.seat i).phase (w.seat i).post (w.seat i).desk (finds w i) j s (subst (λ (p : Post). stands p j ≡ Some s) (stepped_post w i) y))
+
+-- the machine of the seat that steps: what it comes to
+pub out_start : (clock : ℕ) (status : ℕ → Status) (post : Post) (phase : Phase) (why : Why) (base : Base) (s : ℕ) → is_start phase ≡ true → phase ≡ Runs why base → tries_base clock status post base s ≡ true → false ≡ true
+out_start clock status post phase why base s st e h =
+    let b : starts_base base ≡ true = subst (λ (p : Phase). is_start p ≡ true) e st in
+    sym (start_untried clock status post base s b) ∙ h
+
+-- what an outcome leaves
+pub record Comes (clock : ℕ) (status : ℕ → Status) (post : Post) (outcome : Outcome) (base : Base) (s : ℕ) : Type 0 where
+  pub tried : out_tries clock status post outcome s ≡ true
+  pub at : out_index outcome ≡ index_base base
+
+pub same_run : (why other : Why) (one two : Base) → Runs why one ≡ Runs other two → one ≡ two
+same_run why other one two e = cc
+
+pub resumed_comes : (clock : ℕ) (status : ℕ → Status) (next : Post) (why : Why) (desk : Desk) (post : Post) (told : List Event) (outcome : Outcome) (other : Why) (base : Base) (s : ℕ) → phase_left (resumed why desk post told outcome).outcome ≡ Runs other base → tries_base clock status next base s ≡ true → Comes clock status next outcome base s
+resumed_comes clock status next why desk post told (Goes one) other base s e h =
+    let q = same_run why other one base e in record { tried = rw q h; at = ap index_base q }
+resumed_comes clock status next why desk post told (Ends ending) other base s e h =
+    absurd (no_truth (out_start clock status next (phase_left (resumed why desk post told (Ends ending)).outcome) other base s (resume_fresh why ending post desk told).starts e h))
+
+-- a try is not of 2GE
+try_not_ibr : (scheme : SchemeKind) (most era : ℕ) (tries : Tries) → protect_fits scheme most (LoadLink era tries) ≡ true → is_ibr scheme ≡ false
+try_not_ibr He most era tries h = refl
+try_not_ibr Ibr most era Endless h = absurd (cc)
+try_not_ibr Ibr most era (Failed count) h = absurd (grind (arith, nat_tests))
+try_not_ibr Wfe most era tries h = refl
+
+-- the interval reaches up to the clock
+whole_covers : (w : World) (i : ℕ) (v : View) (s : ℕ) → HeldNeeds w i v → (x : Option Interval) → shown w (Whole i) ≡ x → 1 ≤ w.mem Clock → w.mem Clock ≡ upper x → is_live (v.status s) ≡ true → Covers w v (Whole i) s
+whole_covers w i v s n None e o c l = absurd (omega (arith, o, c))
+whole_covers w i v s n (Some span) e o c l = live_covers w v (Whole i) span.lo span.hi s n.roots e (omega (arith, c)) l
+
+-- the link that a try loads is covered by the own guard
+loaded_covers : (w : World) (i : ℕ) (v : View) (why : Why) (aim : Aim) (index : ℕ) (root : Root) (steps : ℕ) (at : ProtectAt) (s : ℕ) → HeldNeeds w i v → (w.seat i).phase ≡ Runs why (Protect aim index root steps at) → is_wfe w.layout.config.scheme ≡ false → loads_link (w.mem Clock) v.status w.mem (w.seat i).post root at s ≡ true
+    → Covers w v (own_guard w.layout.config.scheme i index) s
+loaded_covers w i v why aim index root steps (LoadLink era tries) s n e f h =
+    let b = n.base why (Protect aim index root steps (LoadLink era tries)) e in
+    let l : w.mem (link_place root) ≡ s + 1 = grind (arith, nat_tests) in
+    let u : under v.status root ≡ true = grind (arith, nat_tests) in
+    let c : w.mem Clock ≤ era = grind (arith, nat_tests) in
+    let g = he_guard w.layout.config.scheme i index (try_not_ibr w.layout.config.scheme w.layout.config.tries era tries b.fits) in
+    rw g (live_covers w v (Index i index) era era s n.roots (b.published aim index root steps era tries refl) c (root_live w v root s n.roots l u))
+loaded_covers w i v why aim index root steps LoadWithin s n e f h =
+    let b = n.base why (Protect aim index root steps LoadWithin) e in
+    let l : w.mem (link_place root) ≡ s + 1 = grind (arith, nat_tests) in
+    let u : under v.status root ≡ true = grind (arith, nat_tests) in
+    let c : w.mem Clock ≡ upper (w.seat i).post.span = grind (arith, nat_tests) in
+    let g = ibr_guard w.layout.config.scheme i index b.fits in
+    rw g (whole_covers w i v s n (w.seat i).post.span (n.spans b.fits) n.some c (root_live w v root s n.roots l u))
+loaded_covers w i v why aim index root steps (LoadClock tries) s n e f h = absurd (cc)
+loaded_covers w i v why aim index root steps (PublishEra era tries) s n e f h = absurd (cc)
+loaded_covers w i v why aim index root steps (CheckClock era tries link) s n e f h = absurd (cc)
+loaded_covers w i v why aim index root steps PublishRequest s n e f h = absurd (cc)
+loaded_covers w i v why aim index root steps LoadOwnClock s n e f h = absurd (cc)
+loaded_covers w i v why aim index root steps (PublishHelper first era last) s n e f h = absurd (cc)
+loaded_covers w i v why aim index root steps (LoadOwnLink first era last) s n e f h = absurd (cc)
+loaded_covers w i v why aim index root steps (CheckOwnClock first era last link) s n e f h = absurd (cc)
+loaded_covers w i v why aim index root steps (AnswerOwn first era link) s n e f h = absurd (cc)
+loaded_covers w i v why aim index root steps (LoadAnswer first) s n e f h = absurd (cc)
+loaded_covers w i v why aim index root steps (TakeAnswer link era) s n e f h = absurd (cc)
+loaded_covers w i v why aim index root steps (WithdrawRequest link era) s n e f h = absurd (cc)
+loaded_covers w i v why aim index root steps (WithdrawHelper link era) s n e f h = absurd (cc)
+loaded_covers w i v why aim index root steps (CheckUpper link) s n e f h = absurd (cc)
+loaded_covers w i v why aim index root steps (RaiseUpper era) s n e f h = absurd (cc)
+
+-- a try of the seat that steps
+tried_holds : (w : World) (i : ℕ) (v : View) (why : Why) (aim : Aim) (index : ℕ) (root : Root) (steps : ℕ) (at : ProtectAt) (s : ℕ) → HeldNeeds w i v → Held w v → (w.seat i).phase ≡ Runs why (Protect aim index root steps at) → is_wfe w.layout.config.scheme ≡ false → (tries_protect (w.mem Clock) v.status (w.seat i).post root at s ≡ true) ⊎ (loads_link (w.mem Clock) v.status w.mem (w.seat i).post root at s ≡ true)
+    → Holds (step w i) (rows_after w i v) (own_guard w.layout.config.scheme i index) s
+tried_holds w i v why aim index root steps at s n h e f (inl x) =
+    let b = n.base why (Protect aim index root steps at) e in
+    holds_kept w i v (own_guard w.layout.config.scheme i index) s n (quiet_widens w i why (Protect aim index root steps at) index f e b.fits (tried_quiet (w.mem Clock) v.status (w.seat i).post root at s x)) (h.tried i why (Protect aim index root steps at) s e x)
+tried_holds w i v why aim index root steps at s n h e f (inr x) =
+    let b = n.base why (Protect aim index root steps at) e in
+    holds_kept w i v (own_guard w.layout.config.scheme i index) s n (quiet_widens w i why (Protect aim index root steps at) index f e b.fits (loaded_quiet (w.mem Clock) v.status w.mem (w.seat i).post root at s x)) (record { fits = b.guard; covers = loaded_covers w i v why aim index root steps at s n e f x })
+
+-- a protection comes to a try
+pub follows_next : (aim : Aim) (index : ℕ) (root : Root) (steps : ℕ) (at : ProtectAt) → Followed (Protect aim index root steps at) → aim ≡ Follows → root ≡ roots.Next (parent_of root)
+follows_next Alone index root steps at f e = absurd (cc)
+follows_next Follows index root steps at f e = f
+
+pub counted_tries : (clock : ℕ) (status : ℕ → Status) (mem : Place → ℕ) (post : Post) (root : Root) (at : ProtectAt) (s : ℕ) → (tries_protect clock status (counted post) root at s ≡ true) ⊎ (loads_link clock status mem (counted post) root at s ≡ true) → (tries_protect clock status post root at s ≡ true) ⊎ (loads_link clock status mem post root at s ≡ true)
+counted_tries clock status mem post root (LoadClock tries) s h = h
+counted_tries clock status mem post root (PublishEra era tries) s h = h
+counted_tries clock status mem post root (LoadLink era tries) s h = h
+counted_tries clock status mem post root (CheckClock era tries link) s h = h
+counted_tries clock status mem post root PublishRequest s h = h
+counted_tries clock status mem post root LoadOwnClock s h = h
+counted_tries clock status mem post root (PublishHelper first era last) s h = h
+counted_tries clock status mem post root (LoadOwnLink first era last) s h = h
+counted_tries clock status mem post root (CheckOwnClock first era last link) s h = h
+counted_tries clock status mem post root (AnswerOwn first era link) s h = h
+counted_tries clock status mem post root (LoadAnswer first) s h = h
+counted_tries clock status mem post root (TakeAnswer link era) s h = h
+counted_tries clock status mem post root (WithdrawRequest link era) s h = h
+counted_tries clock status mem post root (WithdrawHelper link era) s h = h
+counted_tries clock status mem post root LoadWithin s h = h
+counted_tries clock status mem post root (CheckUpper link) s h = h
+counted_tries clock status mem post root (RaiseUpper era) s h = h
+
+-- what comes of a machine's step
+pub turn_out : (w : World) (i : ℕ) (reason : Why) (one : Base) (why : Why) (base : Base) (clock : ℕ) (status : ℕ → Status) (s : ℕ)
+    → phase_left (phase_turn (Runs reason one) (counted (w.seat i).post) (w.seat i).desk (finds w i)).outcome ≡ Runs why base
+    → tries_base clock status ((step w i).seat i).post base s ≡ true
+    → Comes clock status ((step w i).seat i).post (machine.after one (counted (w.seat i).post) (finds w i)).outcome base s
+turn_out w i reason one why base clock status s o t =
+    let u : Turn = machine.after one (counted (w.seat i).post) (finds w i) in
+    resumed_comes clock status ((step w i).seat i).post reason (w.seat i).desk u.post u.told u.outcome why base s o t
+
+pub other_comes : (clock : ℕ) (status : ℕ → Status) (next post : Post) (one base : Base) (x s : ℕ) → is_protect one ≡ false → Comes clock status next (machine.after one post x).outcome base s → false ≡ true
+other_comes clock status next post one base x s p c = sym (other_tries clock status one post next x s p) ∙ c.tried
+
+-- a protection that loads or checks leaves the clock and the rows
+pub protect_stays : (w : World) (i : ℕ) (why : Why) (aim : Aim) (index : ℕ) (root : Root) (steps : ℕ) (at : ProtectAt) → (w.seat i).phase ≡ Runs why (Protect aim index root steps at) → (step w i).mem Clock ≡ w.mem Clock
+protect_stays w i why aim index root steps at e =
+    ap (λ (m : memory.Move). written w.mem m Clock) (move_is w i (Runs why (Protect aim index root steps at)) e) ∙ protect_clock w.mem index root at (w.seat i).post
+
+pub protect_rows : (w : World) (i : ℕ) (v : View) (why : Why) (aim : Aim) (index : ℕ) (root : Root) (steps : ℕ) (at : ProtectAt) → (w.seat i).phase ≡ Runs why (Protect aim index root steps at) → rows_after w i v ≡ v
+protect_rows w i v why aim index root steps at e = ap (λ (p : Phase). made i v (row_move p (w.seat i).post (finds w i))) e
+
+-- under 2GE a link is loaded with the interval that stands
+load_span : (w : World) (i : ℕ) (why : Why) (aim : Aim) (index : ℕ) (root : Root) (steps : ℕ) (at : ProtectAt) → (w.seat i).phase ≡ Runs why (Protect aim index root steps at) → at ≡ LoadWithin → ((step w i).seat i).post.span ≡ (w.seat i).post.span
+load_span w i why aim index root steps at e q =
+    let z : (w.seat i).phase ≡ Runs why (Protect aim index root steps LoadWithin) = subst (λ (a : ProtectAt). (w.seat i).phase ≡ Runs why (Protect aim index root steps a)) q e in
+    ap (λ (p : Post). p.span) (turned_post w i (Runs why (Protect aim index root steps LoadWithin)) z)
+
+protect_comes : (w : World) (i : ℕ) (v : View) (why : Why) (aim : Aim) (index : ℕ) (root : Root) (steps : ℕ) (at : ProtectAt) (base : Base) (s : ℕ) → HeldNeeds w i v → Held w v → (w.seat i).phase ≡ Runs why (Protect aim index root steps at) → is_wfe w.layout.config.scheme ≡ false
+    → Comes (w.mem Clock) v.status ((step w i).seat i).post (machine.after (Protect aim index root steps at) (counted (w.seat i).post) (finds w i)).outcome base s
+    → Holds (step w i) (rows_after w i v) (own_guard w.layout.config.scheme i (index_base base)) s
+protect_comes w i v why aim index root steps at base s n h e f c =
+    let b = n.base why (Protect aim index root steps at) e in
+    let x = finds_at w i (Runs why (Protect aim index root steps at)) e in
+    let z : Comes (w.mem Clock) v.status ((step w i).seat i).post (machine.after (Protect aim index root steps at) (counted (w.seat i).post) (found (protect_move index root at (w.seat i).post) (w.mem (place_in (protect_move index root at (w.seat i).post))))).outcome base s = subst (λ (k : ℕ). Comes (w.mem Clock) v.status ((step w i).seat i).post (machine.after (Protect aim index root steps at) (counted (w.seat i).post) k).outcome base s) x c in
+    let g = protect_tries (w.mem Clock) v.status w.layout.config.scheme w.layout.config.tries w.mem aim index root (bump steps) at (counted (w.seat i).post) (w.seat i).post ((step w i).seat i).post s refl f b.fits (follows_next aim index root steps at b.followed) (load_span w i why aim index root steps at e) z.tried in
+    rw (sym z.at ∙ g.0) (tried_holds w i v why aim index root steps at s n h e f (counted_tries (w.mem Clock) v.status w.mem (w.seat i).post root at s g.1))
+
+run_comes : (w : World) (i : ℕ) (v : View) (reason : Why) (one : Base) (why : Why) (base : Base) (s : ℕ) → HeldNeeds w i v → Held w v → is_wfe w.layout.config.scheme ≡ false → (w.seat i).phase ≡ Runs reason one
+    → phase_left (phase_turn (Runs reason one) (counted (w.seat i).post) (w.seat i).desk (finds w i)).outcome ≡ Runs why base
+    → tries_base ((step w i).mem Clock) (rows_after w i v).status ((step w i).seat i).post base s ≡ true
+    → Holds (step w i) (rows_after w i v) (own_guard w.layout.config.scheme i (index_base base)) s
+run_comes w i v reason (Protect aim index root steps at) why base s n h f e o t =
+    let c = protect_stays w i reason aim index root steps at e in
+    let r = protect_rows w i v reason aim index root steps at e in
+    let t1 : tries_base (w.mem Clock) (rows_after w i v).status ((step w i).seat i).post base s ≡ true = subst (λ (k : ℕ). tries_base k (rows_after w i v).status ((step w i).seat i).post base s ≡ true) c t in
+    let t2 : tries_base (w.mem Clock) v.status ((step w i).seat i).post base s ≡ true = subst (λ (y : View). tries_base (w.mem Clock) y.status ((step w i).seat i).post base s ≡ true) r t1 in
+    protect_comes w i v reason aim index root steps at base s n h e f (turn_out w i reason (Protect aim index root steps at) why base (w.mem Clock) v.status s o t2)
+run_comes w i v reason (Begin at) why base s n h f e o t =
+    absurd (no_truth (other_comes ((step w i).mem Clock) (rows_after w i v).status ((step w i).seat i).post (counted (w.seat i).post) (Begin at) base (finds w i) s refl (turn_out w i reason (Begin at) why base ((step w i).mem Clock) (rows_after w i v).status s o t)))
+run_comes w i v reason (Reload parent index slot era steps) why base s n h f e o t =
+    absurd (no_truth (other_comes ((step w i).mem Clock) (rows_after w i v).status ((step w i).seat i).post (counted (w.seat i).post) (Reload parent index slot era steps) base (finds w i) s refl (turn_out w i reason (Reload parent index slot era steps) why base ((step w i).mem Clock) (rows_after w i v).status s o t)))
+run_comes w i v reason (Clear index) why base s n h f e o t =
+    absurd (no_truth (other_comes ((step w i).mem Clock) (rows_after w i v).status ((step w i).seat i).post (counted (w.seat i).post) (Clear index) base (finds w i) s refl (turn_out w i reason (Clear index) why base ((step w i).mem Clock) (rows_after w i v).status s o t)))
+run_comes w i v reason Finish why base s n h f e o t =
+    absurd (no_truth (other_comes ((step w i).mem Clock) (rows_after w i v).status ((step w i).seat i).post (counted (w.seat i).post) Finish base (finds w i) s refl (turn_out w i reason Finish why base ((step w i).mem Clock) (rows_after w i v).status s o t)))
+run_comes w i v reason Release why base s n h f e o t =
+    absurd (no_truth (other_comes ((step w i).mem Clock) (rows_after w i v).status ((step w i).seat i).post (counted (w.seat i).post) Release base (finds w i) s refl (turn_out w i reason Release why base ((step w i).mem Clock) (rows_after w i v).status s o t)))
+run_comes w i v reason (Allocate at) why base s n h f e o t =
+    absurd (no_truth (other_comes ((step w i).mem Clock) (rows_after w i v).status ((step w i).seat i).post (counted (w.seat i).post) (Allocate at) base (finds w i) s refl (turn_out w i reason (Allocate at) why base ((step w i).mem Clock) (rows_after w i v).status s o t)))
+run_comes w i v reason (Write slot row place) why base s n h f e o t =
+    absurd (no_truth (other_comes ((step w i).mem Clock) (rows_after w i v).status ((step w i).seat i).post (counted (w.seat i).post) (Write slot row place) base (finds w i) s refl (turn_out w i reason (Write slot row place) why base ((step w i).mem Clock) (rows_after w i v).status s o t)))
+run_comes w i v reason (GiveUp slot) why base s n h f e o t =
+    absurd (no_truth (other_comes ((step w i).mem Clock) (rows_after w i v).status ((step w i).seat i).post (counted (w.seat i).post) (GiveUp slot) base (finds w i) s refl (turn_out w i reason (GiveUp slot) why base ((step w i).mem Clock) (rows_after w i v).status s o t)))
+run_comes w i v reason (Retire at) why base s n h f e o t =
+    absurd (no_truth (other_comes ((step w i).mem Clock) (rows_after w i v).status ((step w i).seat i).post (counted (w.seat i).post) (Retire at) base (finds w i) s refl (turn_out w i reason (Retire at) why base ((step w i).mem Clock) (rows_after w i v).status s o t)))
+run_comes w i v reason (Move at) why base s n h f e o t =
+    absurd (no_truth (other_comes ((step w i).mem Clock) (rows_after w i v).status ((step w i).seat i).post (counted (w.seat i).post) (Move at) base (finds w i) s refl (turn_out w i reason (Move at) why base ((step w i).mem Clock) (rows_after w i v).status s o t)))
+
+-- the turn of the seat that steps comes to a try
+turn_comes : (w : World) (i : ℕ) (v : View) (phase : Phase) (why : Why) (base : Base) (s : ℕ) → HeldNeeds w i v → Held w v → is_wfe w.layout.config.scheme ≡ false → (w.seat i).phase ≡ phase
+    → phase_left (phase_turn phase (counted (w.seat i).post) (w.seat i).desk (finds w i)).outcome ≡ Runs why base
+    → tries_base ((step w i).mem Clock) (rows_after w i v).status ((step w i).seat i).post base s ≡ true
+    → Holds (step w i) (rows_after w i v) (own_guard w.layout.config.scheme i (index_base base)) s
+turn_comes w i v Idle why base s n h f e o t = absurd (cc)
+turn_comes w i v (Scans later at) why base s n h f e o t =
+    absurd (no_truth (out_start ((step w i).mem Clock) (rows_after w i v).status ((step w i).seat i).post (phase_left (scan_turn later at (counted (w.seat i).post) (w.seat i).desk (finds w i)).outcome) why base s (scan_starts later at (counted (w.seat i).post) (w.seat i).desk (finds w i)) o t))
+turn_comes w i v (Works work) why base s n h f e o t =
+    absurd (no_truth (out_start ((step w i).mem Clock) (rows_after w i v).status ((step w i).seat i).post (phase_left (work_turn work (counted (w.seat i).post) (w.seat i).desk (finds w i)).outcome) why base s (work_fresh work (counted (w.seat i).post) (w.seat i).desk (finds w i)).starts o t))
+turn_comes w i v (Runs reason one) why base s n h f e o t = run_comes w i v reason one why base s n h f e o t
+
+own_tried : (w : World) (i : ℕ) (v : View) (why : Why) (base : Base) (s : ℕ) → is_wfe w.layout.config.scheme ≡ false → HeldNeeds w i v → Held w v → ((step w i).seat i).phase ≡ Runs why base → tries_base ((step w i).mem Clock) (rows_after w i v).status ((step w i).seat i).post base s ≡ true
+    → Holds (step w i) (rows_after w i v) (own_guard w.layout.config.scheme i (index_base base)) s
+own_tried w i v why base s f n h e t = turn_comes w i v (w.seat i).phase why base s n h f refl (sym (stepped_phase w i) ∙ e) t
+
+-- the other seats
+other_keeps : (w : World) (i k j : ℕ) (v : View) (phase : Phase) → (k == i) ≡ false → is_wfe w.layout.config.scheme ≡ false → HeldNeeds w i v → (w.seat i).phase ≡ phase → keeps (phase_move phase (w.seat i).post) (guard_place (own_guard w.layout.config.scheme k j)) ≡ true
+other_keeps w i k j v Idle o f n e = refl
+other_keeps w i k j v (Runs why base) o f n e = base_other w.layout.config.scheme k j w.layout.config base (w.seat i).post f (n.base why base e).fits (rw n.seat o)
+other_keeps w i k j v (Scans later at) o f n e = scan_quiet w.layout.config.scheme k j at (w.seat i).post
+other_keeps w i k j v (Works work) o f n e = work_quiet w.layout.config.scheme k j work (w.seat i).post
+
+other_holds : (w : World) (i k j : ℕ) (v : View) (s : ℕ) → (k == i) ≡ false → is_wfe w.layout.config.scheme ≡ false → HeldNeeds w i v → Holds w v (own_guard w.layout.config.scheme k j) s → Holds (step w i) (rows_after w i v) (own_guard w.layout.config.scheme k j) s
+other_holds w i k j v s o f n h = holds_kept w i v (own_guard w.layout.config.scheme k j) s n (kept_widens w i (own_guard w.layout.config.scheme k j) (other_keeps w i k j v (w.seat i).phase o f n refl)) h
+
+parent_back : (w : World) (i k : ℕ) (v : View) (why : Why) (base : Base) (p : ℕ) → HeldNeeds w i v → Held w v → (w.seat k).phase ≡ Runs why base → follows_row base p ≡ true → in_queue ((rows_after w i v).status p) ≡ true → in_queue (v.status p) ≡ true
+parent_back w i k v why base p n h e r q =
+    let c = (h.stood k 0 p (n.parents k why base p e r)).covers in
+    queued_back i v (row_move (w.seat i).phase (w.seat i).post (finds w i)) p (before_at w i v n.covers) (spans_past (shown w (own_guard w.layout.config.scheme k 0)) (v.birth p) (v.status p) c.spans) q
+
+other_tried : (w : World) (i k : ℕ) (v : View) (why : Why) (base : Base) (s : ℕ) → (k == i) ≡ false → is_wfe w.layout.config.scheme ≡ false → HeldNeeds w i v → Held w v → (w.seat k).phase ≡ Runs why base → tries_base ((step w i).mem Clock) (rows_after w i v).status (w.seat k).post base s ≡ true
+    → Holds (step w i) (rows_after w i v) (own_guard w.layout.config.scheme k (index_base base)) s
+other_tried w i k v why base s o f n h e t =
+    other_holds w i k (index_base base) v s o f n (h.tried k why base s e (tries_back (w.mem Clock) ((step w i).mem Clock) v.status (rows_after w i v).status (w.seat k).post base s n.clock (n.eras k why base e) (λ p r q. parent_back w i k v why base p n h e r q) t))
+
+-- each seat, by whether it is the one that steps
+stood_at : (w : World) (i k j s : ℕ) (v : View) (own : Bool) → (k == i) ≡ own → is_wfe w.layout.config.scheme ≡ false → HeldNeeds w i v → Held w v → stands ((step w i).seat k).post j ≡ Some s → Holds (step w i) (rows_after w i v) (own_guard w.layout.config.scheme k j) s
+stood_at w i k j s v true o f n h y =
+    let q : k ≡ i = grind (arith, nat_tests) in
+    subst (λ (m : ℕ). stands ((step w i).seat m).post j ≡ Some s → Holds (step w i) (rows_after w i v) (own_guard w.layout.config.scheme m j) s) (sym q) (own_stood w i v j s f n h) y
+stood_at w i k j s v false o f n h y =
+    other_holds w i k j v s o f n (h.stood k j s (subst (λ (l : Local). stands l.post j ≡ Some s) (seat_stays w i k o) y))
+
+tried_at : (w : World) (i k : ℕ) (v : View) (why : Why) (base : Base) (s : ℕ) (own : Bool) → (k == i) ≡ own → is_wfe w.layout.config.scheme ≡ false → HeldNeeds w i v → Held w v → ((step w i).seat k).phase ≡ Runs why base → tries_base ((step w i).mem Clock) (rows_after w i v).status ((step w i).seat k).post base s ≡ true
+    → Holds (step w i) (rows_after w i v) (own_guard w.layout.config.scheme k (index_base base)) s
+tried_at w i k v why base s true o f n h e t =
+    let q : k ≡ i = grind (arith, nat_tests) in
+    subst (λ (m : ℕ). ((step w i).seat m).phase ≡ Runs why base → tries_base ((step w i).mem Clock) (rows_after w i v).status ((step w i).seat m).post base s ≡ true → Holds (step w i) (rows_after w i v) (own_guard w.layout.config.scheme m (index_base base)) s) (sym q) (own_tried w i v why base s f n h) e t
+tried_at w i k v why base s false o f n h e t =
+    other_tried w i k v why base s o f n h (sym (ap (λ (l : Local). l.phase) (seat_stays w i k o)) ∙ e) (subst (λ (l : Local). tries_base ((step w i).mem Clock) (rows_after w i v).status l.post base s ≡ true) (seat_stays w i k o) t)
+
+pub held_kept : HeldKept
+held_kept w i v f n h = record {
+  stood = λ k j s y. stood_at w i k j s v (k == i) refl f n h y;
+  tried = λ k why base s e t. tried_at w i k v why base s (k == i) refl f n h e t;
+}

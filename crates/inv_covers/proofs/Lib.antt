@@ -1,0 +1,20 @@
+pub use Rattle.inv_rows.proofs as rows
+pub use Rattle.inv_shapes.proofs as shapes
+pub use Rattle.inv_shapes.proofs.model as model
+pub use Rattle.inv_shapes.proofs.words as words
+pub mod Begun
+pub mod Following
+pub mod Fresh
+pub mod Guards
+pub mod Held
+pub mod Kept
+pub mod Parents
+pub mod Resting
+pub mod Rests
+pub mod Rows
+pub mod Scans
+pub mod Stands
+pub mod Stood
+pub mod Tried
+pub mod Vacant
+pub mod Words

@@ -1,0 +1,323 @@
+-- Where nothing stands after a call's own step, and after what comes after a machine.
+use Rattle.std.proofs.Common.{ℕ, ◌≡◌, ◌≢◌, ◌+◌, ◌∙◌, Bool, true, false, List, [], ◌∷◌, ◌++◌, length, Option, Some, None, refl, ap, sym, subst, arith}
+use Rattle.std.proofs.lemmas.Bool.Decides.{nat_tests}
+use Rattle.std.specs.Prelude.{◌==◌, ◌%◌, ◌-◌, nat_lt}
+use Rattle.inv_shapes.specs.defs.declared.call.Answer.{Answer}
+use Rattle.inv_shapes.specs.defs.declared.call.Answer.TheVariants as the_answers
+use Rattle.inv_shapes.specs.defs.declared.call.ClockMove.TheVariants as moves
+use Rattle.inv_shapes.specs.defs.declared.event.Event.{Event}
+use Rattle.inv_shapes.specs.defs.declared.event.Event.TheVariants as events
+use Rattle.inv_shapes.specs.defs.declared.event.Root.TheVariants as roots
+use Rattle.inv_shapes.specs.model.declared.ends.AllocateEnd.{AllocateEnd}
+use Rattle.inv_shapes.specs.model.declared.ends.AllocateEnd.TheVariants as allocate_ends
+use Rattle.inv_shapes.specs.model.declared.ends.FollowEnd.{FollowEnd}
+use Rattle.inv_shapes.specs.model.declared.ends.FollowEnd.TheVariants as follow_ends
+use Rattle.inv_shapes.specs.model.declared.ends.ProtectEnd.TheVariants as protect_ends
+use Rattle.inv_shapes.specs.model.declared.post.Post.{Post}
+use Rattle.inv_shapes.specs.model.Desks.{Desk, with_life}
+use Rattle.inv_shapes.specs.model.Phases.{Ending}
+use Rattle.inv_shapes.specs.model.Phases.Ending.{Done, Protected, Followed, Allocated, Retired, Clocked}
+use Rattle.inv_shapes.specs.model.Rounds.{bucket_of, scheme_of, index_of, root_of, taken_of, begin_span, begin_base, clear_base, clear_post, clear_told, finish_base, round_by, round, given_up, closed, finishing_by, finishing, clearing_by, clearing, clearing_next_by, clearing_next, finish_span, protect_base, opening}
+use Rattle.inv_shapes.specs.model.Get as gets
+use Rattle.inv_shapes.specs.model.Change as alters
+use Rattle.inv_shapes.specs.model.Enqueue as enqueues
+use Rattle.inv_shapes.specs.model.Dequeue as dequeues
+use Rattle.inv_shapes.specs.model.Steps as steps
+use Rattle.inv_shapes.specs.model.Calls.{Task, Gets, Changes, Holds, Enqueues, Dequeues, Again, Answering, Retiring, AfterScan, Why, Phase, ChangeKept, EnqueueKept, GetAt, FindVersion, FindCount, FindKey, FindValue, ChangeAt, LoadVersion, LoadCount, LoadKey, LoadValue, ExchangeRoot, EnqueueAt, LoadNumber, LoadNext, PassTail, ExchangeNext, ExchangeTail, DequeueAt, LoadTail, SwingTail, TakeNumber, TakeValue, ExchangeHead, Work, Getting, Changing, Enqueuing, Dequeuing, Opens, FollowsHead, Fills, ClearsNext, Clears, Finishes, GivesUp, Retires, Tidies, Advances, Releases, Next, MakeRoom, CallTurn}
+use Rattle.inv_shapes.specs.words.declared.config.SchemeKind.{SchemeKind}
+use Rattle.inv_shapes.specs.words.declared.config.SchemeKind.TheVariants.{He, Ibr, Wfe}
+use Rattle.inv_shapes.specs.model.Posts.{stands, withdrawn}
+use Rattle.inv_shapes.specs.defs.declared.event.Root.{Root}
+use Rattle.inv_shapes.specs.defs.declared.lifetime.Interval.{Interval}
+use Rattle.inv_shapes.specs.Frame.{phase_left}
+use Rattle.inv_covers.specs.Rests.{spare, bare, beside, within, deep, vacant_later, vacant_dequeue, vacant_work, vacant, vacant_filled, vacant_opened, vacant_followed, vacant_released, vacant_after, Vacant}
+use Rattle.inv_shapes.proofs.model.Standing.{stands-withdrawn_same, stands-withdrawn_other}
+
+-- nothing stands where the next phase says so
+abbrev pub Turned : CallTurn → Type 0
+Turned t = Vacant (vacant (phase_left t.outcome)) t.post
+
+pub spare_bare : (task : Task) (j : ℕ) → spare j ≡ true → bare task j ≡ true
+spare_bare (Gets key) j h = h
+spare_bare (Changes kept) j h = h
+spare_bare (Holds key) j h = refl
+spare_bare (Enqueues kept) j h = h
+spare_bare Dequeues j h = h
+
+within_beside : (task : Task) (j : ℕ) → within j ≡ true → beside task j ≡ true
+within_beside (Gets key) j h = h
+within_beside (Changes kept) j h = h
+within_beside (Holds key) j h = grind (arith, nat_tests)
+within_beside (Enqueues kept) j h = h
+within_beside Dequeues j h = h
+
+opening_at : (task : Task) (post : Post) (index : ℕ) (root : Root) (scheme : SchemeKind) → Vacant (bare task) post → Vacant (vacant (Phase.Runs (Opens task) (protect_base scheme index root))) post
+opening_at task post index root He h = h
+opening_at task post index root Ibr h = h
+opening_at task post index root Wfe h = h
+
+opening_vacant : (task : Task) (post : Post) → Vacant (bare task) post → Vacant (vacant (opening task post)) post
+opening_vacant task post h = opening_at task post (index_of task) (root_of task post) (scheme_of post) h
+
+span_vacant : (task : Task) (post : Post) (x : Option Interval) → Vacant (bare task) post → Vacant (vacant (round_by task post (begin_span x))) post
+span_vacant task post None h = h
+span_vacant task post (Some span) h = opening_vacant task post h
+
+round_by_vacant : (task : Task) (post : Post) (scheme : SchemeKind) → Vacant (bare task) post → Vacant (vacant (round_by task post (begin_base scheme post))) post
+round_by_vacant task post He h = opening_vacant task post h
+round_by_vacant task post Ibr h = span_vacant task post post.span h
+round_by_vacant task post Wfe h = opening_vacant task post h
+
+pub round_vacant : (task : Task) (post : Post) → Vacant (bare task) post → Vacant (vacant (round task post)) post
+round_vacant task post h = round_by_vacant task post (scheme_of post) h
+
+given_up_vacant : (answer : Answer) (post : Post) (desk : Desk) (told : List Event) (x : Option ℕ) → Vacant spare post → Turned (given_up answer post desk told x)
+given_up_vacant answer post desk told None h = h
+given_up_vacant answer post desk told (Some slot) h = h
+
+closed_vacant : (task : Task) (next : Next) (post : Post) (desk : Desk) (told : List Event) → Vacant (bare task) post → Turned (closed task next post desk told)
+closed_vacant task Again post desk told h = round_vacant task post h
+closed_vacant task MakeRoom post desk told h = h
+closed_vacant task (Answering answer) post desk told h = given_up_vacant answer post desk told (taken_of task) (λ j e. h j (spare_bare task j e))
+closed_vacant task (Retiring slot answer) post desk told h = λ j e. h j (spare_bare task j e)
+
+all_vacant : (task : Task) (post : Post) → Vacant (bare task) post → stands post 2 ≡ None → (j : ℕ) → stands post j ≡ None
+all_vacant task post h n j = by_two (j == 2) refl where
+  by_two : (two : Bool) → (j == 2) ≡ two → stands post j ≡ None
+  by_two true e = let q : j ≡ 2 = grind (arith, nat_tests) in rw q n
+  by_two false e = h j (spare_bare task j (rw e refl))
+
+finish_vacant : (task : Task) (next : Next) (post : Post) (desk : Desk) (told : List Event) (x : Option ℕ) → stands post 2 ≡ x → Vacant (bare task) post → Turned (finishing_by task next post desk told (finish_span x))
+finish_vacant task next post desk told None n h = λ j e. all_vacant task post h n j
+finish_vacant task next post desk told (Some slot) n h = closed_vacant task next post desk told h
+
+finishing_by_vacant : (task : Task) (next : Next) (post : Post) (desk : Desk) (told : List Event) (scheme : SchemeKind) → Vacant (bare task) post → Turned (finishing_by task next post desk told (finish_base scheme post))
+finishing_by_vacant task next post desk told He h = closed_vacant task next post desk told h
+finishing_by_vacant task next post desk told Ibr h = finish_vacant task next post desk told (stands post 2) refl h
+finishing_by_vacant task next post desk told Wfe h = closed_vacant task next post desk told h
+
+finishing_vacant : (task : Task) (next : Next) (post : Post) (desk : Desk) (told : List Event) → Vacant (bare task) post → Turned (finishing task next post desk told)
+finishing_vacant task Again post desk told h = closed_vacant task Again post desk told h
+finishing_vacant task MakeRoom post desk told h = finishing_by_vacant task MakeRoom post desk told (scheme_of post) h
+finishing_vacant task (Answering answer) post desk told h = finishing_by_vacant task (Answering answer) post desk told (scheme_of post) h
+finishing_vacant task (Retiring slot answer) post desk told h = finishing_by_vacant task (Retiring slot answer) post desk told (scheme_of post) h
+
+-- withdrawing leaves one index more with nothing
+pub withdrawn_vacant : (f g : ℕ → Bool) (post : Post) (index : ℕ) → ((j : ℕ) → (j == index) ≡ false → g j ≡ true → f j ≡ true) → Vacant f post → Vacant g (withdrawn post index)
+withdrawn_vacant f g post index w h j e = by_own (j == index) refl where
+  by_own : (own : Bool) → (j == index) ≡ own → stands (withdrawn post index) j ≡ None
+  by_own true q = let z : j ≡ index = grind (arith, nat_tests) in rw z (stands-withdrawn_same post index)
+  by_own false q = let z : j ≢ index = grind (arith, nat_tests) in stands-withdrawn_other post index j z ∙ h j (w j q e)
+
+pub bare_beside : (task : Task) (j : ℕ) → (j == index_of task) ≡ false → bare task j ≡ true → beside task j ≡ true
+bare_beside task j n h = grind (arith, nat_tests)
+
+cleared_vacant : (task : Task) (next : Next) (post : Post) (desk : Desk) (told : List Event) (scheme : SchemeKind) → scheme_of post ≡ scheme → Vacant (beside task) post → Turned (finishing task next (withdrawn post (index_of task)) desk told)
+cleared_vacant task next post desk told scheme e h = finishing_vacant task next (withdrawn post (index_of task)) desk told (withdrawn_vacant (beside task) (bare task) post (index_of task) (λ j n k. bare_beside task j n k) h)
+
+same_turn : (one two : CallTurn) → one ≡ two → Turned one → Turned two
+same_turn one two e h = subst Turned e h
+
+clearing_by_vacant : (task : Task) (next : Next) (post : Post) (desk : Desk) (told : List Event) (scheme : SchemeKind) → scheme_of post ≡ scheme → Vacant (beside task) post → Turned (clearing_by task next post desk told (clear_base scheme (index_of task)))
+clearing_by_vacant task next post desk told He e h = h
+clearing_by_vacant task next post desk told Ibr e h =
+    let q : clear_post (scheme_of post) post (index_of task) ≡ withdrawn post (index_of task) = ap (λ (s : SchemeKind). clear_post s post (index_of task)) e in
+    subst (λ (p : Post). Turned (finishing task next p desk (told ++ clear_told (scheme_of post) post (index_of task)))) (sym q) (cleared_vacant task next post desk (told ++ clear_told (scheme_of post) post (index_of task)) Ibr e h)
+clearing_by_vacant task next post desk told Wfe e h = h
+
+pub clearing_vacant : (task : Task) (next : Next) (post : Post) (desk : Desk) (told : List Event) → Vacant (beside task) post → Turned (clearing task next post desk told)
+clearing_vacant task next post desk told h = clearing_by_vacant task next post desk told (scheme_of post) refl h
+
+clearing_next_by_vacant : (next : Next) (post : Post) (desk : Desk) (told : List Event) (scheme : SchemeKind) → scheme_of post ≡ scheme → Vacant deep post → Turned (clearing_next_by next post desk told (clear_base scheme 1))
+clearing_next_by_vacant next post desk told He e h = h
+clearing_next_by_vacant next post desk told Ibr e h =
+    let q : clear_post (scheme_of post) post 1 ≡ withdrawn post 1 = ap (λ (s : SchemeKind). clear_post s post 1) e in
+    subst (λ (p : Post). Turned (clearing Dequeues next p desk (told ++ clear_told (scheme_of post) post 1))) (sym q) (clearing_vacant Dequeues next (withdrawn post 1) desk (told ++ clear_told (scheme_of post) post 1) (withdrawn_vacant deep within post 1 (λ j n k. grind (arith, nat_tests)) h))
+clearing_next_by_vacant next post desk told Wfe e h = h
+
+clearing_next_vacant : (next : Next) (post : Post) (desk : Desk) (told : List Event) → Vacant deep post → Turned (clearing_next next post desk told)
+clearing_next_vacant next post desk told h = clearing_next_by_vacant next post desk told (scheme_of post) refl h
+
+got_vacant : (key version : ℕ) (value : Option ℕ) (post : Post) (desk : Desk) (told : List Event) → Vacant (beside (Gets key)) post → Turned (gets.got key version value post desk told)
+got_vacant key version value post desk told h = clearing_vacant (Gets key) (Answering (the_answers.Got version value)) post desk (told ++ events.Got (bucket_of post key) version key value ∷ []) (λ j e. h j (grind (arith, nat_tests)))
+
+finding_vacant : (key slot version count : ℕ) (post : Post) (desk : Desk) (more : Bool) (pair : ℕ) → Vacant within post → Turned (gets.finding key slot version count post desk more pair)
+finding_vacant key slot version count post desk true pair h = λ j e. h j (grind (arith, nat_tests))
+finding_vacant key slot version count post desk false pair h = got_vacant key version None post desk [] (λ j e. h j (grind (arith, nat_tests)))
+
+found_key_vacant : (key slot version count pair : ℕ) (post : Post) (desk : Desk) (own : Bool) → Vacant within post → Turned (gets.found_key key slot version count pair post desk own)
+found_key_vacant key slot version count pair post desk true h = λ j e. h j (grind (arith, nat_tests))
+found_key_vacant key slot version count pair post desk false h = finding_vacant key slot version count post desk (nat_lt (pair + 1) count) (pair + 1) (λ j e. h j (grind (arith, nat_tests)))
+
+get_vacant : (key : ℕ) (at : GetAt) (post : Post) (desk : Desk) (found : ℕ) → Vacant within post → Turned (gets.get_turn key at post desk found)
+get_vacant key (FindVersion slot) post desk found h = λ j e. h j (grind (arith, nat_tests))
+get_vacant key (FindCount slot version) post desk found h = finding_vacant key slot version found post desk (nat_lt 0 found) 0 (λ j e. h j (grind (arith, nat_tests)))
+get_vacant key (FindKey slot version count pair) post desk found h = found_key_vacant key slot version count pair post desk (found == key) (λ j e. h j (grind (arith, nat_tests)))
+get_vacant key (FindValue slot version pair) post desk found h = got_vacant key version (Some found) post desk [] (λ j e. h j (grind (arith, nat_tests)))
+
+deciding_by_vacant : (kept : ChangeKept) (post : Post) (desk : Desk) (told : List Event) (x : Option Answer) → Vacant within post → Turned (alters.deciding_by kept post desk told x)
+deciding_by_vacant kept post desk told (Some answer) h = clearing_vacant (Changes kept) (Answering answer) post desk told (λ j e. h j (grind (arith, nat_tests)))
+deciding_by_vacant kept post desk told None h = λ j e. h j (grind (arith, nat_tests))
+
+deciding_vacant : (kept : ChangeKept) (post : Post) (desk : Desk) (told : List Event) → Vacant within post → Turned (alters.deciding kept post desk told)
+deciding_vacant kept post desk told h = deciding_by_vacant kept post desk told (alters.refusal post.layout.config kept.version kept.pairs kept.change) (λ j e. h j (grind (arith, nat_tests)))
+
+reading_vacant : (kept : ChangeKept) (slot count : ℕ) (post : Post) (desk : Desk) (more : Bool) → Vacant within post → Turned (alters.reading kept slot count post desk more)
+reading_vacant kept slot count post desk true h = λ j e. h j (grind (arith, nat_tests))
+reading_vacant kept slot count post desk false h = deciding_vacant kept post desk [] (λ j e. h j (grind (arith, nat_tests)))
+
+exchanged_vacant : (kept : ChangeKept) (slot : ℕ) (post : Post) (desk : Desk) (same : Bool) → Vacant within post → Turned (alters.exchanged kept slot post desk same)
+exchanged_vacant kept slot post desk true h = clearing_vacant (Changes (record kept { taken = None })) (alters.answer_done (kept.version + 1) kept.link) post desk (alters.told_linked kept slot post) (λ j e. h j (grind (arith, nat_tests)))
+exchanged_vacant kept slot post desk false h = clearing_vacant (Changes kept) Again post desk [] (λ j e. h j (grind (arith, nat_tests)))
+
+change_vacant : (kept : ChangeKept) (at : ChangeAt) (post : Post) (desk : Desk) (found : ℕ) → Vacant within post → Turned (alters.change_turn kept at post desk found)
+change_vacant kept (LoadVersion slot) post desk found h = λ j e. h j (grind (arith, nat_tests))
+change_vacant kept (LoadCount slot) post desk found h = reading_vacant kept slot found post desk (nat_lt 0 found) (λ j e. h j (grind (arith, nat_tests)))
+change_vacant kept (LoadKey slot count) post desk found h = λ j e. h j (grind (arith, nat_tests))
+change_vacant kept (LoadValue slot count key) post desk found h = reading_vacant (alters.with_read kept key found) slot count post desk (nat_lt (length kept.pairs + 1) count) (λ j e. h j (grind (arith, nat_tests)))
+change_vacant kept (ExchangeRoot slot) post desk found h = exchanged_vacant kept slot post desk (found == kept.link) (λ j e. h j (grind (arith, nat_tests)))
+
+appending_vacant : (kept : EnqueueKept) (post : Post) (desk : Desk) (spent : Bool) → Vacant within post → Turned (enqueues.appending kept post desk spent)
+appending_vacant kept post desk true h = clearing_vacant (Enqueues kept) (Answering (the_answers.Spent kept.number)) post desk [] (λ j e. h j (grind (arith, nat_tests)))
+appending_vacant kept post desk false h = λ j e. h j (grind (arith, nat_tests))
+
+at_next_vacant : (kept : EnqueueKept) (next : ℕ) (post : Post) (desk : Desk) (none : Bool) → Vacant within post → Turned (enqueues.at_next kept next post desk none)
+at_next_vacant kept next post desk true h = appending_vacant kept post desk (kept.number == post.layout.config.last_version) (λ j e. h j (grind (arith, nat_tests)))
+at_next_vacant kept next post desk false h = λ j e. h j (grind (arith, nat_tests))
+
+appended_vacant : (kept : EnqueueKept) (slot : ℕ) (post : Post) (desk : Desk) (same : Bool) → Vacant within post → Turned (enqueues.appended kept slot post desk same)
+appended_vacant kept slot post desk true h = λ j e. h j (grind (arith, nat_tests))
+appended_vacant kept slot post desk false h = clearing_vacant (Enqueues kept) Again post desk [] (λ j e. h j (grind (arith, nat_tests)))
+
+enqueue_vacant : (kept : EnqueueKept) (at : EnqueueAt) (post : Post) (desk : Desk) (found : ℕ) → Vacant within post → Turned (enqueues.enqueue_turn kept at post desk found)
+enqueue_vacant kept LoadNumber post desk found h = λ j e. h j (grind (arith, nat_tests))
+enqueue_vacant kept LoadNext post desk found h = at_next_vacant kept found post desk (found == 0) (λ j e. h j (grind (arith, nat_tests)))
+enqueue_vacant kept (PassTail next) post desk found h = clearing_vacant (Enqueues kept) Again post desk (enqueues.told_link roots.Tail (next - 1) (found == kept.tail + 1)) (λ j e. h j (grind (arith, nat_tests)))
+enqueue_vacant kept (ExchangeNext slot) post desk found h = appended_vacant kept slot post desk (found == 0) (λ j e. h j (grind (arith, nat_tests)))
+enqueue_vacant kept (ExchangeTail slot) post desk found h = clearing_vacant (Enqueues kept) (Answering (the_answers.Queued (kept.number + 1))) post desk (enqueues.told_link roots.Tail slot (found == kept.tail + 1)) (λ j e. h j (grind (arith, nat_tests)))
+
+followed_row_vacant : (head next : ℕ) (post : Post) (desk : Desk) (told : List Event) (lags : Bool) → Vacant deep post → Turned (dequeues.followed_row head next post desk told lags)
+followed_row_vacant head next post desk told true h = λ j e. h j (grind (arith, nat_tests))
+followed_row_vacant head next post desk told false h = λ j e. h j (grind (arith, nat_tests))
+
+followed_vacant : (head tail : ℕ) (ending : FollowEnd) (post : Post) (desk : Desk) (told : List Event) → Vacant deep post → Turned (dequeues.followed head tail ending post desk told)
+followed_vacant head tail (follow_ends.Followed slot) post desk told h = followed_row_vacant head slot post desk told (tail == head + 1) (λ j e. h j (grind (arith, nat_tests)))
+followed_vacant head tail follow_ends.NoNext post desk told h = clearing_next_vacant (Answering the_answers.Empty) post desk told (λ j e. h j (grind (arith, nat_tests)))
+followed_vacant head tail (follow_ends.RootMoved seen) post desk told h = clearing_next_vacant Again post desk told (λ j e. h j (grind (arith, nat_tests)))
+
+taken_vacant : (head next number value : ℕ) (post : Post) (desk : Desk) (same : Bool) → Vacant deep post → Turned (dequeues.taken head next number value post desk same)
+taken_vacant head next number value post desk true h = clearing_next_vacant (Retiring head (the_answers.Taken number value moves.Still)) post desk (events.Link roots.Head next ∷ events.Cut head ∷ events.Taken number value ∷ []) (λ j e. h j (grind (arith, nat_tests)))
+taken_vacant head next number value post desk false h = clearing_next_vacant Again post desk [] (λ j e. h j (grind (arith, nat_tests)))
+
+dequeue_vacant : (at : DequeueAt) (post : Post) (desk : Desk) (found : ℕ) → Vacant (vacant_dequeue at) post → Turned (dequeues.dequeue_turn at post desk found)
+dequeue_vacant (LoadTail head) post desk found h = λ j e. h j (grind (arith, nat_tests))
+dequeue_vacant (SwingTail head next) post desk found h = clearing_next_vacant Again post desk (enqueues.told_link roots.Tail next (found == head + 1)) (λ j e. h j (grind (arith, nat_tests)))
+dequeue_vacant (TakeNumber head next) post desk found h = λ j e. h j (grind (arith, nat_tests))
+dequeue_vacant (TakeValue head next number) post desk found h = λ j e. h j (grind (arith, nat_tests))
+dequeue_vacant (ExchangeHead head next number value) post desk found h = taken_vacant head next number value post desk (found == head + 1) (λ j e. h j (grind (arith, nat_tests)))
+
+pub work_vacant : (work : Work) (post : Post) (desk : Desk) (found : ℕ) → Vacant (vacant_work work) post → Turned (steps.work_turn work post desk found)
+work_vacant (Getting key at) post desk found h = get_vacant key at post desk found (λ j e. h j (grind (arith, nat_tests)))
+work_vacant (Changing kept at) post desk found h = change_vacant kept at post desk found (λ j e. h j (grind (arith, nat_tests)))
+work_vacant (Enqueuing kept at) post desk found h = enqueue_vacant kept at post desk found (λ j e. h j (grind (arith, nat_tests)))
+work_vacant (Dequeuing at) post desk found h = dequeue_vacant at post desk found (λ j e. h j (grind (arith, nat_tests)))
+
+opened_row_vacant : (task : Task) (slot : ℕ) (post : Post) (desk : Desk) (told : List Event) → Vacant (beside task) post → Turned (steps.opened_row task slot post desk told)
+opened_row_vacant (Gets key) slot post desk told h = λ j e. h j (grind (arith, nat_tests))
+opened_row_vacant (Changes kept) slot post desk told h = λ j e. h j (grind (arith, nat_tests))
+opened_row_vacant (Holds key) slot post desk told h = λ j e. h j (grind (arith, nat_tests))
+opened_row_vacant (Enqueues kept) slot post desk told h = λ j e. h j (grind (arith, nat_tests))
+opened_row_vacant Dequeues slot post desk told h = λ j e. h j (grind (arith, nat_tests))
+
+opened_null_vacant : (task : Task) (post : Post) (desk : Desk) (told : List Event) → Vacant (beside task) post → Turned (steps.opened_null task post desk told)
+opened_null_vacant (Gets key) post desk told h = got_vacant key 0 None post desk told (λ j e. h j (grind (arith, nat_tests)))
+opened_null_vacant (Changes kept) post desk told h = deciding_vacant (alters.at_link kept 0) post desk told (λ j e. h j (grind (arith, nat_tests)))
+opened_null_vacant (Holds key) post desk told h = clearing_vacant (Holds key) (Answering the_answers.Nothing) post desk told (λ j e. h j (grind (arith, nat_tests)))
+opened_null_vacant (Enqueues kept) post desk told h = clearing_vacant (Enqueues kept) Again post desk told (λ j e. h j (grind (arith, nat_tests)))
+opened_null_vacant Dequeues post desk told h = clearing_vacant Dequeues Again post desk told (λ j e. h j (grind (arith, nat_tests)))
+
+opened_vacant : (task : Task) (ending : Ending) (post : Post) (desk : Desk) (told : List Event) → Vacant (vacant_opened task ending) post → Turned (steps.opened task ending post desk told)
+opened_vacant task (Protected (protect_ends.Held slot era)) post desk told h = opened_row_vacant task slot post desk told (λ j e. h j (grind (arith, nat_tests)))
+opened_vacant task (Protected protect_ends.Null) post desk told h = opened_null_vacant task post desk told (λ j e. h j (grind (arith, nat_tests)))
+opened_vacant task Done post desk told h = opening_vacant task post h
+opened_vacant task (Followed end) post desk told h = opening_vacant task post h
+opened_vacant task (Allocated end) post desk told h = opening_vacant task post h
+opened_vacant task (Retired life) post desk told h = opening_vacant task post h
+opened_vacant task (Clocked clock) post desk told h = opening_vacant task post h
+
+filled_by_vacant : (task : Task) (ending : AllocateEnd) (post : Post) (desk : Desk) (told : List Event) → Vacant (vacant_filled task) post → Turned (steps.filled_by task ending post desk told)
+filled_by_vacant (Changes kept) (allocate_ends.Given slot birth) post desk told h = λ j e. h j (grind (arith, nat_tests))
+filled_by_vacant (Changes kept) allocate_ends.Full post desk told h = clearing_vacant (Changes (alters.with_walked kept)) (alters.no_room kept.walked) post desk told (λ j e. h j (grind (arith, nat_tests)))
+filled_by_vacant (Enqueues kept) (allocate_ends.Given slot birth) post desk told h = λ j e. h j (grind (arith, nat_tests))
+filled_by_vacant (Enqueues kept) allocate_ends.Full post desk told h = clearing_vacant (Enqueues (enqueues.item_walked kept)) (alters.no_room kept.walked) post desk told (λ j e. h j (grind (arith, nat_tests)))
+filled_by_vacant (Gets key) ending post desk told h = closed_vacant (Gets key) Again post desk told (λ j e. h j (grind (arith, nat_tests)))
+filled_by_vacant (Holds key) ending post desk told h = closed_vacant (Holds key) Again post desk told (λ j e. h j (grind (arith, nat_tests)))
+filled_by_vacant Dequeues ending post desk told h = closed_vacant Dequeues Again post desk told (λ j e. h j (grind (arith, nat_tests)))
+
+written_row_vacant : (task : Task) (post : Post) (desk : Desk) (told : List Event) → Vacant (vacant_filled task) post → Turned (steps.written_row task post desk told)
+written_row_vacant (Changes kept) post desk told h = λ j e. h j (grind (arith, nat_tests))
+written_row_vacant (Enqueues kept) post desk told h = λ j e. h j (grind (arith, nat_tests))
+written_row_vacant (Gets key) post desk told h = closed_vacant (Gets key) Again post desk told (λ j e. h j (grind (arith, nat_tests)))
+written_row_vacant (Holds key) post desk told h = closed_vacant (Holds key) Again post desk told (λ j e. h j (grind (arith, nat_tests)))
+written_row_vacant Dequeues post desk told h = closed_vacant Dequeues Again post desk told (λ j e. h j (grind (arith, nat_tests)))
+
+filled_vacant : (task : Task) (ending : Ending) (post : Post) (desk : Desk) (told : List Event) → Vacant (vacant_filled task) post → Turned (steps.filled task ending post desk told)
+filled_vacant task (Allocated ending) post desk told h = filled_by_vacant task ending post desk told (λ j e. h j (grind (arith, nat_tests)))
+filled_vacant task Done post desk told h = written_row_vacant task post desk told (λ j e. h j (grind (arith, nat_tests)))
+filled_vacant task (Protected end) post desk told h = written_row_vacant task post desk told (λ j e. h j (grind (arith, nat_tests)))
+filled_vacant task (Followed end) post desk told h = written_row_vacant task post desk told (λ j e. h j (grind (arith, nat_tests)))
+filled_vacant task (Retired life) post desk told h = written_row_vacant task post desk told (λ j e. h j (grind (arith, nat_tests)))
+filled_vacant task (Clocked clock) post desk told h = written_row_vacant task post desk told (λ j e. h j (grind (arith, nat_tests)))
+
+followed_by_vacant : (head tail : ℕ) (ending : Ending) (post : Post) (desk : Desk) (told : List Event) → Vacant (vacant_followed ending) post → Turned (steps.followed_by head tail ending post desk told)
+followed_by_vacant head tail (Followed ending) post desk told h = followed_vacant head tail ending post desk told (λ j e. h j (grind (arith, nat_tests)))
+followed_by_vacant head tail Done post desk told h = closed_vacant Dequeues Again post desk told (λ j e. h j (grind (arith, nat_tests)))
+followed_by_vacant head tail (Protected end) post desk told h = closed_vacant Dequeues Again post desk told (λ j e. h j (grind (arith, nat_tests)))
+followed_by_vacant head tail (Allocated end) post desk told h = closed_vacant Dequeues Again post desk told (λ j e. h j (grind (arith, nat_tests)))
+followed_by_vacant head tail (Retired life) post desk told h = closed_vacant Dequeues Again post desk told (λ j e. h j (grind (arith, nat_tests)))
+followed_by_vacant head tail (Clocked clock) post desk told h = closed_vacant Dequeues Again post desk told (λ j e. h j (grind (arith, nat_tests)))
+
+tidying_vacant : (answer : Answer) (post : Post) (desk : Desk) (told : List Event) (due : Bool) → Vacant spare post → Turned (steps.tidying answer post desk told due)
+tidying_vacant answer post desk told true h = λ j e. h j (grind (arith, nat_tests))
+tidying_vacant answer post desk told false h = λ j e. h j (grind (arith, nat_tests))
+
+retired_by_vacant : (answer : Answer) (ending : Ending) (post : Post) (desk : Desk) (told : List Event) → Vacant spare post → Turned (steps.retired_by answer ending post desk told)
+retired_by_vacant answer (Retired life) post desk told h = tidying_vacant answer post (with_life desk life) told (post.retired % post.layout.config.every == 0) (λ j e. h j (grind (arith, nat_tests)))
+retired_by_vacant answer Done post desk told h = λ j e. h j (grind (arith, nat_tests))
+retired_by_vacant answer (Protected end) post desk told h = λ j e. h j (grind (arith, nat_tests))
+retired_by_vacant answer (Followed end) post desk told h = λ j e. h j (grind (arith, nat_tests))
+retired_by_vacant answer (Allocated end) post desk told h = λ j e. h j (grind (arith, nat_tests))
+retired_by_vacant answer (Clocked clock) post desk told h = λ j e. h j (grind (arith, nat_tests))
+
+tidied_vacant : (later : AfterScan) (ending : Ending) (post : Post) (desk : Desk) (told : List Event) → Vacant (vacant_later later) post → Turned (steps.tidied later ending post desk told)
+tidied_vacant later (Clocked clock) post desk told h = λ j e. h j (grind (arith, nat_tests))
+tidied_vacant later Done post desk told h = λ j e. h j (grind (arith, nat_tests))
+tidied_vacant later (Protected end) post desk told h = λ j e. h j (grind (arith, nat_tests))
+tidied_vacant later (Followed end) post desk told h = λ j e. h j (grind (arith, nat_tests))
+tidied_vacant later (Allocated end) post desk told h = λ j e. h j (grind (arith, nat_tests))
+tidied_vacant later (Retired life) post desk told h = λ j e. h j (grind (arith, nat_tests))
+
+advanced_vacant : (ending : Ending) (post : Post) (desk : Desk) (told : List Event) → Vacant spare post → Turned (steps.advanced ending post desk told)
+advanced_vacant (Clocked clock) post desk told h = λ j e. h j (grind (arith, nat_tests))
+advanced_vacant Done post desk told h = λ j e. h j (grind (arith, nat_tests))
+advanced_vacant (Protected end) post desk told h = λ j e. h j (grind (arith, nat_tests))
+advanced_vacant (Followed end) post desk told h = λ j e. h j (grind (arith, nat_tests))
+advanced_vacant (Allocated end) post desk told h = λ j e. h j (grind (arith, nat_tests))
+advanced_vacant (Retired life) post desk told h = λ j e. h j (grind (arith, nat_tests))
+
+released_vacant : (key : Option ℕ) (post : Post) (desk : Desk) (told : List Event) → Vacant (vacant_released key) post → Turned (steps.released key post desk told)
+released_vacant None post desk told h = λ j e. h j (grind (arith, nat_tests))
+released_vacant (Some key) post desk told h = round_vacant (Holds key) post h
+
+pub resume_vacant : (why : Why) (ending : Ending) (post : Post) (desk : Desk) (told : List Event) → Vacant (vacant_after why ending) post → Turned (steps.resume why ending post desk told)
+resume_vacant (Opens task) ending post desk told h = opened_vacant task ending post desk told (λ j e. h j (grind (arith, nat_tests)))
+resume_vacant (FollowsHead head tail) ending post desk told h = followed_by_vacant head tail ending post desk told (λ j e. h j (grind (arith, nat_tests)))
+resume_vacant (Fills task) ending post desk told h = filled_vacant task ending post desk told (λ j e. h j (grind (arith, nat_tests)))
+resume_vacant (ClearsNext next) ending post desk told h = clearing_vacant Dequeues next post desk told (λ j e. h j (grind (arith, nat_tests)))
+resume_vacant (Clears task next) ending post desk told h = finishing_vacant task next post desk told (λ j e. h j (grind (arith, nat_tests)))
+resume_vacant (Finishes task next) ending post desk told h = closed_vacant task next post desk told (λ j e. h j (grind (arith, nat_tests)))
+resume_vacant (GivesUp answer) ending post desk told h = λ j e. h j (grind (arith, nat_tests))
+resume_vacant (Retires answer) ending post desk told h = retired_by_vacant answer ending post desk told (λ j e. h j (grind (arith, nat_tests)))
+resume_vacant (Tidies later) ending post desk told h = tidied_vacant later ending post desk told (λ j e. h j (grind (arith, nat_tests)))
+resume_vacant Advances ending post desk told h = advanced_vacant ending post desk told (λ j e. h j (grind (arith, nat_tests)))
+resume_vacant (Releases key) ending post desk told h = released_vacant key post desk told (λ j e. h j (grind (arith, nat_tests)))

@@ -1,0 +1,261 @@
+-- Which guards' words a step leaves as they are.
+use Rattle.std.proofs.Common.{ℕ, ◌≡◌, sym, subst, ap, true, false, arith, refl, Bool, Option, Some, None, not}
+use Rattle.std.proofs.lemmas.Bool.Decides.{nat_tests}
+use Rattle.std.specs.Prelude.{◌==◌}
+use Rattle.inv_shapes.specs.words.Place.{Place, same}
+use Rattle.inv_shapes.specs.words.Place.Place.{Index, Interval}
+use Rattle.inv_shapes.specs.words.declared.config.Config.{Config}
+use Rattle.inv_shapes.specs.words.declared.config.SchemeKind.{SchemeKind}
+use Rattle.inv_shapes.specs.words.declared.config.SchemeKind.TheVariants.{He, Ibr, Wfe}
+use Rattle.inv_shapes.specs.defs.declared.event.Guard.{Guard}
+use Rattle.inv_shapes.specs.defs.declared.event.Root.{Root}
+use Rattle.inv_shapes.specs.defs.declared.lifetime.Interval.{Interval as Span}
+use Rattle.inv_shapes.specs.model.declared.post.Post.{Post}
+use Rattle.inv_shapes.specs.model.Guards.{guard_place, published, own_guard}
+use Rattle.inv_shapes.specs.model.Memory.{Move as Act, Load, Store, Cas, Or, And, written}
+use Rattle.inv_shapes.specs.model.Phases.{BeginAt, ProtectAt, AllocateAt, RetireAt, MoveAt, Base}
+use Rattle.inv_shapes.specs.model.Phases.BeginAt.{LoadLower, PublishSpan}
+use Rattle.inv_shapes.specs.model.Phases.ProtectAt.{PublishEra, TakeAnswer, RaiseUpper}
+use Rattle.inv_shapes.specs.model.Phases.AllocateAt.{LoadBirth}
+use Rattle.inv_shapes.specs.model.Phases.RetireAt.{LoadLife}
+use Rattle.inv_shapes.specs.model.Phases.MoveAt.{LoadEra, HandOver}
+use Rattle.inv_shapes.specs.model.Phases.Base.{Begin, Protect, Reload, Clear, Finish, Release, Allocate, Write, GiveUp, Retire, Move}
+use Rattle.inv_shapes.specs.model.Machine.{begin_move, protect_move, allocate_move, retire_move, move_move, base_move}
+use Rattle.inv_shapes.specs.model.Scan.{scan_move}
+use Rattle.inv_shapes.specs.model.Get.{get_move}
+use Rattle.inv_shapes.specs.model.Change.{change_move}
+use Rattle.inv_shapes.specs.model.Enqueue.{enqueue_move}
+use Rattle.inv_shapes.specs.model.Dequeue.{dequeue_move}
+use Rattle.inv_shapes.specs.model.Steps.{work_move}
+use Rattle.inv_shapes.specs.model.Calls.{ChangeKept, EnqueueKept, ScanAt, ReadGuard, GiveBack, GetAt, FindVersion, ChangeAt, LoadVersion, EnqueueAt, LoadNumber, DequeueAt, LoadTail, Work, Getting, Changing, Enqueuing, Dequeuing}
+use Rattle.inv_shapes.specs.model.Locals.{move}
+use Rattle.inv_shapes.specs.model.World.{World, step}
+use Rattle.inv_shapes.specs.words.Schemes.{is_wfe}
+use Rattle.inv_shapes.specs.Seats.{move_fits, base_fits}
+use Rattle.inv_covers.specs.Covers.{shown, Widens}
+
+-- the operation leaves the word of the place
+abbrev pub keeps : Act → Place → Bool
+keeps (Load place) p = true
+keeps (Store place value) p = not (same p place)
+keeps (Cas place old new) p = not (same p place)
+keeps (Or place bits) p = not (same p place)
+keeps (And place bits) p = not (same p place)
+
+pub kept_word : (mem : Place → ℕ) (m : Act) (p : Place) → keeps m p ≡ true → written mem m p ≡ mem p
+kept_word mem (Load place) p h = refl
+kept_word mem (Store place value) p h = let e : same p place ≡ false = grind (arith, nat_tests) in rw e refl
+kept_word mem (Cas place old new) p h = let e : same p place ≡ false = grind (arith, nat_tests) in rw e refl
+kept_word mem (Or place bits) p h = let e : same p place ≡ false = grind (arith, nat_tests) in rw e refl
+kept_word mem (And place bits) p h = let e : same p place ≡ false = grind (arith, nat_tests) in rw e refl
+
+pub shown_kept : (w : World) (i : ℕ) (guard : Guard) → keeps (move (w.seat i)) (guard_place guard) ≡ true → shown (step w i) guard ≡ shown w guard
+shown_kept w i guard h = ap (published guard) (kept_word w.mem (move (w.seat i)) (guard_place guard) h)
+
+pub widens_refl : (x : Option Span) → Widens x x
+widens_refl None = tt
+widens_refl (Some span) = (omega arith, omega arith)
+
+pub widens_same : (x y : Option Span) → y ≡ x → Widens x y
+widens_same x y e = subst (λ (z : Option Span). Widens x z) (sym e) (widens_refl x)
+
+-- the step of a machine that changes what an own guard publishes
+abbrev pub stores_protect : ProtectAt → Bool
+stores_protect (PublishEra era tries) = true
+stores_protect (TakeAnswer link era) = true
+stores_protect (RaiseUpper era) = true
+stores_protect at = false
+
+abbrev pub stores_begin : BeginAt → Bool
+stores_begin LoadLower = false
+stores_begin (PublishSpan era) = true
+
+abbrev pub stores_guard : Base → Bool
+stores_guard (Begin at) = stores_begin at
+stores_guard (Protect aim index root steps at) = stores_protect at
+stores_guard (Clear index) = true
+stores_guard Finish = true
+stores_guard Release = true
+stores_guard base = false
+
+-- the words of other seats: index words
+pub begin_index : (k j : ℕ) (at : BeginAt) (post : Post) → (k == post.seat) ≡ false → keeps (begin_move at post) (Index k j) ≡ true
+begin_index k j LoadLower post e = refl
+begin_index k j (PublishSpan era) post e = refl
+
+protect_index : (k j : ℕ) (index : ℕ) (root : Root) (at : ProtectAt) (post : Post) → (k == post.seat) ≡ false → keeps (protect_move index root at post) (Index k j) ≡ true
+protect_index k j index root (PublishEra era tries) post e = rw e refl
+protect_index k j index root (TakeAnswer link era) post e = rw e refl
+protect_index k j index root at post e = refl
+
+move_index : (k j : ℕ) (scheme : SchemeKind) (seats : ℕ) (at : MoveAt) (post : Post) → is_wfe scheme ≡ false → move_fits scheme seats at ≡ true → keeps (move_move at post) (Index k j) ≡ true
+move_index k j scheme seats (HandOver era seat tag index root link old) post n f = absurd (grind (arith, nat_tests))
+move_index k j scheme seats at post n f = refl
+
+pub allocate_index : (k j : ℕ) (at : AllocateAt) → keeps (allocate_move at) (Index k j) ≡ true
+allocate_index k j LoadBirth = refl
+allocate_index k j at = refl
+
+pub retire_index : (k j : ℕ) (at : RetireAt) → keeps (retire_move at) (Index k j) ≡ true
+retire_index k j (LoadLife slot) = refl
+retire_index k j at = refl
+
+base_index : (k j : ℕ) (config : Config) (base : Base) (post : Post) → is_wfe config.scheme ≡ false → base_fits config base ≡ true → (k == post.seat) ≡ false → keeps (base_move base post) (Index k j) ≡ true
+base_index k j config (Begin at) post n f e = begin_index k j at post e
+base_index k j config (Protect aim index root steps at) post n f e = protect_index k j index root at post e
+base_index k j config (Reload parent index slot era steps) post n f e = refl
+base_index k j config (Clear index) post n f e = rw e refl
+base_index k j config Finish post n f e = refl
+base_index k j config Release post n f e = refl
+base_index k j config (Allocate at) post n f e = allocate_index k j at
+base_index k j config (Write slot row place) post n f e = refl
+base_index k j config (GiveUp slot) post n f e = refl
+base_index k j config (Retire at) post n f e = retire_index k j at
+base_index k j config (Move at) post n f e = move_index k j config.scheme config.seats at post n f
+
+change_index : (k j : ℕ) (kept : ChangeKept) (at : ChangeAt) (post : Post) → keeps (change_move kept at post) (Index k j) ≡ true
+change_index k j kept (LoadVersion slot) post = refl
+change_index k j kept at post = refl
+
+enqueue_index : (k j : ℕ) (kept : EnqueueKept) (at : EnqueueAt) → keeps (enqueue_move kept at) (Index k j) ≡ true
+enqueue_index k j kept LoadNumber = refl
+enqueue_index k j kept at = refl
+
+dequeue_index : (k j : ℕ) (at : DequeueAt) → keeps (dequeue_move at) (Index k j) ≡ true
+dequeue_index k j (LoadTail head) = refl
+dequeue_index k j at = refl
+
+get_index : (k j : ℕ) (at : GetAt) → keeps (get_move at) (Index k j) ≡ true
+get_index k j (FindVersion slot) = refl
+get_index k j at = refl
+
+pub work_index : (k j : ℕ) (work : Work) (post : Post) → keeps (work_move work post) (Index k j) ≡ true
+work_index k j (Getting key at) post = get_index k j at
+work_index k j (Changing kept at) post = change_index k j kept at post
+work_index k j (Enqueuing kept at) post = enqueue_index k j kept at
+work_index k j (Dequeuing at) post = dequeue_index k j at
+
+pub scan_index : (k j : ℕ) (at : ScanAt) (post : Post) → keeps (scan_move at post) (Index k j) ≡ true
+scan_index k j (ReadGuard number) post = refl
+scan_index k j (GiveBack place slot) post = refl
+
+quiet_protect_index : (k j : ℕ) (index : ℕ) (root : Root) (at : ProtectAt) (post : Post) → stores_protect at ≡ false → keeps (protect_move index root at post) (Index k j) ≡ true
+quiet_protect_index k j index root (PublishEra era tries) post e = absurd (cc)
+quiet_protect_index k j index root (TakeAnswer link era) post e = absurd (cc)
+quiet_protect_index k j index root (RaiseUpper era) post e = absurd (cc)
+quiet_protect_index k j index root at post e = refl
+
+quiet_base_index : (k j : ℕ) (config : Config) (base : Base) (post : Post) → is_wfe config.scheme ≡ false → base_fits config base ≡ true → stores_guard base ≡ false → keeps (base_move base post) (Index k j) ≡ true
+quiet_base_index k j config (Begin LoadLower) post n f e = refl
+quiet_base_index k j config (Begin (PublishSpan era)) post n f e = absurd (cc)
+quiet_base_index k j config (Protect aim index root steps at) post n f e = quiet_protect_index k j index root at post e
+quiet_base_index k j config (Reload parent index slot era steps) post n f e = refl
+quiet_base_index k j config (Clear index) post n f e = absurd (cc)
+quiet_base_index k j config Finish post n f e = absurd (cc)
+quiet_base_index k j config Release post n f e = absurd (cc)
+quiet_base_index k j config (Allocate at) post n f e = allocate_index k j at
+quiet_base_index k j config (Write slot row place) post n f e = refl
+quiet_base_index k j config (GiveUp slot) post n f e = refl
+quiet_base_index k j config (Retire at) post n f e = retire_index k j at
+quiet_base_index k j config (Move at) post n f e = move_index k j config.scheme config.seats at post n f
+
+-- the words of other seats: interval words
+begin_span : (k : ℕ) (at : BeginAt) (post : Post) → (k == post.seat) ≡ false → keeps (begin_move at post) (Interval k) ≡ true
+begin_span k LoadLower post e = refl
+begin_span k (PublishSpan era) post e = rw e refl
+
+protect_span : (k : ℕ) (index : ℕ) (root : Root) (at : ProtectAt) (post : Post) → (k == post.seat) ≡ false → keeps (protect_move index root at post) (Interval k) ≡ true
+protect_span k index root (RaiseUpper era) post e = rw e refl
+protect_span k index root at post e = refl
+
+move_span : (k : ℕ) (scheme : SchemeKind) (seats : ℕ) (at : MoveAt) (post : Post) → is_wfe scheme ≡ false → move_fits scheme seats at ≡ true → keeps (move_move at post) (Interval k) ≡ true
+move_span k scheme seats (LoadEra helps) post n f = refl
+move_span k scheme seats at post n f = refl
+
+allocate_span : (k : ℕ) (at : AllocateAt) → keeps (allocate_move at) (Interval k) ≡ true
+allocate_span k LoadBirth = refl
+allocate_span k at = refl
+
+retire_span : (k : ℕ) (at : RetireAt) → keeps (retire_move at) (Interval k) ≡ true
+retire_span k (LoadLife slot) = refl
+retire_span k at = refl
+
+base_span : (k : ℕ) (config : Config) (base : Base) (post : Post) → is_wfe config.scheme ≡ false → base_fits config base ≡ true → (k == post.seat) ≡ false → keeps (base_move base post) (Interval k) ≡ true
+base_span k config (Begin at) post n f e = begin_span k at post e
+base_span k config (Protect aim index root steps at) post n f e = protect_span k index root at post e
+base_span k config (Reload parent index slot era steps) post n f e = refl
+base_span k config (Clear index) post n f e = refl
+base_span k config Finish post n f e = rw e refl
+base_span k config Release post n f e = rw e refl
+base_span k config (Allocate at) post n f e = allocate_span k at
+base_span k config (Write slot row place) post n f e = refl
+base_span k config (GiveUp slot) post n f e = refl
+base_span k config (Retire at) post n f e = retire_span k at
+base_span k config (Move at) post n f e = move_span k config.scheme config.seats at post n f
+
+change_span : (k : ℕ) (kept : ChangeKept) (at : ChangeAt) (post : Post) → keeps (change_move kept at post) (Interval k) ≡ true
+change_span k kept (LoadVersion slot) post = refl
+change_span k kept at post = refl
+
+enqueue_span : (k : ℕ) (kept : EnqueueKept) (at : EnqueueAt) → keeps (enqueue_move kept at) (Interval k) ≡ true
+enqueue_span k kept LoadNumber = refl
+enqueue_span k kept at = refl
+
+dequeue_span : (k : ℕ) (at : DequeueAt) → keeps (dequeue_move at) (Interval k) ≡ true
+dequeue_span k (LoadTail head) = refl
+dequeue_span k at = refl
+
+get_span : (k : ℕ) (at : GetAt) → keeps (get_move at) (Interval k) ≡ true
+get_span k (FindVersion slot) = refl
+get_span k at = refl
+
+work_span : (k : ℕ) (work : Work) (post : Post) → keeps (work_move work post) (Interval k) ≡ true
+work_span k (Getting key at) post = get_span k at
+work_span k (Changing kept at) post = change_span k kept at post
+work_span k (Enqueuing kept at) post = enqueue_span k kept at
+work_span k (Dequeuing at) post = dequeue_span k at
+
+scan_span : (k : ℕ) (at : ScanAt) (post : Post) → keeps (scan_move at post) (Interval k) ≡ true
+scan_span k (ReadGuard number) post = refl
+scan_span k (GiveBack place slot) post = refl
+
+quiet_protect_span : (k : ℕ) (index : ℕ) (root : Root) (at : ProtectAt) (post : Post) → stores_protect at ≡ false → keeps (protect_move index root at post) (Interval k) ≡ true
+quiet_protect_span k index root (PublishEra era tries) post e = absurd (cc)
+quiet_protect_span k index root (TakeAnswer link era) post e = absurd (cc)
+quiet_protect_span k index root (RaiseUpper era) post e = absurd (cc)
+quiet_protect_span k index root at post e = refl
+
+quiet_base_span : (k : ℕ) (config : Config) (base : Base) (post : Post) → is_wfe config.scheme ≡ false → base_fits config base ≡ true → stores_guard base ≡ false → keeps (base_move base post) (Interval k) ≡ true
+quiet_base_span k config (Begin LoadLower) post n f e = refl
+quiet_base_span k config (Begin (PublishSpan era)) post n f e = absurd (cc)
+quiet_base_span k config (Protect aim index root steps at) post n f e = quiet_protect_span k index root at post e
+quiet_base_span k config (Reload parent index slot era steps) post n f e = refl
+quiet_base_span k config (Clear index) post n f e = absurd (cc)
+quiet_base_span k config Finish post n f e = absurd (cc)
+quiet_base_span k config Release post n f e = absurd (cc)
+quiet_base_span k config (Allocate at) post n f e = allocate_span k at
+quiet_base_span k config (Write slot row place) post n f e = refl
+quiet_base_span k config (GiveUp slot) post n f e = refl
+quiet_base_span k config (Retire at) post n f e = retire_span k at
+quiet_base_span k config (Move at) post n f e = move_span k config.scheme config.seats at post n f
+
+-- the guard of an index, by the scheme
+pub base_other : (scheme : SchemeKind) (k j : ℕ) (config : Config) (base : Base) (post : Post) → is_wfe config.scheme ≡ false → base_fits config base ≡ true → (k == post.seat) ≡ false → keeps (base_move base post) (guard_place (own_guard scheme k j)) ≡ true
+base_other He k j config base post n f e = base_index k j config base post n f e
+base_other Ibr k j config base post n f e = base_span k config base post n f e
+base_other Wfe k j config base post n f e = base_index k j config base post n f e
+
+pub base_quiet : (scheme : SchemeKind) (k j : ℕ) (config : Config) (base : Base) (post : Post) → is_wfe config.scheme ≡ false → base_fits config base ≡ true → stores_guard base ≡ false → keeps (base_move base post) (guard_place (own_guard scheme k j)) ≡ true
+base_quiet He k j config base post n f e = quiet_base_index k j config base post n f e
+base_quiet Ibr k j config base post n f e = quiet_base_span k config base post n f e
+base_quiet Wfe k j config base post n f e = quiet_base_index k j config base post n f e
+
+pub scan_quiet : (scheme : SchemeKind) (k j : ℕ) (at : ScanAt) (post : Post) → keeps (scan_move at post) (guard_place (own_guard scheme k j)) ≡ true
+scan_quiet He k j at post = scan_index k j at post
+scan_quiet Ibr k j at post = scan_span k at post
+scan_quiet Wfe k j at post = scan_index k j at post
+
+pub work_quiet : (scheme : SchemeKind) (k j : ℕ) (work : Work) (post : Post) → keeps (work_move work post) (guard_place (own_guard scheme k j)) ≡ true
+work_quiet He k j work post = work_index k j work post
+work_quiet Ibr k j work post = work_span k work post
+work_quiet Wfe k j work post = work_index k j work post

@@ -1,0 +1,14 @@
+use Rattle.inv_covers.proofs.Guards.{guards_fit, helpers_fit, handed_covers, handed_kept}
+use Rattle.inv_covers.proofs.guards_are_read.Goals as goal
+
+pub returns-clause-own : goal.returns-clause-own
+returns-clause-own c = guards_fit
+
+pub returns-clause-helpers : goal.returns-clause-helpers
+returns-clause-helpers c = helpers_fit
+
+pub returns-clause-handed : goal.returns-clause-handed
+returns-clause-handed c = handed_covers
+
+pub returns-clause-kept : goal.returns-clause-kept
+returns-clause-kept c = handed_kept

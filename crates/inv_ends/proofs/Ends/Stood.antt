@@ -1,0 +1,427 @@
+-- What stands at the indexes of a seat is what its steps tell.
+use Rattle.std.proofs.Common.{ℕ, ◌+◌, ◌-◌, ◌<◌, Bool, true, false, ◌≡◌, ◌≢◌, ◌∙◌, sym, refl, ap, subst, arith}
+use Rattle.std.proofs.lemmas.Bool.Decides.{nat_tests}
+use Rattle.std.specs.List.{list_any}
+use Rattle.std.specs.Prelude.{slice_index_or, List, [], ◌∷◌, ◌++◌, length, Option, Some, None, if◌then◌else◌, ◌==◌, ◌&&◌, ◌||◌}
+use Rattle.inv_covers.specs.model.Phases.Ending.{Clocked}
+use Rattle.inv_covers.specs.defs.declared.event.Event.TheVariants as events
+use Rattle.inv_covers.specs.defs.declared.event.Root.TheVariants as roots
+use Rattle.inv_covers.specs.defs.declared.call.ClockMove.TheVariants as moves
+use Rattle.inv_covers.specs.model.Allocate.{after_claim_slot, is_claimed, walk_past, walking}
+use Rattle.inv_covers.specs.defs.declared.event.Guard.TheVariants as guards
+use Rattle.inv_covers.specs.model.Calls.{CallTurn, Phase, Task, Why}
+use Rattle.inv_covers.specs.model.Calls.Phase.{Idle, Runs, Scans, Works}
+use Rattle.inv_covers.specs.model.Calls.ScanAt.{GiveBack, ReadGuard}
+use Rattle.inv_covers.specs.model.Calls.Task.{Changes, Dequeues, Enqueues, Gets, Holds}
+use Rattle.inv_covers.specs.model.Calls.Why.{Advances, Clears, ClearsNext, Fills, Finishes, FollowsHead, GivesUp, Opens, Releases, Retires, Tidies}
+use Rattle.inv_covers.specs.model.Guards.{one_era}
+use Rattle.inv_covers.specs.model.Locals.{Local, turn}
+use Rattle.inv_covers.specs.model.Machine.{after, move_turn}
+use Rattle.inv_covers.specs.model.Memory.{bump}
+use Rattle.inv_covers.specs.model.MoveClock.{after_hand_over}
+use Rattle.inv_covers.specs.model.Phases.{Aim, Base, Ending, MoveAt, ProtectAt, Turn, Walk, ends, goes}
+use Rattle.inv_covers.specs.model.Phases.AllocateAt.{ClaimSlot, LoadBirth, StoreLife}
+use Rattle.inv_covers.specs.model.Phases.Base.{Allocate, Begin, Clear, Finish, GiveUp, Move, Protect, Release, Reload, Retire, Write}
+use Rattle.inv_covers.specs.model.Phases.BeginAt.{LoadLower, PublishSpan}
+use Rattle.inv_covers.specs.model.Phases.MoveAt.{AnswerAsked, CheckEra, ExchangeClock, HandOver, HideEra, HideLate, LoadAsked, LoadEra, LoadRequest, LoadReserved, ShowEra}
+use Rattle.inv_covers.specs.model.Phases.ProtectAt.{AnswerOwn, CheckClock, CheckOwnClock, CheckUpper, LoadAnswer, LoadClock, LoadLink, LoadOwnClock, LoadOwnLink, LoadWithin, PublishEra, PublishHelper, PublishRequest, RaiseUpper, TakeAnswer, WithdrawHelper, WithdrawRequest}
+use Rattle.inv_covers.specs.model.Phases.RetireAt.{LoadLife, LoadRetire, StoreRetired}
+use Rattle.inv_covers.specs.model.Posts.{cleared, counted, reserves_helper, stands, tag_of, upper, with_row, with_tag, withdrawn}
+use Rattle.inv_covers.specs.model.Protect.{held_post, protected, told_held}
+use Rattle.inv_covers.specs.model.Rounds.{index_of}
+use Rattle.inv_covers.specs.model.SlowPath.{asking, own_request}
+use Rattle.inv_covers.specs.model.World.{finds, step}
+use Rattle.inv_covers.specs.model.WriteRow.{last_written}
+use Rattle.inv_covers.specs.model.declared.post.Post.{Post}
+use Rattle.inv_covers.proofs.Held.{stepped_post}
+use Rattle.inv_covers.proofs.Stood.{concluded_post}
+use Rattle.inv_covers.specs.Held.{leads}
+use Rattle.inv_covers.specs.defs.declared.event.Event.{Event}
+use Rattle.inv_covers.specs.defs.declared.event.Root.{Root}
+use Rattle.inv_ends.proofs.Ends.Nulls.{none_of, under_test}
+use Rattle.inv_ends.proofs.Told.Rows.{concluded_told, own_post, own_told, step_adds}
+use Rattle.inv_ends.proofs.Ends.Tests.{Calm, base_any, base_shows, phase_shows, step_any}
+use Rattle.inv_ends.proofs.Told.Turns.{Adds, is_later, stood_append, withdrawn_stood}
+use Rattle.inv_ends.specs.Standing.{HeldTold, StandingTold, holds_base, holds_in, is_end}
+use Rattle.inv_covers.specs.defs.Events.{is_held}
+use Rattle.inv_ends.specs.Stands.{is_clear, stood, stood_by}
+use Rattle.inv_covers.specs.shapes.Seats.{PhaseFits, Posted, Run, index_by}
+use Rattle.inv_covers.specs.words.Packed.{read_reservation}
+use Rattle.inv_covers.specs.words.declared.layout.Layout.{Layout}
+use Rattle.inv_requests.proofs.Standings.{index_small}
+use Rattle.inv_covers.proofs.model.Standing.{stands-with_row_same, stands-with_row_other}
+use Rattle.inv_covers.proofs.shapes.Kept.{run_counted}
+use Rattle.inv_covers.proofs.model.Facts.{or_false, no_truth_2}
+
+-- Held is told where a row comes to stand
+held_calm : (j s : ℕ) → Calm (is_held j s)
+held_calm j s = record { reserve = λ g x. refl; read = λ g x. refl; era = λ e. refl; give = λ a b. refl; unused = λ a. refl; retire = λ a b r. refl; back = λ a. refl }
+
+pub clear_calm : (j s : ℕ) → Calm (is_clear j s)
+clear_calm j s = record { reserve = λ g x. refl; read = λ g x. refl; era = λ e. refl; give = λ a b. refl; unused = λ a. refl; retire = λ a b r. refl; back = λ a. refl }
+
+held_later : (j s : ℕ) (e : Event) → is_later e ≡ true → is_held j s e ≡ false
+held_later j s (events.Begin call) h = refl
+held_later j s (events.End count answer) h = refl
+held_later j s (events.Era era) h = refl
+held_later j s (events.Reserve guard span) h = refl
+held_later j s (events.Read guard span) h = refl
+held_later j s (events.Give slot birth) h = refl
+held_later j s (events.Unused slot) h = refl
+held_later j s (events.Link root slot) h = refl
+held_later j s (events.Cut slot) h = refl
+held_later j s (events.Retire slot birth retire) h = refl
+held_later j s (events.Back slot) h = refl
+held_later j s (events.Held index slot n) h = no_truth_2 h
+held_later j s (events.Null index n) h = refl
+held_later j s (events.Clear index slot) h = refl
+held_later j s (events.Put bucket version key value) h = refl
+held_later j s (events.Removed bucket version key) h = refl
+held_later j s (events.Got bucket version key value) h = refl
+held_later j s (events.Queued number value) h = refl
+held_later j s (events.Taken number value) h = refl
+
+lead_is : (link s : ℕ) (same : Bool) → (link == s + 1) ≡ same → (link == 0) ≡ false → (link - 1 == s) ≡ same
+lead_is link s true e n = grind (arith, nat_tests)
+lead_is link s false e n = grind (arith, nat_tests)
+
+null_leads : (link s : ℕ) → (link == 0) ≡ true → (link == s + 1) ≡ false
+null_leads link s e = grind (arith, nat_tests)
+
+told_is_held : (index : ℕ) (root : Root) (link n j s : ℕ) (null : Bool) → (link == 0) ≡ null → list_any (is_held j s) (told_held index root link n) ≡ ((index == j) && (is_end root && leads link s))
+told_is_held index (roots.Bucket bucket) link n j s true e = rw (e, null_leads link s e) (none_of (index == j))
+told_is_held index (roots.Bucket bucket) link n j s false e = rw (e, lead_is link s (link == s + 1) refl e) (or_false ((index == j) && (link == s + 1)))
+told_is_held index roots.Head link n j s true e = rw (e, null_leads link s e) (none_of (index == j))
+told_is_held index roots.Head link n j s false e = rw (e, lead_is link s (link == s + 1) refl e) (or_false ((index == j) && (link == s + 1)))
+told_is_held index roots.Tail link n j s true e = rw (e, null_leads link s e) (none_of (index == j))
+told_is_held index roots.Tail link n j s false e = rw (e, lead_is link s (link == s + 1) refl e) (or_false ((index == j) && (link == s + 1)))
+told_is_held index (roots.Next parent) link n j s true e = rw e (none_of (index == j))
+told_is_held index (roots.Next parent) link n j s false e = rw e (none_of (index == j))
+
+cleared_held : (index j s : ℕ) (x : Option ℕ) → list_any (is_held j s) (cleared index x) ≡ false
+cleared_held index j s None = refl
+cleared_held index j s (Some slot) = refl
+
+base_held : (base : Base) (post : Post) (found j s : ℕ) → base_shows (is_held j s) post base found ≡ holds_base post base found j s
+base_held (Protect aim index root steps (LoadClock tries)) post found j s = none_of (index == j)
+base_held (Protect aim index root steps (PublishEra era tries)) post found j s = none_of (index == j)
+base_held (Protect aim index root steps (LoadLink era tries)) post found j s = none_of (index == j)
+base_held (Protect aim index root steps (CheckClock era tries link)) post found j s = under_test (found == era) _ (index == j) (is_end root && leads link s) (told_is_held index root link (bump steps) j s (link == 0) refl)
+base_held (Protect aim index root steps PublishRequest) post found j s = none_of (index == j)
+base_held (Protect aim index root steps LoadOwnClock) post found j s = none_of (index == j)
+base_held (Protect aim index root steps (PublishHelper first era last)) post found j s = none_of (index == j)
+base_held (Protect aim index root steps (LoadOwnLink first era last)) post found j s = none_of (index == j)
+base_held (Protect aim index root steps (CheckOwnClock first era last link)) post found j s = none_of (index == j)
+base_held (Protect aim index root steps (AnswerOwn first era link)) post found j s = none_of (index == j)
+base_held (Protect aim index root steps (LoadAnswer first)) post found j s = none_of (index == j)
+base_held (Protect aim index root steps (TakeAnswer link era)) post found j s = told_is_held index root link (bump steps) j s (link == 0) refl
+base_held (Protect aim index root steps (WithdrawRequest link era)) post found j s = none_of (index == j)
+base_held (Protect aim index root steps (WithdrawHelper link era)) post found j s = none_of (index == j)
+base_held (Protect aim index root steps LoadWithin) post found j s = none_of (index == j)
+base_held (Protect aim index root steps (CheckUpper link)) post found j s = under_test (found == upper post.span) _ (index == j) (is_end root && leads link s) (told_is_held index root link (bump steps) j s (link == 0) refl)
+base_held (Protect aim index root steps (RaiseUpper era)) post found j s = none_of (index == j)
+base_held (Begin at) post found j s = refl
+base_held (Reload parent index slot era steps) post found j s = under_test (found == parent + 1) ((index == j) && (slot == s)) (index == j) (slot == s) refl
+base_held (Clear index) post found j s = cleared_held index j s (stands post index)
+base_held Finish post found j s = refl
+base_held Release post found j s = cleared_held 2 j s (stands post 2)
+base_held (Allocate at) post found j s = refl
+base_held (Write slot row place) post found j s = refl
+base_held (GiveUp slot) post found j s = refl
+base_held (Retire at) post found j s = refl
+base_held (Move at) post found j s = refl
+
+phase_held : (phase : Phase) (post : Post) (found j s : ℕ) → phase_shows (is_held j s) post phase found ≡ holds_in post phase found j s
+phase_held Idle post found j s = refl
+phase_held (Runs why base) post found j s = base_held base post found j s
+phase_held (Scans later at) post found j s = refl
+phase_held (Works work) post found j s = refl
+
+pub held_told : HeldTold
+held_told w i j s = step_any (is_held j s) w i (held_calm j s) (held_later j s) ∙ phase_held (w.seat i).phase (counted (w.seat i).post) (finds w i) j s
+
+-- machines whose step leaves what stands
+abbrev pub is_still_at : ProtectAt → Bool
+is_still_at (CheckClock era tries link) = false
+is_still_at (TakeAnswer link era) = false
+is_still_at (CheckUpper link) = false
+is_still_at at = true
+
+abbrev pub is_still : Base → Bool
+is_still (Protect aim index root steps at) = is_still_at at
+is_still (Reload parent index slot era steps) = false
+is_still (Clear index) = false
+is_still Release = false
+is_still base = true
+
+goes_keeps : (post : Post) (a b : Base) (same : Bool) → (if same then goes post [] a else goes post [] b).post.standing ≡ post.standing
+goes_keeps post a b true = refl
+goes_keeps post a b false = refl
+
+ends_keeps : (post : Post) (a : Ending) (b : Base) (same : Bool) → (if same then ends post [] a else goes post [] b).post.standing ≡ post.standing
+ends_keeps post a b true = refl
+ends_keeps post a b false = refl
+
+walking_keeps : (birth : ℕ) (post : Post) (x : Option Walk) → (walking birth post x).post.standing ≡ post.standing
+walking_keeps birth post None = refl
+walking_keeps birth post (Some walk) = refl
+
+claim_keeps : (birth : ℕ) (walk : Walk) (post : Post) (found : ℕ) (taken : Bool) → is_claimed found walk.slot ≡ taken → (after_claim_slot birth walk post found).post.standing ≡ post.standing
+claim_keeps birth walk post found true e = rw e (walking_keeps birth post (walk_past post.layout.config.slots walk found))
+claim_keeps birth walk post found false e = rw e refl
+
+clock_keeps : (era found : ℕ) (post : Post) (same : Bool) → (if same then ends post (events.Era (era + 1) ∷ []) (Clocked (moves.Moved (era + 1))) else ends post [] (Clocked (moves.Other found))).post.standing ≡ post.standing
+clock_keeps era found post true = refl
+clock_keeps era found post false = refl
+
+hand_keeps : (era seat tag index old : ℕ) (post : Post) (same : Bool) → (after_hand_over era seat tag index old post same).post.standing ≡ post.standing
+hand_keeps era seat tag index old post true = refl
+hand_keeps era seat tag index old post false = refl
+
+move_keeps : (at : MoveAt) (post : Post) (found : ℕ) → (move_turn at post found).post.standing ≡ post.standing
+move_keeps (LoadEra helps) post found = ends_keeps post _ _ (found == post.layout.config.last_era)
+move_keeps (LoadRequest era seat shows) post found = refl
+move_keeps (ShowEra era seat tag index root) post found = refl
+move_keeps (LoadAsked era seat tag index root) post found = refl
+move_keeps (CheckEra era seat tag index root link) post found = goes_keeps post _ _ (found == era)
+move_keeps (AnswerAsked era seat tag index root link) post found = goes_keeps post _ _ (found == asking post.layout tag index root)
+move_keeps (LoadReserved era seat tag index root link) post found = goes_keeps post _ _ ((read_reservation found).tag == tag)
+move_keeps (HandOver era seat tag index root link old) post found = hand_keeps era seat tag index old post _
+move_keeps (HideEra era) post found = refl
+move_keeps (HideLate seen) post found = refl
+move_keeps (ExchangeClock era) post found = clock_keeps era found post (found == era)
+
+pub base_keeps : (base : Base) (post : Post) (found : ℕ) → is_still base ≡ true → (after base post found).post.standing ≡ post.standing
+base_keeps (Protect aim index root steps (LoadClock tries)) post found k = refl
+base_keeps (Protect aim index root steps (PublishEra era tries)) post found k = refl
+base_keeps (Protect aim index root steps (LoadLink era tries)) post found k = refl
+base_keeps (Protect aim index root steps (CheckClock era tries link)) post found k = no_truth_2 k
+base_keeps (Protect aim index root steps PublishRequest) post found k = refl
+base_keeps (Protect aim index root steps LoadOwnClock) post found k = refl
+base_keeps (Protect aim index root steps (PublishHelper first era last)) post found k = refl
+base_keeps (Protect aim index root steps (LoadOwnLink first era last)) post found k = refl
+base_keeps (Protect aim index root steps (CheckOwnClock first era last link)) post found k = goes_keeps post _ _ (found == era)
+base_keeps (Protect aim index root steps (AnswerOwn first era link)) post found k = goes_keeps post _ _ (found == own_request post index root)
+base_keeps (Protect aim index root steps (LoadAnswer first)) post found k = refl
+base_keeps (Protect aim index root steps (TakeAnswer link era)) post found k = no_truth_2 k
+base_keeps (Protect aim index root steps (WithdrawRequest link era)) post found k = refl
+base_keeps (Protect aim index root steps (WithdrawHelper link era)) post found k = ap (λ (p : Post). p.standing) (concluded_post aim index root (bump steps) link era post (reserves_helper post 0))
+base_keeps (Protect aim index root steps LoadWithin) post found k = refl
+base_keeps (Protect aim index root steps (CheckUpper link)) post found k = no_truth_2 k
+base_keeps (Protect aim index root steps (RaiseUpper era)) post found k = refl
+base_keeps (Begin LoadLower) post found k = refl
+base_keeps (Begin (PublishSpan era)) post found k = refl
+base_keeps (Reload parent index slot era steps) post found k = no_truth_2 k
+base_keeps (Clear index) post found k = no_truth_2 k
+base_keeps Finish post found k = refl
+base_keeps Release post found k = no_truth_2 k
+base_keeps (Allocate LoadBirth) post found k = refl
+base_keeps (Allocate (ClaimSlot birth walk)) post found k = claim_keeps birth walk post found (is_claimed found walk.slot) refl
+base_keeps (Allocate (StoreLife birth slot)) post found k = refl
+base_keeps (Write slot row place) post found k = ends_keeps post _ _ (place == last_written row)
+base_keeps (GiveUp slot) post found k = refl
+base_keeps (Retire (LoadLife slot)) post found k = refl
+base_keeps (Retire (LoadRetire slot birth)) post found k = refl
+base_keeps (Retire (StoreRetired slot birth retire)) post found k = refl
+base_keeps (Move at) post found k = move_keeps at post found
+
+pub same_standing : (p q : Post) (j : ℕ) → p.standing ≡ q.standing → stands p j ≡ stands q j
+same_standing p q j e = ap (λ (xs : List (Option ℕ)). slice_index_or xs j None) e
+
+-- events of what stands
+abbrev pub is_standing : Event → Bool
+is_standing (events.Held index slot steps) = true
+is_standing (events.Clear index slot) = true
+is_standing event = false
+
+pub standing_calm : Calm is_standing
+standing_calm = record { reserve = λ g x. refl; read = λ g x. refl; era = λ e. refl; give = λ a b. refl; unused = λ a. refl; retire = λ a b r. refl; back = λ a. refl }
+
+by_calm : (e : Event) (x : Option ℕ) (j : ℕ) → is_standing e ≡ false → stood_by e x j ≡ x
+by_calm (events.Begin call) x j h = refl
+by_calm (events.End count answer) x j h = refl
+by_calm (events.Era era) x j h = refl
+by_calm (events.Reserve guard span) x j h = refl
+by_calm (events.Read guard span) x j h = refl
+by_calm (events.Give slot birth) x j h = refl
+by_calm (events.Unused slot) x j h = refl
+by_calm (events.Link root slot) x j h = refl
+by_calm (events.Cut slot) x j h = refl
+by_calm (events.Retire slot birth retire) x j h = refl
+by_calm (events.Back slot) x j h = refl
+by_calm (events.Held index slot n) x j h = no_truth_2 (sym h)
+by_calm (events.Null index n) x j h = refl
+by_calm (events.Clear index slot) x j h = no_truth_2 (sym h)
+by_calm (events.Put bucket version key value) x j h = refl
+by_calm (events.Removed bucket version key) x j h = refl
+by_calm (events.Got bucket version key value) x j h = refl
+by_calm (events.Queued number value) x j h = refl
+by_calm (events.Taken number value) x j h = refl
+
+calm_stood : (told : List Event) (x : Option ℕ) (j : ℕ) → list_any is_standing told ≡ false → stood told x j ≡ x
+calm_stood [] x j h = refl
+calm_stood (e ∷ es) x j h =
+    let a : is_standing e ≡ false = grind (arith, nat_tests) in
+    let b : list_any is_standing es ≡ false = grind (arith, nat_tests) in
+    ap (λ (y : Option ℕ). stood es y j) (by_calm e x j a) ∙ calm_stood es x j b
+
+pub still_shows : (p : Event → Bool) (base : Base) (post : Post) (found : ℕ) → is_still base ≡ true → base_shows p post base found ≡ false
+still_shows p (Protect aim index root steps (LoadClock tries)) post found k = refl
+still_shows p (Protect aim index root steps (PublishEra era tries)) post found k = refl
+still_shows p (Protect aim index root steps (LoadLink era tries)) post found k = refl
+still_shows p (Protect aim index root steps (CheckClock era tries link)) post found k = no_truth_2 k
+still_shows p (Protect aim index root steps PublishRequest) post found k = refl
+still_shows p (Protect aim index root steps LoadOwnClock) post found k = refl
+still_shows p (Protect aim index root steps (PublishHelper first era last)) post found k = refl
+still_shows p (Protect aim index root steps (LoadOwnLink first era last)) post found k = refl
+still_shows p (Protect aim index root steps (CheckOwnClock first era last link)) post found k = refl
+still_shows p (Protect aim index root steps (AnswerOwn first era link)) post found k = refl
+still_shows p (Protect aim index root steps (LoadAnswer first)) post found k = refl
+still_shows p (Protect aim index root steps (TakeAnswer link era)) post found k = no_truth_2 k
+still_shows p (Protect aim index root steps (WithdrawRequest link era)) post found k = refl
+still_shows p (Protect aim index root steps (WithdrawHelper link era)) post found k = refl
+still_shows p (Protect aim index root steps LoadWithin) post found k = refl
+still_shows p (Protect aim index root steps (CheckUpper link)) post found k = no_truth_2 k
+still_shows p (Protect aim index root steps (RaiseUpper era)) post found k = refl
+still_shows p (Begin at) post found k = refl
+still_shows p (Reload parent index slot era steps) post found k = no_truth_2 k
+still_shows p (Clear index) post found k = no_truth_2 k
+still_shows p Finish post found k = refl
+still_shows p Release post found k = no_truth_2 k
+still_shows p (Allocate at) post found k = refl
+still_shows p (Write slot row place) post found k = refl
+still_shows p (GiveUp slot) post found k = refl
+still_shows p (Retire at) post found k = refl
+still_shows p (Move at) post found k = refl
+
+-- a row comes to stand
+row_by : (post : Post) (index slot j : ℕ) (same : Bool) → (index == j) ≡ same → index < length post.standing → stands (with_row post index slot) j ≡ (if index == j then Some slot else stands post j)
+row_by post index slot j true e b =
+    let q : index ≡ j = grind (arith, nat_tests) in
+    rw e (subst (λ (k : ℕ). stands (with_row post index slot) k ≡ Some slot) q (stands-with_row_same post index slot b))
+row_by post index slot j false e b = let q : j ≢ index = grind (arith, nat_tests) in rw e (stands-with_row_other post index slot j q)
+
+pub row_stood : (post : Post) (index slot n j : ℕ) → index < length post.standing → stands (with_row post index slot) j ≡ stood (events.Held index slot n ∷ []) (stands post j) j
+row_stood post index slot n j b = row_by post index slot j (index == j) refl b
+
+pub held_stood : (post : Post) (index : ℕ) (root : Root) (link n j : ℕ) (null : Bool) → (link == 0) ≡ null → index < length post.standing → stands (held_post post index root link) j ≡ stood (told_held index root link n) (stands post j) j
+held_stood post index (roots.Bucket bucket) link n j true e b = rw e refl
+held_stood post index (roots.Bucket bucket) link n j false e b = rw e (row_stood post index (link - 1) n j b)
+held_stood post index roots.Head link n j true e b = rw e refl
+held_stood post index roots.Head link n j false e b = rw e (row_stood post index (link - 1) n j b)
+held_stood post index roots.Tail link n j true e b = rw e refl
+held_stood post index roots.Tail link n j false e b = rw e (row_stood post index (link - 1) n j b)
+held_stood post index (roots.Next parent) link n j true e b = rw e refl
+held_stood post index (roots.Next parent) link n j false e b = rw e refl
+
+-- what stands after a machine's step is what it told
+abbrev pub Turned : Post → Turn → ℕ → Type 0
+Turned post t j = stands t.post j ≡ stood t.told (stands post j) j
+
+protected_turned : (aim : Aim) (index : ℕ) (root : Root) (n link era : ℕ) (post : Post) (j : ℕ) → index < length post.standing → Turned post (protected aim index root n link era post) j
+protected_turned aim index root n link era post j b =
+    rw (concluded_told aim index root n link era (held_post post index root link) (told_held index root link n), concluded_post aim index root n link era (held_post post index root link) (told_held index root link n)) (held_stood post index root link n j (link == 0) refl b)
+
+check_turned : (aim : Aim) (index : ℕ) (root : Root) (n link era : ℕ) (post : Post) (next : Base) (j : ℕ) (same : Bool) → index < length post.standing → Turned post (if same then protected aim index root n link era post else goes post [] next) j
+check_turned aim index root n link era post next j true b = protected_turned aim index root n link era post j b
+check_turned aim index root n link era post next j false b = refl
+
+reload_turned : (post : Post) (index slot n j : ℕ) (a b : Ending) (same : Bool) → index < length post.standing → Turned post (if same then ends (with_row post index slot) (events.Held index slot n ∷ []) a else ends post [] b) j
+reload_turned post index slot n j a b true l = row_stood post index slot n j l
+reload_turned post index slot n j a b false l = refl
+
+cleared_turned : (post : Post) (index j : ℕ) (e : Event) → ((x : Option ℕ) → stood_by e x j ≡ x) → stands (withdrawn post index) j ≡ stood (cleared index (stands post index) ++ e ∷ []) (stands post j) j
+cleared_turned post index j e f = withdrawn_stood post index j ∙ sym (stood_append (cleared index (stands post index)) (e ∷ []) (stands post j) j ∙ f (stood (cleared index (stands post index)) (stands post j) j))
+
+still_turned : (base : Base) (post : Post) (found j : ℕ) → is_still base ≡ true → Turned post (after base post found) j
+still_turned base post found j k =
+    same_standing (after base post found).post post j (base_keeps base post found k) ∙ sym (calm_stood (after base post found).told (stands post j) j (base_any is_standing base post found standing_calm ∙ still_shows is_standing base post found k))
+
+-- the index of a machine is one of the seat's
+abbrev pub fits_index : Base → Post → Type 0
+fits_index (Protect aim index root steps at) post = index < length post.standing
+fits_index (Reload parent index slot era steps) post = index < length post.standing
+fits_index base post = Unit {0}
+
+pub base_turned : (base : Base) (post : Post) (found j : ℕ) → fits_index base post → Turned post (after base post found) j
+base_turned (Protect aim index root steps (LoadClock tries)) post found j b = still_turned (Protect aim index root steps (LoadClock tries)) post found j refl
+base_turned (Protect aim index root steps (PublishEra era tries)) post found j b = still_turned (Protect aim index root steps (PublishEra era tries)) post found j refl
+base_turned (Protect aim index root steps (LoadLink era tries)) post found j b = still_turned (Protect aim index root steps (LoadLink era tries)) post found j refl
+base_turned (Protect aim index root steps (CheckClock era tries link)) post found j b = check_turned aim index root (bump steps) link era post _ j (found == era) b
+base_turned (Protect aim index root steps PublishRequest) post found j b = still_turned (Protect aim index root steps PublishRequest) post found j refl
+base_turned (Protect aim index root steps LoadOwnClock) post found j b = still_turned (Protect aim index root steps LoadOwnClock) post found j refl
+base_turned (Protect aim index root steps (PublishHelper first era last)) post found j b = still_turned (Protect aim index root steps (PublishHelper first era last)) post found j refl
+base_turned (Protect aim index root steps (LoadOwnLink first era last)) post found j b = still_turned (Protect aim index root steps (LoadOwnLink first era last)) post found j refl
+base_turned (Protect aim index root steps (CheckOwnClock first era last link)) post found j b = still_turned (Protect aim index root steps (CheckOwnClock first era last link)) post found j refl
+base_turned (Protect aim index root steps (AnswerOwn first era link)) post found j b = still_turned (Protect aim index root steps (AnswerOwn first era link)) post found j refl
+base_turned (Protect aim index root steps (LoadAnswer first)) post found j b = still_turned (Protect aim index root steps (LoadAnswer first)) post found j refl
+base_turned (Protect aim index root steps (TakeAnswer link era)) post found j b = held_stood (with_tag post index (tag_of post index + 1)) index root link (bump steps) j (link == 0) refl b
+base_turned (Protect aim index root steps (WithdrawRequest link era)) post found j b = still_turned (Protect aim index root steps (WithdrawRequest link era)) post found j refl
+base_turned (Protect aim index root steps (WithdrawHelper link era)) post found j b = still_turned (Protect aim index root steps (WithdrawHelper link era)) post found j refl
+base_turned (Protect aim index root steps LoadWithin) post found j b = still_turned (Protect aim index root steps LoadWithin) post found j refl
+base_turned (Protect aim index root steps (CheckUpper link)) post found j b = check_turned aim index root (bump steps) link found post _ j (found == upper post.span) b
+base_turned (Protect aim index root steps (RaiseUpper era)) post found j b = still_turned (Protect aim index root steps (RaiseUpper era)) post found j refl
+base_turned (Begin at) post found j b = still_turned (Begin at) post found j refl
+base_turned (Reload parent index slot era steps) post found j b = reload_turned post index slot (bump steps) j _ _ (found == parent + 1) b
+base_turned (Clear index) post found j b = cleared_turned post index j (events.Reserve (guards.Index post.seat index) (one_era 0)) (λ x. refl)
+base_turned Finish post found j b = still_turned Finish post found j refl
+base_turned Release post found j b = cleared_turned post 2 j (events.Reserve (guards.Whole post.seat) None) (λ x. refl)
+base_turned (Allocate at) post found j b = still_turned (Allocate at) post found j refl
+base_turned (Write slot row place) post found j b = still_turned (Write slot row place) post found j refl
+base_turned (GiveUp slot) post found j b = still_turned (GiveUp slot) post found j refl
+base_turned (Retire at) post found j b = still_turned (Retire at) post found j refl
+base_turned (Move at) post found j b = still_turned (Move at) post found j refl
+
+pub index_below : (why : Why) → index_by why < 8
+index_below (Opens task) = index_small task
+index_below (FollowsHead head tail) = omega arith
+index_below (Fills task) = omega arith
+index_below (ClearsNext next) = omega arith
+index_below (Clears task next) = index_small task
+index_below (Finishes task next) = omega arith
+index_below (GivesUp answer) = omega arith
+index_below (Retires answer) = omega arith
+index_below (Tidies later) = omega arith
+index_below Advances = omega arith
+index_below (Releases key) = omega arith
+
+pub at_below : (why : Why) (index n : ℕ) → index ≡ index_by why → n ≡ 8 → index < n
+at_below why index n e l = let b : index_by why < 8 = index_below why in omega arith
+
+pub run_index : (layout : Layout) (why : Why) (base : Base) (post : Post) → length post.standing ≡ 8 → Run layout why base post → fits_index base post
+run_index layout why (Protect aim index root steps at) post l r = at_below why index (length post.standing) r.shape.at l
+run_index layout why (Reload parent index slot era steps) post l r = at_below why index (length post.standing) r.shape.at l
+run_index layout why (Begin at) post l r = tt
+run_index layout why (Clear index) post l r = tt
+run_index layout why Finish post l r = tt
+run_index layout why Release post l r = tt
+run_index layout why (Allocate at) post l r = tt
+run_index layout why (Write slot row place) post l r = tt
+run_index layout why (GiveUp slot) post l r = tt
+run_index layout why (Retire at) post l r = tt
+run_index layout why (Move at) post l r = tt
+
+phase_turned : (layout : Layout) (phase : Phase) (post : Post) (found j : ℕ) → length post.standing ≡ 8 → PhaseFits layout post phase → stands (own_post phase post found) j ≡ stood (own_told phase post found) (stands post j) j
+phase_turned layout Idle post found j l r = refl
+phase_turned layout (Runs why base) post found j l r = base_turned base post found j (run_index layout why base post l r)
+phase_turned layout (Scans later (ReadGuard number)) post found j l r = refl
+phase_turned layout (Scans later (GiveBack place slot)) post found j l r = refl
+phase_turned layout (Works work) post found j l r = refl
+
+pub counted_fits : (layout : Layout) (phase : Phase) (post : Post) → PhaseFits layout post phase → PhaseFits layout (counted post) phase
+counted_fits layout Idle post r = r
+counted_fits layout (Runs why base) post r = run_counted layout why base post r
+counted_fits layout (Scans later at) post r = r
+counted_fits layout (Works work) post r = r
+
+pub standing_told : StandingTold
+standing_told w i j s =
+    let l : Local = w.seat i in
+    let t : CallTurn = turn l (finds w i) in
+    let x : Adds (own_post l.phase (counted l.post) (finds w i)) (own_told l.phase (counted l.post) (finds w i)) t = step_adds w i in
+    let p : PhaseFits w.layout (counted l.post) l.phase = counted_fits w.layout l.phase l.post (s.fits i).phase in
+    same_standing ((step w i).seat i).post t.post j (ap (λ (q : Post). q.standing) (stepped_post w i))
+    ∙ x.stands j
+    ∙ ap (λ (y : Option ℕ). stood x.more y j) (phase_turned w.layout l.phase (counted l.post) (finds w i) j (s.fits i).post.standing p)
+    ∙ sym (stood_append (own_told l.phase (counted l.post) (finds w i)) x.more (stands l.post j) j)
+    ∙ sym (ap (λ (told : List Event). stood told (stands l.post j) j) x.is)

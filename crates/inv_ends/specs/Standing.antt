@@ -1,0 +1,67 @@
+-- What stands at the indexes of a seat is what its steps tell: Held and Clear, each where it happens.
+use Rattle.std.specs.Prelude.{Bool, false, true, ℕ, ◌==◌, ◌&&◌, ◌+◌, ◌≡◌, Some}
+use Rattle.inv_covers.specs.defs.declared.event.Root.{Root}
+use Rattle.inv_covers.specs.defs.declared.event.Root.TheVariants as roots
+use Rattle.inv_covers.specs.model.Phases.ProtectAt.{CheckClock, CheckUpper, TakeAnswer}
+use Rattle.inv_covers.specs.model.declared.post.Post.{Post}
+use Rattle.inv_covers.specs.model.Phases.{ProtectAt, Base}
+use Rattle.inv_covers.specs.Held.{leads, Held, Holds}
+use Rattle.inv_covers.specs.model.Posts.{upper, stands}
+use Rattle.inv_covers.specs.model.Phases.Base.{Protect, Reload}
+use Rattle.inv_covers.specs.model.Calls.{Phase, Runs}
+use Rattle.inv_covers.specs.model.World.{World, finds, told_in, step}
+use Rattle.std.specs.List.{list_any}
+use Rattle.inv_covers.specs.defs.Events.{is_held}
+use Rattle.inv_covers.specs.shapes.Seats.{Seats}
+use Rattle.inv_covers.specs.rows.Rows.{View}
+use Rattle.inv_covers.specs.model.Guards.{own_guard}
+use Rattle.inv_ends.specs.Stands.{is_clear, stood}
+
+-- the row of a next link stands only once the head was loaded again
+abbrev pub is_end : Root → Bool
+is_end (roots.Bucket bucket) = true
+is_end roots.Head = true
+is_end roots.Tail = true
+is_end (roots.Next parent) = false
+
+-- a step that found this makes a row stand: it concludes a try whose era is the clock, takes an answer, or finds the head
+-- where it was
+abbrev pub holds_at : Post → Root → ProtectAt → ℕ → ℕ → Bool
+holds_at post root (CheckClock era tries link) found s = (found == era) && (is_end root && leads link s)
+holds_at post root (TakeAnswer link era) found s = is_end root && leads link s
+holds_at post root (CheckUpper link) found s = (found == upper post.span) && (is_end root && leads link s)
+holds_at post root at found s = false
+
+abbrev pub holds_base : Post → Base → ℕ → ℕ → ℕ → Bool
+holds_base post (Protect aim index root steps at) found j s = (index == j) && holds_at post root at found s
+holds_base post (Reload parent index slot era steps) found j s = (index == j) && ((found == parent + 1) && (slot == s))
+holds_base post base found j s = false
+
+abbrev pub holds_in : Post → Phase → ℕ → ℕ → ℕ → Bool
+holds_in post (Runs why base) found j s = holds_base post base found j s
+holds_in post phase found j s = false
+
+-- a step tells that a row stands exactly where it makes it stand
+abbrev pub HeldTold : Type 0
+HeldTold = (w : World) (i j s : ℕ) → list_any (is_held j s) (told_in w i) ≡ holds_in (w.seat i).post (w.seat i).phase (finds w i) j s
+
+-- the row stands from that step on
+abbrev pub HeldStands : Type 0
+HeldStands = (w : World) (i j s : ℕ) → Seats w → list_any (is_held j s) (told_in w i) ≡ true → stands ((step w i).seat i).post j ≡ Some s
+
+-- so the guard of the index covers it, where guards cover what stands
+abbrev pub HeldCovered : Type 0
+HeldCovered =
+    (w : World) (i j s : ℕ) (v : View)
+    → Seats w
+    → Held (step w i) v
+    → list_any (is_held j s) (told_in w i) ≡ true
+    → Holds (step w i) v (own_guard w.layout.config.scheme i j) s
+
+-- what is told to stand no more stood before the step
+abbrev pub ClearStood : Type 0
+ClearStood = (w : World) (i j s : ℕ) → Seats w → list_any (is_clear j s) (told_in w i) ≡ true → stands (w.seat i).post j ≡ Some s
+
+-- at each index stands what was told last of it
+abbrev pub StandingTold : Type 0
+StandingTold = (w : World) (i j : ℕ) → Seats w → stands ((step w i).seat i).post j ≡ stood (told_in w i) (stands (w.seat i).post j) j

@@ -1,0 +1,73 @@
+//! What steps tell of rows, and how machines end. Each function here does nothing, and carries
+//! a theorem.
+#![tactic(auto)]
+
+ghost use Rattle.inv_ends.specs.Births.{GivenBegin, GivenKept, GivenStart, RetiresGiven};
+ghost use Rattle.inv_ends.specs.Moves.{MeetingBegin, MeetingKept, MeetingStart, MetAnswered, MetOpen};
+ghost use Rattle.inv_ends.specs.Nulls.{NullTold, NullsEnd};
+ghost use Rattle.inv_ends.specs.Standing.{ClearStood, HeldCovered, HeldStands, HeldTold, StandingTold};
+ghost use Rattle.inv_ends.specs.Told.{NoReuse, RowsTold, RowsWere};
+ghost use Rattle.inv_ends.specs.Walks.{FullSeen, SeenTaken, WalkingBegin, WalkingKept, WalkingStart};
+
+/// What a step tells of rows is its move of rows: which row is given, unused, retired or back. A row
+/// that is given was free, and one that is unused or back was the seat's own. A row is retired with
+/// its birth era and with a clock value that was loaded once it was cut.
+pub fn rows_are_told()
+    ensures told { RowsTold }
+    ensures were { RowsWere }
+{}
+
+/// Where a row stands at an index of a seat, no step of any seat tells that it is given, unused or
+/// back.
+pub fn no_row_is_reused()
+    ensures { NoReuse }
+{}
+
+/// A row is retired with the birth era under which it was given last: from the start on, and over
+/// every step and every call that begins, that is the birth era of each row that has one.
+pub fn births_are_told()
+    ensures start { GivenStart }
+    ensures begin { GivenBegin }
+    ensures step { GivenKept }
+    ensures retired { RetiresGiven }
+{}
+
+/// A step tells Null exactly where the link is null by which it concludes a protection: the link of
+/// a try whose era is the clock, or that of the answer. A protection that ends with Null, and a
+/// follow that ends with no next row, have that link null.
+pub fn nulls_are_told()
+    ensures told { NullTold }
+    ensures ends { NullsEnd }
+{}
+
+/// A step tells that a row stands at an index exactly where it makes it stand, and the row stands
+/// there from then on, covered by the guard of the index. What it tells to stand no more stood there.
+/// At each index stands what was told last of it.
+pub fn standing_rows_are_told()
+    ensures held { HeldTold }
+    ensures stands { HeldStands }
+    ensures covered { HeldCovered }
+    ensures cleared { ClearStood }
+    ensures standing { StandingTold }
+{}
+
+/// Each slot that a walk has passed was taken at a step of this walk: from the start on, and over
+/// every step and every call that begins. A walk that ends with Full has seen each row taken.
+pub fn walks_see_rows_taken()
+    ensures start { WalkingStart }
+    ensures begin { WalkingBegin }
+    ensures step { WalkingKept }
+    ensures full { FullSeen }
+    ensures taken { SeenTaken }
+{}
+
+/// Where a mover of the clock comes to exchange the clock, no request that it has seen pending on its
+/// way is pending any more: each has an answer, or its tag has risen. So from the start on, and over
+/// every step and every call that begins.
+pub fn moves_meet_requests()
+    ensures start { MeetingStart }
+    ensures begin { MeetingBegin }
+    ensures step { MeetingKept }
+    ensures seen { MetOpen }
+    ensures answered { MetAnswered }
+{}

@@ -1,0 +1,86 @@
+-- What tracked links give to the contents of rows and to the queue.
+use Rattle.std.proofs.Common.{ℕ, ◌≡◌, ◌<◌, ◌+◌, ◌-◌, ◌%◌, Bool, true, Some, arith, ap, subst}
+use Rattle.std.proofs.lemmas.Bool.Decides.{nat_tests}
+use Rattle.std.specs.Prelude.{◌==◌, ◌&&◌, ◌||◌, not}
+use Rattle.inv_covers.specs.words.Place.Place.{Row}
+use Rattle.inv_covers.specs.words.Packed.{read_request}
+use Rattle.inv_covers.specs.words.declared.packed.Request.TheVariants as requests
+use Rattle.inv_covers.specs.defs.declared.event.Root.{Root}
+use Rattle.inv_covers.specs.defs.declared.event.Root.TheVariants as roots
+use Rattle.inv_covers.specs.model.declared.ends.ProtectEnd.TheVariants as protect_ends
+use Rattle.inv_covers.specs.model.Book.{Book}
+use Rattle.inv_covers.specs.model.Machine.{after}
+use Rattle.inv_covers.specs.model.Posts.{counted}
+use Rattle.inv_covers.specs.model.Phases.{Aim, ProtectAt, Base, Ends, Protected}
+use Rattle.inv_covers.specs.model.Phases.Base.{Protect}
+use Rattle.inv_covers.specs.model.Calls.{Gets, Changes, Why, Opens, FollowsHead, Runs}
+use Rattle.inv_covers.specs.model.World.{World, finds}
+use Rattle.inv_covers.proofs.model.Facts.{first_of, rest_of, one_more_less}
+use Rattle.inv_covers.specs.shapes.Seats.{root_by}
+use Rattle.inv_requests.specs.Views.{View as Asking}
+use Rattle.inv_covers.specs.rows.Rows.{View}
+use Rattle.inv_covers.specs.rows.Chain.{queue_of}
+use Rattle.inv_covers.specs.rows.Follow.{at_asks}
+use Rattle.inv_covers.specs.rows.Queue.{Line}
+use Rattle.inv_covers.specs.rows.Tries.{is_tail, is_head, FromHead}
+use Rattle.inv_links.proofs.Origins.Came.{aimed_at}
+use Rattle.inv_links.proofs.Origins.Ends.{held_tracked, held_root, answer_tracked}
+use Rattle.inv_links.specs.Origins.{OriginsNeeds}
+use Rattle.inv_links.specs.Tracked.{root_for}
+use Rattle.inv_links.specs.Links.{is_bucket, links_to, Links, LinksGive}
+
+-- a link that is not null
+bucket_is : (b : ℕ) (root : Root) → is_bucket b root ≡ true → root ≡ roots.Bucket b
+bucket_is b (roots.Bucket bucket) h = let q : bucket ≡ b = grind (arith, nat_tests) in ap roots.Bucket q
+bucket_is b roots.Head h = absurd (cc)
+bucket_is b roots.Tail h = absurd (cc)
+bucket_is b (roots.Next parent) h = absurd (cc)
+
+not_null : (s : ℕ) (b : Bool) → (s + 1 == 0 || b) ≡ true → b ≡ true
+not_null s b h = grind (arith, nat_tests)
+
+bucket_link : (book : Book) (b s : ℕ) → (s + 1 == 0 || is_bucket b (book.row (s + 1 - 1)).root) ≡ true → (book.row s).root ≡ roots.Bucket b
+bucket_link book b s h =
+    bucket_is b (book.row s).root (subst (λ (n : ℕ). is_bucket b (book.row n).root ≡ true) (one_more_less s) (not_null s (is_bucket b (book.row (s + 1 - 1)).root) h))
+
+tail_link : (w : World) (v : View) (l : Line) (root : Root) (s : ℕ) → is_tail root ≡ true → links_to w.book w.mem v l root (s + 1) ≡ true → l.lined s ≡ true
+tail_link w v l (roots.Bucket b) s e h = absurd (cc)
+tail_link w v l roots.Head s e h = absurd (cc)
+tail_link w v l roots.Tail s e h = subst (λ (n : ℕ). l.lined n ≡ true) (one_more_less s) (not_null s (l.lined (s + 1 - 1)) h)
+tail_link w v l (roots.Next parent) s e h = absurd (cc)
+
+leads_is : (q : Bool) (head x : ℕ) → (not q || head == x) ≡ true → q ≡ true → head ≡ x
+leads_is q head x h p = grind (arith, nat_tests)
+
+head_link : (w : World) (v : View) (l : Line) (root : Root) (s : ℕ) → is_head root ≡ true → links_to w.book w.mem v l root (s + 1) ≡ true → FromHead (queue_of v) l v.head s
+head_link w v l (roots.Bucket b) s e h = absurd (cc)
+head_link w v l roots.Head s e h =
+    let g = not_null s (l.lined (s + 1 - 1) && (not (queue_of v (s + 1 - 1)) || v.head == s + 1)) h in
+    let a = subst (λ (n : ℕ). l.lined n ≡ true) (one_more_less s) (first_of (l.lined (s + 1 - 1)) (not (queue_of v (s + 1 - 1)) || v.head == s + 1) g) in
+    let b = subst (λ (n : ℕ). (not (queue_of v n) || v.head == s + 1) ≡ true) (one_more_less s) (rest_of (l.lined (s + 1 - 1)) (not (queue_of v (s + 1 - 1)) || v.head == s + 1) g) in
+    record { lined = a; first = λ q. leads_is (queue_of v s) v.head (s + 1) b q }
+head_link w v l roots.Tail s e h = absurd (cc)
+head_link w v l (roots.Next parent) s e h = absurd (cc)
+
+next_link : (word x : ℕ) → 0 < x → (x == 0 || word == x) ≡ true → word ≡ x
+next_link word x p h = grind (arith, nat_tests)
+
+-- the link of an answer
+answer_link : (w : World) (i : ℕ) (v : View) (l : Line) (z : Asking) (why : Why) (aim : Aim) (index : ℕ) (root : Root) (steps : ℕ) (at : ProtectAt) (link era : ℕ) → OriginsNeeds w i z → Links w v l z → (w.seat i).phase ≡ Runs why (Protect aim index root steps at) → at_asks at ≡ true → read_request (finds w i) ≡ Some (requests.Answered link era) → links_to w.book w.mem v l root link ≡ true
+answer_link w i v l z why aim index root steps at link era n h q a r =
+    subst (λ (x : Root). links_to w.book w.mem v l x link ≡ true) (ap root_for q) (h.tracked i link (answer_tracked w i z why aim index root steps at link era n q a r))
+
+-- the link with which a protection ends
+held_link : (w : World) (i : ℕ) (v : View) (l : Line) (z : Asking) (why : Why) (base : Base) (slot era : ℕ) → OriginsNeeds w i z → Links w v l z → (w.seat i).phase ≡ Runs why base → (after base (counted (w.seat i).post) (finds w i)).outcome ≡ Ends (Protected (protect_ends.Held slot era)) → links_to w.book w.mem v l (root_by w.layout.config.buckets why) (slot + 1) ≡ true
+held_link w i v l z why base slot era n h q o =
+    subst (λ (x : Root). links_to w.book w.mem v l x (slot + 1) ≡ true) (held_root w i why base slot era n.seats q o) (h.tracked i (slot + 1) (held_tracked w i z why base slot era q o))
+
+pub links_give : LinksGive
+links_give w i v l z n h = record {
+  gets = λ key slot era base q o. bucket_link w.book (key % w.layout.config.buckets) slot (held_link w i v l z (Opens (Gets key)) base slot era n h q o);
+  changes = λ kept slot era base q o. bucket_link w.book _ slot (held_link w i v l z (Opens (Changes kept)) base slot era n h q o);
+  answers = λ head tail aim index root steps at q link era a r p.
+      next_link (w.mem (Row head 0)) link p (subst (λ (x : Root). links_to w.book w.mem v l x link ≡ true) (aimed_at w i (FollowsHead head tail) aim index root steps at n.seats q).of (answer_link w i v l z (FollowsHead head tail) aim index root steps at link era n h q a r));
+  asks = λ task aim index root steps at link era s q a r e t. tail_link w v l root s t (subst (λ (x : ℕ). links_to w.book w.mem v l root x ≡ true) e (answer_link w i v l z (Opens task) aim index root steps at link era n h q a r));
+  heads = λ task aim index root steps at link era s q a r e t. head_link w v l root s t (subst (λ (x : ℕ). links_to w.book w.mem v l root x ≡ true) e (answer_link w i v l z (Opens task) aim index root steps at link era n h q a r));
+}

@@ -1,0 +1,163 @@
+-- What was true of a root and a link when the link was loaded stays true of them as long as the link is tracked.
+use Rattle.std.specs.Prelude.{ℕ, ◌≡◌, ◌<◌, ◌+◌, Bool, true, false, Some}
+use Rattle.inv_covers.specs.words.Place.{is_valid}
+use Rattle.inv_covers.specs.words.Packed.{read_request}
+use Rattle.inv_covers.specs.words.declared.layout.Layout.{Layout}
+use Rattle.inv_covers.specs.words.declared.packed.Request.TheVariants as requests
+use Rattle.inv_covers.specs.defs.declared.call.Call.{Call}
+use Rattle.inv_covers.specs.defs.declared.event.Root.{Root}
+use Rattle.inv_covers.specs.model.declared.ends.ProtectEnd.TheVariants as protect_ends
+use Rattle.inv_covers.specs.model.Links.{link_place}
+use Rattle.inv_covers.specs.model.Machine.{after}
+use Rattle.inv_covers.specs.model.Posts.{counted}
+use Rattle.inv_covers.specs.model.Phases.{Aim, ProtectAt, MoveAt, Base, Ends, Protected}
+use Rattle.inv_covers.specs.model.Phases.ProtectAt.{LoadClock, PublishEra, LoadLink, CheckClock, PublishRequest, LoadOwnClock, PublishHelper, LoadOwnLink, CheckOwnClock, AnswerOwn, LoadAnswer, TakeAnswer, WithdrawRequest, WithdrawHelper, LoadWithin, CheckUpper, RaiseUpper}
+use Rattle.inv_covers.specs.model.Phases.MoveAt.{LoadEra, LoadRequest, ShowEra, LoadAsked, CheckEra, AnswerAsked, LoadReserved, HandOver, HideEra, HideLate, ExchangeClock}
+use Rattle.inv_covers.specs.model.Phases.Base.{Begin, Protect, Reload, Clear, Finish, Release, Allocate, Write, GiveUp, Retire, Move}
+use Rattle.inv_covers.specs.model.Calls.{Why, Phase, Idle, Runs, Scans, Works}
+use Rattle.inv_covers.specs.model.World.{World, start, begin, step, is_busy, finds}
+use Rattle.inv_covers.specs.shapes.Eras.{Eras}
+use Rattle.inv_covers.specs.shapes.Seats.{Seats, root_by}
+use Rattle.inv_requests.specs.Needs.{Needs}
+use Rattle.inv_requests.specs.NextDeals.{next_deals}
+use Rattle.inv_requests.specs.Standing.{Requests}
+use Rattle.inv_requests.specs.Views.{View}
+use Rattle.inv_requests.specs.Views.Deal.{Quiet}
+use Rattle.inv_covers.specs.rows.Follow.{at_asks}
+use Rattle.inv_links.specs.Tracked.{root_in, Tracked}
+
+-- the step loads a link, for the own protection or for the request of another seat
+abbrev pub loads_at : ProtectAt → Bool
+loads_at (LoadClock tries) = false
+loads_at (PublishEra era tries) = false
+loads_at (LoadLink era tries) = true
+loads_at (CheckClock era tries link) = false
+loads_at PublishRequest = false
+loads_at LoadOwnClock = false
+loads_at (PublishHelper first era last) = false
+loads_at (LoadOwnLink first era last) = true
+loads_at (CheckOwnClock first era last link) = false
+loads_at (AnswerOwn first era link) = false
+loads_at (LoadAnswer first) = false
+loads_at (TakeAnswer link era) = false
+loads_at (WithdrawRequest link era) = false
+loads_at (WithdrawHelper link era) = false
+loads_at LoadWithin = true
+loads_at (CheckUpper link) = false
+loads_at (RaiseUpper era) = false
+
+abbrev pub loads_asked : MoveAt → Bool
+loads_asked (LoadEra helps) = false
+loads_asked (LoadRequest era seat shows) = false
+loads_asked (ShowEra era seat tag index root) = false
+loads_asked (LoadAsked era seat tag index root) = true
+loads_asked (CheckEra era seat tag index root link) = false
+loads_asked (AnswerAsked era seat tag index root link) = false
+loads_asked (LoadReserved era seat tag index root link) = false
+loads_asked (HandOver era seat tag index root link old) = false
+loads_asked (HideEra era) = false
+loads_asked (HideLate seen) = false
+loads_asked (ExchangeClock era) = false
+
+abbrev pub loads_base : Base → Bool
+loads_base (Begin at) = false
+loads_base (Protect aim index root steps at) = loads_at at
+loads_base (Reload parent index slot era steps) = false
+loads_base (Clear index) = false
+loads_base Finish = false
+loads_base Release = false
+loads_base (Allocate at) = false
+loads_base (Write slot row place) = false
+loads_base (GiveUp slot) = false
+loads_base (Retire at) = false
+loads_base (Move at) = loads_asked at
+
+abbrev pub loads_link : Phase → Bool
+loads_link Idle = false
+loads_link (Runs why base) = loads_base base
+loads_link (Scans later at) = false
+loads_link (Works work) = false
+
+-- what a step needs of the other parts: the shape of seats, the eras, roots of the table, and what is known of requests
+pub record OriginsNeeds (w : World) (i : ℕ) (z : View) : Type 0 where
+  pub valid : is_valid w.layout ≡ true
+  pub below : i < w.layout.config.seats
+  pub seats : Seats w
+  pub eras : Eras w
+  pub needs : Needs w
+  pub requests : Requests w z
+
+-- where a link that is tracked for seat k after a step of seat i comes from: it was tracked before, or the step loads it;
+-- and the protection's root is the same
+pub data Came (w : World) (i : ℕ) (z : View) (k link : ℕ) : Type 0 where
+  Before : root_in (step w i) k ≡ root_in w k → Tracked w z k link → Came w i z k link
+  Now : root_in (step w i) k ≡ root_in w k → loads_link (w.seat i).phase ≡ true → w.mem (link_place (root_in w k)) ≡ link → Came w i z k link
+
+abbrev pub TrackedCame : Type 0
+TrackedCame =
+    (w : World) (i : ℕ) (z next : View) (k link : ℕ)
+    → OriginsNeeds w i z
+    → next.deal ≡ next_deals w i z.deal
+    → Tracked (step w i) next k link
+    → Came w i z k link
+
+-- each seat may take each link that is tracked for it for one of its protection's root
+pub record Origins (good : ℕ → Root → ℕ → Bool) (w : World) (z : View) : Type 0 where
+  pub tracked : (k link : ℕ) → Tracked w z k link → good k (root_in w k) link ≡ true
+
+-- what is in a root that a step loads is good, and what is tracked stays good over the step
+pub record Stays (good after : ℕ → Root → ℕ → Bool) (w : World) (i : ℕ) (z : View) : Type 0 where
+  pub fresh : (k : ℕ) → loads_link (w.seat i).phase ≡ true → after k (root_in w k) (w.mem (link_place (root_in w k))) ≡ true
+  pub stays : (k link : ℕ) → Tracked w z k link → good k (root_in w k) link ≡ true → after k (root_in w k) link ≡ true
+
+abbrev pub OriginsKept : Type 0
+OriginsKept =
+    (good after : ℕ → Root → ℕ → Bool) (w : World) (i : ℕ) (z next : View)
+    → OriginsNeeds w i z
+    → next.deal ≡ next_deals w i z.deal
+    → Stays good after w i z
+    → Origins good w z
+    → Origins after (step w i) next
+
+abbrev pub OriginsBegin : Type 0
+OriginsBegin =
+    (good : ℕ → Root → ℕ → Bool) (w : World) (i : ℕ) (call : Call) (z next : View)
+    → is_busy w i ≡ false
+    → Requests w z
+    → next.deal ≡ z.deal
+    → Origins good w z
+    → Origins good (begin w i call) next
+
+-- nothing is tracked at the start
+abbrev pub OriginsStart : Type 0
+OriginsStart =
+    (good : ℕ → Root → ℕ → Bool) (layout : Layout) (z : View)
+    → ((k : ℕ) → z.deal k ≡ Quiet)
+    → Origins good (start layout) z
+
+-- a protection ends with a link that was tracked
+abbrev pub HeldTracked : Type 0
+HeldTracked =
+    (w : World) (i : ℕ) (z : View) (why : Why) (base : Base) (slot era : ℕ)
+    → (w.seat i).phase ≡ Runs why base
+    → (after base (counted (w.seat i).post) (finds w i)).outcome ≡ Ends (Protected (protect_ends.Held slot era))
+    → Tracked w z i (slot + 1)
+
+-- and it is one of the root that its call is after
+abbrev pub HeldRoot : Type 0
+HeldRoot =
+    (w : World) (i : ℕ) (why : Why) (base : Base) (slot era : ℕ)
+    → Seats w
+    → (w.seat i).phase ≡ Runs why base
+    → (after base (counted (w.seat i).post) (finds w i)).outcome ≡ Ends (Protected (protect_ends.Held slot era))
+    → root_in w i ≡ root_by w.layout.config.buckets why
+
+-- the link of an answer that a seat finds in its request is tracked too
+abbrev pub AnswerTracked : Type 0
+AnswerTracked =
+    (w : World) (i : ℕ) (z : View) (why : Why) (aim : Aim) (index : ℕ) (root : Root) (steps : ℕ) (at : ProtectAt) (link era : ℕ)
+    → OriginsNeeds w i z
+    → (w.seat i).phase ≡ Runs why (Protect aim index root steps at)
+    → at_asks at ≡ true
+    → read_request (finds w i) ≡ Some (requests.Answered link era)
+    → Tracked w z i link

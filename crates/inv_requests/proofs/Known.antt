@@ -1,0 +1,98 @@
+-- What the part on requests tells of a seat's own post and of what its step finds.
+use Rattle.std.proofs.Common.{ℕ, ◌≡◌, ◌<◌, ◌+◌, Bool, true, false, arith, refl, sym, ap, ◌∙◌}
+use Rattle.std.proofs.lemmas.Bool.Decides.{nat_tests}
+use Rattle.std.specs.Prelude.{◌==◌, ◌&&◌, not}
+use Rattle.inv_shapes.specs.words.Place.{is_valid}
+use Rattle.inv_shapes.specs.words.Place.Place.{Helper, Request}
+use Rattle.inv_shapes.specs.words.Packed.{halves}
+use Rattle.inv_shapes.specs.words.declared.layout.Layout.{Layout}
+use Rattle.inv_shapes.specs.defs.declared.event.Root.{Root}
+use Rattle.inv_shapes.proofs.model.Ranges.{bounds_of}
+use Rattle.inv_shapes.specs.model.Links.{link_number}
+use Rattle.inv_shapes.specs.model.Memory.{place_in, found}
+use Rattle.inv_shapes.specs.model.Posts.{tag_of}
+use Rattle.inv_shapes.specs.model.SlowPath.{asking, own_request}
+use Rattle.inv_shapes.specs.model.Phases.ProtectAt.{AnswerOwn, LoadAnswer, TakeAnswer}
+use Rattle.inv_shapes.specs.model.Phases.Base.{Protect}
+use Rattle.inv_shapes.specs.model.Calls.{Phase, Idle, Runs}
+use Rattle.inv_shapes.specs.model.Steps.{phase_move}
+use Rattle.inv_shapes.specs.model.World.{World, finds}
+use Rattle.inv_shapes.specs.Seats.{Seats}
+use Rattle.inv_requests.specs.Deals.{is_open, asked_at}
+use Rattle.inv_requests.specs.Known.{IsAnswer, Known}
+use Rattle.inv_requests.specs.Standing.{role_of, request_of, Requests}
+use Rattle.inv_requests.specs.Views.{View, Role as roles}
+use Rattle.inv_requests.proofs.Answering.{heard, word_by_open}
+use Rattle.inv_requests.proofs.Kept.{idle_of}
+use Rattle.inv_requests.proofs.Words.{no_halves}
+use Rattle.inv_shapes.proofs.model.Facts.{not_right, first_of, number_is, same_test}
+
+-- what a seat finds, by its phase
+finds_by : (w : World) (k : ℕ) (phase : Phase) → (w.seat k).phase ≡ phase → finds w k ≡ found (phase_move phase (w.seat k).post) (w.mem (place_in (phase_move phase (w.seat k).post)))
+finds_by w k phase q = ap (λ (p : Phase). found (phase_move p (w.seat k).post) (w.mem (place_in (phase_move p (w.seat k).post)))) q
+
+-- the role of a seat, by its phase
+pub stands_as : (w : World) (v : View) (k : ℕ) (phase : Phase) → Requests w v → (w.seat k).phase ≡ phase → v.role k ≡ role_of w.layout phase
+stands_as w v k phase f q = sym (f.locals.roles k) ∙ ap (role_of w.layout) q
+
+tag_low : (w : World) (v : View) (k index : ℕ) → is_valid w.layout ≡ true → Requests w v → tag_of (w.seat k).post index < 4294967295
+tag_low w v k index y f = let b = bounds_of w.layout y in omega (arith, f.locals.tags k index, f.parts.low k index, f.parts.clock, b.eras)
+
+tag_rises : (w : World) (v : View) (k index word link era : ℕ) → is_valid w.layout ≡ true → Requests w v → v.role k ≡ roles.Takes index word link era → tag_of (w.seat k).post index + 1 < 4294967295
+tag_rises w v k index word link era y f r =
+    let b = bounds_of w.layout y in
+    let s = rw r at (f.parts.spare k) in
+    let e = rw r at (f.parts.eras k) in
+    let t : v.tag k index + 1 < era = grind (arith, nat_tests, s) in
+    omega (arith, f.locals.tags k index, f.parts.clock, b.eras, e, t)
+
+-- an answer that was heard
+answer_of : (w : World) (v : View) (k index word found : ℕ) → Requests w v → asked_at index word (v.deal k) ≡ true → is_open (v.deal k) ≡ false → found ≡ request_of (v.deal k) → IsAnswer w.layout.config.slots v.clock found
+answer_of w v k index word found f a o e =
+    let h = heard index word (v.deal k) a o in
+    record {
+      link = h.link;
+      era = h.era;
+      is = e ∙ h.is;
+      small = h.small v.clock (w.layout.config.slots + 1) (f.parts.timely k);
+      some = h.some v.clock (w.layout.config.slots + 1) (f.parts.timely k);
+      early = h.early v.clock (w.layout.config.slots + 1) (f.parts.timely k);
+    }
+
+-- the own request word, by the seat's number
+pub own_word : (w : World) (v : View) (k : ℕ) → Seats w → Requests w v → w.mem (Request (w.seat k).post.seat) ≡ request_of (v.deal k)
+own_word w v k s f = ap (λ (n : ℕ). w.mem (Request n)) (s.fits k).post.seat ∙ f.words.requests k
+
+hears_answer : (w : World) (v : View) (k index word found : ℕ) → Requests w v → v.role k ≡ roles.Waits index word → found ≡ request_of (v.deal k) → IsAnswer w.layout.config.slots v.clock found
+hears_answer w v k index word found f r e =
+    let g : (asked_at index word (v.deal k) && not (is_open (v.deal k))) ≡ true = rw r at (f.parts.fit k) in
+    answer_of w v k index word found f (first_of (asked_at index word (v.deal k)) (not (is_open (v.deal k))) g) (not_right (asked_at index word (v.deal k)) (is_open (v.deal k)) g) e
+
+-- where the own exchange fails the request is open no more
+meets_answer : (w : World) (v : View) (k index : ℕ) (root : Root) (first era link found : ℕ) → Seats w → Requests w v → v.role k ≡ roles.Answers index (link_number w.layout root) first era link → found ≡ request_of (v.deal k)
+    → (found == own_request (w.seat k).post index root) ≡ false → IsAnswer w.layout.config.slots v.clock found
+meets_answer w v k index root first era link found s f r e n =
+    let g : asked_at index (link_number w.layout root) (v.deal k) ≡ true = rw r at (f.parts.fit k) in
+    answer_of w v k index (link_number w.layout root) found f g (not_open (is_open (v.deal k)) refl g) e
+  where
+    not_open : (b : Bool) → is_open (v.deal k) ≡ b → asked_at index (link_number w.layout root) (v.deal k) ≡ true → b ≡ false
+    not_open false o g = refl
+    not_open true o g =
+        let l = (s.fits k).post.layout in
+        let p = word_by_open index (link_number w.layout root) (tag_of (w.seat k).post index) (v.deal k) (v.tag k) g o (f.parts.tags k) (f.locals.tags k index) in
+        let t = ap (λ (x : Layout). asking x (tag_of (w.seat k).post index) index root) (sym l) in
+        let x : (found == own_request (w.seat k).post index root) ≡ true = same_test found (own_request (w.seat k).post index root) (e ∙ p ∙ t) in cc
+
+hidden_word : (w : World) (v : View) (k : ℕ) → Requests w v → v.role k ≡ roles.Away → w.mem (Helper k) ≡ 0
+hidden_word w v k f r = let s = rw r at (f.parts.shown k) in f.words.helpers k ∙ ap (λ (x : ℕ). halves x 0) (number_is (v.helper k) 0 s) ∙ no_halves
+
+pub known : (w : World) (v : View) (k : ℕ) → is_valid w.layout ≡ true → Seats w → Requests w v → Known w v.clock k
+known w v k y s f = record {
+  tags = λ index. tag_low w v k index y f;
+  rises = λ why aim index root steps link era q. tag_rises w v k index (link_number w.layout root) link era y f (stands_as w v k (Runs why (Protect aim index root steps (TakeAnswer link era))) f q);
+  hears = λ why aim index root steps first q. hears_answer w v k index (link_number w.layout root) (finds w k) f (stands_as w v k (Runs why (Protect aim index root steps (LoadAnswer first))) f q)
+      (finds_by w k (Runs why (Protect aim index root steps (LoadAnswer first))) q ∙ own_word w v k s f);
+  meets = λ why aim index root steps first era link q n. meets_answer w v k index root first era link (finds w k) s f (stands_as w v k (Runs why (Protect aim index root steps (AnswerOwn first era link))) f q)
+      (finds_by w k (Runs why (Protect aim index root steps (AnswerOwn first era link))) q ∙ own_word w v k s f) n;
+  hidden = λ b. hidden_word w v k f (stands_as w v k Idle f (idle_of (w.seat k).phase b));
+}

@@ -1,0 +1,21 @@
+pub use Rattle.inv_shapes.proofs as shapes
+pub mod Answering
+pub mod Asking
+pub mod Falling
+pub mod Going
+pub mod Handing
+pub mod Helping
+pub mod Kept
+pub mod Known
+pub mod Movers
+pub mod Paced
+pub mod Paces
+pub mod Parents
+pub mod Pending
+pub mod Requester
+pub mod Resting
+pub mod Rounds
+pub mod Serving
+pub mod Standings
+pub mod Turns
+pub mod Words

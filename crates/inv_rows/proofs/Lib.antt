@@ -1,0 +1,22 @@
+pub use Rattle.wfe_core.proofs as model
+pub mod Facts
+pub mod Fits
+pub mod Follow
+pub mod Kept
+pub mod Line
+pub mod Lists
+pub mod Made
+pub mod Opened
+pub mod Own
+pub mod Phases
+pub mod Queued
+pub mod Quiet
+pub mod Rounds
+pub mod Runs
+pub mod Steps
+pub mod Tries
+pub mod Turns
+pub mod Went
+pub mod Whole
+pub mod Words
+pub mod Writers

@@ -1,0 +1,5 @@
+use Rattle.inv_rows.proofs.Queued as queued
+use Rattle.inv_rows.proofs.queue_kept.Goals as goal
+
+pub returns : goal.returns
+returns c = queued.queue_kept

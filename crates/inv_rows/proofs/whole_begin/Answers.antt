@@ -1,0 +1,5 @@
+use Rattle.inv_rows.proofs.Whole as whole
+use Rattle.inv_rows.proofs.whole_begin.Goals as goal
+
+pub returns : goal.returns
+returns c = whole.whole_begin

@@ -1,0 +1,89 @@
+//! Which rows of a table are free, claimed, linked, cut and retired, and by which seat: a part of
+//! the invariant of the machines. Each function here does nothing, and carries a theorem.
+#![tactic(auto)]
+
+ghost use Rattle.inv_rows.specs.Agree.{RowsBegin, RowsKept, RowsStart};
+ghost use Rattle.inv_rows.specs.Chain.{QueueBegin, QueueKept, QueueStart};
+ghost use Rattle.inv_rows.specs.Facts.{LinedStays, QueueEnds, QueueShows, RowWordsStay, RowsShow};
+ghost use Rattle.inv_rows.specs.Tries.{WholeBegin, WholeKept, WholeStart};
+
+/// At the start of a table with a valid setting every row is free but the dummy, which is the
+/// queue's head.
+pub fn rows_start()
+    ensures { RowsStart }
+{}
+
+/// The beginning of a call on a seat that is not busy keeps what is known of the rows.
+pub fn rows_begin()
+    ensures { RowsBegin }
+{}
+
+/// Each step of a seat keeps what is known of the rows: each row is free, or claimed by one seat, or
+/// linked by one root, or in the queue, or cut by one seat, or once in one seat's retire list. How a
+/// step changes it is a function of the seat's local state and of the word found.
+pub fn rows_kept()
+    ensures { RowsKept }
+{}
+
+/// At the start the queue is the dummy alone.
+pub fn queue_start()
+    ensures { QueueStart }
+{}
+
+/// The beginning of a call keeps what is known of the queue.
+pub fn queue_begin()
+    ensures { QueueBegin }
+{}
+
+/// Each step of a seat keeps the rows and the queue: from the head the next links lead through the
+/// rows in the queue, with numbers that rise by one, and the tail is one of them. The head is cut
+/// only while it is the head and not the tail, and the row after it is then the head.
+pub fn queue_kept()
+    ensures { QueueKept }
+{}
+
+/// What the rows give the code of a seat's step: no row is twice in its list, a row that it retires
+/// is not on it and its lifetime was stored, and a scan gives back the entry at its place.
+pub fn rows_show()
+    ensures { RowsShow }
+{}
+
+/// What the rows need of the queue follows from it.
+pub fn queue_shows()
+    ensures { QueueShows }
+{}
+
+/// A row that was in the queue since it was claimed last stays so over each step that does not give
+/// it back. If it was the head or cut it is so still, and its next link, once not null, stays.
+pub fn lined_stays()
+    ensures { LinedStays }
+{}
+
+/// The head and the tail lead to rows of the queue.
+pub fn queue_ends()
+    ensures { QueueEnds }
+{}
+
+/// The words of a row, but for its next link, are changed by no step but those of the seat that has
+/// the row in hand and has not linked it.
+pub fn row_words_stay()
+    ensures { RowWordsStay }
+{}
+
+/// At the start the rows, the queue and the protections of its ends are known.
+pub fn whole_start()
+    ensures { WholeStart }
+{}
+
+/// The beginning of a call keeps all of it.
+pub fn whole_begin()
+    ensures { WholeBegin }
+{}
+
+/// Each step of a seat keeps all of it: the rows, the queue, and that what a protection of the
+/// queue's tail or head has found was in the queue since it was claimed last. Of other parts the
+/// step needs eras and walks in range, that no row is given back which a guard covers, and what the
+/// answers to requests lead to.
+pub fn whole_kept()
+    ensures { WholeKept }
+{}

@@ -1,0 +1,73 @@
+-- The static shape of every seat, at the start and over each step and each call that begins.
+use Rattle.std.proofs.Common.{ℕ, ◌≡◌, Bool, true, false, refl, sym, subst, arith}
+use Rattle.std.proofs.lemmas.Bool.Decides.{nat_tests}
+use Rattle.std.specs.Prelude.{◌==◌}
+use Rattle.wfe_core.specs.words.Place.{is_valid}
+use Rattle.wfe_core.specs.words.declared.layout.Layout.{Layout}
+use Rattle.wfe_core.specs.defs.declared.call.Call.{Call}
+use Rattle.wfe_core.specs.declared.post.Post.{Post}
+use Rattle.wfe_core.specs.Posts.{counted}
+use Rattle.wfe_core.specs.Locals.{Local, after, begun_post}
+use Rattle.wfe_core.specs.Phases.{Base}
+use Rattle.wfe_core.specs.Phases.Base.{Begin, Protect, Reload, Clear, Finish, Release, Allocate, Write, GiveUp, Retire, Move}
+use Rattle.wfe_core.specs.Calls.{Why, Phase, Idle, Runs, Scans, Works}
+use Rattle.wfe_core.specs.World.{World, start, begin, step, finds}
+use Rattle.inv_shapes.specs.Frame.{Seated, Owes}
+use Rattle.inv_shapes.specs.Seats.{Posted, Run, PostFits, PhaseFits, Seats}
+use Rattle.inv_shapes.proofs.Frame.{seat_stays, seat_steps, begin_stays, begin_begins, after_seated, begun_seated}
+use Rattle.inv_shapes.proofs.Shapes.{shape_grows}
+use Rattle.inv_shapes.proofs.Inside.{shape_moves}
+
+pub counted_fits : (layout : Layout) (k : ℕ) (post : Post) → PostFits layout k post → PostFits layout k (counted post)
+counted_fits layout k post q = record { seat = q.seat; layout = q.layout; cursor = q.cursor; tags = q.tags; standing = q.standing }
+
+pub begun_fits : (layout : Layout) (k : ℕ) (post : Post) → PostFits layout k post → PostFits layout k (begun_post post)
+begun_fits layout k post q = record { seat = q.seat; layout = q.layout; cursor = q.cursor; tags = q.tags; standing = q.standing }
+
+posted_counted : (base : Base) (post : Post) → Posted base post → Posted base (counted post)
+posted_counted (Begin at) post h = h
+posted_counted (Protect aim index root steps at) post h = h
+posted_counted (Reload parent index slot era steps) post h = h
+posted_counted (Clear index) post h = h
+posted_counted Finish post h = h
+posted_counted Release post h = h
+posted_counted (Allocate at) post h = h
+posted_counted (Write slot row place) post h = h
+posted_counted (GiveUp slot) post h = h
+posted_counted (Retire at) post h = h
+posted_counted (Move at) post h = h
+
+pub run_counted : (layout : Layout) (why : Why) (base : Base) (post : Post) → Run layout why base post → Run layout why base (counted post)
+run_counted layout why base post p = record { suited = p.suited; fits = p.fits; shape = p.shape; posted = posted_counted base post p.posted }
+
+owed : (layout : Layout) (k : ℕ) → is_valid layout ≡ true → (phase : Phase) (post : Post) (found : ℕ) → PostFits layout k post → PhaseFits layout post phase → Owes (PostFits layout k) (PhaseFits layout) (counted post) found phase
+owed layout k v Idle post found q p = counted_fits layout k post q
+owed layout k v (Runs why base) post found q p = shape_moves layout k v why base (counted post) found (counted_fits layout k post q) (run_counted layout why base post p)
+owed layout k v (Scans later at) post found q p = counted_fits layout k post q
+owed layout k v (Works work) post found q p = record { post = counted_fits layout k post q; span = p }
+
+after_fits : (layout : Layout) (k : ℕ) → is_valid layout ≡ true → (l : Local) (found : ℕ) → Seated (PostFits layout k) (PhaseFits layout) l → Seated (PostFits layout k) (PhaseFits layout) (after l found)
+after_fits layout k v l found s = after_seated (shape_grows layout k v) l found (owed layout k v l.phase l.post found s.post s.phase)
+
+-- the seat that moved, or another
+pub one_moves : (S : ℕ → Local → Type 0) (now then : ℕ → Local) (i : ℕ) → ((k : ℕ) → S k (now k)) → ((k : ℕ) → (k == i) ≡ false → then k ≡ now k) → S i (then i) → (k : ℕ) → S k (then k)
+one_moves S now then i all other own k = at (k == i) refl
+  where
+    at : (b : Bool) → (k == i) ≡ b → S k (then k)
+    at true e = let same : i ≡ k = grind (arith, nat_tests) in subst (λ (j : ℕ). S j (then j)) same own
+    at false e = subst (S k) (sym (other k e)) (all k)
+
+pub seats_step : (w : World) (i : ℕ) → is_valid w.layout ≡ true → Seats w → Seats (step w i)
+seats_step w i v s = record {
+  fits = one_moves (λ k l. Seated (PostFits w.layout k) (PhaseFits w.layout) l) w.seat (step w i).seat i s.fits (seat_stays w i)
+      (subst (Seated (PostFits w.layout i) (PhaseFits w.layout)) (sym (seat_steps w i)) (after_fits w.layout i v (w.seat i) (finds w i) (s.fits i)));
+}
+
+pub seats_begin : (w : World) (i : ℕ) (call : Call) → is_valid w.layout ≡ true → Seats w → Seats (begin w i call)
+seats_begin w i call v s = record {
+  fits = one_moves (λ k l. Seated (PostFits w.layout k) (PhaseFits w.layout) l) w.seat (begin w i call).seat i s.fits (λ k. begin_stays w i k call)
+      (subst (Seated (PostFits w.layout i) (PhaseFits w.layout)) (sym (begin_begins w i call)) (begun_seated (shape_grows w.layout i v) (w.seat i) call (begun_fits w.layout i (w.seat i).post (s.fits i).post)));
+}
+
+pub seats_start : (layout : Layout) → is_valid layout ≡ true → Seats (start layout)
+seats_start layout v = record { fits = λ k. record { post = record { seat = refl; layout = refl; cursor = omega arith; tags = refl; standing = refl }; phase = tt } }

@@ -1,0 +1,302 @@
+-- What an operation writes decodes, and the clock rises by at most one.
+use Rattle.std.proofs.Common.{ℕ, ◌≡◌, ◌≤◌, ◌<◌, ◌+◌, ◌%◌, Bool, true, false, refl, ap, sym, subst, arith}
+use Rattle.std.proofs.lemmas.Bool.Decides.{nat_tests}
+use Rattle.std.specs.Prelude.{◌==◌, if◌then◌else◌}
+use Rattle.wfe_core.specs.words.Place.{Place, same, has, is_valid}
+use Rattle.wfe_core.specs.words.Place.Place.{Clock, Bucket, Row}
+use Rattle.wfe_core.specs.words.Packed.{halves, request_word}
+use Rattle.wfe_core.specs.words.declared.layout.Layout.{Layout}
+use Rattle.wfe_core.specs.words.declared.packed.Request.TheVariants as requests
+use Rattle.wfe_core.proofs.words.Places.{same_one}
+use Rattle.wfe_core.specs.defs.declared.event.Root.{Root}
+use Rattle.wfe_core.specs.declared.post.Post.{Post}
+use Rattle.wfe_core.proofs.Ranges.{bounds_of}
+use Rattle.wfe_core.specs.Links.{link_place, link_number}
+use Rattle.wfe_core.specs.Memory.{Move, Load, Store, Cas, Or, And, place_in, change, written}
+use Rattle.wfe_core.specs.Posts.{helper_word, tag_of}
+use Rattle.wfe_core.specs.Rounds.{key_of}
+use Rattle.wfe_core.specs.Phases.{Aim, BeginAt, ProtectAt, AllocateAt, RetireAt, MoveAt, Base}
+use Rattle.wfe_core.specs.Phases.BeginAt.{LoadLower, PublishSpan}
+use Rattle.wfe_core.specs.Phases.ProtectAt.{LoadClock, PublishEra, LoadLink, CheckClock, PublishRequest, LoadOwnClock, PublishHelper, LoadOwnLink, CheckOwnClock, AnswerOwn, LoadAnswer, TakeAnswer, WithdrawRequest, WithdrawHelper, LoadWithin, CheckUpper, RaiseUpper}
+use Rattle.wfe_core.specs.Phases.AllocateAt.{LoadBirth, ClaimSlot, StoreLife}
+use Rattle.wfe_core.specs.Phases.RetireAt.{LoadLife, LoadRetire, StoreRetired}
+use Rattle.wfe_core.specs.Phases.MoveAt.{LoadEra, LoadRequest, ShowEra, LoadAsked, CheckEra, AnswerAsked, LoadReserved, HandOver, HideEra, HideLate, ExchangeClock}
+use Rattle.wfe_core.specs.Phases.Base.{Begin, Protect, Reload, Clear, Finish, Release, Allocate, Write, GiveUp, Retire, Move as Moves}
+use Rattle.wfe_core.specs.Machine.{begin_move, protect_move, allocate_move, retire_move, move_move, base_move}
+use Rattle.wfe_core.specs.Get.{get_move}
+use Rattle.wfe_core.specs.Change.{change_move}
+use Rattle.wfe_core.specs.Enqueue.{enqueue_move}
+use Rattle.wfe_core.specs.Dequeue.{dequeue_move}
+use Rattle.wfe_core.specs.Scan.{scan_move}
+use Rattle.wfe_core.specs.Steps.{work_move, phase_move}
+use Rattle.wfe_core.specs.Calls.{Task, Gets, Changes, Holds, Enqueues, Dequeues, ChangeKept, EnqueueKept, GetAt, FindVersion, ChangeAt, LoadVersion, EnqueueAt, LoadNumber, DequeueAt, LoadTail, Work, Getting, Changing, Enqueuing, Dequeuing, ScanAt, ReadGuard, GiveBack, Why, Opens, FollowsHead, Fills, ClearsNext, Clears, Finishes, GivesUp, Retires, Tidies, Advances, Releases, Phase, Idle, Runs, Scans, Works}
+use Rattle.inv_shapes.specs.Seats.{index_by, task_root, root_by, Run, PhaseFits}
+use Rattle.inv_shapes.specs.Eras.{EraIn, LinkIn, HelperIn, IndexIn, RequestIn, Lives, WordIn, MoveIn, ClockIn, base_eras, PhaseEras, protect_eras, allocate_eras, retire_eras, move_eras, RootNeeds, protect_needs, move_needs, base_needs, phase_needs}
+
+-- the operation's word after it
+word_change : (layout : Layout) (clock : ℕ) (m : Move) (word : ℕ) → MoveIn layout clock m → WordIn layout clock (place_in m) word → WordIn layout clock (place_in m) (change m word)
+word_change layout clock (Load place) word h e = e
+word_change layout clock (Store place value) word h e = h
+word_change layout clock (Cas place old new) word h e = at (word == old)
+  where
+    at : (b : Bool) → WordIn layout clock place (if b then new else word)
+    at true = h
+    at false = e
+word_change layout clock (Or place bits) word h e = h _
+word_change layout clock (And place bits) word h e = h _
+
+-- the other words stay
+word_by : (layout : Layout) (clock : ℕ) (mem : Place → ℕ) (place : Place) (value : ℕ) (other : Place) (b : Bool) → same other place ≡ b → WordIn layout clock place value → WordIn layout clock other (mem other) → WordIn layout clock other (if b then value else mem other)
+word_by layout clock mem place value other true e h g = subst (λ (p : Place). WordIn layout clock p value) (sym (same_one other place e)) h
+word_by layout clock mem place value other false e h g = g
+
+pub words_written : (layout : Layout) (clock : ℕ) (mem : Place → ℕ) (m : Move) → MoveIn layout clock m → ((place : Place) → WordIn layout clock place (mem place)) → (place : Place) → WordIn layout clock place (written mem m place)
+words_written layout clock mem (Load at) h e place = e place
+words_written layout clock mem (Store at value) h e place = word_by layout clock mem at value place (same place at) refl h (e place)
+words_written layout clock mem (Cas at old new) h e place = word_by layout clock mem at (change (Cas at old new) (mem at)) place (same place at) refl (word_change layout clock (Cas at old new) (mem at) h (e at)) (e place)
+words_written layout clock mem (Or at bits) h e place = word_by layout clock mem at (change (Or at bits) (mem at)) place (same place at) refl (word_change layout clock (Or at bits) (mem at) h (e at)) (e place)
+words_written layout clock mem (And at bits) h e place = word_by layout clock mem at (change (And at bits) (mem at)) place (same place at) refl (word_change layout clock (And at bits) (mem at) h (e at)) (e place)
+
+no_helper : 0 ≡ helper_word 0
+unfolding halves
+no_helper = refl
+
+pub helper_in : (clock era : ℕ) → era ≤ clock → HelperIn clock (helper_word era)
+helper_in clock era h = record { era = era; is = refl; most = h }
+
+pub nothing_shown : (clock : ℕ) → HelperIn clock 0
+nothing_shown clock = record { era = 0; is = no_helper; most = omega arith }
+
+pub nothing_asked : (layout : Layout) (clock : ℕ) → RequestIn layout clock 0
+nothing_asked layout clock = record { request = requests.Idle; is = refl; fits = tt }
+
+-- the index and the root of a protection
+pub index_few : (why : Why) → index_by why ≤ 2
+index_few (Opens (Gets key)) = omega arith
+index_few (Opens (Changes kept)) = omega arith
+index_few (Opens (Holds key)) = omega arith
+index_few (Opens (Enqueues kept)) = omega arith
+index_few (Opens Dequeues) = omega arith
+index_few (FollowsHead head tail) = omega arith
+index_few (Fills task) = omega arith
+index_few (ClearsNext next) = omega arith
+index_few (Clears (Gets key) next) = omega arith
+index_few (Clears (Changes kept) next) = omega arith
+index_few (Clears (Holds key) next) = omega arith
+index_few (Clears (Enqueues kept) next) = omega arith
+index_few (Clears Dequeues next) = omega arith
+index_few (Finishes task next) = omega arith
+index_few (GivesUp answer) = omega arith
+index_few (Retires answer) = omega arith
+index_few (Tidies later) = omega arith
+index_few Advances = omega arith
+index_few (Releases key) = omega arith
+
+bucket_there : (layout : Layout) (key : ℕ) → 1 ≤ layout.config.buckets → has layout (Bucket (key % layout.config.buckets)) ≡ true
+bucket_there layout key b = let c : key % layout.config.buckets < layout.config.buckets = omega arith in grind (arith, nat_tests)
+
+pub task_there : (layout : Layout) (task : Task) → 1 ≤ layout.config.buckets → has layout (link_place (task_root layout.config.buckets task)) ≡ true
+task_there layout (Gets key) b = bucket_there layout key b
+task_there layout (Changes kept) b = bucket_there layout (key_of kept.change) b
+task_there layout (Holds key) b = bucket_there layout key b
+task_there layout (Enqueues kept) b = refl
+task_there layout Dequeues b = refl
+
+next_there : (layout : Layout) (slot : ℕ) → slot ≤ layout.config.slots → has layout (Row slot 0) ≡ true
+next_there layout slot h = grind (arith, nat_tests)
+
+root_by_there : (layout : Layout) (why : Why) → 1 ≤ layout.config.buckets → RootNeeds layout (root_by layout.config.buckets why) → has layout (link_place (root_by layout.config.buckets why)) ≡ true
+root_by_there layout (Opens task) b n = task_there layout task b
+root_by_there layout (FollowsHead head tail) b n = next_there layout head n
+root_by_there layout (Fills task) b n = refl
+root_by_there layout (ClearsNext next) b n = refl
+root_by_there layout (Clears task next) b n = refl
+root_by_there layout (Finishes task next) b n = refl
+root_by_there layout (GivesUp answer) b n = refl
+root_by_there layout (Retires answer) b n = refl
+root_by_there layout (Tidies later) b n = refl
+root_by_there layout Advances b n = refl
+root_by_there layout (Releases key) b n = refl
+
+-- the root of a protection is a word of the table
+pub root_there : (layout : Layout) (why : Why) (root : Root) → 1 ≤ layout.config.buckets → root ≡ root_by layout.config.buckets why → RootNeeds layout root → has layout (link_place root) ≡ true
+root_there layout why root b e n = subst (λ (r : Root). has layout (link_place r) ≡ true) (sym e) (root_by_there layout why b (subst (RootNeeds layout) e n))
+
+answer_in_word : (layout : Layout) (clock link era : ℕ) → LinkIn layout link → EraIn clock era → RequestIn layout clock (request_word (requests.Answered link era))
+answer_in_word layout clock link era l e = record { request = requests.Answered link era; is = refl; fits = record { link_in = l; era_in = e } }
+
+pub index_in : (clock era tag word : ℕ) → word ≡ halves era tag → era ≤ clock → tag < 4294967296 → IndexIn clock word
+index_in clock era tag word e m f = record { era = era; tag = tag; is = e; most = m; few = f }
+
+protect_in : (layout : Layout) (clock : ℕ) (v : is_valid layout ≡ true) (why : Why) (aim : Aim) (index : ℕ) (root : Root) (n : ℕ) (at : ProtectAt) (post : Post) → post.layout ≡ layout → tag_of post index < 4294967295
+    → Run layout why (Protect aim index root n at) post → protect_eras clock post at → protect_needs at layout root → MoveIn layout clock (protect_move index root at post)
+protect_in layout clock v why aim index root n (LoadClock tries) post l t r e d = tt
+protect_in layout clock v why aim index root n (PublishEra era tries) post l t r e d = index_in clock era (tag_of post index) _ refl e.most (omega arith)
+protect_in layout clock v why aim index root n (LoadLink era tries) post l t r e d = tt
+protect_in layout clock v why aim index root n (CheckClock era tries link) post l t r e d = tt
+protect_in layout clock v why aim index root n PublishRequest post l t r e d = let b = bounds_of layout v in let i = b.indexes.0 in let f = index_few why in let a = r.shape.at in
+    record { request = requests.Pending (tag_of post index) index (link_number post.layout root); is = refl; fits = record { root = root; is = ap (λ (t : Layout). link_number t root) l; fits = record { few = t; at = omega arith; there = root_there layout why root b.buckets.0 r.shape.of d } } }
+protect_in layout clock v why aim index root n LoadOwnClock post l t r e d = tt
+protect_in layout clock v why aim index root n (PublishHelper first era last) post l t r e d = helper_in clock era e.most
+protect_in layout clock v why aim index root n (LoadOwnLink first era last) post l t r e d = tt
+protect_in layout clock v why aim index root n (CheckOwnClock first era last link) post l t r e d = tt
+protect_in layout clock v why aim index root n (AnswerOwn first era link) post l t r e d = let b = e.began in let s = e.rises in answer_in_word layout clock link era d (record { some = omega arith; most = e.most })
+protect_in layout clock v why aim index root n (LoadAnswer first) post l t r e d = tt
+protect_in layout clock v why aim index root n (TakeAnswer link era) post l t r e d = index_in clock era (tag_of post index + 1) _ refl e (omega arith)
+protect_in layout clock v why aim index root n (WithdrawRequest link era) post l t r e d = nothing_asked layout clock
+protect_in layout clock v why aim index root n (WithdrawHelper link era) post l t r e d = nothing_shown clock
+protect_in layout clock v why aim index root n LoadWithin post l t r e d = tt
+protect_in layout clock v why aim index root n (CheckUpper link) post l t r e d = tt
+protect_in layout clock v why aim index root n (RaiseUpper era) post l t r e d = tt
+
+move_in : (layout : Layout) (clock : ℕ) (at : MoveAt) (post : Post) → move_eras layout clock at → move_needs at layout → MoveIn layout clock (move_move at post)
+move_in layout clock (LoadEra helps) post e d = tt
+move_in layout clock (LoadRequest era seat shows) post e d = tt
+move_in layout clock (ShowEra era seat tag index root) post e d = helper_in clock era e.mover.era_in.most
+move_in layout clock (LoadAsked era seat tag index root) post e d = tt
+move_in layout clock (CheckEra era seat tag index root link) post e d = tt
+move_in layout clock (AnswerAsked era seat tag index root link) post e d = answer_in_word layout clock link era d e.mover.era_in
+move_in layout clock (LoadReserved era seat tag index root link) post e d = tt
+move_in layout clock (HandOver era seat tag index root link old) post e d = let f = e.helps.asked.few in index_in clock era (tag + 1) _ refl e.helps.mover.era_in.most (omega arith)
+move_in layout clock (HideEra era) post e d = nothing_shown clock
+move_in layout clock (HideLate seen) post e d = nothing_shown clock
+move_in layout clock (ExchangeClock era) post e d = tt
+
+begin_in : (layout : Layout) (clock : ℕ) (at : BeginAt) (post : Post) → MoveIn layout clock (begin_move at post)
+begin_in layout clock LoadLower post = tt
+begin_in layout clock (PublishSpan era) post = tt
+
+allocate_in : (layout : Layout) (clock : ℕ) (at : AllocateAt) → allocate_eras clock at → MoveIn layout clock (allocate_move at)
+allocate_in layout clock LoadBirth e = tt
+allocate_in layout clock (ClaimSlot birth walk) e = λ word. tt
+allocate_in layout clock (StoreLife birth slot) e = Lives birth 0 refl (record { born = e; over = omega arith; later = λ h. absurd (omega arith) })
+
+retire_in : (layout : Layout) (clock : ℕ) (at : RetireAt) → retire_eras clock at → MoveIn layout clock (retire_move at)
+retire_in layout clock (LoadLife slot) e = tt
+retire_in layout clock (LoadRetire slot birth) e = tt
+retire_in layout clock (StoreRetired slot birth retire) e = let a = e.later in let b = e.most in
+    Lives birth retire refl (record { born = record { some = e.born; most = omega arith }; over = e.most; later = λ h. e.later })
+
+base_in : (layout : Layout) (clock : ℕ) (v : is_valid layout ≡ true) (mem : Place → ℕ) (why : Why) (base : Base) (post : Post) → post.layout ≡ layout → ((index : ℕ) → tag_of post index < 4294967295)
+    → Run layout why base post → base_eras layout clock post base → base_needs base layout mem → MoveIn layout clock (base_move base post)
+base_in layout clock v mem why (Begin at) post l t r e d = begin_in layout clock at post
+base_in layout clock v mem why (Protect aim index root steps at) post l t r e d = protect_in layout clock v why aim index root steps at post l (t index) r e d
+base_in layout clock v mem why (Reload parent index slot era steps) post l t r e d = tt
+base_in layout clock v mem why (Clear index) post l t r e d = let f = t index in index_in clock 0 (tag_of post index) _ refl (omega arith) (omega arith)
+base_in layout clock v mem why Finish post l t r e d = tt
+base_in layout clock v mem why Release post l t r e d = tt
+base_in layout clock v mem why (Allocate at) post l t r e d = allocate_in layout clock at e
+base_in layout clock v mem why (Write slot row place) post l t r e d = tt
+base_in layout clock v mem why (GiveUp slot) post l t r e d = λ word. tt
+base_in layout clock v mem why (Retire at) post l t r e d = retire_in layout clock at e
+base_in layout clock v mem why (Moves at) post l t r e d = move_in layout clock at post e d
+
+get_in : (layout : Layout) (clock : ℕ) (at : GetAt) → MoveIn layout clock (get_move at)
+get_in layout clock (FindVersion slot) = tt
+get_in layout clock at = tt
+
+change_in : (layout : Layout) (clock : ℕ) (kept : ChangeKept) (at : ChangeAt) (post : Post) → MoveIn layout clock (change_move kept at post)
+change_in layout clock kept (LoadVersion slot) post = tt
+change_in layout clock kept at post = tt
+
+enqueue_in : (layout : Layout) (clock : ℕ) (kept : EnqueueKept) (at : EnqueueAt) → MoveIn layout clock (enqueue_move kept at)
+enqueue_in layout clock kept LoadNumber = tt
+enqueue_in layout clock kept at = tt
+
+dequeue_in : (layout : Layout) (clock : ℕ) (at : DequeueAt) → MoveIn layout clock (dequeue_move at)
+dequeue_in layout clock (LoadTail head) = tt
+dequeue_in layout clock at = tt
+
+work_in : (layout : Layout) (clock : ℕ) (work : Work) (post : Post) → MoveIn layout clock (work_move work post)
+work_in layout clock (Getting key at) post = get_in layout clock at
+work_in layout clock (Changing kept at) post = change_in layout clock kept at post
+work_in layout clock (Enqueuing kept at) post = enqueue_in layout clock kept at
+work_in layout clock (Dequeuing at) post = dequeue_in layout clock at
+
+scan_in : (layout : Layout) (clock : ℕ) (at : ScanAt) (post : Post) → MoveIn layout clock (scan_move at post)
+scan_in layout clock (ReadGuard number) post = tt
+scan_in layout clock (GiveBack place slot) post = λ word. tt
+
+-- what a step writes
+pub phase_in : (layout : Layout) (clock : ℕ) (v : is_valid layout ≡ true) (mem : Place → ℕ) (phase : Phase) (post : Post) → post.layout ≡ layout → ((index : ℕ) → tag_of post index < 4294967295)
+    → PhaseFits layout post phase → PhaseEras layout clock post phase → phase_needs phase layout mem → MoveIn layout clock (phase_move phase post)
+phase_in layout clock v mem Idle post l t r e d = tt
+phase_in layout clock v mem (Runs why base) post l t r e d = base_in layout clock v mem why base post l t r e d
+phase_in layout clock v mem (Scans later at) post l t r e d = scan_in layout clock at post
+phase_in layout clock v mem (Works work) post l t r e d = work_in layout clock work post
+
+-- the clock
+clock_stays : (last clock : ℕ) → clock ≤ last → ClockIn last clock clock
+clock_stays last clock m = record { rises = omega arith; most = m }
+
+clock_exchanged : (last clock era : ℕ) → clock ≤ last → era < last → ClockIn last clock (if clock == era then era + 1 else clock)
+clock_exchanged last clock era m l = by (clock == era) refl
+  where
+    by : (b : Bool) → (clock == era) ≡ b → ClockIn last clock (if b then era + 1 else clock)
+    by true e = record { rises = grind (arith, nat_tests); most = omega arith }
+    by false e = clock_stays last clock m
+
+protect_clock : (last : ℕ) (mem : Place → ℕ) (index : ℕ) (root : Root) (at : ProtectAt) (post : Post) → mem Clock ≤ last → ClockIn last (mem Clock) (written mem (protect_move index root at post) Clock)
+protect_clock last mem index root (LoadClock tries) post m = clock_stays last (mem Clock) m
+protect_clock last mem index root at post m = clock_stays last (mem Clock) m
+
+begin_clock : (last : ℕ) (mem : Place → ℕ) (at : BeginAt) (post : Post) → mem Clock ≤ last → ClockIn last (mem Clock) (written mem (begin_move at post) Clock)
+begin_clock last mem LoadLower post m = clock_stays last (mem Clock) m
+begin_clock last mem at post m = clock_stays last (mem Clock) m
+
+allocate_clock : (last : ℕ) (mem : Place → ℕ) (at : AllocateAt) → mem Clock ≤ last → ClockIn last (mem Clock) (written mem (allocate_move at) Clock)
+allocate_clock last mem LoadBirth m = clock_stays last (mem Clock) m
+allocate_clock last mem at m = clock_stays last (mem Clock) m
+
+retire_clock : (last : ℕ) (mem : Place → ℕ) (at : RetireAt) → mem Clock ≤ last → ClockIn last (mem Clock) (written mem (retire_move at) Clock)
+retire_clock last mem (LoadLife slot) m = clock_stays last (mem Clock) m
+retire_clock last mem at m = clock_stays last (mem Clock) m
+
+move_clock : (layout : Layout) (mem : Place → ℕ) (at : MoveAt) (post : Post) → mem Clock ≤ layout.config.last_era → move_eras layout (mem Clock) at → ClockIn layout.config.last_era (mem Clock) (written mem (move_move at post) Clock)
+move_clock layout mem (ExchangeClock era) post m e = clock_exchanged layout.config.last_era (mem Clock) era m e.left
+move_clock layout mem at post m e = clock_stays layout.config.last_era (mem Clock) m
+
+base_clock : (layout : Layout) (mem : Place → ℕ) (base : Base) (post : Post) → mem Clock ≤ layout.config.last_era → base_eras layout (mem Clock) post base → ClockIn layout.config.last_era (mem Clock) (written mem (base_move base post) Clock)
+base_clock layout mem (Begin at) post m e = begin_clock layout.config.last_era mem at post m
+base_clock layout mem (Protect aim index root steps at) post m e = protect_clock layout.config.last_era mem index root at post m
+base_clock layout mem (Reload parent index slot era steps) post m e = clock_stays layout.config.last_era (mem Clock) m
+base_clock layout mem (Clear index) post m e = clock_stays layout.config.last_era (mem Clock) m
+base_clock layout mem Finish post m e = clock_stays layout.config.last_era (mem Clock) m
+base_clock layout mem Release post m e = clock_stays layout.config.last_era (mem Clock) m
+base_clock layout mem (Allocate at) post m e = allocate_clock layout.config.last_era mem at m
+base_clock layout mem (Write slot row place) post m e = clock_stays layout.config.last_era (mem Clock) m
+base_clock layout mem (GiveUp slot) post m e = clock_stays layout.config.last_era (mem Clock) m
+base_clock layout mem (Retire at) post m e = retire_clock layout.config.last_era mem at m
+base_clock layout mem (Moves at) post m e = move_clock layout mem at post m e
+
+get_keeps : (place : Place) (mem : Place → ℕ) (at : GetAt) → written mem (get_move at) place ≡ mem place
+get_keeps place mem (FindVersion slot) = refl
+get_keeps place mem at = refl
+
+change_clock : (mem : Place → ℕ) (kept : ChangeKept) (at : ChangeAt) (post : Post) → written mem (change_move kept at post) Clock ≡ mem Clock
+change_clock mem kept (LoadVersion slot) post = refl
+change_clock mem kept at post = refl
+
+enqueue_clock : (mem : Place → ℕ) (kept : EnqueueKept) (at : EnqueueAt) → written mem (enqueue_move kept at) Clock ≡ mem Clock
+enqueue_clock mem kept LoadNumber = refl
+enqueue_clock mem kept at = refl
+
+dequeue_clock : (mem : Place → ℕ) (at : DequeueAt) → written mem (dequeue_move at) Clock ≡ mem Clock
+dequeue_clock mem (LoadTail head) = refl
+dequeue_clock mem at = refl
+
+work_clock : (mem : Place → ℕ) (work : Work) (post : Post) → written mem (work_move work post) Clock ≡ mem Clock
+work_clock mem (Getting key at) post = get_keeps Clock mem at
+work_clock mem (Changing kept at) post = change_clock mem kept at post
+work_clock mem (Enqueuing kept at) post = enqueue_clock mem kept at
+work_clock mem (Dequeuing at) post = dequeue_clock mem at
+
+scan_clock : (mem : Place → ℕ) (at : ScanAt) (post : Post) → written mem (scan_move at post) Clock ≡ mem Clock
+scan_clock mem (ReadGuard number) post = refl
+scan_clock mem (GiveBack place slot) post = refl
+
+pub phase_clock : (layout : Layout) (mem : Place → ℕ) (phase : Phase) (post : Post) → mem Clock ≤ layout.config.last_era → PhaseEras layout (mem Clock) post phase → ClockIn layout.config.last_era (mem Clock) (written mem (phase_move phase post) Clock)
+phase_clock layout mem Idle post m e = clock_stays layout.config.last_era (mem Clock) m
+phase_clock layout mem (Runs why base) post m e = base_clock layout mem base post m e
+phase_clock layout mem (Scans later at) post m e = subst (ClockIn layout.config.last_era (mem Clock)) (sym (scan_clock mem at post)) (clock_stays layout.config.last_era (mem Clock) m)
+phase_clock layout mem (Works work) post m e = subst (ClockIn layout.config.last_era (mem Clock)) (sym (work_clock mem work post)) (clock_stays layout.config.last_era (mem Clock) m)

@@ -1,0 +1,106 @@
+-- How a property of one seat, which looks at its post and its phase, is carried over the steps of that seat.
+use Rattle.wfe_core.specs.Calls.{Answers, CallOutcome, GoesOn, Idle, Phase, CallTurn, Advances, Clears, ClearsNext, Fills, Finishes, FollowsHead, GivesUp, Opens, Releases, Retires, Tidies, Why, AfterScan, GiveBack, Next, ReadGuard, Runs, Scans, Task, Work, Works}
+use Rattle.wfe_core.specs.declared.post.Post.{Post}
+use Rattle.std.specs.Prelude.{is_some, true, ◌≡◌, None, Option, false, ℕ, ◌<◌}
+use Rattle.wfe_core.specs.Rounds.{scheme_of, index_of, move_base, opening, release_base}
+use Rattle.wfe_core.specs.words.Schemes.{is_ibr}
+use Rattle.wfe_core.specs.Phases.Base.{Allocate, Begin, Clear, Finish, GiveUp, Retire}
+use Rattle.wfe_core.specs.defs.declared.call.Answer.{Answer}
+use Rattle.wfe_core.specs.Phases.AllocateAt.{LoadBirth}
+use Rattle.wfe_core.specs.Phases.RetireAt.{LoadLife}
+use Rattle.wfe_core.specs.Phases.BeginAt.{LoadLower}
+use Rattle.wfe_core.specs.Phases.{RowOf, Ends, Goes, Outcome, Turn}
+use Rattle.wfe_core.specs.Dequeue.{follow_base}
+use Rattle.wfe_core.specs.Guards.{guards}
+use Rattle.wfe_core.specs.Posts.{stands, withdrawn}
+use Rattle.wfe_core.specs.WriteRow.{writing}
+use Rattle.wfe_core.specs.Locals.{Local}
+use Rattle.wfe_core.specs.Machine.{after}
+
+-- where a seat stands after a turn
+abbrev pub phase_left : CallOutcome → Phase
+phase_left (GoesOn phase) = phase
+phase_left (Answers answer) = Idle
+
+-- the properties hold of what a turn leaves
+pub record Left (Q : Post → Type 0) (P : Post → Phase → Type 0) (t : CallTurn) : Type 0 where
+  pub post : Q t.post
+  pub phase : P t.post (phase_left t.outcome)
+
+-- under 2GE an interval stands
+abbrev pub SpanStands : Post → Type 0
+SpanStands post = is_ibr (scheme_of post) ≡ true → is_some post.span ≡ true
+
+-- what has to hold where a machine has ended, by what comes after it: within a round an interval stands
+abbrev pub Resumes : Why → Post → Type 0
+Resumes (Opens task) post = SpanStands post
+Resumes (FollowsHead head tail) post = SpanStands post
+Resumes (Fills task) post = SpanStands post
+Resumes (ClearsNext next) post = Unit {0}
+Resumes (Clears task next) post = Unit {0}
+Resumes (Finishes task next) post = Unit {0}
+Resumes (GivesUp answer) post = Unit {0}
+Resumes (Retires answer) post = Unit {0}
+Resumes (Tidies later) post = Unit {0}
+Resumes Advances post = Unit {0}
+Resumes (Releases key) post = Unit {0}
+
+-- P holds of each phase that a call can come to by anything but a step inside a machine, where Q holds of the post: the
+-- first phases of the machines, the steps of a scan, and the call's own steps
+pub record Grows (Q : Post → Type 0) (P : Post → Phase → Type 0) : Type 0 where
+  pub guarded : (post : Post) → Q post → 0 < guards post.layout.config
+  pub withdraws : (post : Post) (index : ℕ) → is_ibr (scheme_of post) ≡ true → Q post → Q (withdrawn post index)
+  pub idle : (post : Post) → Q post → P post Idle
+  pub begins : (post : Post) (task : Task) → is_ibr (scheme_of post) ≡ true → post.span ≡ None → Q post → P post (Runs (Opens task) (Begin LoadLower))
+  pub opens : (post : Post) (task : Task) → SpanStands post → Q post → P post (opening task post)
+  pub follows : (post : Post) (head tail : ℕ) → SpanStands post → Q post → P post (Runs (FollowsHead head tail) (follow_base (scheme_of post) head))
+  pub allocates : (post : Post) (task : Task) → SpanStands post → Q post → P post (Runs (Fills task) (Allocate LoadBirth))
+  pub writes : (post : Post) (task : Task) (slot : ℕ) (row : RowOf) → SpanStands post → Q post → P post (Runs (Fills task) (writing slot row))
+  pub clears : (post : Post) (task : Task) (next : Next) → is_ibr (scheme_of post) ≡ false → Q post → P post (Runs (Clears task next) (Clear (index_of task)))
+  pub clears_next : (post : Post) (next : Next) → is_ibr (scheme_of post) ≡ false → Q post → P post (Runs (ClearsNext next) (Clear 1))
+  pub finishes : (post : Post) (task : Task) (next : Next) → is_ibr (scheme_of post) ≡ true → stands post 2 ≡ None → Q post → P post (Runs (Finishes task next) Finish)
+  pub gives_up : (post : Post) (answer : Answer) (slot : ℕ) → Q post → P post (Runs (GivesUp answer) (GiveUp slot))
+  pub retires : (post : Post) (answer : Answer) (slot : ℕ) → Q post → P post (Runs (Retires answer) (Retire (LoadLife slot)))
+  pub tidies : (post : Post) (later : AfterScan) → Q post → P post (Runs (Tidies later) (move_base (scheme_of post)))
+  pub advances : (post : Post) → Q post → P post (Runs Advances (move_base (scheme_of post)))
+  pub releases : (post : Post) (key : Option ℕ) → Q post → P post (Runs (Releases key) (release_base (scheme_of post)))
+  pub scans : (post : Post) (later : AfterScan) (number : ℕ) → number < guards post.layout.config → Q post → P post (Scans later (ReadGuard number))
+  pub gives_back : (post : Post) (later : AfterScan) (place slot : ℕ) → Q post → P post (Scans later (GiveBack place slot))
+  pub works : (post : Post) (work : Work) → SpanStands post → Q post → P post (Works work)
+
+-- the properties hold of a seat
+pub record Seated (Q : Post → Type 0) (P : Post → Phase → Type 0) (l : Local) : Type 0 where
+  pub post : Q l.post
+  pub phase : P l.post l.phase
+
+-- a step inside a machine: P holds where the machine goes on, and where it has ended what comes after it may come
+abbrev pub Passed : (Post → Phase → Type 0) → Why → Post → Outcome → Type 0
+Passed P why post (Goes base) = P post (Runs why base)
+Passed P why post (Ends ending) = Resumes why post
+
+-- the same of the turn of a machine
+pub record Moves (Q : Post → Type 0) (P : Post → Phase → Type 0) (why : Why) (t : Turn) : Type 0 where
+  pub post : Q t.post
+  pub phase : Passed P why t.post t.outcome
+
+-- Q holds of the post, and an interval stands
+pub record Owned (Q : Post → Type 0) (left : Post) : Type 0 where
+  pub post : Q left
+  pub span : SpanStands left
+
+-- what a property owes at one step of a seat that has counted it: inside a machine its own steps, elsewhere Q of the post,
+-- and within a call's own steps that an interval stands
+abbrev pub Owes : (Post → Type 0) → (Post → Phase → Type 0) → Post → ℕ → Phase → Type 0
+Owes Q P post found Idle = Q post
+Owes Q P post found (Runs why base) = Moves Q P why (after base post found)
+Owes Q P post found (Scans later at) = Q post
+Owes Q P post found (Works work) = Owned Q post
+
+-- a step inside a machine, for a property that leaves what comes after the machine to another
+abbrev pub Onward : (Post → Phase → Type 0) → Why → Post → Outcome → Type 0
+Onward P why post (Goes base) = P post (Runs why base)
+Onward P why post (Ends ending) = Unit {0}
+
+pub record StepsOn (Q : Post → Type 0) (P : Post → Phase → Type 0) (why : Why) (t : Turn) : Type 0 where
+  pub post : Q t.post
+  pub phase : Onward P why t.post t.outcome

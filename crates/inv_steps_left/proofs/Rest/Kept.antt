@@ -1,0 +1,118 @@
+-- The steps that a call has left fall at its own steps, and rise at no other.
+use Rattle.std.proofs.Common.{ℕ, ◌∙◌, ◌≡◌, ◌≤◌, ◌+◌, true, [], arith, refl, sym, ap, subst}
+use Rattle.inv_links.specs.shapes.Frame.{phase_left as stands_at, Left, SpanStands}
+use Rattle.inv_contents.specs.model.Steps as steps
+use Rattle.inv_contents.specs.model.Scan as scan
+use Rattle.inv_contents.specs.words.Place.{is_valid}
+use Rattle.inv_contents.specs.words.Place.Place.{Clock}
+use Rattle.inv_links.proofs.shapes.Works.{work_left as work_grows, scan_left}
+use Rattle.inv_contents.specs.model.Calls.{CallOutcome, CallTurn, Phase, Why}
+use Rattle.inv_contents.specs.model.Calls.CallOutcome.{Answers, GoesOn}
+use Rattle.inv_contents.specs.model.Calls.Phase.{Idle, Runs, Scans, Works}
+use Rattle.inv_contents.specs.model.Desks.{Desk}
+use Rattle.inv_contents.specs.model.Locals.{Local, busy_in, settled, turn}
+use Rattle.inv_contents.specs.model.Phases.{Base}
+use Rattle.inv_contents.specs.model.Posts.{counted}
+use Rattle.inv_contents.specs.model.Rest.{eras_left, phase_left, phase_seen, rest, rest_of, span_seen, work_left}
+use Rattle.inv_contents.specs.model.World.{World, finds, step}
+use Rattle.inv_contents.specs.model.declared.post.Post.{Post}
+use Rattle.inv_contents.specs.defs.declared.event.Event.{Event}
+use Rattle.inv_contents.specs.defs.declared.lifetime.Interval.{Interval}
+use Rattle.inv_links.proofs.shapes.Decode.{clock_next}
+use Rattle.inv_links.proofs.shapes.Frame.{seat_steps}
+use Rattle.inv_links.proofs.shapes.Kept.{counted_fits, run_counted}
+use Rattle.inv_links.specs.shapes.Eras.{PhaseEras}
+use Rattle.inv_links.specs.shapes.Seats.{PhaseFits, Seats, scan_fits}
+use Rattle.inv_links.specs.shapes.Slots.{PhaseIn, WorkIn, phase_finds, scan_lists}
+use Rattle.inv_links.proofs.requests.Falling.{moves_on}
+use Rattle.inv_steps_left.proofs.Rest.Amounts.{PhaseKnown, known_of}
+use Rattle.inv_steps_left.proofs.Rest.Closes.{run_lowers}
+use Rattle.inv_steps_left.proofs.Rest.Closings.{rounds_join, turn_left}
+use Rattle.inv_steps_left.proofs.Rest.Falling.{Seat}
+use Rattle.inv_steps_left.proofs.Rest.Machines.{seen_rises}
+use Rattle.inv_steps_left.proofs.Rest.Runs.{total_is, turn_total}
+use Rattle.inv_steps_left.proofs.Rest.Scans.{scan_falls}
+use Rattle.inv_steps_left.proofs.Rest.Seen.{PostIs, ShowsSame, seen_grows}
+use Rattle.inv_steps_left.proofs.Rest.Works.{work_falls}
+use Rattle.inv_steps_left.specs.Falls.{RestFalls, RestNeeds}
+use Rattle.inv_steps_left.specs.Losses.{later_fit, phase_fit, work_fit}
+use Rattle.inv_contents.specs.words.declared.config.Config.{Config}
+use Rattle.inv_contents.specs.words.declared.layout.Layout.{Layout}
+use Rattle.std.specs.Prelude.{List, length, Option}
+use Rattle.inv_links.proofs.covers.Held.{stepped_phase}
+
+-- what a turn leaves, as the seat stands after it
+settled_rest : (c : Config) (next : ℕ) (l : Local) (post : Post) (desk : Desk) (told : List Event) (outcome : CallOutcome) → busy_in (settled l (record { post = post; desk = desk; told = told; outcome = outcome })).phase ≡ true
+    → rest_of c next (settled l (record { post = post; desk = desk; told = told; outcome = outcome })) ≡ turn_total c next l.rounds (record { post = post; desk = desk; told = told; outcome = outcome })
+settled_rest c next l post desk told (GoesOn phase) b = rw (rounds_join l.rounds told []) refl
+settled_rest c next l post desk told (Answers answer) b = absurd (cc)
+
+settled_phase : (l : Local) (post : Post) (desk : Desk) (told : List Event) (outcome : CallOutcome) → (settled l (record { post = post; desk = desk; told = told; outcome = outcome })).phase ≡ stands_at outcome
+settled_phase l post desk told (GoesOn phase) = refl
+settled_phase l post desk told (Answers answer) = refl
+
+-- a scan's step and a call's own step
+still_total : (c : Config) (layout : Layout) (k clock next rounds : ℕ) (span : Option Interval) (t : CallTurn) (most : ℕ) → clock ≤ next → Left (PostIs layout k span) ShowsSame t → turn_left c rounds t + 1 ≤ most → turn_total c next rounds t + 1 ≤ most + eras_left c (span_seen clock span)
+still_total c layout k clock next rounds span t most r l h =
+    let s = seen_rises clock next span r in
+    rw (total_is c layout k next rounds span t l) (omega (arith, s, h))
+
+pub seat_of : (w : World) (i : ℕ) → is_valid w.layout ≡ true → RestNeeds w i → (why : Why) (base : Base) → (w.seat i).phase ≡ Runs why base → Seat w i why base
+seat_of w i v n why base e =
+    let f = n.seats.fits i in
+    let s = n.eras.seats i in
+    record {
+      at = e;
+      fits = counted_fits w.layout i (w.seat i).post f.post;
+      run = run_counted w.layout why base (w.seat i).post (subst (λ (p : Phase). PhaseFits w.layout (w.seat i).post p) e f.phase);
+      eras = subst (λ (p : Phase). PhaseEras w.layout (w.mem Clock) (w.seat i).post p) e s.phase;
+      span = s.post.span;
+      none = n.losses.spans i;
+      lost = subst (λ (p : Phase). phase_fit w.layout.config (w.seat i).rounds p) e (n.losses.few i);
+      rises = (clock_next w i n.eras).rises;
+      most = n.eras_next.most;
+      moves = moves_on w i v n.seats;
+    }
+
+pub post_is : (w : World) (i : ℕ) → Seats w → PostIs w.layout i (w.seat i).post.span (counted (w.seat i).post)
+post_is w i s = record { fits = counted_fits w.layout i (w.seat i).post (s.fits i).post; same = refl }
+
+lowers_at : (w : World) (i : ℕ) → is_valid w.layout ≡ true → RestNeeds w i → (phase : Phase) → (w.seat i).phase ≡ phase → PhaseKnown w.layout (stands_at (steps.phase_turn phase (counted (w.seat i).post) (w.seat i).desk (finds w i)).outcome)
+    → busy_in phase ≡ true
+    → turn_total w.layout.config ((step w i).mem Clock) (w.seat i).rounds (steps.phase_turn phase (counted (w.seat i).post) (w.seat i).desk (finds w i)) + 1
+    ≤ phase_left w.layout.config (w.seat i).rounds (w.seat i).desk.list phase + eras_left w.layout.config (phase_seen phase (span_seen (w.mem Clock) (w.seat i).post.span))
+lowers_at w i v n Idle e p b = absurd (cc)
+lowers_at w i v n (Runs why base) e p b = run_lowers w i v why base (seat_of w i v n why base e) p
+lowers_at w i v n (Scans later at) e p b =
+    let g = seen_grows w.layout i (w.seat i).post.span v in
+    let f : scan_fits w.layout.config at ≡ true = subst (λ (q : Phase). PhaseFits w.layout (w.seat i).post q) e (n.seats.fits i).phase in
+    let l : later_fit w.layout.config (w.seat i).rounds later = subst (λ (q : Phase). phase_fit w.layout.config (w.seat i).rounds q) e (n.losses.few i) in
+    let s : scan_lists w.layout.config (w.seat i).desk at = subst (λ (q : Phase). phase_finds w.layout.config (w.seat i).desk q (finds w i)) e n.lists in
+    let h = scan_falls w.layout.config (w.seat i).rounds later at (counted (w.seat i).post) (w.seat i).desk (finds w i) l f s in
+    still_total w.layout.config w.layout i (w.mem Clock) ((step w i).mem Clock) (w.seat i).rounds (w.seat i).post.span (scan.scan_turn later at (counted (w.seat i).post) (w.seat i).desk (finds w i)) (phase_left w.layout.config (w.seat i).rounds (w.seat i).desk.list (Scans later at)) ((clock_next w i n.eras).rises) (scan_left g later at (counted (w.seat i).post) (w.seat i).desk (finds w i) (post_is w i n.seats)) h
+lowers_at w i v n (Works work) e p b =
+    let g = seen_grows w.layout i (w.seat i).post.span v in
+    let f : SpanStands (w.seat i).post = subst (λ (q : Phase). PhaseFits w.layout (w.seat i).post q) e (n.seats.fits i).phase in
+    let l : work_fit w.layout.config (w.seat i).rounds work = subst (λ (q : Phase). phase_fit w.layout.config (w.seat i).rounds q) e (n.losses.few i) in
+    let s : WorkIn w.layout.config work = subst (λ (q : Phase). PhaseIn w.layout (w.seat i).desk q) e (n.slots.seats i).phase in
+    let h = work_falls w.layout.config w.layout (w.seat i).rounds work (counted (w.seat i).post) (w.seat i).desk (finds w i) refl l s p in
+    still_total w.layout.config w.layout i (w.mem Clock) ((step w i).mem Clock) (w.seat i).rounds (w.seat i).post.span (steps.work_turn work (counted (w.seat i).post) (w.seat i).desk (finds w i)) (work_left w.layout.config (length (w.seat i).desk.list) (w.seat i).rounds work) ((clock_next w i n.eras).rises) (work_grows g work (counted (w.seat i).post) (w.seat i).desk (finds w i) f (post_is w i n.seats)) h
+
+-- a seat between calls stays so
+idle_stays : (w : World) (i : ℕ) (phase : Phase) → (w.seat i).phase ≡ phase → busy_in (stands_at (steps.phase_turn phase (counted (w.seat i).post) (w.seat i).desk (finds w i)).outcome) ≡ true → busy_in phase ≡ true
+idle_stays w i Idle e b = b
+idle_stays w i (Runs why base) e b = refl
+idle_stays w i (Scans later at) e b = refl
+idle_stays w i (Works work) e b = refl
+
+pub rest_falls : RestFalls
+rest_falls w i v n b =
+    let l : Local = w.seat i in
+    let t : CallTurn = turn l (finds w i) in
+    let k : PhaseKnown w.layout (stands_at t.outcome) = subst (λ (p : Phase). PhaseKnown w.layout p) (stepped_phase w i) (known_of w.layout ((step w i).seat i).desk ((step w i).seat i).phase (n.slots_next.seats i).phase) in
+    let c : busy_in (stands_at t.outcome) ≡ true = subst (λ (p : Phase). busy_in p ≡ true) (stepped_phase w i) b in
+    let h = lowers_at w i v n l.phase refl k (idle_stays w i l.phase refl c) in
+    let d : busy_in (settled l t).phase ≡ true = subst (λ (m : Local). busy_in m.phase ≡ true) (seat_steps w i) b in
+    let r = settled_rest w.layout.config ((step w i).mem Clock) l t.post t.desk t.told t.outcome d in
+    let m : rest_of w.layout.config ((step w i).mem Clock) (settled l t) + 1 ≤ rest w i = rw r h in
+    subst (λ (x : Local). rest_of w.layout.config ((step w i).mem Clock) x + 1 ≤ rest w i) (sym (seat_steps w i)) m

@@ -1,0 +1,216 @@
+-- No call loses more rounds than its task may: from the start on, where a call begins, and over each step.
+use Rattle.std.proofs.Common.{ℕ, ◌∙◌, ◌≡◌, ◌+◌, ◌-◌, true, false, [], ◌∷◌, arith, refl, sym, ap, subst}
+use Rattle.inv_contents.specs.model.Steps as steps
+use Rattle.inv_contents.specs.model.Machine as machine
+use Rattle.inv_contents.specs.words.Place.{is_valid}
+use Rattle.inv_contents.specs.model.Phases.Base.{Move, Allocate, Begin, Clear, Finish, GiveUp, Protect, Release, Reload, Retire, Write}
+use Rattle.inv_links.proofs.shapes.Works.{scan_left as scan_grows, work_left as work_grows, resume_left}
+use Rattle.inv_contents.specs.defs.declared.event.Event.TheVariants as events
+use Rattle.inv_contents.specs.defs.declared.fold.Change.TheVariants as changes
+use Rattle.inv_contents.specs.defs.declared.call.Call.TheVariants as names
+use Rattle.inv_contents.specs.model.declared.ends.FollowEnd.TheVariants as follow_ends
+use Rattle.inv_contents.specs.model.Allocate.{is_claimed, next_slot, walk_past, walking}
+use Rattle.inv_contents.specs.model.Calls.{CallOutcome, CallTurn, Phase, Why, Work}
+use Rattle.inv_contents.specs.model.Calls.CallOutcome.{Answers, GoesOn}
+use Rattle.inv_contents.specs.model.Calls.ChangeAt.{ExchangeRoot, LoadCount, LoadKey, LoadValue, LoadVersion}
+use Rattle.inv_contents.specs.model.Calls.DequeueAt.{ExchangeHead, LoadTail, SwingTail, TakeNumber, TakeValue}
+use Rattle.inv_contents.specs.model.Calls.EnqueueAt.{ExchangeNext, ExchangeTail, LoadNext, LoadNumber, PassTail}
+use Rattle.inv_contents.specs.model.Calls.Phase.{Idle, Runs, Scans, Works}
+use Rattle.inv_contents.specs.model.Calls.Task.{Changes, Dequeues, Enqueues, Gets, Holds}
+use Rattle.inv_contents.specs.model.Calls.Work.{Changing, Dequeuing, Enqueuing, Getting}
+use Rattle.inv_contents.specs.model.Desks.{Desk}
+use Rattle.inv_contents.specs.model.Links.{parent_of}
+use Rattle.inv_contents.specs.model.Locals.{Local, begun_post, settled, turn}
+use Rattle.inv_contents.specs.model.Machine.{protect_turn}
+use Rattle.inv_contents.specs.model.Memory.{bump}
+use Rattle.inv_contents.specs.model.Phases.{Aim, Base, Outcome, ProtectAt, Turn, Walk, ends, goes}
+use Rattle.inv_contents.specs.model.Phases.Aim.{Alone, Follows}
+use Rattle.inv_contents.specs.model.Phases.AllocateAt.{ClaimSlot, LoadBirth, StoreLife}
+use Rattle.inv_contents.specs.model.Phases.Ending.{Done, Followed}
+use Rattle.inv_contents.specs.model.Phases.Outcome.{Ends, Goes}
+use Rattle.inv_contents.specs.model.Phases.ProtectAt.{AnswerOwn, CheckClock, CheckOwnClock, CheckUpper, LoadAnswer, LoadClock, LoadLink, LoadOwnClock, LoadOwnLink, LoadWithin, PublishEra, PublishHelper, PublishRequest, RaiseUpper, TakeAnswer, WithdrawHelper, WithdrawRequest}
+use Rattle.inv_contents.specs.model.Phases.RetireAt.{LoadLife, LoadRetire, StoreRetired}
+use Rattle.inv_contents.specs.model.Posts.{counted, reserves_helper, stands, tag_of, with_row, with_tag}
+use Rattle.inv_contents.specs.model.Protect.{concluded, failed_once, held_post, protected, told_held}
+use Rattle.inv_contents.specs.model.SlowPath.{answer_in, lost_turn, own_request}
+use Rattle.inv_contents.specs.model.Steps.{resumed}
+use Rattle.inv_contents.specs.model.World.{World, begin, finds, step}
+use Rattle.inv_contents.specs.model.WriteRow.{last_written}
+use Rattle.inv_contents.specs.model.declared.post.Post.{Post}
+use Rattle.inv_contents.specs.defs.declared.call.Call.{Call}
+use Rattle.inv_contents.specs.defs.declared.event.Event.{Event}
+use Rattle.inv_contents.specs.defs.declared.event.Root.{Root}
+use Rattle.inv_links.proofs.shapes.Frame.{begin_begins, begin_stays, seat_stays, seat_steps}
+use Rattle.inv_links.proofs.shapes.Inside.{shape_moves}
+use Rattle.inv_links.proofs.shapes.Kept.{counted_fits, run_counted, one_moves}
+use Rattle.inv_links.specs.shapes.Frame.{Passed, SpanStands}
+use Rattle.inv_contents.specs.words.Schemes.{is_ibr}
+use Rattle.inv_links.specs.shapes.Seats.{PhaseFits, PostFits, Run, Seats, base_fits, protect_fits}
+use Rattle.inv_steps_left.proofs.Rest.Closings.{rounds_join}
+use Rattle.inv_steps_left.proofs.Rest.Fits.{TurnFit, round_fit, scan_fit}
+use Rattle.inv_steps_left.proofs.Rest.Kept.{post_is, seat_of}
+use Rattle.inv_steps_left.proofs.Rest.Loses.{run_fits}
+use Rattle.inv_steps_left.proofs.Rest.Machines.{held_span}
+use Rattle.inv_steps_left.proofs.Rest.Moves.{move_post}
+use Rattle.inv_steps_left.proofs.Rest.Own.{WorkFew, work_turn_fit}
+use Rattle.inv_steps_left.proofs.Rest.Seen.{seen_grows}
+use Rattle.inv_steps_left.specs.Falls.{LossesBegin, LossesKept, LossesStart, RestNeeds}
+use Rattle.inv_steps_left.specs.Losses.{LossNeeds, Losses, phase_fit}
+use Rattle.inv_contents.specs.words.Packed.{read_request}
+use Rattle.inv_contents.specs.words.declared.config.Config.{Config}
+use Rattle.inv_contents.specs.words.declared.config.SchemeKind.{SchemeKind}
+use Rattle.inv_contents.specs.words.declared.layout.Layout.{Layout}
+use Rattle.std.specs.Prelude.{List, Option, Some, None, ◌==◌}
+use Rattle.inv_contents.proofs.model.Facts.{if_by}
+
+-- a step but of 2GE keeps the seat's interval
+
+concluded_span : (aim : Aim) (index : ℕ) (root : Root) (n link era : ℕ) (post : Post) (told : List Event) → (concluded aim index root n link era post told).post.span ≡ post.span
+concluded_span Alone index root n link era post told = refl
+concluded_span Follows index root n link era post told = if_by (link == 0) (ends post told (Followed follow_ends.NoNext)) (goes post told (Reload (parent_of root) index (link - 1) era n)) (λ (t : Turn). t.post.span ≡ post.span) (λ e. refl) (λ e. refl)
+
+protected_span : (aim : Aim) (index : ℕ) (root : Root) (n link era : ℕ) (post : Post) → (protected aim index root n link era post).post.span ≡ post.span
+protected_span aim index root n link era post = concluded_span aim index root n link era (held_post post index root link) (told_held index root link n) ∙ held_span post index root link
+
+plain_not : (scheme : SchemeKind) → is_ibr scheme ≡ true → is_ibr scheme ≡ false → false ≡ true
+plain_not scheme a b = absurd (cc)
+
+protect_span : (scheme : SchemeKind) (most : ℕ) (aim : Aim) (index : ℕ) (root : Root) (n : ℕ) (at : ProtectAt) (post : Post) (found : ℕ) → is_ibr scheme ≡ false → protect_fits scheme most at ≡ true → (protect_turn aim index root n at post found).post.span ≡ post.span
+protect_span scheme most aim index root n (LoadClock tries) post found b f = refl
+protect_span scheme most aim index root n (PublishEra era tries) post found b f = refl
+protect_span scheme most aim index root n (LoadLink era tries) post found b f = refl
+protect_span scheme most aim index root n (CheckClock era tries link) post found b f =
+    if_by (found == era) (protected aim index root n link era post) (goes post [] (Protect aim index root n (PublishEra found (failed_once tries)))) (λ (t : Turn). t.post.span ≡ post.span) (λ e. protected_span aim index root n link era post) (λ e. refl)
+protect_span scheme most aim index root n PublishRequest post found b f = refl
+protect_span scheme most aim index root n LoadOwnClock post found b f = refl
+protect_span scheme most aim index root n (PublishHelper first era last) post found b f = refl
+protect_span scheme most aim index root n (LoadOwnLink first era last) post found b f = refl
+protect_span scheme most aim index root n (CheckOwnClock first era last link) post found b f =
+    if_by (found == era) (goes post [] (Protect aim index root n (AnswerOwn first era link))) (goes post [] (Protect aim index root n (lost_turn first last found))) (λ (t : Turn). t.post.span ≡ post.span) (λ e. refl) (λ e. refl)
+protect_span scheme most aim index root n (AnswerOwn first era link) post found b f =
+    if_by (found == own_request post index root) (goes post [] (Protect aim index root n (TakeAnswer link era))) (goes post [] (Protect aim index root n (answer_in (read_request found)))) (λ (t : Turn). t.post.span ≡ post.span) (λ e. refl) (λ e. refl)
+protect_span scheme most aim index root n (LoadAnswer first) post found b f = refl
+protect_span scheme most aim index root n (TakeAnswer link era) post found b f = held_span (with_tag post index (tag_of post index + 1)) index root link
+protect_span scheme most aim index root n (WithdrawRequest link era) post found b f = refl
+protect_span scheme most aim index root n (WithdrawHelper link era) post found b f = concluded_span aim index root n link era post (reserves_helper post 0)
+protect_span scheme most aim index root n LoadWithin post found b f = refl
+protect_span scheme most aim index root n (CheckUpper link) post found b f = absurd (let x = plain_not scheme f b in cc)
+protect_span scheme most aim index root n (RaiseUpper era) post found b f = absurd (let x = plain_not scheme f b in cc)
+
+walking_span : (birth : ℕ) (post : Post) (walk : Option Walk) → (walking birth post walk).post.span ≡ post.span
+walking_span birth post None = refl
+walking_span birth post (Some walk) = refl
+
+base_span : (c : Config) (base : Base) (post : Post) (found : ℕ) → is_ibr c.scheme ≡ false → base_fits c base ≡ true → (machine.after base post found).post.span ≡ post.span
+base_span c (Begin at) post found b f = absurd (let x = plain_not c.scheme f b in cc)
+base_span c (Protect aim index root steps at) post found b f = protect_span c.scheme c.tries aim index root (bump steps) at post found b f
+base_span c (Reload parent index slot era steps) post found b f =
+    if_by (found == parent + 1) (ends (with_row post index slot) (events.Held index slot (bump steps) ∷ []) (Followed (follow_ends.Followed slot))) (ends post [] (Followed (follow_ends.RootMoved found))) (λ (t : Turn). t.post.span ≡ post.span) (λ e. refl) (λ e. refl)
+base_span c (Clear index) post found b f = refl
+base_span c Finish post found b f = absurd (let x = plain_not c.scheme f b in cc)
+base_span c Release post found b f = absurd (let x = plain_not c.scheme f b in cc)
+base_span c (Allocate LoadBirth) post found b f = refl
+base_span c (Allocate (ClaimSlot birth walk)) post found b f =
+    if_by (is_claimed found walk.slot) (walking birth post (walk_past post.layout.config.slots walk found)) (goes (record post { cursor = next_slot post.layout.config.slots walk.slot }) (events.Give walk.slot birth ∷ []) (Allocate (StoreLife birth walk.slot)))
+    (λ (t : Turn). t.post.span ≡ post.span) (λ e. walking_span birth post (walk_past post.layout.config.slots walk found)) (λ e. refl)
+base_span c (Allocate (StoreLife birth slot)) post found b f = refl
+base_span c (Write slot row place) post found b f = if_by (place == last_written row) (ends post [] Done) (goes post [] (Write slot row (place + 1))) (λ (t : Turn). t.post.span ≡ post.span) (λ e. refl) (λ e. refl)
+base_span c (GiveUp slot) post found b f = refl
+base_span c (Retire (LoadLife slot)) post found b f = refl
+base_span c (Retire (LoadRetire slot birth)) post found b f = refl
+base_span c (Retire (StoreRetired slot birth retire)) post found b f = refl
+base_span c (Move at) post found b f = ap (λ (p : Post). p.span) (move_post at post found)
+
+resumed_span : (layout : Layout) (k : ℕ) → is_valid layout ≡ true → (why : Why) (desk : Desk) (post : Post) (told : List Event) (outcome : Outcome) → PostFits layout k post → Passed (PhaseFits layout) why post outcome → (resumed why desk post told outcome).post.span ≡ post.span
+resumed_span layout k v why desk post told (Goes base) q p = refl
+resumed_span layout k v why desk post told (Ends ending) q p = (resume_left (seen_grows layout k post.span v) why ending post desk told p (record { fits = q; same = refl })).post.same
+
+turn_span : (w : World) (i : ℕ) → is_valid w.layout ≡ true → Seats w → is_ibr w.layout.config.scheme ≡ false → (phase : Phase) → (w.seat i).phase ≡ phase → (steps.phase_turn phase (counted (w.seat i).post) (w.seat i).desk (finds w i)).post.span ≡ (w.seat i).post.span
+turn_span w i v s b Idle e = refl
+turn_span w i v s b (Runs why base) e =
+    let f = s.fits i in
+    let r : Run w.layout why base (w.seat i).post = subst (λ (p : Phase). PhaseFits w.layout (w.seat i).post p) e f.phase in
+    let m = shape_moves w.layout i v why base (counted (w.seat i).post) (finds w i) (counted_fits w.layout i (w.seat i).post f.post) (run_counted w.layout why base (w.seat i).post r) in
+    let t : Turn = machine.after base (counted (w.seat i).post) (finds w i) in
+    resumed_span w.layout i v why (w.seat i).desk t.post t.told t.outcome m.post m.phase ∙ base_span w.layout.config base (counted (w.seat i).post) (finds w i) b r.fits
+turn_span w i v s b (Scans later at) e = (scan_grows (seen_grows w.layout i (w.seat i).post.span v) later at (counted (w.seat i).post) (w.seat i).desk (finds w i) (post_is w i s)).post.same
+turn_span w i v s b (Works work) e =
+    let f : SpanStands (w.seat i).post = subst (λ (q : Phase). PhaseFits w.layout (w.seat i).post q) e (s.fits i).phase in
+    (work_grows (seen_grows w.layout i (w.seat i).post.span v) work (counted (w.seat i).post) (w.seat i).desk (finds w i) f (post_is w i s)).post.same
+
+settled_span : (l : Local) (post : Post) (desk : Desk) (told : List Event) (outcome : CallOutcome) → (settled l (record { post = post; desk = desk; told = told; outcome = outcome })).post.span ≡ post.span
+settled_span l post desk told (GoesOn phase) = refl
+settled_span l post desk told (Answers answer) = refl
+
+settled_fit : (c : Config) (l : Local) (post : Post) (desk : Desk) (told : List Event) (outcome : CallOutcome) → TurnFit c l.rounds (record { post = post; desk = desk; told = told; outcome = outcome })
+    → phase_fit c (settled l (record { post = post; desk = desk; told = told; outcome = outcome })).rounds (settled l (record { post = post; desk = desk; told = told; outcome = outcome })).phase
+settled_fit c l post desk told (GoesOn phase) f = rw (rounds_join l.rounds told []) f
+settled_fit c l post desk told (Answers answer) f = tt
+
+-- what a step of a call's own needs where its round is lost
+work_few : (w : World) (i : ℕ) (work : Work) → LossNeeds w i → (w.seat i).phase ≡ Works work → WorkFew w.layout.config (w.seat i).rounds work (finds w i)
+work_few w i (Getting key at) n e = tt
+work_few w i (Changing kept (LoadVersion slot)) n e = tt
+work_few w i (Changing kept (LoadCount slot)) n e = tt
+work_few w i (Changing kept (LoadKey slot count)) n e = tt
+work_few w i (Changing kept (LoadValue slot count key)) n e = tt
+work_few w i (Changing kept (ExchangeRoot slot)) n e = n.changes kept slot e
+work_few w i (Enqueuing kept LoadNumber) n e = tt
+work_few w i (Enqueuing kept LoadNext) n e = tt
+work_few w i (Enqueuing kept (PassTail next)) n e = n.passes kept next e
+work_few w i (Enqueuing kept (ExchangeNext slot)) n e = n.enqueues kept slot e
+work_few w i (Enqueuing kept (ExchangeTail slot)) n e = tt
+work_few w i (Dequeuing (LoadTail head)) n e = tt
+work_few w i (Dequeuing (SwingTail head next)) n e = n.swings head next e
+work_few w i (Dequeuing (TakeNumber head next)) n e = tt
+work_few w i (Dequeuing (TakeValue head next number)) n e = tt
+work_few w i (Dequeuing (ExchangeHead head next number value)) n e = n.dequeues head next number value e
+
+turn_fits : (w : World) (i : ℕ) → is_valid w.layout ≡ true → RestNeeds w i → LossNeeds w i → (phase : Phase) → (w.seat i).phase ≡ phase → TurnFit w.layout.config (w.seat i).rounds (steps.phase_turn phase (counted (w.seat i).post) (w.seat i).desk (finds w i))
+turn_fits w i v n l Idle e = tt
+turn_fits w i v n l (Runs why base) e = run_fits w i why base (seat_of w i v n why base e) l
+turn_fits w i v n l (Scans later at) e = scan_fit w.layout.config (w.seat i).rounds later at (counted (w.seat i).post) (w.seat i).desk (finds w i) (subst (λ (q : Phase). phase_fit w.layout.config (w.seat i).rounds q) e (n.losses.few i))
+turn_fits w i v n l (Works work) e = work_turn_fit w.layout.config (w.seat i).rounds work (counted (w.seat i).post) (w.seat i).desk (finds w i) (subst (λ (q : Phase). phase_fit w.layout.config (w.seat i).rounds q) e (n.losses.few i)) (work_few w i work l e)
+
+own_few : (w : World) (i : ℕ) → is_valid w.layout ≡ true → RestNeeds w i → LossNeeds w i → phase_fit w.layout.config ((step w i).seat i).rounds ((step w i).seat i).phase
+own_few w i v n l =
+    let t : CallTurn = turn (w.seat i) (finds w i) in
+    let f = settled_fit w.layout.config (w.seat i) t.post t.desk t.told t.outcome (turn_fits w i v n l (w.seat i).phase refl) in
+    subst (λ (s : Local). phase_fit w.layout.config s.rounds s.phase) (sym (seat_steps w i)) f
+
+own_span : (w : World) (i : ℕ) → is_valid w.layout ≡ true → Seats w → Losses w → is_ibr w.layout.config.scheme ≡ false → ((step w i).seat i).post.span ≡ None
+own_span w i v s l b =
+    let t : CallTurn = turn (w.seat i) (finds w i) in
+    ap (λ (s : Local). s.post.span) (seat_steps w i) ∙ settled_span (w.seat i) t.post t.desk t.told t.outcome ∙ turn_span w i v s b (w.seat i).phase refl ∙ l.spans i b
+
+pub losses_kept : LossesKept
+losses_kept w i v n l = record {
+  few = λ k. one_moves (λ (m : ℕ) (s : Local). phase_fit w.layout.config s.rounds s.phase) w.seat (step w i).seat i n.losses.few (seat_stays w i) (own_few w i v n l) k;
+  spans = λ k b. one_moves (λ (m : ℕ) (s : Local). s.post.span ≡ None) w.seat (step w i).seat i (λ m. n.losses.spans m b) (seat_stays w i) (own_span w i v n.seats n.losses b) k;
+}
+
+-- a call begins
+
+holding_fit : (c : Config) (key : ℕ) (post : Post) (stood : Option ℕ) → phase_fit c 0 (steps.holding key post stood)
+holding_fit c key post None = round_fit c 0 (Holds key) post refl
+holding_fit c key post (Some slot) = refl
+
+first_fit : (c : Config) (call : Call) (post : Post) → phase_fit c 0 (steps.first_phase call post)
+first_fit c (names.Get key) post = round_fit c 0 (Gets key) post (omega arith)
+first_fit c (names.Put key value) post = round_fit c 0 (Changes (record { change = changes.Put key value; taken = None; walked = false; link = 0; version = 0; pairs = [] })) post (omega arith)
+first_fit c (names.Remove key) post = round_fit c 0 (Changes (record { change = changes.Removed key; taken = None; walked = false; link = 0; version = 0; pairs = [] })) post (omega arith)
+first_fit c (names.Enqueue value) post = round_fit c 0 (Enqueues (record { value = value; taken = None; walked = false; tail = 0; number = 0 })) post (omega arith)
+first_fit c names.Dequeue post = round_fit c 0 Dequeues post (omega arith)
+first_fit c (names.Hold key) post = holding_fit c key post (stands post 2)
+first_fit c names.Release post = refl
+first_fit c names.Advance post = tt
+first_fit c names.Scan post = tt
+
+pub losses_begin : LossesBegin
+losses_begin w i call l = record {
+  few = λ k. one_moves (λ (m : ℕ) (s : Local). phase_fit w.layout.config s.rounds s.phase) w.seat (begin w i call).seat i l.few (λ m e. begin_stays w i m call e) (subst (λ (s : Local). phase_fit w.layout.config s.rounds s.phase) (sym (begin_begins w i call)) (first_fit w.layout.config call (begun_post (w.seat i).post))) k;
+  spans = λ k b. one_moves (λ (m : ℕ) (s : Local). s.post.span ≡ None) w.seat (begin w i call).seat i (λ m. l.spans m b) (λ m e. begin_stays w i m call e) (ap (λ (s : Local). s.post.span) (begin_begins w i call) ∙ l.spans i b) k;
+}
+
+pub losses_start : LossesStart
+losses_start layout = record { few = λ k. tt; spans = λ k b. refl }

@@ -1,0 +1,11 @@
+pub mod Counts
+pub mod Ending
+pub mod Exchanges
+pub mod Fresh
+pub mod Grows
+pub mod Kept
+pub mod Lasting
+pub mod Machines
+pub mod Paced
+pub mod Protects
+pub mod Worlds

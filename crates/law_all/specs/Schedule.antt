@@ -1,0 +1,25 @@
+-- Calls and turns.
+use Rattle.std.specs.Prelude.{ℕ, ◌≡◌, ◌<◌, false, List}
+use Rattle.wfe_core.specs.words.declared.layout.Layout.{Layout}
+use Rattle.wfe_core.specs.words.Schemes.{is_ibr}
+use Rattle.laws.specs.history.History.{Item, record_of}
+use Rattle.law_steps.specs.answers.Heard.{IsCounted}
+use Rattle.laws.specs.history.Heard.{heard_of}
+use Rattle.laws.specs.Schedule.{handed_right, one_step, numbers_right, OpenLaw}
+use Rattle.laws.specs.history.Turns.{EachTurn}
+use Rattle.law_steps.specs.all.Finish.{CallFinishes}
+
+-- A history is starts of calls and turns of seats.
+pub record Schedule (layout : Layout) (items : List Item) : Type 0 where
+  -- calls start on free seats, busy seats take turns, an End comes last in its turn and counts the turns of its call
+  pub turns : IsCounted layout items
+  -- a seat tells entries from the beginning of a call to its end
+  pub in_calls : OpenLaw (record_of layout items)
+  -- a turn tells at most one event of those that an atomic step makes
+  pub one_step : EachTurn one_step (heard_of layout items)
+  -- under Hazard Eras and Wait-Free Eras the number in a Held or Null counts its seat's turns
+  pub numbers : is_ibr layout.config.scheme ≡ false → EachTurn numbers_right (heard_of layout items)
+  -- a seat hands another seat's index word on only while the owner's entries say that it publishes
+  pub handed : is_ibr layout.config.scheme ≡ false → EachTurn handed_right (heard_of layout items)
+  -- among any later items that have more steps of a seat than its call has left, the call ends
+  pub ends : (i : ℕ) → i < layout.config.seats → CallFinishes layout items i

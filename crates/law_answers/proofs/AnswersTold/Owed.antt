@@ -1,0 +1,228 @@
+-- What a call has told of the map and of the queue where it stands, and the answers that suit it.
+use Rattle.std.proofs.Common.{ℕ, ◌≡◌, ◌+◌, Bool, true, false, List, [], ◌∷◌, ◌++◌, Option, Some, None, refl, ap, ◌∙◌}
+use Rattle.std.specs.Prelude.{if◌then◌else◌}
+use Rattle.wfe_core.specs.defs.declared.call.Answer.{Answer}
+use Rattle.wfe_core.specs.defs.declared.call.Answer.TheVariants as the_answers
+use Rattle.wfe_core.specs.defs.declared.call.Call.{Call}
+use Rattle.wfe_core.specs.defs.declared.call.Call.TheVariants as names
+use Rattle.wfe_core.specs.defs.declared.call.ClockMove.{ClockMove}
+use Rattle.wfe_core.specs.defs.declared.event.Event.{Event}
+use Rattle.wfe_core.specs.defs.declared.event.Event.TheVariants as events
+use Rattle.wfe_core.specs.defs.declared.fold.Change.{Change}
+use Rattle.wfe_core.specs.defs.declared.fold.Change.TheVariants as changes
+use Rattle.wfe_core.specs.Rounds.{with_clock}
+use Rattle.wfe_core.specs.Phases.{Ending, Outcome, Goes, Ends}
+use Rattle.wfe_core.specs.Phases.Ending.{Clocked}
+use Rattle.wfe_core.specs.Calls.{Task, Gets, Changes, Holds, Enqueues, Dequeues, Next, Again, MakeRoom, Answering, Retiring, AfterScan, Answered, Repeated, Counted, EnqueueKept, EnqueueAt, LoadNumber, LoadNext, PassTail, ExchangeNext, ExchangeTail, Work, Getting, Changing, Enqueuing, Dequeuing, Why, Opens, FollowsHead, Fills, ClearsNext, Clears, Finishes, GivesUp, Retires, Tidies, Advances, Releases, Phase, Idle, Runs, Scans, Works, CallTurn, CallOutcome, GoesOn, Answers}
+use Rattle.wfe_core.proofs.Facts.{first_of, rest_of}
+use Rattle.laws.specs.AnswerLaw.{owes, suits}
+use Rattle.inv_all.proofs.Each.{all_of}
+use Rattle.inv_all.proofs.Machines.{is_machine, is_still, of_along, of_weaker, machine_still}
+
+-- the events of the map and of the queue
+abbrev pub loud_one : Event → List Event → List Event
+loud_one event told = if is_still event then told else event ∷ told
+
+abbrev pub loud : List Event → List Event
+loud [] = []
+loud (event ∷ told) = loud_one event (loud told)
+
+one_along : (still : Bool) (event : Event) (xs ys : List Event) → (if still then xs ++ ys else event ∷ (xs ++ ys)) ≡ (if still then xs else event ∷ xs) ++ ys
+one_along true event xs ys = refl
+one_along false event xs ys = refl
+
+pub loud_along : (xs ys : List Event) → loud (xs ++ ys) ≡ loud xs ++ loud ys
+loud_along [] ys = refl
+loud_along (x ∷ xs) ys = ap (λ (told : List Event). loud_one x told) (loud_along xs ys) ∙ one_along (is_still x) x (loud xs) (loud ys)
+
+none_by : (still : Bool) (event : Event) (told : List Event) → still ≡ true → told ≡ [] → (if still then told else event ∷ told) ≡ []
+none_by true event told h k = k
+none_by false event told h k = absurd (cc)
+
+pub loud_still : (told : List Event) → all_of is_still told ≡ true → loud told ≡ []
+loud_still [] h = refl
+loud_still (event ∷ told) h = none_by (is_still event) event (loud told) (first_of (is_still event) (all_of is_still told) h) (loud_still told (rest_of (is_still event) (all_of is_still told) h))
+
+-- an event that is no end
+abbrev pub is_open : Event → Bool
+is_open (events.End steps answer) = false
+is_open event = true
+
+pub machine_open : (event : Event) → is_machine event ≡ true → is_open event ≡ true
+machine_open (events.End steps answer) h = absurd (cc)
+machine_open event h = refl
+
+-- the call of a change
+abbrev pub call_for : Change → Call
+call_for (changes.Put key value) = names.Put key value
+call_for (changes.Removed key) = names.Remove key
+
+abbrev pub TaskServes : Call → Task → Type 0
+TaskServes call (Gets key) = call ≡ names.Get key
+TaskServes call (Changes kept) = call ≡ call_for kept.change
+TaskServes call (Holds key) = call ≡ names.Hold key
+TaskServes call (Enqueues kept) = call ≡ names.Enqueue kept.value
+TaskServes call Dequeues = call ≡ names.Dequeue
+
+abbrev pub NextServes : Call → Next → Type 0
+NextServes call Again = Unit {0}
+NextServes call MakeRoom = Unit {0}
+NextServes call (Answering answer) = suits call answer ≡ true
+NextServes call (Retiring slot answer) = suits call answer ≡ true
+
+abbrev pub LaterServes : Call → AfterScan → Type 0
+LaterServes call (Answered answer) = suits call answer ≡ true
+LaterServes call (Repeated task) = TaskServes call task
+LaterServes call Counted = call ≡ names.Scan
+
+abbrev pub FreeServes : Call → Option ℕ → Type 0
+FreeServes call None = call ≡ names.Release
+FreeServes call (Some key) = call ≡ names.Hold key
+
+abbrev pub WhyServes : Call → Why → Type 0
+WhyServes call (Opens task) = TaskServes call task
+WhyServes call (FollowsHead head tail) = call ≡ names.Dequeue
+WhyServes call (Fills task) = TaskServes call task
+WhyServes call (ClearsNext next) = (call ≡ names.Dequeue) × NextServes call next
+WhyServes call (Clears task next) = TaskServes call task × NextServes call next
+WhyServes call (Finishes task next) = TaskServes call task × NextServes call next
+WhyServes call (GivesUp answer) = suits call answer ≡ true
+WhyServes call (Retires answer) = suits call answer ≡ true
+WhyServes call (Tidies later) = LaterServes call later
+WhyServes call Advances = call ≡ names.Advance
+WhyServes call (Releases key) = FreeServes call key
+
+abbrev pub WorkServes : Call → Work → Type 0
+WorkServes call (Getting key at) = call ≡ names.Get key
+WorkServes call (Changing kept at) = call ≡ call_for kept.change
+WorkServes call (Enqueuing kept at) = call ≡ names.Enqueue kept.value
+WorkServes call (Dequeuing at) = call ≡ names.Dequeue
+
+abbrev pub Serves : Call → Phase → Type 0
+Serves call Idle = ⊥
+Serves call (Runs why base) = WhyServes call why
+Serves call (Scans later at) = LaterServes call later
+Serves call (Works work) = WorkServes call work
+
+-- what was told
+abbrev pub next_owed : ℕ → Call → Next → List Event
+next_owed n call Again = []
+next_owed n call MakeRoom = []
+next_owed n call (Answering answer) = owes n call answer
+next_owed n call (Retiring slot answer) = owes n call answer
+
+abbrev pub later_owed : ℕ → Call → AfterScan → List Event
+later_owed n call (Answered answer) = owes n call answer
+later_owed n call (Repeated task) = []
+later_owed n call Counted = []
+
+abbrev pub why_owed : ℕ → Call → Why → List Event
+why_owed n call (Opens task) = []
+why_owed n call (FollowsHead head tail) = []
+why_owed n call (Fills task) = []
+why_owed n call (ClearsNext next) = next_owed n call next
+why_owed n call (Clears task next) = next_owed n call next
+why_owed n call (Finishes task next) = next_owed n call next
+why_owed n call (GivesUp answer) = owes n call answer
+why_owed n call (Retires answer) = owes n call answer
+why_owed n call (Tidies later) = later_owed n call later
+why_owed n call Advances = []
+why_owed n call (Releases key) = []
+
+abbrev pub enqueue_owed : ℕ → Call → EnqueueKept → EnqueueAt → List Event
+enqueue_owed n call kept LoadNumber = []
+enqueue_owed n call kept LoadNext = []
+enqueue_owed n call kept (PassTail next) = []
+enqueue_owed n call kept (ExchangeNext slot) = []
+enqueue_owed n call kept (ExchangeTail slot) = owes n call (the_answers.Queued (kept.number + 1))
+
+abbrev pub work_owed : ℕ → Call → Work → List Event
+work_owed n call (Getting key at) = []
+work_owed n call (Changing kept at) = []
+work_owed n call (Enqueuing kept at) = enqueue_owed n call kept at
+work_owed n call (Dequeuing at) = []
+
+abbrev pub owed : ℕ → Call → Phase → List Event
+owed n call Idle = []
+owed n call (Runs why base) = why_owed n call why
+owed n call (Scans later at) = later_owed n call later
+owed n call (Works work) = work_owed n call work
+
+abbrev pub out_owed : ℕ → Call → CallOutcome → List Event
+out_owed n call (GoesOn phase) = owed n call phase
+out_owed n call (Answers answer) = owes n call answer
+
+abbrev pub OutServes : Call → CallOutcome → Type 0
+OutServes call (GoesOn phase) = Serves call phase
+OutServes call (Answers answer) = suits call answer ≡ true
+
+-- where the clock is moved alone, its machine ends with an outcome of the move
+abbrev pub ends_clocked : Ending → Bool
+ends_clocked (Clocked clock) = true
+ends_clocked ending = false
+
+abbrev pub out_clocked : Outcome → Bool
+out_clocked (Goes base) = true
+out_clocked (Ends ending) = ends_clocked ending
+
+abbrev pub EndsFor : Why → Outcome → Type 0
+EndsFor Advances outcome = out_clocked outcome ≡ true
+EndsFor why outcome = Unit {0}
+
+-- after what was told before, these events make these, and none is an end
+pub record Told (before told all : List Event) : Type 0 where
+  pub sum : before ++ loud told ≡ all
+  pub goes : all_of is_open told ≡ true
+
+pub record Owes (n : ℕ) (call : Call) (before : List Event) (t : CallTurn) : Type 0 where
+  pub told : Told before t.told (out_owed n call t.outcome)
+  pub serves : OutServes call t.outcome
+
+pub append_none : (xs : List Event) → xs ++ [] ≡ xs
+append_none [] = refl
+append_none (x ∷ xs) = ap (λ (rest : List Event). x ∷ rest) (append_none xs)
+
+-- what machines tell adds nothing
+pub told_machine : (before told : List Event) → all_of is_machine told ≡ true → Told before told before
+told_machine before told h = record {
+  sum = ap (λ (more : List Event). before ++ more) (loud_still told (of_weaker is_machine is_still told machine_still h)) ∙ append_none before;
+  goes = of_weaker is_machine is_open told machine_open h;
+}
+
+pub told_more : (before told more all : List Event) → all_of is_machine more ≡ true → Told before told all → Told before (told ++ more) all
+told_more before told more all h t = record {
+  sum = ap (λ (rest : List Event). before ++ rest) (loud_along told more ∙ ap (λ (rest : List Event). loud told ++ rest) (loud_still more (of_weaker is_machine is_still more machine_still h)) ∙ append_none (loud told)) ∙ t.sum;
+  goes = of_along is_open told more t.goes (of_weaker is_machine is_open more machine_open h);
+}
+
+pub told_none : Told [] [] []
+told_none = record { sum = refl; goes = refl }
+
+-- the outcome of a move of the clock changes nothing of this
+done_owes : (n : ℕ) (call : Call) (version : ℕ) (old clock : ClockMove) → owes n call (the_answers.Done version clock) ≡ owes n call (the_answers.Done version old)
+done_owes n (names.Put key value) version old clock = refl
+done_owes n (names.Remove key) version old clock = refl
+done_owes n call version old clock = refl
+
+taken_owes : (n : ℕ) (call : Call) (number value : ℕ) (old clock : ClockMove) → owes n call (the_answers.Taken number value clock) ≡ owes n call (the_answers.Taken number value old)
+taken_owes n names.Dequeue number value old clock = refl
+taken_owes n call number value old clock = refl
+
+pub clock_owes : (n : ℕ) (call : Call) (answer : Answer) (clock : ClockMove) → owes n call (with_clock answer clock) ≡ owes n call answer
+clock_owes n call (the_answers.Done version old) clock = done_owes n call version old clock
+clock_owes n call (the_answers.Taken number value old) clock = taken_owes n call number value old clock
+clock_owes n call answer clock = refl
+
+done_suits : (call : Call) (version : ℕ) (old clock : ClockMove) → suits call (the_answers.Done version clock) ≡ suits call (the_answers.Done version old)
+done_suits (names.Put key value) version old clock = refl
+done_suits (names.Remove key) version old clock = refl
+done_suits call version old clock = refl
+
+taken_suits : (call : Call) (number value : ℕ) (old clock : ClockMove) → suits call (the_answers.Taken number value clock) ≡ suits call (the_answers.Taken number value old)
+taken_suits names.Dequeue number value old clock = refl
+taken_suits call number value old clock = refl
+
+pub clock_suits : (call : Call) (answer : Answer) (clock : ClockMove) → suits call (with_clock answer clock) ≡ suits call answer
+clock_suits call (the_answers.Done version old) clock = done_suits call version old clock
+clock_suits call (the_answers.Taken number value old) clock = taken_suits call number value old clock
+clock_suits call answer clock = refl

@@ -1,0 +1,7 @@
+pub mod Counts
+pub mod Current
+pub mod Gots
+pub mod Maps
+pub mod Nulls
+pub mod Queues
+pub mod Versions

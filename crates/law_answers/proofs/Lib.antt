@@ -1,0 +1,8 @@
+pub use Rattle.inv_all.proofs as all
+pub use Rattle.inv_all.proofs.shapes as shapes
+pub use Rattle.inv_all.proofs.history as history
+pub mod AnswersTold
+pub mod Lawful
+pub mod OneStep
+pub mod OpenCalls
+pub mod Turns

@@ -1,0 +1,131 @@
+-- No step of a call changes the count of its steps besides counting itself.
+use Rattle.std.proofs.Common.{ℕ, ◌≡◌, Bool, true, false, List, refl, ◌∙◌}
+use Rattle.std.specs.Prelude.{◌==◌, if◌then◌else◌, Option, Some, None}
+use Rattle.wfe_core.specs.words.declared.config.SchemeKind.{SchemeKind}
+use Rattle.wfe_core.specs.words.declared.config.SchemeKind.TheVariants.{He, Ibr, Wfe}
+use Rattle.wfe_core.specs.defs.declared.event.Event.{Event}
+use Rattle.wfe_core.specs.defs.declared.event.Root.{Root}
+use Rattle.wfe_core.specs.defs.declared.event.Root.TheVariants as roots
+use Rattle.wfe_core.specs.declared.post.Post.{Post}
+use Rattle.wfe_core.specs.Posts.{with_tag}
+use Rattle.wfe_core.specs.Phases.{Aim, Alone, Follows, Walk, Base, Turn}
+use Rattle.wfe_core.specs.Phases.BeginAt.{LoadLower, PublishSpan}
+use Rattle.wfe_core.specs.Phases.ProtectAt.{LoadClock, PublishEra, LoadLink, CheckClock, PublishRequest, LoadOwnClock, PublishHelper, LoadOwnLink, CheckOwnClock, AnswerOwn, LoadAnswer, TakeAnswer, WithdrawRequest, WithdrawHelper, LoadWithin, CheckUpper, RaiseUpper}
+use Rattle.wfe_core.specs.Phases.AllocateAt.{LoadBirth, ClaimSlot, StoreLife}
+use Rattle.wfe_core.specs.Phases.RetireAt.{LoadLife, LoadRetire, StoreRetired}
+use Rattle.wfe_core.specs.Phases.MoveAt.{LoadEra, LoadRequest, ShowEra, LoadAsked, CheckEra, AnswerAsked, LoadReserved, HandOver, HideEra, HideLate, ExchangeClock}
+use Rattle.wfe_core.specs.Phases.Base.{Begin, Protect, Reload, Clear, Finish, Release, Allocate, Write, GiveUp, Retire, Move}
+use Rattle.wfe_core.specs.Protect.{held_post, concluded}
+use Rattle.wfe_core.specs.Allocate.{walking, walk_past, is_claimed}
+use Rattle.wfe_core.specs.WriteRow.{last_written}
+use Rattle.wfe_core.specs.MoveClock.{after_hand_over}
+use Rattle.wfe_core.specs.Machine.{after}
+use Rattle.wfe_core.specs.Desks.{Desk}
+use Rattle.wfe_core.specs.Rounds.{scheme_of, clear_post}
+use Rattle.wfe_core.specs.Steps as steps
+use Rattle.wfe_core.specs.Calls.{Phase, Idle, Runs, Scans, Works}
+use Rattle.inv_all.proofs.history.Passes.{Closed, First, step_goes}
+
+along : (a b c : ℕ) → b ≡ a → c ≡ b → c ≡ a
+along a b c h k = k ∙ h
+
+-- a choice between two turns
+same_if : (b : Bool) (post : Post) (t u : Turn) → t.post.steps ≡ post.steps → u.post.steps ≡ post.steps → (if b then t else u).post.steps ≡ post.steps
+same_if true post t u h k = h
+same_if false post t u h k = k
+
+same_post_if : (b : Bool) (post p q : Post) → p.steps ≡ post.steps → q.steps ≡ post.steps → (if b then p else q).steps ≡ post.steps
+same_post_if true post p q h k = h
+same_post_if false post p q h k = k
+
+pub held_same : (post : Post) (index : ℕ) (root : Root) (link : ℕ) → (held_post post index root link).steps ≡ post.steps
+held_same post index (roots.Next parent) link = refl
+held_same post index (roots.Bucket bucket) link = same_post_if (link == 0) post _ _ refl (refl)
+held_same post index roots.Head link = same_post_if (link == 0) post _ _ refl (refl)
+held_same post index roots.Tail link = same_post_if (link == 0) post _ _ refl (refl)
+
+concluded_same : (aim : Aim) (index : ℕ) (root : Root) (n link era : ℕ) (post : Post) (told : List Event) → (concluded aim index root n link era post told).post.steps ≡ post.steps
+concluded_same Alone index root n link era post told = refl
+concluded_same Follows index root n link era post told = same_if (link == 0) post _ _ refl refl
+
+protected_same : (aim : Aim) (index : ℕ) (root : Root) (n link era : ℕ) (post : Post) (told : List Event) → (concluded aim index root n link era (held_post post index root link) told).post.steps ≡ post.steps
+protected_same aim index root n link era post told =
+    along _ _ _ (held_same post index root link) (concluded_same aim index root n link era (held_post post index root link) told)
+
+walking_same : (birth : ℕ) (post : Post) (o : Option Walk) → (walking birth post o).post.steps ≡ post.steps
+walking_same birth post None = refl
+walking_same birth post (Some walk) = refl
+
+hand_same : (era seat tag index old : ℕ) (post : Post) (b : Bool) → (after_hand_over era seat tag index old post b).post.steps ≡ post.steps
+hand_same era seat tag index old post true = refl
+hand_same era seat tag index old post false = refl
+
+-- a machine's step
+pub after_steps : (base : Base) (post : Post) (found : ℕ) → (after base post found).post.steps ≡ post.steps
+after_steps (Begin LoadLower) post found = refl
+after_steps (Begin (PublishSpan era)) post found = refl
+after_steps (Protect aim index root steps (LoadClock tries)) post found = refl
+after_steps (Protect aim index root steps (PublishEra era tries)) post found = refl
+after_steps (Protect aim index root steps (LoadLink era tries)) post found = refl
+after_steps (Protect aim index root steps (CheckClock era tries link)) post found =
+    same_if (found == era) post _ _ (protected_same aim index root _ link era post _) refl
+after_steps (Protect aim index root steps PublishRequest) post found = refl
+after_steps (Protect aim index root steps LoadOwnClock) post found = refl
+after_steps (Protect aim index root steps (PublishHelper first era last)) post found = refl
+after_steps (Protect aim index root steps (LoadOwnLink first era last)) post found = refl
+after_steps (Protect aim index root steps (CheckOwnClock first era last link)) post found =
+    same_if (found == era) post _ _ refl refl
+after_steps (Protect aim index root steps (AnswerOwn first era link)) post found = same_if _ post _ _ refl refl
+after_steps (Protect aim index root steps (LoadAnswer first)) post found = refl
+after_steps (Protect aim index root steps (TakeAnswer link era)) post found =
+    along _ _ _ (refl) (held_same (with_tag post index _) index root link)
+after_steps (Protect aim index root steps (WithdrawRequest link era)) post found = refl
+after_steps (Protect aim index root steps (WithdrawHelper link era)) post found = concluded_same aim index root _ link era post _
+after_steps (Protect aim index root steps LoadWithin) post found = refl
+after_steps (Protect aim index root steps (CheckUpper link)) post found =
+    same_if _ post _ _ (protected_same aim index root _ link found post _) refl
+after_steps (Protect aim index root steps (RaiseUpper era)) post found = refl
+after_steps (Reload parent index slot era steps) post found = same_if _ post _ _ (refl) refl
+after_steps (Clear index) post found = refl
+after_steps Finish post found = refl
+after_steps Release post found = refl
+after_steps (Allocate LoadBirth) post found = refl
+after_steps (Allocate (ClaimSlot birth walk)) post found =
+    same_if (is_claimed found walk.slot) post _ _ (walking_same birth post (walk_past post.layout.config.slots walk found)) (refl)
+after_steps (Allocate (StoreLife birth slot)) post found = refl
+after_steps (Write slot row place) post found = same_if (place == last_written row) post _ _ refl refl
+after_steps (GiveUp slot) post found = refl
+after_steps (Retire (LoadLife slot)) post found = refl
+after_steps (Retire (LoadRetire slot birth)) post found = refl
+after_steps (Retire (StoreRetired slot birth retire)) post found = refl
+after_steps (Move (LoadEra helps)) post found = same_if _ post _ _ refl refl
+after_steps (Move (LoadRequest era seat shows)) post found = refl
+after_steps (Move (ShowEra era seat tag index root)) post found = refl
+after_steps (Move (LoadAsked era seat tag index root)) post found = refl
+after_steps (Move (CheckEra era seat tag index root link)) post found = same_if _ post _ _ refl refl
+after_steps (Move (AnswerAsked era seat tag index root link)) post found = same_if _ post _ _ refl refl
+after_steps (Move (LoadReserved era seat tag index root link)) post found = same_if _ post _ _ refl refl
+after_steps (Move (HandOver era seat tag index root link old)) post found = hand_same era seat tag index old post _
+after_steps (Move (HideEra era)) post found = refl
+after_steps (Move (HideLate seen)) post found = refl
+after_steps (Move (ExchangeClock era)) post found = same_if _ post _ _ refl refl
+
+cleared_steps : (scheme : SchemeKind) (post : Post) (index : ℕ) → (clear_post scheme post index).steps ≡ post.steps
+cleared_steps He post index = refl
+cleared_steps Ibr post index = refl
+cleared_steps Wfe post index = refl
+
+abbrev Count : ℕ → Post → List Event → Type 0
+Count m post told = post.steps ≡ m
+
+count_closed : (m : ℕ) → Closed (Count m)
+count_closed m = record { calm = λ post told more q h. h; clears = λ post told index h. cleared_steps (scheme_of post) post index ∙ h }
+
+first_count : (phase : Phase) (post : Post) (found : ℕ) → First (Count post.steps) phase post found
+first_count Idle post found = refl
+first_count (Runs why base) post found = after_steps base post found
+first_count (Scans later at) post found = refl
+first_count (Works work) post found = refl
+
+pub turn_steps : (phase : Phase) (post : Post) (desk : Desk) (found : ℕ) → (steps.phase_turn phase post desk found).post.steps ≡ post.steps
+turn_steps phase post desk found = step_goes (Count post.steps) (count_closed post.steps) phase post desk found (first_count phase post found)

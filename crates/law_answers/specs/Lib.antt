@@ -1,0 +1,5 @@
+pub use Rattle.inv_all.specs as all
+pub use Rattle.inv_all.specs.history as history
+pub mod Heard
+pub mod MapKept
+pub mod Records

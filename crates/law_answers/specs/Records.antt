@@ -1,0 +1,32 @@
+-- What the record and the turns of each history keep, whatever calls begin and whichever seats make their steps.
+use Rattle.std.specs.Prelude.{List, true, ◌≡◌}
+use Rattle.wfe_core.specs.words.Place.{is_valid}
+use Rattle.wfe_core.specs.words.Schemes.{is_wfe}
+use Rattle.wfe_core.specs.words.declared.layout.Layout.{Layout}
+use Rattle.inv_all.specs.history.Heard.{heard_of}
+use Rattle.inv_all.specs.history.History.{Item, record_of}
+use Rattle.inv_all.specs.history.Turns.{EachTurn}
+use Rattle.laws.specs.AnswerLaw.{AnswersLaw}
+use Rattle.laws.specs.QueueLaw.{QueueLaw}
+use Rattle.laws.specs.Schedule.{one_step, OpenLaw}
+use Rattle.laws.specs.StepLaw.{NumberLaw}
+
+-- each history's record keeps it, whatever calls begin and whichever seats make their steps
+abbrev pub RecordsKeepQueue : Type 0
+RecordsKeepQueue = (layout : Layout) (items : List Item) → is_valid layout ≡ true → QueueLaw (record_of layout items)
+
+-- each history's record keeps it, whatever calls begin and whichever seats make their steps
+abbrev pub RecordsKeepSteps : Type 0
+RecordsKeepSteps = (layout : Layout) (items : List Item) → is_valid layout ≡ true → is_wfe layout.config.scheme ≡ true → NumberLaw layout.config.tries (record_of layout items)
+
+-- each history's record keeps it, whatever calls begin and whichever seats make their steps
+abbrev pub RecordsKeepAnswers : Type 0
+RecordsKeepAnswers = (layout : Layout) (items : List Item) → is_valid layout ≡ true → AnswersLaw layout.config.buckets (record_of layout items)
+
+-- so it is with each turn of each history, whatever calls begin and whichever seats make their steps
+abbrev pub TurnsTellOne : Type 0
+TurnsTellOne = (layout : Layout) (items : List Item) → is_valid layout ≡ true → EachTurn one_step (heard_of layout items)
+
+-- each history's record keeps it, whatever calls begin and whichever seats make their steps
+abbrev pub RecordsOpenCalls : Type 0
+RecordsOpenCalls = (layout : Layout) (items : List Item) → is_valid layout ≡ true → OpenLaw (record_of layout items)

@@ -1,0 +1,30 @@
+-- What the record and the turns of each history keep, whatever calls begin and whichever seats make their steps.
+use Rattle.std.specs.Prelude.{List, true, ◌≡◌}
+use Rattle.wfe_core.specs.words.Place.{is_valid}
+use Rattle.wfe_core.specs.words.Place.Place.{Clock}
+use Rattle.wfe_core.specs.words.declared.layout.Layout.{Layout}
+use Rattle.inv_all.specs.history.History.{Item, record_of, world_of}
+use Rattle.laws.specs.EraLaw.{ClockLaw, GuardLaw, BirthsCurrent, RetiresCurrent, ReservesCurrent}
+use Rattle.laws.specs.StateAt.{clock_of}
+
+-- each history's record keeps it, whatever calls begin and whichever seats make their steps
+abbrev pub RecordsKeepEras : Type 0
+RecordsKeepEras = (layout : Layout) (items : List Item) → is_valid layout ≡ true → ClockLaw layout.config (record_of layout items)
+
+-- and its clock is the word
+abbrev pub RecordClock : Type 0
+RecordClock = (layout : Layout) (items : List Item) → is_valid layout ≡ true → clock_of (record_of layout items) ≡ (world_of layout items).mem Clock
+
+-- each history's record keeps it, whatever calls begin and whichever seats make their steps
+abbrev pub RecordsKeepGuards : Type 0
+RecordsKeepGuards = (layout : Layout) (items : List Item) → is_valid layout ≡ true → GuardLaw layout.config.scheme (record_of layout items)
+
+-- each history's record keeps them, whatever calls begin and whichever seats make their steps
+abbrev pub RecordsGiveCurrent : Type 0
+RecordsGiveCurrent = (layout : Layout) (items : List Item) → is_valid layout ≡ true → BirthsCurrent (record_of layout items)
+
+abbrev pub RecordsRetireCurrent : Type 0
+RecordsRetireCurrent = (layout : Layout) (items : List Item) → is_valid layout ≡ true → RetiresCurrent (record_of layout items)
+
+abbrev pub RecordsReserveCurrent : Type 0
+RecordsReserveCurrent = (layout : Layout) (items : List Item) → is_valid layout ≡ true → ReservesCurrent (record_of layout items)

@@ -1,0 +1,48 @@
+//! Which eras are told. Each function here does nothing, and carries
+//! a theorem.
+#![tactic(auto)]
+
+ghost use Rattle.law_eras.specs.Current.{ClockBetween};
+ghost use Rattle.law_eras.specs.Records.{RecordClock, RecordsGiveCurrent, RecordsKeepEras, RecordsKeepGuards, RecordsReserveCurrent, RecordsRetireCurrent};
+
+/// The clock's word is 1 plus the number of Era entries.
+pub fn record_clock()
+    ensures { RecordClock }
+{}
+
+/// The k-th Era entry is of era k + 1, at most the last one. A guard is told to publish nothing, or
+/// eras up to the clock, and one era alone but under 2GE. No birth era is after the clock. A row is
+/// retired with the birth era of its last Give, and with a retire era from there up to the clock.
+pub fn records_keep_eras()
+    ensures { RecordsKeepEras }
+{}
+
+/// A seat tells only what its own guards publish, but for one case under Wait-Free Eras: that an
+/// index word publishes the interval which the seat's own helper word then publishes.
+pub fn records_keep_guards()
+    ensures { RecordsKeepGuards }
+{}
+
+/// An era was the clock at a position after an entry just where it lies between the clock there and
+/// the present one.
+pub fn clock_between()
+    ensures { ClockBetween }
+{}
+
+/// A row's birth era was the clock somewhere in the call that the row is given to.
+pub fn records_give_current()
+    ensures { RecordsGiveCurrent }
+{}
+
+/// A row is retired with a retire era that was the clock at a position after the seat has told its
+/// cut.
+pub fn records_retire_current()
+    ensures { RecordsRetireCurrent }
+{}
+
+/// The upper end of what a guard is told to publish was the clock at a position of the call that
+/// tells it, whichever guard it is: an own index, helper or interval word, or the index word that a
+/// mover of the clock hands over.
+pub fn records_reserve_current()
+    ensures { RecordsReserveCurrent }
+{}

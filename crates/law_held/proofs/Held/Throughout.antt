@@ -1,0 +1,199 @@
+-- What stands is held at each position of a history's record.
+use Rattle.std.proofs.Common.{ℕ, ◌≡◌, ◌-◌, Bool, true, false, List, [], ◌∷◌, ◌++◌, Option, Some, None, refl, sym, ap, ◌∙◌, subst, arith}
+use Rattle.std.proofs.lemmas.Bool.Decides.{nat_tests}
+use Rattle.std.specs.List.{list_any, list_all}
+use Rattle.std.specs.Prelude.{◌==◌, ◌&&◌, ◌||◌, not, nat_lt, if◌then◌else◌}
+use Rattle.wfe_core.specs.words.Place.{is_valid}
+use Rattle.wfe_core.specs.words.declared.config.Config.{Config}
+use Rattle.wfe_core.specs.words.declared.layout.Layout.{Layout}
+use Rattle.wfe_core.specs.defs.declared.event.Event.{Event}
+use Rattle.wfe_core.specs.defs.declared.event.Event.TheVariants as events
+use Rattle.wfe_core.specs.defs.declared.event.Guard.TheVariants.{Index}
+use Rattle.wfe_core.specs.defs.declared.event.Root.{Root}
+use Rattle.wfe_core.specs.defs.declared.event.Root.TheVariants as roots
+use Rattle.wfe_core.specs.declared.post.Post.{Post}
+use Rattle.wfe_core.proofs.Frames.{after_same}
+use Rattle.wfe_core.specs.Guards.{one_era}
+use Rattle.wfe_core.specs.Locals.{told_by, turn}
+use Rattle.wfe_core.specs.Memory.{bump}
+use Rattle.wfe_core.specs.Posts.{stands, counted}
+use Rattle.wfe_core.specs.Protect.{told_held}
+use Rattle.wfe_core.specs.Steps as steps
+use Rattle.wfe_core.specs.World.{World, finds, is_busy, told_in, step}
+use Rattle.wfe_core.specs.Phases.{Aim, Base}
+use Rattle.wfe_core.specs.Phases.ProtectAt.{TakeAnswer}
+use Rattle.wfe_core.specs.Phases.Base.{Protect}
+use Rattle.wfe_core.specs.Calls.{ReadGuard, GiveBack, Why, Phase, Idle, Runs, Scans, Works}
+use Rattle.wfe_core.proofs.Facts.{same_number, rest_of, implies_or, then_of}
+use Rattle.inv_all.proofs.covers.Resting.{rests_give}
+use Rattle.inv_all.specs.ends.Standing as told
+use Rattle.inv_all.proofs.ends.Ends.Held.{held_stands}
+use Rattle.inv_all.specs.shapes.Seats.{Seats}
+use Rattle.inv_all.specs.history.History.{Item, Begins, Steps, Made, fits, done, done_if, did, made_from, first_made, made_of, record_of, world_of}
+use Rattle.inv_all.proofs.history.Along.{low_seat, made_snoc}
+use Rattle.laws.specs.HoldLaw.{is_held}
+use Rattle.law_places.proofs.reuse.Holding.Holds.{records_hold}
+use Rattle.inv_all.specs.Inv.{Inv}
+use Rattle.inv_all.proofs.Inv.Guards.{rests_need}
+use Rattle.inv_all.proofs.Inv.Reached.{inv_reached}
+use Rattle.inv_all.specs.history.Record.{Past, Each, EachEntry, tells_of}
+use Rattle.inv_all.proofs.history.Entries.{entries_of_each}
+use Rattle.inv_all.proofs.Each.{all_of}
+use Rattle.inv_all.proofs.Machines.{of_along}
+use Rattle.laws.specs.StateAt.{stood_at, is_row}
+use Rattle.law_places.proofs.reuse.Reuse.Keeps.{record_stands, row_of}
+use Rattle.law_held.proofs.Roots.Ways.{Turning}
+use Rattle.inv_all.proofs.ends.Told.Rows.{own_told, own_post, step_adds}
+use Rattle.inv_all.proofs.ends.Told.Turns.{Adds, is_later}
+use Rattle.law_held.specs.Records.{RecordsHoldThroughout}
+use Rattle.law_held.proofs.Held.Flat.{is_flat, is_at, holds_ok, Good, late_each, take_each, plain_each}
+use Rattle.law_held.proofs.Held.Forms.{Shape, Even, Late, is_taking, run_shape, back_shape}
+use Rattle.law_held.proofs.Resting.Resting.{next_made}
+use Rattle.wfe_core.specs.defs.Events.{is_held as event_is_held}
+use Rattle.inv_all.proofs.handover.Asks.{run_of}
+use Rattle.law_places.proofs.answers.AnswersTold.Owed.{append_none}
+use Rattle.law_places.proofs.answers.AnswersTold.Answering.{append_one}
+
+-- the ends of a step
+good_at : (layout : Layout) (path : List Item) (k j s : ℕ) → is_valid layout ≡ true → Good layout.config k j s (record_of layout path)
+good_at layout path k j s d = λ r. records_hold layout path k j s d (row_of s (stood_at k j (record_of layout path)) r)
+
+good_next : (layout : Layout) (path : List Item) (i k j s : ℕ) → is_valid layout ≡ true → Turning layout path i → Good layout.config k j s (tells_of (record_of layout path) i (told_in (world_of layout path) i))
+good_next layout path i k j s d t = subst (λ (m : Made). Good layout.config k j s m.past) (next_made layout path i t) (good_at layout (path ++ Steps i ∷ []) k j s d)
+
+stands_next : (layout : Layout) (path : List Item) (i k j s : ℕ) → is_valid layout ≡ true → Turning layout path i → list_any (event_is_held j s) (told_in (world_of layout path) i) ≡ true → (k == i) ≡ true → is_row s (stood_at k j (tells_of (record_of layout path) i (told_in (world_of layout path) i))) ≡ true
+stands_next layout path i k j s d t h o =
+    let w : World = world_of layout path in
+    let a : Inv w = inv_reached layout path d in
+    let one : k ≡ i = grind (arith, nat_tests) in
+    let later : stands ((step w i).seat i).post j ≡ Some s = held_stands w i j s a.known.seats h in
+    let said : stood_at i j (done (made_of layout path) (Steps i)).past ≡ stands ((done (made_of layout path) (Steps i)).world.seat i).post j =
+    subst (λ (m : Made). stood_at i j m.past ≡ stands (m.world.seat i).post j) (next_made layout path i t) (record_stands layout (path ++ Steps i ∷ []) i j d) in
+    subst (λ (n : ℕ). is_row s (stood_at n j (tells_of (record_of layout path) i (told_in w i))) ≡ true) (sym one) (ap (is_row s) (said ∙ later) ∙ same_number s)
+
+-- what is known of a step
+record Ends (c : Config) (k j s i : ℕ) (p : Past) (es : List Event) : Type 0 where
+  now : Good c k j s p
+  last : Good c k j s (tells_of p i es)
+  held : list_any (event_is_held j s) es ≡ true → (k == i) ≡ true → is_row s (stood_at k j (tells_of p i es)) ≡ true
+
+ends_as : (c : Config) (k j s i : ℕ) (p : Past) (xs ys : List Event) → xs ≡ ys → Ends c k j s i p xs → Ends c k j s i p ys
+ends_as c k j s i p xs ys e h = subst (Ends c k j s i p) e h
+
+-- it changes nothing of guards and lives, or last does
+later_flat : (es : List Event) → list_all is_later es ≡ true → all_of is_flat es ≡ true
+later_flat [] h = refl
+later_flat (event ∷ es) h =
+    let a : is_later event ≡ true = grind (arith, nat_tests) in
+    let b : list_all is_later es ≡ true = grind (arith, nat_tests) in
+    rw (one event a, later_flat es b) refl
+  where
+    one : (event : Event) → is_later event ≡ true → is_flat event ≡ true
+    one (events.Reserve guard span) q = absurd (cc)
+    one (events.Give slot birth) q = absurd (cc)
+    one (events.Unused slot) q = absurd (cc)
+    one (events.Retire slot birth retire) q = absurd (cc)
+    one (events.Back slot) q = absurd (cc)
+    one event q = refl
+
+shape_each : (c : Config) (k j s i : ℕ) (p : Past) (own all more : List Event) → all ≡ own ++ more → list_all is_later more ≡ true → Shape own all → Ends c k j s i p all → Each (holds_ok c k j s) p → Each (holds_ok c k j s) (tells_of p i all)
+shape_each c k j s i p own all more q l (Even f) e g =
+    let flat : all_of is_flat all ≡ true = subst (λ (es : List Event). all_of is_flat es ≡ true) (sym q) (of_along is_flat own more f (later_flat more l)) in
+    plain_each c k j s i all p flat e.now e.last e.held g
+shape_each c k j s i p own all more q l (Late a b) e g =
+    let is : all ≡ a.first ++ a.event ∷ b.more = b.is ∙ ap (λ (es : List Event). es ++ b.more) a.is ∙ append_one a.first b.more a.event in
+    let x = ends_as c k j s i p all (a.first ++ a.event ∷ b.more) is e in
+    subst (λ (es : List Event). Each (holds_ok c k j s) (tells_of p i es)) (sym is) (late_each c k j s i a.first b.more a.event p a.clears b.calm x.now x.last g)
+
+-- an answer is taken
+two_at : (index slot n : ℕ) (null : Bool) → all_of (is_at index) (if null then events.Null index n ∷ [] else events.Held index slot n ∷ []) ≡ true
+two_at index slot n true = refl
+two_at index slot n false = rw (same_number index) refl
+
+one_at : (index n : ℕ) (null : Bool) → all_of (is_at index) (if null then events.Null index n ∷ [] else []) ≡ true
+one_at index n true = refl
+one_at index n false = refl
+
+held_at : (index : ℕ) (root : Root) (link n : ℕ) → all_of (is_at index) (told_held index root link n) ≡ true
+held_at index (roots.Bucket bucket) link n = two_at index (link - 1) n (link == 0)
+held_at index (roots.Next parent) link n = one_at index n (link == 0)
+held_at index roots.Head link n = two_at index (link - 1) n (link == 0)
+held_at index roots.Tail link n = two_at index (link - 1) n (link == 0)
+
+none_here : (k j i index : ℕ) (p : Past) → stood_at i index p ≡ None → ((k == i) && (j == index)) ≡ true → stood_at k j p ≡ None
+none_here k j i index p n h =
+    let a : i ≡ k = grind (arith, nat_tests) in
+    let b : index ≡ j = grind (arith, nat_tests) in
+    subst (λ (x : ℕ). stood_at k x p ≡ None) b (subst (λ (x : ℕ). stood_at x index p ≡ None) a n)
+
+taking_each : (c : Config) (k j s : ℕ) (w : World) (i : ℕ) (p : Past) (why : Why) (aim : Aim) (index : ℕ) (root : Root) (made link era : ℕ) → (w.seat i).phase ≡ Runs why (Protect aim index root made (TakeAnswer link era)) → stood_at i index p ≡ None → Ends c k j s i p (told_in w i) → Each (holds_ok c k j s) p → Each (holds_ok c k j s) (tells_of p i (told_in w i))
+taking_each c k j s w i p why aim index root made link era q n e g =
+    let event : Event = events.Reserve (Index (counted (w.seat i).post).seat index) (one_era era) in
+    let more : List Event = told_held index root link (bump made) in
+    let is : told_in w i ≡ event ∷ more =
+    ap (λ (x : Phase). told_by (steps.phase_turn x (counted (w.seat i).post) (w.seat i).desk (finds w i))) q ∙ append_none (event ∷ more) in
+    let x = ends_as c k j s i p (told_in w i) (event ∷ more) is e in
+    subst (λ (es : List Event). Each (holds_ok c k j s) (tells_of p i es)) (sym is)
+    (take_each c k j s i index (Index (counted (w.seat i).post).seat index) (one_era era) more p (held_at index root link (bump made)) (λ h. none_here k j i index p n h) x.now x.last x.held g)
+
+-- of each phase
+adds_each : (c : Config) (k j s : ℕ) (w : World) (i : ℕ) (p : Past) → Shape (own_told (w.seat i).phase (counted (w.seat i).post) (finds w i)) (told_in w i) → Ends c k j s i p (told_in w i) → Each (holds_ok c k j s) p → Each (holds_ok c k j s) (tells_of p i (told_in w i))
+adds_each c k j s w i p f e g =
+    let own : List Event = own_told (w.seat i).phase (counted (w.seat i).post) (finds w i) in
+    let x : Adds (own_post (w.seat i).phase (counted (w.seat i).post) (finds w i)) own (turn (w.seat i) (finds w i)) = step_adds w i in
+    shape_each c k j s i p own (told_in w i) x.more x.is x.later f e g
+
+abbrev ShapeIn : World → ℕ → Phase → Type 0
+ShapeIn w i phase = Shape (own_told phase (counted (w.seat i).post) (finds w i)) (told_by (steps.phase_turn phase (counted (w.seat i).post) (w.seat i).desk (finds w i)))
+
+phase_as : (w : World) (i : ℕ) (phase : Phase) → (w.seat i).phase ≡ phase → ShapeIn w i phase → ShapeIn w i (w.seat i).phase
+phase_as w i phase q f = subst (ShapeIn w i) (sym q) f
+
+not_taking_each : (c : Config) (k j s : ℕ) (w : World) (i : ℕ) (p : Past) (why : Why) (base : Base) → (w.seat i).phase ≡ Runs why base → is_taking base ≡ false → Seats w → Ends c k j s i p (told_in w i) → Each (holds_ok c k j s) p → Each (holds_ok c k j s) (tells_of p i (told_in w i))
+not_taking_each c k j s w i p why base q t a e g =
+    let post : Post = counted (w.seat i).post in
+    let same = (after_same base post (finds w i)).layout ∙ (a.fits i).post.layout in
+    adds_each c k j s w i p (phase_as w i (Runs why base) q (run_shape w.layout why base (w.seat i).post post (w.seat i).desk (finds w i) same (run_of w i why base a q) t)) e g
+
+run_each : (c : Config) (k j s : ℕ) (w : World) (i : ℕ) (p : Past) (why : Why) (base : Base) → (w.seat i).phase ≡ Runs why base → Inv w → ((n : ℕ) → stood_at i n p ≡ stands (w.seat i).post n) → Ends c k j s i p (told_in w i) → Each (holds_ok c k j s) p → Each (holds_ok c k j s) (tells_of p i (told_in w i))
+run_each c k j s w i p why (Protect aim index root made (TakeAnswer link era)) q a t e g =
+    let n = rests_give w i why (Protect aim index root made (TakeAnswer link era)) index (rests_need w i a.rows a.known.seats a.known.whole.both.rows) a.known.rests q (same_number index) in
+    taking_each c k j s w i p why aim index root made link era q (t index ∙ n) e g
+run_each c k j s w i p why base q a t e g = not_taking_each c k j s w i p why base q refl a.known.seats e g
+
+phase_each : (c : Config) (k j s : ℕ) (w : World) (i : ℕ) (p : Past) (phase : Phase) → (w.seat i).phase ≡ phase → Inv w → ((n : ℕ) → stood_at i n p ≡ stands (w.seat i).post n) → Ends c k j s i p (told_in w i) → Each (holds_ok c k j s) p → Each (holds_ok c k j s) (tells_of p i (told_in w i))
+phase_each c k j s w i p Idle q a t e g = adds_each c k j s w i p (phase_as w i Idle q (Even refl)) e g
+phase_each c k j s w i p (Runs why base) q a t e g = run_each c k j s w i p why base q a t e g
+phase_each c k j s w i p (Scans later (ReadGuard number)) q a t e g = adds_each c k j s w i p (phase_as w i (Scans later (ReadGuard number)) q (Even refl)) e g
+phase_each c k j s w i p (Scans later (GiveBack place slot)) q a t e g = adds_each c k j s w i p (phase_as w i (Scans later (GiveBack place slot)) q (back_shape later place slot (counted (w.seat i).post) (w.seat i).desk (finds w i))) e g
+phase_each c k j s w i p (Works work) q a t e g = adds_each c k j s w i p (phase_as w i (Works work) q (Even refl)) e g
+
+-- along a history
+step_each : (layout : Layout) (path : List Item) (i k j s : ℕ) → is_valid layout ≡ true → Turning layout path i → Each (holds_ok layout.config k j s) (record_of layout path) → Each (holds_ok layout.config k j s) (tells_of (record_of layout path) i (told_in (world_of layout path) i))
+step_each layout path i k j s d t g =
+    let w : World = world_of layout path in
+    phase_each layout.config k j s w i (record_of layout path) (w.seat i).phase refl (inv_reached layout path d) (λ n. record_stands layout path i n d)
+    (record { now = good_at layout path k j s d; last = good_next layout path i k j s d t; held = λ h o. stands_next layout path i k j s d t h o }) g
+
+item_each : (layout : Layout) (path : List Item) (item : Item) (fit : Bool) (k j s : ℕ) → is_valid layout ≡ true → fits (world_of layout path) item ≡ fit → Each (holds_ok layout.config k j s) (record_of layout path) → Each (holds_ok layout.config k j s) (done_if (made_of layout path) item fit).past
+item_each layout path item false k j s d f g = g
+item_each layout path (Begins i call) true k j s d f g = (implies_or (is_row s (stood_at k j (record_of layout path))) (is_held layout.config k j s (record_of layout path)) (good_at layout path k j s d), g)
+item_each layout path (Steps i) true k j s d f g =
+    let w : World = world_of layout path in
+    step_each layout path i k j s d (record { seat = low_seat i w.layout.config.seats (is_busy w i) f; busy = rest_of (nat_lt i w.layout.config.seats) (is_busy w i) f }) g
+
+items_each : (layout : Layout) (items path : List Item) (made : Made) (k j s : ℕ) → is_valid layout ≡ true → made ≡ made_of layout path → Each (holds_ok layout.config k j s) made.past → Each (holds_ok layout.config k j s) (made_from made items).past
+items_each layout [] path made k j s d e g = g
+items_each layout (item ∷ items) path made k j s d e g =
+    let q : did made item ≡ made_of layout (path ++ item ∷ []) = ap (λ (m : Made). did m item) e ∙ sym (made_snoc (first_made layout) path item) in
+    let h : Each (holds_ok layout.config k j s) (did (made_of layout path) item).past = item_each layout path item (fits (world_of layout path) item) k j s d refl (subst (λ (m : Made). Each (holds_ok layout.config k j s) m.past) e g) in
+    items_each layout items (path ++ item ∷ []) (did made item) k j s d q (subst (λ (m : Made). Each (holds_ok layout.config k j s) (did m item).past) (sym e) h)
+
+record_holds : (layout : Layout) (items : List Item) (k j s : ℕ) → is_valid layout ≡ true → EachEntry (holds_ok layout.config k j s) (record_of layout items)
+record_holds layout items k j s d = entries_of_each (holds_ok layout.config k j s) (record_of layout items) (items_each layout items [] (first_made layout) k j s d refl tt)
+
+pub records_hold_throughout : RecordsHoldThroughout
+records_hold_throughout layout items d before [] k j s cut t =
+    subst (λ (p : Past). is_held layout.config k j s p ≡ true) cut (records_hold layout items k j s d (ap (stood_at k j) cut ∙ t))
+records_hold_throughout layout items d before (entry ∷ later) k j s cut t =
+    then_of (is_row s (stood_at k j before)) (is_held layout.config k j s before) (ap (is_row s) t ∙ same_number s) (record_holds layout items k j s d before entry.seat entry.event later cut)

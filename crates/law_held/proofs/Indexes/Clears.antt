@@ -1,0 +1,195 @@
+-- What a step clears stood where it is told.
+use Rattle.std.proofs.Common.{ℕ, ◌≡◌, ◌<◌, ◌≤◌, ◌+◌, ◌-◌, Bool, true, false, List, [], ◌∷◌, ◌++◌, length, Option, Some, None, refl, sym, ap, ◌∙◌, subst, arith}
+use Rattle.std.proofs.lemmas.Bool.Decides.{nat_tests}
+use Rattle.std.specs.List.{list_any}
+use Rattle.std.specs.Prelude.{◌==◌, ◌&&◌, ◌||◌, not, if◌then◌else◌}
+use Rattle.wfe_core.specs.words.Place.{is_valid}
+use Rattle.wfe_core.specs.words.declared.config.SchemeKind.{SchemeKind}
+use Rattle.wfe_core.specs.words.declared.config.SchemeKind.TheVariants.{He, Ibr, Wfe}
+use Rattle.wfe_core.specs.words.declared.layout.Layout.{Layout}
+use Rattle.wfe_core.specs.defs.declared.event.Event.{Event}
+use Rattle.wfe_core.specs.defs.declared.event.Event.TheVariants as events
+use Rattle.wfe_core.specs.defs.declared.event.Root.{Root}
+use Rattle.wfe_core.specs.defs.declared.event.Root.TheVariants as roots
+use Rattle.wfe_core.proofs.Ranges.{bounds_of}
+use Rattle.wfe_core.specs.declared.post.Post.{Post}
+use Rattle.wfe_core.specs.Calls.{Why, Phase, Idle, Runs, Scans, Works, ScanAt, ReadGuard, GiveBack}
+use Rattle.wfe_core.specs.Machine as machine
+use Rattle.wfe_core.specs.Memory.{bump}
+use Rattle.wfe_core.specs.Phases.{ProtectAt, Base}
+use Rattle.wfe_core.specs.Phases.ProtectAt.{CheckClock, TakeAnswer, CheckUpper}
+use Rattle.wfe_core.specs.Phases.Base.{Begin, Protect, Reload, Clear, Finish, Release, Allocate, Write, GiveUp, Retire, Move}
+use Rattle.wfe_core.specs.Posts.{stands, counted, cleared, upper, reserves_index, reserves_span}
+use Rattle.wfe_core.specs.Protect.{told_held}
+use Rattle.wfe_core.specs.Rounds.{scheme_of, clear_told}
+use Rattle.wfe_core.specs.World.{World, finds, told_in}
+use Rattle.wfe_core.proofs.Facts.{same_number, first_of, rest_of, and_right_false}
+use Rattle.inv_all.specs.covers.Held.{index_base}
+use Rattle.inv_all.proofs.ends.Ends.Stood.{clear_calm}
+use Rattle.inv_all.proofs.ends.Ends.Tests.{at_shows, base_shows, base_any}
+use Rattle.inv_all.specs.shapes.Seats.{Seats}
+use Rattle.inv_all.specs.history.History.{record_of, world_of}
+use Rattle.inv_all.proofs.Inv.Shapes.{index_in}
+use Rattle.inv_all.specs.history.Record.{Past, Each, tells_of}
+use Rattle.inv_all.specs.history.Record.Past.{Then}
+use Rattle.laws.proofs.Tells.{AllRight}
+use Rattle.laws.specs.StateAt.{stood_by, stood_at, is_row}
+use Rattle.law_places.proofs.reuse.Reuse.Follows.{stood, Follow, follow_closed, base_follows}
+use Rattle.law_places.proofs.reuse.Reuse.Keeps.{record_stands, room_of}
+use Rattle.inv_all.proofs.history.Passes.{is_quiet, all_quiet, Closed, First, scan_told, step_goes}
+use Rattle.inv_all.specs.ends.Stands.{is_clear}
+use Rattle.law_held.specs.Records.{RecordsClearRows}
+use Rattle.law_held.proofs.Roots.Ways.{Along, record_each, answers_of}
+use Rattle.inv_all.proofs.handover.Asks.{run_of}
+use Rattle.wfe_core.proofs.Lists.{or_left, or_right}
+
+-- at one index: what is cleared there stood there
+abbrev clear_right : ℕ → Event → Option ℕ → Bool
+clear_right j (events.Clear index slot) x = not (j == index) || is_row slot x
+clear_right j event x = true
+
+abbrev RightAt : ℕ → List Event → Option ℕ → Type 0
+RightAt j told x = AllRight (stood_by j) (clear_right j) told x
+
+right_along : (j : ℕ) (xs ys : List Event) (x : Option ℕ) → RightAt j xs x → RightAt j ys (stood j xs x) → RightAt j (xs ++ ys) x
+right_along j [] ys x h k = k
+right_along j (event ∷ xs) ys x h k = (h.0, right_along j xs ys (stood_by j event x) h.1 k)
+
+-- where nothing is cleared
+quiet_one : (j : ℕ) (event : Event) (x : Option ℕ) → is_quiet event ≡ true → clear_right j event x ≡ true
+quiet_one j (events.Clear index slot) x h = absurd (cc)
+quiet_one j event x h = refl
+
+quiet_right : (j : ℕ) (told : List Event) (x : Option ℕ) → all_quiet told ≡ true → RightAt j told x
+quiet_right j [] x h = tt
+quiet_right j (event ∷ told) x h = (quiet_one j event x (first_of (is_quiet event) (all_quiet told) h), quiet_right j told (stood_by j event x) (rest_of (is_quiet event) (all_quiet told) h))
+
+none_one : (j : ℕ) (event : Event) (x : Option ℕ) → ((s : ℕ) → is_clear j s event ≡ false) → clear_right j event x ≡ true
+none_one j (events.Clear index slot) x h =
+    let same : (slot == slot) ≡ true = same_number slot in
+    let other : (index == j && slot == slot) ≡ false = h slot in
+    let none : (j == index) ≡ false = grind (arith, nat_tests) in
+    rw none refl
+none_one j event x h = refl
+
+none_right : (j : ℕ) (told : List Event) (x : Option ℕ) → ((s : ℕ) → list_any (is_clear j s) told ≡ false) → RightAt j told x
+none_right j [] x h = tt
+none_right j (event ∷ told) x h = (
+  none_one j event x (λ s. or_left (is_clear j s event) (list_any (is_clear j s) told) (h s)),
+  none_right j told (stood_by j event x) (λ s. or_right (is_clear j s event) (list_any (is_clear j s) told) (h s)),
+)
+
+-- what is cleared stands
+pub row_there : (slot : ℕ) (x : Option ℕ) → x ≡ Some slot → is_row slot x ≡ true
+row_there slot x e = ap (is_row slot) e ∙ same_number slot
+
+there_right : (j index slot : ℕ) (post : Post) (same : Bool) → (j == index) ≡ same → stands post index ≡ Some slot → (not same || is_row slot (stands post j)) ≡ true
+there_right j index slot post true e h = let q : j ≡ index = grind (arith, nat_tests) in row_there slot (stands post j) (ap (stands post) q ∙ h)
+there_right j index slot post false e h = refl
+
+cleared_right : (j index : ℕ) (post : Post) (x : Option ℕ) → stands post index ≡ x → RightAt j (cleared index x) (stands post j)
+cleared_right j index post None h = tt
+cleared_right j index post (Some slot) h = (there_right j index slot post (j == index) refl h, tt)
+
+told_right : (j index : ℕ) (scheme : SchemeKind) (post : Post) → RightAt j (clear_told scheme post index) (stands post j)
+told_right j index He post = tt
+told_right j index Ibr post = cleared_right j index post (stands post index) refl
+told_right j index Wfe post = tt
+
+-- a step from this post on
+record Cleared (post next : Post) (told : List Event) : Type 0 where
+  follows : Follow post next told
+  right : (j : ℕ) → RightAt j told (stands post j)
+
+cleared_closed : (post : Post) → Closed (Cleared post)
+cleared_closed post = let c = follow_closed post in record {
+  calm = λ next told more q h. record {
+    follows = c.calm next told more q h.follows;
+    right = λ j. right_along j told more (stands post j) (h.right j) (quiet_right j more (stood j told (stands post j)) q);
+  };
+  clears = λ next told index h. record {
+    follows = c.clears next told index h.follows;
+    right = λ j. right_along j told (clear_told (scheme_of next) next index) (stands post j) (h.right j)
+        (subst (λ (x : Option ℕ). RightAt j (clear_told (scheme_of next) next index) x) (sym (h.follows j)) (told_right j index (scheme_of next) next));
+  };
+}
+
+-- a machine clears what stands, or nothing
+link_none : (index slot n j s : ℕ) (null : Bool) → list_any (is_clear j s) (if null then events.Null index n ∷ [] else events.Held index slot n ∷ []) ≡ false
+link_none index slot n j s true = refl
+link_none index slot n j s false = refl
+
+next_none : (index n j s : ℕ) (null : Bool) → list_any (is_clear j s) (if null then events.Null index n ∷ [] else []) ≡ false
+next_none index n j s true = refl
+next_none index n j s false = refl
+
+held_none : (index : ℕ) (root : Root) (link n j s : ℕ) → list_any (is_clear j s) (told_held index root link n) ≡ false
+held_none index (roots.Next parent) link n j s = next_none index n j s (link == 0)
+held_none index (roots.Bucket bucket) link n j s = link_none index (link - 1) n j s (link == 0)
+held_none index roots.Head link n j s = link_none index (link - 1) n j s (link == 0)
+held_none index roots.Tail link n j s = link_none index (link - 1) n j s (link == 0)
+
+at_none : (index : ℕ) (root : Root) (n : ℕ) (post : Post) (at : ProtectAt) (found j s : ℕ) → at_shows (is_clear j s) index root n post at found ≡ false
+at_none index root n post (CheckClock era tries link) found j s = and_right_false (found == era) (list_any (is_clear j s) (told_held index root link n)) (held_none index root link n j s)
+at_none index root n post (TakeAnswer link era) found j s = held_none index root link n j s
+at_none index root n post (CheckUpper link) found j s = and_right_false (found == upper post.span) (list_any (is_clear j s) (told_held index root link n)) (held_none index root link n j s)
+at_none index root n post at found j s = refl
+
+still_right : (base : Base) (post : Post) (found j : ℕ) → ((s : ℕ) → base_shows (is_clear j s) post base found ≡ false) → RightAt j (machine.after base post found).told (stands post j)
+still_right base post found j h = none_right j (machine.after base post found).told (stands post j) (λ s. base_any (is_clear j s) base post found (clear_calm j s) ∙ h s)
+
+base_right : (base : Base) (post : Post) (found j : ℕ) → RightAt j (machine.after base post found).told (stands post j)
+base_right (Begin at) post found j = still_right (Begin at) post found j (λ s. refl)
+base_right (Protect aim index root steps at) post found j = still_right (Protect aim index root steps at) post found j (λ s. at_none index root (bump steps) post at found j s)
+base_right (Reload parent index slot era steps) post found j = still_right (Reload parent index slot era steps) post found j (λ s. and_right_false (found == parent + 1) false refl)
+base_right (Clear index) post found j = right_along j (cleared index (stands post index)) (reserves_index post index 0) (stands post j) (cleared_right j index post (stands post index) refl) (refl, tt)
+base_right Finish post found j = still_right Finish post found j (λ s. refl)
+base_right Release post found j = right_along j (cleared 2 (stands post 2)) (reserves_span post None) (stands post j) (cleared_right j 2 post (stands post 2) refl) (refl, tt)
+base_right (Allocate at) post found j = still_right (Allocate at) post found j (λ s. refl)
+base_right (Write slot row place) post found j = still_right (Write slot row place) post found j (λ s. refl)
+base_right (GiveUp slot) post found j = still_right (GiveUp slot) post found j (λ s. refl)
+base_right (Retire at) post found j = still_right (Retire at) post found j (λ s. refl)
+base_right (Move at) post found j = still_right (Move at) post found j (λ s. refl)
+
+scan_cleared : (post : Post) (at : ScanAt) (found : ℕ) → Cleared post post (scan_told at post found)
+scan_cleared post (ReadGuard number) found = record { follows = λ j. refl; right = λ j. (refl, tt) }
+scan_cleared post (GiveBack place slot) found = record { follows = λ j. refl; right = λ j. (refl, tt) }
+
+first_cleared : (phase : Phase) (post : Post) (found : ℕ) → ((why : Why) (base : Base) → phase ≡ Runs why base → index_base base < length post.standing) → First (Cleared post) phase post found
+first_cleared Idle post found h = record { follows = λ j. refl; right = λ j. tt }
+first_cleared (Runs why base) post found h = record { follows = base_follows post base found (h why base refl); right = λ j. base_right base post found j }
+first_cleared (Scans later at) post found h = scan_cleared post at found
+first_cleared (Works work) post found h = record { follows = λ j. refl; right = λ j. tt }
+
+step_right : (w : World) (i j : ℕ) → is_valid w.layout ≡ true → Seats w → RightAt j (told_in w i) (stands (w.seat i).post j)
+step_right w i j d s =
+    let post : Post = counted (w.seat i).post in
+    let c = step_goes (Cleared post) (cleared_closed post) (w.seat i).phase post (w.seat i).desk (finds w i) (first_cleared (w.seat i).phase post (finds w i) (λ why base e. room_of w i why base d s e)) in
+    c.right j
+
+-- the law of one index
+abbrev clears_at : ℕ → Past → ℕ → Event → Bool
+clears_at j p i event = clear_right j event (stood_at i j p)
+
+own_stood : (i j : ℕ) (p : Past) (event : Event) → stood_at i j (Then p i event) ≡ stood_by j event (stood_at i j p)
+own_stood i j p event = let e : (i == i) ≡ true = same_number i in rw e refl
+
+right_each : (i j : ℕ) (told : List Event) (p : Past) → RightAt j told (stood_at i j p) → Each (clears_at j) p → Each (clears_at j) (tells_of p i told)
+right_each i j [] p h g = g
+right_each i j (event ∷ told) p h g = right_each i j told (Then p i event) (subst (λ (x : Option ℕ). RightAt j told x) (sym (own_stood i j p event)) h.1) (h.0, g)
+
+index_along : (layout : Layout) (j : ℕ) → is_valid layout ≡ true → Along layout (clears_at j)
+index_along layout j d = record {
+  begins = λ p i call. refl;
+  steps = λ path i t g.
+      let w : World = world_of layout path in
+      let k = (answers_of layout path d).known.known in
+      right_each i j (told_in w i) (record_of layout path) (subst (λ (x : Option ℕ). RightAt j (told_in w i) x) (sym (record_stands layout path i j d)) (step_right w i j k.valid k.seats)) g;
+}
+
+same_index : (j slot : ℕ) (x : Option ℕ) → (not (j == j) || is_row slot x) ≡ true → is_row slot x ≡ true
+same_index j slot x h = let e : (j == j) ≡ true = same_number j in rw e at h
+
+pub records_clear_rows : RecordsClearRows
+records_clear_rows layout items d before i (events.Clear index slot) later e = same_index index slot (stood_at i index before) (record_each layout (clears_at index) items (index_along layout index d) before i (events.Clear index slot) later e)
+records_clear_rows layout items d before i event later e = refl

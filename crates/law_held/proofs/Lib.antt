@@ -1,0 +1,8 @@
+pub use Rattle.law_places.proofs as places
+pub use Rattle.law_places.proofs.reuse as reuse
+pub mod GotRows
+pub mod Held
+pub mod Indexes
+pub mod NextRows
+pub mod Resting
+pub mod Roots

@@ -1,0 +1,103 @@
+-- Where a call ends its seat is idle, and so nothing stands at its indexes but 2.
+use Rattle.std.proofs.Common.{ℕ, ◌≡◌, ◌<◌, Bool, true, false, List, [], ◌∷◌, ◌++◌, Option, Some, None, refl, sym, ap, ◌∙◌, subst}
+use Rattle.std.specs.Prelude.{◌==◌, ◌||◌, not, nat_lt, is_none, if◌then◌else◌}
+use Rattle.wfe_core.specs.words.Place.{is_valid}
+use Rattle.wfe_core.specs.words.declared.layout.Layout.{Layout}
+use Rattle.wfe_core.specs.defs.declared.call.Answer.{Answer}
+use Rattle.wfe_core.specs.defs.declared.event.Event.{Event}
+use Rattle.wfe_core.specs.defs.declared.event.Event.TheVariants as events
+use Rattle.wfe_core.specs.declared.post.Post.{Post}
+use Rattle.wfe_core.specs.Calls.{Phase, CallTurn, CallOutcome, GoesOn, Answers}
+use Rattle.wfe_core.specs.Locals.{told_by, told_end, turn}
+use Rattle.wfe_core.specs.Posts.{stands}
+use Rattle.wfe_core.specs.World.{World, finds, is_busy, step}
+use Rattle.wfe_core.proofs.Facts.{first_of, rest_of}
+use Rattle.inv_all.specs.covers.Rests.{Vacant, vacant}
+use Rattle.inv_all.proofs.covers.Held.{stepped_phase}
+use Rattle.inv_all.specs.shapes.Frame.{phase_left}
+use Rattle.inv_all.specs.Inv.{Inv}
+use Rattle.inv_all.specs.history.Record.{Past, Each, tells_of}
+use Rattle.inv_all.specs.history.Record.Past.{Then}
+use Rattle.inv_all.proofs.history.Entries.{entries_of_each}
+use Rattle.inv_all.specs.history.History.{Item, Begins, Steps, Made, fits, done, done_if, did, made_from, made_of, first_made, record_of}
+use Rattle.inv_all.proofs.history.Along.{begins_right, low_seat, made_snoc}
+use Rattle.laws.specs.StateAt.{stood_at}
+use Rattle.law_reuse.proofs.Reuse.Keeps.{record_stands}
+use Rattle.inv_all.proofs.Each.{all_of}
+use Rattle.law_answers.proofs.AnswersTold.Owed.{is_open, Owes, owed}
+use Rattle.law_answers.proofs.AnswersTold.Answering.{owes_of}
+use Rattle.law_answers.proofs.AnswersTold.Answering as answering
+use Rattle.laws.specs.HoldLaw.{bare_ok}
+use Rattle.law_places.specs.Records.{RecordsEndBare}
+use Rattle.laws.proofs.Tells.{tells_both}
+
+-- what stands by the record of a history stands in the post
+abbrev Stood : Made → Type 0
+Stood made = (k j : ℕ) → stood_at k j made.past ≡ stands (made.world.seat k).post j
+
+stood_of : (layout : Layout) (path : List Item) (made : Made) → is_valid layout ≡ true → made ≡ made_of layout path → Stood made
+stood_of layout path made d e = subst Stood (sym e) (λ k j. record_stands layout path k j d)
+
+-- the law along what a turn tells
+open_ok : (j i : ℕ) (p : Past) (event : Event) → is_open event ≡ true → bare_ok j p i event ≡ true
+open_ok j i p (events.End steps answer) h = absurd (cc)
+open_ok j i p event h = refl
+
+open_each : (j i : ℕ) (told : List Event) (p : Past) → all_of is_open told ≡ true → Each (bare_ok j) p → Each (bare_ok j) (tells_of p i told)
+open_each j i [] p h g = g
+open_each j i (event ∷ told) p h g = open_each j i told (Then p i event) (rest_of (is_open event) (all_of is_open told) h) (open_ok j i p event (first_of (is_open event) (all_of is_open told) h), g)
+
+pub end_stood : (i j count : ℕ) (answer : Answer) (q : Past) → stood_at i j (Then q i (events.End count answer)) ≡ stood_at i j q
+end_stood i j count answer q = by (i == i)
+  where
+    by : (same : Bool) → (if same then stood_at i j q else stood_at i j q) ≡ stood_at i j q
+    by true = refl
+    by false = refl
+
+bare_by : (x : Option ℕ) (two : Bool) → (not two ≡ true → x ≡ None) → (is_none x || two) ≡ true
+bare_by None two h = refl
+bare_by (Some s) true h = refl
+bare_by (Some s) false h = let e = h refl in absurd (cc)
+
+end_each : (i j : ℕ) (post last : Post) (outcome : CallOutcome) (q : Past) → Vacant (vacant (phase_left outcome)) last → stood_at i j (tells_of q i (told_end post outcome)) ≡ stands last j → Each (bare_ok j) q → Each (bare_ok j) (tells_of q i (told_end post outcome))
+end_each i j post last (GoesOn phase) q v e g = g
+end_each i j post last (Answers answer) q v e g = (bare_by (stood_at i j q) (j == 2) (λ h. sym (end_stood i j post.steps answer q) ∙ e ∙ v j h), g)
+
+step_each : (i j : ℕ) (t : CallTurn) (last : Post) (p : Past) → all_of is_open t.told ≡ true → Vacant (vacant (phase_left t.outcome)) last → stood_at i j (tells_of p i (told_by t)) ≡ stands last j → Each (bare_ok j) p → Each (bare_ok j) (tells_of p i (told_by t))
+step_each i j t last p o v e g =
+    let a : tells_of p i (told_by t) ≡ tells_of (tells_of p i t.told) i (told_end t.post t.outcome) = tells_both i t.told (told_end t.post t.outcome) p in
+    subst (Each (bare_ok j)) (sym a) (end_each i j t.post last t.outcome (tells_of p i t.told) v (sym (ap (stood_at i j) a) ∙ e) (open_each j i t.told p o g))
+
+-- what a history keeps
+record Bare (layout : Layout) (made : Made) : Type 0 where
+  answers : answering.Keeps layout.config.buckets made
+  law : (j : ℕ) → Each (bare_ok j) made.past
+
+step_bare : (layout : Layout) (made : Made) (i : ℕ) → i < made.world.layout.config.seats → is_busy made.world i ≡ true → Stood (done made (Steps i)) → Bare layout made → Bare layout (done made (Steps i))
+step_bare layout made i b y s g =
+    let w : World = made.world in
+    let n : ℕ = layout.config.buckets in
+    let later = answering.step_keeps n made i b y g.answers in
+    let o : Owes n (w.seat i).call (owed n (w.seat i).call (w.seat i).phase) (turn (w.seat i) (finds w i)) = owes_of n w i g.answers.table g.answers.known ((g.answers.seats i).serves y) in
+    let a : Inv (step w i) = later.known in
+    let v : Vacant (vacant (phase_left (turn (w.seat i) (finds w i)).outcome)) ((step w i).seat i).post =
+    subst (λ (phase : Phase). Vacant (vacant phase) ((step w i).seat i).post) (stepped_phase w i) (a.known.rests.vacant i) in
+    record { answers = later; law = λ j. step_each i j (turn (w.seat i) (finds w i)) ((step w i).seat i).post made.past o.told.goes v (s i j) (g.law j) }
+
+item_bare : (layout : Layout) (made : Made) (item : Item) (fit : Bool) → fits made.world item ≡ fit → Stood (done_if made item fit) → Bare layout made → Bare layout (done_if made item fit)
+item_bare layout made item false f s g = g
+item_bare layout made (Begins i call) true f s g =
+    record { answers = answering.begin_keeps layout.config.buckets made i call (begins_right i made.world.layout.config.seats (is_busy made.world i) f) g.answers; law = λ j. (refl, g.law j) }
+item_bare layout made (Steps i) true f s g =
+    step_bare layout made i (low_seat i made.world.layout.config.seats (is_busy made.world i) f) (rest_of (nat_lt i made.world.layout.config.seats) (is_busy made.world i) f) s g
+
+items_bare : (layout : Layout) (items path : List Item) (made : Made) → is_valid layout ≡ true → made ≡ made_of layout path → Bare layout made → Bare layout (made_from made items)
+items_bare layout [] path made d e g = g
+items_bare layout (item ∷ items) path made d e g =
+    let q : did made item ≡ made_of layout (path ++ item ∷ []) = ap (λ (m : Made). did m item) e ∙ sym (made_snoc (first_made layout) path item) in
+    items_bare layout items (path ++ item ∷ []) (did made item) d q (item_bare layout made item (fits made.world item) refl (stood_of layout (path ++ item ∷ []) (did made item) d q) g)
+
+pub records_end_bare : RecordsEndBare
+records_end_bare layout items d j =
+    let g = items_bare layout items [] (first_made layout) d refl (record { answers = answering.first_keeps layout d; law = λ k. tt }) in
+    entries_of_each (bare_ok j) (record_of layout items) (g.law j)

@@ -1,0 +1,5 @@
+pub use Rattle.law_answers.proofs as answers
+pub use Rattle.law_reuse.proofs as reuse
+pub mod BareEnds
+pub mod Ordering
+pub mod Placing

@@ -1,0 +1,34 @@
+-- What the record and the turns of each history keep, whatever calls begin and whichever seats make their steps.
+use Rattle.std.specs.Prelude.{List, true, ◌≡◌}
+use Rattle.wfe_core.specs.words.Place.{is_valid}
+use Rattle.wfe_core.specs.words.declared.layout.Layout.{Layout}
+use Rattle.inv_all.specs.history.History.{Item, record_of}
+use Rattle.laws.specs.AnswerLaw.{RetireCounts, RefusalLaw}
+use Rattle.laws.specs.HoldLaw.{BareLaw}
+use Rattle.laws.specs.Once.{PlacingLaw, OrderLaw, NextsLaw, RetireLaw}
+
+-- each history's record keeps it, whatever calls begin and whichever seats make their steps
+abbrev pub RecordsPlaceRows : Type 0
+RecordsPlaceRows = (layout : Layout) (items : List Item) → is_valid layout ≡ true → PlacingLaw (record_of layout items)
+
+-- each history's record keeps it, whatever calls begin and whichever seats make their steps
+abbrev pub RecordsKeepOrder : Type 0
+RecordsKeepOrder = (layout : Layout) (items : List Item) → is_valid layout ≡ true → OrderLaw layout.config.slots (record_of layout items)
+
+-- each history's record keeps it, whatever calls begin and whichever seats make their steps
+abbrev pub RecordsLinkNexts : Type 0
+RecordsLinkNexts = (layout : Layout) (items : List Item) → is_valid layout ≡ true → NextsLaw layout.config.slots (record_of layout items)
+
+-- each history's record keeps them, whatever calls begin and whichever seats make their steps
+abbrev pub RecordsRetireCuts : Type 0
+RecordsRetireCuts = (layout : Layout) (items : List Item) → is_valid layout ≡ true → RetireLaw (record_of layout items)
+
+abbrev pub RecordsCountRetires : Type 0
+RecordsCountRetires = (layout : Layout) (items : List Item) → is_valid layout ≡ true → RetireCounts (record_of layout items)
+
+abbrev pub RecordsRefuse : Type 0
+RecordsRefuse = (layout : Layout) (items : List Item) → is_valid layout ≡ true → RefusalLaw (record_of layout items)
+
+-- each history's record keeps it, whatever calls begin and whichever seats make their steps
+abbrev pub RecordsEndBare : Type 0
+RecordsEndBare = (layout : Layout) (items : List Item) → is_valid layout ≡ true → BareLaw (record_of layout items)

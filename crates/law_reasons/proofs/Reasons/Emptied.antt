@@ -1,0 +1,198 @@
+-- A dequeue that finds the head's next link null found all taken: so it was where the link was loaded, by the call or for it.
+use Rattle.std.proofs.Common.{ℕ, ◌≡◌, ◌<◌, Bool, true, false, length, refl, sym, ap, ◌∙◌, subst, arith}
+use Rattle.std.proofs.lemmas.Bool.Decides.{nat_tests}
+use Rattle.std.specs.Prelude.{◌==◌, if◌then◌else◌}
+use Rattle.wfe_core.specs.words.Place.Place.{Clock, Row}
+use Rattle.wfe_core.specs.words.declared.layout.Layout.{Layout}
+use Rattle.wfe_core.specs.defs.declared.call.Call.{Call}
+use Rattle.wfe_core.specs.defs.declared.event.Root.{Root}
+use Rattle.wfe_core.specs.defs.declared.event.Root.TheVariants as roots
+use Rattle.wfe_core.specs.declared.ends.FollowEnd.TheVariants as follow_ends
+use Rattle.wfe_core.specs.declared.post.Post.{Post}
+use Rattle.wfe_core.specs.Links.{link_place, parent_of}
+use Rattle.wfe_core.specs.Machine as machine
+use Rattle.wfe_core.specs.Posts.{counted, upper}
+use Rattle.wfe_core.specs.Phases.{ProtectAt, Base, Ends}
+use Rattle.wfe_core.specs.Phases.Ending.{Followed}
+use Rattle.wfe_core.specs.Phases.ProtectAt.{LoadClock, PublishEra, LoadLink, CheckClock, PublishRequest, LoadOwnClock, PublishHelper, LoadOwnLink, CheckOwnClock, AnswerOwn, LoadAnswer, TakeAnswer, WithdrawRequest, WithdrawHelper, LoadWithin, CheckUpper, RaiseUpper}
+use Rattle.wfe_core.specs.Phases.Base.{Begin, Protect, Reload, Clear, Finish, Release, Allocate, Write, GiveUp, Retire, Move}
+use Rattle.wfe_core.specs.Calls.{Gets, Changes, Holds, Enqueues, Dequeues, Why, Opens, FollowsHead, Fills, ClearsNext, Clears, Finishes, GivesUp, Retires, Tidies, Advances, Releases, Phase, Idle, Runs, Scans, Works}
+use Rattle.wfe_core.specs.World.{World, start, begin, step, is_busy, finds}
+use Rattle.wfe_core.proofs.Facts.{same_number, both, first_of, rest_of}
+use Rattle.inv_all.proofs.ends.Ends.Nulls.{nulls_end}
+use Rattle.inv_all.specs.ends.Nulls.{ended_at, ended_base}
+use Rattle.inv_all.specs.shapes.Seats.{Seats, Run, root_by}
+use Rattle.inv_all.proofs.Inv.Whole.{origins_need}
+use Rattle.inv_all.specs.Known.{Known}
+use Rattle.inv_all.proofs.contents.Items.Gives.{empty_right}
+use Rattle.law_scans.proofs.answers.Lawful.Current.{idle_untracked}
+use Rattle.inv_all.proofs.links.Origins.Came.{aimed_at}
+use Rattle.inv_all.proofs.links.Origins.Kept.{origins_kept, origins_start, origins_begin}
+use Rattle.inv_all.specs.links.Origins.{Origins}
+use Rattle.inv_all.specs.links.Tracked.{carries_at, carries_in, root_for, root_in, Tracked, Carried}
+use Rattle.inv_all.specs.requests.NextDeals.{next_deals}
+use Rattle.inv_all.specs.requests.Standing.{Requests}
+use Rattle.inv_all.specs.requests.Views.{View as Asked}
+use Rattle.inv_all.specs.requests.Views.Deal.{Quiet}
+use Rattle.inv_all.specs.rows.Chain.{queue_of}
+use Rattle.inv_all.specs.rows.Queue.{Line, heads_on, stands_on}
+use Rattle.inv_all.specs.rows.Rows.{View}
+use Rattle.inv_all.proofs.links.Origins.Ends.{found_clock}
+use Rattle.inv_all.proofs.handover.Asks.{run_of}
+
+-- a null next link shows a queue of which all was taken
+abbrev null_seen : Bool → Root → ℕ → Bool
+null_seen seen (roots.Next parent) x = if x == 0 then seen else true
+null_seen seen (roots.Bucket b) x = true
+null_seen seen roots.Head x = true
+null_seen seen roots.Tail x = true
+
+-- each null next link that is tracked for a seat was seen so, by seat
+pub record Emptied (seen : ℕ → Bool) (w : World) (z : Asked) : Type 0 where
+  pub links : Origins (λ k. null_seen (seen k)) w z
+
+-- the row whose next link is followed was found at the head
+record Heads (phase : Phase) (parent : ℕ) : Type 0 where
+  pub stands : stands_on phase parent ≡ true
+  pub heads : heads_on phase parent ≡ true
+
+why_follows : (buckets : ℕ) (why : Why) (base : Base) (parent : ℕ) → root_by buckets why ≡ roots.Next parent → Heads (Runs why base) parent
+why_follows buckets (FollowsHead head tail) base parent e = let h : head ≡ parent = ap parent_of e in record { stands = rw h (same_number parent); heads = rw h (same_number parent) }
+why_follows buckets (Opens (Gets key)) base parent e = absurd (cc)
+why_follows buckets (Opens (Changes kept)) base parent e = absurd (cc)
+why_follows buckets (Opens (Holds key)) base parent e = absurd (cc)
+why_follows buckets (Opens (Enqueues kept)) base parent e = absurd (cc)
+why_follows buckets (Opens Dequeues) base parent e = absurd (cc)
+why_follows buckets (Fills task) base parent e = absurd (cc)
+why_follows buckets (ClearsNext next) base parent e = absurd (cc)
+why_follows buckets (Clears task next) base parent e = absurd (cc)
+why_follows buckets (Finishes task next) base parent e = absurd (cc)
+why_follows buckets (GivesUp answer) base parent e = absurd (cc)
+why_follows buckets (Retires answer) base parent e = absurd (cc)
+why_follows buckets (Tidies later) base parent e = absurd (cc)
+why_follows buckets Advances base parent e = absurd (cc)
+why_follows buckets (Releases key) base parent e = absurd (cc)
+
+reload_follows : (layout : Layout) (why : Why) (row index slot era steps parent : ℕ) (post : Post) → Run layout why (Reload row index slot era steps) post → row ≡ parent → Heads (Runs why (Reload row index slot era steps)) parent
+reload_follows layout (FollowsHead head tail) row index slot era steps parent post r e = let h : head ≡ parent = sym r.shape.of ∙ e in record { stands = rw h (same_number parent); heads = rw h (same_number parent) }
+reload_follows layout (Opens task) row index slot era steps parent post r e = let x = r.suited in absurd (cc)
+reload_follows layout (Fills task) row index slot era steps parent post r e = let x = r.suited in absurd (cc)
+reload_follows layout (ClearsNext next) row index slot era steps parent post r e = let x = r.suited in absurd (cc)
+reload_follows layout (Clears task next) row index slot era steps parent post r e = let x = r.suited in absurd (cc)
+reload_follows layout (Finishes task next) row index slot era steps parent post r e = let x = r.suited in absurd (cc)
+reload_follows layout (GivesUp answer) row index slot era steps parent post r e = let x = r.suited in absurd (cc)
+reload_follows layout (Retires answer) row index slot era steps parent post r e = let x = r.suited in absurd (cc)
+reload_follows layout (Tidies later) row index slot era steps parent post r e = let x = r.suited in absurd (cc)
+reload_follows layout Advances row index slot era steps parent post r e = let x = r.suited in absurd (cc)
+reload_follows layout (Releases key) row index slot era steps parent post r e = let x = r.suited in absurd (cc)
+
+base_follows : (layout : Layout) (why : Why) (base : Base) (parent : ℕ) (post : Post) → Run layout why base post → root_for (Runs why base) ≡ roots.Next parent → Heads (Runs why base) parent
+base_follows layout why (Protect aim index root steps at) parent post r e = why_follows layout.config.buckets why (Protect aim index root steps at) parent (sym r.shape.of ∙ e)
+base_follows layout why (Reload row index slot era steps) parent post r e = reload_follows layout why row index slot era steps parent post r (ap parent_of e)
+base_follows layout why (Begin at) parent post r e = absurd (cc)
+base_follows layout why (Clear index) parent post r e = absurd (cc)
+base_follows layout why Finish parent post r e = absurd (cc)
+base_follows layout why Release parent post r e = absurd (cc)
+base_follows layout why (Allocate at) parent post r e = absurd (cc)
+base_follows layout why (Write slot row place) parent post r e = absurd (cc)
+base_follows layout why (GiveUp slot) parent post r e = absurd (cc)
+base_follows layout why (Retire at) parent post r e = absurd (cc)
+base_follows layout why (Move at) parent post r e = absurd (cc)
+
+phase_follows : (w : World) (k : ℕ) (phase : Phase) (parent : ℕ) → Seats w → (w.seat k).phase ≡ phase → root_for phase ≡ roots.Next parent → Heads phase parent
+phase_follows w k Idle parent s e h = absurd (cc)
+phase_follows w k (Runs why base) parent s e h = base_follows w.layout why base parent (w.seat k).post (run_of w k why base s e) h
+phase_follows w k (Scans later at) parent s e h = absurd (cc)
+phase_follows w k (Works work) parent s e h = absurd (cc)
+
+-- while the head's row has no next link all was taken
+all_gone : (w : World) (v : View) (l : Line) (z : Asked) (k parent : ℕ) → Known w v l z → root_in w k ≡ roots.Next parent → w.mem (Row parent 0) ≡ 0 → w.book.taken ≡ length w.book.queued
+all_gone w v l z k parent a r null =
+    let h : Heads (w.seat k).phase parent = phase_follows w k (w.seat k).phase parent a.seats refl r in
+    let walks = a.whole.both.queue.walks k in
+    let there : queue_of v parent ≡ true = a.whole.both.queue.line.last parent (walks.stood parent h.stands) null in
+    empty_right w v l parent a.whole.both a.items (a.whole.both.rows.words.head ∙ walks.heads parent h.heads there) null
+
+-- a link that is loaded now
+fresh_by : (w : World) (v : View) (l : Line) (z : Asked) (k : ℕ) (seen : Bool) (root : Root) → Known w v l z → root_in w k ≡ root → (w.book.taken ≡ length w.book.queued → seen ≡ true) → null_seen seen root (w.mem (link_place root)) ≡ true
+fresh_by w v l z k seen (roots.Next parent) a r f = by_null (w.mem (Row parent 0) == 0) refl
+  where
+    by_null : (null : Bool) → (w.mem (Row parent 0) == 0) ≡ null → (if null then seen else true) ≡ true
+    by_null true e = f (all_gone w v l z k parent a r (grind (arith, nat_tests)))
+    by_null false e = refl
+fresh_by w v l z k seen (roots.Bucket b) a r f = refl
+fresh_by w v l z k seen roots.Head a r f = refl
+fresh_by w v l z k seen roots.Tail a r f = refl
+
+stays_by : (old new : Bool) (root : Root) (x : ℕ) → (old ≡ true → new ≡ true) → null_seen old root x ≡ true → null_seen new root x ≡ true
+stays_by old new (roots.Next parent) x f h = by_null (x == 0) h
+  where
+    by_null : (null : Bool) → (if null then old else true) ≡ true → (if null then new else true) ≡ true
+    by_null true g = f g
+    by_null false g = refl
+stays_by old new (roots.Bucket b) x f h = refl
+stays_by old new roots.Head x f h = refl
+stays_by old new roots.Tail x f h = refl
+
+pub emptied_kept : (w : World) (i : ℕ) (v : View) (l : Line) (z next : Asked) (old new : ℕ → Bool) → i < w.layout.config.seats → Known w v l z → next.deal ≡ next_deals w i z.deal
+    → ((k : ℕ) → old k ≡ true → new k ≡ true) → ((k : ℕ) → w.book.taken ≡ length w.book.queued → new k ≡ true) → Emptied old w z → Emptied new (step w i) next
+emptied_kept w i v l z next old new b a d stays fresh e = record {
+  links = origins_kept (λ k. null_seen (old k)) (λ k. null_seen (new k)) w i z next (origins_need w i v l z b a) d
+      (record {
+        fresh = λ k h. fresh_by w v l z k (new k) (root_in w k) a refl (fresh k);
+        stays = λ k x t g. stays_by (old k) (new k) (root_in w k) x (stays k) g;
+      })
+      e.links;
+}
+
+begun_by : (w : World) (i k x : ℕ) (z : Asked) (old new : ℕ → Bool) (own : Bool) → (k == i) ≡ own → is_busy w i ≡ false → Requests w z → ((m : ℕ) → (m == i) ≡ false → old m ≡ true → new m ≡ true) → Emptied old w z → Tracked w z k x → null_seen (new k) (root_in w k) x ≡ true
+begun_by w i k x z old new true e b q f h t = let one : k ≡ i = grind (arith, nat_tests) in absurd (idle_untracked w i z x b q (subst (λ (m : ℕ). Tracked w z m x) one t))
+begun_by w i k x z old new false e b q f h t = stays_by (old k) (new k) (root_in w k) x (f k e) (h.links.tracked k x t)
+
+pub emptied_begin : (w : World) (i : ℕ) (call : Call) (z next : Asked) (old new : ℕ → Bool) → is_busy w i ≡ false → Requests w z → next.deal ≡ z.deal → ((m : ℕ) → (m == i) ≡ false → old m ≡ true → new m ≡ true) → Emptied old w z → Emptied new (begin w i call) next
+emptied_begin w i call z next old new b q d f e = record {
+  links = origins_begin (λ k. null_seen (new k)) w i call z next b q d (record { tracked = λ k x t. begun_by w i k x z old new (k == i) refl b q f e t });
+}
+
+pub emptied_start : (layout : Layout) (z : Asked) (seen : ℕ → Bool) → ((k : ℕ) → z.deal k ≡ Quiet) → Emptied seen (start layout) z
+emptied_start layout z seen q = record { links = origins_start (λ k. null_seen (seen k)) layout z q }
+
+-- a dequeue that finds no next row
+ended_carries : (post : Post) (at : ProtectAt) (found : ℕ) → ended_at post at found ≡ true → carries_at found (upper post.span) at 0 ≡ true
+ended_carries post (CheckClock era tries link) found h = both (link == 0) (found == era) (rest_of (found == era) (link == 0) h) (first_of (found == era) (link == 0) h)
+ended_carries post (WithdrawHelper link era) found h = h
+ended_carries post (CheckUpper link) found h = both (link == 0) (found == upper post.span) (rest_of (found == upper post.span) (link == 0) h) (first_of (found == upper post.span) (link == 0) h)
+ended_carries post (LoadClock tries) found h = absurd (cc)
+ended_carries post (PublishEra era tries) found h = absurd (cc)
+ended_carries post (LoadLink era tries) found h = absurd (cc)
+ended_carries post PublishRequest found h = absurd (cc)
+ended_carries post LoadOwnClock found h = absurd (cc)
+ended_carries post (PublishHelper first era last) found h = absurd (cc)
+ended_carries post (LoadOwnLink first era last) found h = absurd (cc)
+ended_carries post (CheckOwnClock first era last link) found h = absurd (cc)
+ended_carries post (AnswerOwn first era link) found h = absurd (cc)
+ended_carries post (LoadAnswer first) found h = absurd (cc)
+ended_carries post (TakeAnswer link era) found h = absurd (cc)
+ended_carries post (WithdrawRequest link era) found h = absurd (cc)
+ended_carries post LoadWithin found h = absurd (cc)
+ended_carries post (RaiseUpper era) found h = absurd (cc)
+
+none_seen : (w : World) (i : ℕ) (z : Asked) (seen : ℕ → Bool) (head tail : ℕ) (base : Base) → Seats w → Emptied seen w z → (w.seat i).phase ≡ Runs (FollowsHead head tail) base → ended_base (counted (w.seat i).post) base (finds w i) ≡ true → seen i ≡ true
+none_seen w i z seen head tail (Protect aim index root steps at) s e q h =
+    let c = found_clock w i (FollowsHead head tail) aim index root steps at 0 q (ended_carries (counted (w.seat i).post) at (finds w i) h) in
+    let t : Tracked w z i 0 = Carried (subst (λ (f : Phase). carries_in (w.mem Clock) (upper (w.seat i).post.span) f 0 ≡ true) (sym q) c) in
+    let r : root_in w i ≡ roots.Next head = ap root_for q ∙ (aimed_at w i (FollowsHead head tail) aim index root steps at s q).of in
+    subst (λ (x : Root). null_seen (seen i) x 0 ≡ true) r (e.links.tracked i 0 t)
+none_seen w i z seen head tail (Begin at) s e q h = absurd (cc)
+none_seen w i z seen head tail (Reload parent index slot era steps) s e q h = absurd (cc)
+none_seen w i z seen head tail (Clear index) s e q h = absurd (cc)
+none_seen w i z seen head tail Finish s e q h = absurd (cc)
+none_seen w i z seen head tail Release s e q h = absurd (cc)
+none_seen w i z seen head tail (Allocate at) s e q h = absurd (cc)
+none_seen w i z seen head tail (Write slot row place) s e q h = absurd (cc)
+none_seen w i z seen head tail (GiveUp slot) s e q h = absurd (cc)
+none_seen w i z seen head tail (Retire at) s e q h = absurd (cc)
+none_seen w i z seen head tail (Move at) s e q h = absurd (cc)
+
+pub no_next_seen : (w : World) (i : ℕ) (z : Asked) (seen : ℕ → Bool) (head tail : ℕ) (base : Base) → Seats w → Emptied seen w z → (w.seat i).phase ≡ Runs (FollowsHead head tail) base → (machine.after base (counted (w.seat i).post) (finds w i)).outcome ≡ Ends (Followed follow_ends.NoNext) → seen i ≡ true
+no_next_seen w i z seen head tail base s e q o = none_seen w i z seen head tail base s e q ((nulls_end base (counted (w.seat i).post) (finds w i)).followed o)

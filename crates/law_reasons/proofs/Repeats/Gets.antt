@@ -1,0 +1,132 @@
+-- A get finds its root once: where it is counted once more from the beginning on, it still loses no more rounds than it may.
+use Rattle.std.proofs.Common.{ℕ, ◌≡◌, ◌≤◌, ◌<◌, ◌+◌, Bool, true, false, Option, Some, None, refl, sym, ap, ◌∙◌, subst, arith}
+use Rattle.std.proofs.lemmas.Bool.Decides.{nat_tests}
+use Rattle.std.specs.Prelude.{◌==◌}
+use Rattle.wfe_core.specs.words.declared.config.Config.{Config}
+use Rattle.wfe_core.specs.words.declared.layout.Layout.{Layout}
+use Rattle.wfe_core.specs.defs.declared.call.Call.{Call}
+use Rattle.wfe_core.specs.defs.declared.call.Call.TheVariants as calls
+use Rattle.wfe_core.specs.defs.declared.fold.Change.{Change}
+use Rattle.wfe_core.specs.defs.declared.fold.Change.TheVariants as changes
+use Rattle.wfe_core.specs.declared.post.Post.{Post}
+use Rattle.wfe_core.specs.Calls.{Task, Gets, Changes, Holds, Enqueues, Dequeues, Phase}
+use Rattle.wfe_core.specs.Locals.{Local, begun_post}
+use Rattle.wfe_core.specs.Steps as steps
+use Rattle.wfe_core.specs.World.{World, start, begin, step}
+use Rattle.inv_all.proofs.shapes.Frame.{begin_stays, begin_begins}
+use Rattle.inv_all.specs.shapes.Eras.{Eras}
+use Rattle.inv_all.specs.shapes.Slots.{Slots}
+use Rattle.inv_all.proofs.Inv.Kept.{rest_need, rounds_need}
+use Rattle.inv_all.specs.Known.{Known}
+use Rattle.law_scans.proofs.answers.AnswersTold.Owed.{Serves, TaskServes, call_for}
+use Rattle.inv_all.specs.requests.Views.{View as Asked}
+use Rattle.inv_all.proofs.steps_left.Rest.Fits.{round_fit}
+use Rattle.inv_all.proofs.steps_left.Rest.Lasting.{losses_begin, losses_kept}
+use Rattle.inv_all.specs.steps_left.Falls.{RestNeeds}
+use Rattle.inv_all.specs.steps_left.Losses.{Losses, LossNeeds, fills_fit, phase_fit}
+use Rattle.inv_all.proofs.steps_left.Rounds.Ending.{rounds_give}
+use Rattle.inv_all.specs.rows.Queue.{Line}
+use Rattle.inv_all.specs.rows.Rows.{View}
+use Rattle.law_reasons.proofs.Repeats.Shift.{Alike, shifted, shifted_seats, shifted_eras, step_alike, with_seats}
+
+-- a get is counted once more
+abbrev pub once_more : Option Call → ℕ
+once_more (Some (calls.Get key)) = 1
+once_more call = 0
+
+changed_once : (change : Change) → once_more (Some (call_for change)) ≡ 0
+changed_once (changes.Put key value) = refl
+changed_once (changes.Removed key) = refl
+
+-- what a step needs in such a World
+shifted_slots : (w : World) (n : ℕ → ℕ) → Slots w → Slots (shifted w n)
+shifted_slots w n s = record { words = s.words; seats = λ k. record { post = (s.seats k).post; list = (s.seats k).list; phase = (s.seats k).phase } }
+
+next_eras : (w : World) (i : ℕ) (n : ℕ → ℕ) → Eras (step w i) → Eras (step (shifted w n) i)
+next_eras w i n e = record {
+  some = e.some;
+  most = e.most;
+  words = e.words;
+  seats = λ k.
+      let a = step_alike w i k n in
+      record { post = rw a.post (e.seats k).post; phase = rw (a.post, a.phase) (e.seats k).phase };
+}
+
+next_slots : (w : World) (i : ℕ) (n : ℕ → ℕ) → Slots (step w i) → Slots (step (shifted w n) i)
+next_slots w i n s = record {
+  words = s.words;
+  seats = λ k.
+      let a = step_alike w i k n in
+      record { post = rw a.post (s.seats k).post; list = rw a.desk (s.seats k).list; phase = rw (a.desk, a.phase) (s.seats k).phase };
+}
+
+shifted_rest : (w : World) (i : ℕ) (v : View) (l : Line) (z : Asked) (n : ℕ → ℕ) → Known w v l z → Losses (shifted w n) → RestNeeds (shifted w n) i
+shifted_rest w i v l z n k f =
+    let r = rest_need w i v l z k in
+    record { seats = shifted_seats w n r.seats; eras = shifted_eras w n r.eras; slots = shifted_slots w n r.slots; lists = r.lists; eras_next = next_eras w i n r.eras_next; slots_next = next_slots w i n r.slots_next; losses = f }
+
+-- only a get is counted once more
+no_more : (rounds most n : ℕ) → n ≡ 0 → rounds ≤ most → rounds + n ≤ most
+no_more rounds most n e h = omega (arith, e, h)
+
+-- what is known of the seat's call: how much more is counted of it
+abbrev pub CallOnce : Call → ℕ → Type 0
+CallOnce call n = n ≡ once_more (Some call)
+
+task_once : (c : Config) (call : Call) (n rounds : ℕ) (task : Task) → CallOnce call n → TaskServes call task → fills_fit c rounds task → n ≡ 0
+task_once c call n rounds (Changes kept) o s f = o ∙ ap (λ (x : Call). once_more (Some x)) s ∙ changed_once kept.change
+task_once c call n rounds (Enqueues kept) o s f = o ∙ ap (λ (x : Call). once_more (Some x)) s
+task_once c call n rounds (Gets key) o s f = absurd (cc)
+task_once c call n rounds (Holds key) o s f = absurd (cc)
+task_once c call n rounds Dequeues o s f = absurd (cc)
+
+shifted_give : (w : World) (i : ℕ) (v : View) (l : Line) (z : Asked) (n : ℕ → ℕ) → i < w.layout.config.seats → Known w v l z → Serves (w.seat i).call (w.seat i).phase → CallOnce (w.seat i).call (n i) → LossNeeds (shifted w n) i
+shifted_give w i v l z n b k s o =
+    let h : LossNeeds w i = rounds_give w i v l z (rounds_need w i v l z b k) k.rounds in
+    let at : (phase : Phase) → (w.seat i).phase ≡ phase → Serves (w.seat i).call phase = λ phase e. subst (λ (x : Phase). Serves (w.seat i).call x) e s in
+    let once : Call → ℕ = λ x. once_more (Some x) in
+    record {
+      changes = λ kept slot e d. no_more (w.seat i).rounds _ (n i) (o ∙ ap once (at _ e) ∙ changed_once kept.change) (h.changes kept slot e d);
+      passes = λ kept next e. no_more (w.seat i).rounds _ (n i) (o ∙ ap once (at _ e)) (h.passes kept next e);
+      enqueues = λ kept slot e d. no_more (w.seat i).rounds _ (n i) (o ∙ ap once (at _ e)) (h.enqueues kept slot e d);
+      reloads = λ head tail parent index slot era x e d. no_more (w.seat i).rounds _ (n i) (o ∙ ap once (at _ e)) (h.reloads head tail parent index slot era x e d);
+      swings = λ head next e. no_more (w.seat i).rounds _ (n i) (o ∙ ap once (at _ e)) (h.swings head next e);
+      dequeues = λ head next number value e d. no_more (w.seat i).rounds _ (n i) (o ∙ ap once (at _ e)) (h.dequeues head next number value e d);
+      walks = λ task birth walk e d. no_more (w.seat i).rounds _ (n i) (task_once w.layout.config (w.seat i).call (n i) (w.seat i).rounds task o (at _ e) (subst (λ (x : Phase). phase_fit w.layout.config (w.seat i).rounds x) e (k.losses.few i))) (h.walks task birth walk e d);
+      roots = h.roots;
+    }
+
+losses_alike : (w : World) (one two : ℕ → Local) → ((m : ℕ) → Alike (one m) (two m)) → Losses (with_seats w one) → Losses (with_seats w two)
+losses_alike w one two a h = record {
+  few = λ k. subst (λ (phase : Phase). phase_fit w.layout.config (two k).rounds phase) (a k).phase (subst (λ (n : ℕ). phase_fit w.layout.config n (one k).phase) (a k).rounds (h.few k));
+  spans = λ k b. subst (λ (post : Post). post.span ≡ None) (a k).post (h.spans k b);
+}
+
+pub gets_step : (w : World) (i : ℕ) (v : View) (l : Line) (z : Asked) (n m : ℕ → ℕ) → i < w.layout.config.seats → Known w v l z → Serves (w.seat i).call (w.seat i).phase → CallOnce (w.seat i).call (n i) → ((k : ℕ) → m k ≡ n k) → Losses (shifted w n) → Losses (shifted (step w i) m)
+gets_step w i v l z n m b k s o e f =
+    let g : Losses (step (shifted w n) i) = losses_kept (shifted w n) i k.valid (shifted_rest w i v l z n k f) (shifted_give w i v l z n b k s o) in
+    losses_alike (step w i) (shifted (step w i) n).seat (shifted (step w i) m).seat (λ j. record { phase = refl; post = refl; desk = refl; rounds = ap (λ (x : ℕ). ((step w i).seat j).rounds + x) (sym (e j)) })
+    (losses_alike (step w i) (step (shifted w n) i).seat (shifted (step w i) n).seat (λ j. step_alike w i j n) g)
+
+-- a call begins
+first_once : (w : World) (i : ℕ) (call : Call) → Losses w → phase_fit w.layout.config (once_more (Some call)) (steps.first_phase call (begun_post (w.seat i).post))
+first_once w i (calls.Get key) f = round_fit w.layout.config 1 (Gets key) (begun_post (w.seat i).post) (omega arith)
+first_once w i call f = subst (λ (s : Local). phase_fit w.layout.config s.rounds s.phase) (begin_begins w i call) ((losses_begin w i call f).few i)
+
+begun_few : (w : World) (i k : ℕ) (call : Call) (n m : ℕ → ℕ) (same : Bool) → (k == i) ≡ same → ((j : ℕ) → (j == i) ≡ false → m j ≡ n j) → CallOnce call (m i) → Losses w → Losses (shifted w n) → phase_fit w.layout.config (((begin w i call).seat k).rounds + m k) ((begin w i call).seat k).phase
+begun_few w i k call n m true e o c f g =
+    let q : i ≡ k = grind (arith, nat_tests) in
+    subst (λ (j : ℕ). phase_fit w.layout.config (((begin w i call).seat j).rounds + m j) ((begin w i call).seat j).phase) q
+    (subst (λ (s : Local). phase_fit w.layout.config (s.rounds + m i) s.phase) (sym (begin_begins w i call))
+    (subst (λ (x : ℕ). phase_fit w.layout.config x (steps.first_phase call (begun_post (w.seat i).post))) (none_first (once_more (Some call)) (m i) c) (first_once w i call f)))
+  where
+    none_first : (x y : ℕ) → y ≡ x → x ≡ 0 + y
+    none_first x y e = omega (arith, e)
+begun_few w i k call n m false e o c f g =
+    subst (λ (s : Local). phase_fit w.layout.config (s.rounds + m k) s.phase) (sym (begin_stays w i k call e)) (subst (λ (x : ℕ). phase_fit w.layout.config ((w.seat k).rounds + x) (w.seat k).phase) (sym (o k e)) (g.few k))
+
+pub gets_begin : (w : World) (i : ℕ) (call : Call) (n m : ℕ → ℕ) → ((j : ℕ) → (j == i) ≡ false → m j ≡ n j) → CallOnce call (m i) → Losses w → Losses (shifted w n) → Losses (shifted (begin w i call) m)
+gets_begin w i call n m o c f g = record { few = λ k. begun_few w i k call n m (k == i) refl o c f g; spans = (losses_begin w i call f).spans }
+
+pub gets_start : (layout : Layout) (n : ℕ → ℕ) → Losses (shifted (start layout) n)
+gets_start layout n = record { few = λ k. tt; spans = λ k b. refl }

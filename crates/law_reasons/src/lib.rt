@@ -1,0 +1,40 @@
+//! Why calls answer what they do, and how often they begin anew. Each function here does nothing, and carries
+//! a theorem.
+#![tactic(auto)]
+
+ghost use Rattle.law_reasons.specs.Records.{RecordsKeepFull, RecordsKeepLacks, RecordsKeepReasons, RecordsKeepRepeats, RecordsScanForRoom};
+
+/// Where a call ends, in the record of any history, its answer has its reason in the record: a change
+/// was refused, or made, as the pairs of its bucket at a version current during the call say; the
+/// queue's numbers are spent; a dequeue found all taken at a position of its call; a hold found a
+/// bucket that had not been changed; and what was held stands, or stands no more.
+pub fn records_keep_reasons()
+    ensures { RecordsKeepReasons }
+{}
+
+/// A call that still seeks a row, a put, a remove or an enqueue that was given none, reads a guard
+/// only where each row was taken at a position of this call before.
+pub fn records_scan_for_room()
+    ensures { RecordsScanForRoom }
+{}
+
+/// A call that answers Full was given no row and has read each guard once; and since the last row
+/// that went back then, or the last guard that it read, each row was taken at a position.
+pub fn records_keep_full()
+    ensures { RecordsKeepFull }
+{}
+
+/// A call that answers Full lacks nothing but a row: a put or a remove could have been made at a
+/// version of its bucket that was current during the call, and an enqueue had a number left at a
+/// position of it.
+pub fn records_keep_lacks()
+    ensures { RecordsKeepLacks }
+{}
+
+/// A call tells once at most that its root was found, and once more for each change of the bucket of
+/// a put or a remove since it began, for each value queued and each link to the tail since an enqueue
+/// began, for each value taken and each link to the tail since a dequeue began; and once more where
+/// it has made a scan.
+pub fn records_keep_repeats()
+    ensures { RecordsKeepRepeats }
+{}

@@ -1,0 +1,4 @@
+pub mod Blocks
+pub mod Holding
+pub mod Once
+pub mod Reuse

@@ -1,0 +1,4 @@
+pub mod Holds
+pub mod Records
+pub mod Reuse
+pub mod Rows

@@ -1,0 +1,63 @@
+-- What the record and the turns of each history keep, whatever calls begin and whichever seats make their steps.
+use Rattle.std.specs.Prelude.{List, true, ◌≡◌, ℕ, Some}
+use Rattle.wfe_core.specs.Posts.{stands}
+use Rattle.wfe_core.specs.defs.declared.event.Guard.{Guard}
+use Rattle.wfe_core.specs.words.Place.{is_valid}
+use Rattle.wfe_core.specs.words.declared.layout.Layout.{Layout}
+use Rattle.inv_all.specs.covers.Covers.{shown}
+use Rattle.inv_all.specs.history.History.{Item, record_of, world_of}
+use Rattle.laws.specs.EraLaw.{BirthLaw}
+use Rattle.laws.specs.HoldLaw.{is_held}
+use Rattle.laws.specs.NoReuse.{ReuseLaw}
+use Rattle.laws.specs.Once.{FreeLaw, BackOnce}
+use Rattle.laws.specs.ScanLaw.{BlockLaw, CountLaw, ReadLaw}
+use Rattle.laws.specs.StateAt.{stood_at, value_of}
+
+-- each history's record keeps it, whatever calls begin and whichever seats make their steps
+abbrev pub RecordsKeepReuse : Type 0
+RecordsKeepReuse = (layout : Layout) (items : List Item) → is_valid layout ≡ true → ReuseLaw (record_of layout items)
+
+-- what stands by a record is what stands in the seat's post
+abbrev pub RecordStands : Type 0
+RecordStands =
+    (layout : Layout) (items : List Item) (k j : ℕ)
+    → is_valid layout ≡ true
+    → stood_at k j (record_of layout items) ≡ stands ((world_of layout items).seat k).post j
+
+-- each history's record keeps them, whatever calls begin and whichever seats make their steps
+abbrev pub RecordsKeepOnce : Type 0
+RecordsKeepOnce = (layout : Layout) (items : List Item) → is_valid layout ≡ true → FreeLaw layout.config.slots (record_of layout items)
+
+abbrev pub RecordsGoBackOnce : Type 0
+RecordsGoBackOnce = (layout : Layout) (items : List Item) → is_valid layout ≡ true → BackOnce (record_of layout items)
+
+-- each history's record keeps it, whatever calls begin and whichever seats make their steps
+abbrev pub RecordsKeepScans : Type 0
+RecordsKeepScans = (layout : Layout) (items : List Item) → is_valid layout ≡ true → BlockLaw layout.config (record_of layout items)
+
+-- each history's record keeps it, whatever calls begin and whichever seats make their steps
+abbrev pub RecordsCountScans : Type 0
+RecordsCountScans = (layout : Layout) (items : List Item) → is_valid layout ≡ true → CountLaw layout.config (record_of layout items)
+
+-- each history's record keeps it, whatever calls begin and whichever seats make their steps
+abbrev pub RecordsReadGuards : Type 0
+RecordsReadGuards = (layout : Layout) (items : List Item) → is_valid layout ≡ true → ReadLaw (record_of layout items)
+
+-- each history's record keeps it, whatever calls begin and whichever seats make their steps
+abbrev pub RecordsKeepBirths : Type 0
+RecordsKeepBirths = (layout : Layout) (items : List Item) → is_valid layout ≡ true → BirthLaw (record_of layout items)
+
+-- so it is with what stands, wherever the record of a history ends between two steps
+abbrev pub RecordsHold : Type 0
+RecordsHold =
+    (layout : Layout) (items : List Item) (k j s : ℕ)
+    → is_valid layout ≡ true
+    → stood_at k j (record_of layout items) ≡ Some s
+    → is_held layout.config k j s (record_of layout items) ≡ true
+
+-- what a guard publishes by the record is what its word shows
+abbrev pub RecordValues : Type 0
+RecordValues =
+    (layout : Layout) (items : List Item) (guard : Guard)
+    → is_valid layout ≡ true
+    → value_of guard (record_of layout items) ≡ shown (world_of layout items) guard

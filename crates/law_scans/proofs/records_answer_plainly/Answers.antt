@@ -1,0 +1,5 @@
+use Rattle.law_scans.proofs.FewRetired.Plain as plain
+use Rattle.law_scans.proofs.records_answer_plainly.Goals as goal
+
+pub returns : goal.returns
+returns c = plain.records_answer_plainly

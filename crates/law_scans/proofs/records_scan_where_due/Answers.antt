@@ -1,0 +1,5 @@
+use Rattle.law_scans.proofs.DueScans.Keeps as keeps
+use Rattle.law_scans.proofs.records_scan_where_due.Goals as goal
+
+pub returns : goal.returns
+returns c = keeps.records_scan_where_due

@@ -1,0 +1,4 @@
+pub mod Outcomes
+pub mod Plain
+pub mod Records
+pub mod Scans

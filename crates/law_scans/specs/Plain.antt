@@ -1,0 +1,15 @@
+-- The laws on which calls scan, which move the clock and what they answer of it, by the plain numbers of retirements, over records.
+use Rattle.wfe_core.specs.defs.Entry.{Entry}
+use Rattle.std.specs.Prelude.{List, ℕ, ◌≡◌}
+use Rattle.inv_all.specs.history.Record.{Past, tells}
+use Rattle.law_scans.specs.Outcomes.{clock_tally}
+use Rattle.law_scans.specs.Scans.{tally_of}
+use Rattle.laws.specs.AnswerLaw.{plain_clock}
+use Rattle.laws.specs.ScanLaw.{plain_tally}
+use Rattle.laws.specs.StateAt.{total_retires}
+
+-- a count that stops at the greatest number of 64 bits counts all that a seat has retired, at each position of the record
+pub record CountsPlainly (every : ℕ) (r : Past) : Type 0 where
+  pub tallies : (i : ℕ) (before : Past) (later : List Entry) → r ≡ tells before later → tally_of every i before ≡ plain_tally every i before
+  pub clocks : (i : ℕ) (before : Past) (later : List Entry) → r ≡ tells before later → clock_tally every i before ≡ plain_clock every i before
+  pub retired : (i : ℕ) (before : Past) (later : List Entry) → r ≡ tells before later → (tally_of every i before).retired ≡ total_retires i before

@@ -1,0 +1,253 @@
+-- A helper word publishes only once the tries of a protection under way have failed.
+use Rattle.std.proofs.Common.{ℕ, ◌≡◌, ◌+◌, Bool, true, false, List, [], ◌∷◌, ◌++◌, Option, Some, None, refl, ap, subst, arith}
+use Rattle.std.proofs.lemmas.Bool.Decides.{nat_tests}
+use Rattle.std.specs.Prelude.{◌==◌, ◌&&◌, nat_le, if◌then◌else◌}
+use Rattle.wfe_core.specs.words.Packed.{reservation_word, read_reservation}
+use Rattle.wfe_core.specs.words.declared.config.Config.{Config}
+use Rattle.wfe_core.specs.words.declared.layout.Layout.{Layout}
+use Rattle.wfe_core.specs.defs.declared.event.Event.{Event}
+use Rattle.wfe_core.specs.defs.declared.event.Event.TheVariants as events
+use Rattle.wfe_core.specs.defs.declared.event.Guard.TheVariants.{Helper}
+use Rattle.wfe_core.specs.defs.declared.event.Root.{Root}
+use Rattle.wfe_core.specs.defs.declared.lifetime.Interval.{Interval}
+use Rattle.wfe_core.specs.declared.post.Post.{Post}
+use Rattle.wfe_core.specs.Guards.{one_era}
+use Rattle.wfe_core.specs.Machine as machine
+use Rattle.wfe_core.specs.Memory.{bump}
+use Rattle.wfe_core.specs.MoveClock as movers
+use Rattle.wfe_core.specs.Posts.{stands, cleared, counted, upper, reserves_index, reserves_helper, reserves_span}
+use Rattle.wfe_core.specs.Protect as protects
+use Rattle.wfe_core.specs.Rounds.{scheme_of, clear_told}
+use Rattle.wfe_core.specs.SlowPath as slow
+use Rattle.wfe_core.specs.WriteRow.{last_written}
+use Rattle.wfe_core.specs.World.{World, finds, told_in}
+use Rattle.wfe_core.specs.Phases.{Aim, ProtectAt, MoveAt, Base}
+use Rattle.wfe_core.specs.Phases.ProtectAt.{LoadClock, PublishEra, LoadLink, CheckClock, PublishRequest, LoadOwnClock, PublishHelper, LoadOwnLink, CheckOwnClock, AnswerOwn, LoadAnswer, TakeAnswer, WithdrawRequest, WithdrawHelper, LoadWithin, CheckUpper, RaiseUpper}
+use Rattle.wfe_core.specs.Phases.MoveAt.{LoadEra, LoadRequest, ShowEra, LoadAsked, CheckEra, AnswerAsked, LoadReserved, HandOver, HideEra, HideLate, ExchangeClock}
+use Rattle.wfe_core.specs.Phases.Base.{Begin, Protect, Reload, Clear, Finish, Release, Allocate, Write, GiveUp, Retire, Move}
+use Rattle.wfe_core.specs.Calls.{Why, Opens, FollowsHead, Fills, ClearsNext, Clears, Finishes, GivesUp, Retires, Tidies, Advances, Releases, ReadGuard, GiveBack, Phase, Idle, Runs, Scans, Works}
+use Rattle.wfe_core.proofs.Facts.{same_number, both, first_of, rest_of}
+use Rattle.wfe_core.specs.words.Schemes.{is_wfe}
+use Rattle.inv_all.specs.shapes.Seats.{PhaseFits, kind_of, suits}
+use Rattle.inv_all.specs.history.Record.{Past, Each, tells_of}
+use Rattle.inv_all.specs.history.Record.Past.{Then}
+use Rattle.inv_all.proofs.history.Entries.{entries_of_each}
+use Rattle.inv_all.specs.history.Turns as schedule
+use Rattle.inv_all.specs.history.Turns.{record_of}
+use Rattle.inv_all.specs.history.History.{Made}
+use Rattle.inv_all.specs.history.History as histories
+use Rattle.law_turns.specs.answers.Heard.{IsCounted}
+use Rattle.law_turns.proofs.answers.Turns.Counted.{histories_count}
+use Rattle.inv_all.proofs.history.Passes.{Closed, First, step_goes}
+use Rattle.law_turns.proofs.answers.OneStep.Along.{Around, Kept, history_keeps}
+use Rattle.laws.specs.Schedule.{turns_since}
+use Rattle.laws.specs.StateAt.{tried_by, tried_of, last_of}
+use Rattle.laws.specs.StepLaw.{tried_enough, helper_ok}
+use Rattle.law_steps.specs.Records.{RecordsKeepHelpers}
+use Rattle.law_turns.proofs.Withdrawals.Withdrawing.{is_mute, all_mute, quiet_mute, clear_mute, is_plain, all_plain, plain_along, plain_if, held_plain, concluded_plain, cleared_plain, allocate_plain, retire_plain, begin_plain}
+use Rattle.law_turns.proofs.TurnCounts.Trying.{base_tried}
+use Rattle.law_turns.proofs.TurnCounts.Tried.{why_tried, phase_tried}
+use Rattle.law_turns.proofs.TurnCounts.Underway as underway
+use Rattle.law_turns.proofs.TurnCounts.Underway.{Lasts}
+
+-- an event of the seat, where a protection at the index has published so often
+abbrev event_helps : (tries : ℕ) → Event → ℕ → Bool
+event_helps tries (events.Reserve (Helper k) (Some span)) n = tried_enough tries n
+event_helps tries event n = true
+
+abbrev helps_along : (i j tries : ℕ) → List Event → ℕ → Bool
+helps_along i j tries [] n = true
+helps_along i j tries (event ∷ told) n = event_helps tries event n && helps_along i j tries told (tried_by i j event n)
+
+plain_one : (tries : ℕ) (event : Event) (n : ℕ) → is_plain event ≡ true → event_helps tries event n ≡ true
+plain_one tries (events.Reserve (Helper k) None) n h = refl
+plain_one tries (events.Reserve (Helper k) (Some span)) n h = absurd (cc)
+plain_one tries event n h = refl
+
+plain_helps : (i j tries : ℕ) (told : List Event) (n : ℕ) → all_plain told ≡ true → helps_along i j tries told n ≡ true
+plain_helps i j tries [] n h = refl
+plain_helps i j tries (event ∷ told) n h =
+    both (event_helps tries event n) (helps_along i j tries told (tried_by i j event n)) (plain_one tries event n (first_of (is_plain event) (all_plain told) h)) (plain_helps i j tries told (tried_by i j event n) (rest_of (is_plain event) (all_plain told) h))
+
+mute_one : (event : Event) → is_mute event ≡ true → is_plain event ≡ true
+mute_one (events.Reserve guard span) h = absurd (cc)
+mute_one event h = refl
+
+mute_plain : (told : List Event) → all_mute told ≡ true → all_plain told ≡ true
+mute_plain [] h = refl
+mute_plain (event ∷ told) h = both (is_plain event) (all_plain told) (mute_one event (first_of (is_mute event) (all_mute told) h)) (mute_plain told (rest_of (is_mute event) (all_mute told) h))
+
+helps_both : (i j tries : ℕ) (xs ys : List Event) (n : ℕ) → helps_along i j tries xs n ≡ true → all_plain ys ≡ true → helps_along i j tries (xs ++ ys) n ≡ true
+helps_both i j tries [] ys n h k = plain_helps i j tries ys n k
+helps_both i j tries (x ∷ xs) ys n h k =
+    both (event_helps tries x n) (helps_along i j tries (xs ++ ys) (tried_by i j x n)) (first_of (event_helps tries x n) (helps_along i j tries xs (tried_by i j x n)) h) (helps_both i j tries xs ys (tried_by i j x n) (rest_of (event_helps tries x n) (helps_along i j tries xs (tried_by i j x n)) h) k)
+
+helps_closed : (i j tries n : ℕ) → Closed (λ post told. helps_along i j tries told n ≡ true)
+helps_closed i j tries n = record {
+  calm = λ post told more q h. helps_both i j tries told more n h (mute_plain more (quiet_mute more q));
+  clears = λ post told index h. helps_both i j tries told (clear_told (scheme_of post) post index) n h (mute_plain (clear_told (scheme_of post) post index) (clear_mute (scheme_of post) post index));
+}
+
+-- the steps that publish in a helper word
+abbrev is_asking : ProtectAt → Bool
+is_asking (PublishHelper first era last) = true
+is_asking at = false
+
+abbrev is_showing : MoveAt → Bool
+is_showing (ShowEra era seat tag index root) = true
+is_showing at = false
+
+abbrev publishes_helper : Base → Bool
+publishes_helper (Protect aim index root steps at) = is_asking at
+publishes_helper (Move at) = is_showing at
+publishes_helper base = false
+
+abbrev is_clearing : Base → Bool
+is_clearing (Clear index) = true
+is_clearing base = false
+
+helper_helps : (i j tries n : ℕ) (post : Post) (era : ℕ) → tried_enough tries n ≡ true → helps_along i j tries (reserves_helper post era) n ≡ true
+helper_helps i j tries n post era h = by (one_era era)
+  where
+    by : (span : Option Interval) → helps_along i j tries (events.Reserve (Helper post.seat) span ∷ []) n ≡ true
+    by None = refl
+    by (Some span) = both (tried_enough tries n) true h refl
+
+abbrev Plain : List Event → Type 0
+Plain told = all_plain told ≡ true
+
+protect_plain : (aim : Aim) (index : ℕ) (root : Root) (n : ℕ) (at : ProtectAt) (post : Post) (found : ℕ) → is_asking at ≡ false → Plain (machine.protect_turn aim index root n at post found).told
+protect_plain aim index root n (LoadClock tries) post found h = refl
+protect_plain aim index root n (PublishEra era tries) post found h = refl
+protect_plain aim index root n (LoadLink era tries) post found h = refl
+protect_plain aim index root n (CheckClock era tries link) post found h = plain_if (found == era) _ _ (concluded_plain aim index root n link era (protects.held_post post index root link) (protects.told_held index root link n) (held_plain index root link n)) refl
+protect_plain aim index root n PublishRequest post found h = refl
+protect_plain aim index root n LoadOwnClock post found h = refl
+protect_plain aim index root n (PublishHelper first era last) post found h = absurd (cc)
+protect_plain aim index root n (LoadOwnLink first era last) post found h = refl
+protect_plain aim index root n (CheckOwnClock first era last link) post found h = plain_if (found == era) _ _ refl refl
+protect_plain aim index root n (AnswerOwn first era link) post found h = plain_if (found == slow.own_request post index root) _ _ refl refl
+protect_plain aim index root n (LoadAnswer first) post found h = refl
+protect_plain aim index root n (TakeAnswer link era) post found h = held_plain index root link n
+protect_plain aim index root n (WithdrawRequest link era) post found h = refl
+protect_plain aim index root n (WithdrawHelper link era) post found h = concluded_plain aim index root n link era post (reserves_helper post 0) refl
+protect_plain aim index root n LoadWithin post found h = refl
+protect_plain aim index root n (CheckUpper link) post found h = plain_if (found == upper post.span) _ _ (concluded_plain aim index root n link found (protects.held_post post index root link) (protects.told_held index root link n) (held_plain index root link n)) refl
+protect_plain aim index root n (RaiseUpper era) post found h = refl
+
+handed_plain : (era seat tag index old : ℕ) (post : Post) (same : Bool) → Plain (movers.after_hand_over era seat tag index old post same).told
+handed_plain era seat tag index old post true = refl
+handed_plain era seat tag index old post false = refl
+
+move_plain : (at : MoveAt) (post : Post) (found : ℕ) → is_showing at ≡ false → Plain (machine.move_turn at post found).told
+move_plain (LoadEra helps) post found h = plain_if (found == post.layout.config.last_era) _ _ refl refl
+move_plain (LoadRequest era seat shows) post found h = refl
+move_plain (ShowEra era seat tag index root) post found h = absurd (cc)
+move_plain (LoadAsked era seat tag index root) post found h = refl
+move_plain (CheckEra era seat tag index root link) post found h = plain_if (found == era) _ _ refl refl
+move_plain (AnswerAsked era seat tag index root link) post found h = plain_if (found == slow.asking post.layout tag index root) _ _ refl refl
+move_plain (LoadReserved era seat tag index root link) post found h = plain_if ((read_reservation found).tag == tag) _ _ refl refl
+move_plain (HandOver era seat tag index root link old) post found h = handed_plain era seat tag index old post (found == reservation_word (record { era = old; tag = tag }))
+move_plain (HideEra era) post found h = refl
+move_plain (HideLate seen) post found h = refl
+move_plain (ExchangeClock era) post found h = plain_if (found == era) _ _ refl refl
+
+base_plain : (base : Base) (post : Post) (found : ℕ) → publishes_helper base ≡ false → Plain (machine.after base post found).told
+base_plain (Begin at) post found h = begin_plain at post found
+base_plain (Protect aim index root made at) post found h = protect_plain aim index root (bump made) at post found h
+base_plain (Reload parent index slot era made) post found h = plain_if (found == parent + 1) _ _ refl refl
+base_plain (Clear index) post found h = plain_along (cleared index (stands post index)) (reserves_index post index 0) (cleared_plain index (stands post index)) refl
+base_plain Finish post found h = refl
+base_plain Release post found h = plain_along (cleared 2 (stands post 2)) (reserves_span post None) (cleared_plain 2 (stands post 2)) refl
+base_plain (Allocate at) post found h = allocate_plain at post found
+base_plain (Write slot row place) post found h = plain_if (place == last_written row) _ _ refl refl
+base_plain (GiveUp slot) post found h = refl
+base_plain (Retire at) post found h = retire_plain at post found
+base_plain (Move at) post found h = move_plain at post found h
+
+-- a protection that publishes in the helper word has tried enough
+enough_own : (tries times : ℕ) → nat_le (tries + 1) times ≡ true → tried_enough tries times ≡ true
+enough_own tries times h = grind (arith, nat_tests)
+
+enough_other : (tries times : ℕ) → (times == 0) ≡ true → tried_enough tries times ≡ true
+enough_other tries times h = rw h refl
+
+asks_enough : (c : Config) (index : ℕ) (root : Root) (j times : ℕ) → (if index == j then nat_le (c.tries + 1) times else times == 0) ≡ true → tried_enough c.tries times ≡ true
+asks_enough c index root j times h = by (index == j) h
+  where
+    by : (own : Bool) → (if own then nat_le (c.tries + 1) times else times == 0) ≡ true → tried_enough c.tries times ≡ true
+    by true h = enough_own c.tries times h
+    by false h = enough_other c.tries times h
+
+other_why : (c : Config) (u : ℕ) (why : Why) (base : Base) (j times last : ℕ) → suits base (kind_of why) ≡ true → is_clearing base ≡ false → why_tried c u why base j times last ≡ true → base_tried c base j times last ≡ true
+other_why c u (ClearsNext next) (Clear index) j times last s b h = absurd (cc)
+other_why c u (ClearsNext next) base j times last s b h = absurd (cc)
+other_why c u (Opens task) base j times last s b h = h
+other_why c u (FollowsHead head tail) base j times last s b h = h
+other_why c u (Fills task) base j times last s b h = h
+other_why c u (Clears task next) base j times last s b h = h
+other_why c u (Finishes task next) base j times last s b h = h
+other_why c u (GivesUp answer) base j times last s b h = h
+other_why c u (Retires answer) base j times last s b h = h
+other_why c u (Tidies later) base j times last s b h = h
+other_why c u Advances base j times last s b h = h
+other_why c u (Releases key) base j times last s b h = h
+
+helping_base : (c : Config) (i j times last u : ℕ) (why : Why) (base : Base) (post : Post) (found : ℕ) → suits base (kind_of why) ≡ true → why_tried c u why base j times last ≡ true → helps_along i j c.tries (machine.after base post found).told times ≡ true
+helping_base c i j times last u why (Protect aim index root made (PublishHelper first era final)) post found s h =
+    helper_helps i j c.tries times post era (asks_enough c index root j times (other_why c u why (Protect aim index root made (PublishHelper first era final)) j times last s refl h))
+helping_base c i j times last u why (Move (ShowEra era seat tag index root)) post found s h =
+    helper_helps i j c.tries times post era (enough_other c.tries times (other_why c u why (Move (ShowEra era seat tag index root)) j times last s refl h))
+helping_base c i j times last u why (Protect aim index root made at) post found s h = plain_helps i j c.tries (machine.after (Protect aim index root made at) post found).told times (base_plain (Protect aim index root made at) post found refl)
+helping_base c i j times last u why (Move at) post found s h = plain_helps i j c.tries (machine.after (Move at) post found).told times (base_plain (Move at) post found refl)
+helping_base c i j times last u why base post found s h = plain_helps i j c.tries (machine.after base post found).told times (base_plain base post found refl)
+
+phase_helps : (w : World) (i j times last u : ℕ) (phase : Phase) → PhaseFits w.layout (w.seat i).post phase → phase_tried w.layout.config u phase j times last ≡ true → First (λ post told. helps_along i j w.layout.config.tries told times ≡ true) phase (counted (w.seat i).post) (finds w i)
+phase_helps w i j times last u Idle f h = refl
+phase_helps w i j times last u (Runs why base) f h = helping_base w.layout.config i j times last u why base (counted (w.seat i).post) (finds w i) f.suited h
+phase_helps w i j times last u (Scans later (ReadGuard number)) f h = refl
+phase_helps w i j times last u (Scans later (GiveBack place slot)) f h = refl
+phase_helps w i j times last u (Works work) f h = refl
+
+step_helps : (layout : Layout) (made : Made) (h : schedule.History) (i j : ℕ) → Around made h → Lasts layout made h → helps_along i j made.world.layout.config.tries (told_in made.world i) (tried_of i j (record_of h)) ≡ true
+step_helps layout made h i j a g =
+    let w : World = made.world in
+    let k = a.known.known in
+    let f = k.seats.fits i in
+    let t : ℕ = tried_of i j (record_of h) in
+    step_goes (λ post told. helps_along i j w.layout.config.tries told t ≡ true) (helps_closed i j w.layout.config.tries t) (w.seat i).phase (counted (w.seat i).post) (w.seat i).desk (finds w i)
+    (phase_helps w i j t (last_of i (record_of h)) (turns_since i j h) (w.seat i).phase f.phase (g.tried i j))
+
+-- the entries that a turn tells
+told_each : (tries i j : ℕ) (told : List Event) (p : Past) → helps_along i j tries told (tried_of i j p) ≡ true → Each (helper_ok tries j) p → Each (helper_ok tries j) (tells_of p i told)
+told_each tries i j [] p h e = e
+told_each tries i j (event ∷ told) p h e =
+    let n : tried_of i j (Then p i event) ≡ tried_by i j event (tried_of i j p) = rw (same_number i) refl in
+    told_each tries i j told (Then p i event) (rw n (rest_of (event_helps tries event (tried_of i j p)) (helps_along i j tries told (tried_by i j event (tried_of i j p))) h))
+    (one event (first_of (event_helps tries event (tried_of i j p)) (helps_along i j tries told (tried_by i j event (tried_of i j p))) h), e)
+  where
+    one : (event : Event) → event_helps tries event (tried_of i j p) ≡ true → helper_ok tries j p i event ≡ true
+    one (events.Reserve (Helper k) (Some span)) h = h
+    one event h = refl
+
+-- along a history
+record Helps (layout : Layout) (made : Made) (h : schedule.History) : Type 0 where
+  lasts : Lasts layout made h
+  law : (j : ℕ) → Each (helper_ok layout.config.tries j) (record_of h)
+
+step_law : (layout : Layout) (made : Made) (h : schedule.History) (i j : ℕ) → Around made h → Lasts layout made h → Each (helper_ok layout.config.tries j) (record_of h) → Each (helper_ok layout.config.tries j) (tells_of (record_of h) i (told_in made.world i))
+step_law layout made h i j a g e =
+    let c : made.world.layout.config.tries ≡ layout.config.tries = ap (λ (table : Layout). table.config.tries) g.counts.table in
+    told_each layout.config.tries i j (told_in made.world i) (record_of h) (subst (λ (tries : ℕ). helps_along i j tries (told_in made.world i) (tried_of i j (record_of h)) ≡ true) c (step_helps layout made h i j a g)) e
+
+kept : (layout : Layout) → is_wfe layout.config.scheme ≡ true → Kept (Helps layout)
+kept layout f = record {
+  begins = λ made h i call a b y g. record { lasts = underway.begin_kept layout made h i call a y g.lasts; law = λ j. (refl, g.law j) };
+  steps = λ made h i a b y g. record { lasts = underway.step_kept layout made h i f a b y g.lasts; law = λ j. step_law layout made h i j a g.lasts (g.law j) };
+}
+
+pub records_keep_helpers : RecordsKeepHelpers
+records_keep_helpers layout items d f j =
+    let g = history_keeps layout (Helps layout) (kept layout f) d items (record { lasts = underway.first_kept layout f; law = λ j. tt }) in
+    let c : IsCounted layout items = histories_count layout items d in
+    entries_of_each (helper_ok layout.config.tries j) (histories.record_of layout items) (subst (λ (p : Past). Each (helper_ok layout.config.tries j) p) c.tells (g.law j))

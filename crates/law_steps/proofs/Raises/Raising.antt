@@ -1,0 +1,266 @@
+-- How often an interval was raised, by where its seat stands, over each step of a machine of 2GE.
+use Rattle.std.proofs.Common.{ℕ, ◌≡◌, ◌+◌, Bool, true, false, List, [], ◌∷◌, ◌++◌, Option, Some, None, refl, sym, ap, ◌∙◌}
+use Rattle.std.specs.Prelude.{◌==◌, ◌&&◌, ◌||◌, ◌*◌, nat_le, is_some, if◌then◌else◌}
+use Rattle.wfe_core.specs.words.Packed.{reservation_word, read_reservation}
+use Rattle.wfe_core.specs.words.declared.config.SchemeKind.{SchemeKind}
+use Rattle.wfe_core.specs.words.declared.config.SchemeKind.TheVariants.{He, Ibr, Wfe}
+use Rattle.wfe_core.specs.defs.declared.event.Event.{Event}
+use Rattle.wfe_core.specs.defs.declared.event.Event.TheVariants as events
+use Rattle.wfe_core.specs.defs.declared.event.Guard.TheVariants.{Helper, Index, Whole}
+use Rattle.wfe_core.specs.defs.declared.lifetime.Interval.{Interval}
+use Rattle.wfe_core.specs.declared.ends.FollowEnd.TheVariants as follow_ends
+use Rattle.wfe_core.specs.declared.post.Post.{Post}
+use Rattle.wfe_core.specs.Allocate as allocates
+use Rattle.wfe_core.specs.Machine as machine
+use Rattle.wfe_core.specs.MoveClock as movers
+use Rattle.wfe_core.specs.Posts.{stands, cleared}
+use Rattle.wfe_core.specs.Rounds.{scheme_of, clear_told, clear_post}
+use Rattle.wfe_core.specs.SlowPath as slow
+use Rattle.wfe_core.specs.WriteRow.{last_written}
+use Rattle.wfe_core.specs.Phases.{ProtectAt, AllocateAt, RetireAt, MoveAt, Walk, Base, Turn, Outcome, Goes, Ends}
+use Rattle.wfe_core.specs.Phases.ProtectAt.{LoadWithin, CheckUpper, RaiseUpper}
+use Rattle.wfe_core.specs.Phases.AllocateAt.{LoadBirth, ClaimSlot, StoreLife}
+use Rattle.wfe_core.specs.Phases.RetireAt.{LoadLife, LoadRetire, StoreRetired}
+use Rattle.wfe_core.specs.Phases.MoveAt.{LoadEra, LoadRequest, ShowEra, LoadAsked, CheckEra, AnswerAsked, LoadReserved, HandOver, HideEra, HideLate, ExchangeClock}
+use Rattle.wfe_core.specs.Phases.Base.{Begin, Protect, Reload, Clear, Finish, Release, Allocate, Write, GiveUp, Retire, Move}
+use Rattle.wfe_core.specs.Phases.Ending.{Followed}
+use Rattle.wfe_core.proofs.Facts.{both, first_of, rest_of}
+use Rattle.inv_all.proofs.history.Passes.{is_quiet, all_quiet, Closed}
+use Rattle.laws.specs.StateAt.{spanned_by, raised_by}
+use Rattle.laws.specs.StepLaw.{number_raised}
+use Rattle.law_turns.proofs.Counting.Runs.{is_calm}
+
+-- along what a step tells
+abbrev pub spanned_along : (seat : ℕ) → List Event → Bool → Bool
+spanned_along i [] s = s
+spanned_along i (event ∷ told) s = spanned_along i told (spanned_by i event s)
+
+abbrev pub raised_along : (seat : ℕ) → List Event → Bool → ℕ → ℕ
+raised_along i [] s r = r
+raised_along i (event ∷ told) s r = raised_along i told (spanned_by i event s) (raised_by i event s r)
+
+abbrev pub counts_along : (seat : ℕ) → List Event → Bool → ℕ → Bool
+counts_along i [] s r = true
+counts_along i (event ∷ told) s r = number_raised event r && counts_along i told (spanned_by i event s) (raised_by i event s r)
+
+pub spanned_both : (i : ℕ) (xs ys : List Event) (s : Bool) → spanned_along i (xs ++ ys) s ≡ spanned_along i ys (spanned_along i xs s)
+spanned_both i [] ys s = refl
+spanned_both i (x ∷ xs) ys s = spanned_both i xs ys (spanned_by i x s)
+
+pub raised_both : (i : ℕ) (xs ys : List Event) (s : Bool) (r : ℕ) → raised_along i (xs ++ ys) s r ≡ raised_along i ys (spanned_along i xs s) (raised_along i xs s r)
+raised_both i [] ys s r = refl
+raised_both i (x ∷ xs) ys s r = raised_both i xs ys (spanned_by i x s) (raised_by i x s r)
+
+counts_both : (i : ℕ) (xs ys : List Event) (s : Bool) (r : ℕ) → counts_along i xs s r ≡ true → counts_along i ys (spanned_along i xs s) (raised_along i xs s r) ≡ true → counts_along i (xs ++ ys) s r ≡ true
+counts_both i [] ys s r h k = k
+counts_both i (x ∷ xs) ys s r h k =
+    both (number_raised x r) (counts_along i (xs ++ ys) (spanned_by i x s) (raised_by i x s r)) (first_of (number_raised x r) (counts_along i xs (spanned_by i x s) (raised_by i x s r)) h)
+    (counts_both i xs ys (spanned_by i x s) (raised_by i x s r) (rest_of (number_raised x r) (counts_along i xs (spanned_by i x s) (raised_by i x s r)) h) k)
+
+-- events that tell nothing of interval words, and no numbers
+abbrev pub is_still : Event → Bool
+is_still (events.Reserve (Whole seat) span) = false
+is_still (events.Held index slot steps) = false
+is_still (events.Null index steps) = false
+is_still event = true
+
+abbrev pub all_still : List Event → Bool
+all_still [] = true
+all_still (event ∷ told) = is_still event && all_still told
+
+still_span : (i : ℕ) (event : Event) (s : Bool) → is_still event ≡ true → spanned_by i event s ≡ s
+still_span i (events.Reserve (Whole seat) span) s h = absurd (cc)
+still_span i (events.Reserve (Helper seat) span) s h = refl
+still_span i (events.Reserve (Index seat index) span) s h = refl
+still_span i event s h = refl
+
+still_raise : (i : ℕ) (event : Event) (s : Bool) → is_still event ≡ true → raised_by i event s 0 ≡ 0
+still_raise i (events.Reserve (Whole seat) span) s h = absurd (cc)
+still_raise i (events.Reserve (Helper seat) span) s h = refl
+still_raise i (events.Reserve (Index seat index) span) s h = refl
+still_raise i event s h = refl
+
+still_count : (event : Event) (r : ℕ) → is_still event ≡ true → number_raised event r ≡ true
+still_count (events.Held index slot steps) r h = absurd (cc)
+still_count (events.Null index steps) r h = absurd (cc)
+still_count event r h = refl
+
+pub still_spans : (i : ℕ) (told : List Event) (s : Bool) → all_still told ≡ true → spanned_along i told s ≡ s
+still_spans i [] s h = refl
+still_spans i (event ∷ told) s h = ap (spanned_along i told) (still_span i event s (first_of (is_still event) (all_still told) h)) ∙ still_spans i told s (rest_of (is_still event) (all_still told) h)
+
+pub still_raises : (i : ℕ) (told : List Event) (s : Bool) → all_still told ≡ true → raised_along i told s 0 ≡ 0
+still_raises i [] s h = refl
+still_raises i (event ∷ told) s h =
+    ap (λ (r : ℕ). raised_along i told (spanned_by i event s) r) (still_raise i event s (first_of (is_still event) (all_still told) h)) ∙ still_raises i told (spanned_by i event s) (rest_of (is_still event) (all_still told) h)
+
+pub still_counts : (i : ℕ) (told : List Event) (s : Bool) (r : ℕ) → all_still told ≡ true → counts_along i told s r ≡ true
+still_counts i [] s r h = refl
+still_counts i (event ∷ told) s r h =
+    both (number_raised event r) (counts_along i told (spanned_by i event s) (raised_by i event s r)) (still_count event r (first_of (is_still event) (all_still told) h)) (still_counts i told (spanned_by i event s) (raised_by i event s r) (rest_of (is_still event) (all_still told) h))
+
+quiet_one : (event : Event) → is_quiet event ≡ true → is_still event ≡ true
+quiet_one (events.Reserve guard span) h = absurd (cc)
+quiet_one (events.Held index slot steps) h = absurd (cc)
+quiet_one (events.Null index steps) h = absurd (cc)
+quiet_one event h = refl
+
+pub quiet_still : (told : List Event) → all_quiet told ≡ true → all_still told ≡ true
+quiet_still [] h = refl
+quiet_still (event ∷ told) h = both (is_still event) (all_still told) (quiet_one event (first_of (is_quiet event) (all_quiet told) h)) (quiet_still told (rest_of (is_quiet event) (all_quiet told) h))
+
+pub cleared_still : (index : ℕ) (o : Option ℕ) → all_still (cleared index o) ≡ true
+cleared_still index None = refl
+cleared_still index (Some slot) = refl
+
+pub clear_still : (scheme : SchemeKind) (post : Post) (index : ℕ) → all_still (clear_told scheme post index) ≡ true
+clear_still He post index = refl
+clear_still Ibr post index = cleared_still index (stands post index)
+clear_still Wfe post index = refl
+
+pub clear_span : (scheme : SchemeKind) (post : Post) (index : ℕ) → (clear_post scheme post index).span ≡ post.span
+clear_span He post index = refl
+clear_span Ibr post index = refl
+clear_span Wfe post index = refl
+
+-- whether the interval word publishes, and whether the numbers told are right
+pub spans_closed : (i : ℕ) (s : Bool) → Closed (λ post told. spanned_along i told s ≡ is_some post.span)
+spans_closed i s = record {
+  calm = λ post told more q h. spanned_both i told more s ∙ still_spans i more (spanned_along i told s) (quiet_still more q) ∙ h;
+  clears = λ post told index h. spanned_both i told (clear_told (scheme_of post) post index) s ∙ still_spans i (clear_told (scheme_of post) post index) (spanned_along i told s) (clear_still (scheme_of post) post index) ∙ h
+      ∙ sym (ap (λ (o : Option Interval). is_some o) (clear_span (scheme_of post) post index));
+}
+
+pub counts_closed : (i : ℕ) (s : Bool) (r : ℕ) → Closed (λ post told. counts_along i told s r ≡ true)
+counts_closed i s r = record {
+  calm = λ post told more q h. counts_both i told more s r h (still_counts i more (spanned_along i told s) (raised_along i told s r) (quiet_still more q));
+  clears = λ post told index h. counts_both i told (clear_told (scheme_of post) post index) s r h (still_counts i (clear_told (scheme_of post) post index) (spanned_along i told s) (raised_along i told s r) (clear_still (scheme_of post) post index));
+}
+
+pub none_closed : (i : ℕ) (s : Bool) (r : ℕ) → Closed (λ post told. raised_along i told s r ≡ 0)
+none_closed i s r = record {
+  calm = λ post told more q h. raised_both i told more s r ∙ ap (raised_along i more (spanned_along i told s)) h ∙ still_raises i more (spanned_along i told s) (quiet_still more q);
+  clears = λ post told index h. raised_both i told (clear_told (scheme_of post) post index) s r ∙ ap (raised_along i (clear_told (scheme_of post) post index) (spanned_along i told s)) h
+      ∙ still_raises i (clear_told (scheme_of post) post index) (spanned_along i told s) (clear_still (scheme_of post) post index);
+}
+
+-- how often an interval was raised, by the steps of the protection
+abbrev pub at_raised : ProtectAt → (steps raised : ℕ) → Bool
+at_raised LoadWithin steps raised = steps == 3 * raised
+at_raised (CheckUpper link) steps raised = steps == 3 * raised + 1
+at_raised (RaiseUpper era) steps raised = steps == 3 * raised + 2
+at_raised at steps raised = true
+
+abbrev pub base_raised : Base → (most raised : ℕ) → Bool
+base_raised (Protect aim index root steps at) most raised = nat_le steps most && at_raised at steps raised
+base_raised (Reload parent index slot era steps) most raised = nat_le steps most && steps == 3 * raised + 2
+base_raised base most raised = raised == 0
+
+abbrev pub Out : (follows : Bool) → (most raised : ℕ) → Outcome → Type 0
+Out moved most raised (Goes base) = base_raised base most raised ≡ true
+Out moved most raised (Ends (Followed (follow_ends.RootMoved seen))) = (moved || raised == 0) ≡ true
+Out moved most raised (Ends ending) = raised ≡ 0
+
+pub record Made (moved : Bool) (i : ℕ) (s : Bool) (r : ℕ) (t : Turn) : Type 0 where
+  pub spans : spanned_along i t.told s ≡ is_some t.post.span
+  pub counts : counts_along i t.told s r ≡ true
+  pub out : Out moved t.post.steps (raised_along i t.told s r) t.outcome
+
+pub made_if : (moved : Bool) (i : ℕ) (s : Bool) (r : ℕ) (same : Bool) (t u : Turn) → (same ≡ true → Made moved i s r t) → (same ≡ false → Made moved i s r u) → Made moved i s r (if same then t else u)
+made_if moved i s r true t u h k = h refl
+made_if moved i s r false t u h k = k refl
+
+-- the machines that tell nothing of intervals
+abbrev Still : List Event → Type 0
+Still told = all_still told ≡ true
+
+still_if : (c : Bool) (t u : Turn) → Still t.told → Still u.told → Still (if c then t else u).told
+still_if true t u h k = h
+still_if false t u h k = k
+
+walking_still : (birth : ℕ) (post : Post) (x : Option Walk) → Still (allocates.walking birth post x).told
+walking_still birth post None = refl
+walking_still birth post (Some walk) = refl
+
+allocate_still : (at : AllocateAt) (post : Post) (found : ℕ) → Still (machine.allocate_turn at post found).told
+allocate_still LoadBirth post found = refl
+allocate_still (ClaimSlot birth walk) post found = still_if (allocates.is_claimed found walk.slot) _ _ (walking_still birth post (allocates.walk_past post.layout.config.slots walk found)) refl
+allocate_still (StoreLife birth slot) post found = refl
+
+retire_still : (at : RetireAt) (post : Post) (found : ℕ) → Still (machine.retire_turn at post found).told
+retire_still (LoadLife slot) post found = refl
+retire_still (LoadRetire slot birth) post found = refl
+retire_still (StoreRetired slot birth retire) post found = refl
+
+handed_still : (era seat tag index old : ℕ) (post : Post) (same : Bool) → Still (movers.after_hand_over era seat tag index old post same).told
+handed_still era seat tag index old post true = refl
+handed_still era seat tag index old post false = refl
+
+move_still : (at : MoveAt) (post : Post) (found : ℕ) → Still (machine.move_turn at post found).told
+move_still (LoadEra helps) post found = still_if (found == post.layout.config.last_era) _ _ refl refl
+move_still (LoadRequest era seat shows) post found = refl
+move_still (ShowEra era seat tag index root) post found = refl
+move_still (LoadAsked era seat tag index root) post found = refl
+move_still (CheckEra era seat tag index root link) post found = still_if (found == era) _ _ refl refl
+move_still (AnswerAsked era seat tag index root link) post found = still_if (found == slow.asking post.layout tag index root) _ _ refl refl
+move_still (LoadReserved era seat tag index root link) post found = still_if ((read_reservation found).tag == tag) _ _ refl refl
+move_still (HandOver era seat tag index root link old) post found = handed_still era seat tag index old post (found == reservation_word (record { era = old; tag = tag }))
+move_still (HideEra era) post found = refl
+move_still (HideLate seen) post found = refl
+move_still (ExchangeClock era) post found = still_if (found == era) _ _ refl refl
+
+pub calm_still : (base : Base) (post : Post) (found : ℕ) → is_calm base ≡ true → Still (machine.after base post found).told
+calm_still (Allocate at) post found h = allocate_still at post found
+calm_still (Write slot row place) post found h = still_if (place == last_written row) _ _ refl refl
+calm_still (GiveUp slot) post found h = refl
+calm_still (Retire at) post found h = retire_still at post found
+calm_still (Move at) post found h = move_still at post found
+calm_still (Begin at) post found h = absurd (cc)
+calm_still (Protect aim index root steps at) post found h = absurd (cc)
+calm_still (Reload parent index slot era steps) post found h = absurd (cc)
+calm_still (Clear index) post found h = absurd (cc)
+calm_still Finish post found h = absurd (cc)
+calm_still Release post found h = absurd (cc)
+
+-- and leave the interval as it is
+span_if : (post : Post) (c : Bool) (t u : Turn) → t.post.span ≡ post.span → u.post.span ≡ post.span → (if c then t else u).post.span ≡ post.span
+span_if post true t u h k = h
+span_if post false t u h k = k
+
+walking_span : (birth : ℕ) (post : Post) (x : Option Walk) → (allocates.walking birth post x).post.span ≡ post.span
+walking_span birth post None = refl
+walking_span birth post (Some walk) = refl
+
+handed_span : (era seat tag index old : ℕ) (post : Post) (same : Bool) → (movers.after_hand_over era seat tag index old post same).post.span ≡ post.span
+handed_span era seat tag index old post true = refl
+handed_span era seat tag index old post false = refl
+
+move_span : (at : MoveAt) (post : Post) (found : ℕ) → (machine.move_turn at post found).post.span ≡ post.span
+move_span (LoadEra helps) post found = span_if post (found == post.layout.config.last_era) _ _ refl refl
+move_span (LoadRequest era seat shows) post found = refl
+move_span (ShowEra era seat tag index root) post found = refl
+move_span (LoadAsked era seat tag index root) post found = refl
+move_span (CheckEra era seat tag index root link) post found = span_if post (found == era) _ _ refl refl
+move_span (AnswerAsked era seat tag index root link) post found = span_if post (found == slow.asking post.layout tag index root) _ _ refl refl
+move_span (LoadReserved era seat tag index root link) post found = span_if post ((read_reservation found).tag == tag) _ _ refl refl
+move_span (HandOver era seat tag index root link old) post found = handed_span era seat tag index old post (found == reservation_word (record { era = old; tag = tag }))
+move_span (HideEra era) post found = refl
+move_span (HideLate seen) post found = refl
+move_span (ExchangeClock era) post found = span_if post (found == era) _ _ refl refl
+
+pub calm_span : (base : Base) (post : Post) (found : ℕ) → is_calm base ≡ true → (machine.after base post found).post.span ≡ post.span
+calm_span (Allocate LoadBirth) post found h = refl
+calm_span (Allocate (ClaimSlot birth walk)) post found h = span_if post (allocates.is_claimed found walk.slot) _ _ (walking_span birth post (allocates.walk_past post.layout.config.slots walk found)) refl
+calm_span (Allocate (StoreLife birth slot)) post found h = refl
+calm_span (Write slot row place) post found h = span_if post (place == last_written row) _ _ refl refl
+calm_span (GiveUp slot) post found h = refl
+calm_span (Retire (LoadLife slot)) post found h = refl
+calm_span (Retire (LoadRetire slot birth)) post found h = refl
+calm_span (Retire (StoreRetired slot birth retire)) post found h = refl
+calm_span (Move at) post found h = move_span at post found
+calm_span (Begin at) post found h = absurd (cc)
+calm_span (Protect aim index root steps at) post found h = absurd (cc)
+calm_span (Reload parent index slot era steps) post found h = absurd (cc)
+calm_span (Clear index) post found h = absurd (cc)
+calm_span Finish post found h = absurd (cc)
+calm_span Release post found h = absurd (cc)

@@ -1,0 +1,34 @@
+-- What the record and the turns of each history keep, whatever calls begin and whichever seats make their steps.
+use Rattle.std.specs.Prelude.{List, true, ◌≡◌}
+use Rattle.wfe_core.specs.words.Place.{is_valid}
+use Rattle.wfe_core.specs.words.Schemes.{is_wfe, is_ibr}
+use Rattle.wfe_core.specs.words.declared.layout.Layout.{Layout}
+use Rattle.inv_all.specs.history.History.{Item, record_of}
+use Rattle.laws.specs.EraLaw.{SpansRise}
+use Rattle.laws.specs.StepLaw.{ErasRise, HelperLaw, ShowLaw, TakeLaw, RaiseLaw, EndLaw}
+
+-- each history's record keeps them, whatever calls begin and whichever seats make their steps
+abbrev pub RecordsRaiseSpans : Type 0
+RecordsRaiseSpans = (layout : Layout) (items : List Item) → is_valid layout ≡ true → SpansRise (record_of layout items)
+
+abbrev pub RecordsRaiseEras : Type 0
+RecordsRaiseEras = (layout : Layout) (items : List Item) → is_valid layout ≡ true → ErasRise (record_of layout items)
+
+-- each history's record keeps it under Wait-Free Eras, whatever calls begin and whichever seats make their steps
+abbrev pub RecordsKeepHelpers : Type 0
+RecordsKeepHelpers = (layout : Layout) (items : List Item) → is_valid layout ≡ true → is_wfe layout.config.scheme ≡ true → HelperLaw layout.config.tries (record_of layout items)
+
+-- each history's record keeps them under Wait-Free Eras, whatever calls begin and whichever seats make their steps
+abbrev pub RecordsShowLate : Type 0
+RecordsShowLate = (layout : Layout) (items : List Item) → is_valid layout ≡ true → is_wfe layout.config.scheme ≡ true → ShowLaw layout.config (record_of layout items)
+
+abbrev pub RecordsTakeLate : Type 0
+RecordsTakeLate = (layout : Layout) (items : List Item) → is_valid layout ≡ true → is_wfe layout.config.scheme ≡ true → TakeLaw layout.config.tries (record_of layout items)
+
+-- each history's record keeps it under 2GE, whatever calls begin and whichever seats make their steps
+abbrev pub RecordsKeepRaises : Type 0
+RecordsKeepRaises = (layout : Layout) (items : List Item) → is_valid layout ≡ true → is_ibr layout.config.scheme ≡ true → RaiseLaw (record_of layout items)
+
+-- each history's record keeps it, whatever calls begin and whichever seats make their steps
+abbrev pub RecordsKeepEnds : Type 0
+RecordsKeepEnds = (layout : Layout) (items : List Item) → is_valid layout ≡ true → EndLaw layout.config (record_of layout items)

@@ -1,0 +1,6 @@
+pub use Rattle.law_answers.proofs as answers
+pub mod Counting
+pub mod Handovers
+pub mod TryCounts
+pub mod TurnCounts
+pub mod Withdrawals

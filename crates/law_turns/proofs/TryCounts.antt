@@ -1,0 +1,219 @@
+-- Under Hazard Eras a protection's number is that of its tries.
+use Rattle.std.proofs.Common.{ℕ, ◌≡◌, ◌<◌, ◌-◌, ◌+◌, Bool, true, false, List, [], ◌∷◌, ◌++◌, refl, ap, ◌∙◌, arith}
+use Rattle.std.proofs.lemmas.Bool.Decides.{nat_tests}
+use Rattle.std.specs.Prelude.{◌==◌, ◌&&◌, ◌||◌, ◌*◌, not, nat_le, if◌then◌else◌}
+use Rattle.wfe_core.specs.words.Packed.{reservation_word}
+use Rattle.wfe_core.specs.words.declared.config.SchemeKind.{SchemeKind}
+use Rattle.wfe_core.specs.words.declared.config.SchemeKind.TheVariants.{He, Ibr, Wfe}
+use Rattle.wfe_core.specs.words.declared.layout.Layout.{Layout}
+use Rattle.wfe_core.specs.defs.declared.event.Event.{Event}
+use Rattle.wfe_core.specs.defs.declared.event.Event.TheVariants as events
+use Rattle.wfe_core.specs.defs.declared.event.Root.{Root}
+use Rattle.wfe_core.specs.defs.declared.event.Root.TheVariants as roots
+use Rattle.wfe_core.specs.declared.ends.FollowEnd.TheVariants as follow_ends
+use Rattle.wfe_core.specs.declared.post.Post.{Post}
+use Rattle.wfe_core.specs.Machine as machine
+use Rattle.wfe_core.specs.Memory.{bump}
+use Rattle.wfe_core.specs.MoveClock as movers
+use Rattle.wfe_core.specs.Posts.{stands, with_row, counted, cleared, reserves_index}
+use Rattle.wfe_core.specs.Protect.{held_post, told_held, concluded}
+use Rattle.wfe_core.specs.Rounds.{scheme_of, clear_told, index_of}
+use Rattle.wfe_core.specs.World.{World, finds, is_busy, told_in}
+use Rattle.wfe_core.specs.Phases.{Aim, ProtectAt, MoveAt, Base, Turn, ends}
+use Rattle.wfe_core.specs.Phases.ProtectAt.{LoadClock, PublishEra, LoadLink, CheckClock, PublishRequest, LoadOwnClock, PublishHelper, LoadOwnLink, CheckOwnClock, AnswerOwn, LoadAnswer, TakeAnswer, WithdrawRequest, WithdrawHelper, LoadWithin, CheckUpper, RaiseUpper}
+use Rattle.wfe_core.specs.Phases.MoveAt.{HandOver}
+use Rattle.wfe_core.specs.Phases.Base.{Begin, Protect, Reload, Clear, Finish, Release, Allocate, Write, GiveUp, Retire, Move}
+use Rattle.wfe_core.specs.Phases.Ending.{Followed}
+use Rattle.wfe_core.specs.Calls.{Task, Gets, Changes, Holds, Enqueues, Dequeues, Why, Opens, FollowsHead, Fills, ClearsNext, Clears, Finishes, GivesUp, Retires, Tidies, Advances, Releases, ReadGuard, GiveBack, Phase, Idle, Runs, Scans, Works}
+use Rattle.wfe_core.proofs.Facts.{both, first_of, rest_of, false_not_true, and_true, three_more, le_of_test}
+use Rattle.wfe_core.specs.words.Schemes.{is_ibr, is_he}
+use Rattle.inv_all.specs.shapes.Seats.{protects, reloads, kind_of, index_by, root_by}
+use Rattle.inv_all.proofs.history.Passes.{Closed, First, step_goes}
+use Rattle.inv_all.specs.history.Turns as schedule
+use Rattle.inv_all.specs.history.Turns.History.{Turns}
+use Rattle.inv_all.specs.history.History.{Made}
+use Rattle.inv_all.specs.history.Turns.{EachTurn}
+use Rattle.laws.specs.StepLaw.{event_tried, events_tried, tries_right}
+use Rattle.law_turns.specs.Records.{TriesCount}
+use Rattle.law_answers.proofs.OneStep.Along.{Around, Kept, history_keeps}
+use Rattle.law_turns.proofs.Counting.Counting.{Keeps, published, since_of, seat_of, published_here, begin_kept, step_kept, first_kept}
+use Rattle.law_turns.proofs.Counting.Fits.{since, tried}
+use Rattle.law_turns.proofs.Counting.Passing.{he_tried, or_he}
+use Rattle.law_turns.proofs.Counting.Protects.{Site, x_next}
+use Rattle.law_turns.proofs.Counting.Runs.{x_after, phase_x, Stage, Seat, bump_low, site_of, stage_of}
+use Rattle.law_turns.proofs.Counting.Told.{is_dull, all_dull, quiet_dull, clear_dull, cleared_dull, concluded_told, move_dull, allocate_dull, retire_dull, write_dull}
+use Rattle.inv_all.proofs.requests.Paced.{wfe_not_he}
+
+dull_one : (x : ℕ → ℕ) (event : Event) → is_dull event ≡ true → event_tried x event ≡ true
+dull_one x (events.Held index slot steps) h = absurd (cc)
+dull_one x (events.Null index steps) h = absurd (cc)
+dull_one x event h = refl
+
+dull_tried : (x : ℕ → ℕ) (told : List Event) → all_dull told ≡ true → events_tried x told ≡ true
+dull_tried x [] h = refl
+dull_tried x (event ∷ told) h = both (event_tried x event) (events_tried x told) (dull_one x event (first_of (is_dull event) (all_dull told) h)) (dull_tried x told (rest_of (is_dull event) (all_dull told) h))
+
+tried_along : (x : ℕ → ℕ) (xs ys : List Event) → events_tried x xs ≡ true → events_tried x ys ≡ true → events_tried x (xs ++ ys) ≡ true
+tried_along x [] ys h k = k
+tried_along x (e ∷ xs) ys h k = both (event_tried x e) (events_tried x (xs ++ ys)) (first_of (event_tried x e) (events_tried x xs) h) (tried_along x xs ys (rest_of (event_tried x e) (events_tried x xs) h) k)
+
+tried_closed : (x : ℕ → ℕ) → Closed (λ post told. events_tried x told ≡ true)
+tried_closed x = record {
+  calm = λ post told more q h. tried_along x told more h (dull_tried x more (quiet_dull more q));
+  clears = λ post told index h. tried_along x told (clear_told (scheme_of post) post index) h (dull_tried x (clear_told (scheme_of post) post index) (clear_dull (scheme_of post) post index));
+}
+
+tried_if : (x : ℕ → ℕ) (c : Bool) (t v : Turn) → events_tried x t.told ≡ true → events_tried x v.told ≡ true → events_tried x (if c then t else v).told ≡ true
+tried_if x true t v a b = a
+tried_if x false t v a b = b
+
+-- a link that was found
+two_ways : (x : ℕ → ℕ) (index slot n : ℕ) (none : Bool) → (index == 1) ≡ false → (n == 3 * x index + 1) ≡ true → events_tried x (if none then events.Null index n ∷ [] else events.Held index slot n ∷ []) ≡ true
+two_ways x index slot n true i h = and_true (n == 3 * x index + 1) h
+two_ways x index slot n false i h = and_true (event_tried x (events.Held index slot n)) (rw i h)
+
+one_way : (x : ℕ → ℕ) (index n : ℕ) (none : Bool) → (n == 3 * x index + 1) ≡ true → events_tried x (if none then events.Null index n ∷ [] else []) ≡ true
+one_way x index n true h = and_true (n == 3 * x index + 1) h
+one_way x index n false h = refl
+
+held_tried : (x : ℕ → ℕ) (index : ℕ) (root : Root) (link n : ℕ) → (index == 1) ≡ false → (n == 3 * x index + 1) ≡ true → events_tried x (told_held index root link n) ≡ true
+held_tried x index (roots.Next parent) link n i h = one_way x index n (link == 0) h
+held_tried x index (roots.Bucket bucket) link n i h = two_ways x index (link - 1) n (link == 0) i h
+held_tried x index roots.Head link n i h = two_ways x index (link - 1) n (link == 0) i h
+held_tried x index roots.Tail link n i h = two_ways x index (link - 1) n (link == 0) i h
+
+pub task_index : (task : Task) → (index_of task == 1) ≡ false
+task_index (Gets key) = refl
+task_index (Changes kept) = refl
+task_index (Holds key) = refl
+task_index (Enqueues kept) = refl
+task_index Dequeues = refl
+
+found_tried : (x : ℕ → ℕ) (buckets : ℕ) (why : Why) (index : ℕ) (root : Root) (link n : ℕ) → protects (kind_of why) ≡ true → index ≡ index_by why → root ≡ root_by buckets why → (n == 3 * x index + 1) ≡ true → events_tried x (told_held index root link n) ≡ true
+found_tried x buckets (Opens task) index root link n p i r h = held_tried x index root link n (rw i (task_index task)) h
+found_tried x buckets (FollowsHead head tail) index root link n p i r h = rw r (one_way x index n (link == 0) h)
+found_tried x buckets (Fills task) index root link n p i r h = absurd (cc)
+found_tried x buckets (ClearsNext next) index root link n p i r h = absurd (cc)
+found_tried x buckets (Clears task next) index root link n p i r h = absurd (cc)
+found_tried x buckets (Finishes task next) index root link n p i r h = absurd (cc)
+found_tried x buckets (GivesUp answer) index root link n p i r h = absurd (cc)
+found_tried x buckets (Retires answer) index root link n p i r h = absurd (cc)
+found_tried x buckets (Tidies later) index root link n p i r h = absurd (cc)
+found_tried x buckets Advances index root link n p i r h = absurd (cc)
+found_tried x buckets (Releases key) index root link n p i r h = absurd (cc)
+
+protect_tried : (x u : ℕ → ℕ) (buckets : ℕ) (why : Why) (aim : Aim) (index : ℕ) (root : Root) (steps n count : ℕ) (at : ProtectAt) (post : Post) (found : ℕ) → is_he (scheme_of post) ≡ true → Site x u buckets why aim index root steps n count at post → events_tried (x_next x index at) (machine.protect_turn aim index root n at post found).told ≡ true
+protect_tried x u buckets why aim index root steps n count (LoadClock tries) post found e s = refl
+protect_tried x u buckets why aim index root steps n count (PublishEra era tries) post found e s = refl
+protect_tried x u buckets why aim index root steps n count (LoadLink era tries) post found e s = refl
+protect_tried x u buckets why aim index root steps n count (CheckClock era tries link) post found e s =
+    let z : (steps == 3 * x index) ≡ true = he_tried (scheme_of post) post.layout.config.tries tries (steps == 3 * x index) s.fits e (rest_of (since steps (x index) (u index)) (tried tries (steps == 3 * x index)) s.paced) in
+    let m : (n == 3 * x index + 1) ≡ true = rw (s.next) (three_more steps (x index) z) in
+    tried_if x (found == era) (concluded aim index root n link era (held_post post index root link) (told_held index root link n)) _
+    (rw (concluded_told aim index root n link era (held_post post index root link) (told_held index root link n)) (found_tried x buckets why index root link n s.protects s.place s.of m)) refl
+protect_tried x u buckets why aim index root steps n count PublishRequest post found e s = refl
+protect_tried x u buckets why aim index root steps n count LoadOwnClock post found e s = refl
+protect_tried x u buckets why aim index root steps n count (PublishHelper first era last) post found e s = refl
+protect_tried x u buckets why aim index root steps n count (LoadOwnLink first era last) post found e s = refl
+protect_tried x u buckets why aim index root steps n count (CheckOwnClock first era last link) post found e s = absurd (wfe_not_he (scheme_of post) s.fits e)
+protect_tried x u buckets why aim index root steps n count (AnswerOwn first era link) post found e s = absurd (wfe_not_he (scheme_of post) s.fits e)
+protect_tried x u buckets why aim index root steps n count (LoadAnswer first) post found e s = refl
+protect_tried x u buckets why aim index root steps n count (TakeAnswer link era) post found e s = absurd (wfe_not_he (scheme_of post) s.fits e)
+protect_tried x u buckets why aim index root steps n count (WithdrawRequest link era) post found e s = refl
+protect_tried x u buckets why aim index root steps n count (WithdrawHelper link era) post found e s = absurd (wfe_not_he (scheme_of post) s.fits e)
+protect_tried x u buckets why aim index root steps n count LoadWithin post found e s = absurd (false_not_true (is_ibr (scheme_of post)) s.scheme s.fits)
+protect_tried x u buckets why aim index root steps n count (CheckUpper link) post found e s = absurd (false_not_true (is_ibr (scheme_of post)) s.scheme s.fits)
+protect_tried x u buckets why aim index root steps n count (RaiseUpper era) post found e s = absurd (false_not_true (is_ibr (scheme_of post)) s.scheme s.fits)
+
+handed_tried : (x : ℕ → ℕ) (era seat tag index old : ℕ) (post : Post) (same : Bool) → events_tried x (movers.after_hand_over era seat tag index old post same).told ≡ true
+handed_tried x era seat tag index old post true = refl
+handed_tried x era seat tag index old post false = refl
+
+move_tried : (x : ℕ → ℕ) (at : MoveAt) (post : Post) (found : ℕ) → events_tried x (machine.move_turn at post found).told ≡ true
+move_tried x (HandOver era seat tag index root link old) post found = handed_tried x era seat tag index old post (found == reservation_word (record { era = old; tag = tag }))
+move_tried x at post found = dull_tried x (machine.move_turn at post found).told (move_dull at post found refl)
+
+reload_index : (why : Why) → reloads (kind_of why) ≡ true → (index_by why == 1) ≡ true
+reload_index (FollowsHead head tail) h = refl
+reload_index (Opens task) h = absurd (cc)
+reload_index (Fills task) h = absurd (cc)
+reload_index (ClearsNext next) h = absurd (cc)
+reload_index (Clears task next) h = absurd (cc)
+reload_index (Finishes task next) h = absurd (cc)
+reload_index (GivesUp answer) h = absurd (cc)
+reload_index (Retires answer) h = absurd (cc)
+reload_index (Tidies later) h = absurd (cc)
+reload_index Advances h = absurd (cc)
+reload_index (Releases key) h = absurd (cc)
+
+one_step_more : (made x : ℕ) → (made == 3 * x + 1) ≡ true → (made + 1 == 3 * x + 2) ≡ true
+one_step_more made x h = grind (arith, nat_tests)
+
+run_tried : (x u : ℕ → ℕ) (layout : Layout) (why : Why) (base : Base) (post : Post) (found count : ℕ) → is_he (scheme_of post) ≡ true → Stage x u layout why base post found count → events_tried (x_after x base) (machine.after base post found).told ≡ true
+run_tried x u layout why (Begin at) post found count e s = absurd (false_not_true (is_ibr layout.config.scheme) s.scheme s.run.fits)
+run_tried x u layout why (Protect aim index root made at) post found count e s = protect_tried x u layout.config.buckets why aim index root made (bump made) count at post found e (site_of layout why aim index root made at post found count s)
+run_tried x u layout why (Reload parent index slot era made) post found count e s =
+    let o : (nat_le made count && (not (is_he (scheme_of post)) || made == 3 * x index + 1)) ≡ true = rest_of (since made (x index) (u index)) (nat_le made count && (not (is_he (scheme_of post)) || made == 3 * x index + 1)) s.own in
+    let f : nat_le made count ≡ true = first_of (nat_le made count) (not (is_he (scheme_of post)) || made == 3 * x index + 1) o in
+    let m : (made == 3 * x index + 1) ≡ true = or_he (is_he (scheme_of post)) (made == 3 * x index + 1) (rest_of (nat_le made count) (not (is_he (scheme_of post)) || made == 3 * x index + 1) o) e in
+    let b : bump made ≡ made + 1 = bump_low made count (le_of_test made count f) s.low in
+    let r = s.run in
+    let a = r.shape in
+    let i : (index == 1) ≡ true = rw (a.at) (reload_index why r.suited) in
+    tried_if x (found == parent + 1) (ends (with_row post index slot) (events.Held index slot (bump made) ∷ []) (Followed (follow_ends.Followed slot))) (ends post [] (Followed (follow_ends.RootMoved found)))
+    (and_true (event_tried x (events.Held index slot (bump made))) (rw i (rw b (one_step_more made (x index) m)))) refl
+run_tried x u layout why (Clear index) post found count e s = tried_along (x_after x (Clear index)) (cleared index (stands post index)) (reserves_index post index 0) (dull_tried (x_after x (Clear index)) (cleared index (stands post index)) (cleared_dull index (stands post index))) refl
+run_tried x u layout why Finish post found count e s = refl
+run_tried x u layout why Release post found count e s = absurd (false_not_true (is_ibr layout.config.scheme) s.scheme s.run.fits)
+run_tried x u layout why (Allocate at) post found count e s = dull_tried x (machine.allocate_turn at post found).told (allocate_dull at post found)
+run_tried x u layout why (Write slot row place) post found count e s = dull_tried x (machine.after (Write slot row place) post found).told (write_dull slot row place post found)
+run_tried x u layout why (GiveUp slot) post found count e s = refl
+run_tried x u layout why (Retire at) post found count e s = dull_tried x (machine.retire_turn at post found).told (retire_dull at post found)
+run_tried x u layout why (Move at) post found count e s = move_tried x at post found
+
+turn_tried : (x u : ℕ → ℕ) (layout : Layout) (i : ℕ) (phase : Phase) (post : Post) (found : ℕ) → is_he (scheme_of post) ≡ true → Seat x u layout i phase post → First (λ p told. events_tried (λ j. phase_x phase j (x j)) told ≡ true) phase (counted post) found
+turn_tried x u layout i Idle post found e s = refl
+turn_tried x u layout i (Runs why base) post found e s = run_tried x u layout why base (counted post) found post.steps e (stage_of x u layout i why base post found s)
+turn_tried x u layout i (Scans later (ReadGuard number)) post found e s = refl
+turn_tried x u layout i (Scans later (GiveBack place slot)) post found e s = refl
+turn_tried x u layout i (Works work) post found e s = refl
+
+event_same : (x y : ℕ → ℕ) (event : Event) → ((j : ℕ) → y j ≡ x j) → event_tried x event ≡ true → event_tried y event ≡ true
+event_same x y (events.Held index slot n) p h = rw (p index) h
+event_same x y (events.Null index n) p h = rw (p index) h
+event_same x y event p h = refl
+
+events_same : (x y : ℕ → ℕ) (told : List Event) → ((j : ℕ) → y j ≡ x j) → events_tried x told ≡ true → events_tried y told ≡ true
+events_same x y [] p h = refl
+events_same x y (event ∷ told) p h = both (event_tried y event) (events_tried y told) (event_same x y event p (first_of (event_tried x event) (events_tried x told) h)) (events_same x y told p (rest_of (event_tried x event) (events_tried x told) h))
+
+-- along a history
+record Tries (layout : Layout) (made : Made) (h : schedule.History) : Type 0 where
+  pub keeps : Keeps layout made h
+  pub law : EachTurn tries_right h
+
+not_ibr : (scheme : SchemeKind) → is_he scheme ≡ true → is_ibr scheme ≡ false
+not_ibr He h = refl
+not_ibr Ibr h = absurd (cc)
+not_ibr Wfe h = refl
+
+step_law : (layout : Layout) (made : Made) (h : schedule.History) (i : ℕ) → is_he layout.config.scheme ≡ true → Around made h → i < made.world.layout.config.seats → is_busy made.world i ≡ true → Keeps layout made h → tries_right h i (told_in made.world i) ≡ true
+step_law layout made h i e a b y g =
+    let w : World = made.world in
+    let s = seat_of layout made h i (not_ibr layout.config.scheme e) a y g in
+    let o = s.owned in
+    let q : is_he (scheme_of (w.seat i).post) ≡ true = ap (λ (table : Layout). is_he table.config.scheme) o.layout ∙ e in
+    let x : ℕ → ℕ = λ j. phase_x (w.seat i).phase j (published h i j) in
+    let r : events_tried x (told_in w i) ≡ true =
+    step_goes (λ p told. events_tried x told ≡ true) (tried_closed x) (w.seat i).phase (counted (w.seat i).post) (w.seat i).desk (finds w i) (turn_tried (published h i) (since_of h i) layout i (w.seat i).phase (w.seat i).post (finds w i) q s) in
+    events_same x (published (Turns h i (told_in w i)) i) (told_in w i) (λ j. published_here w i j h a.known b) r
+
+kept : (layout : Layout) → is_he layout.config.scheme ≡ true → Kept (Tries layout)
+kept layout e = record {
+  begins = λ made h i call a b f g. record { keeps = begin_kept layout made h i call f g.keeps; law = g.law };
+  steps = λ made h i a b y g. record { keeps = step_kept layout made h i (not_ibr layout.config.scheme e) a b y g.keeps; law = (step_law layout made h i e a b y g.keeps, g.law) };
+}
+
+pub tries_count : TriesCount
+tries_count layout items d e =
+    let g = history_keeps layout (Tries layout) (kept layout e) d items (record { keeps = first_kept layout (not_ibr layout.config.scheme e); law = tt }) in g.law

@@ -1,0 +1,2 @@
+pub use Rattle.law_answers.specs as answers
+pub mod Records

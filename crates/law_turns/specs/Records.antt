@@ -1,0 +1,38 @@
+-- What the record and the turns of each history keep, whatever calls begin and whichever seats make their steps.
+use Rattle.std.specs.Prelude.{List, true, ◌≡◌, ℕ, false}
+use Rattle.wfe_core.specs.words.Place.{is_valid}
+use Rattle.wfe_core.specs.words.Schemes.{is_wfe, is_he, is_ibr}
+use Rattle.wfe_core.specs.words.declared.layout.Layout.{Layout}
+use Rattle.inv_all.specs.history.Heard.{heard_of}
+use Rattle.inv_all.specs.history.History.{Item}
+use Rattle.inv_all.specs.history.Turns.{EachTurn}
+use Rattle.laws.specs.Schedule.{numbers_right, handed_right}
+use Rattle.laws.specs.StepLaw.{turns_bounded, lasts_right, withdrawn_right, tries_right}
+
+-- each history keeps it under Wait-Free Eras, whatever calls begin and whichever seats make their steps
+abbrev pub ProtectionsEnd : Type 0
+ProtectionsEnd = (layout : Layout) (items : List Item) → is_valid layout ≡ true → is_wfe layout.config.scheme ≡ true → EachTurn (turns_bounded layout.config.tries) (heard_of layout items)
+
+-- each history keeps it under Wait-Free Eras, whatever calls begin and whichever seats make their steps
+abbrev pub ProtectionsLast : Type 0
+ProtectionsLast =
+    (layout : Layout) (items : List Item) (j : ℕ)
+    → is_valid layout ≡ true
+    → is_wfe layout.config.scheme ≡ true
+    → EachTurn (lasts_right layout.config.tries j) (heard_of layout items)
+
+-- each history keeps it, whatever calls begin and whichever seats make their steps
+abbrev pub WithdrawalsFollow : Type 0
+WithdrawalsFollow = (layout : Layout) (items : List Item) → is_valid layout ≡ true → EachTurn withdrawn_right (heard_of layout items)
+
+-- each history keeps it under Hazard Eras, whatever calls begin and whichever seats make their steps
+abbrev pub TriesCount : Type 0
+TriesCount = (layout : Layout) (items : List Item) → is_valid layout ≡ true → is_he layout.config.scheme ≡ true → EachTurn tries_right (heard_of layout items)
+
+-- each history keeps it under Hazard Eras and Wait-Free Eras, whatever calls begin and whichever seats make their steps
+abbrev pub ProtectionsCount : Type 0
+ProtectionsCount = (layout : Layout) (items : List Item) → is_valid layout ≡ true → is_ibr layout.config.scheme ≡ false → EachTurn numbers_right (heard_of layout items)
+
+-- each history keeps it under Hazard Eras and Wait-Free Eras, whatever calls begin and whichever seats make their steps
+abbrev pub HandoversMeet : Type 0
+HandoversMeet = (layout : Layout) (items : List Item) → is_valid layout ≡ true → is_ibr layout.config.scheme ≡ false → EachTurn handed_right (heard_of layout items)

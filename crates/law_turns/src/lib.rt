@@ -1,0 +1,45 @@
+//! How many turns of a seat a protection takes. Each function here does nothing, and carries
+//! a theorem.
+#![tactic(auto)]
+
+ghost use Rattle.law_turns.specs.Records.{HandoversMeet, ProtectionsCount, ProtectionsEnd, ProtectionsLast, TriesCount, WithdrawalsFollow};
+
+/// Under Hazard Eras and Wait-Free Eras the number in a Held or Null is that of the seat's turns from
+/// the first of the protection to the one that tells it. The first is the turn before the one with
+/// which the seat's index word, which published nothing, published an era, and both are turns of the
+/// present call.
+pub fn protections_count()
+    ensures { ProtectionsCount }
+{}
+
+/// Under Wait-Free Eras a whole protection takes `3 * tries + 12` turns of its seat at most, from its
+/// first to the one that tells the row that it holds, or null. One that follows the head's next link
+/// takes three more.
+pub fn protections_end()
+    ensures { ProtectionsEnd }
+{}
+
+/// A seat tells of another seat's index word, where it hands an answer over, only while that word
+/// publishes. So what a seat has published there by its own word is published.
+pub fn handovers_meet()
+    ensures { HandoversMeet }
+{}
+
+/// Under Hazard Eras the number of a protection is one more than three times the number of eras that the seat's index
+/// word published since it published nothing, and for a row that was followed two more.
+pub fn tries_count()
+    ensures { TriesCount }
+{}
+
+/// Where a seat tells Held or Null while its helper word publishes, as comes about under Wait-Free Eras, its
+/// next turn tells nothing, and the one after tells first that the helper word publishes nothing.
+pub fn withdrawals_follow()
+    ensures { WithdrawalsFollow }
+{}
+
+/// Under Wait-Free Eras a protection is under way for `3 * tries + 14` turns of its seat at most, from its first
+/// turn to the one that tells its end, or that withdraws the helper word after that. One that follows the
+/// head's next link takes two more at most, also where the head has moved and the index word is withdrawn.
+pub fn protections_last()
+    ensures { ProtectionsLast }
+{}

@@ -1,0 +1,37 @@
+-- What a call that begins keeps, and each step, is kept along a history.
+use Rattle.std.proofs.Common.{ℕ, ◌≡◌, ◌<◌, Bool, true, false, List, [], ◌∷◌, ◌++◌, refl, arith}
+use Rattle.std.proofs.lemmas.Bool.Decides.{nat_tests}
+use Rattle.std.specs.Prelude.{◌&&◌, not, nat_lt}
+use Rattle.wfe_core.specs.defs.declared.call.Call.{Call}
+use Rattle.wfe_core.specs.World.{is_busy}
+use Rattle.model_history.specs.History.{Item, Begins, Steps, Made, fits, done, done_if, did, made_from}
+use Rattle.wfe_core.proofs.Facts.{rest_of}
+
+-- where an item fits
+pub low_seat : (seat seats : ℕ) (b : Bool) → (nat_lt seat seats && b) ≡ true → seat < seats
+low_seat seat seats b h = grind (arith, nat_tests)
+
+pub begins_right : (seat seats : ℕ) (busy : Bool) → (nat_lt seat seats && not busy) ≡ true → busy ≡ false
+begins_right seat seats true h = absurd (grind (arith, nat_tests))
+begins_right seat seats false h = refl
+
+-- a property of what items come to, which each item that fits keeps
+pub record Steady (K : Made → Type 0) : Type 0 where
+  pub begins : (made : Made) (i : ℕ) (call : Call) → i < made.world.layout.config.seats → is_busy made.world i ≡ false → K made → K (done made (Begins i call))
+  pub steps : (made : Made) (i : ℕ) → i < made.world.layout.config.seats → is_busy made.world i ≡ true → K made → K (done made (Steps i))
+
+pub item_keeps : (K : Made → Type 0) → Steady K → (made : Made) (item : Item) (fit : Bool) → fits made.world item ≡ fit → K made → K (done_if made item fit)
+item_keeps K s made item false f g = g
+item_keeps K s made (Begins i call) true f g =
+    s.begins made i call (low_seat i made.world.layout.config.seats (not (is_busy made.world i)) f) (begins_right i made.world.layout.config.seats (is_busy made.world i) f) g
+item_keeps K s made (Steps i) true f g =
+    s.steps made i (low_seat i made.world.layout.config.seats (is_busy made.world i) f) (rest_of (nat_lt i made.world.layout.config.seats) (is_busy made.world i) f) g
+
+pub items_keep : (K : Made → Type 0) → Steady K → (items : List Item) (made : Made) → K made → K (made_from made items)
+items_keep K s [] made g = g
+items_keep K s (item ∷ items) made g = items_keep K s items (did made item) (item_keeps K s made item (fits made.world item) refl g)
+
+-- one item more
+pub made_snoc : (made : Made) (path : List Item) (item : Item) → made_from made (path ++ item ∷ []) ≡ did (made_from made path) item
+made_snoc made [] item = refl
+made_snoc made (first ∷ path) item = made_snoc (did made first) path item

@@ -1,0 +1,5 @@
+pub mod Falls
+pub mod Helping
+pub mod Queues
+pub mod Readers
+pub mod Tables

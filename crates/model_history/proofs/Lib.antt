@@ -1,0 +1,5 @@
+pub use Rattle.wfe_core.proofs as model
+pub mod Along
+pub mod Entries
+pub mod History
+pub mod Passes

@@ -1,0 +1,13 @@
+pub use Rattle.wfe_core.specs as model
+pub use Rattle.wfe_core.specs.defs as defs
+pub use Rattle.wfe_core.specs.words as words
+pub mod Among
+pub mod Falls
+pub mod Heard
+pub mod Helping
+pub mod History
+pub mod Queues
+pub mod Readers
+pub mod Record
+pub mod Tables
+pub mod Turns

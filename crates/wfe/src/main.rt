@@ -1,0 +1,48 @@
+//! The program `wfe`: replays a trace of calls on a map and a queue, and prints the record, or a summary of a generated trace.
+#![tactic(auto)]
+
+use std::io::BufWriter;
+use std::process::ExitCode;
+use std::rt::Env;
+use std::{env, io};
+use wfe_cli::{exit_number, main_call};
+use wfe_outside::{StdSink, StdSource, Watcher};
+use wfe_trace::Status;
+use wfe_watch::KeyCounter;
+
+// Bytes that standard output keeps before it hands them on.
+const BUFFER: usize = 65_536;
+
+// The words after the program's name. Where they can't be had as text they are no command.
+fn words_given(rt: &(impl Env + AllocGlobal)) -> Vec<String> {
+    match env::args(rt) {
+        Ok(all) => match all.skip(1).collect(rt.alloc()) {
+            Ok(words) => words,
+            Err(_) => Vec::new(rt.alloc()),
+        },
+        Err(_) => Vec::new(rt.alloc()),
+    }
+}
+
+fn main(rt: HostRuntime) -> ExitCode {
+    let alloc = rt.alloc();
+    let words = words_given(&rt);
+    let mut source = StdSource::new(rt.reader());
+    let Ok(writer) = BufWriter::with_capacity(alloc, BUFFER, io::writer(&rt)) else {
+        return ExitCode::from(exit_number(Status::NoMemory));
+    };
+    let mut sink = StdSink::new(writer);
+    let mut watchers: Vec<Box<dyn Watcher>> = Vec::new(alloc);
+    let Ok(counter) = Box::new(alloc, KeyCounter::new(alloc)) else {
+        return ExitCode::from(exit_number(Status::NoMemory));
+    };
+    if watchers.push(counter).is_err() {
+        return ExitCode::from(exit_number(Status::NoMemory));
+    }
+    let status = main_call(&rt, alloc, &words, &mut source, &mut sink, &mut watchers);
+    let status = match sink.flush() {
+        Ok(()) => status,
+        Err(_) => Status::WriteFault,
+    };
+    ExitCode::from(exit_number(status))
+}

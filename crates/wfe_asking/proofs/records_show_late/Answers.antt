@@ -1,5 +1,0 @@
-use Rattle.wfe_asking.proofs.Kept as kept
-use Rattle.wfe_asking.proofs.records_show_late.Goals as goal
-
-pub returns : goal.returns
-returns c = kept.records_show_late

@@ -1,0 +1,2 @@
+pub mod ChangeStates
+pub mod Changes

@@ -1,0 +1,78 @@
+// One of the calls, by name.
+use wfe_core::{Answer, CallMachine, Desk, Op, Post, Told};
+
+/// A call under way, whichever it is.
+#[derive(Drop)]
+pub enum Running<
+    G: CallMachine,
+    P: CallMachine,
+    M: CallMachine,
+    E: CallMachine,
+    D: CallMachine,
+    H: CallMachine,
+    R: CallMachine,
+    A: CallMachine,
+    N: CallMachine,
+> {
+    Gets(G),
+    Puts(P),
+    Removes(M),
+    Enqueues(E),
+    Dequeues(D),
+    Holds(H),
+    Releases(R),
+    Advances(A),
+    Scans(N),
+}
+
+impl<
+    G: CallMachine,
+    P: CallMachine,
+    M: CallMachine,
+    E: CallMachine,
+    D: CallMachine,
+    H: CallMachine,
+    R: CallMachine,
+    A: CallMachine,
+    N: CallMachine,
+> CallMachine for Running<G, P, M, E, D, H, R, A, N> {
+    ghost use Rattle.wfe_call_any.specs.Runs.{AllSuit, running_phase};
+
+    ghost suits = { AllSuit G.suits P.suits M.suits E.suits D.suits H.suits R.suits A.suits N.suits };
+
+    ghost phase = { running_phase G.phase P.phase M.phase E.phase D.phase H.phase R.phase A.phase N.phase };
+
+    fn next_op(&self, post: &Post, desk: &Desk) -> Op {
+        match self {
+            Running::Gets(machine) => machine.next_op(post, desk),
+            Running::Puts(machine) => machine.next_op(post, desk),
+            Running::Removes(machine) => machine.next_op(post, desk),
+            Running::Enqueues(machine) => machine.next_op(post, desk),
+            Running::Dequeues(machine) => machine.next_op(post, desk),
+            Running::Holds(machine) => machine.next_op(post, desk),
+            Running::Releases(machine) => machine.next_op(post, desk),
+            Running::Advances(machine) => machine.next_op(post, desk),
+            Running::Scans(machine) => machine.next_op(post, desk),
+        }
+    }
+
+    fn take(
+        &mut self,
+        post: &mut Post,
+        desk: &mut Desk,
+        found: u64,
+        told: &mut Told,
+    ) -> Option<Answer> {
+        match self {
+            Running::Gets(machine) => machine.take(post, desk, found, told),
+            Running::Puts(machine) => machine.take(post, desk, found, told),
+            Running::Removes(machine) => machine.take(post, desk, found, told),
+            Running::Enqueues(machine) => machine.take(post, desk, found, told),
+            Running::Dequeues(machine) => machine.take(post, desk, found, told),
+            Running::Holds(machine) => machine.take(post, desk, found, told),
+            Running::Releases(machine) => machine.take(post, desk, found, told),
+            Running::Advances(machine) => machine.take(post, desk, found, told),
+            Running::Scans(machine) => machine.take(post, desk, found, told),
+        }
+    }
+}

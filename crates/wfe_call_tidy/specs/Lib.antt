@@ -1,0 +1,2 @@
+pub mod Reclaims
+pub mod Tidies

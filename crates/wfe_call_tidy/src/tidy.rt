@@ -1,0 +1,79 @@
+// The clock is moved, and then the retire list is scanned.
+ghost use Rattle.std.specs.Prelude.{◌≡◌, ◌≤◌, [], length};
+ghost use Rattle.wfe_core.specs.Calls.{AfterScan, Runs, Tidies};
+ghost use Rattle.wfe_core.specs.DeskHeld.{HasRoom, desk_of};
+ghost use Rattle.wfe_core.specs.Phases.Base.{Move};
+ghost use Rattle.wfe_core.specs.Phases.MoveAt.{LoadEra};
+ghost use Rattle.wfe_core.specs.Steps.{call_op, phase_turn};
+ghost use Rattle.wfe_core.specs.Valid.{IsValid};
+ghost use Rattle.wfe_call_tidy.specs.Tidies.{IsTidyPlausible, IsTidyReady, tidy_op_ready, tidy_phase, tidy_turn};
+
+use wfe_core::{ClockMove, Desk, Machine, Op, Post, Told};
+use wfe_help::MoveClock;
+use wfe_scan::Scanner;
+
+/// A move of the clock, and then a scan, with the outcome of the move. What comes after it is the
+/// call's matter.
+#[derive(Drop)]
+pub enum Tidy {
+    Moves(MoveClock),
+    Scans(ClockMove, Scanner),
+}
+
+impl Tidy {
+    /// A tidying that has made no step. The move answers pending requests first where it `helps`.
+    pub fn new(helps: bool) -> Tidy
+        ensures { (later : AfterScan) → tidy_phase later result ≡ Runs (Tidies later) (Move (LoadEra helps)) }
+    {
+        Tidy::Moves(MoveClock::new(helps))
+    }
+
+    /// The operation that it asks for.
+    pub fn next_op(&self, post: &Post) -> Op
+        requires valid { IsValid post.now }
+        requires ready { tidy_op_ready self.now post.now }
+        ensures { (later : AfterScan) → result ≡ call_op (tidy_phase later self.now) post.now }
+    {
+        match self {
+            Tidy::Moves(machine) => machine.next_op(post),
+            Tidy::Scans(_, scanner) => scanner.next_op(post),
+        }
+    }
+
+    /// Takes what that operation found, and tells its events. It answers with the outcome of the
+    /// move, in eras, where the scan is over.
+    pub fn take(
+        &mut self,
+        post: &mut Post,
+        desk: &mut Desk,
+        found: u64,
+        told: &mut Told,
+    ) -> Option<ClockMove>
+        requires valid { IsValid post.old }
+        requires room { HasRoom desk.old post.old.layout }
+        requires ready { IsTidyReady self.old post.old (desk_of desk.old) }
+        requires plausible { IsTidyPlausible self.old post.old found }
+        requires empty { told.old ≡ [] }
+        ensures turn { (later : AfterScan) → phase_turn (tidy_phase later self.old) post.old (desk_of desk.old) found ≡ tidy_turn later post.new (desk_of desk.new) told.new result self.new }
+        ensures valid { IsValid post.new }
+        ensures layout { post.new.layout ≡ post.old.layout }
+        ensures seat { post.new.seat ≡ post.old.seat }
+        ensures room { HasRoom desk.new post.new.layout }
+        ensures notes { (desk_of desk.new).notes ≡ (desk_of desk.old).notes }
+        ensures few { length told.new ≤ 2 }
+    {
+        match self {
+            Tidy::Moves(machine) => {
+                let clock = machine.take(post, found, told)?;
+                *self = Tidy::Scans(clock, Scanner::new());
+                None
+            }
+            Tidy::Scans(clock, scanner) => {
+                if scanner.take(post, desk, found, told) {
+                    return Some(*clock);
+                }
+                None
+            }
+        }
+    }
+}

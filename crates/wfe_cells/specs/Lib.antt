@@ -1,4 +1,0 @@
-pub mod Operations
-pub mod Memory
-pub mod Bridge
-pub mod Unit

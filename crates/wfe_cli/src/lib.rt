@@ -1,0 +1,8 @@
+//! The command `wfe` as a call: words, a source and a sink in, a status out.
+#![tactic(auto)]
+
+mod command;
+#[cfg(test)]
+mod tests;
+
+pub use command::{exit_number, main_call};

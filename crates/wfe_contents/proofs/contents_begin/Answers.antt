@@ -1,5 +1,0 @@
-use Rattle.wfe_contents.proofs.Begun as kept
-use Rattle.wfe_contents.proofs.contents_begin.Goals as goal
-
-pub returns : goal.returns
-returns c = kept.contents_begin

@@ -1,5 +1,0 @@
-pub mod Shelf
-pub mod Knows
-pub mod Buckets
-pub mod Contents
-pub mod Told

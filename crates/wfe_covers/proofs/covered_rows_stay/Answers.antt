@@ -1,5 +1,0 @@
-use Rattle.wfe_covers.proofs.Kept.{not_reused}
-use Rattle.wfe_covers.proofs.covered_rows_stay.Goals as goal
-
-pub returns : goal.returns
-returns c = not_reused

@@ -1,5 +1,0 @@
-use Rattle.wfe_covers.proofs.Begun.{standing_stays}
-use Rattle.wfe_covers.proofs.standing_rows_stay.Goals as goal
-
-pub returns : goal.returns
-returns c = standing_stays

@@ -1,5 +1,0 @@
-pub mod Covers
-pub mod Held
-pub mod Parents
-pub mod Rests
-pub mod Tries

@@ -1,5 +1,0 @@
-use Rattle.wfe_current.proofs.Keeps as keeps
-use Rattle.wfe_current.proofs.records_reserve_current.Goals as goal
-
-pub returns : goal.returns
-returns c = keeps.records_reserve_current

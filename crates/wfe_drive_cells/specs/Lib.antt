@@ -1,0 +1,4 @@
+pub mod Bridge
+pub mod Memory
+pub mod Operations
+pub mod Unit

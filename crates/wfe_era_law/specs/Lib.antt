@@ -1,2 +1,0 @@
-pub mod EraLaw
-pub mod GuardLaw

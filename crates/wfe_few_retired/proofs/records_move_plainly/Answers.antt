@@ -1,5 +1,0 @@
-use Rattle.wfe_few_retired.proofs.Plain as plain
-use Rattle.wfe_few_retired.proofs.records_move_plainly.Goals as goal
-
-pub returns : goal.returns
-returns c = plain.records_move_plainly

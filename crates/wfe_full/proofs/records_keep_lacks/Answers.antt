@@ -1,5 +1,0 @@
-use Rattle.wfe_full.proofs.Keeps as keeps
-use Rattle.wfe_full.proofs.records_keep_lacks.Goals as goal
-
-pub returns : goal.returns
-returns c = keeps.records_keep_lacks

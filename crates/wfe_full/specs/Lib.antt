@@ -1,3 +1,0 @@
-pub mod Full
-pub mod Lacking
-pub mod Room

@@ -1,3 +1,0 @@
-pub mod Values
-pub mod Lives
-pub mod Holds

@@ -1,5 +1,0 @@
-use Rattle.wfe_inv.proofs.Begun as begun
-use Rattle.wfe_inv.proofs.inv_begin.Goals as goal
-
-pub returns : goal.returns
-returns c = begun.inv_begin

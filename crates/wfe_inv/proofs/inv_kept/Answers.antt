@@ -1,5 +1,0 @@
-use Rattle.wfe_inv.proofs.Kept as kept
-use Rattle.wfe_inv.proofs.inv_kept.Goals as goal
-
-pub returns : goal.returns
-returns c = kept.inv_kept

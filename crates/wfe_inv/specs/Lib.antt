@@ -1,5 +1,0 @@
-pub mod Known
-pub mod Inv
-pub mod Histories
-pub mod Shows
-pub mod Ends

@@ -1,5 +1,0 @@
-use Rattle.wfe_items.proofs.Bounds as kept
-use Rattle.wfe_items.proofs.bounded_start.Goals as goal
-
-pub returns : goal.returns
-returns c = kept.bounded_start

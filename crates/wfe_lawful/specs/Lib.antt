@@ -1,3 +1,0 @@
-pub mod MapKept
-pub mod QueueLaw
-pub mod StepLaw

@@ -1,8 +1,0 @@
-use Rattle.wfe_laws.proofs.Entries.{entries_of_each, each_of_entries}
-use Rattle.wfe_laws.proofs.laws_by_recursion.Goals as goal
-
-pub returns-clause-published : goal.returns-clause-published
-returns-clause-published c = entries_of_each
-
-pub returns-clause-recursive : goal.returns-clause-recursive
-returns-clause-recursive c = each_of_entries

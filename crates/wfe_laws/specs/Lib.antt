@@ -1,4 +1,0 @@
-pub mod MapLaw
-pub mod Record
-pub mod Schedule
-pub mod StateAt

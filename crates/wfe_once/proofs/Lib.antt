@@ -1,7 +1,0 @@
-pub mod Along
-pub mod Births
-pub mod Calm
-pub mod Desks
-pub mod Keeps
-pub mod Moves
-pub mod Steps

@@ -1,3 +1,0 @@
-pub mod Births
-pub mod Once
-pub mod Rows

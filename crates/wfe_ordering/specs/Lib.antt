@@ -1,2 +1,0 @@
-pub mod Nexts
-pub mod Order

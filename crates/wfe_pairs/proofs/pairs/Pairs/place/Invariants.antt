@@ -1,6 +1,0 @@
-use Rattle.std.proofs.Common.{◌≡◌, take, None}
-use Rattle.wfe_defs.specs.Pairs.{value_in}
-use Rattle.wfe_pairs.proofs.pairs.Pairs.place.Given as goal
-
-abbrev pub invariant-loop-place : goal.invariant-loop-place
-invariant-loop-place l = value_in (take l.place l.self) l.key ≡ None

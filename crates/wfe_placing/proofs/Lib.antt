@@ -1,8 +1,0 @@
-pub mod Comes
-pub mod Fronts
-pub mod Keeps
-pub mod Marks
-pub mod Moved
-pub mod Shapes
-pub mod Sums
-pub mod Tells

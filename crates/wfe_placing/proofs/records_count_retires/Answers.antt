@@ -1,5 +1,0 @@
-use Rattle.wfe_placing.proofs.Keeps as keeps
-use Rattle.wfe_placing.proofs.records_count_retires.Goals as goal
-
-pub returns : goal.returns
-returns c = keeps.records_count_retires

@@ -1,5 +1,0 @@
-use Rattle.wfe_requests.proofs.Known.{known}
-use Rattle.wfe_requests.proofs.requests_tell.Goals as goal
-
-pub returns : goal.returns
-returns c = known

@@ -1,7 +1,0 @@
-pub mod Follows
-pub mod Keeps
-pub mod Never
-pub mod Passes
-pub mod Shown
-pub mod Told
-pub mod Unheld

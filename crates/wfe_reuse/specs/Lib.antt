@@ -1,3 +1,0 @@
-pub mod Reuse
-pub mod Holds
-pub mod Law

@@ -1,4 +1,0 @@
-pub mod Finding
-pub mod Following
-pub mod Linking
-pub mod Sources

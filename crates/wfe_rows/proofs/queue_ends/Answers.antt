@@ -1,5 +1,0 @@
-use Rattle.wfe_rows.proofs.Facts as facts
-use Rattle.wfe_rows.proofs.queue_ends.Goals as goal
-
-pub returns : goal.returns
-returns c = facts.queue_ends

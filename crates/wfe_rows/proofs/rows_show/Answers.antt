@@ -1,5 +1,0 @@
-use Rattle.wfe_rows.proofs.Facts as facts
-use Rattle.wfe_rows.proofs.rows_show.Goals as goal
-
-pub returns : goal.returns
-returns c = facts.rows_show

@@ -1,5 +1,0 @@
-use Rattle.wfe_rows.proofs.Kept as kept
-use Rattle.wfe_rows.proofs.rows_start.Goals as goal
-
-pub returns : goal.returns
-returns c = kept.rows_start

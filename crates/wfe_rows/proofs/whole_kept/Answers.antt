@@ -1,5 +1,0 @@
-use Rattle.wfe_rows.proofs.Whole as whole
-use Rattle.wfe_rows.proofs.whole_kept.Goals as goal
-
-pub returns : goal.returns
-returns c = whole.whole_kept

@@ -1,7 +1,0 @@
-use Rattle.std.proofs.Common.{drop, ◌≡◌}
-use Rattle.wfe_server.specs.Counts.{counted_all}
-use Rattle.wfe_server.proofs.play.count_all.Given as goal
-
--- the events before this one are counted
-abbrev pub invariant-loop-place : goal.invariant-loop-place
-invariant-loop-place l = counted_all l.fn.garbage l.seat l.told ≡ counted_all l.garbage l.seat (drop l.place l.told)

@@ -1,0 +1,14 @@
+//! Generates a trace from a seed, plays it on a table, and puts out how often each kind of event
+//! came.
+#![tactic(auto)]
+
+mod generator;
+mod report;
+mod summary;
+mod table;
+#[cfg(test)]
+mod tests;
+mod turn;
+
+pub use generator::generate;
+pub use wfe_server_replay::{PlainCells, Rig, replay};

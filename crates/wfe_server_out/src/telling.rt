@@ -1,0 +1,94 @@
+// Each watcher is told an event, and then its line is written.
+ghost use Rattle.std.specs.Prelude.{◌≡◌, ◌≤◌, ◌<◌, [], ◌∷◌, length, OnOk, OnErr, IfErr};
+ghost use Rattle.std.specs.Io.KnownBytes.{Appends, Keeps};
+ghost use Rattle.wfe_outside.specs.defs.Entry.{entry};
+ghost use Rattle.wfe_outside.specs.Faults.{Rose};
+ghost use Rattle.wfe_outside.specs.Watched.{Grows, Stays};
+ghost use Rattle.wfe_server_out.specs.Heard.{Hears, HearsSome};
+ghost use Rattle.wfe_server_out.specs.Pieces.{Told as told_piece, text_of, told_pieces};
+ghost use Rattle.wfe_server_out.specs.Some.{AppendsSome};
+ghost use Rattle.wfe_server_out.specs.PutOut.{PutsOut, PutsSome, FailsToWrite, FailsToTell};
+
+use crate::Fault;
+use crate::write::put_line;
+use wfe_core::Told;
+use wfe_outside::{Event, Failed, NoMemory, Sink, Watcher};
+use wfe_trace::{Line, print_event};
+
+// Tells one watcher.
+fn tell_one(watcher: &mut Box<dyn Watcher>, seat: u32, event: &Event) -> Result<(), NoMemory>
+    ensures ok { OnOk result (Grows stands watcher.old watcher.new (entry seat event.now)) }
+    ensures err { OnErr result (Stays stands watcher.old watcher.new) }
+{
+    watcher.note(seat, event)
+}
+
+// Tells each watcher, in order.
+fn tell_watchers(
+    watchers: &mut [Box<dyn Watcher>],
+    seat: u32,
+    event: &Event,
+) -> Result<(), NoMemory>
+    ensures ok { OnOk result (Hears stands watchers.old watchers.new (entry seat event.now ∷ [])) }
+    ensures some { HearsSome stands watchers.old watchers.new (entry seat event.now ∷ []) }
+    ensures needs_a_watcher { OnErr result (0 < length watchers.old) }
+{
+    for watcher in watchers.iter_mut() {
+        tell_one(watcher, seat, event)?;
+    }
+    Ok(())
+}
+
+// Writes the line of an event.
+fn put_event<K: Sink>(sink: &mut K, seat: u32, event: &Event) -> Result<(), Failed>
+    ensures wrote { OnOk result (Appends (K.written sink.old) (K.written sink.new) (text_of (told_piece (entry seat event.now) ∷ []))) }
+    ensures some { OnErr result (AppendsSome (K.written sink.old) (K.written sink.new) (text_of (told_piece (entry seat event.now) ∷ []))) }
+    ensures later { K.faults sink.old ≤ K.faults sink.new }
+    ensures cause { OnErr result (Rose (K.faults sink.old) (K.faults sink.new)) }
+{
+    let mut line = Line::new();
+    print_event(seat, event, &mut line);
+    put_line(sink, &line)
+}
+
+/// Tells each watcher the event, in order, and then writes its line. Where writing fails, each
+/// watcher has heard the event; where a watcher has no memory, nothing of the line is written.
+pub fn tell<K: Sink>(
+    sink: &mut K,
+    watchers: &mut [Box<dyn Watcher>],
+    seat: u32,
+    event: &Event,
+) -> Result<(), Fault>
+    ensures put { OnOk result (PutsOut stands (K.written sink.old) (K.written sink.new) watchers.old watchers.new (told_piece (entry seat event.now) ∷ [])) }
+    ensures some { OnErr result (PutsSome stands (K.written sink.old) (K.written sink.new) watchers.old watchers.new (told_piece (entry seat event.now) ∷ [])) }
+    ensures later { K.faults sink.old ≤ K.faults sink.new }
+    ensures cause { IfErr result (λ fault. fault ≡ Fault.Write → Rose (K.faults sink.old) (K.faults sink.new)) }
+    ensures heard_before { IfErr result (λ fault. fault ≡ Fault.Write → Hears stands watchers.old watchers.new (entry seat event.now ∷ [])) }
+    ensures unwritten { IfErr result (λ fault. fault ≡ Fault.Memory → Keeps (K.written sink.old) (K.written sink.new)) }
+    ensures needs_a_watcher { IfErr result (λ fault. fault ≡ Fault.Memory → 0 < length watchers.old) }
+{
+    tell_watchers(watchers, seat, event)?;
+    put_event(sink, seat, event)?;
+    Ok(())
+}
+
+/// Tells the events of one step of a seat, each before the next.
+pub fn tell_all<K: Sink>(
+    sink: &mut K,
+    watchers: &mut [Box<dyn Watcher>],
+    seat: u32,
+    told: &Told,
+) -> Result<(), Fault>
+    ensures put { OnOk result (PutsOut stands (K.written sink.old) (K.written sink.new) watchers.old watchers.new (told_pieces seat told.now)) }
+    ensures some { OnErr result (PutsSome stands (K.written sink.old) (K.written sink.new) watchers.old watchers.new (told_pieces seat told.now)) }
+    ensures later { K.faults sink.old ≤ K.faults sink.new }
+    ensures cause { IfErr result (λ fault. fault ≡ Fault.Write → Rose (K.faults sink.old) (K.faults sink.new)) }
+    ensures heard_before { IfErr result (λ fault. fault ≡ Fault.Write → FailsToWrite stands (K.written sink.old) (K.written sink.new) watchers.old watchers.new (told_pieces seat told.now)) }
+    ensures unwritten { IfErr result (λ fault. fault ≡ Fault.Memory → FailsToTell stands (K.written sink.old) (K.written sink.new) watchers.old watchers.new (told_pieces seat told.now)) }
+    ensures needs_a_watcher { IfErr result (λ fault. fault ≡ Fault.Memory → 0 < length watchers.old) }
+{
+    for place in 0..told.len() {
+        tell(sink, watchers, seat, told.get(place))?;
+    }
+    Ok(())
+}

@@ -1,0 +1,90 @@
+-- What bytes in a row give, from what each gives.
+use Rattle.std.proofs.Common.{ℕ, ◌≡◌, ◌+◌, ◌<◌, List, [], ◌∷◌, ◌++◌, length, take, drop, get_or, Option, Result, Ok, Err, refl, sym, ap, ◌∙◌, subst, append_assoc, append-nil, take-append-drop}
+use Rattle.std.proofs.lemmas.List.{take_more}
+use Rattle.wfe_trace.specs.declared.reason.BadLine.{BadLine}
+use Rattle.wfe_server_replay.specs.declared.stop.Stop.{Stop}
+use Rattle.wfe_server_replay.specs.declared.stop.Stop.TheVariants as stops
+use Rattle.wfe_server_replay.specs.Playing.{Played, player}
+use Rattle.wfe_outside.specs.defs.Entry.{Entry}
+use Rattle.wfe_server_out.specs.Pieces.{Piece}
+use Rattle.wfe_server_replay.specs.Sunk.{Outside, Puts, PutsPart, StopsAt}
+use Rattle.wfe_server_replay.specs.Trace.{Engine, Progress, after_byte, byte_output, after_bytes, bytes_output, output_of, ◌>>=◌}
+use Rattle.wfe_server_replay.proofs.Outs.{part_first, part_then, puts_trans}
+
+pub after_bytes-append : {S : Type 0} (E : Engine S) (r : Result (Progress S) BadLine) (xs ys : List ℕ) → after_bytes E r (xs ++ ys) ≡ after_bytes E (after_bytes E r xs) ys
+after_bytes-append E r [] ys = refl
+after_bytes-append E r (x ∷ xs) ys = after_bytes-append E (r >>= (λ p. after_byte E p x)) xs ys
+
+pub bytes_output-append : {S : Type 0} (E : Engine S) (r : Result (Progress S) BadLine) (xs ys : List ℕ) →
+    bytes_output E r (xs ++ ys) ≡ bytes_output E r xs ++ bytes_output E (after_bytes E r xs) ys
+bytes_output-append E r [] ys = refl
+bytes_output-append E r (x ∷ xs) ys =
+    ap (λ (t : List Piece). output_of (λ p. byte_output E p x) r ++ t) (bytes_output-append E (r >>= (λ p. after_byte E p x)) xs ys)
+    ∙ sym (append_assoc (output_of (λ p. byte_output E p x) r) (bytes_output E (r >>= (λ p. after_byte E p x)) xs) _)
+
+-- after a bad line nothing is judged and nothing is printed
+pub after_bytes-bad : {S : Type 0} (E : Engine S) (bad : BadLine) (xs : List ℕ) → after_bytes E (Err bad) xs ≡ Err bad
+after_bytes-bad E bad [] = refl
+after_bytes-bad E bad (x ∷ xs) = after_bytes-bad E bad xs
+
+pub bytes_output-bad : {S : Type 0} (E : Engine S) (bad : BadLine) (xs : List ℕ) → bytes_output E (Err bad) xs ≡ []
+bytes_output-bad E bad [] = refl
+bytes_output-bad E bad (x ∷ xs) = bytes_output-bad E bad xs
+
+-- one byte more
+pub after_bytes-more : {S : Type 0} (E : Engine S) (p q r : Progress S) (xs : List ℕ) (x : ℕ) → after_bytes E (Ok p) xs ≡ Ok q → after_byte E q x ≡ Ok r → after_bytes E (Ok p) (xs ++ x ∷ []) ≡ Ok r
+after_bytes-more E p q r xs x before here = after_bytes-append E (Ok p) xs (x ∷ []) ∙ ap (λ t. t >>= (λ s. after_byte E s x)) before ∙ here
+
+pub bytes_output-more : {S : Type 0} (E : Engine S) (p q : Progress S) (xs : List ℕ) (x : ℕ) → after_bytes E (Ok p) xs ≡ Ok q → bytes_output E (Ok p) (xs ++ x ∷ []) ≡ bytes_output E (Ok p) xs ++ byte_output E q x
+bytes_output-more E p q xs x before =
+    bytes_output-append E (Ok p) xs (x ∷ []) ∙ ap (λ t. bytes_output E (Ok p) xs ++ (output_of (λ s. byte_output E s x) t ++ [])) before
+    ∙ ap (λ (t : List Piece). bytes_output E (Ok p) xs ++ t) (append-nil (byte_output E q x))
+
+-- what the bytes before gave, a byte, and the rest
+output_split : {S : Type 0} (E : Engine S) (p q : Progress S) (xs : List ℕ) (x : ℕ) (ys : List ℕ) → after_bytes E (Ok p) xs ≡ Ok q →
+    bytes_output E (Ok p) (xs ++ x ∷ ys) ≡ (bytes_output E (Ok p) xs ++ byte_output E q x) ++ bytes_output E (after_byte E q x) ys
+output_split E p q xs x ys before =
+    bytes_output-append E (Ok p) xs (x ∷ ys) ∙ ap (λ t. bytes_output E (Ok p) xs ++ (output_of (λ s. byte_output E s x) t ++ bytes_output E (t >>= (λ s. after_byte E s x)) ys)) before
+    ∙ sym (append_assoc (bytes_output E (Ok p) xs) (byte_output E q x) _)
+
+after_split : {S : Type 0} (E : Engine S) (p q : Progress S) (xs : List ℕ) (x : ℕ) (ys : List ℕ) → after_bytes E (Ok p) xs ≡ Ok q →
+    after_bytes E (Ok p) (xs ++ x ∷ ys) ≡ after_bytes E (after_byte E q x) ys
+after_split E p q xs x ys before = after_bytes-append E (Ok p) xs (x ∷ ys) ∙ ap (λ t. after_bytes E (t >>= (λ s. after_byte E s x)) ys) before
+
+-- a byte at which the work stops, after those before
+pub StopsAt-more : {W : Type 0} (stands : W → List Entry → Type 0) (stop : Stop) (p q : Progress Played) (xs : List ℕ) (x : ℕ) (ys : List ℕ) (a b c : Outside W) →
+    after_bytes player (Ok p) xs ≡ Ok q → Puts stands a b (bytes_output player (Ok p) xs) → StopsAt stands stop (after_byte player q x) b c (byte_output player q x) →
+    StopsAt stands stop (after_bytes player (Ok p) (xs ++ x ∷ ys)) a c (bytes_output player (Ok p) (xs ++ x ∷ ys))
+StopsAt-more stands (stops.Bad bad) p q xs x ys a b c before wrote (here, more) = (
+  after_split player p q xs x ys before ∙ ap (λ t. after_bytes player t ys) here ∙ after_bytes-bad player bad ys,
+  subst (Puts stands a c) (sym (output_split player p q xs x ys before ∙ ap (λ t. (bytes_output player (Ok p) xs ++ byte_output player q x) ++ bytes_output player t ys) here
+      ∙ ap (λ (t : List Piece). (bytes_output player (Ok p) xs ++ byte_output player q x) ++ t) (bytes_output-bad player bad ys) ∙ append-nil _))
+      (puts_trans stands a b c _ _ wrote more),
+)
+StopsAt-more stands (stops.Fault fault) p q xs x ys a b c before wrote some =
+    subst (PutsPart stands a c) (sym (output_split player p q xs x ys before)) (part_first stands a c _ _ (part_then stands a b c _ _ wrote some))
+
+-- up to a place, the element there, and the rest
+pub cut_at : (xs : List ℕ) (i : ℕ) → i < length xs → xs ≡ take i xs ++ get_or xs i 0 ∷ drop (i + 1) xs
+cut_at xs i within = sym (take-append-drop (i + 1) xs) ∙ ap (λ (t : List ℕ). t ++ drop (i + 1) xs) (take_more xs i 0 within) ∙ append_assoc (take i xs) (get_or xs i 0 ∷ []) (drop (i + 1) xs)
+
+-- the work stops at the byte at a place
+pub StopsAt-at : {W : Type 0} (stands : W → List Entry → Type 0) (stop : Stop) (p q : Progress Played) (bs : List ℕ) (i : ℕ) (a b c : Outside W) → i < length bs →
+    after_bytes player (Ok p) (take i bs) ≡ Ok q → Puts stands a b (bytes_output player (Ok p) (take i bs)) → StopsAt stands stop (after_byte player q (get_or bs i 0)) b c (byte_output player q (get_or bs i 0)) →
+    StopsAt stands stop (after_bytes player (Ok p) bs) a c (bytes_output player (Ok p) bs)
+StopsAt-at stands stop p q bs i a b c within before wrote here =
+    subst (λ (xs : List ℕ). StopsAt stands stop (after_bytes player (Ok p) xs) a c (bytes_output player (Ok p) xs)) (sym (cut_at bs i within))
+    (StopsAt-more stands stop p q (take i bs) (get_or bs i 0) (drop (i + 1) bs) a b c before wrote here)
+
+-- the byte at a place is taken
+pub after_bytes-at : {S : Type 0} (E : Engine S) (p q r : Progress S) (bs : List ℕ) (i : ℕ) → i < length bs →
+    after_bytes E (Ok p) (take i bs) ≡ Ok q → after_byte E q (get_or bs i 0) ≡ Ok r → after_bytes E (Ok p) (take (i + 1) bs) ≡ Ok r
+after_bytes-at E p q r bs i within before here =
+    ap (after_bytes E (Ok p)) (take_more bs i 0 within) ∙ after_bytes-more E p q r (take i bs) (get_or bs i 0) before here
+
+pub puts-at : {S W : Type 0} (stands : W → List Entry → Type 0) (E : Engine S) (p q : Progress S) (bs : List ℕ) (i : ℕ) (a b c : Outside W) → i < length bs →
+    after_bytes E (Ok p) (take i bs) ≡ Ok q → Puts stands a b (bytes_output E (Ok p) (take i bs)) → Puts stands b c (byte_output E q (get_or bs i 0)) →
+    Puts stands a c (bytes_output E (Ok p) (take (i + 1) bs))
+puts-at stands E p q bs i a b c within before wrote here =
+    subst (Puts stands a c) (sym (ap (bytes_output E (Ok p)) (take_more bs i 0 within) ∙ bytes_output-more E p q (take i bs) (get_or bs i 0) before))
+    (puts_trans stands a b c _ _ wrote here)

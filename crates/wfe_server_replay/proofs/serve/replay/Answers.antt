@@ -1,0 +1,13 @@
+use Rattle.std.proofs.Common.{[], rules}
+use Rattle.std.proofs.KnownBytes.{Consumes-nil}
+use Rattle.wfe_server_out.proofs.Puts.{puts_some_none}
+use Rattle.wfe_server_replay.proofs.Says.{replays_back}
+use Rattle.wfe_server_replay.proofs.serve.replay.Goals as goal
+
+pub returns-clause-said : goal.returns-clause-said
+returns-clause-said g c =
+    replays_back _ _ _ c.replay_in.result _ _ (g.K.Sink.written c.args.sink.now) (g.K.Sink.written c.replay_in.new.sink) c.deref_mut.result.now c.args.watchers.now.items c.replay_in.new.watchers c.args.watchers.now.len
+    c.deref_mut.ensures.value (search rules) (search rules) c.replay_in.ensures.said
+
+pub returns-in_default-clause-said : goal.returns-in_default-clause-said
+returns-in_default-clause-said g c = ([], Consumes-nil (g.S.Source.left c.args.source.now), puts_some_none _ _ _ _)

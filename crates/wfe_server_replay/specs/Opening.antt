@@ -1,0 +1,37 @@
+-- What joins a trace that is read and the table that takes its lines.
+use Rattle.std.specs.Prelude.{None, Option, Some, false, true, ◌≡◌}
+use Rattle.wfe_trace.specs.words.Config.{bad_field}
+use Rattle.wfe_trace.specs.Body.{IsCommandWithin}
+use Rattle.wfe_trace.specs.Good.{is_body}
+use Rattle.wfe_trace.specs.Reading.{Reading}
+use Rattle.wfe_trace.specs.declared.item.Item.{Item}
+use Rattle.wfe_trace.specs.declared.item.Item.TheVariants as items
+use Rattle.wfe_outside.specs.defs.declared.command.Command.{Command}
+use Rattle.wfe_server_replay.specs.Playing.{Played, player}
+use Rattle.wfe_server_replay.specs.Trace.{Progress, is_refused}
+
+-- a table is there in the body alone, and has as many seats as the setting that was read
+abbrev pub PlaysIn : Reading → Option Played → Type 0
+PlaysIn r None = Unit {0}
+PlaysIn r (Some s) = (is_body r.stage ≡ true) × (s.table.layout.config.seats ≡ r.config.seats)
+
+-- the seat of the line is one of the table's
+abbrev pub FitsTable : Command → Option Played → Type 0
+FitsTable c None = Unit {0}
+FitsTable c (Some s) = IsCommandWithin s.table.layout.config.seats c
+
+abbrev pub ItemFits : Item → Option Played → Type 0
+ItemFits items.Setting engine = Unit {0}
+ItemFits (items.Ready version config) engine = Unit {0}
+ItemFits (items.Command c) engine = FitsTable c engine
+
+-- the table may take the line: its seat is one of the table's, and no call is given to a busy seat
+abbrev pub MayPlay : Command → Option Played → Type 0
+MayPlay c None = Unit {0}
+MayPlay c (Some s) = IsCommandWithin s.table.layout.config.seats c × (is_refused player c s ≡ false)
+
+-- what a line that was read says may be taken
+abbrev pub MayTake : Progress Played → Item → Type 0
+MayTake p items.Setting = Unit {0}
+MayTake p (items.Ready version config) = (bad_field config ≡ None) × (is_body p.reading.stage ≡ true) × (config.seats ≡ p.reading.config.seats)
+MayTake p (items.Command c) = MayPlay c p.engine

@@ -1,0 +1,193 @@
+-- A trace as its bytes come, judged byte by byte, over any engine that takes its lines.
+use Rattle.std.specs.Prelude.{ℕ, ◌+◌, ◌==◌, ◌++◌, nat_le, if◌then◌else◌, Bool, true, false, List, [], ◌∷◌, length, Option, Some, None, Result, Ok, Err, codes}
+use Rattle.wfe_trace.specs.words.declared.config.Config.{Config}
+use Rattle.wfe_outside.specs.defs.declared.command.Command.{Command}
+use Rattle.wfe_outside.specs.defs.declared.command.Command.TheVariants as commands
+use Rattle.wfe_trace.specs.declared.item.Item.{Item}
+use Rattle.wfe_trace.specs.declared.item.Item.TheVariants as items
+use Rattle.wfe_trace.specs.declared.item.Mode.{Mode}
+use Rattle.wfe_trace.specs.declared.reason.BadLine.{BadLine}
+use Rattle.wfe_trace.specs.declared.reason.Reason.{Reason}
+use Rattle.wfe_trace.specs.declared.reason.Reason.TheVariants as reasons
+use Rattle.wfe_trace.specs.Reading.{Reading, reading_start, reading_after, judged, line_after}
+use Rattle.wfe_trace.specs.Record.{header_line, bad_line as bad_text}
+use Rattle.wfe_server_out.specs.Pieces.{Piece, Text}
+
+-- What takes the lines of a trace's body: how it begins, whether a seat is busy, what it is after a line, and what the line puts out.
+pub record Engine (S : Type 0) : Type 0 where
+  pub opened : ℕ → Config → S
+  pub is_busy : ℕ → S → Bool
+  pub after : Command → S → S
+  pub out : Command → S → List Piece
+
+-- A trace of which some bytes came: the lines that are whole, the bytes of the line under way, how many bytes came, whether the line `end` did, and the engine from the line `begin` on.
+pub record Progress (S : Type 0) : Type 0 where
+  pub reading : Reading
+  pub line : List ℕ
+  pub count : ℕ
+  pub ended : Bool
+  pub engine : Option S
+
+-- no byte came
+abbrev pub progress_start : {S : Type 0} → Mode → Progress S
+progress_start mode = record { reading = reading_start mode; line = []; count = 0; ended = false; engine = None }
+
+-- the line under way is bad
+abbrev pub bad_line : {S : Type 0} → Progress S → Reason → BadLine
+bad_line p reason = record { line = line_after p.reading; reason = reason }
+
+-- the line is read
+abbrev pub line_read : {S : Type 0} → Progress S → Progress S
+line_read p = record p { reading = reading_after p.reading p.line; line = [] }
+
+abbrev pub is_end : Command → Bool
+is_end (commands.Call seat call) = false
+is_end (commands.Step seat units) = false
+is_end (commands.Run seat) = false
+is_end commands.Table = false
+is_end commands.End = true
+
+-- the line gives a call to a seat whose call has not ended
+abbrev pub is_refused : {S : Type 0} → Engine S → Command → S → Bool
+is_refused E (commands.Call seat call) s = E.is_busy seat s
+is_refused E (commands.Step seat units) s = false
+is_refused E (commands.Run seat) s = false
+is_refused E commands.Table s = false
+is_refused E commands.End s = false
+
+-- the line would give a call to a seat whose call has not ended
+abbrev pub is_refused_in : {S : Type 0} → Engine S → Command → Option S → Bool
+is_refused_in E c None = false
+is_refused_in E c (Some s) = is_refused E c s
+
+-- the engine takes a body line
+abbrev pub command_taken : {S : Type 0} → Engine S → Progress S → Command → Option S → Progress S
+command_taken E p c None = record p { ended = is_end c }
+command_taken E p c (Some s) = record p { ended = is_end c; engine = Some (E.after c s) }
+
+-- what a body line makes the engine put out
+abbrev pub out_in : {S : Type 0} → Engine S → Command → Option S → List Piece
+out_in E c None = []
+out_in E c (Some s) = E.out c s
+
+-- the engine takes what a line says
+abbrev pub item_taken : {S : Type 0} → Engine S → Progress S → Item → Progress S
+item_taken E p items.Setting = p
+item_taken E p (items.Ready version config) = record p { engine = Some (E.opened version config) }
+item_taken E p (items.Command c) = command_taken E p c p.engine
+
+-- what a line puts out
+abbrev pub out_by : {S : Type 0} → Engine S → Progress S → Item → List Piece
+out_by E p items.Setting = []
+out_by E p (items.Ready version config) = Text (header_line version config) ∷ []
+out_by E p (items.Command c) = out_in E c p.engine
+
+-- the line would give a call to a busy seat
+abbrev pub refuses : {S : Type 0} → Engine S → Progress S → Item → Bool
+refuses E p items.Setting = false
+refuses E p (items.Ready version config) = false
+refuses E p (items.Command c) = is_refused_in E c p.engine
+
+-- what the line under way says, or that it is bad
+abbrev pub judged_item : {S : Type 0} → Engine S → Progress S → Result Item Reason → Result Item BadLine
+judged_item E p (Err reason) = Err (bad_line p reason)
+judged_item E p (Ok item) = if refuses E p item then Err (bad_line p reasons.Busy) else Ok item
+
+abbrev pub line_item : {S : Type 0} → Engine S → Progress S → Result Item BadLine
+line_item E p = judged_item E p (judged p.reading p.line)
+
+-- the line under way is whole
+abbrev pub line_taken : {S : Type 0} → Engine S → Progress S → Result Item BadLine → Result (Progress S) BadLine
+line_taken E p (Err bad) = Err bad
+line_taken E p (Ok item) = Ok (item_taken E (line_read p) item)
+
+abbrev pub after_line : {S : Type 0} → Engine S → Progress S → Result (Progress S) BadLine
+after_line E p = line_taken E p (line_item E p)
+
+-- what it puts out
+abbrev pub line_out : {S : Type 0} → Engine S → Progress S → Result Item BadLine → List Piece
+line_out E p (Err bad) = []
+line_out E p (Ok item) = out_by E p item
+
+abbrev pub line_output : {S : Type 0} → Engine S → Progress S → List Piece
+line_output E p = line_out E p (line_item E p)
+
+-- why the next byte is bad, whatever it ends: the trace is too long, it follows the line `end`, or its line is too long
+abbrev pub byte_refused : {S : Type 0} → Progress S → ℕ → Option Reason
+byte_refused p b =
+    if nat_le 16777216 p.count then Some reasons.LongTrace else
+    if p.ended then Some reasons.AfterEnd else
+    if b == 10 then None else
+    if nat_le 200 (length p.line) then Some reasons.LongLine else None
+
+-- one more byte is counted
+abbrev pub counted : {S : Type 0} → Progress S → Progress S
+counted p = record p { count = p.count + 1 }
+
+abbrev pub after_good_byte : {S : Type 0} → Engine S → Progress S → ℕ → Option Reason → Result (Progress S) BadLine
+after_good_byte E p b (Some reason) = Err (bad_line p reason)
+after_good_byte E p b None = if b == 10 then after_line E (counted p) else Ok (record (counted p) { line = p.line ++ b ∷ [] })
+
+-- a line feed ends the line under way
+abbrev pub after_byte : {S : Type 0} → Engine S → Progress S → ℕ → Result (Progress S) BadLine
+after_byte E p b = after_good_byte E p b (byte_refused p b)
+
+abbrev pub good_byte_output : {S : Type 0} → Engine S → Progress S → ℕ → Option Reason → List Piece
+good_byte_output E p b (Some reason) = []
+good_byte_output E p b None = if b == 10 then line_output E (counted p) else []
+
+abbrev pub byte_output : {S : Type 0} → Engine S → Progress S → ℕ → List Piece
+byte_output E p b = good_byte_output E p b (byte_refused p b)
+
+infixl 10 ◌>>=◌
+abbrev pub ◌>>=◌ : {A B : Type 0} → Result A BadLine → (A → Result B BadLine) → Result B BadLine
+(Ok x) >>= f = f x
+(Err bad) >>= f = Err bad
+
+-- after the bytes, in order, up to the first bad line
+abbrev pub after_bytes : {S : Type 0} → Engine S → Result (Progress S) BadLine → List ℕ → Result (Progress S) BadLine
+after_bytes E r [] = r
+after_bytes E r (b ∷ bs) = after_bytes E (r >>= (λ p. after_byte E p b)) bs
+
+abbrev pub output_of : {S : Type 0} → (Progress S → List Piece) → Result (Progress S) BadLine → List Piece
+output_of f (Ok p) = f p
+output_of f (Err bad) = []
+
+-- what the bytes put out, up to the first bad line
+abbrev pub bytes_output : {S : Type 0} → Engine S → Result (Progress S) BadLine → List ℕ → List Piece
+bytes_output E r [] = []
+bytes_output E r (b ∷ bs) = output_of (λ p. byte_output E p b) r ++ bytes_output E (r >>= (λ p. after_byte E p b)) bs
+
+-- bytes after the last line feed are a line too
+abbrev pub after_last : {S : Type 0} → Engine S → Progress S → Result (Progress S) BadLine
+after_last E p = if length p.line == 0 then Ok p else after_line E p
+
+abbrev pub last_output : {S : Type 0} → Engine S → Progress S → List Piece
+last_output E p = if length p.line == 0 then [] else line_output E p
+
+-- the input ends: after the line `end` and nowhere else
+abbrev pub at_end : {S : Type 0} → Progress S → Result (Progress S) BadLine
+at_end p = if p.ended then Ok p else Err (bad_line p reasons.NoEnd)
+
+-- no byte comes any more
+abbrev pub finished : {S : Type 0} → Engine S → Progress S → Result (Progress S) BadLine
+finished E p = after_last E p >>= at_end
+
+-- a whole trace
+abbrev pub after_trace : {S : Type 0} → Engine S → Mode → List ℕ → Result (Progress S) BadLine
+after_trace E mode bytes = after_bytes E (Ok (progress_start mode)) bytes >>= finished E
+
+-- what its lines put out, up to the first bad one
+abbrev pub lines_output : {S : Type 0} → Engine S → Mode → List ℕ → List Piece
+lines_output E mode bytes =
+    bytes_output E (Ok (progress_start mode)) bytes
+    ++ output_of (last_output E) (after_bytes E (Ok (progress_start mode)) bytes)
+
+-- the last lines of a record: the rows of the watchers and that the work is done, or the first bad line
+abbrev pub closing : {S : Type 0} → (watched : List ℕ) → Result (Progress S) BadLine → List Piece
+closing watched (Ok p) = Text watched ∷ Text (codes "done\n") ∷ []
+closing watched (Err bad) = Text (bad_text bad.line bad.reason) ∷ []
+
+-- what a whole trace puts out, where the watchers' rows are these lines
+abbrev pub trace_output : {S : Type 0} → Engine S → Mode → (watched : List ℕ) → List ℕ → List Piece
+trace_output E mode watched bytes = lines_output E mode bytes ++ closing watched (after_trace E mode bytes)

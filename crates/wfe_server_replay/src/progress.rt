@@ -1,0 +1,318 @@
+// A trace as its bytes come, and the table that takes its lines.
+ghost use Rattle.std.specs.Prelude.{◌≡◌, ◌≤◌, ◌<◌, length, OnOk, OnErr, IfOk, IfErr, MatchResult, None, Some, Ok, Err, [], ◌∷◌, true};
+ghost use Rattle.wfe_outside.specs.Faults.{Rose};
+ghost use Rattle.wfe_server_replay.specs.Opening.{FitsTable, ItemFits, MayPlay, MayTake};
+ghost use Rattle.wfe_server_replay.specs.Playing.{player};
+ghost use Rattle.wfe_server_replay.specs.Sunk.{Took, outside};
+ghost use Rattle.wfe_server_replay.specs.Trace.{Progress, progress_start, bad_line, is_refused_in, command_taken, out_in, item_taken, out_by, refuses as does_refuse, line_item, line_read, after_line, line_output, byte_refused, counted, after_byte, byte_output, after_bytes, bytes_output, after_last, last_output, at_end, finished};
+ghost use Rattle.wfe_server_out.specs.Pieces.{Text};
+ghost use Rattle.wfe_server_out.specs.PutOut.{PutsOut, PutsSome};
+ghost use Rattle.wfe_trace.specs.Good.{is_body};
+ghost use Rattle.wfe_trace.specs.Record.{header_line};
+ghost use Rattle.wfe_trace.specs.declared.item.Mode.TheVariants.{Replay};
+ghost use Rattle.wfe_trace.specs.words.Config.{bad_field};
+
+use crate::play::Play;
+use crate::stop::Stop;
+use arrayvec::ArrayVec;
+use std::alloc::Global;
+use std::marker::Model;
+use wfe_drive::Engine;
+use wfe_outside::{Command, Sink, Watcher};
+use wfe_server_out::{Fault, put_line};
+use wfe_trace::{BadLine, Config, Item, Line, Mode, Reason, TraceState, print_header, read_line};
+
+/// A trace of which some bytes came.
+#[derive(Drop)]
+pub struct Work<E: Engine> {
+    state: TraceState,
+    line: ArrayVec<u8, 200>,
+    count: u32,
+    ended: bool,
+    play: Option<Play<E>>,
+}
+
+impl<E: Engine> Model for Work<E> {
+    ghost use Rattle.std.specs.Prelude.{◌≤◌};
+    ghost use Rattle.wfe_server_replay.specs.Opening.{PlaysIn};
+    ghost use Rattle.wfe_server_replay.specs.Playing.{Played};
+    ghost use Rattle.wfe_server_replay.specs.Trace.{Progress};
+
+    ghost Value = { Progress Played };
+
+    ghost view = { λ w. record { reading = w.state; line = w.line.items; count = w.count; ended = w.ended; engine = w.play } };
+
+    ghost invariant = { λ w. (w.count ≤ 16777216) × PlaysIn w.state w.play };
+}
+
+impl<E: Engine> Work<E> {
+    /// No byte came.
+    pub fn new() -> Work<E>
+        ensures { result ≡ progress_start Mode.Replay }
+    {
+        Work {
+            state: TraceState::new(Mode::Replay),
+            line: ArrayVec::new(),
+            count: 0,
+            ended: false,
+            play: None,
+        }
+    }
+
+    // The line under way is bad.
+    fn bad(&self, reason: Reason) -> BadLine
+        ensures { result ≡ bad_line self.now reason }
+    {
+        BadLine {
+            line: self.state.lines().saturating_add(1),
+            reason,
+        }
+    }
+
+    // Why the next byte is bad, whatever it ends.
+    fn refused(&self, byte: u8) -> Option<Reason>
+        ensures { result ≡ byte_refused self.now byte }
+    {
+        if self.count >= 16_777_216 {
+            Some(Reason::LongTrace)
+        } else if self.ended {
+            Some(Reason::AfterEnd)
+        } else if byte == b'\n' {
+            None
+        } else if self.line.len() >= 200 {
+            Some(Reason::LongLine)
+        } else {
+            None
+        }
+    }
+
+    // The setting is whole: makes the table, and writes the header.
+    fn open<K: Sink>(
+        &mut self,
+        alloc: Global,
+        version: u32,
+        config: Config,
+        sink: &mut K,
+        watchers: &mut [Box<dyn Watcher>],
+    ) -> Result<(), Fault>
+        requires config { bad_field config ≡ None }
+        requires body { is_body self.old.reading.stage ≡ true }
+        requires seats { config.seats ≡ self.old.reading.config.seats }
+        ensures after { OnOk result (self.new ≡ record self.old { engine = Some (player.opened version config) }) }
+        ensures put { OnOk result (PutsOut stands (K.written sink.old) (K.written sink.new) watchers.old watchers.new (Text (header_line version config) ∷ [])) }
+        ensures some { OnErr result (PutsSome stands (K.written sink.old) (K.written sink.new) watchers.old watchers.new (Text (header_line version config) ∷ [])) }
+        ensures later { K.faults sink.old ≤ K.faults sink.new }
+        ensures cause { IfErr result (λ fault. fault ≡ Fault.Write → Rose (K.faults sink.old) (K.faults sink.new)) }
+    {
+        let _ = watchers;
+        self.play = Some(Play::open(alloc, config)?);
+        let mut line = Line::new();
+        print_header(version, &config, &mut line);
+        put_line(sink, &line)?;
+        Ok(())
+    }
+
+    // Whether the line gives a call to a seat whose call has not ended.
+    fn is_refused(&self, command: &Command) -> bool
+        requires { FitsTable command.now self.now.engine }
+        ensures { result ≡ is_refused_in player command.now self.now.engine }
+    {
+        match (command, &self.play) {
+            (Command::Call { seat, .. }, Some(play)) => play.busy(*seat),
+            _ => false,
+        }
+    }
+
+    // Takes a line of the body, which was read.
+    fn take_command<K: Sink>(
+        &mut self,
+        command: Command,
+        sink: &mut K,
+        watchers: &mut [Box<dyn Watcher>],
+    ) -> Result<(), Fault>
+        requires { MayPlay command self.old.engine }
+        ensures after { OnOk result (self.new ≡ command_taken player self.old command self.old.engine) }
+        ensures put { OnOk result (PutsOut stands (K.written sink.old) (K.written sink.new) watchers.old watchers.new (out_in player command self.old.engine)) }
+        ensures some { OnErr result (PutsSome stands (K.written sink.old) (K.written sink.new) watchers.old watchers.new (out_in player command self.old.engine)) }
+        ensures later { K.faults sink.old ≤ K.faults sink.new }
+        ensures cause { IfErr result (λ fault. fault ≡ Fault.Write → Rose (K.faults sink.old) (K.faults sink.new)) }
+    {
+        self.ended = matches!(command, Command::End);
+        if let Some(play) = &mut self.play {
+            play.perform(command, sink, watchers)?;
+        }
+        Ok(())
+    }
+
+    // Takes what a line says, which was read.
+    fn take_item<K: Sink>(
+        &mut self,
+        alloc: Global,
+        item: Item,
+        sink: &mut K,
+        watchers: &mut [Box<dyn Watcher>],
+    ) -> Result<(), Fault>
+        requires { MayTake self.old item }
+        ensures after { OnOk result (self.new ≡ item_taken player self.old item) }
+        ensures put { OnOk result (PutsOut stands (K.written sink.old) (K.written sink.new) watchers.old watchers.new (out_by player self.old item)) }
+        ensures some { OnErr result (PutsSome stands (K.written sink.old) (K.written sink.new) watchers.old watchers.new (out_by player self.old item)) }
+        ensures later { K.faults sink.old ≤ K.faults sink.new }
+        ensures cause { IfErr result (λ fault. fault ≡ Fault.Write → Rose (K.faults sink.old) (K.faults sink.new)) }
+    {
+        match item {
+            Item::Setting => Ok(()),
+            Item::Ready { version, config } => self.open(alloc, version, config, sink, watchers),
+            Item::Command { command } => self.take_command(command, sink, watchers),
+        }
+    }
+
+    // Whether the line would give a call to a busy seat.
+    fn refuses(&self, item: &Item) -> bool
+        requires { ItemFits item.now self.now.engine }
+        ensures { result ≡ does_refuse player self.now item.now }
+    {
+        match item {
+            Item::Command { command } => self.is_refused(command),
+            _ => false,
+        }
+    }
+
+    // Reads the line under way, which is whole.
+    fn read(&mut self) -> Result<Item, BadLine>
+        ensures item { result ≡ line_item player self.old }
+        ensures after { OnOk result (self.new ≡ line_read self.old) }
+        ensures may { IfOk result (MayTake self.new) }
+    {
+        let busy = self.bad(Reason::Busy);
+        let item = read_line(&mut self.state, self.line.as_slice())?;
+        if self.refuses(&item) {
+            return Err(busy);
+        }
+        self.line.clear();
+        Ok(item)
+    }
+
+    // Takes the line under way, which is whole.
+    fn take_line<K: Sink>(
+        &mut self,
+        alloc: Global,
+        sink: &mut K,
+        watchers: &mut [Box<dyn Watcher>],
+    ) -> Result<(), Stop>
+        ensures took { Took stands result (after_line player self.old) self.new (outside (K.written sink.old) watchers.old) (outside (K.written sink.new) watchers.new) (line_output player self.old) }
+        ensures later { K.faults sink.old ≤ K.faults sink.new }
+        ensures cause { IfErr result (λ stop. stop ≡ Stop.Fault Fault.Write → Rose (K.faults sink.old) (K.faults sink.new)) }
+    {
+        let item = match self.read() {
+            Ok(item) => item,
+            Err(bad) => return Err(Stop::Bad { bad }),
+        };
+        match self.take_item(alloc, item, sink, watchers) {
+            Ok(()) => Ok(()),
+            Err(fault) => Err(Stop::Fault { fault }),
+        }
+    }
+
+    // One more byte came.
+    fn count_byte(&mut self)
+        requires { self.old.count < 16777216 }
+        ensures { self.new ≡ counted self.old }
+    {
+        self.count += 1;
+    }
+
+    /// Takes one byte of the trace.
+    pub fn take_byte<K: Sink>(
+        &mut self,
+        alloc: Global,
+        byte: u8,
+        sink: &mut K,
+        watchers: &mut [Box<dyn Watcher>],
+    ) -> Result<(), Stop>
+        ensures took { Took stands result (after_byte player self.old byte) self.new (outside (K.written sink.old) watchers.old) (outside (K.written sink.new) watchers.new) (byte_output player self.old byte) }
+        ensures later { K.faults sink.old ≤ K.faults sink.new }
+        ensures cause { IfErr result (λ stop. stop ≡ Stop.Fault Fault.Write → Rose (K.faults sink.old) (K.faults sink.new)) }
+    {
+        if let Some(reason) = self.refused(byte) {
+            return Err(Stop::Bad {
+                bad: self.bad(reason),
+            });
+        }
+        self.count_byte();
+        if byte == b'\n' {
+            return self.take_line(alloc, sink, watchers);
+        }
+        self.line.push(byte);
+        Ok(())
+    }
+
+    /// Takes the next bytes of the trace, up to the first that is bad.
+    pub fn take_bytes<K: Sink>(
+        &mut self,
+        alloc: Global,
+        bytes: &[u8],
+        sink: &mut K,
+        watchers: &mut [Box<dyn Watcher>],
+    ) -> Result<(), Stop>
+        ensures took { Took stands result (after_bytes player (Ok self.old) bytes.now) self.new (outside (K.written sink.old) watchers.old) (outside (K.written sink.new) watchers.new) (bytes_output player (Ok self.old) bytes.now) }
+        ensures later { K.faults sink.old ≤ K.faults sink.new }
+        ensures cause { IfErr result (λ stop. stop ≡ Stop.Fault Fault.Write → Rose (K.faults sink.old) (K.faults sink.new)) }
+    {
+        for byte in bytes {
+            match self.take_byte(alloc, *byte, sink, watchers) {
+                Ok(()) => {}
+                Err(stop) => return Err(stop),
+            }
+        }
+        Ok(())
+    }
+
+    // Takes the bytes after the last line feed, which are a line too.
+    fn take_last<K: Sink>(
+        &mut self,
+        alloc: Global,
+        sink: &mut K,
+        watchers: &mut [Box<dyn Watcher>],
+    ) -> Result<(), Stop>
+        ensures took { Took stands result (after_last player self.old) self.new (outside (K.written sink.old) watchers.old) (outside (K.written sink.new) watchers.new) (last_output player self.old) }
+        ensures later { K.faults sink.old ≤ K.faults sink.new }
+        ensures cause { IfErr result (λ stop. stop ≡ Stop.Fault Fault.Write → Rose (K.faults sink.old) (K.faults sink.new)) }
+    {
+        if self.line.is_empty() {
+            return Ok(());
+        }
+        self.take_line(alloc, sink, watchers)
+    }
+
+    // Whether the line `end` came.
+    fn check_end(&self) -> Result<(), BadLine>
+        ensures { MatchResult result (λ _. at_end self.now ≡ Ok self.now) (λ bad. at_end self.now ≡ Err bad) }
+    {
+        if self.ended {
+            Ok(())
+        } else {
+            Err(self.bad(Reason::NoEnd))
+        }
+    }
+
+    /// Takes the end of the input.
+    pub fn finish<K: Sink>(
+        &mut self,
+        alloc: Global,
+        sink: &mut K,
+        watchers: &mut [Box<dyn Watcher>],
+    ) -> Result<(), Stop>
+        ensures took { Took stands result (finished player self.old) self.new (outside (K.written sink.old) watchers.old) (outside (K.written sink.new) watchers.new) (last_output player self.old) }
+        ensures later { K.faults sink.old ≤ K.faults sink.new }
+        ensures cause { IfErr result (λ stop. stop ≡ Stop.Fault Fault.Write → Rose (K.faults sink.old) (K.faults sink.new)) }
+    {
+        match self.take_last(alloc, sink, watchers) {
+            Ok(()) => {}
+            Err(stop) => return Err(stop),
+        }
+        match self.check_end() {
+            Ok(()) => Ok(()),
+            Err(bad) => Err(Stop::Bad { bad }),
+        }
+    }
+}

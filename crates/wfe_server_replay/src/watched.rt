@@ -1,0 +1,64 @@
+// The rows of the watchers, as the last lines of a record print them.
+ghost use Rattle.std.specs.Prelude.{◌≡◌, ◌≤◌, ◌<◌, OnErr, OnOk};
+ghost use Rattle.std.specs.Io.KnownBytes.{Appends};
+ghost use Rattle.wfe_outside.specs.Faults.{Rose};
+ghost use Rattle.wfe_server_replay.specs.Watched.{rows_of, rows_text, watch_text};
+ghost use Rattle.wfe_server_out.specs.Some.{AppendsSome};
+ghost use Rattle.wfe_trace.specs.Record.{watch_line};
+
+use wfe_outside::{Failed, Sink, WatchRow, Watcher};
+use wfe_server_out::put_line;
+use wfe_trace::{Line, print_watch};
+
+// Writes the line of a row.
+fn put_row<K: Sink>(sink: &mut K, place: u64, row: WatchRow) -> Result<(), Failed>
+    ensures wrote { OnOk result (Appends (K.written sink.old) (K.written sink.new) (watch_line place row.a row.b row.c)) }
+    ensures some { OnErr result (AppendsSome (K.written sink.old) (K.written sink.new) (watch_line place row.a row.b row.c)) }
+    ensures later { K.faults sink.old ≤ K.faults sink.new }
+    ensures cause { OnErr result (Rose (K.faults sink.old) (K.faults sink.new)) }
+{
+    let mut line = Line::new();
+    print_watch(place, row.a, row.b, row.c, &mut line);
+    put_line(sink, &line)
+}
+
+// How many rows a watcher shows.
+fn count_in(watcher: &Box<dyn Watcher>) -> u64
+    ensures { result ≡ shown watcher.now }
+{
+    watcher.rows()
+}
+
+// One of its rows.
+fn row_in(watcher: &Box<dyn Watcher>, place: u64) -> WatchRow
+    requires { place < shown watcher.now }
+    ensures { result ≡ shows watcher.now place }
+{
+    watcher.row(place)
+}
+
+// Writes the rows of a watcher.
+fn put_rows<K: Sink>(sink: &mut K, place: u64, watcher: &Box<dyn Watcher>) -> Result<(), Failed>
+    ensures wrote { OnOk result (Appends (K.written sink.old) (K.written sink.new) (rows_text place (rows_of shown shows watcher.now))) }
+    ensures some { OnErr result (AppendsSome (K.written sink.old) (K.written sink.new) (rows_text place (rows_of shown shows watcher.now))) }
+    ensures later { K.faults sink.old ≤ K.faults sink.new }
+    ensures cause { OnErr result (Rose (K.faults sink.old) (K.faults sink.new)) }
+{
+    for row in 0..count_in(watcher) {
+        put_row(sink, place, row_in(watcher, row))?;
+    }
+    Ok(())
+}
+
+/// Writes the rows of all watchers, each with the watcher's place in the list.
+pub fn put_watched<K: Sink>(sink: &mut K, watchers: &[Box<dyn Watcher>]) -> Result<(), Failed>
+    ensures wrote { OnOk result (Appends (K.written sink.old) (K.written sink.new) (watch_text shown shows watchers.now)) }
+    ensures some { OnErr result (AppendsSome (K.written sink.old) (K.written sink.new) (watch_text shown shows watchers.now)) }
+    ensures later { K.faults sink.old ≤ K.faults sink.new }
+    ensures cause { OnErr result (Rose (K.faults sink.old) (K.faults sink.new)) }
+{
+    for place in 0..watchers.len() {
+        put_rows(sink, place as u64, &watchers[place])?;
+    }
+    Ok(())
+}

@@ -1,2 +1,0 @@
-pub mod Tidies
-pub mod Reclaims

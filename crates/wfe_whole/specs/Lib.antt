@@ -1,9 +1,0 @@
-pub mod AnswerLaw
-pub mod EraLaw
-pub mod HoldLaw
-pub mod NoReuse
-pub mod Once
-pub mod ScanLaw
-pub mod Schedule
-pub mod StepLaw
-pub mod Whole

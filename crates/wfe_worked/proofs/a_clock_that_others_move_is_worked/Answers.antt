@@ -1,5 +1,0 @@
-use Rattle.wfe_worked.proofs.Moved as worked
-use Rattle.wfe_worked.proofs.a_clock_that_others_move_is_worked.Goals as goal
-
-pub returns : goal.returns
-returns c = worked.moved_worked

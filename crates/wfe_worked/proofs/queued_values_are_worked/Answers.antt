@@ -1,5 +1,0 @@
-use Rattle.wfe_worked.proofs.Queued as worked
-use Rattle.wfe_worked.proofs.queued_values_are_worked.Goals as goal
-
-pub returns : goal.returns
-returns c = worked.queued_worked

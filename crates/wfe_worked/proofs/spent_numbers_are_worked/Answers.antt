@@ -1,5 +1,0 @@
-use Rattle.wfe_worked.proofs.Spent as worked
-use Rattle.wfe_worked.proofs.spent_numbers_are_worked.Goals as goal
-
-pub returns : goal.returns
-returns c = worked.spent_worked
