@@ -106,7 +106,7 @@ def least_space(program, trace):
 
 
 # Functions whose names show that they make the text of a line or hand bytes on.
-PRINTS = re.compile(r"wfe_trace|wfe_telling|wfe_outside|write|fmt|itoa|digits|memcpy|memmove")
+PRINTS = re.compile(r"wfe_trace|wfe_server_out|wfe_outside|write|fmt|itoa|digits|memcpy|memmove")
 
 
 def shares(program, trace):
@@ -130,9 +130,9 @@ def main():
     parser.add_argument("--repeats", type=int, default=3)
     parser.add_argument("--profile", action="store_true", help="print where the instructions go (needs valgrind)")
     args = parser.parse_args()
-    program = os.path.join(os.path.dirname(os.path.abspath(__file__)), os.pardir, "crates", "wfe_cli", "out", "wfe_cli")
+    program = os.path.join(os.path.dirname(os.path.abspath(__file__)), os.pardir, "crates", "wfe", "out", "wfe")
     if not os.path.exists(program):
-        subprocess.run([os.path.join(os.path.dirname(program), os.pardir, os.pardir, os.pardir, "wfe"), "gen", "1", "0"], check=True)
+        subprocess.run([os.path.join(os.path.dirname(os.path.abspath(__file__)), os.pardir, "build")], check=True)
     print(f"seed {args.seed}, {args.turns} turns, best of {args.repeats}")
     print("scheme      units  trace bytes record bytes  units/s  to he  bytes/s (record)  to he")
     base = None

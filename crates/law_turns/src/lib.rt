@@ -26,7 +26,7 @@ pub fn handovers_meet()
 {}
 
 /// Under Hazard Eras the number of a protection is one more than three times the number of eras that the seat's index
-/// word published since it published nothing, and for a row that was followed two more.
+/// word published since it published nothing; for a row that was followed it is one more still.
 pub fn tries_count()
     ensures { TriesCount }
 {}

@@ -1,6 +1,7 @@
 //! The program `wfe`: replays a trace of calls on a map and a queue, and prints the record, or a summary of a generated trace.
 #![tactic(auto)]
 
+use std::alloc::AllocError;
 use std::io::BufWriter;
 use std::process::ExitCode;
 use std::rt::Env;
@@ -14,19 +15,21 @@ use wfe_watch::KeyCounter;
 const BUFFER: usize = 65_536;
 
 // The words after the program's name. Where they can't be had as text they are no command.
-fn words_given(rt: &(impl Env + AllocGlobal)) -> Vec<String> {
+fn words_given(rt: &(impl Env + AllocGlobal)) -> Result<Vec<String>, AllocError> {
     match env::args(rt) {
-        Ok(all) => match all.skip(1).collect(rt.alloc()) {
-            Ok(words) => words,
-            Err(_) => Vec::new(rt.alloc()),
+        Ok(all) => all.skip(1).collect(rt.alloc()),
+        Err(error) => match error.kind() {
+            io::ErrorKind::OutOfMemory => Err(AllocError),
+            _ => Ok(Vec::new(rt.alloc())),
         },
-        Err(_) => Vec::new(rt.alloc()),
     }
 }
 
 fn main(rt: HostRuntime) -> ExitCode {
     let alloc = rt.alloc();
-    let words = words_given(&rt);
+    let Ok(words) = words_given(&rt) else {
+        return ExitCode::from(exit_number(Status::NoMemory));
+    };
     let mut source = StdSource::new(rt.reader());
     let Ok(writer) = BufWriter::with_capacity(alloc, BUFFER, io::writer(&rt)) else {
         return ExitCode::from(exit_number(Status::NoMemory));

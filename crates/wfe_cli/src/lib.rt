@@ -2,7 +2,5 @@
 #![tactic(auto)]
 
 mod command;
-#[cfg(test)]
-mod tests;
 
 pub use command::{exit_number, main_call};

@@ -1,6 +1,5 @@
 pub use Rattle.law_answers.proofs.all as all
 pub use Rattle.law_answers.proofs.history as history
 pub use Rattle.wfe_drive_cells.proofs as drive_cells
-pub mod ByHand
 pub mod Left
 pub mod Reached

@@ -1,7 +1,6 @@
 pub use Rattle.law_answers.specs.all as all
 pub use Rattle.law_answers.specs.history as history
 pub use Rattle.wfe_drive_cells.specs as drive_cells
-pub mod ByHand
 pub mod Reached
 pub mod Seats
 pub mod Sound

@@ -7,8 +7,6 @@ mod engine;
 mod rig;
 mod scheme_calls;
 mod seat;
-#[cfg(test)]
-mod tests;
 mod unit;
 
 pub use engine::Engine;

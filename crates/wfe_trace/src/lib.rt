@@ -20,6 +20,3 @@ pub use read::{TraceState, read_line};
 pub use reason::{BadLine, Reason, Status};
 pub use wfe_words::{Config, Layout, SchemeKind};
 pub use words::number_of;
-
-#[cfg(test)]
-mod tests;

@@ -1,5 +1,5 @@
 // A protection of Wait-Free Eras that moves of the clock overtake, at known places.
-use crate::tests::bench::Bench;
+use crate::bench::Bench;
 use std::process::Abort;
 use std::test::Fail;
 use wfe_core::{Answer, Call, ClockMove, Config, Event, Guard, Interval, SchemeKind};

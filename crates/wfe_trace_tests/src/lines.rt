@@ -1,10 +1,10 @@
 // The worked lines of a trace, and the worked texts of a record.
-use crate::{
+use std::process::Abort;
+use wfe_defs::{Answer, Call, ClockMove, Command, Event, Guard, Interval, Root};
+use wfe_trace::{
     BadLine, Item, Line, Mode, Reason, TraceState, print_bad, print_count, print_event,
     print_header, print_table, print_watch, read_line,
 };
-use std::process::Abort;
-use wfe_defs::{Answer, Call, ClockMove, Command, Event, Guard, Interval, Root};
 use wfe_words::{Config, SchemeKind};
 
 const CONFIG: Config = Config {
@@ -558,7 +558,7 @@ fn a_bad_line_has_its_reason(rt: HostRuntime) {
 }
 
 #[test]
-#[tactic(auto, using(crate::proofs::Digits::digit_counts))]
+#[tactic(auto, using(wfe_trace::proofs::Digits::digit_counts))]
 fn a_line_is_made_of_texts_and_numbers(rt: HostRuntime) {
     let mut line = Line::new();
     line.text(b"left");

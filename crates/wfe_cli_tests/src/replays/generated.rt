@@ -1,6 +1,6 @@
 // Generated traces: that each run gives the same summary, and that its counts are those of the record
 // that a replay prints of the same lines.
-use crate::tests::{joined, run, run_words};
+use crate::replays::{joined, run, run_words};
 use rand_core::utils::NextWord;
 use rand_pcg::Lcg64Xsh32;
 use std::process::Abort;

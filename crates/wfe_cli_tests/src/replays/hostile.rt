@@ -1,5 +1,5 @@
 // Lines that are too long, numbers out of their ranges, and words that are too many.
-use crate::tests::{HEADER, SETTING, expect, joined};
+use crate::replays::{HEADER, SETTING, expect, joined};
 use std::test::Fail;
 use wfe_trace::{Reason, Status};
 

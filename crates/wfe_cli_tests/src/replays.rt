@@ -3,10 +3,10 @@ mod generated;
 mod hostile;
 mod long;
 
-use crate::command::main_call;
 use std::process::Abort;
 use std::test::Fail;
 use std::thread::Threads;
+use wfe_cli::main_call;
 use wfe_outside::{CleanSource, Failed, MemSink, MemSource, Source, Watcher};
 use wfe_trace::{Reason, Status};
 use wfe_watch::{GarbageCounter, KeyCounter};

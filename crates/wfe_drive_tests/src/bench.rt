@@ -1,10 +1,10 @@
 // A rig in the hands of a test, with the record of what its units told.
 ghost use Rattle.std.specs.Prelude.{◌≡◌};
 
-use crate::Rig;
 use std::alloc::Global;
 use std::test::Fail;
 use wfe_core::{Answer, Call, Config, Event, Layout, Told};
+use wfe_drive::Rig;
 use wfe_drive_cells::{MakeCells, PlainCells};
 
 /// How many units a call is given at most before a test gives up.

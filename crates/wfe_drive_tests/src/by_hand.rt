@@ -3,9 +3,9 @@ ghost use Rattle.std.specs.Prelude.{◌≡◌, ◌<◌, length, IfNone, IfOk, tr
 ghost use Rattle.wfe_core.specs.words.Place.{is_valid, words};
 ghost use Rattle.wfe_drive_cells.specs.Operations.{word_in};
 ghost use Rattle.wfe_fast.specs.Phases.{protect_phase};
-ghost use Rattle.wfe_drive.specs.ByHand.{IsPoised, IsSeen, LeadsWithin};
+ghost use Rattle.wfe_drive_tests.specs.ByHand.{IsPoised, IsSeen, LeadsWithin};
 
-use crate::tests::overtaken::PAIR;
+use crate::overtaken::PAIR;
 use std::alloc::Global;
 use std::process::Abort;
 use std::test::Fail;

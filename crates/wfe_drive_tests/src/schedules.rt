@@ -1,6 +1,6 @@
 // Random schedules of random calls on small tables, and what a plain check says of their records.
-use crate::tests::bench::Bench;
-use crate::tests::watch::{Breach, Watch};
+use crate::bench::Bench;
+use crate::watch::{Breach, Watch};
 use rand_core::utils::NextWord;
 use rand_pcg::Pcg32;
 use std::process::Abort;

@@ -20,14 +20,14 @@ use Rattle.wfe_core.specs.Protect.{protected, trying}
 use Rattle.wfe_core.specs.Ready.{EraFits, IndexFits, LinkFits, Plausible, RootFits, protect_plausible, protect_ready}
 use Rattle.wfe_core.specs.SlowPath.{answer_in, lost_turn, own_request}
 use Rattle.wfe_core.specs.Valid.{IsValid}
-use Rattle.law_answers.proofs.shapes.Machines.{held_post_keeps}
+use Rattle.inv_shapes.proofs.Machines.{held_post_keeps}
 use Rattle.wfe_fast.specs.Phases.{at_of, protect_phase, turn_by}
 use Rattle.wfe_fast.specs.declared.protect.At.{At}
 use Rattle.wfe_fast.specs.declared.protect.At.TheVariants as ats
 use Rattle.wfe_fast.specs.declared.protect.WfeProtect.{WfeProtect}
 use Rattle.wfe_fast.specs.declared.turn_at.TurnAt.{TurnAt}
 use Rattle.wfe_fast.specs.declared.turn_at.TurnAt.TheVariants as turns
-use Rattle.wfe_drive.specs.ByHand.{IsAt, IsPoised, IsSeen, LeadsWithin}
+use Rattle.wfe_drive_tests.specs.ByHand.{IsAt, IsPoised, IsSeen, LeadsWithin}
 
 -- a number of these few is an era and a link
 era_fits : (post : Post) (found : ℕ) → IsValid post → (1 ≤ found) × (found ≤ post.layout.config.slots) → EraFits found

@@ -1,5 +1,5 @@
 // The longest trace, from a source that keeps none of it.
-use crate::tests::{HEADER, SETTING, joined, run};
+use crate::replays::{HEADER, SETTING, joined, run};
 use std::process::Abort;
 use std::test::Fail;
 use std::thread::Threads;

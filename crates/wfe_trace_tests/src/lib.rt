@@ -1,0 +1,5 @@
+//! Tests of the lines of traces and records: worked lines, judged and printed.
+#![tactic(auto)]
+
+#[cfg(test)]
+mod lines;
