@@ -2,7 +2,6 @@
 use Rattle.std.proofs.Common.{ℕ, ◌≡◌, Bool, true, false, refl, arith, List, ◌++◌, ◌+◌, ◌≤◌, sym, ◌∙◌, ◌<◌, None, ap, suc, inl, ◌⊎◌, inr, ◌/◌}
 use Rattle.std.proofs.lemmas.Bool.Decides.{nat_tests}
 use Rattle.std.specs.Prelude.{◌==◌, ◌&&◌, Option, not, ◌||◌, nat_lt, if◌then◌else◌, slice_index, slice_set, length, ◌-◌, is_none, ◌*◌, nat_le}
-use Rattle.std.specs.Io.KnownBytes.{Appends}
 use Rattle.std.proofs.lemmas.List.{get_or-set_same}
 
 pub same_number : (n : ℕ) → (n == n) ≡ true
@@ -22,11 +21,6 @@ first_of false b h = h
 pub rest_of : (a b : Bool) → (a && b) ≡ true → b ≡ true
 rest_of true b h = h
 rest_of false b h = absurd (cc)
-
-pub record Wrote (old new : Option (List ℕ)) (all rest : List ℕ) : Type 0 where
-  pub front : List ℕ
-  pub split : all ≡ front ++ rest
-  pub wrote : Appends old new front
 
 pub by_cases : (b : Bool) (P : Type 0) → (b ≡ true → P) → (b ≡ false → P) → P
 by_cases true P f g = f refl

@@ -9,7 +9,7 @@ use Rattle.std.specs.Io.KnownBytes.{Appends}
 use Rattle.std.proofs.KnownBytes.{Appends-nil, Appends-trans}
 use Rattle.wfe_server_out.specs.Some.{AppendsSome}
 use Rattle.wfe_server_out.proofs.Texts.{AppendsSome-first, AppendsSome-then}
-use Rattle.wfe_core.proofs.Facts.{Wrote}
+use Rattle.wfe_server_out.proofs.Written.{Wrote}
 
 pub wrote_none : (old : Option (List ℕ)) (all : List ℕ) → Wrote old old all all
 wrote_none old all = record { front = []; split = refl; wrote = Appends-nil old }

@@ -3,3 +3,4 @@ pub mod Puts
 pub mod Stops
 pub mod Texts
 pub mod Turns
+pub mod Written

@@ -11,18 +11,18 @@ use Rattle.wfe_server_out.specs.Some.{AppendsSome}
 use Rattle.wfe_server_out.proofs.Texts.{AppendsSome-first, AppendsSome-then}
 use Rattle.wfe_trace.specs.Record.{watch_line}
 use Rattle.wfe_server_replay.specs.Watched.{rows_of, rows_text, watch_from}
-use Rattle.wfe_core.proofs.Facts.{Wrote}
+use Rattle.wfe_server_out.proofs.Written.{Wrote}
 
 pub fronts_more : (old mid new : Option (List ℕ)) (all line rest more : List ℕ) → rest ≡ line ++ more → Wrote old mid all rest → Appends mid new line → Wrote old new all more
 fronts_more old mid new all line rest more e f wrote = record {
   front = f.front ++ line;
-  is = f.is ∙ ap (λ (t : List ℕ). f.front ++ t) e ∙ sym (append_assoc f.front line more);
+  split = f.split ∙ ap (λ (t : List ℕ). f.front ++ t) e ∙ sym (append_assoc f.front line more);
   wrote = Appends-trans old mid new f.front line f.wrote wrote;
 }
 
 pub fronts_part : (old mid new : Option (List ℕ)) (all line rest more : List ℕ) → rest ≡ line ++ more → Wrote old mid all rest → AppendsSome mid new line → AppendsSome old new all
 fronts_part old mid new all line rest more e f part =
-    subst (AppendsSome old new) (sym (f.is ∙ ap (λ (t : List ℕ). f.front ++ t) e)) (AppendsSome-then old mid new f.front (line ++ more) f.wrote (AppendsSome-first mid new line more part))
+    subst (AppendsSome old new) (sym (f.split ∙ ap (λ (t : List ℕ). f.front ++ t) e)) (AppendsSome-then old mid new f.front (line ++ more) f.wrote (AppendsSome-first mid new line more part))
 
 -- the next row of a watcher
 pub row_next : {W : Type 0} (shown : W → ℕ) (shows : W → ℕ → WatchRow) (watcher : W) (place row : ℕ) (r : WatchRow) → row < shown watcher → r ≡ shows watcher row
@@ -48,4 +48,4 @@ pub rows_written : {W : Type 0} (shown : W → ℕ) (shows : W → ℕ → Watch
 rows_written shown shows old new all watcher place row past f =
     let many : length (rows_of shown shows watcher) ≡ shown watcher = length-map-range_with_len (shows watcher) 0 (shown watcher) in
     let none : drop row (rows_of shown shows watcher) ≡ [] = drop_all row (rows_of shown shows watcher) (subst (λ (n : ℕ). n ≤ row) (sym many) past) in
-    subst (Appends old new) (sym (f.is ∙ ap (λ (rows : List WatchRow). f.front ++ rows_text place rows) none ∙ append-nil f.front)) f.wrote
+    subst (Appends old new) (sym (f.split ∙ ap (λ (rows : List WatchRow). f.front ++ rows_text place rows) none ∙ append-nil f.front)) f.wrote

@@ -1,7 +1,7 @@
 use Rattle.std.proofs.Common.{drop, ◌≤◌}
 use Rattle.wfe_server_gen.specs.Report.{count_lines, named}
 use Rattle.wfe_server_gen.proofs.report.put_counts.Given as goal
-use Rattle.wfe_core.proofs.Facts.{Wrote}
+use Rattle.wfe_server_out.proofs.Written.{Wrote}
 
 -- the lines before this place are written
 abbrev pub invariant-loop-place : goal.invariant-loop-place

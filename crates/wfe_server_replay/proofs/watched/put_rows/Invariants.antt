@@ -1,7 +1,7 @@
 use Rattle.std.proofs.Common.{drop, ◌≤◌}
 use Rattle.wfe_server_replay.specs.Watched.{rows_of, rows_text}
 use Rattle.wfe_server_replay.proofs.watched.put_rows.Given as goal
-use Rattle.wfe_core.proofs.Facts.{Wrote}
+use Rattle.wfe_server_out.proofs.Written.{Wrote}
 
 -- the rows before this one are written
 abbrev pub invariant-loop-row : goal.invariant-loop-row

@@ -1,7 +1,7 @@
 use Rattle.std.proofs.Common.{drop, ◌≤◌}
 use Rattle.wfe_server_replay.specs.Watched.{rows_of, watch_from}
 use Rattle.wfe_server_replay.proofs.watched.put_watched.Given as goal
-use Rattle.wfe_core.proofs.Facts.{Wrote}
+use Rattle.wfe_server_out.proofs.Written.{Wrote}
 
 -- the rows of the watchers before this one are written
 abbrev pub invariant-loop-place : goal.invariant-loop-place
