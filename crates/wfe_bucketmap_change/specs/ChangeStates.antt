@@ -6,7 +6,7 @@ use Rattle.wfe_core.specs.Phases.{Base}
 use Rattle.wfe_core.specs.Calls.{ChangeKept, Changes, Opens, Fills, GivesUp, Repeated, Phase, Runs, Works, Changing}
 use Rattle.wfe_core.specs.Rounds.{round}
 use Rattle.wfe_slots.specs.Phases.{allocate_phase, give_up_phase}
-use Rattle.wfe_slots.specs.Rows.{write_phase}
+use Rattle.wfe_slots.specs.Writes.{write_phase}
 use Rattle.wfe_call_rounds.specs.Rounds.{opening_base, close_at, close_phase}
 use Rattle.wfe_call_tidy.specs.Reclaims.{reclaim_phase}
 use Rattle.wfe_call_tidy.specs.Tidies.{tidy_phase}

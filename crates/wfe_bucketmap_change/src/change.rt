@@ -140,9 +140,11 @@ impl<S: Scheme> ChangeBucket<S> {
         requires { self.old.kept.version + 1 < 18446744073709551616 }
         ensures phase { (post : ModelPost) → change_phase S.Begin.phase S.Protect.phase S.Clear.phase S.Finish.phase (kept_of self.new.kept) self.new.at post ≡ Runs (Fills (Changes (kept_of self.old.kept))) (writing slot (new_row (kept_of self.old.kept))) }
     {
+        let (count, pairs) = self.kept.pairs.row();
         let row = Row::Map {
             version: self.kept.version + 1,
-            pairs: self.kept.pairs.copy(),
+            count,
+            pairs,
         };
         self.at = State::Writes(WriteRow::new(slot, row));
     }
@@ -167,7 +169,7 @@ impl<S: Scheme> ChangeBucket<S> {
             Changed::Fills => {
                 match self.kept.taken {
                     Some(slot) => self.write(slot),
-                    None => self.at = State::Allocates(Allocate::new()),
+                    None => self.at = State::Allocates(Allocate::new(post)),
                 }
                 None
             }

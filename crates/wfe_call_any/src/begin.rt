@@ -6,7 +6,7 @@ ghost use Rattle.wfe_core.specs.declared.post.Post.{Post};
 use crate::Running;
 use wfe_bucketmap::{Advance, Get, Hold, Release, Scheme};
 use wfe_bucketmap_change::{Put, Remove};
-use wfe_core::{Call, CallMachine};
+use wfe_core::{Call, CallMachine, Layout};
 use wfe_msqueue::{Dequeue, Enqueue};
 use wfe_scan::Scan;
 
@@ -23,8 +23,8 @@ pub type CallOf<S> = Running<
     Scan,
 >;
 
-/// The machine of a call, at its first step.
-pub fn begin_call<S: Scheme>(call: Call) -> CallOf<S>
+/// The machine of a call on a table of this layout, at its first step.
+pub fn begin_call<S: Scheme>(layout: Layout, call: Call) -> CallOf<S>
     ensures { (post : Post) → post.layout.config.scheme ≡ S.kind → ⟦<CallOf<S> as CallMachine>⟧.phase result post ≡ first_phase call post }
 {
     match call {
@@ -36,6 +36,6 @@ pub fn begin_call<S: Scheme>(call: Call) -> CallOf<S>
         Call::Hold { key } => Running::Holds(Hold::new(key)),
         Call::Release => Running::Releases(Release::new()),
         Call::Advance => Running::Advances(Advance::new()),
-        Call::Scan => Running::Scans(Scan::new()),
+        Call::Scan => Running::Scans(Scan::new(layout)),
     }
 }

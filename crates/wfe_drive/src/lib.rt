@@ -11,4 +11,4 @@ mod unit;
 
 pub use engine::Engine;
 pub use rig::Rig;
-pub use wfe_drive_cells::PlainCells;
+pub use wfe_drive_cells::{Cells, MakeCells, PlainCells};

@@ -19,17 +19,17 @@ use wfe_drive_cells::Cells;
 
 type State = SeatState<HeCall, IbrCall, WfeCall>;
 
-// A call that begins, under the scheme of a table.
-fn begin_under(scheme: SchemeKind, call: Call) -> Engaged<HeCall, IbrCall, WfeCall>
-    ensures suits { Suits ⟦<HeCall as CallMachine>⟧.suits ⟦<IbrCall as CallMachine>⟧.suits ⟦<WfeCall as CallMachine>⟧.suits result scheme }
+// A call that begins on a table of this layout, under its scheme.
+fn begin_under(layout: Layout, call: Call) -> Engaged<HeCall, IbrCall, WfeCall>
+    ensures suits { Suits ⟦<HeCall as CallMachine>⟧.suits ⟦<IbrCall as CallMachine>⟧.suits ⟦<WfeCall as CallMachine>⟧.suits result layout.config.scheme }
     ensures engaged { is_engaged result ≡ true }
-    ensures phase { (post : Post) → post.layout.config.scheme ≡ scheme
+    ensures phase { (post : Post) → post.layout.config.scheme ≡ layout.config.scheme
         → engaged_phase ⟦<HeCall as CallMachine>⟧.phase ⟦<IbrCall as CallMachine>⟧.phase ⟦<WfeCall as CallMachine>⟧.phase result post ≡ first_phase call post }
 {
-    match scheme {
-        SchemeKind::He => Engaged::He(HeCall::begin(call)),
-        SchemeKind::Ibr => Engaged::Ibr(IbrCall::begin(call)),
-        SchemeKind::Wfe => Engaged::Wfe(WfeCall::begin(call)),
+    match layout.config().scheme {
+        SchemeKind::He => Engaged::He(HeCall::begin(layout, call)),
+        SchemeKind::Ibr => Engaged::Ibr(IbrCall::begin(layout, call)),
+        SchemeKind::Wfe => Engaged::Wfe(WfeCall::begin(layout, call)),
     }
 }
 
@@ -93,7 +93,7 @@ impl<C: Cells> Rig<C> {
         requires free { busy_in (seat_at self.old seat).phase ≡ false }
         ensures table { self.new ≡ after_start self.old seat call }
     {
-        let engaged = begin_under(self.layout.config().scheme, call);
+        let engaged = begin_under(self.layout, call);
         self.seats[seat as usize].engage(engaged);
     }
 

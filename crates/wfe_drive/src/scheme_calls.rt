@@ -5,7 +5,7 @@ ghost use Rattle.wfe_core.specs.declared.post.Post.{Post};
 ghost use Rattle.wfe_core.specs.words.declared.config.SchemeKind.TheVariants as kinds;
 
 use wfe_call_any::{CallOf, He, Ibr, Wfe, begin_call};
-use wfe_core::{Answer, Call, CallMachine, Desk, Op, Post, Told};
+use wfe_core::{Answer, Call, CallMachine, Desk, Layout, Op, Post, Told};
 
 /// A call under Hazard Eras.
 #[derive(Drop)]
@@ -14,13 +14,13 @@ pub struct HeCall {
 }
 
 impl HeCall {
-    /// The call at its first step.
-    pub fn begin(call: Call) -> HeCall
+    /// The call on a table of this layout, at its first step.
+    pub fn begin(layout: Layout, call: Call) -> HeCall
         ensures phase { (post : Post) → post.layout.config.scheme ≡ kinds.He → ⟦<HeCall as CallMachine>⟧.phase result post ≡ first_phase call post }
         ensures suits { ⟦<HeCall as CallMachine>⟧.suits kinds.He }
     {
         HeCall {
-            call: begin_call(call),
+            call: begin_call(layout, call),
         }
     }
 }
@@ -52,13 +52,13 @@ pub struct IbrCall {
 }
 
 impl IbrCall {
-    /// The call at its first step.
-    pub fn begin(call: Call) -> IbrCall
+    /// The call on a table of this layout, at its first step.
+    pub fn begin(layout: Layout, call: Call) -> IbrCall
         ensures phase { (post : Post) → post.layout.config.scheme ≡ kinds.Ibr → ⟦<IbrCall as CallMachine>⟧.phase result post ≡ first_phase call post }
         ensures suits { ⟦<IbrCall as CallMachine>⟧.suits kinds.Ibr }
     {
         IbrCall {
-            call: begin_call(call),
+            call: begin_call(layout, call),
         }
     }
 }
@@ -90,13 +90,13 @@ pub struct WfeCall {
 }
 
 impl WfeCall {
-    /// The call at its first step.
-    pub fn begin(call: Call) -> WfeCall
+    /// The call on a table of this layout, at its first step.
+    pub fn begin(layout: Layout, call: Call) -> WfeCall
         ensures phase { (post : Post) → post.layout.config.scheme ≡ kinds.Wfe → ⟦<WfeCall as CallMachine>⟧.phase result post ≡ first_phase call post }
         ensures suits { ⟦<WfeCall as CallMachine>⟧.suits kinds.Wfe }
     {
         WfeCall {
-            call: begin_call(call),
+            call: begin_call(layout, call),
         }
     }
 }

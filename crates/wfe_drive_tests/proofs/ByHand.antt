@@ -25,8 +25,8 @@ use Rattle.wfe_fast.specs.Phases.{at_of, protect_phase, turn_by}
 use Rattle.wfe_fast.specs.declared.protect.At.{At}
 use Rattle.wfe_fast.specs.declared.protect.At.TheVariants as ats
 use Rattle.wfe_fast.specs.declared.protect.WfeProtect.{WfeProtect}
-use Rattle.wfe_fast.specs.declared.turn_at.TurnAt.{TurnAt}
-use Rattle.wfe_fast.specs.declared.turn_at.TurnAt.TheVariants as turns
+use Rattle.wfe_fast.specs.declared.own_turn.TurnAt.{TurnAt}
+use Rattle.wfe_fast.specs.declared.own_turn.TurnAt.TheVariants as turns
 use Rattle.wfe_drive_tests.specs.ByHand.{IsAt, IsPoised, IsSeen, LeadsWithin}
 
 -- a number of these few is an era and a link

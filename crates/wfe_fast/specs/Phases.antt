@@ -4,9 +4,9 @@ use Rattle.wfe_core.specs.Phases.{Alone, Failed, ProtectAt, Base}
 use Rattle.wfe_core.specs.Phases.Base.{Protect}
 use Rattle.wfe_core.specs.Phases.ProtectAt.{LoadClock, PublishEra, LoadLink, CheckClock, PublishRequest, LoadOwnClock, PublishHelper, LoadOwnLink, CheckOwnClock, AnswerOwn, LoadAnswer, TakeAnswer, WithdrawRequest, WithdrawHelper}
 use Rattle.wfe_fast.specs.declared.protect.WfeProtect.{WfeProtect}
-use Rattle.wfe_fast.specs.declared.turn_at.OwnTurn.{OwnTurn}
-use Rattle.wfe_fast.specs.declared.turn_at.TurnAt.{TurnAt}
-use Rattle.wfe_fast.specs.declared.turn_at.TurnAt.TheVariants as turns
+use Rattle.wfe_fast.specs.declared.own_turn.OwnTurn.{OwnTurn}
+use Rattle.wfe_fast.specs.declared.own_turn.TurnAt.{TurnAt}
+use Rattle.wfe_fast.specs.declared.own_turn.TurnAt.TheVariants as turns
 use Rattle.wfe_fast.specs.declared.protect.At.{At}
 use Rattle.wfe_fast.specs.declared.protect.At.TheVariants as ats
 

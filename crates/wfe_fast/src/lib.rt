@@ -2,7 +2,7 @@
 //! then a request that movers of the clock answer.
 #![tactic(auto)]
 
+mod own_turn;
 mod protect;
-mod turn_at;
 
 pub use protect::WfeProtect;

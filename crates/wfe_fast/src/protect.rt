@@ -14,7 +14,7 @@ ghost use Rattle.wfe_core.specs.SlowPath.{after_take_answer, answer_in, lost_tur
 ghost use Rattle.wfe_core.specs.Valid.{IsValid};
 ghost use Rattle.wfe_fast.specs.Phases.{at_of, protect_phase, turn_of};
 
-use crate::turn_at::{OwnTurn, TurnAt, asking_own, turn_op};
+use crate::own_turn::{OwnTurn, TurnAt, asking_own, turn_op};
 use wfe_core::{
     Event, Guard, Machine, Op, Post, ProtectEnd, Request, Reservation, Root, Told, hold,
     index_word, link_word_number, one_era, protect_end, read_request, reservation_word, root_at,

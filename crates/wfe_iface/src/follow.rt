@@ -1,6 +1,8 @@
 // The next link of the head's row is protected, and then the head is loaded again: while it still
 // leads to the parent, the parent is not cut, and the link was the queue's.
 ghost use Rattle.std.specs.Prelude.{◌≡◌, true};
+ghost use Rattle.wfe_core.specs.words.Place.{number};
+ghost use Rattle.wfe_core.specs.words.Place.Place.{Head};
 ghost use Rattle.wfe_core.specs.Follow.{following};
 ghost use Rattle.wfe_core.specs.Ready.{SlotFits};
 ghost use Rattle.wfe_core.specs.Rounds.{protect_base};
@@ -24,9 +26,12 @@ pub struct Follow<S: Scheme> {
 }
 
 impl<S: Scheme> Follow<S> {
-    /// A follow of the next link of the parent, a row that stands at another index of the seat.
-    pub fn new(post: &Post, parent: u32, index: u32) -> Follow<S>
+    /// A follow that has made no step, of the next link of the parent, a row that stands at another
+    /// index of the seat. The root, by its word's number, is the queue's head, which has that number at
+    /// each step, as the layout stays the same.
+    pub fn new(post: &Post, root: u32, parent: u32, index: u32) -> Follow<S>
         requires valid { IsValid post.now }
+        requires head { root ≡ number post.now.layout Head }
         requires parent { SlotFits post.now parent }
         ensures { ⟦<Follow<S> as Machine>⟧.phase result ≡ following (protect_base S.kind index (NextOf parent)) }
     {

@@ -9,3 +9,4 @@ mod schemes;
 pub use follow::Follow;
 pub use scheme::Scheme;
 pub use schemes::{He, Ibr, Wfe};
+pub use wfe_core::FollowEnd;

@@ -4,7 +4,7 @@ use Rattle.wfe_core.specs.Phases.{Base}
 use Rattle.wfe_core.specs.Calls.{EnqueueKept, Enqueues, Opens, Fills, GivesUp, Repeated, Phase, Runs, Works, Enqueuing}
 use Rattle.wfe_core.specs.Rounds.{round}
 use Rattle.wfe_slots.specs.Phases.{allocate_phase, give_up_phase}
-use Rattle.wfe_slots.specs.Rows.{write_phase}
+use Rattle.wfe_slots.specs.Writes.{write_phase}
 use Rattle.wfe_call_rounds.specs.Rounds.{opening_base, close_at, close_phase}
 use Rattle.wfe_call_tidy.specs.Tidies.{tidy_phase}
 use Rattle.wfe_msqueue.specs.declared.enqueue_state.State.{State}

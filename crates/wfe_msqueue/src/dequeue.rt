@@ -140,7 +140,7 @@ impl<S: Scheme> Dequeue<S> {
                 None
             }
             Dequeued::Follows { head, tail } => {
-                let follow = Follow::new(post, head, 1);
+                let follow = Follow::new(post, post.layout.head(), head, 1);
                 self.at = State::Follows { head, tail, follow };
                 None
             }

@@ -149,7 +149,7 @@ impl<S: Scheme> Enqueue<S> {
             Enqueued::Fills => {
                 match self.kept.taken {
                     Some(slot) => self.write(slot),
-                    None => self.at = State::Allocates(Allocate::new()),
+                    None => self.at = State::Allocates(Allocate::new(post)),
                 }
                 None
             }

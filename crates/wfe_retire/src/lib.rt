@@ -4,4 +4,4 @@
 mod retire;
 
 pub use retire::Retire;
-pub use wfe_core::RetireList;
+pub use wfe_core::{CallMachine, Desk, Notes, RetireList, ScanReport};

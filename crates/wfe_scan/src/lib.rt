@@ -7,3 +7,4 @@ mod scan;
 mod unmet;
 
 pub use scan::{Scan, Scanner};
+pub use wfe_core::{CallMachine, Desk, Notes, RetireList, ScanReport};

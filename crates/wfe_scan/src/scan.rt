@@ -10,7 +10,7 @@ ghost use Rattle.wfe_scan.specs.Scans.{Leaves, giving, op_ready, scan_phase, sca
 
 use super::guards::{guard_at, guard_word, guards, published};
 use super::unmet::first_unmet;
-use wfe_core::{Answer, CallMachine, Desk, Event, Op, Post, Told};
+use wfe_core::{Answer, CallMachine, Desk, Event, Layout, Op, Post, Told};
 
 // The step to come. Places are places of the retire list, from 0.
 #[derive(Clone, Copy)]
@@ -126,7 +126,9 @@ pub struct Scan {
 }
 
 impl Scan {
-    pub fn new() -> Scan
+    /// A scan of a table of this layout that has made no step. Which guards there are, each step reads
+    /// from the post that it is given, which has the same layout.
+    pub fn new(_layout: Layout) -> Scan
         ensures { scan_phase result ≡ Scans Counted (ReadGuard 0) }
     {
         Scan {

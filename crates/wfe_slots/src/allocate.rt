@@ -25,7 +25,9 @@ pub struct Allocate {
 }
 
 impl Allocate {
-    pub fn new() -> Allocate
+    /// An allocation of a seat that has made no step. The walk begins at the seat's cursor, which the
+    /// machine reads from the post that its first step is given; it keeps nothing of this one.
+    pub fn new(post: &Post) -> Allocate
         ensures { allocate_phase result ≡ Allocating LoadBirth }
     {
         Allocate { at: At::LoadBirth }

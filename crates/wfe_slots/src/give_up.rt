@@ -12,6 +12,7 @@ pub struct GiveUp {
 }
 
 impl GiveUp {
+    /// The giving up of the row at this slot.
     pub fn new(slot: u32) -> GiveUp
         ensures { give_up_phase result ≡ GivingUp slot }
     {

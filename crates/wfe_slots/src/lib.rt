@@ -11,6 +11,7 @@ mod write_row;
 pub use allocate::Allocate;
 pub use give_up::GiveUp;
 pub use pairs::Pairs;
+pub use wfe_core::AllocateEnd;
 pub use write_row::{Row, WriteRow};
 
 #[cfg(test)]

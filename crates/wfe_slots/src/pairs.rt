@@ -1,5 +1,5 @@
 // A list of pairs in a fixed array.
-ghost use Rattle.std.specs.Prelude.{◌≡◌, ◌<◌, ◌≤◌, [], ◌∷◌, ◌++◌, length, slice_index_or, slice_set, is_some};
+ghost use Rattle.std.specs.Prelude.{◌≡◌, ◌<◌, ◌≤◌, [], ◌∷◌, ◌++◌, length, slice_index_or, slice_set, take, is_some};
 ghost use Rattle.wfe_core.specs.defs.Pairs.{value_in, with_pair, without_key};
 ghost use Rattle.wfe_slots.specs.Places.{IsPlace, with_other};
 
@@ -34,14 +34,12 @@ impl Pairs {
         }
     }
 
-    /// The same pairs once more.
-    pub fn copy(&self) -> Pairs
-        ensures { result ≡ self.now }
+    /// How many pairs there are, and an array that has them first, in order.
+    pub fn row(&self) -> (u32, [(u64, u64); 14])
+        ensures few { result.0 ≤ 14 }
+        ensures pairs { take result.0 result.1 ≡ self.now }
     {
-        Pairs {
-            pairs: self.pairs,
-            len: self.len,
-        }
+        (self.len as u32, self.pairs)
     }
 
     /// How many pairs there are.

@@ -1,18 +1,25 @@
 // A row is written word by word, before it is linked.
 ghost use Rattle.std.specs.Prelude.{◌≡◌, ◌<◌, ◌≤◌, ◌+◌, ◌*◌, length};
 ghost use Rattle.wfe_core.specs.WriteRow.{first_written, last_written, pair_word as model_pair_word, row_word, writing};
-ghost use Rattle.wfe_slots.specs.Rows.{row_of, write_phase};
+ghost use Rattle.wfe_slots.specs.Rows.{pair_count, row_of};
 
-use crate::Pairs;
 use wfe_core::{Machine, Op, Post, Told};
 
 /// What a row of the map or of the queue gets.
 #[derive(Drop)]
 pub enum Row {
-    /// A bucket's pairs at a version.
-    Map { version: u64, pairs: Pairs },
+    /// A bucket's version, and its pairs, which are the first `count` of these, 0 to 14, each a key and
+    /// a value. The others are not written.
+    Map {
+        version: u64,
+        count: u32,
+        pairs: [(u64, u64); 14],
+    },
     /// An item of the queue, with its number. Its next link is null.
-    Queue { number: u64, value: u64 },
+    Queue {
+        number: u64,
+        value: u64,
+    },
 }
 
 impl Row {
@@ -27,26 +34,35 @@ impl Row {
     }
 
     fn last(&self) -> u32
+        requires few { pair_count self.now ≤ 14 }
         ensures { result ≡ last_written (row_of self.now) }
     {
         match self {
-            Row::Map { pairs, .. } => 2 + 2 * pairs.len() as u32,
+            Row::Map { count, pairs, .. } => 2 + 2 * pairs[..*count as usize].len() as u32,
             Row::Queue { .. } => 2,
         }
     }
 
     // The word at a place.
     fn word(&self, place: u32) -> u64
+        requires few { pair_count self.now ≤ 14 }
         requires from { first_written (row_of self.now) ≤ place }
         requires to { place ≤ last_written (row_of self.now) }
         ensures { result ≡ row_word (row_of self.now) place }
     {
         match self {
-            Row::Map { version, pairs } => match place {
-                1 => *version,
-                2 => pairs.len() as u64,
-                _ => pair_word(pairs, place - 3),
-            },
+            Row::Map {
+                version,
+                count,
+                pairs,
+            } => {
+                let pairs = &pairs[..*count as usize];
+                match place {
+                    1 => *version,
+                    2 => pairs.len() as u64,
+                    _ => pair_word(pairs, place - 3),
+                }
+            }
             Row::Queue { number, value } => match place {
                 0 => 0,
                 1 => *number,
@@ -57,11 +73,11 @@ impl Row {
 }
 
 // The words of pairs: keys and values by turns.
-fn pair_word(pairs: &Pairs, word: u32) -> u64
+fn pair_word(pairs: &[(u64, u64)], word: u32) -> u64
     requires { word < 2 * length pairs.now }
     ensures { result ≡ model_pair_word pairs.now (word + 3) }
 {
-    let pair = pairs.get(word as usize / 2);
+    let pair = pairs[word as usize / 2];
     if word % 2 == 0 { pair.0 } else { pair.1 }
 }
 
@@ -72,10 +88,15 @@ pub struct WriteRow {
     slot: u32,
     row: Row,
     place: u32,
+    ghost few: { pair_count row ≤ 14 },
 }
 
 impl WriteRow {
+    ghost use Rattle.wfe_slots.specs.Writes.{write_phase};
+
+    /// The first word of this row's writing, in the row at this slot.
     pub fn new(slot: u32, row: Row) -> WriteRow
+        requires few { pair_count row ≤ 14 }
         ensures { write_phase result ≡ writing slot (row_of row) }
     {
         WriteRow {
@@ -88,7 +109,7 @@ impl WriteRow {
 
 impl Machine for WriteRow {
     ghost use Rattle.wfe_core.specs.Phases.Ending.{Done};
-    ghost use Rattle.wfe_slots.specs.Rows.{write_phase};
+    ghost use Rattle.wfe_slots.specs.Writes.{write_phase};
 
     type End = ();
 

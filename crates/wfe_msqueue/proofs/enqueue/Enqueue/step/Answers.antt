@@ -1,7 +1,7 @@
 use Rattle.std.proofs.Common.{◌≡◌}
 use Rattle.wfe_core.specs.Calls.{Enqueues, Fills}
 use Rattle.wfe_core.specs.Phases.Ending.{Done}
-use Rattle.wfe_slots.specs.Rows.{write_phase}
+use Rattle.wfe_slots.specs.Writes.{write_phase}
 use Rattle.wfe_core.specs.DeskHeld.{desk_of}
 use Rattle.wfe_call_rounds.specs.Rounds.{close_at}
 use Rattle.wfe_call_rounds.proofs.Taken.{run_ends}
