@@ -3,7 +3,7 @@ use Rattle.std.proofs.Common.{rules, ℕ, ◌≡◌, Option, Some, None, refl}
 use Rattle.wfe_core.specs.declared.post.Post.{Post}
 use Rattle.wfe_core.specs.CallReady.{IsCallReady}
 use Rattle.wfe_core.specs.defs.declared.call.Answer.TheVariants.{Nothing}
-use Rattle.wfe_call_rounds.specs.Rounds.{opening_base, CloseAt, ClearsAt, FinishesAt, close_at, close_phase}
+use Rattle.wfe_call_rounds.specs.Rounds.{opening_of, CloseAt, ClearsAt, FinishesAt, closing_of, close_phase}
 use Rattle.wfe_core.specs.Calls.{Answering, Holds, Opens, Releases, Runs}
 use Rattle.wfe_core.specs.Rounds.{scheme_of, root_of, protect_base, round_by, begin_base, begin_span, release_base}
 use Rattle.wfe_core.specs.words.declared.config.SchemeKind.{SchemeKind}
@@ -13,6 +13,7 @@ use Rattle.wfe_core.specs.Phases.{Base}
 use Rattle.wfe_core.specs.Ready.{IsReady}
 use Rattle.wfe_core.specs.Posts.{stands, counted}
 use Rattle.wfe_core.specs.Steps.{holding}
+use Rattle.wfe_call_rounds.specs.iface.Schemes.{RoundPhases}
 use Rattle.wfe_call_rounds.proofs.Taken.{round_counted}
 use Rattle.wfe_bucketmap.specs.declared.hold_at.HoldAt.{HoldAt}
 use Rattle.wfe_bucketmap.specs.declared.hold_at.HoldAt.TheVariants as ats
@@ -22,12 +23,12 @@ holding_counted : (key : ℕ) (post : Post) (held : Option ℕ) → holding key 
 holding_counted key post None = round_counted (Holds key) post
 holding_counted key post (Some slot) = refl
 
-pub hold_phase_counted : {B P C F R : Type 0} (begin : B → Base) (protect : P → Base) (clear : C → Base) (finish : F → Base) (release : R → Base) (key : ℕ) (at : HoldAt B P C F R) (post : Post) → hold_phase begin protect clear finish release key at post ≡ hold_phase begin protect clear finish release key at (counted post)
-hold_phase_counted begin protect clear finish release key ats.Starts post = holding_counted key post (stands post 2)
-hold_phase_counted begin protect clear finish release key (ats.Releases machine) post = refl
-hold_phase_counted begin protect clear finish release key ats.Rounds post = round_counted (Holds key) post
-hold_phase_counted begin protect clear finish release key (ats.Opens opening) post = refl
-hold_phase_counted begin protect clear finish release key (ats.Closes closing) post = refl
+pub hold_phase_counted : {B P C F R : Type 0} (phases : RoundPhases B P C F) (release : R → Base) (key : ℕ) (at : HoldAt B P C F R) (post : Post) → hold_phase phases release key at post ≡ hold_phase phases release key at (counted post)
+hold_phase_counted phases release key ats.Starts post = holding_counted key post (stands post 2)
+hold_phase_counted phases release key (ats.Releases machine) post = refl
+hold_phase_counted phases release key ats.Rounds post = round_counted (Holds key) post
+hold_phase_counted phases release key (ats.Opens opening) post = refl
+hold_phase_counted phases release key (ats.Closes closing) post = refl
 
 -- what is ready at one count of steps is ready at another
 held_ready : (key : ℕ) (post : Post) (desk : Desk) (steps : ℕ) (kind : SchemeKind) → IsCallReady (Runs (Releases (Some key)) (release_base kind)) post desk → IsCallReady (Runs (Releases (Some key)) (release_base kind)) (record post { steps = steps }) desk
@@ -60,9 +61,9 @@ closing_ready : (key : ℕ) (post : Post) (desk : Desk) (steps : ℕ) (at : Clos
 closing_ready key post desk steps (ClearsAt base) h = (base_ready post steps base h.0, h.1)
 closing_ready key post desk steps (FinishesAt base) h = (base_ready post steps base h.0, h.1)
 
-pub hold_ready : {B P C F R : Type 0} (begin : B → Base) (protect : P → Base) (clear : C → Base) (finish : F → Base) (release : R → Base) (key : ℕ) (at : HoldAt B P C F R) (post : Post) (desk : Desk) (steps : ℕ) → IsCallReady (hold_phase begin protect clear finish release key at post) post desk → IsCallReady (hold_phase begin protect clear finish release key at (record post { steps = steps })) (record post { steps = steps }) desk
-hold_ready begin protect clear finish release key ats.Starts post desk steps h = holding_ready key post desk steps (stands post 2) h
-hold_ready begin protect clear finish release key (ats.Releases machine) post desk steps h = (base_ready post steps (release machine) h.0, h.1)
-hold_ready begin protect clear finish release key ats.Rounds post desk steps h = round_ready key post desk steps (scheme_of post) h
-hold_ready begin protect clear finish release key (ats.Opens opening) post desk steps h = (base_ready post steps (opening_base begin protect opening) h.0, h.1)
-hold_ready begin protect clear finish release key (ats.Closes closing) post desk steps h = closing_ready key post desk steps (close_at clear finish closing) h
+pub hold_ready : {B P C F R : Type 0} (phases : RoundPhases B P C F) (release : R → Base) (key : ℕ) (at : HoldAt B P C F R) (post : Post) (desk : Desk) (steps : ℕ) → IsCallReady (hold_phase phases release key at post) post desk → IsCallReady (hold_phase phases release key at (record post { steps = steps })) (record post { steps = steps }) desk
+hold_ready phases release key ats.Starts post desk steps h = holding_ready key post desk steps (stands post 2) h
+hold_ready phases release key (ats.Releases machine) post desk steps h = (base_ready post steps (release machine) h.0, h.1)
+hold_ready phases release key ats.Rounds post desk steps h = round_ready key post desk steps (scheme_of post) h
+hold_ready phases release key (ats.Opens opening) post desk steps h = (base_ready post steps (opening_of phases opening) h.0, h.1)
+hold_ready phases release key (ats.Closes closing) post desk steps h = closing_ready key post desk steps (closing_of phases closing) h

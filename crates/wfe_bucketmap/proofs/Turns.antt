@@ -4,9 +4,9 @@ use Rattle.std.specs.Prelude.{◌==◌, nat_lt}
 use Rattle.wfe_core.specs.declared.post.Post.{Post}
 use Rattle.wfe_core.specs.Calls.{Gets, GetAt, FindVersion, FindCount, FindKey, FindValue}
 use Rattle.wfe_core.specs.Desks.{Desk}
-use Rattle.wfe_core.specs.Phases.{Base}
 use Rattle.wfe_core.specs.Posts.{counted}
 use Rattle.wfe_core.specs.Get.{got, finding, found_key, get_turn}
+use Rattle.wfe_call_rounds.specs.iface.Schemes.{RoundPhases}
 use Rattle.wfe_call_rounds.proofs.Taken.{round_counted}
 use Rattle.wfe_bucketmap.specs.declared.get_at.GetAt.{GetAt as Where}
 use Rattle.wfe_bucketmap.specs.declared.get_at.GetAt.TheVariants as ats
@@ -39,8 +39,8 @@ pub get_gives : (key : ℕ) (at : GetAt) (post : Post) (desk : Desk) (found last
 get_gives key at post desk found last value e = gives_by key at post desk found last value (sym e)
 
 -- where a get stands does not depend on how many steps it has made
-pub get_phase_counted : {B P C F : Type 0} (begin : B → Base) (protect : P → Base) (clear : C → Base) (finish : F → Base) (key : ℕ) (at : Where B P C F) (post : Post) → get_phase begin protect clear finish key at post ≡ get_phase begin protect clear finish key at (counted post)
-get_phase_counted begin protect clear finish key ats.Starts post = round_counted (Gets key) post
-get_phase_counted begin protect clear finish key (ats.Opens opening) post = refl
-get_phase_counted begin protect clear finish key (ats.Finds find) post = refl
-get_phase_counted begin protect clear finish key (ats.Closes closing version value) post = refl
+pub get_phase_counted : {B P C F : Type 0} (phases : RoundPhases B P C F) (key : ℕ) (at : Where B P C F) (post : Post) → get_phase phases key at post ≡ get_phase phases key at (counted post)
+get_phase_counted phases key ats.Starts post = round_counted (Gets key) post
+get_phase_counted phases key (ats.Opens opening) post = refl
+get_phase_counted phases key (ats.Finds find) post = refl
+get_phase_counted phases key (ats.Closes closing version value) post = refl

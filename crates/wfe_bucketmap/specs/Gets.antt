@@ -2,17 +2,17 @@
 use Rattle.std.specs.Prelude.{ℕ}
 use Rattle.wfe_core.specs.defs.declared.call.Answer.TheVariants as answers
 use Rattle.wfe_core.specs.declared.post.Post.{Post}
-use Rattle.wfe_core.specs.Phases.{Base}
 use Rattle.wfe_core.specs.Calls.{Gets, Answering, Opens, Phase, Runs, Works, Getting}
 use Rattle.wfe_core.specs.Rounds.{round}
-use Rattle.wfe_call_rounds.specs.Rounds.{opening_base, close_at, close_phase}
+use Rattle.wfe_call_rounds.specs.iface.Schemes.{RoundPhases}
+use Rattle.wfe_call_rounds.specs.Rounds.{opening_of, closing_of, close_phase}
 use Rattle.wfe_bucketmap.specs.declared.get_at.GetAt.{GetAt}
 use Rattle.wfe_bucketmap.specs.declared.get_at.GetAt.TheVariants as ats
 use Rattle.wfe_bucketmap.specs.Finds.{find_of}
 
-abbrev pub get_phase : {B P C F : Type 0} → (B → Base) → (P → Base) → (C → Base) → (F → Base) → (key : ℕ) → GetAt B P C F → Post → Phase
-get_phase begin protect clear finish key ats.Starts post = round (Gets key) post
-get_phase begin protect clear finish key (ats.Opens opening) post = Runs (Opens (Gets key)) (opening_base begin protect opening)
-get_phase begin protect clear finish key (ats.Finds find) post = Works (Getting key (find_of find))
-get_phase begin protect clear finish key (ats.Closes closing version value) post =
-    close_phase (Gets key) (Answering (answers.Got version value)) (close_at clear finish closing)
+abbrev pub get_phase : {B P C F : Type 0} → RoundPhases B P C F → (key : ℕ) → GetAt B P C F → Post → Phase
+get_phase phases key ats.Starts post = round (Gets key) post
+get_phase phases key (ats.Opens opening) post = Runs (Opens (Gets key)) (opening_of phases opening)
+get_phase phases key (ats.Finds find) post = Works (Getting key (find_of find))
+get_phase phases key (ats.Closes closing version value) post =
+    close_phase (Gets key) (Answering (answers.Got version value)) (closing_of phases closing)

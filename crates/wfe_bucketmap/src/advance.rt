@@ -17,6 +17,7 @@ pub struct Advance<S: Scheme> {
 }
 
 impl<S: Scheme> Advance<S> {
+    /// An advance that has made no step.
     pub fn new() -> Advance<S>
         ensures { (post : Post) → ⟦<Advance<S> as CallMachine>⟧.phase result post ≡ Runs Advances (move_base S.kind) }
     {

@@ -16,7 +16,7 @@ ghost use Rattle.wfe_call_rounds.specs.Steps.{Steps};
 
 use crate::find::{Find, Found};
 use crate::get_at::GetAt;
-use wfe_call_rounds::{Scheme, close, open, take_close, take_open};
+use wfe_call_rounds::{Rounds, Scheme, close, open, take_close, take_open};
 use wfe_core::{Answer, CallMachine, Desk, Event, Op, Post, ProtectEnd, Root, Told};
 
 /// Gets the value of a key: it protects the row of the key's bucket, and reads the version, the count
@@ -28,6 +28,7 @@ pub struct Get<S: Scheme> {
 }
 
 impl<S: Scheme> Get<S> {
+    /// A get of this key that has made no step.
     pub fn new(key: u64) -> Get<S>
         ensures { (post : Post) → ⟦<Get<S> as CallMachine>⟧.phase result post ≡ round (Gets key) post }
     {
@@ -51,10 +52,10 @@ impl<S: Scheme> Get<S> {
     fn step(&mut self, post: &mut Post, desk: &Desk, found: u64, told: &mut Told) -> Option<Answer>
         requires valid { IsValid post.old }
         requires scheme { post.old.layout.config.scheme ≡ S.kind }
-        requires ready { IsCallReady (get_phase S.Begin.phase S.Protect.phase S.Clear.phase S.Finish.phase self.old.key self.old.at post.old) post.old (desk_of desk.now) }
-        requires plausible { IsCallPlausible (get_phase S.Begin.phase S.Protect.phase S.Clear.phase S.Finish.phase self.old.key self.old.at post.old) post.old found }
+        requires ready { IsCallReady (get_phase ⟦<S as Rounds>⟧.all_phases self.old.key self.old.at post.old) post.old (desk_of desk.now) }
+        requires plausible { IsCallPlausible (get_phase ⟦<S as Rounds>⟧.all_phases self.old.key self.old.at post.old) post.old found }
         requires empty { told.old ≡ [] }
-        ensures steps { Steps (phase_turn (get_phase S.Begin.phase S.Protect.phase S.Clear.phase S.Finish.phase self.old.key self.old.at post.old) post.old (desk_of desk.now) found) post.new (desk_of desk.now) told.new result (get_phase S.Begin.phase S.Protect.phase S.Clear.phase S.Finish.phase self.new.key self.new.at post.new) }
+        ensures steps { Steps (phase_turn (get_phase ⟦<S as Rounds>⟧.all_phases self.old.key self.old.at post.old) post.old (desk_of desk.now) found) post.new (desk_of desk.now) told.new result (get_phase ⟦<S as Rounds>⟧.all_phases self.new.key self.new.at post.new) }
         ensures valid { IsValid post.new }
         ensures layout { post.new.layout ≡ post.old.layout }
         ensures seat { post.new.seat ≡ post.old.seat }
@@ -109,7 +110,7 @@ impl<S: Scheme> Get<S> {
         requires valid { IsValid post.old }
         requires scheme { post.old.layout.config.scheme ≡ S.kind }
         requires few { length told.old ≤ 2 }
-        ensures steps { Steps (opened (Gets self.old.key) (Protected end) post.old (desk_of desk.now) told.old) post.new (desk_of desk.now) told.new result (get_phase S.Begin.phase S.Protect.phase S.Clear.phase S.Finish.phase self.new.key self.new.at post.new) }
+        ensures steps { Steps (opened (Gets self.old.key) (Protected end) post.old (desk_of desk.now) told.old) post.new (desk_of desk.now) told.new result (get_phase ⟦<S as Rounds>⟧.all_phases self.new.key self.new.at post.new) }
         ensures valid { IsValid post.new }
         ensures layout { post.new.layout ≡ post.old.layout }
         ensures seat { post.new.seat ≡ post.old.seat }
@@ -136,7 +137,7 @@ impl<S: Scheme> Get<S> {
         requires valid { IsValid post.old }
         requires scheme { post.old.layout.config.scheme ≡ S.kind }
         requires few { length told.old ≤ 2 }
-        ensures steps { Steps (model_got self.old.key version value post.old (desk_of desk.now) told.old) post.new (desk_of desk.now) told.new result (get_phase S.Begin.phase S.Protect.phase S.Clear.phase S.Finish.phase self.new.key self.new.at post.new) }
+        ensures steps { Steps (model_got self.old.key version value post.old (desk_of desk.now) told.old) post.new (desk_of desk.now) told.new result (get_phase ⟦<S as Rounds>⟧.all_phases self.new.key self.new.at post.new) }
         ensures key { self.new.key ≡ self.old.key }
         ensures valid { IsValid post.new }
         ensures layout { post.new.layout ≡ post.old.layout }
@@ -170,7 +171,7 @@ impl<S: Scheme> CallMachine for Get<S> {
 
     ghost suits = { λ kind. kind ≡ S.kind };
 
-    ghost phase = { λ m post. get_phase S.Begin.phase S.Protect.phase S.Clear.phase S.Finish.phase m.key m.at post };
+    ghost phase = { λ m post. get_phase ⟦<S as Rounds>⟧.all_phases m.key m.at post };
 
     fn next_op(&self, post: &Post, _desk: &Desk) -> Op {
         match &self.at {

@@ -14,7 +14,7 @@ ghost use Rattle.wfe_call_rounds.specs.Steps.{Steps};
 ghost use Rattle.wfe_bucketmap.specs.Holds.{hold_phase};
 
 use crate::hold_at::HoldAt;
-use wfe_call_rounds::{Scheme, close, open, take_close, take_open};
+use wfe_call_rounds::{Rounds, Scheme, close, open, take_close, take_open};
 use wfe_core::{Answer, CallMachine, Desk, Machine, Op, Post, ProtectEnd, Root, Told};
 
 /// Holds the row of a key's bucket until it is released. What the seat held before is let go first.
@@ -25,6 +25,7 @@ pub struct Hold<S: Scheme> {
 }
 
 impl<S: Scheme> Hold<S> {
+    /// A hold of this key's row that has made no step.
     pub fn new(key: u64) -> Hold<S>
         ensures { (post : Post) → ⟦<Hold<S> as CallMachine>⟧.phase result post ≡ holding key post (stands post 2) }
     {
@@ -55,7 +56,7 @@ impl<S: Scheme> Hold<S> {
         requires valid { IsValid post.old }
         requires scheme { post.old.layout.config.scheme ≡ S.kind }
         requires few { length told.old ≤ 2 }
-        ensures steps { Steps (opened (Holds self.old.key) (Protected end) post.old (desk_of desk.now) told.old) post.new (desk_of desk.now) told.new result (hold_phase S.Begin.phase S.Protect.phase S.Clear.phase S.Finish.phase S.Release.phase self.new.key self.new.at post.new) }
+        ensures steps { Steps (opened (Holds self.old.key) (Protected end) post.old (desk_of desk.now) told.old) post.new (desk_of desk.now) told.new result (hold_phase ⟦<S as Rounds>⟧.all_phases S.Release.phase self.new.key self.new.at post.new) }
         ensures valid { IsValid post.new }
         ensures layout { post.new.layout ≡ post.old.layout }
         ensures seat { post.new.seat ≡ post.old.seat }
@@ -80,7 +81,7 @@ impl<S: Scheme> Hold<S> {
         requires ready { IsCallReady (round (Holds self.old.key) post.old) post.old (desk_of desk.now) }
         requires plausible { IsCallPlausible (round (Holds self.old.key) post.old) post.old found }
         requires empty { told.old ≡ [] }
-        ensures steps { Steps (phase_turn (round (Holds self.old.key) post.old) post.old (desk_of desk.now) found) post.new (desk_of desk.now) told.new result (hold_phase S.Begin.phase S.Protect.phase S.Clear.phase S.Finish.phase S.Release.phase self.new.key self.new.at post.new) }
+        ensures steps { Steps (phase_turn (round (Holds self.old.key) post.old) post.old (desk_of desk.now) found) post.new (desk_of desk.now) told.new result (hold_phase ⟦<S as Rounds>⟧.all_phases S.Release.phase self.new.key self.new.at post.new) }
         ensures valid { IsValid post.new }
         ensures layout { post.new.layout ≡ post.old.layout }
         ensures seat { post.new.seat ≡ post.old.seat }
@@ -109,7 +110,7 @@ impl<S: Scheme> Hold<S> {
         requires ready { IsReady (S.Release.phase machine) post.old }
         requires plausible { Plausible (S.Release.phase machine) post.old found }
         requires empty { told.old ≡ [] }
-        ensures steps { Steps (phase_turn (Runs (Releases (Some self.old.key)) (S.Release.phase machine)) post.old (desk_of desk.now) found) post.new (desk_of desk.now) told.new result (hold_phase S.Begin.phase S.Protect.phase S.Clear.phase S.Finish.phase S.Release.phase self.new.key self.new.at post.new) }
+        ensures steps { Steps (phase_turn (Runs (Releases (Some self.old.key)) (S.Release.phase machine)) post.old (desk_of desk.now) found) post.new (desk_of desk.now) told.new result (hold_phase ⟦<S as Rounds>⟧.all_phases S.Release.phase self.new.key self.new.at post.new) }
         ensures valid { IsValid post.new }
         ensures layout { post.new.layout ≡ post.old.layout }
         ensures seat { post.new.seat ≡ post.old.seat }
@@ -134,7 +135,7 @@ impl<S: Scheme> Hold<S> {
         requires ready { IsCallReady (holding self.old.key post.old (stands post.old 2)) post.old (desk_of desk.now) }
         requires plausible { IsCallPlausible (holding self.old.key post.old (stands post.old 2)) post.old found }
         requires empty { told.old ≡ [] }
-        ensures steps { Steps (phase_turn (holding self.old.key post.old (stands post.old 2)) post.old (desk_of desk.now) found) post.new (desk_of desk.now) told.new result (hold_phase S.Begin.phase S.Protect.phase S.Clear.phase S.Finish.phase S.Release.phase self.new.key self.new.at post.new) }
+        ensures steps { Steps (phase_turn (holding self.old.key post.old (stands post.old 2)) post.old (desk_of desk.now) found) post.new (desk_of desk.now) told.new result (hold_phase ⟦<S as Rounds>⟧.all_phases S.Release.phase self.new.key self.new.at post.new) }
         ensures valid { IsValid post.new }
         ensures layout { post.new.layout ≡ post.old.layout }
         ensures seat { post.new.seat ≡ post.old.seat }
@@ -150,10 +151,10 @@ impl<S: Scheme> Hold<S> {
     fn step(&mut self, post: &mut Post, desk: &Desk, found: u64, told: &mut Told) -> Option<Answer>
         requires valid { IsValid post.old }
         requires scheme { post.old.layout.config.scheme ≡ S.kind }
-        requires ready { IsCallReady (hold_phase S.Begin.phase S.Protect.phase S.Clear.phase S.Finish.phase S.Release.phase self.old.key self.old.at post.old) post.old (desk_of desk.now) }
-        requires plausible { IsCallPlausible (hold_phase S.Begin.phase S.Protect.phase S.Clear.phase S.Finish.phase S.Release.phase self.old.key self.old.at post.old) post.old found }
+        requires ready { IsCallReady (hold_phase ⟦<S as Rounds>⟧.all_phases S.Release.phase self.old.key self.old.at post.old) post.old (desk_of desk.now) }
+        requires plausible { IsCallPlausible (hold_phase ⟦<S as Rounds>⟧.all_phases S.Release.phase self.old.key self.old.at post.old) post.old found }
         requires empty { told.old ≡ [] }
-        ensures steps { Steps (phase_turn (hold_phase S.Begin.phase S.Protect.phase S.Clear.phase S.Finish.phase S.Release.phase self.old.key self.old.at post.old) post.old (desk_of desk.now) found) post.new (desk_of desk.now) told.new result (hold_phase S.Begin.phase S.Protect.phase S.Clear.phase S.Finish.phase S.Release.phase self.new.key self.new.at post.new) }
+        ensures steps { Steps (phase_turn (hold_phase ⟦<S as Rounds>⟧.all_phases S.Release.phase self.old.key self.old.at post.old) post.old (desk_of desk.now) found) post.new (desk_of desk.now) told.new result (hold_phase ⟦<S as Rounds>⟧.all_phases S.Release.phase self.new.key self.new.at post.new) }
         ensures valid { IsValid post.new }
         ensures layout { post.new.layout ≡ post.old.layout }
         ensures seat { post.new.seat ≡ post.old.seat }
@@ -187,7 +188,7 @@ impl<S: Scheme> CallMachine for Hold<S> {
 
     ghost suits = { λ kind. kind ≡ S.kind };
 
-    ghost phase = { λ m post. hold_phase S.Begin.phase S.Protect.phase S.Clear.phase S.Finish.phase S.Release.phase m.key m.at post };
+    ghost phase = { λ m post. hold_phase ⟦<S as Rounds>⟧.all_phases S.Release.phase m.key m.at post };
 
     fn next_op(&self, post: &Post, _desk: &Desk) -> Op {
         match &self.at {

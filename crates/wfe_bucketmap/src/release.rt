@@ -14,6 +14,7 @@ pub struct Release<S: Scheme> {
 }
 
 impl<S: Scheme> Release<S> {
+    /// A release that has made no step.
     pub fn new() -> Release<S>
         ensures { (post : Post) → ⟦<Release<S> as CallMachine>⟧.phase result post ≡ Runs (Releases None) (release_base S.kind) }
     {

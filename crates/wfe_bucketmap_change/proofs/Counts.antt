@@ -8,26 +8,26 @@ use Rattle.wfe_core.specs.Calls.{ChangeKept, Changes, Phase}
 use Rattle.wfe_core.specs.DeskHeld.{Took, desk_of, told_answer}
 use Rattle.wfe_core.specs.Desks.{Desk, noting}
 use Rattle.wfe_core.specs.Memory.{bump}
-use Rattle.wfe_core.specs.Phases.{Base}
 use Rattle.wfe_core.specs.Posts.{counted}
 use Rattle.wfe_core.specs.Steps.{phase_turn}
 use Rattle.wfe_call_rounds.specs.Steps.{Steps}
+use Rattle.wfe_call_rounds.specs.iface.Schemes.{RoundPhases}
 use Rattle.wfe_call_rounds.proofs.Taken.{round_counted, took_from}
 use Rattle.wfe_bucketmap_change.specs.declared.change_state.State.{State as ChangeState}
 use Rattle.wfe_bucketmap_change.specs.declared.change_state.State.TheVariants as fills
 use Rattle.wfe_bucketmap_change.specs.ChangeStates.{change_phase}
 
 -- a change
-pub change_counted : {B P C F : Type 0} (begin : B → Base) (protect : P → Base) (clear : C → Base) (finish : F → Base) (kept : ChangeKept) (state : ChangeState B P C F) (post : Post) → change_phase begin protect clear finish kept state post ≡ change_phase begin protect clear finish kept state (counted post)
-change_counted begin protect clear finish kept fills.Starts post = round_counted (Changes kept) post
-change_counted begin protect clear finish kept (fills.Opens opening) post = refl
-change_counted begin protect clear finish kept (fills.Works at) post = refl
-change_counted begin protect clear finish kept (fills.Allocates machine) post = refl
-change_counted begin protect clear finish kept (fills.Writes machine) post = refl
-change_counted begin protect clear finish kept (fills.Closes ending closing) post = refl
-change_counted begin protect clear finish kept (fills.GivesUp answer machine) post = refl
-change_counted begin protect clear finish kept (fills.Reclaims version reclaim) post = refl
-change_counted begin protect clear finish kept (fills.Tidies tidy) post = refl
+pub change_counted : {B P C F : Type 0} (phases : RoundPhases B P C F) (kept : ChangeKept) (state : ChangeState B P C F) (post : Post) → change_phase phases kept state post ≡ change_phase phases kept state (counted post)
+change_counted phases kept fills.Starts post = round_counted (Changes kept) post
+change_counted phases kept (fills.Opens opening) post = refl
+change_counted phases kept (fills.Works at) post = refl
+change_counted phases kept (fills.Allocates machine) post = refl
+change_counted phases kept (fills.Writes machine) post = refl
+change_counted phases kept (fills.Closes ending closing) post = refl
+change_counted phases kept (fills.GivesUp answer machine) post = refl
+change_counted phases kept (fills.Reclaims version reclaim) post = refl
+change_counted phases kept (fills.Tidies tidy) post = refl
 
 steps_counted : (post : Post) (steps : ℕ) → steps ≡ bump post.steps → record post { steps = steps } ≡ counted post
 steps_counted post steps e = ap (λ (n : ℕ). record post { steps = n }) e

@@ -19,7 +19,7 @@ ghost use Rattle.wfe_bucketmap_change.specs.ChangeStates.{change_phase};
 
 use super::change_at::{ChangeAt, ChangeEnd, Changed, Kept};
 use super::change_state::State;
-use wfe_call_rounds::{Scheme, close, open, take_close, take_open};
+use wfe_call_rounds::{Rounds, Scheme, close, open, take_close, take_open};
 use wfe_call_tidy::{Reclaim, Tidy};
 use wfe_core::{
     AllocateEnd, Answer, CallMachine, Change, Desk, Machine, Op, Post, ProtectEnd, Root, Told,
@@ -35,6 +35,7 @@ pub struct ChangeBucket<S: Scheme> {
 }
 
 impl<S: Scheme> ChangeBucket<S> {
+    /// The call that makes this change, before its first step.
     pub fn new(change: Change) -> ChangeBucket<S>
         ensures { (post : ModelPost) → ⟦<ChangeBucket<S> as CallMachine>⟧.phase result post ≡ round (Changes (record { change = change; taken = None; walked = false; link = 0; version = 0; pairs = [] })) post }
     {
@@ -63,7 +64,7 @@ impl<S: Scheme> ChangeBucket<S> {
     // A round is over: another begins, at once or after a scan, or the call answers. A row that was not
     // linked is given up first.
     fn closed(&mut self, ending: ChangeEnd) -> Option<Answer>
-        ensures steps { (post : ModelPost) (desk : ModelDesk) (told : List Event) → post.layout.config.scheme ≡ S.kind → Steps (model_closed (Changes (kept_of self.old.kept)) (next_of ending) post desk told) post desk told result (change_phase S.Begin.phase S.Protect.phase S.Clear.phase S.Finish.phase (kept_of self.new.kept) self.new.at post) }
+        ensures steps { (post : ModelPost) (desk : ModelDesk) (told : List Event) → post.layout.config.scheme ≡ S.kind → Steps (model_closed (Changes (kept_of self.old.kept)) (next_of ending) post desk told) post desk told result (change_phase ⟦<S as Rounds>⟧.all_phases (kept_of self.new.kept) self.new.at post) }
         ensures kept { self.new.kept ≡ self.old.kept }
     {
         match ending {
@@ -94,7 +95,7 @@ impl<S: Scheme> ChangeBucket<S> {
         requires valid { IsValid post.old }
         requires scheme { post.old.layout.config.scheme ≡ S.kind }
         requires few { length told.old ≤ 6 }
-        ensures steps { (desk : ModelDesk) → Steps (clearing (Changes (kept_of self.old.kept)) (next_of ending) post.old desk told.old) post.new desk told.new result (change_phase S.Begin.phase S.Protect.phase S.Clear.phase S.Finish.phase (kept_of self.new.kept) self.new.at post.new) }
+        ensures steps { (desk : ModelDesk) → Steps (clearing (Changes (kept_of self.old.kept)) (next_of ending) post.old desk told.old) post.new desk told.new result (change_phase ⟦<S as Rounds>⟧.all_phases (kept_of self.new.kept) self.new.at post.new) }
         ensures valid { IsValid post.new }
         ensures layout { post.new.layout ≡ post.old.layout }
         ensures seat { post.new.seat ≡ post.old.seat }
@@ -115,7 +116,7 @@ impl<S: Scheme> ChangeBucket<S> {
         requires scheme { post.old.layout.config.scheme ≡ S.kind }
         requires few { length told.old ≤ 2 }
         requires fits { ChangeFits post.old (kept_of self.old.kept) }
-        ensures steps { (desk : ModelDesk) → Steps (opened (Changes (kept_of self.old.kept)) (Protected end) post.old desk told.old) post.new desk told.new result (change_phase S.Begin.phase S.Protect.phase S.Clear.phase S.Finish.phase (kept_of self.new.kept) self.new.at post.new) }
+        ensures steps { (desk : ModelDesk) → Steps (opened (Changes (kept_of self.old.kept)) (Protected end) post.old desk told.old) post.new desk told.new result (change_phase ⟦<S as Rounds>⟧.all_phases (kept_of self.new.kept) self.new.at post.new) }
         ensures valid { IsValid post.new }
         ensures layout { post.new.layout ≡ post.old.layout }
         ensures seat { post.new.seat ≡ post.old.seat }
@@ -138,7 +139,7 @@ impl<S: Scheme> ChangeBucket<S> {
     // The row is written: the next version, and the pairs.
     fn write(&mut self, slot: u32)
         requires { self.old.kept.version + 1 < 18446744073709551616 }
-        ensures phase { (post : ModelPost) → change_phase S.Begin.phase S.Protect.phase S.Clear.phase S.Finish.phase (kept_of self.new.kept) self.new.at post ≡ Runs (Fills (Changes (kept_of self.old.kept))) (writing slot (new_row (kept_of self.old.kept))) }
+        ensures phase { (post : ModelPost) → change_phase ⟦<S as Rounds>⟧.all_phases (kept_of self.new.kept) self.new.at post ≡ Runs (Fills (Changes (kept_of self.old.kept))) (writing slot (new_row (kept_of self.old.kept))) }
     {
         let (count, pairs) = self.kept.pairs.row();
         let row = Row::Map {
@@ -155,7 +156,7 @@ impl<S: Scheme> ChangeBucket<S> {
         requires scheme { post.old.layout.config.scheme ≡ S.kind }
         requires few { length told.old ≤ 3 }
         requires fits { ChangeFits post.old (kept_of self.old.kept) }
-        ensures steps { (desk : ModelDesk) → Steps (led (kept_of self.old.kept) step post.old desk told.old) post.new desk told.new result (change_phase S.Begin.phase S.Protect.phase S.Clear.phase S.Finish.phase (kept_of self.new.kept) self.new.at post.new) }
+        ensures steps { (desk : ModelDesk) → Steps (led (kept_of self.old.kept) step post.old desk told.old) post.new desk told.new result (change_phase ⟦<S as Rounds>⟧.all_phases (kept_of self.new.kept) self.new.at post.new) }
         ensures valid { IsValid post.new }
         ensures layout { post.new.layout ≡ post.old.layout }
         ensures seat { post.new.seat ≡ post.old.seat }
@@ -183,7 +184,7 @@ impl<S: Scheme> ChangeBucket<S> {
         requires scheme { post.old.layout.config.scheme ≡ S.kind }
         requires few { length told.old ≤ 2 }
         requires fits { ChangeFits post.old (kept_of self.old.kept) }
-        ensures steps { (desk : ModelDesk) → Steps (filled_by (Changes (kept_of self.old.kept)) end post.old desk told.old) post.new desk told.new result (change_phase S.Begin.phase S.Protect.phase S.Clear.phase S.Finish.phase (kept_of self.new.kept) self.new.at post.new) }
+        ensures steps { (desk : ModelDesk) → Steps (filled_by (Changes (kept_of self.old.kept)) end post.old desk told.old) post.new desk told.new result (change_phase ⟦<S as Rounds>⟧.all_phases (kept_of self.new.kept) self.new.at post.new) }
         ensures valid { IsValid post.new }
         ensures layout { post.new.layout ≡ post.old.layout }
         ensures seat { post.new.seat ≡ post.old.seat }
@@ -205,7 +206,7 @@ impl<S: Scheme> ChangeBucket<S> {
 
     // The row is written: it is to be linked.
     fn written(&mut self) -> Option<Answer>
-        ensures { (post : ModelPost) (desk : ModelDesk) (told : List Event) → Steps (written_row (Changes (kept_of self.old.kept)) post desk told) post desk told result (change_phase S.Begin.phase S.Protect.phase S.Clear.phase S.Finish.phase (kept_of self.new.kept) self.new.at post) }
+        ensures { (post : ModelPost) (desk : ModelDesk) (told : List Event) → Steps (written_row (Changes (kept_of self.old.kept)) post desk told) post desk told result (change_phase ⟦<S as Rounds>⟧.all_phases (kept_of self.new.kept) self.new.at post) }
     {
         let slot = match self.kept.taken {
             Some(slot) => slot,
@@ -222,7 +223,7 @@ impl<S: Scheme> ChangeBucket<S> {
         requires ready { IsCallReady (round (Changes (kept_of self.old.kept)) post.old) post.old (desk_of desk.now) }
         requires plausible { IsCallPlausible (round (Changes (kept_of self.old.kept)) post.old) post.old found }
         requires empty { told.old ≡ [] }
-        ensures steps { Steps (phase_turn (round (Changes (kept_of self.old.kept)) post.old) post.old (desk_of desk.now) found) post.new (desk_of desk.now) told.new result (change_phase S.Begin.phase S.Protect.phase S.Clear.phase S.Finish.phase (kept_of self.new.kept) self.new.at post.new) }
+        ensures steps { Steps (phase_turn (round (Changes (kept_of self.old.kept)) post.old) post.old (desk_of desk.now) found) post.new (desk_of desk.now) told.new result (change_phase ⟦<S as Rounds>⟧.all_phases (kept_of self.new.kept) self.new.at post.new) }
         ensures valid { IsValid post.new }
         ensures layout { post.new.layout ≡ post.old.layout }
         ensures seat { post.new.seat ≡ post.old.seat }
@@ -249,10 +250,10 @@ impl<S: Scheme> ChangeBucket<S> {
         requires valid { IsValid post.old }
         requires scheme { post.old.layout.config.scheme ≡ S.kind }
         requires room { HasRoom desk.old post.old.layout }
-        requires ready { IsCallReady (change_phase S.Begin.phase S.Protect.phase S.Clear.phase S.Finish.phase (kept_of self.old.kept) self.old.at post.old) post.old (desk_of desk.old) }
-        requires plausible { IsCallPlausible (change_phase S.Begin.phase S.Protect.phase S.Clear.phase S.Finish.phase (kept_of self.old.kept) self.old.at post.old) post.old found }
+        requires ready { IsCallReady (change_phase ⟦<S as Rounds>⟧.all_phases (kept_of self.old.kept) self.old.at post.old) post.old (desk_of desk.old) }
+        requires plausible { IsCallPlausible (change_phase ⟦<S as Rounds>⟧.all_phases (kept_of self.old.kept) self.old.at post.old) post.old found }
         requires empty { told.old ≡ [] }
-        ensures steps { Steps (phase_turn (change_phase S.Begin.phase S.Protect.phase S.Clear.phase S.Finish.phase (kept_of self.old.kept) self.old.at post.old) post.old (desk_of desk.old) found) post.new (desk_of desk.new) told.new result (change_phase S.Begin.phase S.Protect.phase S.Clear.phase S.Finish.phase (kept_of self.new.kept) self.new.at post.new) }
+        ensures steps { Steps (phase_turn (change_phase ⟦<S as Rounds>⟧.all_phases (kept_of self.old.kept) self.old.at post.old) post.old (desk_of desk.old) found) post.new (desk_of desk.new) told.new result (change_phase ⟦<S as Rounds>⟧.all_phases (kept_of self.new.kept) self.new.at post.new) }
         ensures valid { IsValid post.new }
         ensures layout { post.new.layout ≡ post.old.layout }
         ensures seat { post.new.seat ≡ post.old.seat }
@@ -321,7 +322,7 @@ impl<S: Scheme> CallMachine for ChangeBucket<S> {
 
     ghost suits = { λ kind. kind ≡ S.kind };
 
-    ghost phase = { λ m post. change_phase S.Begin.phase S.Protect.phase S.Clear.phase S.Finish.phase (kept_of m.kept) m.at post };
+    ghost phase = { λ m post. change_phase ⟦<S as Rounds>⟧.all_phases (kept_of m.kept) m.at post };
 
     fn next_op(&self, post: &Post, _desk: &Desk) -> Op {
         match &self.at {

@@ -15,6 +15,7 @@ pub struct Put<S: Scheme> {
 }
 
 impl<S: Scheme> Put<S> {
+    /// A put of this value under this key that has made no step.
     pub fn new(key: u64, value: u64) -> Put<S>
         ensures { (post : ModelPost) → ⟦<Put<S> as CallMachine>⟧.phase result post ≡ first_phase (calls.Put key value) post }
     {

@@ -15,6 +15,7 @@ pub struct Remove<S: Scheme> {
 }
 
 impl<S: Scheme> Remove<S> {
+    /// A remove of this key that has made no step.
     pub fn new(key: u64) -> Remove<S>
         ensures { (post : ModelPost) → ⟦<Remove<S> as CallMachine>⟧.phase result post ≡ first_phase (calls.Remove key) post }
     {

@@ -11,6 +11,7 @@ use Rattle.wfe_core.specs.Phases.Ending.{Done, Protected, Followed, Allocated, R
 use Rattle.wfe_core.specs.Calls.{Task, Next, Again, MakeRoom, Answering, Retiring, Phase, Runs, Clears, Finishes, CallTurn, goes_on}
 use Rattle.wfe_core.specs.Desks.{Desk}
 use Rattle.wfe_core.specs.Rounds.{begin_base, protect_base, clear_base, clear_post, clear_told, finish_base, closed}
+use Rattle.wfe_iface.specs.Schemes.{RoundPhases}
 use Rattle.wfe_call_rounds.specs.declared.opening.Opening.{Opening}
 use Rattle.wfe_call_rounds.specs.declared.opening.Opening.TheVariants as opens
 use Rattle.wfe_call_rounds.specs.declared.closing.Closing.{Closing}
@@ -20,6 +21,10 @@ use Rattle.wfe_call_rounds.specs.declared.closing.Closing.TheVariants as closes
 abbrev pub opening_base : {B P : Type 0} → (B → Base) → (P → Base) → Opening B P → Base
 opening_base begin protect (opens.Begins machine) = begin machine
 opening_base begin protect (opens.Protects machine) = protect machine
+
+-- the same under a scheme
+abbrev pub opening_of : {B P C F : Type 0} → RoundPhases B P C F → Opening B P → Base
+opening_of phases opening = opening_base phases.begin phases.protect opening
 
 -- a round begins, if with anything, and else protects
 abbrev pub open_by : Option Base → Base → Base
@@ -57,6 +62,10 @@ pub data CloseAt : Type 0 where
 abbrev pub close_at : {C F : Type 0} → (C → Base) → (F → Base) → Closing C F → CloseAt
 close_at clear finish (closes.Clears machine) = ClearsAt (clear machine)
 close_at clear finish (closes.Finishes machine) = FinishesAt (finish machine)
+
+-- the same under a scheme
+abbrev pub closing_of : {B P C F : Type 0} → RoundPhases B P C F → Closing C F → CloseAt
+closing_of phases closing = close_at phases.clear phases.finish closing
 
 abbrev pub close_base : CloseAt → Base
 close_base (ClearsAt base) = base
@@ -99,9 +108,9 @@ close_step kind again (ClearsAt base) post found = cleared_by kind again (after 
 close_step kind again (FinishesAt base) post found = finished_by (after base post found).post (after base post found).told (after base post found).outcome
 
 -- where a round's last machines stand, if it has not ended
-abbrev pub closing_at : {C F : Type 0} → (C → Base) → (F → Base) → Option (Closing C F) → Option CloseAt
-closing_at clear finish None = None
-closing_at clear finish (Some closing) = Some (close_at clear finish closing)
+abbrev pub closings_of : {B P C F : Type 0} → RoundPhases B P C F → Option (Closing C F) → Option CloseAt
+closings_of phases None = None
+closings_of phases (Some closing) = Some (closing_of phases closing)
 
 -- the round is over, or its end stands here
 abbrev pub Closes : Option CloseAt → (over : Bool) → CloseAt → Type 0

@@ -3,10 +3,10 @@ ghost use Rattle.std.specs.Prelude.{◌≡◌, ◌<◌, ◌≤◌, ◌+◌, [], 
 ghost use Rattle.wfe_core.specs.Machine.{op_of};
 ghost use Rattle.wfe_core.specs.Ready.{IndexFits, IsReady, Plausible};
 ghost use Rattle.wfe_core.specs.Valid.{IsValid};
-ghost use Rattle.wfe_call_rounds.specs.Rounds.{Closes, close_at, close_base, close_from, close_step, closing_at, finish_from};
+ghost use Rattle.wfe_call_rounds.specs.Rounds.{Closes, close_at, close_base, close_from, close_step, closing_of, closings_of, finish_from};
 
 use wfe_core::{Machine, Op, Post, Told};
-use wfe_iface::Scheme;
+use wfe_iface::{Rounds, Scheme};
 
 /// The last machines of a round: the clear of an index, and what the scheme ends with.
 #[derive(Drop)]
@@ -32,7 +32,7 @@ impl<C: Machine<End = ()>, F: Machine<End = ()>> Closing<C, F> {
 // What the scheme ends with, unless another round comes at once.
 fn finish<S: Scheme>(post: &Post, again: bool) -> Option<Closing<S::Clear, S::Finish>>
     requires { IsValid post.now }
-    ensures { closing_at S.Clear.phase S.Finish.phase result ≡ (finish_from S.kind again post.now []).at }
+    ensures { closings_of ⟦<S as Rounds>⟧.all_phases result ≡ (finish_from S.kind again post.now []).at }
 {
     if again {
         return None;
@@ -56,7 +56,7 @@ pub fn close<S: Scheme>(
     requires room { length told.old < 8 }
     ensures post { post.new ≡ (close_from S.kind index again post.old told.old).post }
     ensures told { told.new ≡ (close_from S.kind index again post.old told.old).told }
-    ensures next { closing_at S.Clear.phase S.Finish.phase result ≡ (close_from S.kind index again post.old told.old).at }
+    ensures next { closings_of ⟦<S as Rounds>⟧.all_phases result ≡ (close_from S.kind index again post.old told.old).at }
     ensures valid { IsValid post.new }
     ensures layout { post.new.layout ≡ post.old.layout }
     ensures seat { post.new.seat ≡ post.old.seat }
@@ -78,12 +78,12 @@ pub fn take_close<S: Scheme>(
     told: &mut Told,
 ) -> bool
     requires valid { IsValid post.old }
-    requires ready { IsReady (close_base (close_at S.Clear.phase S.Finish.phase closing.old)) post.old }
-    requires plausible { Plausible (close_base (close_at S.Clear.phase S.Finish.phase closing.old)) post.old found }
+    requires ready { IsReady (close_base (closing_of ⟦<S as Rounds>⟧.all_phases closing.old)) post.old }
+    requires plausible { Plausible (close_base (closing_of ⟦<S as Rounds>⟧.all_phases closing.old)) post.old found }
     requires empty { told.old ≡ [] }
-    ensures post { post.new ≡ (close_step S.kind again (close_at S.Clear.phase S.Finish.phase closing.old) post.old found).post }
-    ensures told { told.new ≡ (close_step S.kind again (close_at S.Clear.phase S.Finish.phase closing.old) post.old found).told }
-    ensures next { Closes (close_step S.kind again (close_at S.Clear.phase S.Finish.phase closing.old) post.old found).at result (close_at S.Clear.phase S.Finish.phase closing.new) }
+    ensures post { post.new ≡ (close_step S.kind again (closing_of ⟦<S as Rounds>⟧.all_phases closing.old) post.old found).post }
+    ensures told { told.new ≡ (close_step S.kind again (closing_of ⟦<S as Rounds>⟧.all_phases closing.old) post.old found).told }
+    ensures next { Closes (close_step S.kind again (closing_of ⟦<S as Rounds>⟧.all_phases closing.old) post.old found).at result (closing_of ⟦<S as Rounds>⟧.all_phases closing.new) }
     ensures valid { IsValid post.new }
     ensures layout { post.new.layout ≡ post.old.layout }
     ensures seat { post.new.seat ≡ post.old.seat }

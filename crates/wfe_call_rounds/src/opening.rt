@@ -5,10 +5,10 @@ ghost use Rattle.wfe_core.specs.Machine.{after, op_of};
 ghost use Rattle.wfe_core.specs.Ready.{IsReady, Plausible, RootFits, protect_within};
 ghost use Rattle.wfe_core.specs.Rounds.{protect_base};
 ghost use Rattle.wfe_core.specs.Valid.{IsValid};
-ghost use Rattle.wfe_call_rounds.specs.Rounds.{OpensOn, open_base, opening_base};
+ghost use Rattle.wfe_call_rounds.specs.Rounds.{OpensOn, open_base, opening_base, opening_of};
 
 use wfe_core::{Machine, Op, Post, ProtectEnd, Root, Told, link_word_number};
-use wfe_iface::Scheme;
+use wfe_iface::{Rounds, Scheme};
 
 /// The first machines of a round: what the scheme begins with, if anything, and the protection of a
 /// root.
@@ -36,7 +36,7 @@ impl<B: Machine<End = ()>, P: Machine<End = ProtectEnd>> Opening<B, P> {
 pub fn open<S: Scheme>(post: &Post, index: u32, root: Root) -> Opening<S::Begin, S::Protect>
     requires layout { is_valid post.now.layout ≡ true }
     requires there { RootFits post.now.layout root }
-    ensures { opening_base S.Begin.phase S.Protect.phase result ≡ open_base S.kind post.now index root }
+    ensures { opening_of ⟦<S as Rounds>⟧.all_phases result ≡ open_base S.kind post.now index root }
 {
     match S::begin(post) {
         Some(machine) => Opening::Begins(machine),
@@ -55,17 +55,17 @@ pub fn take_open<S: Scheme>(
 ) -> Option<ProtectEnd>
     requires valid { IsValid post.old }
     requires there { RootFits post.old.layout root }
-    requires ready { IsReady (opening_base S.Begin.phase S.Protect.phase opening.old) post.old }
-    requires plausible { Plausible (opening_base S.Begin.phase S.Protect.phase opening.old) post.old found }
+    requires ready { IsReady (opening_of ⟦<S as Rounds>⟧.all_phases opening.old) post.old }
+    requires plausible { Plausible (opening_of ⟦<S as Rounds>⟧.all_phases opening.old) post.old found }
     requires empty { told.old ≡ [] }
     ensures valid { IsValid post.new }
     ensures layout { post.new.layout ≡ post.old.layout }
     ensures seat { post.new.seat ≡ post.old.seat }
     ensures steps { post.new.steps ≡ post.old.steps }
-    ensures post { post.new ≡ (after (opening_base S.Begin.phase S.Protect.phase opening.old) post.old found).post }
-    ensures told { told.new ≡ (after (opening_base S.Begin.phase S.Protect.phase opening.old) post.old found).told }
+    ensures post { post.new ≡ (after (opening_of ⟦<S as Rounds>⟧.all_phases opening.old) post.old found).post }
+    ensures told { told.new ≡ (after (opening_of ⟦<S as Rounds>⟧.all_phases opening.old) post.old found).told }
     ensures few { length told.new ≤ 2 }
-    ensures next { OpensOn (protect_base S.kind index root) (after (opening_base S.Begin.phase S.Protect.phase opening.old) post.old found).outcome result (opening_base S.Begin.phase S.Protect.phase opening.new) }
+    ensures next { OpensOn (protect_base S.kind index root) (after (opening_of ⟦<S as Rounds>⟧.all_phases opening.old) post.old found).outcome result (opening_of ⟦<S as Rounds>⟧.all_phases opening.new) }
     ensures within { IfSome result (λ e. protect_within e post.new) }
 {
     match opening {

@@ -3,10 +3,12 @@
 
 mod follow;
 mod follow_at;
+mod rounds;
 mod scheme;
 mod schemes;
 
 pub use follow::Follow;
+pub use rounds::Rounds;
 pub use scheme::Scheme;
 pub use schemes::{He, Ibr, Wfe};
 pub use wfe_core::FollowEnd;

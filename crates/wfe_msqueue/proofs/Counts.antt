@@ -12,6 +12,7 @@ use Rattle.wfe_core.specs.Phases.{Base}
 use Rattle.wfe_core.specs.Posts.{counted}
 use Rattle.wfe_core.specs.Steps.{phase_turn}
 use Rattle.wfe_call_rounds.specs.Steps.{Steps}
+use Rattle.wfe_call_rounds.specs.iface.Schemes.{RoundPhases}
 use Rattle.wfe_call_rounds.proofs.Taken.{round_counted, took_from}
 use Rattle.wfe_msqueue.specs.declared.dequeue_state.State.{State}
 use Rattle.wfe_msqueue.specs.declared.dequeue_state.State.TheVariants as states
@@ -21,25 +22,25 @@ use Rattle.wfe_msqueue.specs.DequeueStates.{dequeue_phase}
 use Rattle.wfe_msqueue.specs.EnqueueStates.{enqueue_phase}
 
 -- a dequeue
-pub dequeue_counted : {B P W C F : Type 0} (begin : B → Base) (protect : P → Base) (follow : W → Base) (clear : C → Base) (finish : F → Base) (state : State B P W C F) (post : Post) → dequeue_phase begin protect follow clear finish state post ≡ dequeue_phase begin protect follow clear finish state (counted post)
-dequeue_counted begin protect follow clear finish states.Starts post = round_counted Dequeues post
-dequeue_counted begin protect follow clear finish (states.Opens opening) post = refl
-dequeue_counted begin protect follow clear finish (states.Works at) post = refl
-dequeue_counted begin protect follow clear finish (states.Follows head tail machine) post = refl
-dequeue_counted begin protect follow clear finish (states.ClearsNext ending machine) post = refl
-dequeue_counted begin protect follow clear finish (states.Closes ending closing) post = refl
-dequeue_counted begin protect follow clear finish (states.Reclaims item reclaim) post = refl
+pub dequeue_counted : {B P W C F : Type 0} (phases : RoundPhases B P C F) (follow : W → Base) (state : State B P W C F) (post : Post) → dequeue_phase phases follow state post ≡ dequeue_phase phases follow state (counted post)
+dequeue_counted phases follow states.Starts post = round_counted Dequeues post
+dequeue_counted phases follow (states.Opens opening) post = refl
+dequeue_counted phases follow (states.Works at) post = refl
+dequeue_counted phases follow (states.Follows head tail machine) post = refl
+dequeue_counted phases follow (states.ClearsNext ending machine) post = refl
+dequeue_counted phases follow (states.Closes ending closing) post = refl
+dequeue_counted phases follow (states.Reclaims item reclaim) post = refl
 
 -- an enqueue
-pub enqueue_counted : {B P C F : Type 0} (begin : B → Base) (protect : P → Base) (clear : C → Base) (finish : F → Base) (kept : EnqueueKept) (state : EnqueueState B P C F) (post : Post) → enqueue_phase begin protect clear finish kept state post ≡ enqueue_phase begin protect clear finish kept state (counted post)
-enqueue_counted begin protect clear finish kept fills.Starts post = round_counted (Enqueues kept) post
-enqueue_counted begin protect clear finish kept (fills.Opens opening) post = refl
-enqueue_counted begin protect clear finish kept (fills.Works at) post = refl
-enqueue_counted begin protect clear finish kept (fills.Allocates machine) post = refl
-enqueue_counted begin protect clear finish kept (fills.Writes machine) post = refl
-enqueue_counted begin protect clear finish kept (fills.Closes ending closing) post = refl
-enqueue_counted begin protect clear finish kept (fills.GivesUp answer machine) post = refl
-enqueue_counted begin protect clear finish kept (fills.Tidies tidy) post = refl
+pub enqueue_counted : {B P C F : Type 0} (phases : RoundPhases B P C F) (kept : EnqueueKept) (state : EnqueueState B P C F) (post : Post) → enqueue_phase phases kept state post ≡ enqueue_phase phases kept state (counted post)
+enqueue_counted phases kept fills.Starts post = round_counted (Enqueues kept) post
+enqueue_counted phases kept (fills.Opens opening) post = refl
+enqueue_counted phases kept (fills.Works at) post = refl
+enqueue_counted phases kept (fills.Allocates machine) post = refl
+enqueue_counted phases kept (fills.Writes machine) post = refl
+enqueue_counted phases kept (fills.Closes ending closing) post = refl
+enqueue_counted phases kept (fills.GivesUp answer machine) post = refl
+enqueue_counted phases kept (fills.Tidies tidy) post = refl
 
 steps_counted : (post : Post) (steps : ℕ) → steps ≡ bump post.steps → record post { steps = steps } ≡ counted post
 steps_counted post steps e = ap (λ (n : ℕ). record post { steps = n }) e

@@ -20,7 +20,7 @@ ghost use Rattle.wfe_msqueue.specs.declared.dequeue_at.Dequeued.TheVariants.{Goe
 use super::dequeue_at::{DequeueAt, DequeueEnd, Dequeued};
 use super::dequeue_state::{Item, State};
 use super::links::link_to;
-use wfe_call_rounds::{Follow, Scheme, close, open, take_close, take_open};
+use wfe_call_rounds::{Follow, Rounds, Scheme, close, open, take_close, take_open};
 use wfe_call_tidy::Reclaim;
 use wfe_core::{Answer, CallMachine, Desk, FollowEnd, Machine, Op, Post, ProtectEnd, Root, Told};
 
@@ -43,7 +43,7 @@ impl<S: Scheme> Dequeue<S> {
 
     // A round is over: another begins, or the call answers, or the row that was cut is retired.
     fn closed(&mut self, ending: DequeueEnd) -> Option<Answer>
-        ensures { (post : ModelPost) (desk : ModelDesk) (told : List Event) → Steps (model_closed Dequeues (next_of ending) post desk told) post desk told result (dequeue_phase S.Begin.phase S.Protect.phase ⟦<Follow<S> as Machine>⟧.phase S.Clear.phase S.Finish.phase self.new.at post) }
+        ensures { (post : ModelPost) (desk : ModelDesk) (told : List Event) → Steps (model_closed Dequeues (next_of ending) post desk told) post desk told result (dequeue_phase ⟦<S as Rounds>⟧.all_phases ⟦<Follow<S> as Machine>⟧.phase self.new.at post) }
     {
         match ending {
             DequeueEnd::Again => {
@@ -67,7 +67,7 @@ impl<S: Scheme> Dequeue<S> {
         requires valid { IsValid post.old }
         requires scheme { post.old.layout.config.scheme ≡ S.kind }
         requires few { length told.old ≤ 6 }
-        ensures steps { (desk : ModelDesk) → Steps (clearing Dequeues (next_of ending) post.old desk told.old) post.new desk told.new result (dequeue_phase S.Begin.phase S.Protect.phase ⟦<Follow<S> as Machine>⟧.phase S.Clear.phase S.Finish.phase self.new.at post.new) }
+        ensures steps { (desk : ModelDesk) → Steps (clearing Dequeues (next_of ending) post.old desk told.old) post.new desk told.new result (dequeue_phase ⟦<S as Rounds>⟧.all_phases ⟦<Follow<S> as Machine>⟧.phase self.new.at post.new) }
         ensures valid { IsValid post.new }
         ensures layout { post.new.layout ≡ post.old.layout }
         ensures seat { post.new.seat ≡ post.old.seat }
@@ -87,7 +87,7 @@ impl<S: Scheme> Dequeue<S> {
         requires valid { IsValid post.old }
         requires scheme { post.old.layout.config.scheme ≡ S.kind }
         requires few { length told.old ≤ 5 }
-        ensures steps { (desk : ModelDesk) → Steps (clearing_next (next_of ending) post.old desk told.old) post.new desk told.new result (dequeue_phase S.Begin.phase S.Protect.phase ⟦<Follow<S> as Machine>⟧.phase S.Clear.phase S.Finish.phase self.new.at post.new) }
+        ensures steps { (desk : ModelDesk) → Steps (clearing_next (next_of ending) post.old desk told.old) post.new desk told.new result (dequeue_phase ⟦<S as Rounds>⟧.all_phases ⟦<Follow<S> as Machine>⟧.phase self.new.at post.new) }
         ensures valid { IsValid post.new }
         ensures layout { post.new.layout ≡ post.old.layout }
         ensures seat { post.new.seat ≡ post.old.seat }
@@ -107,7 +107,7 @@ impl<S: Scheme> Dequeue<S> {
         requires valid { IsValid post.old }
         requires scheme { post.old.layout.config.scheme ≡ S.kind }
         requires few { length told.old ≤ 2 }
-        ensures steps { (desk : ModelDesk) → Steps (opened Dequeues (Protected end) post.old desk told.old) post.new desk told.new result (dequeue_phase S.Begin.phase S.Protect.phase ⟦<Follow<S> as Machine>⟧.phase S.Clear.phase S.Finish.phase self.new.at post.new) }
+        ensures steps { (desk : ModelDesk) → Steps (opened Dequeues (Protected end) post.old desk told.old) post.new desk told.new result (dequeue_phase ⟦<S as Rounds>⟧.all_phases ⟦<Follow<S> as Machine>⟧.phase self.new.at post.new) }
         ensures valid { IsValid post.new }
         ensures layout { post.new.layout ≡ post.old.layout }
         ensures seat { post.new.seat ≡ post.old.seat }
@@ -128,7 +128,7 @@ impl<S: Scheme> Dequeue<S> {
         requires scheme { post.old.layout.config.scheme ≡ S.kind }
         requires few { length told.old ≤ 3 }
         requires within { LedWithin step post.old }
-        ensures steps { (desk : ModelDesk) → Steps (led step post.old desk told.old) post.new desk told.new result (dequeue_phase S.Begin.phase S.Protect.phase ⟦<Follow<S> as Machine>⟧.phase S.Clear.phase S.Finish.phase self.new.at post.new) }
+        ensures steps { (desk : ModelDesk) → Steps (led step post.old desk told.old) post.new desk told.new result (dequeue_phase ⟦<S as Rounds>⟧.all_phases ⟦<Follow<S> as Machine>⟧.phase self.new.at post.new) }
         ensures valid { IsValid post.new }
         ensures layout { post.new.layout ≡ post.old.layout }
         ensures seat { post.new.seat ≡ post.old.seat }
@@ -161,7 +161,7 @@ impl<S: Scheme> Dequeue<S> {
         requires valid { IsValid post.old }
         requires scheme { post.old.layout.config.scheme ≡ S.kind }
         requires few { length told.old ≤ 2 }
-        ensures steps { (desk : ModelDesk) → Steps (model_followed head tail end post.old desk told.old) post.new desk told.new result (dequeue_phase S.Begin.phase S.Protect.phase ⟦<Follow<S> as Machine>⟧.phase S.Clear.phase S.Finish.phase self.new.at post.new) }
+        ensures steps { (desk : ModelDesk) → Steps (model_followed head tail end post.old desk told.old) post.new desk told.new result (dequeue_phase ⟦<S as Rounds>⟧.all_phases ⟦<Follow<S> as Machine>⟧.phase self.new.at post.new) }
         ensures valid { IsValid post.new }
         ensures layout { post.new.layout ≡ post.old.layout }
         ensures seat { post.new.seat ≡ post.old.seat }
@@ -184,7 +184,7 @@ impl<S: Scheme> Dequeue<S> {
         requires ready { IsCallReady (round Dequeues post.old) post.old (desk_of desk.now) }
         requires plausible { IsCallPlausible (round Dequeues post.old) post.old found }
         requires empty { told.old ≡ [] }
-        ensures steps { Steps (phase_turn (round Dequeues post.old) post.old (desk_of desk.now) found) post.new (desk_of desk.now) told.new result (dequeue_phase S.Begin.phase S.Protect.phase ⟦<Follow<S> as Machine>⟧.phase S.Clear.phase S.Finish.phase self.new.at post.new) }
+        ensures steps { Steps (phase_turn (round Dequeues post.old) post.old (desk_of desk.now) found) post.new (desk_of desk.now) told.new result (dequeue_phase ⟦<S as Rounds>⟧.all_phases ⟦<Follow<S> as Machine>⟧.phase self.new.at post.new) }
         ensures valid { IsValid post.new }
         ensures layout { post.new.layout ≡ post.old.layout }
         ensures seat { post.new.seat ≡ post.old.seat }
@@ -210,10 +210,10 @@ impl<S: Scheme> Dequeue<S> {
         requires valid { IsValid post.old }
         requires scheme { post.old.layout.config.scheme ≡ S.kind }
         requires room { HasRoom desk.old post.old.layout }
-        requires ready { IsCallReady (dequeue_phase S.Begin.phase S.Protect.phase ⟦<Follow<S> as Machine>⟧.phase S.Clear.phase S.Finish.phase self.old.at post.old) post.old (desk_of desk.old) }
-        requires plausible { IsCallPlausible (dequeue_phase S.Begin.phase S.Protect.phase ⟦<Follow<S> as Machine>⟧.phase S.Clear.phase S.Finish.phase self.old.at post.old) post.old found }
+        requires ready { IsCallReady (dequeue_phase ⟦<S as Rounds>⟧.all_phases ⟦<Follow<S> as Machine>⟧.phase self.old.at post.old) post.old (desk_of desk.old) }
+        requires plausible { IsCallPlausible (dequeue_phase ⟦<S as Rounds>⟧.all_phases ⟦<Follow<S> as Machine>⟧.phase self.old.at post.old) post.old found }
         requires empty { told.old ≡ [] }
-        ensures steps { Steps (phase_turn (dequeue_phase S.Begin.phase S.Protect.phase ⟦<Follow<S> as Machine>⟧.phase S.Clear.phase S.Finish.phase self.old.at post.old) post.old (desk_of desk.old) found) post.new (desk_of desk.new) told.new result (dequeue_phase S.Begin.phase S.Protect.phase ⟦<Follow<S> as Machine>⟧.phase S.Clear.phase S.Finish.phase self.new.at post.new) }
+        ensures steps { Steps (phase_turn (dequeue_phase ⟦<S as Rounds>⟧.all_phases ⟦<Follow<S> as Machine>⟧.phase self.old.at post.old) post.old (desk_of desk.old) found) post.new (desk_of desk.new) told.new result (dequeue_phase ⟦<S as Rounds>⟧.all_phases ⟦<Follow<S> as Machine>⟧.phase self.new.at post.new) }
         ensures valid { IsValid post.new }
         ensures layout { post.new.layout ≡ post.old.layout }
         ensures seat { post.new.seat ≡ post.old.seat }
@@ -276,7 +276,7 @@ impl<S: Scheme> CallMachine for Dequeue<S> {
 
     ghost suits = { λ kind. kind ≡ S.kind };
 
-    ghost phase = { λ m post. dequeue_phase S.Begin.phase S.Protect.phase ⟦<Follow<S> as Machine>⟧.phase S.Clear.phase S.Finish.phase m.at post };
+    ghost phase = { λ m post. dequeue_phase ⟦<S as Rounds>⟧.all_phases ⟦<Follow<S> as Machine>⟧.phase m.at post };
 
     fn next_op(&self, post: &Post, _desk: &Desk) -> Op {
         match &self.at {

@@ -19,7 +19,7 @@ ghost use Rattle.wfe_msqueue.specs.EnqueueStates.{enqueue_phase};
 
 use super::enqueue_at::{EnqueueAt, EnqueueEnd, Enqueued, Kept};
 use super::enqueue_state::State;
-use wfe_call_rounds::{Scheme, close, open, take_close, take_open};
+use wfe_call_rounds::{Rounds, Scheme, close, open, take_close, take_open};
 use wfe_call_tidy::Tidy;
 use wfe_core::{AllocateEnd, Answer, CallMachine, Desk, Machine, Op, Post, ProtectEnd, Root, Told};
 use wfe_slots::{Allocate, GiveUp, Row, WriteRow};
@@ -54,7 +54,7 @@ impl<S: Scheme> Enqueue<S> {
     // A round is over: another begins, at once or after a scan, or the call answers. A row that was not
     // linked is given up first.
     fn closed(&mut self, ending: EnqueueEnd) -> Option<Answer>
-        ensures steps { (post : ModelPost) (desk : ModelDesk) (told : List Event) → post.layout.config.scheme ≡ S.kind → Steps (model_closed (Enqueues (kept_of self.old.kept)) (next_of ending) post desk told) post desk told result (enqueue_phase S.Begin.phase S.Protect.phase S.Clear.phase S.Finish.phase (kept_of self.new.kept) self.new.at post) }
+        ensures steps { (post : ModelPost) (desk : ModelDesk) (told : List Event) → post.layout.config.scheme ≡ S.kind → Steps (model_closed (Enqueues (kept_of self.old.kept)) (next_of ending) post desk told) post desk told result (enqueue_phase ⟦<S as Rounds>⟧.all_phases (kept_of self.new.kept) self.new.at post) }
         ensures kept { self.new.kept ≡ self.old.kept }
     {
         match ending {
@@ -81,7 +81,7 @@ impl<S: Scheme> Enqueue<S> {
         requires valid { IsValid post.old }
         requires scheme { post.old.layout.config.scheme ≡ S.kind }
         requires few { length told.old ≤ 6 }
-        ensures steps { (desk : ModelDesk) → Steps (clearing (Enqueues (kept_of self.old.kept)) (next_of ending) post.old desk told.old) post.new desk told.new result (enqueue_phase S.Begin.phase S.Protect.phase S.Clear.phase S.Finish.phase (kept_of self.new.kept) self.new.at post.new) }
+        ensures steps { (desk : ModelDesk) → Steps (clearing (Enqueues (kept_of self.old.kept)) (next_of ending) post.old desk told.old) post.new desk told.new result (enqueue_phase ⟦<S as Rounds>⟧.all_phases (kept_of self.new.kept) self.new.at post.new) }
         ensures valid { IsValid post.new }
         ensures layout { post.new.layout ≡ post.old.layout }
         ensures seat { post.new.seat ≡ post.old.seat }
@@ -101,7 +101,7 @@ impl<S: Scheme> Enqueue<S> {
         requires valid { IsValid post.old }
         requires scheme { post.old.layout.config.scheme ≡ S.kind }
         requires few { length told.old ≤ 2 }
-        ensures steps { (desk : ModelDesk) → Steps (opened (Enqueues (kept_of self.old.kept)) (Protected end) post.old desk told.old) post.new desk told.new result (enqueue_phase S.Begin.phase S.Protect.phase S.Clear.phase S.Finish.phase (kept_of self.new.kept) self.new.at post.new) }
+        ensures steps { (desk : ModelDesk) → Steps (opened (Enqueues (kept_of self.old.kept)) (Protected end) post.old desk told.old) post.new desk told.new result (enqueue_phase ⟦<S as Rounds>⟧.all_phases (kept_of self.new.kept) self.new.at post.new) }
         ensures valid { IsValid post.new }
         ensures layout { post.new.layout ≡ post.old.layout }
         ensures seat { post.new.seat ≡ post.old.seat }
@@ -120,7 +120,7 @@ impl<S: Scheme> Enqueue<S> {
     // The row is written: the next number, and the value.
     fn write(&mut self, slot: u32)
         requires { self.old.kept.number + 1 < 18446744073709551616 }
-        ensures phase { (post : ModelPost) → enqueue_phase S.Begin.phase S.Protect.phase S.Clear.phase S.Finish.phase (kept_of self.new.kept) self.new.at post ≡ Runs (Fills (Enqueues (kept_of self.old.kept))) (writing slot (new_item (kept_of self.old.kept))) }
+        ensures phase { (post : ModelPost) → enqueue_phase ⟦<S as Rounds>⟧.all_phases (kept_of self.new.kept) self.new.at post ≡ Runs (Fills (Enqueues (kept_of self.old.kept))) (writing slot (new_item (kept_of self.old.kept))) }
     {
         let row = Row::Queue {
             number: self.kept.number + 1,
@@ -135,7 +135,7 @@ impl<S: Scheme> Enqueue<S> {
         requires scheme { post.old.layout.config.scheme ≡ S.kind }
         requires few { length told.old ≤ 2 }
         requires fits { EnqueueFits post.old (kept_of self.old.kept) }
-        ensures steps { (desk : ModelDesk) → Steps (led (kept_of self.old.kept) step post.old desk told.old) post.new desk told.new result (enqueue_phase S.Begin.phase S.Protect.phase S.Clear.phase S.Finish.phase (kept_of self.new.kept) self.new.at post.new) }
+        ensures steps { (desk : ModelDesk) → Steps (led (kept_of self.old.kept) step post.old desk told.old) post.new desk told.new result (enqueue_phase ⟦<S as Rounds>⟧.all_phases (kept_of self.new.kept) self.new.at post.new) }
         ensures valid { IsValid post.new }
         ensures layout { post.new.layout ≡ post.old.layout }
         ensures seat { post.new.seat ≡ post.old.seat }
@@ -163,7 +163,7 @@ impl<S: Scheme> Enqueue<S> {
         requires scheme { post.old.layout.config.scheme ≡ S.kind }
         requires few { length told.old ≤ 2 }
         requires fits { EnqueueFits post.old (kept_of self.old.kept) }
-        ensures steps { (desk : ModelDesk) → Steps (filled_by (Enqueues (kept_of self.old.kept)) end post.old desk told.old) post.new desk told.new result (enqueue_phase S.Begin.phase S.Protect.phase S.Clear.phase S.Finish.phase (kept_of self.new.kept) self.new.at post.new) }
+        ensures steps { (desk : ModelDesk) → Steps (filled_by (Enqueues (kept_of self.old.kept)) end post.old desk told.old) post.new desk told.new result (enqueue_phase ⟦<S as Rounds>⟧.all_phases (kept_of self.new.kept) self.new.at post.new) }
         ensures valid { IsValid post.new }
         ensures layout { post.new.layout ≡ post.old.layout }
         ensures seat { post.new.seat ≡ post.old.seat }
@@ -185,7 +185,7 @@ impl<S: Scheme> Enqueue<S> {
 
     // The row is written: it is to be linked.
     fn written(&mut self) -> Option<Answer>
-        ensures { (post : ModelPost) (desk : ModelDesk) (told : List Event) → Steps (written_row (Enqueues (kept_of self.old.kept)) post desk told) post desk told result (enqueue_phase S.Begin.phase S.Protect.phase S.Clear.phase S.Finish.phase (kept_of self.new.kept) self.new.at post) }
+        ensures { (post : ModelPost) (desk : ModelDesk) (told : List Event) → Steps (written_row (Enqueues (kept_of self.old.kept)) post desk told) post desk told result (enqueue_phase ⟦<S as Rounds>⟧.all_phases (kept_of self.new.kept) self.new.at post) }
     {
         let slot = match self.kept.taken {
             Some(slot) => slot,
@@ -202,7 +202,7 @@ impl<S: Scheme> Enqueue<S> {
         requires ready { IsCallReady (round (Enqueues (kept_of self.old.kept)) post.old) post.old (desk_of desk.now) }
         requires plausible { IsCallPlausible (round (Enqueues (kept_of self.old.kept)) post.old) post.old found }
         requires empty { told.old ≡ [] }
-        ensures steps { Steps (phase_turn (round (Enqueues (kept_of self.old.kept)) post.old) post.old (desk_of desk.now) found) post.new (desk_of desk.now) told.new result (enqueue_phase S.Begin.phase S.Protect.phase S.Clear.phase S.Finish.phase (kept_of self.new.kept) self.new.at post.new) }
+        ensures steps { Steps (phase_turn (round (Enqueues (kept_of self.old.kept)) post.old) post.old (desk_of desk.now) found) post.new (desk_of desk.now) told.new result (enqueue_phase ⟦<S as Rounds>⟧.all_phases (kept_of self.new.kept) self.new.at post.new) }
         ensures valid { IsValid post.new }
         ensures layout { post.new.layout ≡ post.old.layout }
         ensures seat { post.new.seat ≡ post.old.seat }
@@ -228,10 +228,10 @@ impl<S: Scheme> Enqueue<S> {
         requires valid { IsValid post.old }
         requires scheme { post.old.layout.config.scheme ≡ S.kind }
         requires room { HasRoom desk.old post.old.layout }
-        requires ready { IsCallReady (enqueue_phase S.Begin.phase S.Protect.phase S.Clear.phase S.Finish.phase (kept_of self.old.kept) self.old.at post.old) post.old (desk_of desk.old) }
-        requires plausible { IsCallPlausible (enqueue_phase S.Begin.phase S.Protect.phase S.Clear.phase S.Finish.phase (kept_of self.old.kept) self.old.at post.old) post.old found }
+        requires ready { IsCallReady (enqueue_phase ⟦<S as Rounds>⟧.all_phases (kept_of self.old.kept) self.old.at post.old) post.old (desk_of desk.old) }
+        requires plausible { IsCallPlausible (enqueue_phase ⟦<S as Rounds>⟧.all_phases (kept_of self.old.kept) self.old.at post.old) post.old found }
         requires empty { told.old ≡ [] }
-        ensures steps { Steps (phase_turn (enqueue_phase S.Begin.phase S.Protect.phase S.Clear.phase S.Finish.phase (kept_of self.old.kept) self.old.at post.old) post.old (desk_of desk.old) found) post.new (desk_of desk.new) told.new result (enqueue_phase S.Begin.phase S.Protect.phase S.Clear.phase S.Finish.phase (kept_of self.new.kept) self.new.at post.new) }
+        ensures steps { Steps (phase_turn (enqueue_phase ⟦<S as Rounds>⟧.all_phases (kept_of self.old.kept) self.old.at post.old) post.old (desk_of desk.old) found) post.new (desk_of desk.new) told.new result (enqueue_phase ⟦<S as Rounds>⟧.all_phases (kept_of self.new.kept) self.new.at post.new) }
         ensures valid { IsValid post.new }
         ensures layout { post.new.layout ≡ post.old.layout }
         ensures seat { post.new.seat ≡ post.old.seat }
@@ -294,7 +294,7 @@ impl<S: Scheme> CallMachine for Enqueue<S> {
 
     ghost suits = { λ kind. kind ≡ S.kind };
 
-    ghost phase = { λ m post. enqueue_phase S.Begin.phase S.Protect.phase S.Clear.phase S.Finish.phase (kept_of m.kept) m.at post };
+    ghost phase = { λ m post. enqueue_phase ⟦<S as Rounds>⟧.all_phases (kept_of m.kept) m.at post };
 
     fn next_op(&self, post: &Post, _desk: &Desk) -> Op {
         match &self.at {

@@ -26,6 +26,7 @@ pub struct Retire {
 }
 
 impl Retire {
+    /// The retirement of the row at this slot, before its first step.
     pub fn new(slot: u32) -> Retire
         ensures { retire_phase result ≡ Retiring (LoadLife slot) }
     {

@@ -128,7 +128,7 @@ pub struct Scan {
 impl Scan {
     /// A scan of a table of this layout that has made no step. Which guards there are, each step reads
     /// from the post that it is given, which has the same layout.
-    pub fn new(_layout: Layout) -> Scan
+    pub fn new(layout: Layout) -> Scan
         ensures { scan_phase result ≡ Scans Counted (ReadGuard 0) }
     {
         Scan {

@@ -2,6 +2,7 @@ use Rattle.std.proofs.Common.{arith}
 use Rattle.wfe_core.specs.declared.post.Post.{Post}
 use Rattle.wfe_core.specs.DeskHeld.{desk_of}
 use Rattle.wfe_call_rounds.specs.iface.Follows.{at_phase}
+use Rattle.wfe_call_rounds.specs.iface.Schemes.{round_phases}
 use Rattle.wfe_msqueue.specs.DequeueStates.{dequeue_phase}
 use Rattle.wfe_msqueue.proofs.Counts.{dequeue_counted, took_counted}
 use Rattle.wfe_msqueue.proofs.dequeue.DequeueCallMachine.take.Goals as goal
@@ -11,7 +12,7 @@ pub returns-clause-took : goal.returns-clause-took
 returns-clause-took g c =
     let post = c.args.post.now in
     took_counted
-    (λ (p : Post). dequeue_phase g.S.Begin.Machine.phase g.S.Protect.Machine.phase (λ f. at_phase g.S.Protect.Machine.phase f.parent f.index f.steps f.at) g.S.Clear.Machine.phase g.S.Finish.Machine.phase c.args.self.now.at p)
+    (λ (p : Post). dequeue_phase (round_phases g.S.Begin.Machine.phase g.S.Protect.Machine.phase g.S.Clear.Machine.phase g.S.Finish.Machine.phase) (λ f. at_phase g.S.Protect.Machine.phase f.parent f.index f.steps f.at) c.args.self.now.at p)
     post
     c.step-answer.new.post
     c.saturating_add-post.result
@@ -23,7 +24,7 @@ returns-clause-took g c =
     c.step-answer.result
     _
     c.settle.new.self
-    (dequeue_counted _ _ _ _ _ c.args.self.now.at post)
+    (dequeue_counted _ _ c.args.self.now.at post)
     (bumped c.saturating_add-post.result post.steps (omega arith) c.saturating_add-post.ensures)
     c.step-answer.ensures.steps
     c.settle.ensures.told
