@@ -23,7 +23,7 @@ use Rattle.inv_all.specs.history.History.{Item, Begins, Steps, Made, fits, done,
 use Rattle.inv_all.proofs.history.Along.{begins_right, low_seat, made_snoc}
 use Rattle.laws.specs.StateAt.{stood_at}
 use Rattle.law_reuse.proofs.Reuse.Keeps.{record_stands}
-use Rattle.inv_all.proofs.Each.{all_of}
+use Rattle.inv_all.proofs.history.AllOf.{all_of}
 use Rattle.law_answers.proofs.AnswersTold.Owed.{is_open, Owes, owed}
 use Rattle.law_answers.proofs.AnswersTold.Answering.{owes_of}
 use Rattle.law_answers.proofs.AnswersTold.Answering as answering

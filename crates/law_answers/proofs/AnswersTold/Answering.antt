@@ -30,7 +30,7 @@ use Rattle.inv_all.proofs.Inv.Begun.{inv_start, inv_begin}
 use Rattle.inv_all.proofs.Inv.Kept.{inv_kept}
 use Rattle.laws.specs.AnswerLaw.{owes, suits, same_told, answer_right, answers_ok}
 use Rattle.law_answers.specs.Records.{RecordsKeepAnswers}
-use Rattle.inv_all.proofs.Each.{all_of}
+use Rattle.inv_all.proofs.history.AllOf.{all_of}
 use Rattle.inv_all.proofs.Machines.{is_within, told_within, end_still}
 use Rattle.law_answers.proofs.AnswersTold.Owed.{loud_one, loud, loud_along, loud_still, is_open, Serves, owed, out_owed, OutServes, Told, Owes, append_none}
 use Rattle.law_answers.proofs.AnswersTold.Moves.{phase_ends}

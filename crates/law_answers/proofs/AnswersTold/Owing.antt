@@ -39,7 +39,8 @@ use Rattle.wfe_core.specs.Calls.{Task, Gets, Changes, Holds, Enqueues, Dequeues,
 use Rattle.wfe_core.proofs.Frames.{after_same}
 use Rattle.wfe_core.proofs.Facts.{both}
 use Rattle.laws.specs.AnswerLaw.{owes, suits}
-use Rattle.inv_all.proofs.Machines.{is_still, of_along, base_machine, clear_machine}
+use Rattle.inv_all.proofs.history.AllOf.{of_along}
+use Rattle.inv_all.proofs.Machines.{is_still, base_machine, clear_machine}
 use Rattle.law_answers.proofs.AnswersTold.Owed.{call_for, TaskServes, NextServes, LaterServes, FreeServes, WhyServes, WorkServes, Serves, next_owed, later_owed, why_owed, enqueue_owed, work_owed, owed, Told, Owes, ends_clocked, EndsFor, told_machine, told_more, told_none, clock_owes, clock_suits, is_open, loud, loud_along, append_none}
 
 -- a round begins

@@ -35,8 +35,8 @@ use Rattle.inv_all.proofs.contents.Contents.Lasts.{on}
 use Rattle.inv_all.specs.Known.{Known}
 use Rattle.inv_all.proofs.history.Passes.{Closing, First, scan_told, get_allows, ending_allows, why_allows, outcome_allows, work_allows, phase_allows, step_closes}
 use Rattle.law_answers.proofs.Lawful.Current.{Current, shelf_since, since_is, link_since}
-use Rattle.inv_all.proofs.Each.{all_of}
-use Rattle.inv_all.proofs.Machines.{is_machine, is_still, of_along, of_weaker, machine_still, base_machine, scan_machine, clear_machine, cut_still, link_still, end_still}
+use Rattle.inv_all.proofs.history.AllOf.{all_of, of_along, of_weaker}
+use Rattle.inv_all.proofs.Machines.{is_machine, is_still, machine_still, base_machine, scan_machine, clear_machine, cut_still, link_still, end_still}
 use Rattle.law_answers.proofs.Lawful.Nulls.{null_tracked, null_root}
 
 -- among so many buckets, which had been changed so often

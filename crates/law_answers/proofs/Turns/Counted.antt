@@ -25,7 +25,7 @@ use Rattle.inv_all.proofs.history.Along.{begins_right, low_seat}
 use Rattle.inv_all.specs.Ends.{CallsEnd}
 use Rattle.inv_all.specs.Inv.{Inv}
 use Rattle.inv_all.proofs.Inv.Ends.{inv_ends}
-use Rattle.inv_all.proofs.Each.{all_of}
+use Rattle.inv_all.proofs.history.AllOf.{all_of}
 use Rattle.inv_all.proofs.Machines.{is_within}
 use Rattle.law_answers.proofs.AnswersTold.Answering as answering
 use Rattle.law_answers.proofs.AnswersTold.Answering.{owes_of, within_of}

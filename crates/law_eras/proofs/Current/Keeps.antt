@@ -41,7 +41,7 @@ use Rattle.inv_all.specs.Known.{Known}
 use Rattle.inv_all.proofs.Inv.Begun.{known_start, known_begin}
 use Rattle.inv_all.proofs.Inv.Kept.{known_kept, asked_next}
 use Rattle.inv_all.proofs.Inv.Whole.{origins_need}
-use Rattle.inv_all.proofs.Each.{all_of}
+use Rattle.inv_all.proofs.history.AllOf.{all_of}
 use Rattle.inv_all.proofs.Machines.{is_within, told_within}
 use Rattle.laws.specs.StateAt.{clock_of}
 use Rattle.law_eras.proofs.EraLaw.Keeps.{record_clock}

@@ -34,7 +34,7 @@ use Rattle.wfe_core.specs.Phases.Base.{Begin, Protect, Reload, Clear, Finish, Re
 use Rattle.wfe_core.specs.Phases.Ending.{Followed}
 use Rattle.wfe_core.specs.Calls.{Why, Phase, Idle, Runs, Scans, Works}
 use Rattle.wfe_core.proofs.Facts.{first_of, rest_of, then_of}
-use Rattle.law_turns.proofs.Counting.Told.{concluded_told}
+use Rattle.inv_all.proofs.history.MayTell.{concluded_told}
 use Rattle.inv_all.specs.ends.Nulls.{ended_at}
 use Rattle.inv_all.specs.shapes.Frame.{Onward, Grows, Owes, Moves, Passed}
 use Rattle.inv_all.specs.shapes.Seats.{PostFits, PhaseFits, Run, Seats, Kind, ToOpen, ToFollow, kind_of, suits, protects, fills, retires, moves}

@@ -38,8 +38,7 @@ use Rattle.inv_all.proofs.Inv.Guards.{rests_need}
 use Rattle.inv_all.proofs.Inv.Reached.{inv_reached}
 use Rattle.inv_all.specs.history.Record.{Past, Each, EachEntry, tells_of}
 use Rattle.inv_all.proofs.history.Entries.{entries_of_each}
-use Rattle.inv_all.proofs.Each.{all_of}
-use Rattle.inv_all.proofs.Machines.{of_along}
+use Rattle.inv_all.proofs.history.AllOf.{all_of, of_along}
 use Rattle.laws.specs.StateAt.{stood_at, is_row}
 use Rattle.law_places.proofs.reuse.Reuse.Keeps.{record_stands, row_of}
 use Rattle.law_held.proofs.Roots.Ways.{Turning}
@@ -47,12 +46,13 @@ use Rattle.inv_all.proofs.ends.Told.Rows.{own_told, own_post, step_adds}
 use Rattle.inv_all.proofs.ends.Told.Turns.{Adds, is_later}
 use Rattle.law_held.specs.Records.{RecordsHoldThroughout}
 use Rattle.law_held.proofs.Held.Flat.{is_flat, is_at, holds_ok, Good, late_each, take_each, plain_each}
-use Rattle.law_held.proofs.Held.Forms.{Shape, Even, Late, is_taking, run_shape, back_shape}
+use Rattle.law_held.proofs.Held.Forms.{Shape, Even, Late, run_shape, back_shape}
 use Rattle.law_held.proofs.Resting.Resting.{next_made}
 use Rattle.wfe_core.specs.defs.Events.{is_held as event_is_held}
 use Rattle.inv_all.proofs.handover.Asks.{run_of}
 use Rattle.law_places.proofs.answers.AnswersTold.Owed.{append_none}
 use Rattle.law_places.proofs.answers.AnswersTold.Answering.{append_one}
+use Rattle.inv_all.proofs.history.MayTell.{takes}
 
 -- the ends of a step
 good_at : (layout : Layout) (path : List Item) (k j s : ℕ) → is_valid layout ≡ true → Good layout.config k j s (record_of layout path)
@@ -149,7 +149,7 @@ ShapeIn w i phase = Shape (own_told phase (counted (w.seat i).post) (finds w i))
 phase_as : (w : World) (i : ℕ) (phase : Phase) → (w.seat i).phase ≡ phase → ShapeIn w i phase → ShapeIn w i (w.seat i).phase
 phase_as w i phase q f = subst (ShapeIn w i) (sym q) f
 
-not_taking_each : (c : Config) (k j s : ℕ) (w : World) (i : ℕ) (p : Past) (why : Why) (base : Base) → (w.seat i).phase ≡ Runs why base → is_taking base ≡ false → Seats w → Ends c k j s i p (told_in w i) → Each (holds_ok c k j s) p → Each (holds_ok c k j s) (tells_of p i (told_in w i))
+not_taking_each : (c : Config) (k j s : ℕ) (w : World) (i : ℕ) (p : Past) (why : Why) (base : Base) → (w.seat i).phase ≡ Runs why base → takes base ≡ false → Seats w → Ends c k j s i p (told_in w i) → Each (holds_ok c k j s) p → Each (holds_ok c k j s) (tells_of p i (told_in w i))
 not_taking_each c k j s w i p why base q t a e g =
     let post : Post = counted (w.seat i).post in
     let same = (after_same base post (finds w i)).layout ∙ (a.fits i).post.layout in

@@ -31,8 +31,8 @@ use Rattle.inv_all.specs.shapes.Seats.{Seats, Shaped, suits, kind_of, protects, 
 use Rattle.inv_all.specs.history.History.{record_of, world_of}
 use Rattle.inv_all.specs.history.Record.{Past, Each, tells_of}
 use Rattle.inv_all.specs.history.Record.Past.{Then}
-use Rattle.inv_all.proofs.Each.{all_of}
-use Rattle.inv_all.proofs.Machines.{is_within, of_along}
+use Rattle.inv_all.proofs.history.AllOf.{all_of, of_along}
+use Rattle.inv_all.proofs.Machines.{is_within}
 use Rattle.laws.specs.StateAt.{began_of}
 use Rattle.law_places.proofs.answers.AnswersTold.Answering.{within_of, one_began, own_began}
 use Rattle.law_places.proofs.answers.AnswersTold.Owed.{call_for, TaskServes, FreeServes, WhyServes, Serves}

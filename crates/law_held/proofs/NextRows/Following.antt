@@ -27,7 +27,7 @@ use Rattle.wfe_core.specs.Phases.ProtectAt.{LoadClock, PublishEra, LoadLink, Che
 use Rattle.wfe_core.specs.Phases.Base.{Protect, Reload, Clear, Release}
 use Rattle.wfe_core.specs.Calls.{Task, Gets, Changes, Holds, Enqueues, Dequeues, ReadGuard, GiveBack, Why, Opens, FollowsHead, Phase, Idle, Runs, Scans, Works}
 use Rattle.wfe_core.proofs.Facts.{same_number, both, and_right_false, number_is}
-use Rattle.law_turns.proofs.Counting.Told.{concluded_told}
+use Rattle.inv_all.proofs.history.MayTell.{concluded_told}
 use Rattle.inv_all.proofs.covers.Held.{finds_at}
 use Rattle.inv_all.proofs.ends.Ends.Tests.{Calm, at_shows, base_shows, base_any}
 use Rattle.inv_all.specs.shapes.Seats.{ToFollow, Run, suits, kind_of, protects, reloads, index_by}

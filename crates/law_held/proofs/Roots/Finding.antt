@@ -24,7 +24,7 @@ use Rattle.inv_all.proofs.history.Along.{Steady, items_keep}
 use Rattle.inv_all.specs.history.Record.{Past, Each, tells_of}
 use Rattle.inv_all.specs.history.Record.Past.{Then}
 use Rattle.laws.proofs.Along.{along}
-use Rattle.inv_all.proofs.Each.{all_of}
+use Rattle.inv_all.proofs.history.AllOf.{all_of}
 use Rattle.inv_all.proofs.Machines.{is_within}
 use Rattle.laws.specs.StateAt.{began_of, began_by, has_root, rooted_by, rooted_of}
 use Rattle.law_places.proofs.answers.AnswersTold.Answering as answering

@@ -38,7 +38,7 @@ use Rattle.inv_all.proofs.Inv.Whole.{origins_need}
 use Rattle.laws.specs.StateAt.{same_value, tail_at, bucket_at, head_at, began_of}
 use Rattle.inv_all.specs.history.Record.{Past, Each, tells_of, begins, held_since}
 use Rattle.inv_all.specs.history.Record.Past.{Start, Then}
-use Rattle.inv_all.proofs.Each.{all_of}
+use Rattle.inv_all.proofs.history.AllOf.{all_of}
 use Rattle.inv_all.proofs.Machines.{is_within}
 use Rattle.inv_all.specs.links.Origins.{Origins}
 use Rattle.inv_all.specs.links.Tracked.{carries_at, carries_in, root_for, root_in, Tracked, Carried, Given, Helped}

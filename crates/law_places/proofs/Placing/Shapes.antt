@@ -32,7 +32,7 @@ use Rattle.inv_all.specs.rows.Rows.Hand.{Empty, New, Taken, Old, Known, Dated}
 use Rattle.inv_all.specs.rows.Rows.RowMove.{Stays, Claims, Bears, Drops, Links, Replaces, Appends, Pops, Reads, Seals, Lists, Returns}
 use Rattle.inv_all.specs.ends.Told.{row_events}
 use Rattle.law_answers.proofs.AnswersTold.Owed.{owed}
-use Rattle.inv_all.proofs.Each.{all_of}
+use Rattle.inv_all.proofs.history.AllOf.{all_of}
 use Rattle.law_places.proofs.Placing.Fronts.{linked_front, queued_front, taken_front}
 use Rattle.law_places.proofs.Placing.Marks.{marks}
 use Rattle.inv_all.proofs.rows.Runs.{taken_slot}

@@ -34,7 +34,7 @@ use Rattle.laws.proofs.Along.{along}
 use Rattle.law_scans.proofs.reuse.Once.Calm.{is_unread}
 use Rattle.law_scans.proofs.reuse.Once.Keeps as once
 use Rattle.inv_all.proofs.history.Passes.{scan_told}
-use Rattle.inv_all.proofs.Each.{all_of}
+use Rattle.inv_all.proofs.history.AllOf.{all_of}
 use Rattle.inv_all.proofs.Machines.{is_within}
 use Rattle.law_scans.proofs.answers.AnswersTold.Answering as answering
 use Rattle.law_scans.proofs.answers.AnswersTold.Answering.{began_along, first_all, owes_of, within_of, others_began}

@@ -41,7 +41,7 @@ use Rattle.inv_all.proofs.Inv.Kept.{known_kept, asked_next}
 use Rattle.law_scans.proofs.reuse.Reuse.Keeps.{record_stands}
 use Rattle.laws.specs.StateAt.{stood_at, queued_of, taken_of, began_of, told_of, all_taken, was_empty}
 use Rattle.law_scans.proofs.answers.Lawful.Current.{base_begun, current_start, current_begin, current_kept, current_same}
-use Rattle.inv_all.proofs.Each.{all_of}
+use Rattle.inv_all.proofs.history.AllOf.{all_of}
 use Rattle.inv_all.proofs.Machines.{is_within}
 use Rattle.law_scans.proofs.answers.Lawful.Maps.{base_of, begin_base, told_base, told_changes}
 use Rattle.law_scans.proofs.answers.Lawful.Queues.{Agrees, told_agrees}

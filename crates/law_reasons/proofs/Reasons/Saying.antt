@@ -44,7 +44,7 @@ use Rattle.inv_all.specs.ends.Standing.{is_end, holds_base, holds_in}
 use Rattle.inv_all.specs.history.Record.{Past, begins, own, told_since, tells_of}
 use Rattle.inv_all.specs.history.Record.Past.{Then}
 use Rattle.inv_all.proofs.links.Origins.Plain.{is_move, ends_plain, out_moves, out_plain, moves_on, plain_after}
-use Rattle.inv_all.proofs.Each.{all_of}
+use Rattle.inv_all.proofs.history.AllOf.{all_of}
 use Rattle.inv_all.proofs.Machines.{is_within}
 use Rattle.laws.specs.StateAt.{has_told}
 use Rattle.law_reasons.proofs.Reasons.Later.{Later, later_same, later_all, within_none}

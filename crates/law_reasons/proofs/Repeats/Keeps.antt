@@ -40,7 +40,7 @@ use Rattle.laws.specs.StateAt.{count_of, began_of, finds_of, tails_of}
 use Rattle.inv_all.proofs.history.Entries.{entries_of_each}
 use Rattle.inv_all.specs.history.History.{Begins, Steps, Made, fits, done, first_made, record_of}
 use Rattle.inv_all.proofs.history.Along.{Steady, items_keep}
-use Rattle.inv_all.proofs.Each.{all_of}
+use Rattle.inv_all.proofs.history.AllOf.{all_of}
 use Rattle.inv_all.proofs.Machines.{is_within}
 use Rattle.law_scans.proofs.answers.AnswersTold.Answering.{first_all, owes_of, within_of}
 use Rattle.law_scans.proofs.answers.AnswersTold.Owed.{Owes, Serves, TaskServes, call_for, is_open, owed}

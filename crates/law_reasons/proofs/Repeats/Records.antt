@@ -14,7 +14,7 @@ use Rattle.wfe_core.proofs.Facts.{same_number, first_of, rest_of}
 use Rattle.inv_all.specs.history.Record.{Past, begins, value_since, tells_of}
 use Rattle.inv_all.specs.history.Record.Past.{Start, Then}
 use Rattle.laws.specs.StateAt.{bucket_of, changes_of, count_of, queued_of, taken_of, began_by, began_of, finds_root, finds_of, tails_by, tails_of}
-use Rattle.inv_all.proofs.Each.{all_of}
+use Rattle.inv_all.proofs.history.AllOf.{all_of}
 use Rattle.inv_all.proofs.Machines.{is_within}
 use Rattle.laws.proofs.Tells.{seen_own}
 use Rattle.law_reasons.proofs.Reasons.Later.{Later, later_all, later_same, within_none, more_queued, more_count}

@@ -37,7 +37,7 @@ use Rattle.law_steps.proofs.Raises.Raising.{spanned_along, raised_along, counts_
 use Rattle.law_turns.proofs.TurnCounts.Tried.{is_follow, other_kind, is_other, calm_other, other_of_kind}
 use Rattle.law_turns.proofs.Withdrawals.Withdrawing.{tells_link}
 use Rattle.law_turns.proofs.TryCounts.{task_index}
-use Rattle.law_scans.proofs.reuse.Blocks.Reserves.{concluded_told}
+use Rattle.inv_all.proofs.history.MayTell.{concluded_told}
 
 -- what is known of a machine that makes a step; `count` are the steps of its call before it
 pub record Stage (i : ℕ) (s : Bool) (r : ℕ) (layout : Layout) (why : Why) (base : Base) (post : Post) (found count : ℕ) : Type 0 where

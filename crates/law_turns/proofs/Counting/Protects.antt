@@ -23,7 +23,8 @@ use Rattle.wfe_core.specs.words.Schemes.{is_ibr, is_he}
 use Rattle.inv_all.specs.shapes.Seats.{protect_fits, aim_by, index_by, root_by, kind_of, protects}
 use Rattle.laws.specs.Schedule.{events_right}
 use Rattle.law_turns.proofs.Counting.Fits.{tried, free_why, holds_why, is_hold, Clean, since, paced, stands_taken, taken, Passes, Opened}
-use Rattle.law_turns.proofs.Counting.Told.{concluded_told, held_right}
+use Rattle.inv_all.proofs.history.MayTell.{concluded_told}
+use Rattle.law_turns.proofs.Counting.Told.{held_right}
 use Rattle.law_turns.proofs.Counting.Passing.{tried_of, tried_with, tried_again, he_tried, he_first, he_publish, protect_x, turned, since_next, since_publish, publish_next, since_again, first_next, few_next, number_of, own_x, paced_trying, taken_trying, paced_lost, taken_lost, paced_answer, taken_answer, held_other, held_taken, protect_clean}
 use Rattle.law_answers.proofs.Turns.Steady.{held_same}
 use Rattle.inv_all.proofs.requests.Paced.{wfe_not_he}

@@ -15,7 +15,7 @@ use Rattle.wfe_core.specs.Machine as machine
 use Rattle.wfe_core.specs.Memory.{bump}
 use Rattle.wfe_core.specs.MoveClock as movers
 use Rattle.wfe_core.specs.Posts.{stands, cleared, reserves_index}
-use Rattle.wfe_core.specs.Phases.{Aim, Alone, Follows, MoveAt, Base, Ending, Outcome, Goes, Ends}
+use Rattle.wfe_core.specs.Phases.{Aim, Alone, Follows, Base, Ending, Outcome, Goes, Ends}
 use Rattle.wfe_core.specs.Phases.MoveAt.{HandOver}
 use Rattle.wfe_core.specs.Phases.Base.{Begin, Protect, Reload, Clear, Finish, Release, Allocate, Write, GiveUp, Retire, Move}
 use Rattle.wfe_core.specs.Phases.Ending.{Done, Protected, Followed, Allocated, Retired, Clocked}
@@ -25,7 +25,7 @@ use Rattle.wfe_core.specs.words.Schemes.{is_ibr}
 use Rattle.inv_all.specs.shapes.Frame.{Moves, Passed}
 use Rattle.inv_all.specs.shapes.Seats.{PostFits, PhaseFits, Run, protect_fits, Kind, kind_of, suits, protects, reloads, aim_by, index_by, root_by}
 use Rattle.law_turns.proofs.Counting.Passing.{Apart}
-use Rattle.law_turns.proofs.Counting.Told.{all_dull, cleared_dull, index_none, index_other, move_dull, allocate_dull, retire_dull, write_dull}
+use Rattle.law_turns.proofs.Counting.Told.{all_dull, cleared_dull, index_none, index_other, base_dull}
 use Rattle.laws.specs.StateAt.{tried_by}
 use Rattle.law_turns.proofs.Withdrawals.Withdrawing.{tells_link}
 use Rattle.law_turns.proofs.TurnCounts.Trying.{tried_along, last_along, dull_tried, at_tried, at_last, base_tried, Out, Made, made_if}
@@ -143,22 +143,14 @@ handed_tried : (i j x era seat tag index old : ℕ) (post : Post) (same : Bool) 
 handed_tried i j x era seat tag index old post true a = index_other i j seat index x (one_era era) (a refl)
 handed_tried i j x era seat tag index old post false a = refl
 
-move_tried : (i j x : ℕ) (at : MoveAt) (post : Post) (found : ℕ) → Apart i found (Move at) → tried_along i j (machine.move_turn at post found).told x ≡ x
-move_tried i j x (HandOver era seat tag index root link old) post found a = handed_tried i j x era seat tag index old post (found == reservation_word (record { era = old; tag = tag })) a
-move_tried i j x at post found a = dull_tried i j (machine.move_turn at post found).told x (move_dull at post found refl)
-
 calm_tried : (i j x : ℕ) (base : Base) (post : Post) (found : ℕ) → is_calm base ≡ true → Apart i found base → tried_along i j (machine.after base post found).told x ≡ x
-calm_tried i j x (Allocate at) post found h a = dull_tried i j (machine.allocate_turn at post found).told x (allocate_dull at post found)
-calm_tried i j x (Write slot row place) post found h a = dull_tried i j (machine.after (Write slot row place) post found).told x (write_dull slot row place post found)
+calm_tried i j x (Move (HandOver era seat tag index root link old)) post found h a = handed_tried i j x era seat tag index old post (found == reservation_word (record { era = old; tag = tag })) a
+calm_tried i j x (Move at) post found h a = dull_tried i j (machine.after (Move at) post found).told x (base_dull (Move at) post found refl refl)
+calm_tried i j x (Allocate at) post found h a = dull_tried i j (machine.after (Allocate at) post found).told x (base_dull (Allocate at) post found refl refl)
+calm_tried i j x (Write slot row place) post found h a = dull_tried i j (machine.after (Write slot row place) post found).told x (base_dull (Write slot row place) post found refl refl)
 calm_tried i j x (GiveUp slot) post found h a = refl
-calm_tried i j x (Retire at) post found h a = dull_tried i j (machine.retire_turn at post found).told x (retire_dull at post found)
-calm_tried i j x (Move at) post found h a = move_tried i j x at post found a
-calm_tried i j x (Begin at) post found h a = absurd (cc)
-calm_tried i j x (Protect aim index root steps at) post found h a = absurd (cc)
-calm_tried i j x (Reload parent index slot era steps) post found h a = absurd (cc)
-calm_tried i j x (Clear index) post found h a = absurd (cc)
-calm_tried i j x Finish post found h a = absurd (cc)
-calm_tried i j x Release post found h a = absurd (cc)
+calm_tried i j x (Retire at) post found h a = dull_tried i j (machine.after (Retire at) post found).told x (base_dull (Retire at) post found refl refl)
+calm_tried i j x base post found h a = absurd (cc)
 
 pub calm_other : (kind : Kind) → calm_kind kind ≡ true → other_kind kind ≡ true
 calm_other Kind.ToOpen h = absurd (cc)

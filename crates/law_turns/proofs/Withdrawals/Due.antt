@@ -46,7 +46,7 @@ use Rattle.inv_all.specs.Inv.{Inv}
 use Rattle.inv_all.proofs.Inv.Shapes.{eras_of}
 use Rattle.inv_all.proofs.history.Passes.{Closed, step_goes}
 use Rattle.law_answers.proofs.OneStep.Along.{Around, Kept, history_keeps}
-use Rattle.law_turns.proofs.Counting.Told.{concluded_told}
+use Rattle.inv_all.proofs.history.MayTell.{concluded_told}
 use Rattle.laws.specs.StateAt.{shown_by, shown_of}
 use Rattle.laws.specs.StepLaw.{found_shown, one_less, due_of, withdraws_first, withdraws_by, withdrawn_right}
 use Rattle.law_turns.specs.Records.{WithdrawalsFollow}
