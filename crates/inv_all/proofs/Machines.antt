@@ -20,6 +20,9 @@ use Rattle.wfe_core.proofs.Facts.{first_of, rest_of, if_implies}
 use Rattle.model_history.proofs.Passes.{is_quiet, Closing, Any, First, phase_any, scan_told, step_closes}
 use Rattle.model_history.proofs.AllOf.{all_of, of_along, of_weaker}
 use Rattle.model_history.proofs.MayTell.{Tells, base_all, clear_all, step_all}
+use Rattle.wfe_core.specs.World.{World, told_in, finds}
+use Rattle.wfe_core.specs.Posts.{counted}
+use Rattle.model_history.specs.Record.{Past, begins}
 
 -- an event of a machine or of a scan
 abbrev pub is_machine : Event → Bool
@@ -81,6 +84,13 @@ first_within (Works work) post found = refl
 
 pub told_within : (phase : Phase) (post : Post) (desk : Desk) (found : ℕ) → all_of is_within (told_by (steps.phase_turn phase post desk found)) ≡ true
 told_within phase post desk found = step_all is_within (record { quiet = quiet_within; clears = λ index slot. refl }) phase post desk found (first_within phase post found)
+
+pub within_of : (w : World) (i : ℕ) → all_of is_within (told_in w i) ≡ true
+within_of w i = told_within (w.seat i).phase (counted (w.seat i).post) (w.seat i).desk (finds w i)
+
+pub within_begins : (k i : ℕ) (p : Past) (event : Event) → is_within event ≡ true → begins k p i event ≡ false
+within_begins k i p (events.Begin call) h = absurd (cc)
+within_begins k i p event h = refl
 
 -- an event that tells nothing of the map and of the queue
 abbrev pub is_still : Event → Bool

@@ -17,10 +17,10 @@ use Rattle.wfe_core.specs.Protect.{held_post, told_held, concluded}
 use Rattle.wfe_core.specs.Rounds.{scheme_of, clear_told, index_of}
 use Rattle.wfe_core.specs.World.{World, finds, is_busy, told_in}
 use Rattle.wfe_core.specs.Phases.{Aim, ProtectAt, Base, Turn, ends}
-use Rattle.wfe_core.specs.Phases.ProtectAt.{LoadClock, PublishEra, LoadLink, CheckClock, PublishRequest, LoadOwnClock, PublishHelper, LoadOwnLink, CheckOwnClock, AnswerOwn, LoadAnswer, TakeAnswer, WithdrawRequest, WithdrawHelper, LoadWithin, CheckUpper, RaiseUpper}
+use Rattle.wfe_core.specs.Phases.ProtectAt.{CheckClock, CheckOwnClock, AnswerOwn, TakeAnswer, WithdrawHelper, LoadWithin, CheckUpper, RaiseUpper}
 use Rattle.wfe_core.specs.Phases.Base.{Begin, Protect, Reload, Release}
 use Rattle.wfe_core.specs.Phases.Ending.{Followed}
-use Rattle.wfe_core.specs.Calls.{Task, Gets, Changes, Holds, Enqueues, Dequeues, Why, Opens, FollowsHead, Fills, ClearsNext, Clears, Finishes, GivesUp, Retires, Tidies, Advances, Releases, ReadGuard, GiveBack, Phase, Idle, Runs, Scans, Works}
+use Rattle.wfe_core.specs.Calls.{Task, Gets, Changes, Holds, Enqueues, Dequeues, Why, Opens, FollowsHead, ReadGuard, GiveBack, Phase, Idle, Runs, Scans, Works}
 use Rattle.wfe_core.proofs.Facts.{both, first_of, rest_of, false_not_true, and_true, three_more, le_of_test}
 use Rattle.wfe_core.specs.words.Schemes.{is_ibr, is_he}
 use Rattle.inv_all.specs.shapes.Seats.{protects, reloads, kind_of, index_by, root_by}
@@ -87,51 +87,26 @@ task_index Dequeues = refl
 found_tried : (x : ℕ → ℕ) (buckets : ℕ) (why : Why) (index : ℕ) (root : Root) (link n : ℕ) → protects (kind_of why) ≡ true → index ≡ index_by why → root ≡ root_by buckets why → (n == 3 * x index + 1) ≡ true → events_tried x (told_held index root link n) ≡ true
 found_tried x buckets (Opens task) index root link n p i r h = held_tried x index root link n (rw i (task_index task)) h
 found_tried x buckets (FollowsHead head tail) index root link n p i r h = rw r (one_way x index n (link == 0) h)
-found_tried x buckets (Fills task) index root link n p i r h = absurd (cc)
-found_tried x buckets (ClearsNext next) index root link n p i r h = absurd (cc)
-found_tried x buckets (Clears task next) index root link n p i r h = absurd (cc)
-found_tried x buckets (Finishes task next) index root link n p i r h = absurd (cc)
-found_tried x buckets (GivesUp answer) index root link n p i r h = absurd (cc)
-found_tried x buckets (Retires answer) index root link n p i r h = absurd (cc)
-found_tried x buckets (Tidies later) index root link n p i r h = absurd (cc)
-found_tried x buckets Advances index root link n p i r h = absurd (cc)
-found_tried x buckets (Releases key) index root link n p i r h = absurd (cc)
+found_tried x buckets why index root link n p i r h = absurd (cc)
 
 protect_tried : (x u : ℕ → ℕ) (buckets : ℕ) (why : Why) (aim : Aim) (index : ℕ) (root : Root) (steps n count : ℕ) (at : ProtectAt) (post : Post) (found : ℕ) → is_he (scheme_of post) ≡ true → Site x u buckets why aim index root steps n count at post → events_tried (x_next x index at) (machine.protect_turn aim index root n at post found).told ≡ true
-protect_tried x u buckets why aim index root steps n count (LoadClock tries) post found e s = refl
-protect_tried x u buckets why aim index root steps n count (PublishEra era tries) post found e s = refl
-protect_tried x u buckets why aim index root steps n count (LoadLink era tries) post found e s = refl
 protect_tried x u buckets why aim index root steps n count (CheckClock era tries link) post found e s =
     let z : (steps == 3 * x index) ≡ true = he_tried (scheme_of post) post.layout.config.tries tries (steps == 3 * x index) s.fits e (rest_of (since steps (x index) (u index)) (tried tries (steps == 3 * x index)) s.paced) in
     let m : (n == 3 * x index + 1) ≡ true = rw (s.next) (three_more steps (x index) z) in
     tried_if x (found == era) (concluded aim index root n link era (held_post post index root link) (told_held index root link n)) _
     (rw (concluded_told aim index root n link era (held_post post index root link) (told_held index root link n)) (found_tried x buckets why index root link n s.protects s.place s.of m)) refl
-protect_tried x u buckets why aim index root steps n count PublishRequest post found e s = refl
-protect_tried x u buckets why aim index root steps n count LoadOwnClock post found e s = refl
-protect_tried x u buckets why aim index root steps n count (PublishHelper first era last) post found e s = refl
-protect_tried x u buckets why aim index root steps n count (LoadOwnLink first era last) post found e s = refl
 protect_tried x u buckets why aim index root steps n count (CheckOwnClock first era last link) post found e s = absurd (wfe_not_he (scheme_of post) s.fits e)
 protect_tried x u buckets why aim index root steps n count (AnswerOwn first era link) post found e s = absurd (wfe_not_he (scheme_of post) s.fits e)
-protect_tried x u buckets why aim index root steps n count (LoadAnswer first) post found e s = refl
 protect_tried x u buckets why aim index root steps n count (TakeAnswer link era) post found e s = absurd (wfe_not_he (scheme_of post) s.fits e)
-protect_tried x u buckets why aim index root steps n count (WithdrawRequest link era) post found e s = refl
 protect_tried x u buckets why aim index root steps n count (WithdrawHelper link era) post found e s = absurd (wfe_not_he (scheme_of post) s.fits e)
 protect_tried x u buckets why aim index root steps n count LoadWithin post found e s = absurd (false_not_true (is_ibr (scheme_of post)) s.scheme s.fits)
 protect_tried x u buckets why aim index root steps n count (CheckUpper link) post found e s = absurd (false_not_true (is_ibr (scheme_of post)) s.scheme s.fits)
 protect_tried x u buckets why aim index root steps n count (RaiseUpper era) post found e s = absurd (false_not_true (is_ibr (scheme_of post)) s.scheme s.fits)
+protect_tried x u buckets why aim index root steps n count at post found e s = refl
 
 reload_index : (why : Why) → reloads (kind_of why) ≡ true → (index_by why == 1) ≡ true
 reload_index (FollowsHead head tail) h = refl
-reload_index (Opens task) h = absurd (cc)
-reload_index (Fills task) h = absurd (cc)
-reload_index (ClearsNext next) h = absurd (cc)
-reload_index (Clears task next) h = absurd (cc)
-reload_index (Finishes task next) h = absurd (cc)
-reload_index (GivesUp answer) h = absurd (cc)
-reload_index (Retires answer) h = absurd (cc)
-reload_index (Tidies later) h = absurd (cc)
-reload_index Advances h = absurd (cc)
-reload_index (Releases key) h = absurd (cc)
+reload_index why h = absurd (cc)
 
 one_step_more : (made x : ℕ) → (made == 3 * x + 1) ≡ true → (made + 1 == 3 * x + 2) ≡ true
 one_step_more made x h = grind (arith, nat_tests)

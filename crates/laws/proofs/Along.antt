@@ -1,5 +1,6 @@
 -- What a record says after all that a step tells: of rows, only the events of rows count.
-use Rattle.std.proofs.Common.{ℕ, ◌≡◌, Bool, true, false, List, [], ◌∷◌, refl, sym, ap, ◌∙◌, subst, None}
+use Rattle.std.proofs.Common.{ℕ, ◌≡◌, Bool, true, false, List, [], ◌∷◌, refl, sym, ap, ◌∙◌, subst, None, arith}
+use Rattle.std.proofs.lemmas.Bool.Decides.{nat_tests}
 use Rattle.std.specs.List.{filter}
 use Rattle.std.specs.Prelude.{◌==◌, if◌then◌else◌}
 use Rattle.model_history.proofs.model.Facts.{same_number}
@@ -8,8 +9,10 @@ use Rattle.model_history.specs.Record.Past.{Then}
 use Rattle.model_history.specs.defs.Events.{is_of_rows}
 use Rattle.model_history.specs.defs.declared.event.Event.{Event}
 use Rattle.model_history.specs.defs.declared.event.Event.TheVariants as events
+use Rattle.model_history.specs.defs.declared.event.Guard.{Guard}
+use Rattle.model_history.specs.defs.declared.event.Guard.TheVariants.{Helper, Index, Whole}
 use Rattle.model_history.specs.defs.declared.lifetime.Lifetime.{Lifetime}
-use Rattle.laws.specs.StateAt.{taken_by, taken_at, retired_by, retired_at, list_by, list_of, cut_by, cut_at}
+use Rattle.laws.specs.StateAt.{taken_by, taken_at, retired_by, retired_at, list_by, list_of, cut_by, cut_at, same_guard, is_index_word}
 use Rattle.model_history.specs.model.Phases.{Base}
 use Rattle.model_history.specs.model.declared.post.Post.{Post}
 use Rattle.model_history.proofs.MayTell.{Shape, Silent, Clears, Takes, Tells, is_find}
@@ -141,3 +144,8 @@ shape_single kind ok p i c f base post found told (Takes guard span event e t q 
         by : (b : Bool) → (if b then event ∷ filter kind (other ∷ []) else filter kind (other ∷ [])) ≡ (if b then event ∷ [] else [])
         by true = ap (λ (es : List Event). event ∷ es) (kept_none kind other [] k)
         by false = kept_none kind other [] k
+
+pub index_guard : (k j : ℕ) (guard : Guard) → same_guard (Index k j) guard ≡ is_index_word k j guard
+index_guard k j (Helper seat) = refl
+index_guard k j (Index seat index) = grind (arith, nat_tests)
+index_guard k j (Whole seat) = refl

@@ -29,9 +29,9 @@ use Rattle.wfe_core.specs.Steps as steps
 use Rattle.wfe_core.specs.WriteRow.{last_written}
 use Rattle.wfe_core.specs.Phases.{Aim, Alone, Follows, BeginAt, ProtectAt, AllocateAt, RetireAt, MoveAt, Walk, Base, Turn}
 use Rattle.wfe_core.specs.Phases.BeginAt.{LoadLower, PublishSpan}
-use Rattle.wfe_core.specs.Phases.ProtectAt.{LoadClock, PublishEra, LoadLink, CheckClock, PublishRequest, LoadOwnClock, PublishHelper, LoadOwnLink, CheckOwnClock, AnswerOwn, LoadAnswer, TakeAnswer, WithdrawRequest, WithdrawHelper, LoadWithin, CheckUpper, RaiseUpper}
-use Rattle.wfe_core.specs.Phases.AllocateAt.{LoadBirth, ClaimSlot, StoreLife}
-use Rattle.wfe_core.specs.Phases.RetireAt.{LoadLife, LoadRetire, StoreRetired}
+use Rattle.wfe_core.specs.Phases.ProtectAt.{LoadClock, PublishEra, CheckClock, PublishHelper, CheckOwnClock, AnswerOwn, TakeAnswer, WithdrawHelper, CheckUpper, RaiseUpper}
+use Rattle.wfe_core.specs.Phases.AllocateAt.{ClaimSlot}
+use Rattle.wfe_core.specs.Phases.RetireAt.{StoreRetired}
 use Rattle.wfe_core.specs.Phases.MoveAt.{LoadEra, LoadRequest, ShowEra, LoadAsked, CheckEra, AnswerAsked, LoadReserved, HandOver, HideEra, HideLate, ExchangeClock}
 use Rattle.wfe_core.specs.Phases.Base.{Begin, Protect, Reload, Clear, Finish, Release, Allocate, Write, GiveUp, Retire, Move}
 use Rattle.wfe_core.specs.Calls.{Phase}
@@ -226,7 +226,7 @@ shape_if : (base : Base) (post : Post) (found : ℕ) (b : Bool) (t u : Turn) →
 shape_if base post found true t u h k = h
 shape_if base post found false t u h k = k
 
-own_two : (m n : ℕ) → (m == m && n == n) ≡ true
+pub own_two : (m n : ℕ) → (m == m && n == n) ≡ true
 own_two m n = both (m == m) (n == n) (same_number m) (same_number n)
 
 span_self : (span : Option Interval) → same_span span span ≡ true
@@ -289,32 +289,25 @@ abbrev Shaped : Base → Post → ℕ → Type 0
 Shaped base post found = Shape base post found (machine.after base post found).told
 
 protect_shape : (aim : Aim) (index : ℕ) (root : Root) (made : ℕ) (at : ProtectAt) (post : Post) (found : ℕ) → Shaped (Protect aim index root made at) post found
-protect_shape aim index root made (LoadClock tries) post found = Silent refl
 protect_shape aim index root made (PublishEra era tries) post found = Single (events.Reserve (Index post.seat index) (one_era era)) refl (own_index post.seat index (one_era era) false)
-protect_shape aim index root made (LoadLink era tries) post found = Silent refl
 protect_shape aim index root made (CheckClock era tries link) post found =
     let base : Base = Protect aim index root made (CheckClock era tries link) in
     shape_if base post found (found == era) _ _
     (concluded_shape base post found aim index root (bump made) link era (protects.held_post post index root link) (protects.told_held index root link (bump made)) (held_shape base post found index root link (bump made) (own_two index (bump made)) (own_two index (bump made)))) (Silent refl)
-protect_shape aim index root made PublishRequest post found = Silent refl
-protect_shape aim index root made LoadOwnClock post found = Silent refl
 protect_shape aim index root made (PublishHelper first era last) post found = Single (events.Reserve (Helper post.seat) (one_era era)) refl (own_span post.seat (one_era era))
-protect_shape aim index root made (LoadOwnLink first era last) post found = Silent refl
 protect_shape aim index root made (CheckOwnClock first era last link) post found = shape_if _ post found (found == era) _ _ (Silent refl) (Silent refl)
 protect_shape aim index root made (AnswerOwn first era link) post found = shape_if _ post found (found == own_request post index root) _ _ (Silent refl) (Silent refl)
-protect_shape aim index root made (LoadAnswer first) post found = Silent refl
 protect_shape aim index root made (TakeAnswer link era) post found =
     take_shape (Protect aim index root made (TakeAnswer link era)) post found index (Index post.seat index) (one_era era) root link (bump made) refl (own_index post.seat index (one_era era) false) (own_two index (bump made)) (own_two index (bump made))
-protect_shape aim index root made (WithdrawRequest link era) post found = Silent refl
 protect_shape aim index root made (WithdrawHelper link era) post found =
     let base : Base = Protect aim index root made (WithdrawHelper link era) in
     concluded_shape base post found aim index root (bump made) link era post (reserves_helper post 0) (Single (events.Reserve (Helper post.seat) None) refl (own_span post.seat None))
-protect_shape aim index root made LoadWithin post found = Silent refl
 protect_shape aim index root made (CheckUpper link) post found =
     let base : Base = Protect aim index root made (CheckUpper link) in
     shape_if base post found (found == upper post.span) _ _
     (concluded_shape base post found aim index root (bump made) link found (protects.held_post post index root link) (protects.told_held index root link (bump made)) (held_shape base post found index root link (bump made) (own_two index (bump made)) (own_two index (bump made)))) (Silent refl)
 protect_shape aim index root made (RaiseUpper era) post found = Single (events.Reserve (Whole post.seat) (from_to (lower post.span) era)) refl (own_span post.seat (from_to (lower post.span) era))
+protect_shape aim index root made at post found = Silent refl
 
 hand_shape : (era seat tag index : ℕ) (root : Root) (link old : ℕ) (post : Post) (found : ℕ) (same : Bool) → (found == reservation_word (record { era = old; tag = tag })) ≡ same
     → Shape (Move (HandOver era seat tag index root link old)) post found (movers.after_hand_over era seat tag index old post same).told
@@ -354,22 +347,18 @@ cleared_shape base post found index guard None c p = Single (events.Reserve guar
 cleared_shape base post found index guard (Some slot) c p = Clears index slot guard refl c p
 
 pub shape_of : (base : Base) (post : Post) (found : ℕ) → Shaped base post found
-shape_of (Begin LoadLower) post found = Silent refl
 shape_of (Begin (PublishSpan era)) post found = Single (events.Reserve (Whole post.seat) (from_to era era)) refl (own_span post.seat (from_to era era))
 shape_of (Protect aim index root made at) post found = protect_shape aim index root made at post found
 shape_of (Reload parent index slot era made) post found = shape_if _ post found (found == parent + 1) _ _ (Single (events.Held index slot (bump made)) refl (own_two index (bump made))) (Silent refl)
 shape_of (Clear index) post found = cleared_shape (Clear index) post found index (Index post.seat index) (stands post index) (same_number index) (own_index post.seat index None false)
 shape_of Finish post found = Single (events.Reserve (Whole post.seat) None) refl (own_span post.seat None)
 shape_of Release post found = cleared_shape Release post found 2 (Whole post.seat) (stands post 2) refl (own_span post.seat None)
-shape_of (Allocate LoadBirth) post found = Silent refl
 shape_of (Allocate (ClaimSlot birth walk)) post found = claim_shape birth walk post found (allocates.is_claimed found walk.slot) refl
-shape_of (Allocate (StoreLife birth slot)) post found = Silent refl
 shape_of (Write slot row place) post found = shape_if _ post found (place == last_written row) _ _ (Silent refl) (Silent refl)
 shape_of (GiveUp slot) post found = Single (events.Unused slot) refl (same_number slot)
-shape_of (Retire (LoadLife slot)) post found = Silent refl
-shape_of (Retire (LoadRetire slot birth)) post found = Silent refl
 shape_of (Retire (StoreRetired slot birth retire)) post found = Single (events.Retire slot birth retire) refl (both (slot == slot) (birth == birth && retire == retire) (same_number slot) (own_two birth retire))
 shape_of (Move at) post found = move_shape at post found
+shape_of base post found = Silent refl
 
 -- each event passes the test
 shape_tells : (base : Base) (post : Post) (found : ℕ) (told : List Event) → Shape base post found told → all_of (may_tell base post found) told ≡ true

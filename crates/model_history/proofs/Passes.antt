@@ -29,7 +29,7 @@ use Rattle.wfe_core.specs.Steps as steps
 use Rattle.wfe_core.specs.Rounds.{scheme_of, bucket_of, index_of, taken_of, finish_base, clear_base, clear_post, clear_told, given_up, closed, finishing_by, finishing, clearing_by, clearing, clearing_next_by, clearing_next}
 use Rattle.wfe_core.specs.Phases.{Base, Ending, Outcome, Goes, Ends}
 use Rattle.wfe_core.specs.Phases.Ending.{Done, Protected, Followed, Allocated, Retired, Clocked}
-use Rattle.wfe_core.specs.Calls.{Task, Gets, Changes, Holds, Enqueues, Dequeues, Next, Again, MakeRoom, Answering, Retiring, AfterScan, Answered, Repeated, Counted, ChangeKept, EnqueueKept, GetAt, FindVersion, FindCount, FindKey, FindValue, ChangeAt, LoadVersion, LoadCount, LoadKey, LoadValue, ExchangeRoot, EnqueueAt, LoadNumber, LoadNext, PassTail, ExchangeNext, ExchangeTail, DequeueAt, LoadTail, SwingTail, TakeNumber, TakeValue, ExchangeHead, Work, Getting, Changing, Enqueuing, Dequeuing, ScanAt, ReadGuard, GiveBack, Why, Opens, FollowsHead, Fills, ClearsNext, Clears, Finishes, GivesUp, Retires, Tidies, Advances, Releases, Phase, Idle, Runs, Scans, Works, CallTurn, CallOutcome, GoesOn, Answers}
+use Rattle.wfe_core.specs.Calls.{Task, Gets, Changes, Holds, Enqueues, Dequeues, Next, Again, MakeRoom, Answering, Retiring, AfterScan, Answered, Repeated, Counted, ChangeKept, EnqueueKept, GetAt, FindVersion, FindCount, FindKey, FindValue, ChangeAt, LoadVersion, LoadCount, LoadKey, LoadValue, ExchangeRoot, EnqueueAt, LoadNumber, LoadNext, PassTail, ExchangeNext, ExchangeTail, DequeueAt, SwingTail, ExchangeHead, Work, Getting, Changing, Enqueuing, Dequeuing, ScanAt, ReadGuard, GiveBack, Why, Opens, FollowsHead, Fills, ClearsNext, Clears, Finishes, GivesUp, Retires, Tidies, Advances, Releases, Phase, Idle, Runs, Scans, Works, CallTurn, CallOutcome, GoesOn, Answers}
 use Rattle.model_history.proofs.AllOf.{all_of, of_along}
 
 -- events of what calls read and link, and of their end
@@ -216,11 +216,9 @@ taken_goes P0 P A c head next number value post desk true h = clearing_next_goes
 taken_goes P0 P A c head next number value post desk false h = clearing_next_goes P0 P A c Again post desk [] (c.weak post [] h)
 
 dequeue_goes : (P0 P : Post → List Event → Type 0) (A : ℕ → ℕ → Type 0) (c : Closing P0 P A) (at : DequeueAt) (post : Post) (desk : Desk) (found : ℕ) → P0 post [] → Left P (dequeues.dequeue_turn at post desk found)
-dequeue_goes P0 P A c (LoadTail head) post desk found h = c.weak post [] h
 dequeue_goes P0 P A c (SwingTail head next) post desk found h = clearing_next_goes P0 P A c Again post desk (enqueues.told_link roots.Tail next (found == head + 1)) (c.links post roots.Tail next (found == head + 1) h)
-dequeue_goes P0 P A c (TakeNumber head next) post desk found h = c.weak post [] h
-dequeue_goes P0 P A c (TakeValue head next number) post desk found h = c.weak post [] h
 dequeue_goes P0 P A c (ExchangeHead head next number value) post desk found h = taken_goes P0 P A c head next number value post desk (found == head + 1) h
+dequeue_goes P0 P A c at post desk found h = c.weak post [] h
 
 -- a step of a call's own
 work_goes : (P0 P : Post → List Event → Type 0) (A : ℕ → ℕ → Type 0) (c : Closing P0 P A) (work : Work) (post : Post) (desk : Desk) (found : ℕ) → work_allows A work → P0 post [] → Left P (steps.work_turn work post desk found)
@@ -414,9 +412,7 @@ closing P c = record {
 
 get_any : (key : ℕ) (at : GetAt) → get_allows Any key at
 get_any key (FindVersion slot) = tt
-get_any key (FindCount slot version) = tt
-get_any key (FindKey slot version count pair) = tt
-get_any key (FindValue slot version pair) = tt
+get_any key at = tt
 
 null_any : (task : Task) → null_allows Any task
 null_any (Gets key) = tt

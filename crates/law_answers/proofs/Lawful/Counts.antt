@@ -12,7 +12,7 @@ use Rattle.wfe_core.specs.Posts.{counted}
 use Rattle.wfe_core.specs.Phases.{Aim, ProtectAt, Base}
 use Rattle.wfe_core.specs.Phases.ProtectAt.{CheckClock, TakeAnswer, CheckUpper}
 use Rattle.wfe_core.specs.Phases.Base.{Protect, Reload}
-use Rattle.wfe_core.specs.Calls.{Why, Opens, FollowsHead, Fills, ClearsNext, Clears, Finishes, GivesUp, Retires, Tidies, Advances, Releases, ScanAt, ReadGuard, GiveBack, Phase, Idle, Runs, Scans, Works}
+use Rattle.wfe_core.specs.Calls.{Why, FollowsHead, ScanAt, ReadGuard, GiveBack, Phase, Idle, Runs, Scans, Works}
 use Rattle.wfe_core.specs.World.{World, finds, told_in}
 use Rattle.wfe_core.proofs.Facts.{first_of, rest_of, number_is}
 use Rattle.wfe_core.specs.words.Schemes.{is_wfe}
@@ -55,16 +55,7 @@ held_one tries n false h = small tries n h
 -- the index of a reload is 1
 pub reload_index : (why : Why) (index : ℕ) → reloads (kind_of why) ≡ true → index ≡ index_by why → index ≡ 1
 reload_index (FollowsHead head tail) index h e = e
-reload_index (Opens task) index h e = absurd (cc)
-reload_index (Fills task) index h e = absurd (cc)
-reload_index (ClearsNext next) index h e = absurd (cc)
-reload_index (Clears task next) index h e = absurd (cc)
-reload_index (Finishes task next) index h e = absurd (cc)
-reload_index (GivesUp answer) index h e = absurd (cc)
-reload_index (Retires answer) index h e = absurd (cc)
-reload_index (Tidies later) index h e = absurd (cc)
-reload_index Advances index h e = absurd (cc)
-reload_index (Releases key) index h e = absurd (cc)
+reload_index why index h e = absurd (cc)
 
 -- so many steps a protection has made where it finds its row
 counts_at : (w : World) (i : ℕ) (why : Why) (aim : Aim) (index : ℕ) (root : Root) (steps : ℕ) (at : ProtectAt) → is_wfe w.layout.config.scheme ≡ true → InTime w i → (w.seat i).phase ≡ Runs why (Protect aim index root steps at) → protect_fits w.layout.config.scheme w.layout.config.tries at ≡ true → may.at_finds at ≡ true

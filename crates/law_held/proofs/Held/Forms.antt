@@ -24,7 +24,7 @@ use Rattle.wfe_core.specs.Steps as steps
 use Rattle.wfe_core.specs.WriteRow.{last_written}
 use Rattle.wfe_core.specs.Phases.{Aim, BeginAt, ProtectAt, AllocateAt, Walk, Base, Ending, Outcome, Goes, Ends, Turn, goes}
 use Rattle.wfe_core.specs.Phases.BeginAt.{LoadLower, PublishSpan}
-use Rattle.wfe_core.specs.Phases.ProtectAt.{LoadClock, PublishEra, LoadLink, CheckClock, PublishRequest, LoadOwnClock, PublishHelper, LoadOwnLink, CheckOwnClock, AnswerOwn, LoadAnswer, TakeAnswer, WithdrawRequest, WithdrawHelper, LoadWithin, CheckUpper, RaiseUpper}
+use Rattle.wfe_core.specs.Phases.ProtectAt.{PublishEra, CheckClock, PublishHelper, CheckOwnClock, AnswerOwn, TakeAnswer, WithdrawHelper, CheckUpper, RaiseUpper}
 use Rattle.wfe_core.specs.Phases.AllocateAt.{LoadBirth, ClaimSlot, StoreLife}
 use Rattle.wfe_core.specs.Phases.Base.{Begin, Protect, Reload, Clear, Allocate, Write}
 use Rattle.wfe_core.specs.Phases.Ending.{Done, Protected, Followed, Allocated, Retired, Clocked}
@@ -191,17 +191,13 @@ is_shut Advances = true
 is_shut (Releases key) = true
 
 shut_resume : (why : Why) (ending : Ending) (post : Post) (desk : Desk) (told : List Event) → is_shut why ≡ true → (steps.resume why ending post desk told).told ≡ told
-shut_resume (Opens task) ending post desk told h = absurd (cc)
-shut_resume (FollowsHead head tail) ending post desk told h = absurd (cc)
-shut_resume (Fills task) ending post desk told h = absurd (cc)
-shut_resume (ClearsNext next) ending post desk told h = absurd (cc)
-shut_resume (Clears task next) ending post desk told h = absurd (cc)
 shut_resume (Finishes task next) ending post desk told h = closed_told task next post desk told
 shut_resume (GivesUp answer) ending post desk told h = refl
 shut_resume (Retires answer) ending post desk told h = retired_told answer ending post desk told
 shut_resume (Tidies later) ending post desk told h = tidied_told later ending post desk told
 shut_resume Advances ending post desk told h = advanced_told ending post desk told
 shut_resume (Releases key) ending post desk told h = released_told key post desk told
+shut_resume why ending post desk told h = absurd (cc)
 
 shut_told : (why : Why) (desk : Desk) (post : Post) (told : List Event) (outcome : Outcome) → is_shut why ≡ true → (steps.resumed why desk post told outcome).told ≡ told
 shut_told why desk post told (Goes base) h = refl
@@ -234,23 +230,16 @@ held_shape : (why : Why) (desk : Desk) (aim : Aim) (index : ℕ) (root : Root) (
 held_shape why desk aim index root n link era post = Even (subst (λ (es : List Event). all_of is_flat es ≡ true) (sym (concluded_told aim index root n link era (protects.held_post post index root link) (told_held index root link n))) (held_flat index root link n))
 
 protect_shape : (scheme : SchemeKind) (most : ℕ) (why : Why) (desk : Desk) (aim : Aim) (index : ℕ) (root : Root) (made n : ℕ) (at : ProtectAt) (post : Post) (found : ℕ) → protect_fits scheme most at ≡ true → is_ibr scheme ≡ true → takes (Protect aim index root made at) ≡ false → Shapes why desk (machine.protect_turn aim index root n at post found)
-protect_shape scheme most why desk aim index root made n (LoadClock tries) post found f i t = Even refl
 protect_shape scheme most why desk aim index root made n (PublishEra era tries) post found f i t = one_shape why desk _ (machine.protect_turn aim index root n (PublishEra era tries) post found) refl refl
-protect_shape scheme most why desk aim index root made n (LoadLink era tries) post found f i t = Even refl
 protect_shape scheme most why desk aim index root made n (CheckClock era tries link) post found f i t = if_shape why desk (found == era) _ _ (held_shape why desk aim index root n link era post) (Even refl)
-protect_shape scheme most why desk aim index root made n PublishRequest post found f i t = Even refl
-protect_shape scheme most why desk aim index root made n LoadOwnClock post found f i t = Even refl
 protect_shape scheme most why desk aim index root made n (PublishHelper first era last) post found f i t = one_shape why desk _ (machine.protect_turn aim index root n (PublishHelper first era last) post found) refl refl
-protect_shape scheme most why desk aim index root made n (LoadOwnLink first era last) post found f i t = Even refl
 protect_shape scheme most why desk aim index root made n (CheckOwnClock first era last link) post found f i t = if_shape why desk (found == era) _ _ (Even refl) (Even refl)
 protect_shape scheme most why desk aim index root made n (AnswerOwn first era link) post found f i t = if_shape why desk (found == own_request post index root) _ _ (Even refl) (Even refl)
-protect_shape scheme most why desk aim index root made n (LoadAnswer first) post found f i t = Even refl
 protect_shape scheme most why desk aim index root made n (TakeAnswer link era) post found f i t = absurd (cc)
-protect_shape scheme most why desk aim index root made n (WithdrawRequest link era) post found f i t = Even refl
 protect_shape scheme most why desk aim index root made n (WithdrawHelper link era) post found f i t = absurd (wfe_not_ibr scheme f i)
-protect_shape scheme most why desk aim index root made n LoadWithin post found f i t = Even refl
 protect_shape scheme most why desk aim index root made n (CheckUpper link) post found f i t = if_shape why desk (found == upper post.span) _ _ (held_shape why desk aim index root n link found post) (Even refl)
 protect_shape scheme most why desk aim index root made n (RaiseUpper era) post found f i t = one_shape why desk _ (machine.protect_turn aim index root n (RaiseUpper era) post found) refl refl
+protect_shape scheme most why desk aim index root made n at post found f i t = Even refl
 
 walking_shape : (why : Why) (desk : Desk) (birth : ℕ) (post : Post) (x : Option Walk) → Shapes why desk (allocates.walking birth post x)
 walking_shape why desk birth post None = Even refl

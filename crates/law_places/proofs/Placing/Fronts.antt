@@ -206,11 +206,9 @@ taken_starts head next number value post desk true = clearing_next_starts (Retir
 taken_starts head next number value post desk false = clearing_next_starts Again post desk []
 
 dequeue_starts : (at : DequeueAt) (post : Post) (desk : Desk) (found : ℕ) → Starts (dequeue_front at found) (dequeues.dequeue_turn at post desk found)
-dequeue_starts (LoadTail head) post desk found = here [] post desk _
 dequeue_starts (SwingTail head next) post desk found = clearing_next_starts Again post desk (enqueues.told_link roots.Tail next (found == head + 1))
-dequeue_starts (TakeNumber head next) post desk found = here [] post desk _
-dequeue_starts (TakeValue head next number) post desk found = here [] post desk _
 dequeue_starts (ExchangeHead head next number value) post desk found = taken_starts head next number value post desk (found == head + 1)
+dequeue_starts at post desk found = here [] post desk _
 
 abbrev pub work_front : Work → Post → ℕ → List Event
 work_front (Getting key at) post found = []

@@ -15,11 +15,11 @@ use Rattle.wfe_core.specs.Protect as protects
 use Rattle.wfe_core.specs.Steps as steps
 use Rattle.wfe_core.specs.Phases.{Aim, Alone, Follows, BeginAt, ProtectAt, AllocateAt, RetireAt, MoveAt, Walk, Base, Turn, Outcome, Goes, Ends}
 use Rattle.wfe_core.specs.Phases.BeginAt.{LoadLower, PublishSpan}
-use Rattle.wfe_core.specs.Phases.ProtectAt.{LoadClock, PublishEra, LoadLink, CheckClock, PublishRequest, LoadOwnClock, PublishHelper, LoadOwnLink, CheckOwnClock, AnswerOwn, LoadAnswer, TakeAnswer, WithdrawRequest, WithdrawHelper, LoadWithin, CheckUpper, RaiseUpper}
+use Rattle.wfe_core.specs.Phases.ProtectAt.{CheckClock, CheckOwnClock, AnswerOwn, WithdrawHelper, CheckUpper}
 use Rattle.wfe_core.specs.Phases.AllocateAt.{LoadBirth, ClaimSlot, StoreLife}
 use Rattle.wfe_core.specs.Phases.RetireAt.{LoadLife, LoadRetire, StoreRetired}
-use Rattle.wfe_core.specs.Phases.MoveAt.{LoadEra, LoadRequest, ShowEra, LoadAsked, CheckEra, AnswerAsked, LoadReserved, HandOver, HideEra, HideLate, ExchangeClock}
-use Rattle.wfe_core.specs.Phases.Base.{Begin, Protect, Reload, Clear, Finish, Release, Allocate, Write, GiveUp, Retire, Move}
+use Rattle.wfe_core.specs.Phases.MoveAt.{LoadEra, CheckEra, AnswerAsked, LoadReserved, HandOver, ExchangeClock}
+use Rattle.wfe_core.specs.Phases.Base.{Begin, Protect, Reload, Allocate, Write, Retire, Move}
 use Rattle.wfe_core.specs.Calls.{Runs, Works, Why, Work}
 use Rattle.inv_all.proofs.history.Passes.{is_quiet}
 use Rattle.wfe_core.specs.words.Packed.{read_reservation, reservation_word}
@@ -101,23 +101,12 @@ protected_keeps : (aim : Aim) (index : ℕ) (root : Root) (n link era : ℕ) (po
 protected_keeps aim index root n link era post = concluded_keeps aim index root n link era (protects.held_post post index root link) (protects.told_held index root link n)
 
 protect_keeps : (aim : Aim) (index : ℕ) (root : Root) (n : ℕ) (at : ProtectAt) (post : Post) (found : ℕ) → keeps_list (machine.protect_turn aim index root n at post found).outcome ≡ true
-protect_keeps aim index root n (LoadClock tries) post found = refl
-protect_keeps aim index root n (PublishEra era tries) post found = refl
-protect_keeps aim index root n (LoadLink era tries) post found = refl
 protect_keeps aim index root n (CheckClock era tries link) post found = either_keeps _ _ (found == era) (protected_keeps aim index root n link era post) refl
-protect_keeps aim index root n PublishRequest post found = refl
-protect_keeps aim index root n LoadOwnClock post found = refl
-protect_keeps aim index root n (PublishHelper first era last) post found = refl
-protect_keeps aim index root n (LoadOwnLink first era last) post found = refl
 protect_keeps aim index root n (CheckOwnClock first era last link) post found = either_keeps _ _ (found == era) refl refl
 protect_keeps aim index root n (AnswerOwn first era link) post found = either_keeps _ _ (found == own_request post index root) refl refl
-protect_keeps aim index root n (LoadAnswer first) post found = refl
-protect_keeps aim index root n (TakeAnswer link era) post found = refl
-protect_keeps aim index root n (WithdrawRequest link era) post found = refl
 protect_keeps aim index root n (WithdrawHelper link era) post found = concluded_keeps aim index root n link era post (reserves_helper post 0)
-protect_keeps aim index root n LoadWithin post found = refl
 protect_keeps aim index root n (CheckUpper link) post found = either_keeps _ _ (found == upper post.span) (protected_keeps aim index root n link found post) refl
-protect_keeps aim index root n (RaiseUpper era) post found = refl
+protect_keeps aim index root n at post found = refl
 
 hand_keeps : (era seat tag index old : ℕ) (post : Post) (same : Bool) → keeps_list (movers.after_hand_over era seat tag index old post same).outcome ≡ true
 hand_keeps era seat tag index old post true = refl
@@ -125,16 +114,12 @@ hand_keeps era seat tag index old post false = refl
 
 move_keeps : (at : MoveAt) (post : Post) (found : ℕ) → keeps_list (machine.move_turn at post found).outcome ≡ true
 move_keeps (LoadEra helps) post found = either_keeps _ _ (found == post.layout.config.last_era) refl refl
-move_keeps (LoadRequest era seat shows) post found = refl
-move_keeps (ShowEra era seat tag index root) post found = refl
-move_keeps (LoadAsked era seat tag index root) post found = refl
 move_keeps (CheckEra era seat tag index root link) post found = either_keeps _ _ (found == era) refl refl
 move_keeps (AnswerAsked era seat tag index root link) post found = either_keeps _ _ (found == asking post.layout tag index root) refl refl
 move_keeps (LoadReserved era seat tag index root link) post found = either_keeps _ _ ((read_reservation found).tag == tag) refl refl
 move_keeps (HandOver era seat tag index root link old) post found = hand_keeps era seat tag index old post (found == reservation_word (record { era = old; tag = tag }))
-move_keeps (HideEra era) post found = refl
-move_keeps (HideLate seen) post found = refl
 move_keeps (ExchangeClock era) post found = either_keeps _ _ (found == era) refl refl
+move_keeps at post found = refl
 
 walking_keeps : (birth : ℕ) (post : Post) (x : Option Walk) → keeps_list (allocates.walking birth post x).outcome ≡ true
 walking_keeps birth post None = refl
@@ -168,11 +153,8 @@ pub base_keeps : (base : Base) (post : Post) (found : ℕ) → ends_life base �
 base_keeps (Begin at) post found h = begin_keeps at post found
 base_keeps (Protect aim index root steps at) post found h = protect_keeps aim index root (bump steps) at post found
 base_keeps (Reload parent index slot era steps) post found h = either_keeps _ _ (found == parent + 1) refl refl
-base_keeps (Clear index) post found h = refl
-base_keeps Finish post found h = refl
-base_keeps Release post found h = refl
 base_keeps (Allocate at) post found h = allocate_keeps at post found
 base_keeps (Write slot row place) post found h = either_keeps _ _ (place == last_written row) refl refl
-base_keeps (GiveUp slot) post found h = refl
 base_keeps (Retire at) post found h = retire_keeps at post found h
 base_keeps (Move at) post found h = move_keeps at post found
+base_keeps base post found h = refl

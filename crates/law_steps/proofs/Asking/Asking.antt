@@ -153,15 +153,7 @@ task_once c i p Dequeues h = or_left (failed_at c.tries i 0 p) (failed_at c.trie
 why_once : (c : Config) (i : ℕ) (p : Past) (why : Why) (aim : Aim) (index : ℕ) (root : Root) (steps : ℕ) (at : ProtectAt) → suits (Protect aim index root steps at) (kind_of why) ≡ true → failed_at c.tries i (index_by why) p ≡ true → failed_once c.tries i p ≡ true
 why_once c i p (Opens task) aim index root steps at s h = task_once c i p task h
 why_once c i p (FollowsHead head tail) aim index root steps at s h = or_right (failed_at c.tries i 0 p) (failed_at c.tries i 1 p || failed_at c.tries i 2 p) (or_left (failed_at c.tries i 1 p) (failed_at c.tries i 2 p) h)
-why_once c i p (Fills task) aim index root steps at s h = absurd (cc)
-why_once c i p (ClearsNext next) aim index root steps at s h = absurd (cc)
-why_once c i p (Clears task next) aim index root steps at s h = absurd (cc)
-why_once c i p (Finishes task next) aim index root steps at s h = absurd (cc)
-why_once c i p (GivesUp answer) aim index root steps at s h = absurd (cc)
-why_once c i p (Retires answer) aim index root steps at s h = absurd (cc)
-why_once c i p (Tidies later) aim index root steps at s h = absurd (cc)
-why_once c i p Advances aim index root steps at s h = absurd (cc)
-why_once c i p (Releases key) aim index root steps at s h = absurd (cc)
+why_once c i p why aim index root steps at s h = absurd (cc)
 
 protect_asks : (c : Config) (i : ℕ) (p : Past) (buckets last : ℕ) (why : Why) (aim : Aim) (index : ℕ) (root : Root) (steps : ℕ) (at : ProtectAt) (post : Post) (found : ℕ) → Site c i p buckets found last why (Protect aim index root steps at) → Asks c i (machine.protect_turn aim index root (bump steps) at post found).told p
 protect_asks c i p buckets last why aim index root steps (PublishEra era tries) post found s = index_asks c i p post index era s.shown

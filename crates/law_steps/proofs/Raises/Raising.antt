@@ -19,10 +19,10 @@ use Rattle.wfe_core.specs.SlowPath as slow
 use Rattle.wfe_core.specs.WriteRow.{last_written}
 use Rattle.wfe_core.specs.Phases.{ProtectAt, MoveAt, Walk, Base, Turn, Outcome, Goes, Ends}
 use Rattle.wfe_core.specs.Phases.ProtectAt.{LoadWithin, CheckUpper, RaiseUpper}
-use Rattle.wfe_core.specs.Phases.AllocateAt.{LoadBirth, ClaimSlot, StoreLife}
-use Rattle.wfe_core.specs.Phases.RetireAt.{LoadLife, LoadRetire, StoreRetired}
-use Rattle.wfe_core.specs.Phases.MoveAt.{LoadEra, LoadRequest, ShowEra, LoadAsked, CheckEra, AnswerAsked, LoadReserved, HandOver, HideEra, HideLate, ExchangeClock}
-use Rattle.wfe_core.specs.Phases.Base.{Begin, Protect, Reload, Clear, Finish, Release, Allocate, Write, GiveUp, Retire, Move}
+use Rattle.wfe_core.specs.Phases.AllocateAt.{ClaimSlot}
+use Rattle.wfe_core.specs.Phases.RetireAt.{LoadLife}
+use Rattle.wfe_core.specs.Phases.MoveAt.{LoadEra, CheckEra, AnswerAsked, LoadReserved, HandOver, ExchangeClock}
+use Rattle.wfe_core.specs.Phases.Base.{Begin, Protect, Reload, Clear, Finish, Release, Allocate, Write, Retire, Move}
 use Rattle.wfe_core.specs.Phases.Ending.{Followed}
 use Rattle.wfe_core.proofs.Facts.{both, first_of, rest_of}
 use Rattle.inv_all.proofs.history.Passes.{is_quiet, all_quiet, Closed}
@@ -195,26 +195,17 @@ handed_span era seat tag index old post false = refl
 
 move_span : (at : MoveAt) (post : Post) (found : ℕ) → (machine.move_turn at post found).post.span ≡ post.span
 move_span (LoadEra helps) post found = span_if post (found == post.layout.config.last_era) _ _ refl refl
-move_span (LoadRequest era seat shows) post found = refl
-move_span (ShowEra era seat tag index root) post found = refl
-move_span (LoadAsked era seat tag index root) post found = refl
 move_span (CheckEra era seat tag index root link) post found = span_if post (found == era) _ _ refl refl
 move_span (AnswerAsked era seat tag index root link) post found = span_if post (found == slow.asking post.layout tag index root) _ _ refl refl
 move_span (LoadReserved era seat tag index root link) post found = span_if post ((read_reservation found).tag == tag) _ _ refl refl
 move_span (HandOver era seat tag index root link old) post found = handed_span era seat tag index old post (found == reservation_word (record { era = old; tag = tag }))
-move_span (HideEra era) post found = refl
-move_span (HideLate seen) post found = refl
 move_span (ExchangeClock era) post found = span_if post (found == era) _ _ refl refl
+move_span at post found = refl
 
 pub calm_span : (base : Base) (post : Post) (found : ℕ) → is_calm base ≡ true → (machine.after base post found).post.span ≡ post.span
-calm_span (Allocate LoadBirth) post found h = refl
 calm_span (Allocate (ClaimSlot birth walk)) post found h = span_if post (allocates.is_claimed found walk.slot) _ _ (walking_span birth post (allocates.walk_past post.layout.config.slots walk found)) refl
-calm_span (Allocate (StoreLife birth slot)) post found h = refl
 calm_span (Write slot row place) post found h = span_if post (place == last_written row) _ _ refl refl
-calm_span (GiveUp slot) post found h = refl
 calm_span (Retire (LoadLife slot)) post found h = refl
-calm_span (Retire (LoadRetire slot birth)) post found h = refl
-calm_span (Retire (StoreRetired slot birth retire)) post found h = refl
 calm_span (Move at) post found h = move_span at post found
 calm_span (Begin at) post found h = absurd (cc)
 calm_span (Protect aim index root steps at) post found h = absurd (cc)
@@ -222,3 +213,4 @@ calm_span (Reload parent index slot era steps) post found h = absurd (cc)
 calm_span (Clear index) post found h = absurd (cc)
 calm_span Finish post found h = absurd (cc)
 calm_span Release post found h = absurd (cc)
+calm_span base post found h = refl

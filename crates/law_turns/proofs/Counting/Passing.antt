@@ -25,7 +25,7 @@ use Rattle.wfe_core.specs.Phases.{Tries, Endless, Failed, ProtectAt, Base}
 use Rattle.wfe_core.specs.Phases.ProtectAt.{PublishEra, LoadLink, PublishRequest, TakeAnswer}
 use Rattle.wfe_core.specs.Phases.MoveAt.{HandOver}
 use Rattle.wfe_core.specs.Phases.Base.{Protect, Clear, Move}
-use Rattle.wfe_core.specs.Calls.{Task, Gets, Changes, Holds, Enqueues, Dequeues, Why, Opens, FollowsHead, Fills, ClearsNext, Clears, Finishes, GivesUp, Retires, Tidies, Advances, Releases}
+use Rattle.wfe_core.specs.Calls.{Task, Gets, Changes, Holds, Enqueues, Dequeues, Why, Opens, FollowsHead}
 use Rattle.wfe_core.proofs.Facts.{same_number, both}
 use Rattle.wfe_core.specs.words.Schemes.{is_ibr, is_he}
 use Rattle.inv_all.specs.shapes.Seats.{try_fits, index_by, root_by, kind_of, protects}
@@ -200,29 +200,13 @@ held_taken buckets (Opens (Holds key)) index root link post p i r h = rw i (rw r
 held_taken buckets (Opens (Enqueues kept)) index root link post p i r h = taken_other index link _ (rw i refl)
 held_taken buckets (Opens Dequeues) index root link post p i r h = taken_other index link _ (rw i refl)
 held_taken buckets (FollowsHead head tail) index root link post p i r h = taken_other index link _ (rw i refl)
-held_taken buckets (Fills task) index root link post p i r h = absurd (cc)
-held_taken buckets (ClearsNext next) index root link post p i r h = absurd (cc)
-held_taken buckets (Clears task next) index root link post p i r h = absurd (cc)
-held_taken buckets (Finishes task next) index root link post p i r h = absurd (cc)
-held_taken buckets (GivesUp answer) index root link post p i r h = absurd (cc)
-held_taken buckets (Retires answer) index root link post p i r h = absurd (cc)
-held_taken buckets (Tidies later) index root link post p i r h = absurd (cc)
-held_taken buckets Advances index root link post p i r h = absurd (cc)
-held_taken buckets (Releases key) index root link post p i r h = absurd (cc)
+held_taken buckets why index root link post p i r h = absurd (cc)
 
 -- the index of a protection is not free, and it is 2 for a hold alone
 why_apart : (why : Why) (index j : ℕ) → protects (kind_of why) ≡ true → index ≡ index_by why → free_why why j ≡ true → (index == j) ≡ false
 why_apart (Opens task) index j p i e = rw i (grind (arith, nat_tests))
 why_apart (FollowsHead head tail) index j p i e = rw i (grind (arith, nat_tests))
-why_apart (Fills task) index j p i e = absurd (cc)
-why_apart (ClearsNext next) index j p i e = absurd (cc)
-why_apart (Clears task next) index j p i e = absurd (cc)
-why_apart (Finishes task next) index j p i e = absurd (cc)
-why_apart (GivesUp answer) index j p i e = absurd (cc)
-why_apart (Retires answer) index j p i e = absurd (cc)
-why_apart (Tidies later) index j p i e = absurd (cc)
-why_apart Advances index j p i e = absurd (cc)
-why_apart (Releases key) index j p i e = absurd (cc)
+why_apart why index j p i e = absurd (cc)
 
 task_apart : (task : Task) → is_hold task ≡ false → (index_of task == 2) ≡ false
 task_apart (Gets key) e = refl
@@ -234,15 +218,7 @@ task_apart Dequeues e = refl
 two_apart : (why : Why) (index : ℕ) → protects (kind_of why) ≡ true → index ≡ index_by why → holds_why why ≡ false → (index == 2) ≡ false
 two_apart (Opens task) index p i e = rw i (task_apart task e)
 two_apart (FollowsHead head tail) index p i e = rw i refl
-two_apart (Fills task) index p i e = absurd (cc)
-two_apart (ClearsNext next) index p i e = absurd (cc)
-two_apart (Clears task next) index p i e = absurd (cc)
-two_apart (Finishes task next) index p i e = absurd (cc)
-two_apart (GivesUp answer) index p i e = absurd (cc)
-two_apart (Retires answer) index p i e = absurd (cc)
-two_apart (Tidies later) index p i e = absurd (cc)
-two_apart Advances index p i e = absurd (cc)
-two_apart (Releases key) index p i e = absurd (cc)
+two_apart why index p i e = absurd (cc)
 
 x_apart : (index : ℕ) (at : ProtectAt) (j n : ℕ) → (index == j) ≡ false → protect_x index at j n ≡ n
 x_apart index (PublishEra era tries) j n e = rw e refl

@@ -21,7 +21,7 @@ use Rattle.wfe_core.specs.Phases.{Aim, ProtectAt, AllocateAt, RetireAt, MoveAt, 
 use Rattle.wfe_core.specs.defs.declared.event.Root.{Root}
 use Rattle.wfe_core.specs.Phases.AllocateAt.{LoadBirth, ClaimSlot, StoreLife}
 use Rattle.wfe_core.specs.Phases.RetireAt.{LoadLife, LoadRetire, StoreRetired}
-use Rattle.wfe_core.specs.Phases.MoveAt.{LoadEra, LoadRequest, ShowEra, LoadAsked, CheckEra, AnswerAsked, LoadReserved, HandOver, HideEra, HideLate, ExchangeClock}
+use Rattle.wfe_core.specs.Phases.MoveAt.{LoadEra, CheckEra, AnswerAsked, LoadReserved, HandOver, ExchangeClock}
 use Rattle.wfe_core.specs.Phases.Base.{Begin, Protect, Reload, Clear, Finish, Release, Allocate, Write, GiveUp, Retire, Move}
 use Rattle.wfe_core.specs.declared.ends.FollowEnd.TheVariants as follow_ends
 use Rattle.wfe_core.specs.Phases.Ending.{Followed}
@@ -116,29 +116,20 @@ handed_stays era seat tag index old post false = refl
 
 move_stays : (at : MoveAt) (post : Post) (found : ℕ) → stands (machine.move_turn at post found).post 2 ≡ stands post 2
 move_stays (LoadEra helps) post found = stays_if post (found == post.layout.config.last_era) _ _ refl refl
-move_stays (LoadRequest era seat shows) post found = refl
-move_stays (ShowEra era seat tag index root) post found = refl
-move_stays (LoadAsked era seat tag index root) post found = refl
 move_stays (CheckEra era seat tag index root link) post found = stays_if post (found == era) _ _ refl refl
 move_stays (AnswerAsked era seat tag index root link) post found = stays_if post (found == asking post.layout tag index root) _ _ refl refl
 move_stays (LoadReserved era seat tag index root link) post found = stays_if post ((read_reservation found).tag == tag) _ _ refl refl
 move_stays (HandOver era seat tag index root link old) post found = handed_stays era seat tag index old post (found == reservation_word (record { era = old; tag = tag }))
-move_stays (HideEra era) post found = refl
-move_stays (HideLate seen) post found = refl
 move_stays (ExchangeClock era) post found = stays_if post (found == era) _ _ refl refl
+move_stays at post found = refl
 
 calm_stays : (base : Base) (post : Post) (found : ℕ) → is_calm base ≡ true → stands (machine.after base post found).post 2 ≡ stands post 2
-calm_stays (Begin at) post found h = absurd (cc)
-calm_stays (Protect aim index root count at) post found h = absurd (cc)
-calm_stays (Reload parent index slot era count) post found h = absurd (cc)
-calm_stays (Clear index) post found h = absurd (cc)
-calm_stays Finish post found h = absurd (cc)
-calm_stays Release post found h = absurd (cc)
 calm_stays (Allocate at) post found h = allocate_stays at post found
 calm_stays (Write slot row place) post found h = stays_if post (place == last_written row) _ _ refl refl
 calm_stays (GiveUp slot) post found h = refl
 calm_stays (Retire at) post found h = retire_stays at post found
 calm_stays (Move at) post found h = move_stays at post found
+calm_stays base post found h = absurd (cc)
 
 abbrev pub x_after : (ℕ → ℕ) → Base → ℕ → ℕ
 x_after x base j = after_x base j (x j)

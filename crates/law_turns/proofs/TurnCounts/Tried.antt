@@ -59,42 +59,15 @@ alone_tells buckets (Opens (Changes kept)) aim root link p a r e = rw r refl
 alone_tells buckets (Opens (Holds key)) aim root link p a r e = rw r refl
 alone_tells buckets (Opens (Enqueues kept)) aim root link p a r e = rw r refl
 alone_tells buckets (Opens Dequeues) aim root link p a r e = rw r refl
-alone_tells buckets (FollowsHead head tail) aim root link p a r e = absurd (cc)
-alone_tells buckets (Fills task) aim root link p a r e = absurd (cc)
-alone_tells buckets (ClearsNext next) aim root link p a r e = absurd (cc)
-alone_tells buckets (Clears task next) aim root link p a r e = absurd (cc)
-alone_tells buckets (Finishes task next) aim root link p a r e = absurd (cc)
-alone_tells buckets (GivesUp answer) aim root link p a r e = absurd (cc)
-alone_tells buckets (Retires answer) aim root link p a r e = absurd (cc)
-alone_tells buckets (Tidies later) aim root link p a r e = absurd (cc)
-alone_tells buckets Advances aim root link p a r e = absurd (cc)
-alone_tells buckets (Releases key) aim root link p a r e = absurd (cc)
+alone_tells buckets why aim root link p a r e = absurd (cc)
 
 follows_one : (why : Why) (aim : Aim) (index : ℕ) → protects (kind_of why) ≡ true → aim ≡ aim_by why → index ≡ index_by why → aim ≡ Follows → index ≡ 1
-follows_one (Opens task) aim index p a r e = absurd (cc)
 follows_one (FollowsHead head tail) aim index p a r e = r
-follows_one (Fills task) aim index p a r e = absurd (cc)
-follows_one (ClearsNext next) aim index p a r e = absurd (cc)
-follows_one (Clears task next) aim index p a r e = absurd (cc)
-follows_one (Finishes task next) aim index p a r e = absurd (cc)
-follows_one (GivesUp answer) aim index p a r e = absurd (cc)
-follows_one (Retires answer) aim index p a r e = absurd (cc)
-follows_one (Tidies later) aim index p a r e = absurd (cc)
-follows_one Advances aim index p a r e = absurd (cc)
-follows_one (Releases key) aim index p a r e = absurd (cc)
+follows_one why aim index p a r e = absurd (cc)
 
 pub reload_one : (why : Why) → reloads (kind_of why) ≡ true → index_by why ≡ 1
 reload_one (FollowsHead head tail) h = refl
-reload_one (Opens task) h = absurd (cc)
-reload_one (Fills task) h = absurd (cc)
-reload_one (ClearsNext next) h = absurd (cc)
-reload_one (Clears task next) h = absurd (cc)
-reload_one (Finishes task next) h = absurd (cc)
-reload_one (GivesUp answer) h = absurd (cc)
-reload_one (Retires answer) h = absurd (cc)
-reload_one (Tidies later) h = absurd (cc)
-reload_one Advances h = absurd (cc)
-reload_one (Releases key) h = absurd (cc)
+reload_one why h = absurd (cc)
 
 -- a machine other than a protection
 abbrev pub is_other : Base → Bool
@@ -163,17 +136,12 @@ calm_is (Reload parent index slot era steps) h = absurd (cc)
 calm_is base h = refl
 
 calm_why : (c : Config) (turns : ℕ) (why : Why) (base : Base) (j x last : ℕ) → calm_kind (kind_of why) ≡ true → is_calm base ≡ true → why_tried c turns why base j x last ≡ true → x ≡ 0
-calm_why c turns (ClearsNext next) base j x last k b h = absurd (cc)
-calm_why c turns (Opens task) base j x last k b h = absurd (cc)
-calm_why c turns (FollowsHead head tail) base j x last k b h = absurd (cc)
-calm_why c turns (Clears task next) base j x last k b h = absurd (cc)
-calm_why c turns (Finishes task next) base j x last k b h = absurd (cc)
-calm_why c turns (Releases key) base j x last k b h = absurd (cc)
 calm_why c turns (Fills task) base j x last k b h = zero_of_test x (sym (other_tried c base j x last (calm_is base b)) ∙ h)
 calm_why c turns (GivesUp answer) base j x last k b h = zero_of_test x (sym (other_tried c base j x last (calm_is base b)) ∙ h)
 calm_why c turns (Retires answer) base j x last k b h = zero_of_test x (sym (other_tried c base j x last (calm_is base b)) ∙ h)
 calm_why c turns (Tidies later) base j x last k b h = zero_of_test x (sym (other_tried c base j x last (calm_is base b)) ∙ h)
 calm_why c turns Advances base j x last k b h = zero_of_test x (sym (other_tried c base j x last (calm_is base b)) ∙ h)
+calm_why c turns why base j x last k b h = absurd (cc)
 
 calm_made : (moved : Bool) (c : Config) (i j x last turns : ℕ) (layout : Layout) (why : Why) (base : Base) (post : Post) (found : ℕ) → calm_kind (kind_of why) ≡ true → Stage c i j x last turns layout why base post found → Made moved c i j x last (machine.after base post found)
 calm_made moved c i j x last turns layout why base post found k s =
