@@ -1,6 +1,5 @@
 -- A law that looks at events alone holds of the record of each history, where it holds of all that a step tells.
 use Rattle.std.proofs.Common.{ℕ, ◌≡◌, ◌<◌, Bool, true, List, [], ◌∷◌, refl}
-use Rattle.std.specs.Prelude.{◌&&◌}
 use Rattle.wfe_core.specs.words.Place.{is_valid}
 use Rattle.wfe_core.specs.words.declared.layout.Layout.{Layout}
 use Rattle.wfe_core.specs.defs.declared.call.Call.{Call}
@@ -16,10 +15,7 @@ use Rattle.model_history.proofs.Along.{Steady, items_keep}
 use Rattle.inv_all.specs.Inv.{Inv}
 use Rattle.inv_all.proofs.Inv.Begun.{inv_start, inv_begin}
 use Rattle.inv_all.proofs.Inv.Kept.{inv_kept}
-
-abbrev pub all_of : (Event → Bool) → List Event → Bool
-all_of ok [] = true
-all_of ok (event ∷ told) = ok event && all_of ok told
+use Rattle.model_history.proofs.AllOf.{all_of}
 
 abbrev pub of_event : (Event → Bool) → Test
 of_event ok p i event = ok event

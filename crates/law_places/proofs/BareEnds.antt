@@ -19,11 +19,11 @@ use Rattle.inv_all.specs.Inv.{Inv}
 use Rattle.inv_all.specs.history.Record.{Past, Each, tells_of}
 use Rattle.inv_all.specs.history.Record.Past.{Then}
 use Rattle.inv_all.proofs.history.Entries.{entries_of_each}
-use Rattle.inv_all.specs.history.History.{Item, Begins, Steps, Made, fits, done, done_if, did, made_from, made_of, first_made, record_of}
-use Rattle.inv_all.proofs.history.Along.{begins_right, low_seat, made_snoc}
+use Rattle.inv_all.specs.history.History.{Item, Begins, Steps, Made, fits, done, done_if, made_of, first_made, record_of, world_of}
+use Rattle.inv_all.proofs.history.Along.{begins_right, low_seat, made_snoc, paths_keep}
 use Rattle.laws.specs.StateAt.{stood_at}
 use Rattle.law_reuse.proofs.Reuse.Keeps.{record_stands}
-use Rattle.inv_all.proofs.Each.{all_of}
+use Rattle.inv_all.proofs.history.AllOf.{all_of}
 use Rattle.law_answers.proofs.AnswersTold.Owed.{is_open, Owes, owed}
 use Rattle.law_answers.proofs.AnswersTold.Answering.{owes_of}
 use Rattle.law_answers.proofs.AnswersTold.Answering as answering
@@ -91,13 +91,12 @@ item_bare layout made (Begins i call) true f s g =
 item_bare layout made (Steps i) true f s g =
     step_bare layout made i (low_seat i made.world.layout.config.seats (is_busy made.world i) f) (rest_of (nat_lt i made.world.layout.config.seats) (is_busy made.world i) f) s g
 
-items_bare : (layout : Layout) (items path : List Item) (made : Made) → is_valid layout ≡ true → made ≡ made_of layout path → Bare layout made → Bare layout (made_from made items)
-items_bare layout [] path made d e g = g
-items_bare layout (item ∷ items) path made d e g =
-    let q : did made item ≡ made_of layout (path ++ item ∷ []) = ap (λ (m : Made). did m item) e ∙ sym (made_snoc (first_made layout) path item) in
-    items_bare layout items (path ++ item ∷ []) (did made item) d q (item_bare layout made item (fits made.world item) refl (stood_of layout (path ++ item ∷ []) (did made item) d q) g)
+path_bare : (layout : Layout) → is_valid layout ≡ true → (path : List Item) (item : Item) (fit : Bool) → fits (world_of layout path) item ≡ fit → Bare layout (made_of layout path) → Bare layout (done_if (made_of layout path) item fit)
+path_bare layout d path item fit f g =
+    let e : done_if (made_of layout path) item fit ≡ made_of layout (path ++ item ∷ []) = ap (done_if (made_of layout path) item) (sym f) ∙ sym (made_snoc (first_made layout) path item) in
+    item_bare layout (made_of layout path) item fit f (stood_of layout (path ++ item ∷ []) (done_if (made_of layout path) item fit) d e) g
 
 pub records_end_bare : RecordsEndBare
 records_end_bare layout items d j =
-    let g = items_bare layout items [] (first_made layout) d refl (record { answers = answering.first_keeps layout d; law = λ k. tt }) in
+    let g = paths_keep layout (Bare layout) (path_bare layout d) (record { answers = answering.first_keeps layout d; law = λ k. tt }) items in
     entries_of_each (bare_ok j) (record_of layout items) (g.law j)

@@ -1,30 +1,26 @@
 -- Under Hazard Eras a protection's number is that of its tries.
-use Rattle.std.proofs.Common.{ℕ, ◌≡◌, ◌<◌, ◌-◌, ◌+◌, Bool, true, false, List, [], ◌∷◌, ◌++◌, refl, ap, ◌∙◌, arith}
+use Rattle.std.proofs.Common.{ℕ, ◌≡◌, ◌<◌, ◌+◌, Bool, true, false, List, [], ◌∷◌, ◌++◌, refl, ap, ◌∙◌, arith}
 use Rattle.std.proofs.lemmas.Bool.Decides.{nat_tests}
 use Rattle.std.specs.Prelude.{◌==◌, ◌&&◌, ◌||◌, ◌*◌, not, nat_le, if◌then◌else◌}
-use Rattle.wfe_core.specs.words.Packed.{reservation_word}
 use Rattle.wfe_core.specs.words.declared.config.SchemeKind.{SchemeKind}
 use Rattle.wfe_core.specs.words.declared.config.SchemeKind.TheVariants.{He, Ibr, Wfe}
 use Rattle.wfe_core.specs.words.declared.layout.Layout.{Layout}
 use Rattle.wfe_core.specs.defs.declared.event.Event.{Event}
 use Rattle.wfe_core.specs.defs.declared.event.Event.TheVariants as events
 use Rattle.wfe_core.specs.defs.declared.event.Root.{Root}
-use Rattle.wfe_core.specs.defs.declared.event.Root.TheVariants as roots
 use Rattle.wfe_core.specs.declared.ends.FollowEnd.TheVariants as follow_ends
 use Rattle.wfe_core.specs.declared.post.Post.{Post}
 use Rattle.wfe_core.specs.Machine as machine
 use Rattle.wfe_core.specs.Memory.{bump}
-use Rattle.wfe_core.specs.MoveClock as movers
-use Rattle.wfe_core.specs.Posts.{stands, with_row, counted, cleared, reserves_index}
+use Rattle.wfe_core.specs.Posts.{with_row, counted}
 use Rattle.wfe_core.specs.Protect.{held_post, told_held, concluded}
 use Rattle.wfe_core.specs.Rounds.{scheme_of, clear_told, index_of}
 use Rattle.wfe_core.specs.World.{World, finds, is_busy, told_in}
-use Rattle.wfe_core.specs.Phases.{Aim, ProtectAt, MoveAt, Base, Turn, ends}
-use Rattle.wfe_core.specs.Phases.ProtectAt.{LoadClock, PublishEra, LoadLink, CheckClock, PublishRequest, LoadOwnClock, PublishHelper, LoadOwnLink, CheckOwnClock, AnswerOwn, LoadAnswer, TakeAnswer, WithdrawRequest, WithdrawHelper, LoadWithin, CheckUpper, RaiseUpper}
-use Rattle.wfe_core.specs.Phases.MoveAt.{HandOver}
-use Rattle.wfe_core.specs.Phases.Base.{Begin, Protect, Reload, Clear, Finish, Release, Allocate, Write, GiveUp, Retire, Move}
+use Rattle.wfe_core.specs.Phases.{Aim, ProtectAt, Base, Turn, ends}
+use Rattle.wfe_core.specs.Phases.ProtectAt.{CheckClock, CheckOwnClock, AnswerOwn, TakeAnswer, WithdrawHelper, LoadWithin, CheckUpper, RaiseUpper}
+use Rattle.wfe_core.specs.Phases.Base.{Begin, Protect, Reload, Release}
 use Rattle.wfe_core.specs.Phases.Ending.{Followed}
-use Rattle.wfe_core.specs.Calls.{Task, Gets, Changes, Holds, Enqueues, Dequeues, Why, Opens, FollowsHead, Fills, ClearsNext, Clears, Finishes, GivesUp, Retires, Tidies, Advances, Releases, ReadGuard, GiveBack, Phase, Idle, Runs, Scans, Works}
+use Rattle.wfe_core.specs.Calls.{Task, Gets, Changes, Holds, Enqueues, Dequeues, Why, Opens, FollowsHead, ReadGuard, GiveBack, Phase, Idle, Runs, Scans, Works}
 use Rattle.wfe_core.proofs.Facts.{both, first_of, rest_of, false_not_true, and_true, three_more, le_of_test}
 use Rattle.wfe_core.specs.words.Schemes.{is_ibr, is_he}
 use Rattle.inv_all.specs.shapes.Seats.{protects, reloads, kind_of, index_by, root_by}
@@ -41,17 +37,23 @@ use Rattle.law_turns.proofs.Counting.Fits.{since, tried}
 use Rattle.law_turns.proofs.Counting.Passing.{he_tried, or_he}
 use Rattle.law_turns.proofs.Counting.Protects.{Site, x_next}
 use Rattle.law_turns.proofs.Counting.Runs.{x_after, phase_x, Stage, Seat, bump_low, site_of, stage_of}
-use Rattle.law_turns.proofs.Counting.Told.{is_dull, all_dull, quiet_dull, clear_dull, cleared_dull, concluded_told, move_dull, allocate_dull, retire_dull, write_dull}
+use Rattle.inv_all.proofs.history.MayTell.{concluded_told, held_any, is_find, no_find}
+use Rattle.law_turns.proofs.Counting.Told.{is_dull, all_dull, quiet_dull, clear_dull, dull_unfound}
 use Rattle.inv_all.proofs.requests.Paced.{wfe_not_he}
+use Rattle.inv_all.proofs.history.AllOf.{all_of, of_weaker}
 
-dull_one : (x : ℕ → ℕ) (event : Event) → is_dull event ≡ true → event_tried x event ≡ true
-dull_one x (events.Held index slot steps) h = absurd (cc)
-dull_one x (events.Null index steps) h = absurd (cc)
-dull_one x event h = refl
+unfound_one : (x : ℕ → ℕ) (event : Event) → not (is_find event) ≡ true → event_tried x event ≡ true
+unfound_one x (events.Held index slot steps) h = absurd (cc)
+unfound_one x (events.Null index steps) h = absurd (cc)
+unfound_one x event h = refl
+
+unfound_tried : (x : ℕ → ℕ) (told : List Event) → all_of (λ event. not (is_find event)) told ≡ true → events_tried x told ≡ true
+unfound_tried x [] h = refl
+unfound_tried x (event ∷ told) h =
+    both (event_tried x event) (events_tried x told) (unfound_one x event (first_of (not (is_find event)) (all_of (λ other. not (is_find other)) told) h)) (unfound_tried x told (rest_of (not (is_find event)) (all_of (λ other. not (is_find other)) told) h))
 
 dull_tried : (x : ℕ → ℕ) (told : List Event) → all_dull told ≡ true → events_tried x told ≡ true
-dull_tried x [] h = refl
-dull_tried x (event ∷ told) h = both (event_tried x event) (events_tried x told) (dull_one x event (first_of (is_dull event) (all_dull told) h)) (dull_tried x told (rest_of (is_dull event) (all_dull told) h))
+dull_tried x told h = unfound_tried x told (of_weaker is_dull (λ event. not (is_find event)) told dull_unfound h)
 
 tried_along : (x : ℕ → ℕ) (xs ys : List Event) → events_tried x xs ≡ true → events_tried x ys ≡ true → events_tried x (xs ++ ys) ≡ true
 tried_along x [] ys h k = k
@@ -68,19 +70,12 @@ tried_if x true t v a b = a
 tried_if x false t v a b = b
 
 -- a link that was found
-two_ways : (x : ℕ → ℕ) (index slot n : ℕ) (none : Bool) → (index == 1) ≡ false → (n == 3 * x index + 1) ≡ true → events_tried x (if none then events.Null index n ∷ [] else events.Held index slot n ∷ []) ≡ true
-two_ways x index slot n true i h = and_true (n == 3 * x index + 1) h
-two_ways x index slot n false i h = and_true (event_tried x (events.Held index slot n)) (rw i h)
-
 one_way : (x : ℕ → ℕ) (index n : ℕ) (none : Bool) → (n == 3 * x index + 1) ≡ true → events_tried x (if none then events.Null index n ∷ [] else []) ≡ true
 one_way x index n true h = and_true (n == 3 * x index + 1) h
 one_way x index n false h = refl
 
 held_tried : (x : ℕ → ℕ) (index : ℕ) (root : Root) (link n : ℕ) → (index == 1) ≡ false → (n == 3 * x index + 1) ≡ true → events_tried x (told_held index root link n) ≡ true
-held_tried x index (roots.Next parent) link n i h = one_way x index n (link == 0) h
-held_tried x index (roots.Bucket bucket) link n i h = two_ways x index (link - 1) n (link == 0) i h
-held_tried x index roots.Head link n i h = two_ways x index (link - 1) n (link == 0) i h
-held_tried x index roots.Tail link n i h = two_ways x index (link - 1) n (link == 0) i h
+held_tried x index root link n i h = held_any (λ told. events_tried x told ≡ true) index root link n refl (and_true (n == 3 * x index + 1) h) (λ slot. and_true (event_tried x (events.Held index slot n)) (rw i h))
 
 pub task_index : (task : Task) → (index_of task == 1) ≡ false
 task_index (Gets key) = refl
@@ -92,59 +87,26 @@ task_index Dequeues = refl
 found_tried : (x : ℕ → ℕ) (buckets : ℕ) (why : Why) (index : ℕ) (root : Root) (link n : ℕ) → protects (kind_of why) ≡ true → index ≡ index_by why → root ≡ root_by buckets why → (n == 3 * x index + 1) ≡ true → events_tried x (told_held index root link n) ≡ true
 found_tried x buckets (Opens task) index root link n p i r h = held_tried x index root link n (rw i (task_index task)) h
 found_tried x buckets (FollowsHead head tail) index root link n p i r h = rw r (one_way x index n (link == 0) h)
-found_tried x buckets (Fills task) index root link n p i r h = absurd (cc)
-found_tried x buckets (ClearsNext next) index root link n p i r h = absurd (cc)
-found_tried x buckets (Clears task next) index root link n p i r h = absurd (cc)
-found_tried x buckets (Finishes task next) index root link n p i r h = absurd (cc)
-found_tried x buckets (GivesUp answer) index root link n p i r h = absurd (cc)
-found_tried x buckets (Retires answer) index root link n p i r h = absurd (cc)
-found_tried x buckets (Tidies later) index root link n p i r h = absurd (cc)
-found_tried x buckets Advances index root link n p i r h = absurd (cc)
-found_tried x buckets (Releases key) index root link n p i r h = absurd (cc)
+found_tried x buckets why index root link n p i r h = absurd (cc)
 
 protect_tried : (x u : ℕ → ℕ) (buckets : ℕ) (why : Why) (aim : Aim) (index : ℕ) (root : Root) (steps n count : ℕ) (at : ProtectAt) (post : Post) (found : ℕ) → is_he (scheme_of post) ≡ true → Site x u buckets why aim index root steps n count at post → events_tried (x_next x index at) (machine.protect_turn aim index root n at post found).told ≡ true
-protect_tried x u buckets why aim index root steps n count (LoadClock tries) post found e s = refl
-protect_tried x u buckets why aim index root steps n count (PublishEra era tries) post found e s = refl
-protect_tried x u buckets why aim index root steps n count (LoadLink era tries) post found e s = refl
 protect_tried x u buckets why aim index root steps n count (CheckClock era tries link) post found e s =
     let z : (steps == 3 * x index) ≡ true = he_tried (scheme_of post) post.layout.config.tries tries (steps == 3 * x index) s.fits e (rest_of (since steps (x index) (u index)) (tried tries (steps == 3 * x index)) s.paced) in
     let m : (n == 3 * x index + 1) ≡ true = rw (s.next) (three_more steps (x index) z) in
     tried_if x (found == era) (concluded aim index root n link era (held_post post index root link) (told_held index root link n)) _
     (rw (concluded_told aim index root n link era (held_post post index root link) (told_held index root link n)) (found_tried x buckets why index root link n s.protects s.place s.of m)) refl
-protect_tried x u buckets why aim index root steps n count PublishRequest post found e s = refl
-protect_tried x u buckets why aim index root steps n count LoadOwnClock post found e s = refl
-protect_tried x u buckets why aim index root steps n count (PublishHelper first era last) post found e s = refl
-protect_tried x u buckets why aim index root steps n count (LoadOwnLink first era last) post found e s = refl
 protect_tried x u buckets why aim index root steps n count (CheckOwnClock first era last link) post found e s = absurd (wfe_not_he (scheme_of post) s.fits e)
 protect_tried x u buckets why aim index root steps n count (AnswerOwn first era link) post found e s = absurd (wfe_not_he (scheme_of post) s.fits e)
-protect_tried x u buckets why aim index root steps n count (LoadAnswer first) post found e s = refl
 protect_tried x u buckets why aim index root steps n count (TakeAnswer link era) post found e s = absurd (wfe_not_he (scheme_of post) s.fits e)
-protect_tried x u buckets why aim index root steps n count (WithdrawRequest link era) post found e s = refl
 protect_tried x u buckets why aim index root steps n count (WithdrawHelper link era) post found e s = absurd (wfe_not_he (scheme_of post) s.fits e)
 protect_tried x u buckets why aim index root steps n count LoadWithin post found e s = absurd (false_not_true (is_ibr (scheme_of post)) s.scheme s.fits)
 protect_tried x u buckets why aim index root steps n count (CheckUpper link) post found e s = absurd (false_not_true (is_ibr (scheme_of post)) s.scheme s.fits)
 protect_tried x u buckets why aim index root steps n count (RaiseUpper era) post found e s = absurd (false_not_true (is_ibr (scheme_of post)) s.scheme s.fits)
-
-handed_tried : (x : ℕ → ℕ) (era seat tag index old : ℕ) (post : Post) (same : Bool) → events_tried x (movers.after_hand_over era seat tag index old post same).told ≡ true
-handed_tried x era seat tag index old post true = refl
-handed_tried x era seat tag index old post false = refl
-
-move_tried : (x : ℕ → ℕ) (at : MoveAt) (post : Post) (found : ℕ) → events_tried x (machine.move_turn at post found).told ≡ true
-move_tried x (HandOver era seat tag index root link old) post found = handed_tried x era seat tag index old post (found == reservation_word (record { era = old; tag = tag }))
-move_tried x at post found = dull_tried x (machine.move_turn at post found).told (move_dull at post found refl)
+protect_tried x u buckets why aim index root steps n count at post found e s = refl
 
 reload_index : (why : Why) → reloads (kind_of why) ≡ true → (index_by why == 1) ≡ true
 reload_index (FollowsHead head tail) h = refl
-reload_index (Opens task) h = absurd (cc)
-reload_index (Fills task) h = absurd (cc)
-reload_index (ClearsNext next) h = absurd (cc)
-reload_index (Clears task next) h = absurd (cc)
-reload_index (Finishes task next) h = absurd (cc)
-reload_index (GivesUp answer) h = absurd (cc)
-reload_index (Retires answer) h = absurd (cc)
-reload_index (Tidies later) h = absurd (cc)
-reload_index Advances h = absurd (cc)
-reload_index (Releases key) h = absurd (cc)
+reload_index why h = absurd (cc)
 
 one_step_more : (made x : ℕ) → (made == 3 * x + 1) ≡ true → (made + 1 == 3 * x + 2) ≡ true
 one_step_more made x h = grind (arith, nat_tests)
@@ -162,14 +124,8 @@ run_tried x u layout why (Reload parent index slot era made) post found count e 
     let i : (index == 1) ≡ true = rw (a.at) (reload_index why r.suited) in
     tried_if x (found == parent + 1) (ends (with_row post index slot) (events.Held index slot (bump made) ∷ []) (Followed (follow_ends.Followed slot))) (ends post [] (Followed (follow_ends.RootMoved found)))
     (and_true (event_tried x (events.Held index slot (bump made))) (rw i (rw b (one_step_more made (x index) m)))) refl
-run_tried x u layout why (Clear index) post found count e s = tried_along (x_after x (Clear index)) (cleared index (stands post index)) (reserves_index post index 0) (dull_tried (x_after x (Clear index)) (cleared index (stands post index)) (cleared_dull index (stands post index))) refl
-run_tried x u layout why Finish post found count e s = refl
 run_tried x u layout why Release post found count e s = absurd (false_not_true (is_ibr layout.config.scheme) s.scheme s.run.fits)
-run_tried x u layout why (Allocate at) post found count e s = dull_tried x (machine.allocate_turn at post found).told (allocate_dull at post found)
-run_tried x u layout why (Write slot row place) post found count e s = dull_tried x (machine.after (Write slot row place) post found).told (write_dull slot row place post found)
-run_tried x u layout why (GiveUp slot) post found count e s = refl
-run_tried x u layout why (Retire at) post found count e s = dull_tried x (machine.retire_turn at post found).told (retire_dull at post found)
-run_tried x u layout why (Move at) post found count e s = move_tried x at post found
+run_tried x u layout why base post found count e s = unfound_tried (x_after x base) (machine.after base post found).told (no_find base post found refl)
 
 turn_tried : (x u : ℕ → ℕ) (layout : Layout) (i : ℕ) (phase : Phase) (post : Post) (found : ℕ) → is_he (scheme_of post) ≡ true → Seat x u layout i phase post → First (λ p told. events_tried (λ j. phase_x phase j (x j)) told ≡ true) phase (counted post) found
 turn_tried x u layout i Idle post found e s = refl

@@ -1,11 +1,12 @@
 -- What a call that begins keeps, and each step, is kept along a history.
-use Rattle.std.proofs.Common.{ℕ, ◌≡◌, ◌<◌, Bool, true, false, List, [], ◌∷◌, ◌++◌, refl, arith}
+use Rattle.std.proofs.Common.{ℕ, ◌≡◌, ◌<◌, Bool, true, false, List, [], ◌∷◌, ◌++◌, refl, arith, sym, subst}
 use Rattle.std.proofs.lemmas.Bool.Decides.{nat_tests}
 use Rattle.std.specs.Prelude.{◌&&◌, not, nat_lt}
 use Rattle.wfe_core.specs.defs.declared.call.Call.{Call}
 use Rattle.wfe_core.specs.World.{is_busy}
-use Rattle.model_history.specs.History.{Item, Begins, Steps, Made, fits, done, done_if, did, made_from}
+use Rattle.model_history.specs.History.{Item, Begins, Steps, Made, fits, done, done_if, did, made_from, made_of, first_made, world_of}
 use Rattle.wfe_core.proofs.Facts.{rest_of}
+use Rattle.wfe_core.specs.words.declared.layout.Layout.{Layout}
 
 -- where an item fits
 pub low_seat : (seat seats : ℕ) (b : Bool) → (nat_lt seat seats && b) ≡ true → seat < seats
@@ -35,3 +36,15 @@ items_keep K s (item ∷ items) made g = items_keep K s items (did made item) (i
 pub made_snoc : (made : Made) (path : List Item) (item : Item) → made_from made (path ++ item ∷ []) ≡ did (made_from made path) item
 made_snoc made [] item = refl
 made_snoc made (first ∷ path) item = made_snoc (did made first) path item
+
+-- a property of what histories come to, which each item keeps where the history before it is known
+items_on : (layout : Layout) (K : Made → Type 0) → ((path : List Item) (item : Item) (fit : Bool) → fits (world_of layout path) item ≡ fit → K (made_of layout path) → K (done_if (made_of layout path) item fit))
+    → (items path : List Item) → K (made_of layout path) → K (made_from (made_of layout path) items)
+items_on layout K s [] path g = g
+items_on layout K s (item ∷ items) path g =
+    let e : made_of layout (path ++ item ∷ []) ≡ did (made_of layout path) item = made_snoc (first_made layout) path item in
+    subst (λ (made : Made). K (made_from made items)) e (items_on layout K s items (path ++ item ∷ []) (subst K (sym e) (s path item (fits (world_of layout path) item) refl g)))
+
+pub paths_keep : (layout : Layout) (K : Made → Type 0) → ((path : List Item) (item : Item) (fit : Bool) → fits (world_of layout path) item ≡ fit → K (made_of layout path) → K (done_if (made_of layout path) item fit))
+    → K (first_made layout) → (items : List Item) → K (made_of layout items)
+paths_keep layout K s g items = items_on layout K s items [] g

@@ -1,6 +1,6 @@
 -- What a machine has told and left passes on to the end of a step: all that comes after it tells is quiet, or clears an index.
 use Rattle.std.proofs.Common.{ℕ, ◌≡◌, ◌+◌, ◌-◌, Bool, true, false, List, [], ◌∷◌, ◌++◌, length, Option, Some, None, refl}
-use Rattle.std.specs.Prelude.{◌==◌, ◌&&◌, ◌%◌, nat_lt, if◌then◌else◌}
+use Rattle.std.specs.Prelude.{◌==◌, ◌%◌, nat_lt, if◌then◌else◌}
 use Rattle.wfe_core.specs.defs.declared.fold.Change.{Change}
 use Rattle.wfe_core.specs.defs.declared.fold.Change.TheVariants as changes
 use Rattle.wfe_core.specs.defs.declared.call.Answer.{Answer}
@@ -29,8 +29,8 @@ use Rattle.wfe_core.specs.Steps as steps
 use Rattle.wfe_core.specs.Rounds.{scheme_of, bucket_of, index_of, taken_of, finish_base, clear_base, clear_post, clear_told, given_up, closed, finishing_by, finishing, clearing_by, clearing, clearing_next_by, clearing_next}
 use Rattle.wfe_core.specs.Phases.{Base, Ending, Outcome, Goes, Ends}
 use Rattle.wfe_core.specs.Phases.Ending.{Done, Protected, Followed, Allocated, Retired, Clocked}
-use Rattle.wfe_core.specs.Calls.{Task, Gets, Changes, Holds, Enqueues, Dequeues, Next, Again, MakeRoom, Answering, Retiring, AfterScan, Answered, Repeated, Counted, ChangeKept, EnqueueKept, GetAt, FindVersion, FindCount, FindKey, FindValue, ChangeAt, LoadVersion, LoadCount, LoadKey, LoadValue, ExchangeRoot, EnqueueAt, LoadNumber, LoadNext, PassTail, ExchangeNext, ExchangeTail, DequeueAt, LoadTail, SwingTail, TakeNumber, TakeValue, ExchangeHead, Work, Getting, Changing, Enqueuing, Dequeuing, ScanAt, ReadGuard, GiveBack, Why, Opens, FollowsHead, Fills, ClearsNext, Clears, Finishes, GivesUp, Retires, Tidies, Advances, Releases, Phase, Idle, Runs, Scans, Works, CallTurn, CallOutcome, GoesOn, Answers}
-use Rattle.wfe_core.proofs.Facts.{both, first_of, rest_of}
+use Rattle.wfe_core.specs.Calls.{Task, Gets, Changes, Holds, Enqueues, Dequeues, Next, Again, MakeRoom, Answering, Retiring, AfterScan, Answered, Repeated, Counted, ChangeKept, EnqueueKept, GetAt, FindVersion, FindCount, FindKey, FindValue, ChangeAt, LoadVersion, LoadCount, LoadKey, LoadValue, ExchangeRoot, EnqueueAt, LoadNumber, LoadNext, PassTail, ExchangeNext, ExchangeTail, DequeueAt, SwingTail, ExchangeHead, Work, Getting, Changing, Enqueuing, Dequeuing, ScanAt, ReadGuard, GiveBack, Why, Opens, FollowsHead, Fills, ClearsNext, Clears, Finishes, GivesUp, Retires, Tidies, Advances, Releases, Phase, Idle, Runs, Scans, Works, CallTurn, CallOutcome, GoesOn, Answers}
+use Rattle.model_history.proofs.AllOf.{all_of, of_along}
 
 -- events of what calls read and link, and of their end
 abbrev pub is_quiet : Event → Bool
@@ -45,12 +45,7 @@ is_quiet (events.End steps answer) = true
 is_quiet event = false
 
 abbrev pub all_quiet : List Event → Bool
-all_quiet [] = true
-all_quiet (event ∷ told) = is_quiet event && all_quiet told
-
-quiet_along : (xs ys : List Event) → all_quiet xs ≡ true → all_quiet ys ≡ true → all_quiet (xs ++ ys) ≡ true
-quiet_along [] ys h k = k
-quiet_along (x ∷ xs) ys h k = both (is_quiet x) (all_quiet (xs ++ ys)) (first_of (is_quiet x) (all_quiet xs) h) (quiet_along xs ys (rest_of (is_quiet x) (all_quiet xs) h) k)
+all_quiet told = all_of is_quiet told
 
 -- a property of a post and of what was told, which quiet events keep, and the clearing of an index
 pub record Closed (P : Post → List Event → Type 0) : Type 0 where
@@ -221,11 +216,9 @@ taken_goes P0 P A c head next number value post desk true h = clearing_next_goes
 taken_goes P0 P A c head next number value post desk false h = clearing_next_goes P0 P A c Again post desk [] (c.weak post [] h)
 
 dequeue_goes : (P0 P : Post → List Event → Type 0) (A : ℕ → ℕ → Type 0) (c : Closing P0 P A) (at : DequeueAt) (post : Post) (desk : Desk) (found : ℕ) → P0 post [] → Left P (dequeues.dequeue_turn at post desk found)
-dequeue_goes P0 P A c (LoadTail head) post desk found h = c.weak post [] h
 dequeue_goes P0 P A c (SwingTail head next) post desk found h = clearing_next_goes P0 P A c Again post desk (enqueues.told_link roots.Tail next (found == head + 1)) (c.links post roots.Tail next (found == head + 1) h)
-dequeue_goes P0 P A c (TakeNumber head next) post desk found h = c.weak post [] h
-dequeue_goes P0 P A c (TakeValue head next number) post desk found h = c.weak post [] h
 dequeue_goes P0 P A c (ExchangeHead head next number value) post desk found h = taken_goes P0 P A c head next number value post desk (found == head + 1) h
+dequeue_goes P0 P A c at post desk found h = c.weak post [] h
 
 -- a step of a call's own
 work_goes : (P0 P : Post → List Event → Type 0) (A : ℕ → ℕ → Type 0) (c : Closing P0 P A) (work : Work) (post : Post) (desk : Desk) (found : ℕ) → work_allows A work → P0 post [] → Left P (steps.work_turn work post desk found)
@@ -396,7 +389,7 @@ altered_quiet bucket version (changes.Removed key) = refl
 
 linked_quiet : (kept : ChangeKept) (slot : ℕ) (post : Post) → all_quiet (alters.told_linked kept slot post) ≡ true
 linked_quiet kept slot post =
-    quiet_along (alters.told_cut kept.link) (alters.told_change (alters.changed_bucket kept post) (kept.version + 1) kept.change ∷ []) (cut_quiet kept.link) (altered_quiet (alters.changed_bucket kept post) (kept.version + 1) kept.change)
+    of_along is_quiet (alters.told_cut kept.link) (alters.told_change (alters.changed_bucket kept post) (kept.version + 1) kept.change ∷ []) (cut_quiet kept.link) (altered_quiet (alters.changed_bucket kept post) (kept.version + 1) kept.change)
 
 link_quiet : (root : Root) (slot : ℕ) (same : Bool) → all_quiet (enqueues.told_link root slot same) ≡ true
 link_quiet root slot true = refl
@@ -419,9 +412,7 @@ closing P c = record {
 
 get_any : (key : ℕ) (at : GetAt) → get_allows Any key at
 get_any key (FindVersion slot) = tt
-get_any key (FindCount slot version) = tt
-get_any key (FindKey slot version count pair) = tt
-get_any key (FindValue slot version pair) = tt
+get_any key at = tt
 
 null_any : (task : Task) → null_allows Any task
 null_any (Gets key) = tt

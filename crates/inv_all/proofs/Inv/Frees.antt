@@ -1,14 +1,12 @@
 -- A row that is given back is none that a call reads of, works on, or tries to protect.
-use Rattle.std.proofs.Common.{ℕ, ◌≡◌, ◌+◌, Bool, true, false, refl, sym, subst, arith, Some}
-use Rattle.std.proofs.lemmas.Bool.Decides.{nat_tests}
-use Rattle.std.specs.Prelude.{◌==◌}
+use Rattle.std.proofs.Common.{ℕ, ◌≡◌, ◌+◌, true, refl, sym, subst, Some}
 use Rattle.wfe_core.specs.words.declared.layout.Layout.{Layout}
 use Rattle.wfe_core.specs.defs.declared.event.Root.{Root}
 use Rattle.wfe_core.specs.declared.post.Post.{Post}
 use Rattle.wfe_core.specs.Posts.{stands}
 use Rattle.wfe_core.specs.Phases.{ProtectAt, Base}
-use Rattle.wfe_core.specs.Phases.ProtectAt.{LoadClock, PublishEra, LoadLink, CheckClock, PublishRequest, LoadOwnClock, PublishHelper, LoadOwnLink, CheckOwnClock, AnswerOwn, LoadAnswer, TakeAnswer, WithdrawRequest, WithdrawHelper, LoadWithin, CheckUpper, RaiseUpper}
-use Rattle.wfe_core.specs.Phases.Base.{Begin, Protect, Reload, Clear, Finish, Release, Allocate, Write, GiveUp, Retire, Move}
+use Rattle.wfe_core.specs.Phases.ProtectAt.{LoadClock}
+use Rattle.wfe_core.specs.Phases.Base.{Protect}
 use Rattle.wfe_core.specs.Calls.{Task, Gets, Changes, Holds, Enqueues, Dequeues, Opens, AfterScan, GiveBack, Phase, Scans}
 use Rattle.wfe_core.specs.World.{World, finds}
 use Rattle.inv_ends.specs.shapes.Seats.{task_root, Run}
@@ -48,46 +46,13 @@ under_by status buckets task root e = subst (λ (r : Root). under status r ≡ t
 
 pub tried_under : (clock upto : ℕ) (status : ℕ → Status) (layout : Layout) (task : Task) (base : Base) (post : Post) (s : ℕ) → Run layout (Opens task) base post → base_tries clock upto base s ≡ true → under status (root_base base) ≡ true
 tried_under clock upto status layout task (Protect aim index root steps at) post s r t = under_by status layout.config.buckets task root r.shape.of
-tried_under clock upto status layout task (Begin at) post s r t = absurd (cc)
-tried_under clock upto status layout task (Reload parent index slot era steps) post s r t = absurd (cc)
-tried_under clock upto status layout task (Clear index) post s r t = absurd (cc)
-tried_under clock upto status layout task Finish post s r t = absurd (cc)
-tried_under clock upto status layout task Release post s r t = absurd (cc)
-tried_under clock upto status layout task (Allocate at) post s r t = absurd (cc)
-tried_under clock upto status layout task (Write slot row place) post s r t = absurd (cc)
-tried_under clock upto status layout task (GiveUp slot) post s r t = absurd (cc)
-tried_under clock upto status layout task (Retire at) post s r t = absurd (cc)
-tried_under clock upto status layout task (Move at) post s r t = absurd (cc)
+tried_under clock upto status layout task base post s r t = absurd (cc)
 
 -- a protection that tries a link carries it
 tried_at : (clock upto : ℕ) (at : ProtectAt) (s : ℕ) → at_tries clock upto at s ≡ true → carries_at clock upto at (s + 1) ≡ true
 tried_at clock upto (LoadClock tries) s h = h
-tried_at clock upto (PublishEra era tries) s h = h
-tried_at clock upto (LoadLink era tries) s h = h
-tried_at clock upto (CheckClock era tries link) s h = h
-tried_at clock upto PublishRequest s h = h
-tried_at clock upto LoadOwnClock s h = h
-tried_at clock upto (PublishHelper first era last) s h = h
-tried_at clock upto (LoadOwnLink first era last) s h = h
-tried_at clock upto (CheckOwnClock first era last link) s h = h
-tried_at clock upto (AnswerOwn first era link) s h = h
-tried_at clock upto (LoadAnswer first) s h = h
-tried_at clock upto (TakeAnswer link era) s h = h
-tried_at clock upto (WithdrawRequest link era) s h = h
-tried_at clock upto (WithdrawHelper link era) s h = h
-tried_at clock upto LoadWithin s h = h
-tried_at clock upto (CheckUpper link) s h = h
-tried_at clock upto (RaiseUpper era) s h = h
+tried_at clock upto at s h = h
 
 pub tried_carried : (clock upto : ℕ) (base : Base) (s : ℕ) → base_tries clock upto base s ≡ true → carries_base clock upto base (s + 1) ≡ true
 tried_carried clock upto (Protect aim index root steps at) s h = tried_at clock upto at s h
-tried_carried clock upto (Begin at) s h = absurd (cc)
-tried_carried clock upto (Reload parent index slot era steps) s h = absurd (cc)
-tried_carried clock upto (Clear index) s h = absurd (cc)
-tried_carried clock upto Finish s h = absurd (cc)
-tried_carried clock upto Release s h = absurd (cc)
-tried_carried clock upto (Allocate at) s h = absurd (cc)
-tried_carried clock upto (Write slot row place) s h = absurd (cc)
-tried_carried clock upto (GiveUp slot) s h = absurd (cc)
-tried_carried clock upto (Retire at) s h = absurd (cc)
-tried_carried clock upto (Move at) s h = absurd (cc)
+tried_carried clock upto base s h = absurd (cc)

@@ -1,5 +1,5 @@
 -- What the covers of rows take of other parts.
-use Rattle.std.proofs.Common.{ℕ, ◌≡◌, ◌≤◌, ◌<◌, Bool, true, false, refl, sym, subst, ap, ◌∙◌, arith, None, Some}
+use Rattle.std.proofs.Common.{ℕ, ◌≡◌, ◌<◌, Bool, true, false, refl, sym, subst, ap, ◌∙◌, arith, None, Some}
 use Rattle.std.proofs.lemmas.Bool.Decides.{nat_tests}
 use Rattle.std.specs.Prelude.{◌==◌, length, if◌then◌else◌}
 use Rattle.wfe_core.specs.words.Place.{is_valid}
@@ -12,18 +12,16 @@ use Rattle.wfe_core.specs.Posts.{stands}
 use Rattle.wfe_core.specs.Phases.{Aim, Tries, Base}
 use Rattle.wfe_core.specs.Phases.ProtectAt.{LoadLink}
 use Rattle.wfe_core.specs.Phases.Base.{Protect}
-use Rattle.wfe_core.specs.Calls.{Why, Opens, FollowsHead, Fills, ClearsNext, Clears, Finishes, GivesUp, Retires, Tidies, Advances, Releases, DequeueAt, LoadTail, SwingTail, TakeNumber, TakeValue, ExchangeHead, Getting, Changing, Enqueuing, Dequeuing, Phase, Idle, Runs, Scans, Works}
+use Rattle.wfe_core.specs.Calls.{Why, FollowsHead, DequeueAt, LoadTail, Getting, Changing, Enqueuing, Dequeuing, Phase, Idle, Runs, Scans, Works}
 use Rattle.wfe_core.proofs.Ranges.{bounds_of}
 use Rattle.wfe_core.specs.World.{World, step}
 use Rattle.inv_ends.specs.shapes.Eras.{Eras}
 use Rattle.inv_ends.specs.shapes.Seats.{Seats}
 use Rattle.inv_ends.proofs.shapes.Decode.{clock_next}
-use Rattle.inv_ends.specs.requests.Deals.{ahead}
 use Rattle.inv_ends.specs.requests.Parents as asked
 use Rattle.inv_ends.specs.requests.Roles.{publishes}
 use Rattle.inv_ends.specs.requests.Standing.{Requests, role_of, has_failed}
-use Rattle.inv_ends.specs.requests.Views.{Deal, Role, View as Asked}
-use Rattle.inv_ends.specs.requests.Views.Deal.{Quiet, Open, Answered, Passed, Taken}
+use Rattle.inv_ends.specs.requests.Views.{Role, View as Asked}
 use Rattle.inv_ends.specs.requests.Views.Role.{Attempts}
 use Rattle.inv_steps_left.specs.rows.Agree.{Agree}
 use Rattle.inv_steps_left.specs.rows.Chain.{Both}
@@ -72,23 +70,11 @@ published_of w i z why aim index root steps era tries d a q e =
 -- the row whose next link is followed stands at index 0
 why_tends : (why : Why) (base : Base) (post : Post) (row : ℕ) → asked.why_stands why base post → has_parent_why why row ≡ true → stands post 0 ≡ Some row
 why_tends (FollowsHead head tail) base post row s h = let same : head ≡ row = grind (arith, nat_tests) in s ∙ ap Some same
-why_tends (Opens task) base post row s h = absurd (cc)
-why_tends (Fills task) base post row s h = absurd (cc)
-why_tends (ClearsNext next) base post row s h = absurd (cc)
-why_tends (Clears task next) base post row s h = absurd (cc)
-why_tends (Finishes task next) base post row s h = absurd (cc)
-why_tends (GivesUp answer) base post row s h = absurd (cc)
-why_tends (Retires answer) base post row s h = absurd (cc)
-why_tends (Tidies later) base post row s h = absurd (cc)
-why_tends Advances base post row s h = absurd (cc)
-why_tends (Releases key) base post row s h = absurd (cc)
+why_tends why base post row s h = absurd (cc)
 
 dequeue_tends : (at : DequeueAt) (post : Post) (row : ℕ) → stands post 0 ≡ Some (asked.head_in at) → has_parent_dequeue at row ≡ true → stands post 0 ≡ Some row
 dequeue_tends (LoadTail head) post row s h = let same : head ≡ row = grind (arith, nat_tests) in s ∙ ap Some same
-dequeue_tends (SwingTail head next) post row s h = absurd (cc)
-dequeue_tends (TakeNumber head next) post row s h = absurd (cc)
-dequeue_tends (TakeValue head next number) post row s h = absurd (cc)
-dequeue_tends (ExchangeHead head next number value) post row s h = absurd (cc)
+dequeue_tends at post row s h = absurd (cc)
 
 tends : (phase : Phase) (post : Post) (row : ℕ) → asked.phase_stands phase post → has_parent phase row ≡ true → stands post 0 ≡ Some row
 tends Idle post row s h = absurd (cc)

@@ -1,22 +1,21 @@
 -- What the shape of seats and their eras give of the machine that a seat runs.
-use Rattle.std.proofs.Common.{ℕ, ◌≡◌, ◌≤◌, ◌<◌, true, sym, subst, ap, ◌∙◌, arith, None, Some, Option}
+use Rattle.std.proofs.Common.{ℕ, ◌≡◌, ◌≤◌, ◌<◌, true, sym, subst, ap, ◌∙◌, arith}
 use Rattle.wfe_core.specs.words.Place.{is_valid}
 use Rattle.wfe_core.specs.words.Place.Place.{Clock}
 use Rattle.wfe_core.specs.words.declared.layout.Layout.{Layout}
 use Rattle.wfe_core.specs.defs.declared.event.Root.{Root}
 use Rattle.wfe_core.specs.defs.declared.event.Root.TheVariants as roots
-use Rattle.wfe_core.specs.defs.declared.lifetime.Interval.{Interval as Span}
 use Rattle.wfe_core.specs.declared.post.Post.{Post}
 use Rattle.wfe_core.specs.Links.{parent_of}
 use Rattle.wfe_core.specs.Posts.{upper}
-use Rattle.wfe_core.specs.Phases.{Aim, Alone, Follows, ProtectAt, Base}
-use Rattle.wfe_core.specs.Phases.ProtectAt.{LoadClock, PublishEra, LoadLink, CheckClock, PublishRequest, LoadOwnClock, PublishHelper, LoadOwnLink, CheckOwnClock, AnswerOwn, LoadAnswer, TakeAnswer, WithdrawRequest, WithdrawHelper, LoadWithin, CheckUpper, RaiseUpper}
-use Rattle.wfe_core.specs.Phases.Base.{Begin, Protect, Reload, Clear, Finish, Release, Allocate, Write, GiveUp, Retire, Move}
-use Rattle.wfe_core.specs.Calls.{Why, Opens, FollowsHead, Fills, ClearsNext, Clears, Finishes, GivesUp, Retires, Tidies, Advances, Releases, Phase, Idle, Runs, Scans, Works}
+use Rattle.wfe_core.specs.Phases.{Aim, Follows, ProtectAt, Base}
+use Rattle.wfe_core.specs.Phases.ProtectAt.{CheckClock, CheckOwnClock, CheckUpper, RaiseUpper}
+use Rattle.wfe_core.specs.Phases.Base.{Begin, Protect, Reload, Clear}
+use Rattle.wfe_core.specs.Calls.{Why, FollowsHead, Phase, Idle, Runs, Scans, Works}
 use Rattle.wfe_core.proofs.Ranges.{bounds_of}
 use Rattle.wfe_core.specs.World.{World}
 use Rattle.inv_ends.specs.shapes.Eras.{SpanIn, protect_eras, base_eras, PhaseEras, Eras}
-use Rattle.inv_ends.specs.shapes.Seats.{aim_by, root_by, Run, PhaseFits, Seats}
+use Rattle.inv_ends.specs.shapes.Seats.{aim_by, root_by, Run}
 use Rattle.inv_ends.proofs.shapes.There.{index_below}
 use Rattle.inv_steps_left.specs.rows.Tries as tries
 use Rattle.inv_ends.specs.covers.Held.{index_base, Followed, SpanGrows, era_protect, era_base}
@@ -30,45 +29,19 @@ some_index : (layout : Layout) → is_valid layout ≡ true → 0 < layout.confi
 some_index layout v = let b = (bounds_of layout v).indexes in omega (arith, b.0)
 
 pub index_in : (layout : Layout) (why : Why) (base : Base) (post : Post) → is_valid layout ≡ true → Run layout why base post → index_base base < layout.config.indexes
-index_in layout why (Begin at) post v r = some_index layout v
 index_in layout why (Protect aim index root steps at) post v r = index_below layout why index v r.shape.at
 index_in layout why (Reload parent index slot era steps) post v r = index_below layout why index v r.shape.at
 index_in layout why (Clear index) post v r = index_below layout why index v r.shape
-index_in layout why Finish post v r = some_index layout v
-index_in layout why Release post v r = some_index layout v
-index_in layout why (Allocate at) post v r = some_index layout v
-index_in layout why (Write slot row place) post v r = some_index layout v
-index_in layout why (GiveUp slot) post v r = some_index layout v
-index_in layout why (Retire at) post v r = some_index layout v
-index_in layout why (Move at) post v r = some_index layout v
+index_in layout why base post v r = some_index layout v
 
 -- a protection that is followed is of a next link
 next_by : (buckets : ℕ) (why : Why) (root : Root) → Follows ≡ aim_by why → root ≡ root_by buckets why → root ≡ roots.Next (parent_of root)
-next_by buckets (Opens task) root a e = absurd (cc)
 next_by buckets (FollowsHead head tail) root a e = e ∙ sym (ap (λ (r : Root). roots.Next (parent_of r)) e)
-next_by buckets (Fills task) root a e = absurd (cc)
-next_by buckets (ClearsNext next) root a e = absurd (cc)
-next_by buckets (Clears task next) root a e = absurd (cc)
-next_by buckets (Finishes task next) root a e = absurd (cc)
-next_by buckets (GivesUp answer) root a e = absurd (cc)
-next_by buckets (Retires answer) root a e = absurd (cc)
-next_by buckets (Tidies later) root a e = absurd (cc)
-next_by buckets Advances root a e = absurd (cc)
-next_by buckets (Releases key) root a e = absurd (cc)
+next_by buckets why root a e = absurd (cc)
 
 pub followed_of : (layout : Layout) (why : Why) (base : Base) (post : Post) → Run layout why base post → Followed base
 followed_of layout why (Protect Follows index root steps at) post r = next_by layout.config.buckets why root r.shape.aimed r.shape.of
-followed_of layout why (Protect Alone index root steps at) post r = tt
-followed_of layout why (Begin at) post r = tt
-followed_of layout why (Reload parent index slot era steps) post r = tt
-followed_of layout why (Clear index) post r = tt
-followed_of layout why Finish post r = tt
-followed_of layout why Release post r = tt
-followed_of layout why (Allocate at) post r = tt
-followed_of layout why (Write slot row place) post r = tt
-followed_of layout why (GiveUp slot) post r = tt
-followed_of layout why (Retire at) post r = tt
-followed_of layout why (Move at) post r = tt
+followed_of layout why base post r = tt
 
 -- an interval begins where none stands, and rises
 protect_grows : (clock : ℕ) (aim : Aim) (index : ℕ) (root : Root) (steps : ℕ) (at : ProtectAt) (post : Post) → protect_eras clock post at → SpanGrows (Protect aim index root steps at) post
@@ -78,15 +51,7 @@ protect_grows clock aim index root steps at post e = tt
 pub grows_of : (layout : Layout) (clock : ℕ) (why : Why) (base : Base) (post : Post) → Run layout why base post → base_eras layout clock post base → SpanGrows base post
 grows_of layout clock why (Begin at) post r e = r.posted
 grows_of layout clock why (Protect aim index root steps at) post r e = protect_grows clock aim index root steps at post e
-grows_of layout clock why (Reload parent index slot era steps) post r e = tt
-grows_of layout clock why (Clear index) post r e = tt
-grows_of layout clock why Finish post r e = tt
-grows_of layout clock why Release post r e = tt
-grows_of layout clock why (Allocate at) post r e = tt
-grows_of layout clock why (Write slot row place) post r e = tt
-grows_of layout clock why (GiveUp slot) post r e = tt
-grows_of layout clock why (Retire at) post r e = tt
-grows_of layout clock why (Move at) post r e = tt
+grows_of layout clock why base post r e = tt
 
 -- the era that a try compares with the clock is at most the clock
 zero_most : (clock : ℕ) → 0 ≤ clock
@@ -105,33 +70,11 @@ tried_most : (clock : ℕ) (post : Post) (at : ProtectAt) → SpanIn clock post.
 tried_most clock post (CheckClock era tries link) s e = e.most
 tried_most clock post (CheckOwnClock first era last link) s e = e.most
 tried_most clock post (CheckUpper link) s e = upper_in clock post.span s
-tried_most clock post (LoadClock tries) s e = zero_most clock
-tried_most clock post (PublishEra era tries) s e = zero_most clock
-tried_most clock post (LoadLink era tries) s e = zero_most clock
-tried_most clock post PublishRequest s e = zero_most clock
-tried_most clock post LoadOwnClock s e = zero_most clock
-tried_most clock post (PublishHelper first era last) s e = zero_most clock
-tried_most clock post (LoadOwnLink first era last) s e = zero_most clock
-tried_most clock post (AnswerOwn first era link) s e = zero_most clock
-tried_most clock post (LoadAnswer first) s e = zero_most clock
-tried_most clock post (TakeAnswer link era) s e = zero_most clock
-tried_most clock post (WithdrawRequest link era) s e = zero_most clock
-tried_most clock post (WithdrawHelper link era) s e = zero_most clock
-tried_most clock post LoadWithin s e = zero_most clock
-tried_most clock post (RaiseUpper era) s e = zero_most clock
+tried_most clock post at s e = zero_most clock
 
 run_tried : (layout : Layout) (clock : ℕ) (post : Post) (base : Base) → SpanIn clock post.span → base_eras layout clock post base → tries.base_era (upper post.span) base ≤ clock
 run_tried layout clock post (Protect aim index root steps at) s e = tried_most clock post at s e
-run_tried layout clock post (Begin at) s e = zero_most clock
-run_tried layout clock post (Reload parent index slot era steps) s e = zero_most clock
-run_tried layout clock post (Clear index) s e = zero_most clock
-run_tried layout clock post Finish s e = zero_most clock
-run_tried layout clock post Release s e = zero_most clock
-run_tried layout clock post (Allocate at) s e = zero_most clock
-run_tried layout clock post (Write slot row place) s e = zero_most clock
-run_tried layout clock post (GiveUp slot) s e = zero_most clock
-run_tried layout clock post (Retire at) s e = zero_most clock
-run_tried layout clock post (Move at) s e = zero_most clock
+run_tried layout clock post base s e = zero_most clock
 
 pub phase_tried : (layout : Layout) (clock : ℕ) (post : Post) (phase : Phase) → SpanIn clock post.span → PhaseEras layout clock post phase → tries.EraIn phase clock (upper post.span)
 phase_tried layout clock post Idle s e = tt

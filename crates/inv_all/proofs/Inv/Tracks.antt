@@ -10,8 +10,8 @@ use Rattle.wfe_core.specs.declared.post.Post.{Post}
 use Rattle.wfe_core.specs.Links.{link_place, link_number, root_at}
 use Rattle.wfe_core.specs.Posts.{upper}
 use Rattle.wfe_core.specs.Phases.{Aim, ProtectAt, MoveAt, Base}
-use Rattle.wfe_core.specs.Phases.ProtectAt.{LoadClock, PublishEra, LoadLink, CheckClock, PublishRequest, LoadOwnClock, PublishHelper, LoadOwnLink, CheckOwnClock, AnswerOwn, LoadAnswer, TakeAnswer, WithdrawRequest, WithdrawHelper, LoadWithin, CheckUpper, RaiseUpper}
-use Rattle.wfe_core.specs.Phases.MoveAt.{LoadEra, LoadRequest, ShowEra, LoadAsked, CheckEra, AnswerAsked, LoadReserved, HandOver, HideEra, HideLate, ExchangeClock}
+use Rattle.wfe_core.specs.Phases.ProtectAt.{CheckClock, LoadOwnClock, PublishHelper, LoadOwnLink, CheckOwnClock, AnswerOwn, LoadAnswer, TakeAnswer, WithdrawRequest, WithdrawHelper, CheckUpper}
+use Rattle.wfe_core.specs.Phases.MoveAt.{LoadEra, CheckEra, AnswerAsked}
 use Rattle.wfe_core.specs.Phases.Base.{Begin, Protect, Reload, Clear, Finish, Release, Allocate, Write, GiveUp, Retire, Move}
 use Rattle.wfe_core.specs.Calls.{Why, Phase, Idle, Runs, Scans, Works}
 use Rattle.wfe_core.proofs.Roots.{root_at_link}
@@ -78,11 +78,6 @@ taken_word index word link era (Taken t j w l e) x h a = cc
 
 -- it is that of the seat's protection
 asked_protect : (layout : Layout) (index : ℕ) (root : Root) (at : ProtectAt) (d : Deal) (x : ℕ) → fits (protect_role layout index root at) d ≡ true → asks_word d x ≡ true → link_number layout root ≡ x
-asked_protect layout index root (LoadClock tries) d x h a = absurd (quiet_word d x h a)
-asked_protect layout index root (PublishEra era tries) d x h a = absurd (quiet_word d x h a)
-asked_protect layout index root (LoadLink era tries) d x h a = absurd (quiet_word d x h a)
-asked_protect layout index root (CheckClock era tries link) d x h a = absurd (quiet_word d x h a)
-asked_protect layout index root PublishRequest d x h a = absurd (quiet_word d x h a)
 asked_protect layout index root LoadOwnClock d x h a = asked_word index (link_number layout root) d x h a
 asked_protect layout index root (PublishHelper first era last) d x h a = asked_word index (link_number layout root) d x h a
 asked_protect layout index root (LoadOwnLink first era last) d x h a = asked_word index (link_number layout root) d x h a
@@ -91,37 +86,17 @@ asked_protect layout index root (AnswerOwn first era link) d x h a = asked_word 
 asked_protect layout index root (LoadAnswer first) d x h a = waits_word index (link_number layout root) d x h a
 asked_protect layout index root (TakeAnswer link era) d x h a = answered_word index (link_number layout root) link era d x h a
 asked_protect layout index root (WithdrawRequest link era) d x h a = absurd (taken_word index (link_number layout root) link era d x h a)
-asked_protect layout index root (WithdrawHelper link era) d x h a = absurd (quiet_word d x h a)
-asked_protect layout index root LoadWithin d x h a = absurd (quiet_word d x h a)
-asked_protect layout index root (CheckUpper link) d x h a = absurd (quiet_word d x h a)
-asked_protect layout index root (RaiseUpper era) d x h a = absurd (quiet_word d x h a)
+asked_protect layout index root at d x h a = absurd (quiet_word d x h a)
 
 asked_move : (layout : Layout) (at : MoveAt) (d : Deal) (x : ℕ) → fits (move_role layout at) d ≡ true → asks_word d x ≡ true → ⊥
 asked_move layout (LoadEra helps) d x h a = quiet_word d x h a
-asked_move layout (LoadRequest e k shown) d x h a = quiet_word d x h a
-asked_move layout (ShowEra e k t j r) d x h a = quiet_word d x h a
-asked_move layout (LoadAsked e k t j r) d x h a = quiet_word d x h a
-asked_move layout (CheckEra e k t j r link) d x h a = quiet_word d x h a
-asked_move layout (AnswerAsked e k t j r link) d x h a = quiet_word d x h a
-asked_move layout (LoadReserved e k t j r link) d x h a = quiet_word d x h a
-asked_move layout (HandOver e k t j r link old) d x h a = quiet_word d x h a
-asked_move layout (HideEra e) d x h a = quiet_word d x h a
-asked_move layout (HideLate seen) d x h a = quiet_word d x h a
-asked_move layout (ExchangeClock e) d x h a = quiet_word d x h a
+asked_move layout at d x h a = quiet_word d x h a
 
 asked_base : (X : Type 0) (layout : Layout) (base : Base) (d : Deal) (x : ℕ) → fits (base_role layout base) d ≡ true → asks_word d x ≡ true
     → ((aim : Aim) (index : ℕ) (root : Root) (steps : ℕ) (at : ProtectAt) → base ≡ Protect aim index root steps at → link_number layout root ≡ x → X) → X
-asked_base X layout (Begin at) d x h a f = absurd (quiet_word d x h a)
 asked_base X layout (Protect aim index root steps at) d x h a f = f aim index root steps at refl (asked_protect layout index root at d x h a)
-asked_base X layout (Reload parent index slot era steps) d x h a f = absurd (quiet_word d x h a)
-asked_base X layout (Clear index) d x h a f = absurd (quiet_word d x h a)
-asked_base X layout Finish d x h a f = absurd (quiet_word d x h a)
-asked_base X layout Release d x h a f = absurd (quiet_word d x h a)
-asked_base X layout (Allocate at) d x h a f = absurd (quiet_word d x h a)
-asked_base X layout (Write slot row place) d x h a f = absurd (quiet_word d x h a)
-asked_base X layout (GiveUp slot) d x h a f = absurd (quiet_word d x h a)
-asked_base X layout (Retire at) d x h a f = absurd (quiet_word d x h a)
 asked_base X layout (Move at) d x h a f = absurd (asked_move layout at d x h a)
+asked_base X layout base d x h a f = absurd (quiet_word d x h a)
 
 asked_phase : (X : Type 0) (layout : Layout) (phase : Phase) (d : Deal) (x : ℕ) → fits (role_of layout phase) d ≡ true → asks_word d x ≡ true
     → ((why : Why) (aim : Aim) (index : ℕ) (root : Root) (steps : ℕ) (at : ProtectAt) → phase ≡ Runs why (Protect aim index root steps at) → link_number layout root ≡ x → X) → X
@@ -148,35 +123,11 @@ taken_link index word link era t j w l e x h k = grind (arith, nat_tests)
 taken_protect : (X : Type 0) (layout : Layout) (clock : ℕ) (status : ℕ → Status) (post : Post) (aim : Aim) (index : ℕ) (root : Root) (steps : ℕ) (at : ProtectAt) (t j w l e s : ℕ) → fits (protect_role layout index root at) (Taken t j w l e) ≡ true → (l == s + 1) ≡ true → under status root ≡ true
     → (tries_base clock status post (Protect aim index root steps at) s ≡ true → X) → X
 taken_protect X layout clock status post aim index root steps (WithdrawRequest link era) t j w l e s h k u f = f (both (link == s + 1) (under status root) (taken_link index (link_number layout root) link era t j w l e (s + 1) h k) u)
-taken_protect X layout clock status post aim index root steps (LoadClock tries) t j w l e s h k u f = absurd (cc)
-taken_protect X layout clock status post aim index root steps (PublishEra era tries) t j w l e s h k u f = absurd (cc)
-taken_protect X layout clock status post aim index root steps (LoadLink era tries) t j w l e s h k u f = absurd (cc)
-taken_protect X layout clock status post aim index root steps (CheckClock era tries link) t j w l e s h k u f = absurd (cc)
-taken_protect X layout clock status post aim index root steps PublishRequest t j w l e s h k u f = absurd (cc)
-taken_protect X layout clock status post aim index root steps LoadOwnClock t j w l e s h k u f = absurd (cc)
-taken_protect X layout clock status post aim index root steps (PublishHelper first era last) t j w l e s h k u f = absurd (cc)
-taken_protect X layout clock status post aim index root steps (LoadOwnLink first era last) t j w l e s h k u f = absurd (cc)
-taken_protect X layout clock status post aim index root steps (CheckOwnClock first era last link) t j w l e s h k u f = absurd (cc)
-taken_protect X layout clock status post aim index root steps (AnswerOwn first era link) t j w l e s h k u f = absurd (cc)
-taken_protect X layout clock status post aim index root steps (LoadAnswer first) t j w l e s h k u f = absurd (cc)
-taken_protect X layout clock status post aim index root steps (TakeAnswer link era) t j w l e s h k u f = absurd (cc)
-taken_protect X layout clock status post aim index root steps (WithdrawHelper link era) t j w l e s h k u f = absurd (cc)
-taken_protect X layout clock status post aim index root steps LoadWithin t j w l e s h k u f = absurd (cc)
-taken_protect X layout clock status post aim index root steps (CheckUpper link) t j w l e s h k u f = absurd (cc)
-taken_protect X layout clock status post aim index root steps (RaiseUpper era) t j w l e s h k u f = absurd (cc)
+taken_protect X layout clock status post aim index root steps at t j w l e s h k u f = absurd (cc)
 
 taken_move : (layout : Layout) (at : MoveAt) (t j w l e : ℕ) → fits (move_role layout at) (Taken t j w l e) ≡ true → ⊥
 taken_move layout (LoadEra helps) t j w l e h = cc
-taken_move layout (LoadRequest era k shown) t j w l e h = cc
-taken_move layout (ShowEra era k tag index r) t j w l e h = cc
-taken_move layout (LoadAsked era k tag index r) t j w l e h = cc
-taken_move layout (CheckEra era k tag index r link) t j w l e h = cc
-taken_move layout (AnswerAsked era k tag index r link) t j w l e h = cc
-taken_move layout (LoadReserved era k tag index r link) t j w l e h = cc
-taken_move layout (HandOver era k tag index r link old) t j w l e h = cc
-taken_move layout (HideEra era) t j w l e h = cc
-taken_move layout (HideLate seen) t j w l e h = cc
-taken_move layout (ExchangeClock era) t j w l e h = cc
+taken_move layout at t j w l e h = cc
 
 taken_phase : (X : Type 0) (layout : Layout) (clock : ℕ) (status : ℕ → Status) (post : Post) (phase : Phase) (t j w l e s : ℕ) → fits (role_of layout phase) (Taken t j w l e) ≡ true → (l == s + 1) ≡ true → under status (root_for phase) ≡ true
     → ((why : Why) (base : Base) → phase ≡ Runs why base → tries_base clock status post base s ≡ true → X) → X
@@ -238,16 +189,7 @@ carried_protect X layout clock status deal d post aim index root steps (TakeAnsw
 carried_protect X layout clock status deal d post aim index root steps (WithdrawRequest link era) s h c u f g a = f (both (link == s + 1) (under status root) c u)
 carried_protect X layout clock status deal d post aim index root steps (WithdrawHelper link era) s h c u f g a = f (both (link == s + 1) (under status root) c u)
 carried_protect X layout clock status deal d post aim index root steps (CheckUpper link) s h c u f g a = f (inner (link == s + 1) (clock == upper post.span) (under status root) c u)
-carried_protect X layout clock status deal d post aim index root steps (LoadClock tries) s h c u f g a = absurd (cc)
-carried_protect X layout clock status deal d post aim index root steps (PublishEra era tries) s h c u f g a = absurd (cc)
-carried_protect X layout clock status deal d post aim index root steps (LoadLink era tries) s h c u f g a = absurd (cc)
-carried_protect X layout clock status deal d post aim index root steps PublishRequest s h c u f g a = absurd (cc)
-carried_protect X layout clock status deal d post aim index root steps LoadOwnClock s h c u f g a = absurd (cc)
-carried_protect X layout clock status deal d post aim index root steps (PublishHelper first era last) s h c u f g a = absurd (cc)
-carried_protect X layout clock status deal d post aim index root steps (LoadOwnLink first era last) s h c u f g a = absurd (cc)
-carried_protect X layout clock status deal d post aim index root steps (LoadAnswer first) s h c u f g a = absurd (cc)
-carried_protect X layout clock status deal d post aim index root steps LoadWithin s h c u f g a = absurd (cc)
-carried_protect X layout clock status deal d post aim index root steps (RaiseUpper era) s h c u f g a = absurd (cc)
+carried_protect X layout clock status deal d post aim index root steps at s h c u f g a = absurd (cc)
 
 reload_same : (slot s : ℕ) (u : Bool) → (slot + 1 == s + 1) ≡ true → u ≡ true → (slot == s && u) ≡ true
 reload_same slot s u h k = grind (arith, nat_tests)
@@ -321,15 +263,7 @@ helped_move w i k m s v z why (AnswerAsked era seat tag index root link) d b a t
     let y = helps_root w k v z tag index root d b t q j o u in
     r.loaded m why (Move (AnswerAsked era seat tag index root link)) s e
     (both (open_by tag index (link_number w.layout root) (z.deal seat)) (link == s + 1 && under v.status root) x (both (link == s + 1) (under v.status root) l y))
-helped_move w i k m s v z why (LoadEra helps) d b a t q r e h u = absurd (cc)
-helped_move w i k m s v z why (LoadRequest era seat shows) d b a t q r e h u = absurd (cc)
-helped_move w i k m s v z why (ShowEra era seat tag index root) d b a t q r e h u = absurd (cc)
-helped_move w i k m s v z why (LoadAsked era seat tag index root) d b a t q r e h u = absurd (cc)
-helped_move w i k m s v z why (LoadReserved era seat tag index root link) d b a t q r e h u = absurd (cc)
-helped_move w i k m s v z why (HandOver era seat tag index root link old) d b a t q r e h u = absurd (cc)
-helped_move w i k m s v z why (HideEra era) d b a t q r e h u = absurd (cc)
-helped_move w i k m s v z why (HideLate seen) d b a t q r e h u = absurd (cc)
-helped_move w i k m s v z why (ExchangeClock era) d b a t q r e h u = absurd (cc)
+helped_move w i k m s v z why at d b a t q r e h u = absurd (cc)
 
 helped_left : (w : World) (i k m s : ℕ) (v : View) (z : Asked) (phase : Phase) → is_valid w.layout ≡ true → Seats w → Eras w → Slots w → Requests w z → RowsLeft w i v z.deal → (w.seat m).phase ≡ phase → helps_in w.layout (w.mem Clock) k phase (z.deal k) (s + 1) ≡ true → under v.status (root_in w k) ≡ true → IsLeft w i s
 helped_left w i k m s v z Idle d b a t q r e h u = absurd (cc)

@@ -23,19 +23,20 @@ use Rattle.laws.specs.StateAt.{same_value, began_by, began_of, with_told, told_o
 use Rattle.inv_all.specs.history.Record.{Past, Each, tells_of}
 use Rattle.inv_all.specs.history.Record.Past.{Then}
 use Rattle.inv_all.proofs.history.Entries.{entries_of_each}
-use Rattle.inv_all.specs.history.History.{Begins, Steps, Made, fits, done, first_made, record_of}
+use Rattle.inv_all.specs.history.History.{Begins, Steps, Made, done, first_made, record_of}
 use Rattle.inv_all.proofs.history.Along.{Steady, items_keep}
 use Rattle.inv_all.specs.Inv.{Inv}
 use Rattle.inv_all.proofs.Inv.Begun.{inv_start, inv_begin}
 use Rattle.inv_all.proofs.Inv.Kept.{inv_kept}
 use Rattle.laws.specs.AnswerLaw.{owes, suits, same_told, answer_right, answers_ok}
 use Rattle.law_answers.specs.Records.{RecordsKeepAnswers}
-use Rattle.inv_all.proofs.Each.{all_of}
-use Rattle.inv_all.proofs.Machines.{is_within, told_within, end_still}
+use Rattle.inv_all.proofs.history.AllOf.{all_of}
+use Rattle.inv_all.proofs.Machines.{is_within, end_still, within_of}
 use Rattle.law_answers.proofs.AnswersTold.Owed.{loud_one, loud, loud_along, loud_still, is_open, Serves, owed, out_owed, OutServes, Told, Owes, append_none}
 use Rattle.law_answers.proofs.AnswersTold.Moves.{phase_ends}
 use Rattle.law_answers.proofs.AnswersTold.Owing.{turn_owes, first_serves, first_owes}
 use Rattle.laws.proofs.Tells.{tells_both}
+use Rattle.inv_all.proofs.history.MayTell.{own_two}
 
 -- what a seat told, after more entries
 pub append_one : (xs ys : List Event) (x : Event) → (xs ++ x ∷ []) ++ ys ≡ xs ++ x ∷ ys
@@ -105,15 +106,12 @@ pub value_same : (x : Option ℕ) → same_value x x ≡ true
 value_same None = refl
 value_same (Some n) = grind (arith, nat_tests)
 
-pair_same : (a b : ℕ) → (a == a && b == b) ≡ true
-pair_same a b = both (a == a) (b == b) (same_number a) (same_number b)
-
 owed_same : (n : ℕ) (call : Call) (answer : Answer) → same_told (owes n call answer) (owes n call answer) ≡ true
-owed_same n (names.Get key) (the_answers.Got version value) = both ((key % n == key % n && version == version) && (key == key && same_value value value)) true (both (key % n == key % n && version == version) (key == key && same_value value value) (pair_same (key % n) version) (both (key == key) (same_value value value) (same_number key) (value_same value))) refl
-owed_same n (names.Put key value) (the_answers.Done version clock) = both ((key % n == key % n && version == version) && (key == key && value == value)) true (both (key % n == key % n && version == version) (key == key && value == value) (pair_same (key % n) version) (pair_same key value)) refl
-owed_same n (names.Remove key) (the_answers.Done version clock) = both ((key % n == key % n && version == version) && key == key) true (both (key % n == key % n && version == version) (key == key) (pair_same (key % n) version) (same_number key)) refl
-owed_same n (names.Enqueue value) (the_answers.Queued number) = both (number == number && value == value) true (pair_same number value) refl
-owed_same n names.Dequeue (the_answers.Taken number value clock) = both (number == number && value == value) true (pair_same number value) refl
+owed_same n (names.Get key) (the_answers.Got version value) = both ((key % n == key % n && version == version) && (key == key && same_value value value)) true (both (key % n == key % n && version == version) (key == key && same_value value value) (own_two (key % n) version) (both (key == key) (same_value value value) (same_number key) (value_same value))) refl
+owed_same n (names.Put key value) (the_answers.Done version clock) = both ((key % n == key % n && version == version) && (key == key && value == value)) true (both (key % n == key % n && version == version) (key == key && value == value) (own_two (key % n) version) (own_two key value)) refl
+owed_same n (names.Remove key) (the_answers.Done version clock) = both ((key % n == key % n && version == version) && key == key) true (both (key % n == key % n && version == version) (key == key) (own_two (key % n) version) (same_number key)) refl
+owed_same n (names.Enqueue value) (the_answers.Queued number) = both (number == number && value == value) true (own_two number value) refl
+owed_same n names.Dequeue (the_answers.Taken number value clock) = both (number == number && value == value) true (own_two number value) refl
 owed_same n call answer = refl
 
 answer_is : (n : ℕ) (call : Call) (answer : Answer) (began : Option Call) (told : List Event) → began ≡ Some call → told ≡ owes n call answer → suits call answer ≡ true → answer_right n began told answer ≡ true
@@ -166,9 +164,6 @@ pub owes_of : (n : ℕ) (w : World) (i : ℕ) → w.layout.config.buckets ≡ n 
 owes_of n w i e a s =
     let k = a.known in
     turn_owes n (w.seat i).call (w.seat i).phase (counted (w.seat i).post) (w.seat i).desk (finds w i) (phase_ends w i k.seats) (ap (λ (table : Layout). table.config.buckets) (k.seats.fits i).post.layout ∙ e) s
-
-pub within_of : (w : World) (i : ℕ) → all_of is_within (told_in w i) ≡ true
-within_of w i = told_within (w.seat i).phase (counted (w.seat i).post) (w.seat i).desk (finds w i)
 
 step_right : (n : ℕ) (w : World) (i k : ℕ) (p : Past) (same : Bool) → (k == i) ≡ same → is_busy w i ≡ true → Inv w → w.layout.config.buckets ≡ n → ((m : ℕ) → Right n (w.seat m) (began_of m p) (told_of m p)) → Right n ((step w i).seat k) (began_of k (tells_of p i (told_in w i))) (told_of k (tells_of p i (told_in w i)))
 step_right n w i k p true e b a d g =

@@ -8,9 +8,9 @@ use Rattle.wfe_core.specs.MoveClock as movers
 use Rattle.wfe_core.specs.SlowPath.{asking}
 use Rattle.wfe_core.specs.Posts.{counted}
 use Rattle.wfe_core.specs.Phases.{MoveAt, Turn, Base}
-use Rattle.wfe_core.specs.Phases.MoveAt.{LoadEra, LoadRequest, ShowEra, LoadAsked, CheckEra, AnswerAsked, LoadReserved, HandOver, HideEra, HideLate, ExchangeClock}
-use Rattle.wfe_core.specs.Phases.Base.{Begin, Protect, Reload, Clear, Finish, Release, Allocate, Write, GiveUp, Retire, Move}
-use Rattle.wfe_core.specs.Calls.{Why, Opens, FollowsHead, Fills, ClearsNext, Clears, Finishes, GivesUp, Retires, Tidies, Advances, Releases, Phase, Idle, Runs, Scans, Works}
+use Rattle.wfe_core.specs.Phases.MoveAt.{LoadEra, CheckEra, AnswerAsked, LoadReserved, HandOver, ExchangeClock}
+use Rattle.wfe_core.specs.Phases.Base.{Move}
+use Rattle.wfe_core.specs.Calls.{Why, Advances, Phase, Idle, Runs, Scans, Works}
 use Rattle.wfe_core.specs.World.{World, finds}
 use Rattle.inv_all.specs.shapes.Seats.{ToMove, suits, Seats, Run}
 use Rattle.law_answers.proofs.AnswersTold.Owed.{out_clocked, EndsFor}
@@ -27,42 +27,20 @@ clocked_handed era seat tag index old post false = refl
 
 move_clocked : (at : MoveAt) (post : Post) (found : ℕ) → out_clocked (machine.move_turn at post found).outcome ≡ true
 move_clocked (LoadEra helps) post found = clocked_if _ _ (found == post.layout.config.last_era) refl refl
-move_clocked (LoadRequest era seat shows) post found = refl
-move_clocked (ShowEra era seat tag index root) post found = refl
-move_clocked (LoadAsked era seat tag index root) post found = refl
 move_clocked (CheckEra era seat tag index root link) post found = clocked_if _ _ (found == era) refl refl
 move_clocked (AnswerAsked era seat tag index root link) post found = clocked_if _ _ (found == asking post.layout tag index root) refl refl
 move_clocked (LoadReserved era seat tag index root link) post found = clocked_if _ _ ((read_reservation found).tag == tag) refl refl
 move_clocked (HandOver era seat tag index root link old) post found = clocked_handed era seat tag index old post (found == reservation_word (record { era = old; tag = tag }))
-move_clocked (HideEra era) post found = refl
-move_clocked (HideLate seen) post found = refl
 move_clocked (ExchangeClock era) post found = clocked_if _ _ (found == era) refl refl
+move_clocked at post found = refl
 
 base_clocked : (base : Base) (post : Post) (found : ℕ) → suits base ToMove ≡ true → out_clocked (machine.after base post found).outcome ≡ true
 base_clocked (Move at) post found s = move_clocked at post found
-base_clocked (Begin at) post found s = absurd (cc)
-base_clocked (Protect aim index root steps at) post found s = absurd (cc)
-base_clocked (Reload parent index slot era steps) post found s = absurd (cc)
-base_clocked (Clear index) post found s = absurd (cc)
-base_clocked Finish post found s = absurd (cc)
-base_clocked Release post found s = absurd (cc)
-base_clocked (Allocate at) post found s = absurd (cc)
-base_clocked (Write slot row place) post found s = absurd (cc)
-base_clocked (GiveUp slot) post found s = absurd (cc)
-base_clocked (Retire at) post found s = absurd (cc)
+base_clocked base post found s = absurd (cc)
 
 run_ends : (w : World) (i : ℕ) (why : Why) (base : Base) → Run w.layout why base (w.seat i).post → EndsFor why (machine.after base (counted (w.seat i).post) (finds w i)).outcome
 run_ends w i Advances base r = base_clocked base (counted (w.seat i).post) (finds w i) r.suited
-run_ends w i (Opens task) base r = tt
-run_ends w i (FollowsHead head tail) base r = tt
-run_ends w i (Fills task) base r = tt
-run_ends w i (ClearsNext next) base r = tt
-run_ends w i (Clears task next) base r = tt
-run_ends w i (Finishes task next) base r = tt
-run_ends w i (GivesUp answer) base r = tt
-run_ends w i (Retires answer) base r = tt
-run_ends w i (Tidies later) base r = tt
-run_ends w i (Releases key) base r = tt
+run_ends w i why base r = tt
 
 ends_by : (w : World) (i : ℕ) (phase : Phase) → Seats w → (w.seat i).phase ≡ phase → PhaseEnds phase (counted (w.seat i).post) (finds w i)
 ends_by w i Idle s e = tt

@@ -35,11 +35,12 @@ use Rattle.wfe_core.specs.Steps as steps
 use Rattle.wfe_core.specs.Rounds.{scheme_of, bucket_of, index_of, key_of, taken_of, begin_base, round, round_by, finish_base, clear_base, clear_post, clear_told, given_up, closed, finishing_by, finishing, clearing_by, clearing, clearing_next_by, clearing_next}
 use Rattle.wfe_core.specs.Phases.{Base, Ending, Outcome, Goes, Ends}
 use Rattle.wfe_core.specs.Phases.Ending.{Done, Protected, Followed, Allocated, Retired, Clocked}
-use Rattle.wfe_core.specs.Calls.{Task, Gets, Changes, Holds, Enqueues, Dequeues, Next, Again, MakeRoom, Answering, Retiring, AfterScan, Answered, Repeated, Counted, ChangeKept, EnqueueKept, GetAt, FindVersion, FindCount, FindKey, FindValue, ChangeAt, LoadVersion, LoadCount, LoadKey, LoadValue, ExchangeRoot, EnqueueAt, LoadNumber, LoadNext, PassTail, ExchangeNext, ExchangeTail, DequeueAt, LoadTail, SwingTail, TakeNumber, TakeValue, ExchangeHead, Work, Getting, Changing, Enqueuing, Dequeuing, ScanAt, ReadGuard, GiveBack, Why, Opens, FollowsHead, Fills, ClearsNext, Clears, Finishes, GivesUp, Retires, Tidies, Advances, Releases, Phase, Idle, Runs, Scans, Works}
+use Rattle.wfe_core.specs.Calls.{Task, Gets, Changes, Holds, Enqueues, Dequeues, Next, Again, MakeRoom, Answering, Retiring, AfterScan, Answered, Repeated, Counted, ChangeKept, EnqueueKept, GetAt, FindVersion, FindCount, FindKey, FindValue, ChangeAt, LoadVersion, LoadCount, LoadKey, LoadValue, ExchangeRoot, EnqueueAt, LoadNumber, LoadNext, PassTail, ExchangeNext, ExchangeTail, DequeueAt, SwingTail, ExchangeHead, Work, Getting, Changing, Enqueuing, Dequeuing, ScanAt, ReadGuard, GiveBack, Why, Opens, FollowsHead, Fills, ClearsNext, Clears, Finishes, GivesUp, Retires, Tidies, Advances, Releases, Phase, Idle, Runs, Scans, Works}
 use Rattle.wfe_core.proofs.Frames.{after_same}
 use Rattle.wfe_core.proofs.Facts.{both}
 use Rattle.laws.specs.AnswerLaw.{owes, suits}
-use Rattle.inv_all.proofs.Machines.{is_still, of_along, base_machine, clear_machine}
+use Rattle.inv_all.proofs.history.AllOf.{of_along}
+use Rattle.inv_all.proofs.Machines.{is_still, base_machine, clear_machine}
 use Rattle.law_answers.proofs.AnswersTold.Owed.{call_for, TaskServes, NextServes, LaterServes, FreeServes, WhyServes, WorkServes, Serves, next_owed, later_owed, why_owed, enqueue_owed, work_owed, owed, Told, Owes, ends_clocked, EndsFor, told_machine, told_more, told_none, clock_owes, clock_suits, is_open, loud, loud_along, append_none}
 
 -- a round begins
@@ -297,11 +298,9 @@ taken_owes n call head next number value post desk true c =
 taken_owes n call head next number value post desk false c = clearing_next_owes n call [] Again post desk [] c tt told_none
 
 dequeue_owes : (n : ℕ) (call : Call) (at : DequeueAt) (post : Post) (desk : Desk) (found : ℕ) → call ≡ names.Dequeue → Owes n call [] (dequeues.dequeue_turn at post desk found)
-dequeue_owes n call (LoadTail head) post desk found c = record { told = told_none; serves = c }
 dequeue_owes n call (SwingTail head next) post desk found c = clearing_next_owes n call [] Again post desk (enqueues.told_link roots.Tail next (found == head + 1)) c tt (link_only roots.Tail next (found == head + 1))
-dequeue_owes n call (TakeNumber head next) post desk found c = record { told = told_none; serves = c }
-dequeue_owes n call (TakeValue head next number) post desk found c = record { told = told_none; serves = c }
 dequeue_owes n call (ExchangeHead head next number value) post desk found c = taken_owes n call head next number value post desk (found == head + 1) c
+dequeue_owes n call at post desk found c = record { told = told_none; serves = c }
 
 work_owes : (n : ℕ) (call : Call) (work : Work) (post : Post) (desk : Desk) (found : ℕ) → post.layout.config.buckets ≡ n → WorkServes call work → Owes n call (work_owed n call work) (steps.work_turn work post desk found)
 work_owes n call (Getting key at) post desk found e c = get_owes n call key at post desk found e c

@@ -22,7 +22,7 @@ use Rattle.wfe_core.specs.Posts.{counted}
 use Rattle.wfe_core.specs.Rounds.{scheme_of, bucket_of, clear_post, clear_told}
 use Rattle.wfe_core.specs.Phases.{Base, Ending, Outcome, Goes, Ends}
 use Rattle.wfe_core.specs.Phases.Ending.{Done, Protected, Followed, Allocated, Retired, Clocked}
-use Rattle.wfe_core.specs.Calls.{Task, Gets, Changes, Holds, Enqueues, Dequeues, GetAt, FindVersion, FindCount, FindKey, FindValue, Work, Getting, Changing, Enqueuing, Dequeuing, Why, Opens, FollowsHead, Fills, ClearsNext, Clears, Finishes, GivesUp, Retires, Tidies, Advances, Releases, Phase, Idle, Runs, Scans, Works}
+use Rattle.wfe_core.specs.Calls.{Task, Gets, Changes, Holds, Enqueues, Dequeues, GetAt, FindVersion, FindCount, FindKey, FindValue, Work, Getting, Changing, Enqueuing, Dequeuing, Why, Opens, Phase, Idle, Runs, Scans, Works}
 use Rattle.wfe_core.specs.World.{World, finds, told_in}
 use Rattle.wfe_core.proofs.Frames.{after_same}
 use Rattle.wfe_core.proofs.Facts.{both}
@@ -35,8 +35,8 @@ use Rattle.inv_all.proofs.contents.Contents.Lasts.{on}
 use Rattle.inv_all.specs.Known.{Known}
 use Rattle.inv_all.proofs.history.Passes.{Closing, First, scan_told, get_allows, ending_allows, why_allows, outcome_allows, work_allows, phase_allows, step_closes}
 use Rattle.law_answers.proofs.Lawful.Current.{Current, shelf_since, since_is, link_since}
-use Rattle.inv_all.proofs.Each.{all_of}
-use Rattle.inv_all.proofs.Machines.{is_machine, is_still, of_along, of_weaker, machine_still, base_machine, scan_machine, clear_machine, cut_still, link_still, end_still}
+use Rattle.inv_all.proofs.history.AllOf.{all_of, of_along, of_weaker}
+use Rattle.inv_all.proofs.Machines.{is_machine, is_still, machine_still, base_machine, scan_machine, clear_machine, cut_still, link_still, end_still}
 use Rattle.law_answers.proofs.Lawful.Nulls.{null_tracked, null_root}
 
 -- among so many buckets, which had been changed so often
@@ -159,16 +159,7 @@ ending_knows w i v l z base task one (Clocked clock) a c e o = tt
 
 why_knows : (w : World) (i : ℕ) (v : View) (l : Line) (z : Asked) (base : ℕ → ℕ → ℕ) (why : Why) (one : Base) (ending : Ending) → Known w v l z → Current base w z → (w.seat i).phase ≡ Runs why one → (machine.after one (counted (w.seat i).post) (finds w i)).outcome ≡ Ends ending → why_allows (Allowed w.layout (base i)) why ending
 why_knows w i v l z base (Opens task) one ending a c e o = ending_knows w i v l z base task one ending a c e o
-why_knows w i v l z base (FollowsHead head tail) one ending a c e o = tt
-why_knows w i v l z base (Fills task) one ending a c e o = tt
-why_knows w i v l z base (ClearsNext next) one ending a c e o = tt
-why_knows w i v l z base (Clears task next) one ending a c e o = tt
-why_knows w i v l z base (Finishes task next) one ending a c e o = tt
-why_knows w i v l z base (GivesUp answer) one ending a c e o = tt
-why_knows w i v l z base (Retires answer) one ending a c e o = tt
-why_knows w i v l z base (Tidies later) one ending a c e o = tt
-why_knows w i v l z base Advances one ending a c e o = tt
-why_knows w i v l z base (Releases key) one ending a c e o = tt
+why_knows w i v l z base why one ending a c e o = tt
 
 outcome_knows : (w : World) (i : ℕ) (v : View) (l : Line) (z : Asked) (base : ℕ → ℕ → ℕ) (why : Why) (one : Base) (outcome : Outcome) → Known w v l z → Current base w z → (w.seat i).phase ≡ Runs why one → (machine.after one (counted (w.seat i).post) (finds w i)).outcome ≡ outcome → outcome_allows (Allowed w.layout (base i)) why outcome
 outcome_knows w i v l z base why one (Goes next) a c e o = tt

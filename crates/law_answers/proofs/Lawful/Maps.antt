@@ -36,7 +36,7 @@ use Rattle.inv_all.proofs.Inv.Kept.{known_kept, asked_next}
 use Rattle.inv_all.proofs.Inv.Tells.{inv_tells}
 use Rattle.law_answers.specs.MapKept.{RecordsKeepMap}
 use Rattle.law_answers.proofs.Lawful.Current.{Current, base_begun, current_start, current_begin, current_kept, current_same}
-use Rattle.inv_all.proofs.Each.{all_of}
+use Rattle.inv_all.proofs.history.AllOf.{all_of}
 use Rattle.law_answers.proofs.Lawful.Gots.{got_new, told_new}
 use Rattle.inv_all.proofs.Machines.{is_within, is_still, one_loud, told_within, told_loud}
 use Rattle.law_answers.proofs.AnswersTold.Answering.{value_same}

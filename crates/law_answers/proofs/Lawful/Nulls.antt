@@ -1,6 +1,5 @@
 -- A protection that ends with null has a null link that was tracked.
-use Rattle.std.proofs.Common.{ℕ, ◌≡◌, ◌-◌, Bool, true, false, List, arith, refl, sym, subst, ◌∙◌, ap}
-use Rattle.std.proofs.lemmas.Bool.Decides.{nat_tests}
+use Rattle.std.proofs.Common.{ℕ, ◌≡◌, ◌-◌, Bool, true, false, List, refl, sym, subst, ◌∙◌, ap}
 use Rattle.std.specs.Prelude.{◌==◌, ◌&&◌, if◌then◌else◌, []}
 use Rattle.wfe_core.specs.words.Place.Place.{Clock}
 use Rattle.wfe_core.specs.defs.declared.event.Event.{Event}
@@ -14,16 +13,14 @@ use Rattle.wfe_core.specs.Protect.{held_post, told_held, concluded, failed_once}
 use Rattle.wfe_core.specs.SlowPath.{own_request}
 use Rattle.wfe_core.specs.Phases.{Aim, Alone, Follows, ProtectAt, Base, Outcome, Ends, Turn, goes}
 use Rattle.wfe_core.specs.Phases.Ending.{Protected}
-use Rattle.wfe_core.specs.Phases.ProtectAt.{LoadClock, PublishEra, LoadLink, CheckClock, PublishRequest, LoadOwnClock, PublishHelper, LoadOwnLink, CheckOwnClock, AnswerOwn, LoadAnswer, TakeAnswer, WithdrawRequest, WithdrawHelper, LoadWithin, CheckUpper, RaiseUpper}
+use Rattle.wfe_core.specs.Phases.ProtectAt.{PublishEra, CheckClock, CheckOwnClock, AnswerOwn, WithdrawHelper, CheckUpper, RaiseUpper}
 use Rattle.wfe_core.specs.Phases.Base.{Begin, Protect, Reload, Clear, Finish, Release, Allocate, Write, GiveUp, Retire, Move}
 use Rattle.wfe_core.specs.Calls.{Why, Phase, Runs}
 use Rattle.wfe_core.specs.World.{World, finds}
 use Rattle.inv_all.specs.requests.Views.{View}
-use Rattle.inv_all.specs.links.Tracked.{carries_at, carries_in, root_for, root_in, Tracked, Carried}
+use Rattle.inv_all.specs.links.Tracked.{carries_at, carries_in, root_in, Tracked, Carried}
 use Rattle.inv_all.specs.shapes.Seats.{Seats, root_by}
-use Rattle.inv_all.proofs.links.Origins.Came.{aimed_at}
 use Rattle.inv_all.proofs.links.Origins.Plain.{out_plain, is_plain, plain_after, out_moves, moves_on}
-use Rattle.inv_all.proofs.covers.Held.{finds_at}
 use Rattle.inv_all.proofs.links.Origins.Ends.{ProtectIs, found_clock, root_of}
 use Rattle.wfe_core.proofs.Facts.{both}
 
@@ -46,25 +43,14 @@ check_link found own aim index root n link era post next told base true e h = bo
 check_link found own aim index root n link era post next told base false e h = absurd (cc)
 
 protect_link : (aim : Aim) (index : ℕ) (root : Root) (n : ℕ) (at : ProtectAt) (post : Post) (found : ℕ) → (protect_turn aim index root n at post found).outcome ≡ Ends (Protected (protect_ends.Null)) → carries_at found (upper post.span) at 0 ≡ true
-protect_link aim index root n (LoadClock tries) post found h = absurd (cc)
-protect_link aim index root n (PublishEra era tries) post found h = absurd (cc)
-protect_link aim index root n (LoadLink era tries) post found h = absurd (cc)
 protect_link aim index root n (CheckClock era tries link) post found h =
     check_link found era aim index root n link era post (held_post post index root link) (told_held index root link n) (Protect aim index root n (PublishEra found (failed_once tries))) (found == era) refl h
-protect_link aim index root n PublishRequest post found h = absurd (cc)
-protect_link aim index root n LoadOwnClock post found h = absurd (cc)
-protect_link aim index root n (PublishHelper first era end) post found h = absurd (cc)
-protect_link aim index root n (LoadOwnLink first era end) post found h = absurd (cc)
 protect_link aim index root n (CheckOwnClock first era end link) post found h = absurd (follows_link _ _ (found == era) (λ g. cc) (λ g. cc) h)
 protect_link aim index root n (AnswerOwn first era link) post found h = absurd (follows_link _ _ (found == own_request post index root) (λ g. cc) (λ g. cc) h)
-protect_link aim index root n (LoadAnswer first) post found h = absurd (cc)
-protect_link aim index root n (TakeAnswer link era) post found h = absurd (cc)
-protect_link aim index root n (WithdrawRequest link era) post found h = absurd (cc)
 protect_link aim index root n (WithdrawHelper link era) post found h = concluded_link aim index root n link era post (reserves_helper post 0) h
-protect_link aim index root n LoadWithin post found h = absurd (cc)
 protect_link aim index root n (CheckUpper link) post found h =
     check_link found (upper post.span) aim index root n link found post (held_post post index root link) (told_held index root link n) (Protect aim index root n (RaiseUpper found)) (found == upper post.span) refl h
-protect_link aim index root n (RaiseUpper era) post found h = absurd (cc)
+protect_link aim index root n at post found h = absurd (cc)
 
 -- other machines do not end so
 not_plain : (outcome : Outcome) → out_plain outcome ≡ true → outcome ≡ Ends (Protected (protect_ends.Null)) → ⊥

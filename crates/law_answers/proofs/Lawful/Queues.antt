@@ -23,7 +23,7 @@ use Rattle.inv_all.proofs.Inv.Tells.{inv_tells}
 use Rattle.laws.specs.StateAt.{queued_of, taken_of}
 use Rattle.laws.specs.QueueLaw.{queue_ok}
 use Rattle.law_answers.specs.Records.{RecordsKeepQueue}
-use Rattle.inv_all.proofs.Each.{all_of}
+use Rattle.inv_all.proofs.history.AllOf.{all_of}
 use Rattle.inv_all.proofs.Machines.{is_still, one_loud, told_loud}
 
 -- what was queued and taken by the record is what the book says

@@ -1,36 +1,21 @@
 -- A turn tells at most one event that an atomic step makes.
-use Rattle.std.proofs.Common.{ℕ, ◌≡◌, ◌-◌, ◌+◌, Bool, true, false, List, [], ◌∷◌, ◌++◌, Option, Some, None, refl, arith}
+use Rattle.std.proofs.Common.{ℕ, ◌≡◌, ◌-◌, ◌+◌, Bool, true, false, List, [], ◌∷◌, ◌++◌, refl, arith}
 use Rattle.std.specs.Prelude.{◌==◌, not, if◌then◌else◌}
 use Rattle.wfe_core.specs.words.declared.config.SchemeKind.{SchemeKind}
-use Rattle.wfe_core.specs.words.declared.config.SchemeKind.TheVariants.{He, Ibr, Wfe}
-use Rattle.wfe_core.specs.words.Packed.{read_reservation, reservation_word}
 use Rattle.wfe_core.specs.defs.declared.event.Event.{Event}
 use Rattle.wfe_core.specs.defs.declared.event.Event.TheVariants as events
 use Rattle.wfe_core.specs.defs.declared.event.Root.{Root}
-use Rattle.wfe_core.specs.defs.declared.event.Root.TheVariants as roots
 use Rattle.wfe_core.specs.defs.declared.fold.Change.{Change}
 use Rattle.wfe_core.specs.declared.post.Post.{Post}
-use Rattle.wfe_core.specs.Allocate as allocates
 use Rattle.wfe_core.specs.Change as alters
 use Rattle.wfe_core.specs.Desks.{Desk}
 use Rattle.wfe_core.specs.Enqueue as enqueues
 use Rattle.wfe_core.specs.Locals.{told_by, told_end}
 use Rattle.wfe_core.specs.Machine as machine
-use Rattle.wfe_core.specs.Memory.{bump}
-use Rattle.wfe_core.specs.MoveClock as movers
-use Rattle.wfe_core.specs.Posts.{stands, cleared, counted, upper, reserves_index, reserves_helper, reserves_span}
-use Rattle.wfe_core.specs.Protect as protects
+use Rattle.wfe_core.specs.Posts.{counted}
 use Rattle.wfe_core.specs.Rounds.{scheme_of, clear_told, bucket_of}
-use Rattle.wfe_core.specs.SlowPath.{asking, own_request}
 use Rattle.wfe_core.specs.Steps as steps
-use Rattle.wfe_core.specs.WriteRow.{last_written}
-use Rattle.wfe_core.specs.Phases.{Aim, Alone, Follows, BeginAt, ProtectAt, AllocateAt, RetireAt, MoveAt, Walk, Base, Turn}
-use Rattle.wfe_core.specs.Phases.BeginAt.{LoadLower, PublishSpan}
-use Rattle.wfe_core.specs.Phases.ProtectAt.{LoadClock, PublishEra, LoadLink, CheckClock, PublishRequest, LoadOwnClock, PublishHelper, LoadOwnLink, CheckOwnClock, AnswerOwn, LoadAnswer, TakeAnswer, WithdrawRequest, WithdrawHelper, LoadWithin, CheckUpper, RaiseUpper}
-use Rattle.wfe_core.specs.Phases.AllocateAt.{LoadBirth, ClaimSlot, StoreLife}
-use Rattle.wfe_core.specs.Phases.RetireAt.{LoadLife, LoadRetire, StoreRetired}
-use Rattle.wfe_core.specs.Phases.MoveAt.{LoadEra, LoadRequest, ShowEra, LoadAsked, CheckEra, AnswerAsked, LoadReserved, HandOver, HideEra, HideLate, ExchangeClock}
-use Rattle.wfe_core.specs.Phases.Base.{Begin, Protect, Reload, Clear, Finish, Release, Allocate, Write, GiveUp, Retire, Move}
+use Rattle.wfe_core.specs.Phases.{Base}
 use Rattle.wfe_core.specs.Calls.{ScanAt, ReadGuard, GiveBack, ChangeKept, Phase, Idle, Runs, Scans, Works, CallOutcome, GoesOn, Answers}
 use Rattle.wfe_core.proofs.Facts.{both, first_of, rest_of, if_implies}
 use Rattle.inv_all.specs.history.Turns as schedule
@@ -40,6 +25,8 @@ use Rattle.inv_all.specs.history.Turns.{EachTurn}
 use Rattle.laws.specs.Schedule.{is_atomic, none_atomic, one_atomic, one_step}
 use Rattle.law_answers.specs.Records.{TurnsTellOne}
 use Rattle.law_answers.proofs.OneStep.Along.{Kept, history_keeps}
+use Rattle.inv_all.proofs.history.AllOf.{all_of}
+use Rattle.inv_all.proofs.history.MayTell.{Shape, Silent, Single, Clears, Takes, is_find, shape_of, clear_all}
 
 none_along : (xs ys : List Event) → none_atomic xs ≡ true → none_atomic ys ≡ true → none_atomic (xs ++ ys) ≡ true
 none_along [] ys h k = k
@@ -68,107 +55,34 @@ One told = one_atomic told ≡ true
 abbrev Without : List Event → Type 0
 Without told = none_atomic told ≡ true
 
-cleared_none : (index : ℕ) (x : Option ℕ) → Without (cleared index x)
-cleared_none index None = refl
-cleared_none index (Some slot) = refl
+none_all : (told : List Event) → all_of (λ event. not (is_atomic event)) told ≡ true → Without told
+none_all [] h = refl
+none_all (event ∷ told) h = both (not (is_atomic event)) (none_atomic told) (first_of (not (is_atomic event)) (all_of (λ other. not (is_atomic other)) told) h) (none_all told (rest_of (not (is_atomic event)) (all_of (λ other. not (is_atomic other)) told) h))
 
 clear_none : (scheme : SchemeKind) (post : Post) (index : ℕ) → Without (clear_told scheme post index)
-clear_none He post index = refl
-clear_none Ibr post index = cleared_none index (stands post index)
-clear_none Wfe post index = refl
+clear_none scheme post index = none_all (clear_told scheme post index) (clear_all (λ event. not (is_atomic event)) scheme post index (λ index slot. refl))
 
--- a protection
-link_none : (index slot n : ℕ) (none : Bool) → Without (if none then events.Null index n ∷ [] else events.Held index slot n ∷ [])
-link_none index slot n true = refl
-link_none index slot n false = refl
+-- a machine
+single_one : (event : Event) → One (event ∷ [])
+single_one event = by (is_atomic event)
+  where
+    by : (atomic : Bool) → (if atomic then true else true) ≡ true
+    by true = refl
+    by false = refl
 
-next_none : (index n : ℕ) (none : Bool) → Without (if none then events.Null index n ∷ [] else [])
-next_none index n true = refl
-next_none index n false = refl
+find_none : (event : Event) → is_find event ≡ true → Without (event ∷ [])
+find_none (events.Held index slot n) h = refl
+find_none (events.Null index n) h = refl
+find_none event h = absurd (cc)
 
-held_none : (index : ℕ) (root : Root) (link n : ℕ) → Without (protects.told_held index root link n)
-held_none index (roots.Next parent) link n = next_none index n (link == 0)
-held_none index (roots.Bucket bucket) link n = link_none index (link - 1) n (link == 0)
-held_none index roots.Head link n = link_none index (link - 1) n (link == 0)
-held_none index roots.Tail link n = link_none index (link - 1) n (link == 0)
-
-one_if : (c : Bool) (t u : Turn) → One t.told → One u.told → One (if c then t else u).told
-one_if true t u h k = h
-one_if false t u h k = k
-
-concluded_one : (aim : Aim) (index : ℕ) (root : Root) (n link era : ℕ) (post : Post) (told : List Event) → One told → One (protects.concluded aim index root n link era post told).told
-concluded_one Alone index root n link era post told h = h
-concluded_one Follows index root n link era post told h = one_if (link == 0) _ _ h h
-
-protected_one : (aim : Aim) (index : ℕ) (root : Root) (n link era : ℕ) (post : Post) → One (protects.protected aim index root n link era post).told
-protected_one aim index root n link era post = concluded_one aim index root n link era (protects.held_post post index root link) (protects.told_held index root link n) (none_one (protects.told_held index root link n) (held_none index root link n))
-
-protect_one : (aim : Aim) (index : ℕ) (root : Root) (n : ℕ) (at : ProtectAt) (post : Post) (found : ℕ) → One (machine.protect_turn aim index root n at post found).told
-protect_one aim index root n (LoadClock tries) post found = refl
-protect_one aim index root n (PublishEra era tries) post found = refl
-protect_one aim index root n (LoadLink era tries) post found = refl
-protect_one aim index root n (CheckClock era tries link) post found = one_if (found == era) _ _ (protected_one aim index root n link era post) refl
-protect_one aim index root n PublishRequest post found = refl
-protect_one aim index root n LoadOwnClock post found = refl
-protect_one aim index root n (PublishHelper first era last) post found = refl
-protect_one aim index root n (LoadOwnLink first era last) post found = refl
-protect_one aim index root n (CheckOwnClock first era last link) post found = one_if (found == era) _ _ refl refl
-protect_one aim index root n (AnswerOwn first era link) post found = one_if (found == own_request post index root) _ _ refl refl
-protect_one aim index root n (LoadAnswer first) post found = refl
-protect_one aim index root n (TakeAnswer link era) post found = one_along (reserves_index post index era) (protects.told_held index root link n) refl (held_none index root link n)
-protect_one aim index root n (WithdrawRequest link era) post found = refl
-protect_one aim index root n (WithdrawHelper link era) post found = concluded_one aim index root n link era post (reserves_helper post 0) refl
-protect_one aim index root n LoadWithin post found = refl
-protect_one aim index root n (CheckUpper link) post found = one_if (found == upper post.span) _ _ (protected_one aim index root n link found post) refl
-protect_one aim index root n (RaiseUpper era) post found = refl
-
-handed_one : (era seat tag index old : ℕ) (post : Post) (same : Bool) → One (movers.after_hand_over era seat tag index old post same).told
-handed_one era seat tag index old post true = refl
-handed_one era seat tag index old post false = refl
-
-move_one : (at : MoveAt) (post : Post) (found : ℕ) → One (machine.move_turn at post found).told
-move_one (LoadEra helps) post found = one_if (found == post.layout.config.last_era) _ _ refl refl
-move_one (LoadRequest era seat shows) post found = refl
-move_one (ShowEra era seat tag index root) post found = refl
-move_one (LoadAsked era seat tag index root) post found = refl
-move_one (CheckEra era seat tag index root link) post found = one_if (found == era) _ _ refl refl
-move_one (AnswerAsked era seat tag index root link) post found = one_if (found == asking post.layout tag index root) _ _ refl refl
-move_one (LoadReserved era seat tag index root link) post found = one_if ((read_reservation found).tag == tag) _ _ refl refl
-move_one (HandOver era seat tag index root link old) post found = handed_one era seat tag index old post (found == reservation_word (record { era = old; tag = tag }))
-move_one (HideEra era) post found = refl
-move_one (HideLate seen) post found = refl
-move_one (ExchangeClock era) post found = one_if (found == era) _ _ refl refl
-
-begin_one : (at : BeginAt) (post : Post) (found : ℕ) → One (machine.begin_turn at post found).told
-begin_one LoadLower post found = refl
-begin_one (PublishSpan era) post found = refl
-
-walking_one : (birth : ℕ) (post : Post) (x : Option Walk) → One (allocates.walking birth post x).told
-walking_one birth post None = refl
-walking_one birth post (Some walk) = refl
-
-allocate_one : (at : AllocateAt) (post : Post) (found : ℕ) → One (machine.allocate_turn at post found).told
-allocate_one LoadBirth post found = refl
-allocate_one (ClaimSlot birth walk) post found = one_if (allocates.is_claimed found walk.slot) _ _ (walking_one birth post (allocates.walk_past post.layout.config.slots walk found)) refl
-allocate_one (StoreLife birth slot) post found = refl
-
-retire_one : (at : RetireAt) (post : Post) (found : ℕ) → One (machine.retire_turn at post found).told
-retire_one (LoadLife slot) post found = refl
-retire_one (LoadRetire slot birth) post found = refl
-retire_one (StoreRetired slot birth retire) post found = refl
+shape_one : (base : Base) (post : Post) (found : ℕ) (told : List Event) → Shape base post found told → One told
+shape_one base post found told (Silent e) = rw e refl
+shape_one base post found told (Single event e a) = rw e (single_one event)
+shape_one base post found told (Clears index slot guard e a b) = rw e refl
+shape_one base post found told (Takes guard span event e t f a b) = rw e (find_none event f)
 
 base_one : (base : Base) (post : Post) (found : ℕ) → One (machine.after base post found).told
-base_one (Begin at) post found = begin_one at post found
-base_one (Protect aim index root steps at) post found = protect_one aim index root (bump steps) at post found
-base_one (Reload parent index slot era steps) post found = one_if (found == parent + 1) _ _ refl refl
-base_one (Clear index) post found = none_before (cleared index (stands post index)) (reserves_index post index 0) (cleared_none index (stands post index)) refl
-base_one Finish post found = refl
-base_one Release post found = none_before (cleared 2 (stands post 2)) (reserves_span post None) (cleared_none 2 (stands post 2)) refl
-base_one (Allocate at) post found = allocate_one at post found
-base_one (Write slot row place) post found = one_if (place == last_written row) _ _ refl refl
-base_one (GiveUp slot) post found = refl
-base_one (Retire at) post found = retire_one at post found
-base_one (Move at) post found = move_one at post found
+base_one base post found = shape_one base post found (machine.after base post found).told (shape_of base post found)
 
 scan_one : (at : ScanAt) (post : Post) (found : ℕ) → One (scan_told at post found)
 scan_one (ReadGuard number) post found = refl

@@ -25,10 +25,10 @@ use Rattle.inv_all.proofs.history.Along.{begins_right, low_seat}
 use Rattle.inv_all.specs.Ends.{CallsEnd}
 use Rattle.inv_all.specs.Inv.{Inv}
 use Rattle.inv_all.proofs.Inv.Ends.{inv_ends}
-use Rattle.inv_all.proofs.Each.{all_of}
-use Rattle.inv_all.proofs.Machines.{is_within}
+use Rattle.inv_all.proofs.history.AllOf.{all_of}
+use Rattle.inv_all.proofs.Machines.{is_within, within_of}
 use Rattle.law_answers.proofs.AnswersTold.Answering as answering
-use Rattle.law_answers.proofs.AnswersTold.Answering.{owes_of, within_of}
+use Rattle.law_answers.proofs.AnswersTold.Answering.{owes_of}
 use Rattle.law_answers.proofs.AnswersTold.Owed.{is_open, Serves, OutServes, Owes, Told, owed, out_owed}
 use Rattle.inv_all.specs.history.Heard.{heard_if, heard_from, heard_of}
 use Rattle.law_answers.specs.Heard.{HistoriesCount}

@@ -9,12 +9,12 @@ use Rattle.wfe_core.specs.defs.declared.event.Root.TheVariants as roots
 use Rattle.wfe_core.specs.declared.post.Post.{Post}
 use Rattle.wfe_core.specs.Posts.{with_tag}
 use Rattle.wfe_core.specs.Phases.{Aim, Alone, Follows, Walk, Base, Turn}
-use Rattle.wfe_core.specs.Phases.BeginAt.{LoadLower, PublishSpan}
-use Rattle.wfe_core.specs.Phases.ProtectAt.{LoadClock, PublishEra, LoadLink, CheckClock, PublishRequest, LoadOwnClock, PublishHelper, LoadOwnLink, CheckOwnClock, AnswerOwn, LoadAnswer, TakeAnswer, WithdrawRequest, WithdrawHelper, LoadWithin, CheckUpper, RaiseUpper}
-use Rattle.wfe_core.specs.Phases.AllocateAt.{LoadBirth, ClaimSlot, StoreLife}
-use Rattle.wfe_core.specs.Phases.RetireAt.{LoadLife, LoadRetire, StoreRetired}
-use Rattle.wfe_core.specs.Phases.MoveAt.{LoadEra, LoadRequest, ShowEra, LoadAsked, CheckEra, AnswerAsked, LoadReserved, HandOver, HideEra, HideLate, ExchangeClock}
-use Rattle.wfe_core.specs.Phases.Base.{Begin, Protect, Reload, Clear, Finish, Release, Allocate, Write, GiveUp, Retire, Move}
+use Rattle.wfe_core.specs.Phases.BeginAt.{LoadLower}
+use Rattle.wfe_core.specs.Phases.ProtectAt.{CheckClock, CheckOwnClock, AnswerOwn, TakeAnswer, WithdrawHelper, CheckUpper}
+use Rattle.wfe_core.specs.Phases.AllocateAt.{ClaimSlot}
+use Rattle.wfe_core.specs.Phases.RetireAt.{LoadLife}
+use Rattle.wfe_core.specs.Phases.MoveAt.{LoadEra, CheckEra, AnswerAsked, LoadReserved, HandOver, ExchangeClock}
+use Rattle.wfe_core.specs.Phases.Base.{Begin, Protect, Reload, Allocate, Write, Retire, Move}
 use Rattle.wfe_core.specs.Protect.{held_post, concluded}
 use Rattle.wfe_core.specs.Allocate.{walking, walk_past, is_claimed}
 use Rattle.wfe_core.specs.WriteRow.{last_written}
@@ -63,52 +63,28 @@ hand_same era seat tag index old post false = refl
 -- a machine's step
 pub after_steps : (base : Base) (post : Post) (found : ℕ) → (after base post found).post.steps ≡ post.steps
 after_steps (Begin LoadLower) post found = refl
-after_steps (Begin (PublishSpan era)) post found = refl
-after_steps (Protect aim index root steps (LoadClock tries)) post found = refl
-after_steps (Protect aim index root steps (PublishEra era tries)) post found = refl
-after_steps (Protect aim index root steps (LoadLink era tries)) post found = refl
 after_steps (Protect aim index root steps (CheckClock era tries link)) post found =
     same_if (found == era) post _ _ (protected_same aim index root _ link era post _) refl
-after_steps (Protect aim index root steps PublishRequest) post found = refl
-after_steps (Protect aim index root steps LoadOwnClock) post found = refl
-after_steps (Protect aim index root steps (PublishHelper first era last)) post found = refl
-after_steps (Protect aim index root steps (LoadOwnLink first era last)) post found = refl
 after_steps (Protect aim index root steps (CheckOwnClock first era last link)) post found =
     same_if (found == era) post _ _ refl refl
 after_steps (Protect aim index root steps (AnswerOwn first era link)) post found = same_if _ post _ _ refl refl
-after_steps (Protect aim index root steps (LoadAnswer first)) post found = refl
 after_steps (Protect aim index root steps (TakeAnswer link era)) post found =
     along _ _ _ (refl) (held_same (with_tag post index _) index root link)
-after_steps (Protect aim index root steps (WithdrawRequest link era)) post found = refl
 after_steps (Protect aim index root steps (WithdrawHelper link era)) post found = concluded_same aim index root _ link era post _
-after_steps (Protect aim index root steps LoadWithin) post found = refl
 after_steps (Protect aim index root steps (CheckUpper link)) post found =
     same_if _ post _ _ (protected_same aim index root _ link found post _) refl
-after_steps (Protect aim index root steps (RaiseUpper era)) post found = refl
 after_steps (Reload parent index slot era steps) post found = same_if _ post _ _ (refl) refl
-after_steps (Clear index) post found = refl
-after_steps Finish post found = refl
-after_steps Release post found = refl
-after_steps (Allocate LoadBirth) post found = refl
 after_steps (Allocate (ClaimSlot birth walk)) post found =
     same_if (is_claimed found walk.slot) post _ _ (walking_same birth post (walk_past post.layout.config.slots walk found)) (refl)
-after_steps (Allocate (StoreLife birth slot)) post found = refl
 after_steps (Write slot row place) post found = same_if (place == last_written row) post _ _ refl refl
-after_steps (GiveUp slot) post found = refl
 after_steps (Retire (LoadLife slot)) post found = refl
-after_steps (Retire (LoadRetire slot birth)) post found = refl
-after_steps (Retire (StoreRetired slot birth retire)) post found = refl
 after_steps (Move (LoadEra helps)) post found = same_if _ post _ _ refl refl
-after_steps (Move (LoadRequest era seat shows)) post found = refl
-after_steps (Move (ShowEra era seat tag index root)) post found = refl
-after_steps (Move (LoadAsked era seat tag index root)) post found = refl
 after_steps (Move (CheckEra era seat tag index root link)) post found = same_if _ post _ _ refl refl
 after_steps (Move (AnswerAsked era seat tag index root link)) post found = same_if _ post _ _ refl refl
 after_steps (Move (LoadReserved era seat tag index root link)) post found = same_if _ post _ _ refl refl
 after_steps (Move (HandOver era seat tag index root link old)) post found = hand_same era seat tag index old post _
-after_steps (Move (HideEra era)) post found = refl
-after_steps (Move (HideLate seen)) post found = refl
 after_steps (Move (ExchangeClock era)) post found = same_if _ post _ _ refl refl
+after_steps base post found = refl
 
 cleared_steps : (scheme : SchemeKind) (post : Post) (index : ℕ) → (clear_post scheme post index).steps ≡ post.steps
 cleared_steps He post index = refl

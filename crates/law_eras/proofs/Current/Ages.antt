@@ -168,23 +168,18 @@ lost_since from first found false h = h
 protect_on : (from : ℕ) (cut : ℕ → ℕ) (aim : Aim) (index : ℕ) (root : Root) (n : ℕ) (at : ProtectAt) (post : Post) (found : ℕ) → (loads_protect at ≡ true → from ≤ found) → HeardSince from at post index root found → protect_since from at → OutSince from cut (machine.protect_turn aim index root n at post found).outcome
 protect_on from cut aim index root n (LoadClock tries) post found l h f = l refl
 protect_on from cut aim index root n (PublishEra era tries) post found l h f = trying_since from post.layout.config era tries
-protect_on from cut aim index root n (LoadLink era tries) post found l h f = tt
 protect_on from cut aim index root n (CheckClock era tries link) post found l h f =
     out_if from cut _ _ (found == era) (concluded_since from cut aim index root n link era (protects.held_post post index root link) (protects.told_held index root link n)) (l refl)
-protect_on from cut aim index root n PublishRequest post found l h f = tt
 protect_on from cut aim index root n LoadOwnClock post found l h f = l refl
 protect_on from cut aim index root n (PublishHelper first era last) post found l h f = f
 protect_on from cut aim index root n (LoadOwnLink first era last) post found l h f = f
 protect_on from cut aim index root n (CheckOwnClock first era last link) post found l h f = out_if from cut _ _ (found == era) f (lost_since from first found last (l refl))
 protect_on from cut aim index root n (AnswerOwn first era link) post found l h f = out_when from cut _ _ (found == own_request post index root) f h
 protect_on from cut aim index root n (LoadAnswer first) post found l h f = h
-protect_on from cut aim index root n (TakeAnswer link era) post found l h f = tt
-protect_on from cut aim index root n (WithdrawRequest link era) post found l h f = tt
 protect_on from cut aim index root n (WithdrawHelper link era) post found l h f = concluded_since from cut aim index root n link era post (reserves_helper post 0)
-protect_on from cut aim index root n LoadWithin post found l h f = tt
 protect_on from cut aim index root n (CheckUpper link) post found l h f =
     out_if from cut _ _ (found == upper post.span) (concluded_since from cut aim index root n link found (protects.held_post post index root link) (protects.told_held index root link n)) (l refl)
-protect_on from cut aim index root n (RaiseUpper era) post found l h f = tt
+protect_on from cut aim index root n at post found l h f = tt
 
 -- a walk for a free row
 walking_since : (from : ℕ) (cut : ℕ → ℕ) (birth : ℕ) (post : Post) (x : Option Walk) → from ≤ birth → OutSince from cut (allocates.walking birth post x).outcome
@@ -242,17 +237,13 @@ retire_on from cut (StoreRetired slot birth retire) post found c = tt
 -- a machine's step
 base_on : (from : ℕ) (old cut : ℕ → ℕ) (base : Base) (post : Post) (found : ℕ) → Loads from cut base post found → base_since from old base → OutSince from cut (machine.after base post found).outcome
 base_on from old cut (Begin LoadLower) post found l f = l.clock refl
-base_on from old cut (Begin (PublishSpan era)) post found l f = tt
 base_on from old cut (Protect aim index root steps at) post found l f = protect_on from cut aim index root (bump steps) at post found l.clock l.hears f
 base_on from old cut (Reload parent index slot era steps) post found l f = out_if from cut _ _ (found == parent + 1) tt tt
-base_on from old cut (Clear index) post found l f = tt
-base_on from old cut Finish post found l f = tt
-base_on from old cut Release post found l f = tt
 base_on from old cut (Allocate at) post found l f = allocate_on from cut at post found l.clock f
 base_on from old cut (Write slot row place) post found l f = out_if from cut _ _ (place == last_written row) tt tt
-base_on from old cut (GiveUp slot) post found l f = tt
 base_on from old cut (Retire at) post found l f = retire_on from cut at post found l.cuts
 base_on from old cut (Move at) post found l f = move_on from cut at post found l.clock f
+base_on from old cut base post found l f = tt
 
 -- where a call comes to by no step of a machine it has no era in hand
 opened_since : (from : ℕ) (scheme : SchemeKind) → protect_since from (protect_at scheme)
@@ -321,14 +312,9 @@ same_base : (from : ℕ) (cut next : ℕ → ℕ) (base : Base) → ((s : ℕ) �
 same_base from cut next (Retire at) c f = same_retire cut next at c f
 same_base from cut next (Begin at) c f = f
 same_base from cut next (Protect aim index root steps at) c f = f
-same_base from cut next (Reload parent index slot era steps) c f = tt
-same_base from cut next (Clear index) c f = tt
-same_base from cut next Finish c f = tt
-same_base from cut next Release c f = tt
 same_base from cut next (Allocate at) c f = f
-same_base from cut next (Write slot row place) c f = tt
-same_base from cut next (GiveUp slot) c f = tt
 same_base from cut next (Move at) c f = f
+same_base from cut next base c f = tt
 
 same_phase : (from : ℕ) (cut next : ℕ → ℕ) (phase : Phase) → ((s : ℕ) → next s ≡ cut s) → PhaseSince from cut phase → PhaseSince from next phase
 same_phase from cut next Idle c f = tt

@@ -18,9 +18,9 @@ use Rattle.wfe_core.specs.Machine as machine
 use Rattle.wfe_core.specs.Memory.{upd}
 use Rattle.wfe_core.specs.MoveClock as movers
 use Rattle.wfe_core.specs.Phases.{ProtectAt, MoveAt, Base, Turn, Outcome, Goes, Ends}
-use Rattle.wfe_core.specs.Phases.ProtectAt.{LoadClock, PublishEra, LoadLink, CheckClock, PublishRequest, LoadOwnClock, PublishHelper, LoadOwnLink, CheckOwnClock, AnswerOwn, LoadAnswer, TakeAnswer, WithdrawRequest, WithdrawHelper, LoadWithin, CheckUpper, RaiseUpper}
-use Rattle.wfe_core.specs.Phases.MoveAt.{LoadEra, LoadRequest, ShowEra, LoadAsked, CheckEra, AnswerAsked, LoadReserved, HandOver, HideEra, HideLate, ExchangeClock}
-use Rattle.wfe_core.specs.Phases.Base.{Begin, Protect, Reload, Clear, Finish, Release, Allocate, Write, GiveUp, Retire, Move}
+use Rattle.wfe_core.specs.Phases.ProtectAt.{PublishRequest, AnswerOwn, TakeAnswer, WithdrawRequest}
+use Rattle.wfe_core.specs.Phases.MoveAt.{LoadEra, LoadRequest, CheckEra, AnswerAsked, LoadReserved, HandOver, ExchangeClock}
+use Rattle.wfe_core.specs.Phases.Base.{Begin, Protect, Reload, Allocate, Write, Retire, Move}
 use Rattle.wfe_core.specs.Posts.{tag_of}
 use Rattle.wfe_core.specs.SlowPath.{own_request, asking}
 use Rattle.wfe_core.specs.Steps as steps
@@ -78,24 +78,12 @@ made_when from deals s k d true h g = made_deal from deals s k d (h refl) g
 made_when from deals s k d false h g = g
 
 protect_kept : (w : World) (i : ℕ) (z : View) (from : ℕ → ℕ) (index : ℕ) (root : Root) (at : ProtectAt) (k : ℕ) → protect_since (from i) at → DealSince (from k) (z.deal k) → DealSince (from k) (protect_deals w.mem i (w.seat i).post index root at z.deal k)
-protect_kept w i z from index root (LoadClock tries) k f g = g
-protect_kept w i z from index root (PublishEra era tries) k f g = g
-protect_kept w i z from index root (LoadLink era tries) k f g = g
-protect_kept w i z from index root (CheckClock era tries link) k f g = g
 protect_kept w i z from index root PublishRequest k f g = made_deal from z.deal i k _ tt g
-protect_kept w i z from index root LoadOwnClock k f g = g
-protect_kept w i z from index root (PublishHelper first era last) k f g = g
-protect_kept w i z from index root (LoadOwnLink first era last) k f g = g
-protect_kept w i z from index root (CheckOwnClock first era last link) k f g = g
 protect_kept w i z from index root (AnswerOwn first era link) k f g =
     made_when from z.deal i k (Answered (tag_of (w.seat i).post index) index (link_number (w.seat i).post.layout root) link era i) (w.mem (Request (w.seat i).post.seat) == own_request (w.seat i).post index root) (λ c. f) g
-protect_kept w i z from index root (LoadAnswer first) k f g = g
 protect_kept w i z from index root (TakeAnswer link era) k f g = made_deal from z.deal i k _ tt g
 protect_kept w i z from index root (WithdrawRequest link era) k f g = made_deal from z.deal i k _ tt g
-protect_kept w i z from index root (WithdrawHelper link era) k f g = g
-protect_kept w i z from index root LoadWithin k f g = g
-protect_kept w i z from index root (CheckUpper link) k f g = g
-protect_kept w i z from index root (RaiseUpper era) k f g = g
+protect_kept w i z from index root at k f g = g
 
 -- a mover answers the request that is open
 opens_so : (layout : Layout) (t j : ℕ) (root : Root) (d : Deal) → d ≡ Open t j (link_number layout root) → opened_by t j (link_number layout root) d ≡ true
@@ -118,32 +106,16 @@ passes_era w i z from why e k t j root link old n q g h =
     subst (DealSince (from k)) o g
 
 move_kept : (w : World) (i : ℕ) (z : View) (from : ℕ → ℕ) (why : Why) (at : MoveAt) (k : ℕ) → OriginsNeeds w i z → (w.seat i).phase ≡ Runs why (Move at) → Answers w z from → DealSince (from k) (move_deals w.mem i (w.seat i).post at z.deal k)
-move_kept w i z from why (LoadEra helps) k n q g = g.deals k
-move_kept w i z from why (LoadRequest e s shown) k n q g = g.deals k
-move_kept w i z from why (ShowEra e s t j r) k n q g = g.deals k
-move_kept w i z from why (LoadAsked e s t j r) k n q g = g.deals k
-move_kept w i z from why (CheckEra e s t j r link) k n q g = g.deals k
 move_kept w i z from why (AnswerAsked e s t j r link) k n q g =
     made_when from z.deal s k (Answered t j (link_number (w.seat i).post.layout r) link e i) (w.mem (Request s) == asking (w.seat i).post.layout t j r) (λ c. helps_era w i z from why e s t j r link n q (g.helps i) c) (g.deals k)
-move_kept w i z from why (LoadReserved e s t j r link) k n q g = g.deals k
 move_kept w i z from why (HandOver e s t j r link old) k n q g =
     made_when from z.deal s k (Passed t j (link_number (w.seat i).post.layout r) link e) (w.mem (Index s j) == halves old t) (λ c. passes_era w i z from why e s t j r link old n q (g.deals s) c) (g.deals k)
-move_kept w i z from why (HideEra e) k n q g = g.deals k
-move_kept w i z from why (HideLate seen) k n q g = g.deals k
-move_kept w i z from why (ExchangeClock e) k n q g = g.deals k
+move_kept w i z from why at k n q g = g.deals k
 
 base_kept : (w : World) (i : ℕ) (z : View) (from : ℕ → ℕ) (cut : ℕ → ℕ) (why : Why) (base : Base) (k : ℕ) → OriginsNeeds w i z → (w.seat i).phase ≡ Runs why base → base_since (from i) cut base → Answers w z from → DealSince (from k) (base_deals w.mem i (w.seat i).post base z.deal k)
-base_kept w i z from cut why (Begin at) k n q f g = g.deals k
 base_kept w i z from cut why (Protect aim index root steps at) k n q f g = protect_kept w i z from index root at k f (g.deals k)
-base_kept w i z from cut why (Reload parent index slot era steps) k n q f g = g.deals k
-base_kept w i z from cut why (Clear index) k n q f g = g.deals k
-base_kept w i z from cut why Finish k n q f g = g.deals k
-base_kept w i z from cut why Release k n q f g = g.deals k
-base_kept w i z from cut why (Allocate at) k n q f g = g.deals k
-base_kept w i z from cut why (Write slot row place) k n q f g = g.deals k
-base_kept w i z from cut why (GiveUp slot) k n q f g = g.deals k
-base_kept w i z from cut why (Retire at) k n q f g = g.deals k
 base_kept w i z from cut why (Move at) k n q f g = move_kept w i z from why at k n q g
+base_kept w i z from cut why base k n q f g = g.deals k
 
 pub phase_kept : (w : World) (i : ℕ) (z : View) (from : ℕ → ℕ) (cut : ℕ → ℕ) (phase : Phase) (k : ℕ) → OriginsNeeds w i z → (w.seat i).phase ≡ phase → PhaseSince (from i) cut phase → Answers w z from → DealSince (from k) (phase_deals w.mem i (w.seat i).post phase z.deal k)
 phase_kept w i z from cut Idle k n q f g = g.deals k
@@ -219,28 +191,22 @@ checks base = false
 move_checked : (now : ℕ) (at : MoveAt) (post : Post) (found : ℕ) → (checks (Move at) ≡ true → now ≤ found) → OutChecked now (machine.move_turn at post found).outcome
 move_checked now (LoadEra helps) post found l = checked_if now _ _ (found == post.layout.config.last_era) (λ e. tt) (moving_checked now helps found)
 move_checked now (LoadRequest era seat shows) post found l = met_checked now post era seat shows (read_request found)
-move_checked now (ShowEra era seat tag index root) post found l = tt
-move_checked now (LoadAsked era seat tag index root) post found l = tt
 move_checked now (CheckEra era seat tag index root link) post found l = checked_if now _ _ (found == era) (λ e. same_most found era now (l refl) e) tt
 move_checked now (AnswerAsked era seat tag index root link) post found l = checked_if now _ _ (found == asking post.layout tag index root) (λ e. tt) (next_checked now post era seat true)
 move_checked now (LoadReserved era seat tag index root link) post found l = checked_if now _ _ ((read_reservation found).tag == tag) (λ e. tt) (next_checked now post era seat true)
 move_checked now (HandOver era seat tag index root link old) post found l = handed_checked now era seat tag index old post (found == reservation_word (record { era = old; tag = tag }))
-move_checked now (HideEra era) post found l = tt
-move_checked now (HideLate seen) post found l = tt
 move_checked now (ExchangeClock era) post found l = checked_if now _ _ (found == era) (λ e. tt) tt
+move_checked now at post found l = tt
 
 base_checked : (now : ℕ) (base : Base) (post : Post) (found : ℕ) → (checks base ≡ true → now ≤ found) → OutChecked now (machine.after base post found).outcome
 base_checked now (Begin at) post found l = plain_checked now _ (plain_after (Begin at) post found refl)
 base_checked now (Protect aim index root made at) post found l = protects_checked now _ (protects_on aim index root _ at post found)
 base_checked now (Reload parent index slot era made) post found l = plain_checked now _ (plain_after (Reload parent index slot era made) post found refl)
-base_checked now (Clear index) post found l = tt
-base_checked now Finish post found l = tt
-base_checked now Release post found l = tt
 base_checked now (Allocate at) post found l = plain_checked now _ (plain_after (Allocate at) post found refl)
 base_checked now (Write slot row place) post found l = plain_checked now _ (plain_after (Write slot row place) post found refl)
-base_checked now (GiveUp slot) post found l = tt
 base_checked now (Retire at) post found l = plain_checked now _ (plain_after (Retire at) post found refl)
 base_checked now (Move at) post found l = move_checked now at post found l
+base_checked now base post found l = tt
 
 resumed_checked : (now : ℕ) (why : Why) (desk : Desk) (post : Post) (told : List Event) (outcome : Outcome) → OutChecked now outcome → Checked now (phase_left (steps.resumed why desk post told outcome).outcome)
 resumed_checked now why desk post told (Goes base) h = h

@@ -41,8 +41,7 @@ use Rattle.inv_all.specs.Known.{Known}
 use Rattle.inv_all.proofs.Inv.Begun.{known_start, known_begin}
 use Rattle.inv_all.proofs.Inv.Kept.{known_kept, asked_next}
 use Rattle.inv_all.proofs.Inv.Whole.{origins_need}
-use Rattle.inv_all.proofs.Each.{all_of}
-use Rattle.inv_all.proofs.Machines.{is_within, told_within}
+use Rattle.inv_all.proofs.Machines.{within_of}
 use Rattle.laws.specs.StateAt.{clock_of}
 use Rattle.law_eras.proofs.EraLaw.Keeps.{record_clock}
 use Rattle.laws.specs.EraLaw.{birth_current, retire_current, reserve_current}
@@ -95,9 +94,6 @@ loads_clock w i why base q l = absurd (cc)
 retire_tells : (w : World) (i : ℕ) (why : Why) (slot birth : ℕ) → (w.seat i).phase ≡ Runs why (Retire (LoadRetire slot birth)) → told_in w i ≡ []
 retire_tells w i why slot birth q = ap (λ (phase : Phase). told_by (steps.phase_turn phase (counted (w.seat i).post) (w.seat i).desk (finds w i))) q
 
-within : (w : World) (i : ℕ) → all_of is_within (told_in w i) ≡ true
-within w i = told_within (w.seat i).phase (counted (w.seat i).post) (w.seat i).desk (finds w i)
-
 base_hears : (w : World) (i : ℕ) (z : Asked) (from : ℕ → ℕ) (why : Why) (base : Base) → OriginsNeeds w i z → (w.seat i).phase ≡ Runs why base → Answers w z from → BaseHears (from i) base (counted (w.seat i).post) (finds w i)
 base_hears w i z from why (Protect aim index root made at) n q g = hears_since w i z (from i) why aim index root made at n q (g.deals i)
 base_hears w i z from why base n q g = tt
@@ -137,11 +133,11 @@ step_since w i k p z true q n e f g =
     let r : i ≡ k = grind (arith, nat_tests) in
     let later : Past = tells_of p i (told_in w i) in
     subst (λ (m : ℕ). PhaseSince (begun_at m later) (cut_at m later) ((step w i).seat m).phase) r
-    (same_since (begun_at i p) (begun_at i later) (cut_at i later) (cut_at i later) ((step w i).seat i).phase (begun_stays i i (told_in w i) p (within w i)) (λ s. refl) (own_since w i p z n e (f i) g))
+    (same_since (begun_at i p) (begun_at i later) (cut_at i later) (cut_at i later) ((step w i).seat i).phase (begun_stays i i (told_in w i) p (within_of w i)) (λ s. refl) (own_since w i p z n e (f i) g))
 step_since w i k p z false q n e f g =
     let later : Past = tells_of p i (told_in w i) in
     subst (λ (l : Local). PhaseSince (begun_at k later) (cut_at k later) l.phase) (sym (seat_stays w i k q))
-    (same_since (begun_at k p) (begun_at k later) (cut_at k p) (cut_at k later) (w.seat k).phase (begun_stays k i (told_in w i) p (within w i)) (λ s. cut_stays k i (told_in w i) p s q) (f k))
+    (same_since (begun_at k p) (begun_at k later) (cut_at k p) (cut_at k later) (w.seat k).phase (begun_stays k i (told_in w i) p (within_of w i)) (λ s. cut_stays k i (told_in w i) p s q) (f k))
 
 step_current : (layout : Layout) (made : Made) (i : ℕ) → is_valid layout ≡ true → fits made.world (Steps i) ≡ true → i < made.world.layout.config.seats → Current layout made → Current layout (done made (Steps i))
 step_current layout made i d h b g =
@@ -157,7 +153,7 @@ step_current layout made i d h b g =
       known = known_kept w i g.rows g.line g.asked q.0 b g.known q.1.facts q.1.deal;
       of = next_items layout made (Steps i) h g.of;
       seats = λ k. step_since w i k made.past g.asked (k == i) refl n e g.seats g.answers;
-      answers = same_answers (step w i) q.0 (λ k. begun_at k made.past) (λ k. begun_at k (tells_of made.past i (told_in w i))) (λ k. begun_stays k i (told_in w i) made.past (within w i))
+      answers = same_answers (step w i) q.0 (λ k. begun_at k made.past) (λ k. begun_at k (tells_of made.past i (told_in w i))) (λ k. begun_stays k i (told_in w i) made.past (within_of w i))
           (answers_step w i g.asked q.0 (λ k. begun_at k made.past) (cut_at i made.past) n q.1.deal (λ k. subst (λ (x : ℕ). begun_at k made.past ≤ x) e (since_low _ made.past)) (g.seats i) g.answers);
       law = led_each i (told_in w i) made.past (step_led w i made.past e (g.known.eras.seats i).phase (g.seats i)) g.law;
     }

@@ -1,48 +1,37 @@
 -- What a step tells of eras: those that its seat had in hand.
-use Rattle.std.proofs.Common.{ℕ, ◌≡◌, ◌≤◌, ◌+◌, ◌-◌, Bool, true, false, List, [], ◌∷◌, ◌++◌, Option, Some, None, refl, sym, subst}
-use Rattle.std.specs.Prelude.{◌==◌, if◌then◌else◌}
-use Rattle.wfe_core.specs.words.Packed.{reservation_word, read_reservation}
-use Rattle.wfe_core.specs.words.declared.config.SchemeKind.{SchemeKind}
-use Rattle.wfe_core.specs.words.declared.config.SchemeKind.TheVariants.{He, Ibr, Wfe}
+use Rattle.std.proofs.Common.{ℕ, ◌≡◌, ◌≤◌, ◌+◌, Bool, true, false, List, [], ◌∷◌, ◌++◌, Option, Some, None, refl, sym, subst}
+use Rattle.std.specs.Prelude.{◌==◌, if◌then◌else◌, not, ◌&&◌}
 use Rattle.wfe_core.specs.words.Place.Place.{Clock}
 use Rattle.wfe_core.specs.words.declared.layout.Layout.{Layout}
 use Rattle.wfe_core.specs.defs.declared.event.Event.{Event}
 use Rattle.wfe_core.specs.defs.declared.event.Event.TheVariants as events
-use Rattle.wfe_core.specs.defs.declared.event.Guard.{Guard}
-use Rattle.wfe_core.specs.defs.declared.event.Root.{Root}
-use Rattle.wfe_core.specs.defs.declared.event.Root.TheVariants as roots
-use Rattle.wfe_core.specs.defs.declared.event.Guard.TheVariants.{Index, Whole}
 use Rattle.wfe_core.specs.declared.post.Post.{Post}
-use Rattle.wfe_core.specs.Allocate as allocates
 use Rattle.wfe_core.specs.Calls.{ScanAt, Phase, Idle, Runs, Scans, Works, ReadGuard, GiveBack}
 use Rattle.wfe_core.specs.Guards.{one_era}
 use Rattle.wfe_core.specs.Machine as machine
-use Rattle.wfe_core.specs.Memory.{bump}
-use Rattle.wfe_core.specs.MoveClock as movers
-use Rattle.wfe_core.specs.Phases.{Aim, Alone, Follows, ProtectAt, AllocateAt, RetireAt, MoveAt, Walk, Base, Turn}
-use Rattle.wfe_core.specs.Phases.BeginAt.{LoadLower, PublishSpan}
-use Rattle.wfe_core.specs.Phases.ProtectAt.{LoadClock, PublishEra, LoadLink, CheckClock, PublishRequest, LoadOwnClock, PublishHelper, LoadOwnLink, CheckOwnClock, AnswerOwn, LoadAnswer, TakeAnswer, WithdrawRequest, WithdrawHelper, LoadWithin, CheckUpper, RaiseUpper}
-use Rattle.wfe_core.specs.Phases.AllocateAt.{LoadBirth, ClaimSlot, StoreLife}
-use Rattle.wfe_core.specs.Phases.RetireAt.{LoadLife, LoadRetire, StoreRetired}
-use Rattle.wfe_core.specs.Phases.MoveAt.{LoadEra, LoadRequest, ShowEra, LoadAsked, CheckEra, AnswerAsked, LoadReserved, HandOver, HideEra, HideLate, ExchangeClock}
-use Rattle.wfe_core.specs.Phases.Base.{Begin, Protect, Reload, Clear, Finish, Release, Allocate, Write, GiveUp, Retire, Move}
-use Rattle.wfe_core.specs.Posts.{stands, cleared, counted, upper, reserves_helper}
-use Rattle.wfe_core.specs.Protect as protects
+use Rattle.wfe_core.specs.Phases.{Base}
+use Rattle.wfe_core.specs.Phases.BeginAt.{PublishSpan}
+use Rattle.wfe_core.specs.Phases.ProtectAt.{PublishEra, PublishHelper, TakeAnswer, RaiseUpper}
+use Rattle.wfe_core.specs.Phases.AllocateAt.{ClaimSlot}
+use Rattle.wfe_core.specs.Phases.RetireAt.{StoreRetired}
+use Rattle.wfe_core.specs.Phases.MoveAt.{ShowEra, HandOver}
+use Rattle.wfe_core.specs.Phases.Base.{Begin, Protect, Allocate, Retire, Move}
+use Rattle.wfe_core.specs.Posts.{counted}
 use Rattle.wfe_core.specs.Rounds.{scheme_of, clear_told}
-use Rattle.wfe_core.specs.SlowPath.{own_request, asking}
 use Rattle.wfe_core.specs.World.{World, finds, told_in}
-use Rattle.wfe_core.specs.WriteRow.{last_written}
-use Rattle.wfe_core.proofs.Facts.{both, first_of, rest_of}
-use Rattle.inv_all.specs.shapes.Eras.{protect_eras, allocate_eras, retire_eras, move_eras, base_eras, PhaseEras}
+use Rattle.wfe_core.proofs.Facts.{first_of, rest_of, number_is}
+use Rattle.inv_all.specs.shapes.Eras.{base_eras, PhaseEras}
 use Rattle.inv_all.specs.history.Record.{Past, Test, Each, tells_of, begins, own}
 use Rattle.inv_all.specs.history.Record.Past.{Then}
-use Rattle.inv_all.proofs.history.Passes.{is_quiet, all_quiet, Closed, First, scan_told, step_goes}
-use Rattle.inv_all.proofs.Each.{all_of}
-use Rattle.inv_all.proofs.Machines.{of_along}
+use Rattle.inv_all.proofs.history.Passes.{is_quiet, Closed, First, scan_told, step_goes}
+use Rattle.inv_all.proofs.history.AllOf.{all_of, of_along, of_weaker}
 use Rattle.laws.specs.StateAt.{clock_of, was_clock, cuts}
 use Rattle.laws.specs.EraLaw.{upper_current}
-use Rattle.law_eras.proofs.Current.Ages.{protect_since, allocate_since, retire_since, move_since, base_since, PhaseSince}
+use Rattle.law_eras.proofs.Current.Ages.{base_since, PhaseSince}
 use Rattle.law_eras.proofs.Current.Positions.{begun_at, cut_at, was_between}
+use Rattle.inv_all.proofs.history.MayTell.{Tells, Shape, Silent, Single, Clears, Takes, base_shows, span_of, is_find, shape_of, clear_all}
+use Rattle.wfe_core.specs.Allocate.{is_claimed}
+use Rattle.wfe_core.specs.defs.declared.lifetime.Interval.{Interval}
 
 -- the laws on births, retire eras and what is published, in one
 abbrev pub current_ok : Test
@@ -84,24 +73,11 @@ led_each i [] p h g = g
 led_each i (event ∷ told) p h g = idle_each i told (Then p i event) h.1 (h.0, g)
 
 -- what comes after a machine is idle
-quiet_idle : (told : List Event) → all_quiet told ≡ true → all_of is_idle told ≡ true
-quiet_idle [] h = refl
-quiet_idle (event ∷ told) h = both (is_idle event) (all_of is_idle told) (one event (first_of (is_quiet event) (all_quiet told) h)) (quiet_idle told (rest_of (is_quiet event) (all_quiet told) h))
-  where
-    one : (event : Event) → is_quiet event ≡ true → is_idle event ≡ true
-    one (events.Give slot birth) h = absurd (cc)
-    one (events.Retire slot birth retire) h = absurd (cc)
-    one (events.Reserve guard span) h = absurd (cc)
-    one event h = refl
-
-cleared_idle : (index : ℕ) (x : Option ℕ) → all_of is_idle (cleared index x) ≡ true
-cleared_idle index None = refl
-cleared_idle index (Some slot) = refl
-
-clear_idle : (scheme : SchemeKind) (post : Post) (index : ℕ) → all_of is_idle (clear_told scheme post index) ≡ true
-clear_idle He post index = refl
-clear_idle Ibr post index = cleared_idle index (stands post index)
-clear_idle Wfe post index = refl
+quiet_idle : (event : Event) → is_quiet event ≡ true → is_idle event ≡ true
+quiet_idle (events.Give slot birth) h = absurd (cc)
+quiet_idle (events.Retire slot birth retire) h = absurd (cc)
+quiet_idle (events.Reserve guard span) h = absurd (cc)
+quiet_idle event h = refl
 
 more_led : (p : Past) (i : ℕ) (told more : List Event) → Led p i told → all_of is_idle more ≡ true → Led p i (told ++ more)
 more_led p i [] more h k = idle_led p i more k
@@ -109,8 +85,8 @@ more_led p i (event ∷ told) more h k = (h.0, of_along is_idle told more h.1 k)
 
 led_closed : (p : Past) (i : ℕ) → Closed (λ post told. Led p i told)
 led_closed p i = record {
-  calm = λ post told more q h. more_led p i told more h (quiet_idle more q);
-  clears = λ post told index h. more_led p i told (clear_told (scheme_of post) post index) h (clear_idle (scheme_of post) post index);
+  calm = λ post told more q h. more_led p i told more h (of_weaker is_quiet is_idle more quiet_idle q);
+  clears = λ post told index h. more_led p i told (clear_told (scheme_of post) post index) h (clear_all is_idle (scheme_of post) post index (λ index slot. refl));
 }
 
 -- an era in hand
@@ -124,110 +100,54 @@ one_led p i from era e a b = by (era == 0)
     by true = refl
     by false = was_between (begins i) era p low b
 
--- a protection
-held_idle : (index : ℕ) (root : Root) (link n : ℕ) → all_of is_idle (protects.told_held index root link n) ≡ true
-held_idle index root link n = by root (link == 0)
-  where
-    two : (none : Bool) → all_of is_idle (if none then events.Null index n ∷ [] else events.Held index (link - 1) n ∷ []) ≡ true
-    two true = refl
-    two false = refl
+-- what a guard publishes once a machine has stored its word
+shows_current : (layout : Layout) (p : Past) (i from : ℕ) (cut : ℕ → ℕ) (base : Base) (post last : Post) → from ≡ begun_at i p → base_eras layout (clock_of p) last base → base_since from cut base → upper_current i (base_shows base post) p ≡ true
+shows_current layout p i from cut (Begin (PublishSpan era)) post last e c f = was_between (begins i) era p (subst (λ (x : ℕ). x ≤ era) e f) c.most
+shows_current layout p i from cut (Protect aim index root steps (PublishEra era tries)) post last e c f = one_led p i from era e f c.most
+shows_current layout p i from cut (Protect aim index root steps (PublishHelper first era end)) post last e c f = one_led p i from era e f c.most
+shows_current layout p i from cut (Protect aim index root steps (TakeAnswer link era)) post last e c f = one_led p i from era e f c
+shows_current layout p i from cut (Protect aim index root steps (RaiseUpper era)) post last e c f = was_between (begins i) era p (subst (λ (x : ℕ). x ≤ era) e f) c.most
+shows_current layout p i from cut (Move (ShowEra era seat tag index root)) post last e c f = one_led p i from era e f c.mover.era_in.most
+shows_current layout p i from cut (Move (HandOver era seat tag index root link old)) post last e c f = one_led p i from era e f c.helps.mover.era_in.most
+shows_current layout p i from cut (Protect aim index root steps at) post last e c f = refl
+shows_current layout p i from cut (Move at) post last e c f = refl
+shows_current layout p i from cut base post last e c f = refl
 
-    one : (none : Bool) → all_of is_idle (if none then events.Null index n ∷ [] else []) ≡ true
-    one true = refl
-    one false = refl
+given_current : (p : Past) (i slot own birth first : ℕ) (free : Bool) → (free && (slot == own && birth == first)) ≡ true → was_clock (begins i) first p ≡ true → was_clock (begins i) birth p ≡ true
+given_current p i slot own birth first free t h =
+    let e : birth ≡ first = number_is birth first (rest_of (slot == own) (birth == first) (rest_of free (slot == own && birth == first) t)) in rw e h
 
-    by : (root : Root) (none : Bool) → all_of is_idle (protects.told_held index root link n) ≡ true
-    by (roots.Next parent) none = one (link == 0)
-    by (roots.Bucket bucket) none = two (link == 0)
-    by roots.Head none = two (link == 0)
-    by roots.Tail none = two (link == 0)
+retired_current : (p : Past) (i slot row birth first retire seen : ℕ) → (slot == row && (birth == first && retire == seen)) ≡ true → was_clock (own i (cuts row)) seen p ≡ true → was_clock (own i (cuts slot)) retire p ≡ true
+retired_current p i slot row birth first retire seen t h =
+    let x : slot ≡ row = number_is slot row (first_of (slot == row) (birth == first && retire == seen) t) in
+    let z : retire ≡ seen = number_is retire seen (rest_of (birth == first) (retire == seen) (rest_of (slot == row) (birth == first && retire == seen) t)) in rw (x, z) h
 
-led_if : (p : Past) (i : ℕ) (t u : Turn) (same : Bool) → Led p i t.told → Led p i u.told → Led p i (if same then t else u).told
-led_if p i t u true h k = h
-led_if p i t u false h k = k
+-- each event of a machine
+event_current : (layout : Layout) (p : Past) (i from : ℕ) (cut : ℕ → ℕ) (base : Base) (post last : Post) (found : ℕ) (event : Event) → from ≡ begun_at i p → ((s : ℕ) → cut s ≡ cut_at i p s) → base_eras layout (clock_of p) last base → base_since from cut base → Tells base post found event → current_ok p i event ≡ true
+event_current layout p i from cut base post last found (events.Reserve guard span) e k c f t = subst (λ (x : Option Interval). upper_current i x p ≡ true) (sym (span_of base post found guard span t)) (shows_current layout p i from cut base post last e c f)
+event_current layout p i from cut (Allocate (ClaimSlot first walk)) post last found (events.Give slot birth) e k c f t =
+    given_current p i slot walk.slot birth first (not (is_claimed found walk.slot)) t (was_between (begins i) first p (subst (λ (x : ℕ). x ≤ first) e f) c.most)
+event_current layout p i from cut (Retire (StoreRetired row first seen)) post last found (events.Retire slot birth retire) e k c f t =
+    retired_current p i slot row birth first retire seen t (was_between (own i (cuts row)) seen p (subst (λ (x : ℕ). x ≤ seen) (k row) f) c.most)
+event_current layout p i from cut (Allocate at) post last found (events.Give slot birth) e k c f t = absurd (cc)
+event_current layout p i from cut (Retire at) post last found (events.Retire slot birth retire) e k c f t = absurd (cc)
+event_current layout p i from cut base post last found (events.Give slot birth) e k c f t = absurd (cc)
+event_current layout p i from cut base post last found (events.Retire slot birth retire) e k c f t = absurd (cc)
+event_current layout p i from cut base post last found event e k c f t = refl
 
-concluded_led : (p : Past) (i : ℕ) (aim : Aim) (index : ℕ) (root : Root) (n link era : ℕ) (post : Post) (told : List Event) → Led p i told → Led p i (protects.concluded aim index root n link era post told).told
-concluded_led p i Alone index root n link era post told h = h
-concluded_led p i Follows index root n link era post told h = led_if p i _ _ (link == 0) h h
+find_idle : (event : Event) → is_find event ≡ true → all_of is_idle (event ∷ []) ≡ true
+find_idle (events.Held index slot n) h = refl
+find_idle (events.Null index n) h = refl
+find_idle event h = absurd (cc)
 
-protected_led : (p : Past) (i : ℕ) (aim : Aim) (index : ℕ) (root : Root) (n link era : ℕ) (post : Post) → Led p i (protects.protected aim index root n link era post).told
-protected_led p i aim index root n link era post = concluded_led p i aim index root n link era (protects.held_post post index root link) (protects.told_held index root link n) (idle_led p i (protects.told_held index root link n) (held_idle index root link n))
-
-protect_led : (layout : Layout) (p : Past) (i from : ℕ) (aim : Aim) (index : ℕ) (root : Root) (n : ℕ) (at : ProtectAt) (post last : Post) (found : ℕ) → from ≡ begun_at i p → protect_eras (clock_of p) last at → protect_since from at → Led p i (machine.protect_turn aim index root n at post found).told
-protect_led layout p i from aim index root n (LoadClock tries) post last found e c f = tt
-protect_led layout p i from aim index root n (PublishEra era tries) post last found e c f = (one_led p i from era e f c.most, refl)
-protect_led layout p i from aim index root n (LoadLink era tries) post last found e c f = tt
-protect_led layout p i from aim index root n (CheckClock era tries link) post last found e c f = led_if p i _ _ (found == era) (protected_led p i aim index root n link era post) tt
-protect_led layout p i from aim index root n PublishRequest post last found e c f = tt
-protect_led layout p i from aim index root n LoadOwnClock post last found e c f = tt
-protect_led layout p i from aim index root n (PublishHelper first era end) post last found e c f = (one_led p i from era e f c.most, refl)
-protect_led layout p i from aim index root n (LoadOwnLink first era end) post last found e c f = tt
-protect_led layout p i from aim index root n (CheckOwnClock first era end link) post last found e c f = led_if p i _ _ (found == era) tt tt
-protect_led layout p i from aim index root n (AnswerOwn first era link) post last found e c f = led_if p i _ _ (found == own_request post index root) tt tt
-protect_led layout p i from aim index root n (LoadAnswer first) post last found e c f = tt
-protect_led layout p i from aim index root n (TakeAnswer link era) post last found e c f = (one_led p i from era e f c, held_idle index root link n)
-protect_led layout p i from aim index root n (WithdrawRequest link era) post last found e c f = tt
-protect_led layout p i from aim index root n (WithdrawHelper link era) post last found e c f = concluded_led p i aim index root n link era post (reserves_helper post 0) (refl, refl)
-protect_led layout p i from aim index root n LoadWithin post last found e c f = tt
-protect_led layout p i from aim index root n (CheckUpper link) post last found e c f = led_if p i _ _ (found == upper post.span) (protected_led p i aim index root n link found post) tt
-protect_led layout p i from aim index root n (RaiseUpper era) post last found e c f = (was_between (begins i) era p (subst (λ (x : ℕ). x ≤ era) e f) c.most, refl)
-
--- a row that is given, or retired
-pub walking_told : (birth : ℕ) (post : Post) (x : Option Walk) → (allocates.walking birth post x).told ≡ []
-walking_told birth post None = refl
-walking_told birth post (Some walk) = refl
-
-no_led : (p : Past) (i : ℕ) (told : List Event) → told ≡ [] → Led p i told
-no_led p i told h = subst (λ (es : List Event). Led p i es) (sym h) tt
-
-allocate_led : (p : Past) (i from : ℕ) (at : AllocateAt) (post : Post) (found : ℕ) → from ≡ begun_at i p → allocate_eras (clock_of p) at → allocate_since from at → Led p i (machine.allocate_turn at post found).told
-allocate_led p i from LoadBirth post found e c f = tt
-allocate_led p i from (ClaimSlot birth walk) post found e c f =
-    let told = allocates.walking birth post (allocates.walk_past post.layout.config.slots walk found) in
-    led_if p i _ _ (allocates.is_claimed found walk.slot) (no_led p i told.told (walking_told birth post (allocates.walk_past post.layout.config.slots walk found))) (was_between (begins i) birth p (subst (λ (x : ℕ). x ≤ birth) e f) c.most, refl)
-allocate_led p i from (StoreLife birth slot) post found e c f = tt
-
-retire_led : (p : Past) (i : ℕ) (cut : ℕ → ℕ) (at : RetireAt) (post : Post) (found : ℕ) → ((s : ℕ) → cut s ≡ cut_at i p s) → retire_eras (clock_of p) at → retire_since cut at → Led p i (machine.retire_turn at post found).told
-retire_led p i cut (LoadLife slot) post found e c f = tt
-retire_led p i cut (LoadRetire slot birth) post found e c f = tt
-retire_led p i cut (StoreRetired slot birth retire) post found e c f = (was_between (own i (cuts slot)) retire p (subst (λ (x : ℕ). x ≤ retire) (e slot) f) c.most, refl)
-
--- a move of the clock
-hand_led : (p : Past) (i from era seat tag index old : ℕ) (post : Post) (same : Bool) → from ≡ begun_at i p → era ≤ clock_of p → from ≤ era → Led p i (movers.after_hand_over era seat tag index old post same).told
-hand_led p i from era seat tag index old post true e c f = (one_led p i from era e f c, refl)
-hand_led p i from era seat tag index old post false e c f = tt
-
-move_led : (layout : Layout) (p : Past) (i from : ℕ) (at : MoveAt) (post : Post) (found : ℕ) → from ≡ begun_at i p → move_eras layout (clock_of p) at → move_since from at → Led p i (machine.move_turn at post found).told
-move_led layout p i from (LoadEra helps) post found e c f = led_if p i _ _ (found == post.layout.config.last_era) tt tt
-move_led layout p i from (LoadRequest era seat shows) post found e c f = tt
-move_led layout p i from (ShowEra era seat tag index root) post found e c f = (one_led p i from era e f c.mover.era_in.most, refl)
-move_led layout p i from (LoadAsked era seat tag index root) post found e c f = tt
-move_led layout p i from (CheckEra era seat tag index root link) post found e c f = led_if p i _ _ (found == era) tt tt
-move_led layout p i from (AnswerAsked era seat tag index root link) post found e c f = led_if p i _ _ (found == asking post.layout tag index root) tt tt
-move_led layout p i from (LoadReserved era seat tag index root link) post found e c f = led_if p i _ _ ((read_reservation found).tag == tag) tt tt
-move_led layout p i from (HandOver era seat tag index root link old) post found e c f =
-    hand_led p i from era seat tag index old post (found == reservation_word (record { era = old; tag = tag })) e c.helps.mover.era_in.most f
-move_led layout p i from (HideEra era) post found e c f = (refl, refl)
-move_led layout p i from (HideLate seen) post found e c f = (refl, refl)
-move_led layout p i from (ExchangeClock era) post found e c f = led_if p i _ _ (found == era) (refl, refl) tt
-
-cleared_led : (p : Past) (i index : ℕ) (x : Option ℕ) (guard : Guard) → Led p i (cleared index x ++ events.Reserve guard None ∷ [])
-cleared_led p i index None guard = (refl, refl)
-cleared_led p i index (Some slot) guard = (refl, refl)
+shape_led : (p : Past) (i : ℕ) (base : Base) (post : Post) (found : ℕ) (told : List Event) → Shape base post found told → ((event : Event) → Tells base post found event → current_ok p i event ≡ true) → Led p i told
+shape_led p i base post found told (Silent e) h = rw e tt
+shape_led p i base post found told (Single event e t) h = rw e (h event t, refl)
+shape_led p i base post found told (Clears index slot guard e a b) h = rw e (refl, refl)
+shape_led p i base post found told (Takes guard span event e t q a b) h = rw e (h (events.Reserve guard span) a, find_idle event q)
 
 base_led : (layout : Layout) (p : Past) (i from : ℕ) (cut : ℕ → ℕ) (base : Base) (post last : Post) (found : ℕ) → from ≡ begun_at i p → ((s : ℕ) → cut s ≡ cut_at i p s) → base_eras layout (clock_of p) last base → base_since from cut base → Led p i (machine.after base post found).told
-base_led layout p i from cut (Begin LoadLower) post last found e k c f = tt
-base_led layout p i from cut (Begin (PublishSpan era)) post last found e k c f = (was_between (begins i) era p (subst (λ (x : ℕ). x ≤ era) e f) c.most, refl)
-base_led layout p i from cut (Protect aim index root steps at) post last found e k c f = protect_led layout p i from aim index root (bump steps) at post last found e c f
-base_led layout p i from cut (Reload parent index slot era steps) post last found e k c f = led_if p i _ _ (found == parent + 1) (refl, refl) tt
-base_led layout p i from cut (Clear index) post last found e k c f = cleared_led p i index (stands post index) (Index post.seat index)
-base_led layout p i from cut Finish post last found e k c f = (refl, refl)
-base_led layout p i from cut Release post last found e k c f = cleared_led p i 2 (stands post 2) (Whole post.seat)
-base_led layout p i from cut (Allocate at) post last found e k c f = allocate_led p i from at post found e c f
-base_led layout p i from cut (Write slot row place) post last found e k c f = led_if p i _ _ (place == last_written row) tt tt
-base_led layout p i from cut (GiveUp slot) post last found e k c f = (refl, refl)
-base_led layout p i from cut (Retire at) post last found e k c f = retire_led p i cut at post found k c f
-base_led layout p i from cut (Move at) post last found e k c f = move_led layout p i from at post found e c f
+base_led layout p i from cut base post last found e k c f = shape_led p i base post found (machine.after base post found).told (shape_of base post found) (λ event. event_current layout p i from cut base post last found event e k c f)
 
 scan_led : (p : Past) (i : ℕ) (at : ScanAt) (post : Post) (found : ℕ) → Led p i (scan_told at post found)
 scan_led p i (ReadGuard number) post found = (refl, refl)

@@ -1,8 +1,7 @@
 -- A seat tells what its own guards publish, but for the word that a mover hands over.
-use Rattle.std.proofs.Common.{ℕ, ◌≡◌, ◌≤◌, ◌+◌, Bool, true, false, List, [], ◌∷◌, ◌++◌, Option, Some, None, refl, sym, ap, ◌∙◌, subst, arith}
+use Rattle.std.proofs.Common.{ℕ, ◌≡◌, ◌≤◌, Bool, true, false, List, Option, refl, sym, ap, ◌∙◌, subst, arith}
 use Rattle.std.proofs.lemmas.Bool.Decides.{nat_tests}
-use Rattle.std.specs.Prelude.{◌==◌, ◌&&◌, ◌||◌}
-use Rattle.wfe_core.specs.words.Packed.{read_reservation, reservation_word}
+use Rattle.std.specs.Prelude.{◌==◌, ◌&&◌, ◌||◌, if◌then◌else◌}
 use Rattle.wfe_core.specs.words.Place.{Place as places}
 use Rattle.wfe_core.specs.words.declared.config.SchemeKind.{SchemeKind}
 use Rattle.wfe_core.specs.defs.declared.event.Event.{Event}
@@ -12,28 +11,18 @@ use Rattle.wfe_core.specs.defs.declared.event.Guard.TheVariants.{Helper, Index, 
 use Rattle.wfe_core.specs.defs.declared.event.Root.{Root}
 use Rattle.wfe_core.specs.defs.declared.lifetime.Interval.{Interval}
 use Rattle.wfe_core.specs.declared.post.Post.{Post}
-use Rattle.wfe_core.specs.Allocate as allocates
 use Rattle.wfe_core.specs.Calls.{ReadGuard, GiveBack, Why, Phase, Idle, Runs, Scans, Works}
 use Rattle.wfe_core.specs.Guards.{one_era}
 use Rattle.wfe_core.specs.Machine as machine
-use Rattle.wfe_core.specs.Memory.{bump}
-use Rattle.wfe_core.specs.MoveClock as movers
-use Rattle.wfe_core.specs.Phases.{Aim, BeginAt, ProtectAt, AllocateAt, RetireAt, MoveAt, Walk, Base}
-use Rattle.wfe_core.specs.Phases.BeginAt.{LoadLower, PublishSpan}
-use Rattle.wfe_core.specs.Phases.ProtectAt.{LoadClock, PublishEra, LoadLink, CheckClock, PublishRequest, LoadOwnClock, PublishHelper, LoadOwnLink, CheckOwnClock, AnswerOwn, LoadAnswer, TakeAnswer, WithdrawRequest, WithdrawHelper, LoadWithin, CheckUpper, RaiseUpper}
-use Rattle.wfe_core.specs.Phases.AllocateAt.{LoadBirth, ClaimSlot, StoreLife}
-use Rattle.wfe_core.specs.Phases.RetireAt.{LoadLife, LoadRetire, StoreRetired}
-use Rattle.wfe_core.specs.Phases.MoveAt.{LoadEra, LoadRequest, ShowEra, LoadAsked, CheckEra, AnswerAsked, LoadReserved, HandOver, HideEra, HideLate, ExchangeClock}
-use Rattle.wfe_core.specs.Phases.Base.{Begin, Protect, Reload, Clear, Finish, Release, Allocate, Write, GiveUp, Retire, Move}
-use Rattle.wfe_core.specs.Posts.{stands, cleared, counted, upper, reserves_helper}
-use Rattle.wfe_core.specs.Protect as protects
-use Rattle.wfe_core.specs.SlowPath.{own_request, asking}
-use Rattle.wfe_core.specs.WriteRow.{last_written}
+use Rattle.wfe_core.specs.Phases.{Base}
+use Rattle.wfe_core.specs.Phases.MoveAt.{HandOver}
+use Rattle.wfe_core.specs.Phases.Base.{Move}
+use Rattle.wfe_core.specs.Posts.{counted}
 use Rattle.wfe_core.specs.World.{World, told_in, finds}
 use Rattle.std.specs.List.{filter}
 use Rattle.inv_all.specs.history.Record.{Past}
 use Rattle.inv_all.specs.history.Record.Past.{Then}
-use Rattle.laws.proofs.Along.{Single, OfKind}
+use Rattle.laws.proofs.Along.{Single, OfKind, shape_single}
 use Rattle.inv_all.proofs.ends.Told.Rows.{own_told, step_filter}
 use Rattle.inv_all.proofs.ends.Told.Turns.{is_later}
 use Rattle.law_reuse.proofs.Holding.Values.{Ranges}
@@ -42,14 +31,14 @@ use Rattle.inv_all.specs.requests.Standing.{Requests}
 use Rattle.inv_all.specs.requests.Views.{View as Asked, Role as role}
 use Rattle.inv_all.proofs.handover.Shown.{helper_shows}
 use Rattle.wfe_core.specs.Links.{link_number}
-use Rattle.wfe_core.proofs.Facts.{first_of, both}
+use Rattle.wfe_core.proofs.Facts.{first_of, both, rest_of, number_is, false_not_true}
 use Rattle.inv_all.specs.covers.Covers.{shown}
 use Rattle.laws.specs.StateAt.{reserved_by, value_of, seat_of}
 use Rattle.laws.specs.EraLaw.{same_interval, guard_ok}
-use Rattle.law_eras.proofs.EraLaw.Dates.{is_dated, dated, later_undated, turn_if, held_undated, protected_undated, walking_undated}
-use Rattle.law_reuse.proofs.Blocks.Reserves.{concluded_told}
+use Rattle.law_eras.proofs.EraLaw.Dates.{is_dated, later_undated}
 use Rattle.inv_all.proofs.requests.Known.{stands_as}
 use Rattle.wfe_core.proofs.Lists.{or_more}
+use Rattle.inv_all.proofs.history.MayTell.{Tells, may_store, base_helper, base_index, base_whole, base_shows, hands, same_span, span_of, is_find, shape_of}
 
 abbrev pub is_reserve : Event → Bool
 is_reserve (events.Reserve guard span) = true
@@ -77,126 +66,52 @@ guard_still scheme p i event other h c = c
 pub guard_kind : (scheme : SchemeKind) → OfKind is_reserve (guard_ok scheme)
 guard_kind scheme = record { quiet = guard_quiet scheme; still = guard_still scheme }
 
--- what is told of guards
-abbrev reserves : List Event → List Event
-reserves told = filter is_reserve told
-
-one_kept : (event : Event) (told : List Event) (b : Bool) → is_dated event ≡ b → dated (event ∷ told) ≡ [] → (is_reserve event ≡ false) × (dated told ≡ [])
-one_kept event told true e h = let q : event ∷ dated told ≡ [] = rw e at h in absurd (cc)
-one_kept event told false e h = let q : dated told ≡ [] = rw e at h in (undated_unreserved event e, q)
-
-none_reserves : (told : List Event) → dated told ≡ [] → reserves told ≡ []
-none_reserves [] h = refl
-none_reserves (event ∷ told) h = let k = one_kept event told (is_dated event) refl h in rw (k.0) (none_reserves told k.1)
-
-abbrev Owned : SchemeKind → Past → ℕ → List Event → Type 0
-Owned scheme p i told = Single (guard_ok scheme) p i (reserves told)
-
-empty_owned : (scheme : SchemeKind) (p : Past) (i : ℕ) (told : List Event) → told ≡ [] → Single (guard_ok scheme) p i told
-empty_owned scheme p i [] h = tt
-empty_owned scheme p i (event ∷ told) h = absurd (cc)
-
-none_owned : (scheme : SchemeKind) (p : Past) (i : ℕ) (told : List Event) → dated told ≡ [] → Owned scheme p i told
-none_owned scheme p i told h = empty_owned scheme p i (reserves told) (none_reserves told h)
-
-one_owned : (scheme : SchemeKind) (p : Past) (i : ℕ) (guard : Guard) (span : Option Interval) (told : List Event) → reserves told ≡ events.Reserve guard span ∷ [] → guard_ok scheme p i (events.Reserve guard span) ≡ true → Owned scheme p i told
-one_owned scheme p i guard span told h o = subst (λ (es : List Event). Single (guard_ok scheme) p i es) (sym h) o
-
 own_seat : (seat i : ℕ) (b : Bool) → seat ≡ i → (seat == i || b) ≡ true
 own_seat seat i b e = grind (arith, nat_tests)
-
-held_owned : (index : ℕ) (root : Root) (link n : ℕ) → reserves (protects.told_held index root link n) ≡ []
-held_owned index root link n = none_reserves (protects.told_held index root link n) (held_undated index root link n)
-
-protect_owned : (scheme : SchemeKind) (p : Past) (i : ℕ) (aim : Aim) (index : ℕ) (root : Root) (n : ℕ) (at : ProtectAt) (post : Post) (found : ℕ) → post.seat ≡ i → Owned scheme p i (machine.protect_turn aim index root n at (counted post) found).told
-protect_owned scheme p i aim index root n (LoadClock tries) post found e = tt
-protect_owned scheme p i aim index root n (PublishEra era tries) post found e = own_seat post.seat i _ e
-protect_owned scheme p i aim index root n (LoadLink era tries) post found e = tt
-protect_owned scheme p i aim index root n (CheckClock era tries link) post found e =
-    none_owned scheme p i (machine.protect_turn aim index root n (CheckClock era tries link) (counted post) found).told (turn_if _ _ (found == era) (protected_undated aim index root n link era (counted post)) refl)
-protect_owned scheme p i aim index root n PublishRequest post found e = tt
-protect_owned scheme p i aim index root n LoadOwnClock post found e = tt
-protect_owned scheme p i aim index root n (PublishHelper first era last) post found e = own_seat post.seat i _ e
-protect_owned scheme p i aim index root n (LoadOwnLink first era last) post found e = tt
-protect_owned scheme p i aim index root n (CheckOwnClock first era last link) post found e =
-    none_owned scheme p i (machine.protect_turn aim index root n (CheckOwnClock first era last link) (counted post) found).told (turn_if _ _ (found == era) refl refl)
-protect_owned scheme p i aim index root n (AnswerOwn first era link) post found e =
-    none_owned scheme p i (machine.protect_turn aim index root n (AnswerOwn first era link) (counted post) found).told (turn_if _ _ (found == own_request (counted post) index root) refl refl)
-protect_owned scheme p i aim index root n (LoadAnswer first) post found e = tt
-protect_owned scheme p i aim index root n (TakeAnswer link era) post found e =
-    one_owned scheme p i (Index post.seat index) (one_era era) (machine.protect_turn aim index root n (TakeAnswer link era) (counted post) found).told
-    (ap (λ (es : List Event). events.Reserve (Index post.seat index) (one_era era) ∷ es) (held_owned index root link n)) (own_seat post.seat i _ e)
-protect_owned scheme p i aim index root n (WithdrawRequest link era) post found e = tt
-protect_owned scheme p i aim index root n (WithdrawHelper link era) post found e =
-    one_owned scheme p i (Helper post.seat) (one_era 0) (machine.protect_turn aim index root n (WithdrawHelper link era) (counted post) found).told
-    (ap reserves (concluded_told aim index root n link era (counted post) (reserves_helper post 0))) (own_seat post.seat i _ e)
-protect_owned scheme p i aim index root n LoadWithin post found e = tt
-protect_owned scheme p i aim index root n (CheckUpper link) post found e =
-    none_owned scheme p i (machine.protect_turn aim index root n (CheckUpper link) (counted post) found).told (turn_if _ _ (found == upper post.span) (protected_undated aim index root n link found (counted post)) refl)
-protect_owned scheme p i aim index root n (RaiseUpper era) post found e = own_seat post.seat i _ e
 
 -- what a mover's helper word publishes where it hands over
 abbrev pub Hands : SchemeKind → Past → ℕ → Base → Type 0
 Hands scheme p i base = (era seat tag index : ℕ) (root : Root) (link old : ℕ) → base ≡ Move (HandOver era seat tag index root link old) → (is_wfe scheme && same_interval (one_era era) (value_of (Helper i) p)) ≡ true
 
-hand_owned : (scheme : SchemeKind) (p : Past) (i era seat tag index old : ℕ) (post : Post) (same : Bool) → (is_wfe scheme && same_interval (one_era era) (value_of (Helper i) p)) ≡ true → Owned scheme p i (movers.after_hand_over era seat tag index old post same).told
-hand_owned scheme p i era seat tag index old post true h = or_more (seat == i) (is_wfe scheme && same_interval (one_era era) (value_of (Helper i) p)) h
-hand_owned scheme p i era seat tag index old post false h = tt
+-- the guard is the seat's, or that of a hand-over
+kept_seat : (base : Base) (post : Post) (found : ℕ) (guard : Guard) → ((seat index : ℕ) → guard ≡ Index seat index → hands base found seat index ≡ false) → may_store base post found guard ≡ true → seat_of guard ≡ post.seat
+kept_seat base post found (Helper seat) n h = number_is seat post.seat (rest_of (base_helper base) (seat == post.seat) h)
+kept_seat base post found (Index seat index) n h = by (base_index base index) h
+  where
+    by : (own : Bool) → (if own then seat == post.seat else hands base found seat index) ≡ true → seat ≡ post.seat
+    by true h = number_is seat post.seat h
+    by false h = absurd (false_not_true (hands base found seat index) (n seat index refl) h)
+kept_seat base post found (Whole seat) n h = number_is seat post.seat (rest_of (base_whole base) (seat == post.seat) h)
 
-clock_owned : (scheme : SchemeKind) (p : Past) (i era : ℕ) (post : Post) (found : ℕ) (same : Bool) → (found == era) ≡ same → Owned scheme p i (movers.after_exchange_clock era post found).told
-clock_owned scheme p i era post found true e = rw e tt
-clock_owned scheme p i era post found false e = rw e tt
+own_guard : (scheme : SchemeKind) (p : Past) (i : ℕ) (base : Base) (post : Post) (found : ℕ) (guard : Guard) (span : Option Interval) → post.seat ≡ i → ((seat index : ℕ) → guard ≡ Index seat index → hands base found seat index ≡ false) → Tells base post found (events.Reserve guard span)
+    → guard_ok scheme p i (events.Reserve guard span) ≡ true
+own_guard scheme p i base post found guard span e n t = own_seat (seat_of guard) i _ (kept_seat base post found guard n (first_of (may_store base post found guard) (same_span span (base_shows base post)) t) ∙ e)
 
-move_owned : (scheme : SchemeKind) (p : Past) (i : ℕ) (at : MoveAt) (post : Post) (found : ℕ) → post.seat ≡ i → Hands scheme p i (Move at) → Owned scheme p i (machine.move_turn at (counted post) found).told
-move_owned scheme p i (LoadEra helps) post found e h = none_owned scheme p i (machine.move_turn (LoadEra helps) (counted post) found).told (turn_if _ _ (found == post.layout.config.last_era) refl refl)
-move_owned scheme p i (LoadRequest era seat shows) post found e h = tt
-move_owned scheme p i (ShowEra era seat tag index root) post found e h = own_seat post.seat i _ e
-move_owned scheme p i (LoadAsked era seat tag index root) post found e h = tt
-move_owned scheme p i (CheckEra era seat tag index root link) post found e h = none_owned scheme p i (machine.move_turn (CheckEra era seat tag index root link) (counted post) found).told (turn_if _ _ (found == era) refl refl)
-move_owned scheme p i (AnswerAsked era seat tag index root link) post found e h =
-    none_owned scheme p i (machine.move_turn (AnswerAsked era seat tag index root link) (counted post) found).told (turn_if _ _ (found == asking post.layout tag index root) refl refl)
-move_owned scheme p i (LoadReserved era seat tag index root link) post found e h =
-    none_owned scheme p i (machine.move_turn (LoadReserved era seat tag index root link) (counted post) found).told (turn_if _ _ ((read_reservation found).tag == tag) refl refl)
-move_owned scheme p i (HandOver era seat tag index root link old) post found e h =
-    hand_owned scheme p i era seat tag index old (counted post) (found == reservation_word (record { era = old; tag = tag })) (h era seat tag index root link old refl)
-move_owned scheme p i (HideEra era) post found e h = own_seat post.seat i _ e
-move_owned scheme p i (HideLate seen) post found e h = own_seat post.seat i _ e
-move_owned scheme p i (ExchangeClock era) post found e h = clock_owned scheme p i era (counted post) found (found == era) refl
+hand_guard : (scheme : SchemeKind) (p : Past) (i era seat tag index : ℕ) (root : Root) (link old : ℕ) (post : Post) (found : ℕ) (guard : Guard) (span : Option Interval) → Hands scheme p i (Move (HandOver era seat tag index root link old)) → Tells (Move (HandOver era seat tag index root link old)) post found (events.Reserve guard span)
+    → guard_ok scheme p i (events.Reserve guard span) ≡ true
+hand_guard scheme p i era seat tag index root link old post found (Index other at) span h t =
+    let e : span ≡ one_era era = span_of (Move (HandOver era seat tag index root link old)) post found (Index other at) span t in
+    or_more (other == i) (is_wfe scheme && same_interval span (value_of (Helper i) p)) (rw e (h era seat tag index root link old refl))
+hand_guard scheme p i era seat tag index root link old post found (Helper other) span h t = absurd (cc)
+hand_guard scheme p i era seat tag index root link old post found (Whole other) span h t = absurd (cc)
 
-begin_owned : (scheme : SchemeKind) (p : Past) (i : ℕ) (at : BeginAt) (post : Post) (found : ℕ) → post.seat ≡ i → Owned scheme p i (machine.begin_turn at (counted post) found).told
-begin_owned scheme p i LoadLower post found e = tt
-begin_owned scheme p i (PublishSpan era) post found e = own_seat post.seat i _ e
+event_owned : (scheme : SchemeKind) (p : Past) (i : ℕ) (base : Base) (post : Post) (found : ℕ) (event : Event) → post.seat ≡ i → Hands scheme p i base → Tells base post found event → guard_ok scheme p i event ≡ true
+event_owned scheme p i (Move (HandOver era seat tag index root link old)) post found (events.Reserve guard span) e h t = hand_guard scheme p i era seat tag index root link old post found guard span h t
+event_owned scheme p i (Move at) post found (events.Reserve guard span) e h t = own_guard scheme p i (Move at) post found guard span e (λ seat index same. refl) t
+event_owned scheme p i base post found (events.Reserve guard span) e h t = own_guard scheme p i base post found guard span e (λ seat index same. refl) t
+event_owned scheme p i base post found event e h t = refl
 
-claim_owned : (scheme : SchemeKind) (p : Past) (i birth : ℕ) (walk : Walk) (post : Post) (found : ℕ) (x : Bool) → allocates.is_claimed found walk.slot ≡ x → Owned scheme p i (allocates.after_claim_slot birth walk post found).told
-claim_owned scheme p i birth walk post found true e = rw e (none_owned scheme p i (allocates.walking birth post (allocates.walk_past post.layout.config.slots walk found)).told (walking_undated birth post (allocates.walk_past post.layout.config.slots walk found)))
-claim_owned scheme p i birth walk post found false e = rw e tt
+find_owned : (event : Event) → is_find event ≡ true → is_reserve event ≡ false
+find_owned (events.Held index slot n) h = refl
+find_owned (events.Null index n) h = refl
+find_owned event h = absurd (cc)
 
-allocate_owned : (scheme : SchemeKind) (p : Past) (i : ℕ) (at : AllocateAt) (post : Post) (found : ℕ) → Owned scheme p i (machine.allocate_turn at (counted post) found).told
-allocate_owned scheme p i LoadBirth post found = tt
-allocate_owned scheme p i (ClaimSlot birth walk) post found = claim_owned scheme p i birth walk (counted post) found (allocates.is_claimed found walk.slot) refl
-allocate_owned scheme p i (StoreLife birth slot) post found = tt
-
-retire_owned : (scheme : SchemeKind) (p : Past) (i : ℕ) (at : RetireAt) (post : Post) (found : ℕ) → Owned scheme p i (machine.retire_turn at (counted post) found).told
-retire_owned scheme p i (LoadLife slot) post found = tt
-retire_owned scheme p i (LoadRetire slot birth) post found = tt
-retire_owned scheme p i (StoreRetired slot birth retire) post found = tt
-
-cleared_owned : (scheme : SchemeKind) (p : Past) (i index : ℕ) (x : Option ℕ) (guard : Guard) → seat_of guard ≡ i → Owned scheme p i (cleared index x ++ events.Reserve guard None ∷ [])
-cleared_owned scheme p i index None guard e = own_seat (seat_of guard) i _ e
-cleared_owned scheme p i index (Some slot) guard e = own_seat (seat_of guard) i _ e
+abbrev Owned : SchemeKind → Past → ℕ → List Event → Type 0
+Owned scheme p i told = Single (guard_ok scheme) p i (filter is_reserve told)
 
 base_owned : (scheme : SchemeKind) (p : Past) (i : ℕ) (base : Base) (post : Post) (found : ℕ) → post.seat ≡ i → Hands scheme p i base → Owned scheme p i (machine.after base (counted post) found).told
-base_owned scheme p i (Begin at) post found e h = begin_owned scheme p i at post found e
-base_owned scheme p i (Protect aim index root steps at) post found e h = protect_owned scheme p i aim index root (bump steps) at post found e
-base_owned scheme p i (Reload parent index slot era steps) post found e h = none_owned scheme p i (machine.after (Reload parent index slot era steps) (counted post) found).told (turn_if _ _ (found == parent + 1) refl refl)
-base_owned scheme p i (Clear index) post found e h = cleared_owned scheme p i index (stands post index) (Index post.seat index) e
-base_owned scheme p i Finish post found e h = own_seat post.seat i _ e
-base_owned scheme p i Release post found e h = cleared_owned scheme p i 2 (stands post 2) (Whole post.seat) e
-base_owned scheme p i (Allocate at) post found e h = allocate_owned scheme p i at post found
-base_owned scheme p i (Write slot row place) post found e h = none_owned scheme p i (machine.after (Write slot row place) (counted post) found).told (turn_if _ _ (place == last_written row) refl refl)
-base_owned scheme p i (GiveUp slot) post found e h = tt
-base_owned scheme p i (Retire at) post found e h = retire_owned scheme p i at post found
-base_owned scheme p i (Move at) post found e h = move_owned scheme p i at post found e h
+base_owned scheme p i base post found e h =
+    shape_single is_reserve (guard_ok scheme) p i (λ index slot. refl) find_owned base (counted post) found (machine.after base (counted post) found).told (shape_of base (counted post) found) (λ event. event_owned scheme p i base (counted post) found event e h)
 
 phase_owned : (scheme : SchemeKind) (p : Past) (i : ℕ) (phase : Phase) (post : Post) (found : ℕ) → post.seat ≡ i → ((why : Why) (base : Base) → phase ≡ Runs why base → Hands scheme p i base) → Owned scheme p i (own_told phase (counted post) found)
 phase_owned scheme p i Idle post found e h = tt

@@ -41,8 +41,8 @@ use Rattle.inv_all.specs.history.Record.{Past, Each, tells_of}
 use Rattle.inv_all.specs.history.Record.Past.{Start, Then}
 use Rattle.inv_all.specs.history.Turns as schedule
 use Rattle.laws.specs.StateAt.{count_of, bucket_at, stood_at, row_at, null_by, null_of}
-use Rattle.inv_all.proofs.Each.{all_of}
-use Rattle.inv_all.proofs.Machines.{is_machine, of_weaker, base_machine, clear_machine}
+use Rattle.inv_all.proofs.history.AllOf.{all_of, of_weaker}
+use Rattle.inv_all.proofs.Machines.{is_machine, base_machine, clear_machine}
 use Rattle.laws.proofs.Tells.{seen_tells, tells_both}
 use Rattle.law_places.proofs.reuse.Reuse.Keeps.{record_stands}
 use Rattle.inv_all.proofs.history.Passes.{Closing, First, get_allows, ending_allows, why_allows, outcome_allows, work_allows, phase_allows, step_closes}

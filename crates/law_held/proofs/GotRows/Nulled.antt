@@ -29,12 +29,12 @@ use Rattle.wfe_core.specs.SlowPath.{own_request, answer_in, lost_turn}
 use Rattle.wfe_core.specs.World.{World, begin, step, finds, told_in}
 use Rattle.wfe_core.specs.Phases.BeginAt.{LoadLower, PublishSpan}
 use Rattle.wfe_core.specs.Phases.{Aim, Alone, Follows, BeginAt, Tries, Endless, Failed, ProtectAt, Base, Outcome, Goes, Ends, Turn, goes, ends}
-use Rattle.wfe_core.specs.Phases.ProtectAt.{LoadClock, PublishEra, LoadLink, CheckClock, PublishRequest, LoadOwnClock, PublishHelper, LoadOwnLink, CheckOwnClock, AnswerOwn, LoadAnswer, TakeAnswer, WithdrawRequest, WithdrawHelper, LoadWithin, CheckUpper, RaiseUpper}
-use Rattle.wfe_core.specs.Phases.Base.{Begin, Protect, Reload, Clear, Finish, Release, Allocate, Write, GiveUp, Retire, Move}
+use Rattle.wfe_core.specs.Phases.ProtectAt.{PublishEra, LoadLink, CheckClock, PublishRequest, CheckOwnClock, AnswerOwn, LoadAnswer, TakeAnswer, WithdrawRequest, WithdrawHelper, CheckUpper, RaiseUpper}
+use Rattle.wfe_core.specs.Phases.Base.{Begin, Protect, Reload, Allocate, Write, Retire, Move}
 use Rattle.wfe_core.specs.Phases.Ending.{Followed}
 use Rattle.wfe_core.specs.Calls.{Why, Phase, Idle, Runs, Scans, Works}
 use Rattle.wfe_core.proofs.Facts.{first_of, rest_of, then_of}
-use Rattle.law_turns.proofs.Counting.Told.{concluded_told}
+use Rattle.inv_all.proofs.history.MayTell.{concluded_told}
 use Rattle.inv_all.specs.ends.Nulls.{ended_at}
 use Rattle.inv_all.specs.shapes.Frame.{Onward, Grows, Owes, Moves, Passed}
 use Rattle.inv_all.specs.shapes.Seats.{PostFits, PhaseFits, Run, Seats, Kind, ToOpen, ToFollow, kind_of, suits, protects, fills, retires, moves}
@@ -158,16 +158,10 @@ taken_null index root link n was true e = held_null index root link n was e
 taken_null index root link n was false e = refl
 
 protect_on : (why : Why) (aim : Aim) (index : ℕ) (root : Root) (n : ℕ) (at : ProtectAt) (post : Post) (found : ℕ) (was : Bool) → (not (index == 0) || nulled_at at was) ≡ true → On (along null_by (protect_turn aim index root n at post found).told was) why (protect_turn aim index root n at post found)
-protect_on why aim index root n (LoadClock tries) post found was h = or_more (not (index == 0)) true refl
 protect_on why aim index root n (PublishEra era tries) post found was h = or_more (not (index == 0)) (nulled_at (trying post.layout.config era tries) was) (trying_at post.layout.config era tries was)
-protect_on why aim index root n (LoadLink era tries) post found was h = or_more (not (index == 0)) true refl
 protect_on why aim index root n (CheckClock era tries link) post found was h =
     if_on (along null_by (protect_turn aim index root n (CheckClock era tries link) post found).told was) why (found == era) (protected aim index root n link era post) (goes post [] (Protect aim index root n (PublishEra found (failed_once tries))))
     (concluded_on (along null_by (protect_turn aim index root n (CheckClock era tries link) post found).told was) why aim index root n link era (held_post post index root link) (told_held index root link n)) (or_more (not (index == 0)) true refl)
-protect_on why aim index root n PublishRequest post found was h = or_more (not (index == 0)) true refl
-protect_on why aim index root n LoadOwnClock post found was h = or_more (not (index == 0)) true refl
-protect_on why aim index root n (PublishHelper first era last) post found was h = or_more (not (index == 0)) true refl
-protect_on why aim index root n (LoadOwnLink first era last) post found was h = or_more (not (index == 0)) true refl
 protect_on why aim index root n (CheckOwnClock first era last link) post found was h =
     if_on (along null_by (protect_turn aim index root n (CheckOwnClock first era last link) post found).told was) why (found == era) (goes post [] (Protect aim index root n (AnswerOwn first era link))) (goes post [] (Protect aim index root n (lost_turn first last found)))
     (or_more (not (index == 0)) true refl) (or_more (not (index == 0)) (nulled_at (lost_turn first last found) _) (lost_at first found last _))
@@ -179,11 +173,10 @@ protect_on why aim index root n (TakeAnswer link era) post found was h = taken_n
 protect_on why aim index root n (WithdrawRequest link era) post found was h = h
 protect_on why aim index root n (WithdrawHelper link era) post found was h =
     concluded_on (along null_by (protect_turn aim index root n (WithdrawHelper link era) post found).told was) why aim index root n link era post (reserves_helper post 0)
-protect_on why aim index root n LoadWithin post found was h = or_more (not (index == 0)) true refl
 protect_on why aim index root n (CheckUpper link) post found was h =
     if_on (along null_by (protect_turn aim index root n (CheckUpper link) post found).told was) why (found == upper post.span) (protected aim index root n link found post) (goes post [] (Protect aim index root n (RaiseUpper found)))
     (concluded_on (along null_by (protect_turn aim index root n (CheckUpper link) post found).told was) why aim index root n link found (held_post post index root link) (told_held index root link n)) (or_more (not (index == 0)) true refl)
-protect_on why aim index root n (RaiseUpper era) post found was h = or_more (not (index == 0)) true refl
+protect_on why aim index root n at post found was h = or_more (not (index == 0)) true refl
 
 -- the other machines begin no protection
 fills_plain : (kind : Kind) → fills kind ≡ true → protects kind ≡ false
@@ -218,14 +211,11 @@ base_on layout why (Begin at) post found was r p h = begin_on (along null_by (af
 base_on layout why (Protect aim index root made at) post found was r p h = protect_on why aim index root (bump made) at post found was h
 base_on layout why (Reload parent index slot era made) post found was r p h =
     if_on (along null_by (after (Reload parent index slot era made) post found).told was) why (found == parent + 1) (ends (with_row post index slot) (events.Held index slot (bump made) ∷ []) (Followed (follow_ends.Followed slot))) (ends post [] (Followed (follow_ends.RootMoved found))) tt tt
-base_on layout why (Clear index) post found was r p h = tt
-base_on layout why Finish post found was r p h = tt
-base_on layout why Release post found was r p h = tt
 base_on layout why (Allocate at) post found was r p h = other_on layout _ why (after (Allocate at) post found).post (after (Allocate at) post found).outcome p (fills_plain (kind_of why) r.suited)
 base_on layout why (Write slot row place) post found was r p h = other_on layout _ why (after (Write slot row place) post found).post (after (Write slot row place) post found).outcome p (fills_plain (kind_of why) r.suited)
-base_on layout why (GiveUp slot) post found was r p h = tt
 base_on layout why (Retire at) post found was r p h = other_on layout _ why (after (Retire at) post found).post (after (Retire at) post found).outcome p (retires_plain (kind_of why) r.suited)
 base_on layout why (Move at) post found was r p h = other_on layout _ why (after (Move at) post found).post (after (Move at) post found).outcome p (moves_plain (kind_of why) r.suited)
+base_on layout why base post found was r p h = tt
 
 run_nulled : (layout : Layout) (k : ℕ) → is_valid layout ≡ true → (why : Why) (base : Base) (post : Post) (found : ℕ) (was : Bool) → PostFits layout k post → Run layout why base post → nulled_base base was ≡ true → Moves (PostFits layout k) (In (along null_by (after base post found).told was)) why (after base post found)
 run_nulled layout k v why base post found was q r h =

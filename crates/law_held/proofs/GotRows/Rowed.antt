@@ -23,8 +23,7 @@ use Rattle.inv_all.proofs.contents.Contents.Told.{booked_append}
 use Rattle.inv_all.specs.history.Record.{Past, tells_of}
 use Rattle.inv_all.specs.history.Record.Past.{Start, Then}
 use Rattle.laws.specs.StateAt.{changes_of, count_of, bucket_at, row_at}
-use Rattle.inv_all.proofs.Each.{all_of}
-use Rattle.inv_all.proofs.Machines.{of_weaker}
+use Rattle.inv_all.proofs.history.AllOf.{all_of, of_weaker}
 use Rattle.law_places.proofs.answers.Lawful.Maps.{told_changes}
 use Rattle.law_places.proofs.Placing.Fronts.{linked_front, queued_front, taken_front}
 use Rattle.law_places.proofs.Placing.Marks.{is_common, ordered, InOrder, step_order}

@@ -13,7 +13,7 @@ use Rattle.inv_all.specs.ends.Standing as told
 use Rattle.laws.specs.HoldLaw.{is_held}
 use Rattle.inv_all.specs.history.Record.{Past, Test, Each, tells_of}
 use Rattle.inv_all.specs.history.Record.Past.{Then}
-use Rattle.inv_all.proofs.Each.{all_of}
+use Rattle.inv_all.proofs.history.AllOf.{all_of}
 use Rattle.laws.proofs.Tells.{tells_both}
 use Rattle.laws.specs.StateAt.{stood_at, is_row}
 use Rattle.wfe_core.specs.defs.Events.{is_held as event_is_held}

@@ -1,7 +1,6 @@
 -- In which order a step tells what changes guards and lives, and what stands.
-use Rattle.std.proofs.Common.{ℕ, ◌≡◌, ◌-◌, ◌+◌, ◌%◌, Bool, true, false, List, [], ◌∷◌, ◌++◌, Option, Some, None, refl, sym, ap, ◌∙◌, subst}
+use Rattle.std.proofs.Common.{ℕ, ◌≡◌, ◌+◌, ◌%◌, Bool, true, false, List, [], ◌∷◌, ◌++◌, Option, Some, None, refl, sym, ap, ◌∙◌, subst}
 use Rattle.std.specs.Prelude.{◌==◌, not, if◌then◌else◌}
-use Rattle.wfe_core.specs.words.Packed.{reservation_word, read_reservation}
 use Rattle.wfe_core.specs.words.declared.config.SchemeKind.{SchemeKind}
 use Rattle.wfe_core.specs.words.declared.config.SchemeKind.TheVariants.{He, Ibr, Wfe}
 use Rattle.wfe_core.specs.words.declared.layout.Layout.{Layout}
@@ -9,37 +8,33 @@ use Rattle.wfe_core.specs.defs.declared.call.Answer.{Answer}
 use Rattle.wfe_core.specs.defs.declared.event.Event.{Event}
 use Rattle.wfe_core.specs.defs.declared.event.Event.TheVariants as events
 use Rattle.wfe_core.specs.defs.declared.event.Root.{Root}
-use Rattle.wfe_core.specs.defs.declared.event.Root.TheVariants as roots
 use Rattle.wfe_core.specs.declared.post.Post.{Post}
 use Rattle.wfe_core.specs.Allocate as allocates
 use Rattle.wfe_core.specs.Desks.{Desk, with_life}
 use Rattle.wfe_core.specs.Locals.{told_by, told_end}
 use Rattle.wfe_core.specs.Machine as machine
-use Rattle.wfe_core.specs.MoveClock as movers
 use Rattle.wfe_core.specs.Memory.{bump}
-use Rattle.wfe_core.specs.Posts.{stands, cleared, upper, reserves_helper}
+use Rattle.wfe_core.specs.Posts.{upper}
 use Rattle.wfe_core.specs.Protect as protects
 use Rattle.wfe_core.specs.Protect.{told_held}
-use Rattle.wfe_core.specs.Rounds.{scheme_of, taken_of, clear_post, clear_told, given_up, closed}
+use Rattle.wfe_core.specs.Rounds.{scheme_of, taken_of, clear_told, given_up, closed}
 use Rattle.wfe_core.specs.Scan as scan
-use Rattle.wfe_core.specs.SlowPath.{asking, own_request}
+use Rattle.wfe_core.specs.SlowPath.{own_request}
 use Rattle.wfe_core.specs.Steps as steps
 use Rattle.wfe_core.specs.WriteRow.{last_written}
-use Rattle.wfe_core.specs.Phases.{Aim, BeginAt, ProtectAt, AllocateAt, RetireAt, MoveAt, Walk, Base, Ending, Outcome, Goes, Ends, Turn, goes}
+use Rattle.wfe_core.specs.Phases.{Aim, BeginAt, ProtectAt, AllocateAt, Walk, Base, Ending, Outcome, Goes, Ends, Turn, goes}
 use Rattle.wfe_core.specs.Phases.BeginAt.{LoadLower, PublishSpan}
-use Rattle.wfe_core.specs.Phases.ProtectAt.{LoadClock, PublishEra, LoadLink, CheckClock, PublishRequest, LoadOwnClock, PublishHelper, LoadOwnLink, CheckOwnClock, AnswerOwn, LoadAnswer, TakeAnswer, WithdrawRequest, WithdrawHelper, LoadWithin, CheckUpper, RaiseUpper}
+use Rattle.wfe_core.specs.Phases.ProtectAt.{PublishEra, CheckClock, PublishHelper, CheckOwnClock, AnswerOwn, TakeAnswer, WithdrawHelper, CheckUpper, RaiseUpper}
 use Rattle.wfe_core.specs.Phases.AllocateAt.{LoadBirth, ClaimSlot, StoreLife}
-use Rattle.wfe_core.specs.Phases.RetireAt.{LoadLife, LoadRetire, StoreRetired}
-use Rattle.wfe_core.specs.Phases.MoveAt.{LoadEra, LoadRequest, ShowEra, LoadAsked, CheckEra, AnswerAsked, LoadReserved, HandOver, HideEra, HideLate, ExchangeClock}
-use Rattle.wfe_core.specs.Phases.Base.{Begin, Protect, Reload, Clear, Finish, Release, Allocate, Write, GiveUp, Retire, Move}
+use Rattle.wfe_core.specs.Phases.Base.{Begin, Protect, Reload, Clear, Allocate, Write}
 use Rattle.wfe_core.specs.Phases.Ending.{Done, Protected, Followed, Allocated, Retired, Clocked}
 use Rattle.wfe_core.specs.Calls.{Task, Next, Again, MakeRoom, Answering, Retiring, AfterScan, Answered, Repeated, Counted, Why, Opens, FollowsHead, Fills, ClearsNext, Clears, Finishes, GivesUp, Retires, Tidies, Advances, Releases, GiveBack, Runs, Scans, CallTurn, CallOutcome, GoesOn, Answers}
-use Rattle.wfe_core.proofs.Facts.{first_of, rest_of}
-use Rattle.law_turns.proofs.Counting.Told.{concluded_told}
-use Rattle.wfe_core.specs.words.Schemes.{is_ibr, is_wfe}
+use Rattle.wfe_core.proofs.Facts.{first_of, rest_of, false_not_true}
+use Rattle.inv_all.proofs.history.MayTell as may
+use Rattle.inv_all.proofs.history.MayTell.{concluded_told, Silent, Single, Takes, takes, shape_of, held_any}
+use Rattle.wfe_core.specs.words.Schemes.{is_ibr}
 use Rattle.inv_all.specs.shapes.Seats.{Run, ToClear, suits, protect_fits}
-use Rattle.inv_all.proofs.Each.{all_of}
-use Rattle.inv_all.proofs.Machines.{of_along}
+use Rattle.inv_all.proofs.history.AllOf.{all_of, of_along}
 use Rattle.inv_all.proofs.history.Passes.{is_quiet, all_quiet, Closed, step_goes}
 use Rattle.law_held.proofs.Held.Flat.{is_flat, is_settled}
 use Rattle.inv_all.proofs.contents.Stands.Rounds.{is_clear}
@@ -61,106 +56,18 @@ pub data Form (own : List Event) : Type 0 where
 single : (event : Event) → Form (event ∷ [])
 single event = Final (record { first = []; event = event; is = refl; clears = refl })
 
-form_as : (xs ys : List Event) → xs ≡ ys → Form ys → Form xs
-form_as xs ys e f = subst Form (sym e) f
-
-form_if : (c : Bool) (t u : Turn) → Form t.told → Form u.told → Form (if c then t else u).told
-form_if true t u a b = a
-form_if false t u a b = b
-
-two_flat : (index slot n : ℕ) (null : Bool) → all_of is_flat (if null then events.Null index n ∷ [] else events.Held index slot n ∷ []) ≡ true
-two_flat index slot n true = refl
-two_flat index slot n false = refl
-
-one_flat : (index n : ℕ) (null : Bool) → all_of is_flat (if null then events.Null index n ∷ [] else []) ≡ true
-one_flat index n true = refl
-one_flat index n false = refl
-
 held_flat : (index : ℕ) (root : Root) (link n : ℕ) → all_of is_flat (told_held index root link n) ≡ true
-held_flat index (roots.Bucket bucket) link n = two_flat index (link - 1) n (link == 0)
-held_flat index (roots.Next parent) link n = one_flat index n (link == 0)
-held_flat index roots.Head link n = two_flat index (link - 1) n (link == 0)
-held_flat index roots.Tail link n = two_flat index (link - 1) n (link == 0)
+held_flat index root link n = held_any (λ told. all_of is_flat told ≡ true) index root link n refl refl (λ slot. refl)
 
-ended_form : (aim : Aim) (index : ℕ) (root : Root) (n link era : ℕ) (post : Post) (told : List Event) → Form told → Form (protects.concluded aim index root n link era post told).told
-ended_form aim index root n link era post told f = form_as (protects.concluded aim index root n link era post told).told told (concluded_told aim index root n link era post told) f
+-- only where an answer is taken does more come after what is told of a guard
+shape_form : (base : Base) (post : Post) (found : ℕ) (told : List Event) → may.Shape base post found told → takes base ≡ false → Form told
+shape_form base post found told (Silent e) t = rw e (Flat refl)
+shape_form base post found told (Single event e a) t = rw e (single event)
+shape_form base post found told (may.Shape.Clears index slot guard e a b) t = Final (record { first = events.Clear index slot ∷ []; event = events.Reserve guard None; is = e; clears = refl })
+shape_form base post found told (Takes guard span event e k f a b) t = absurd (false_not_true (takes base) t k)
 
-abbrev pub is_taking : Base → Bool
-is_taking (Protect aim index root made (TakeAnswer link era)) = true
-is_taking base = false
-
-protect_form : (aim : Aim) (index : ℕ) (root : Root) (made n : ℕ) (at : ProtectAt) (post : Post) (found : ℕ) → is_taking (Protect aim index root made at) ≡ false → Form (machine.protect_turn aim index root n at post found).told
-protect_form aim index root made n (LoadClock tries) post found t = Flat refl
-protect_form aim index root made n (PublishEra era tries) post found t = single _
-protect_form aim index root made n (LoadLink era tries) post found t = Flat refl
-protect_form aim index root made n (CheckClock era tries link) post found t =
-    form_if (found == era) _ _ (ended_form aim index root n link era (protects.held_post post index root link) (told_held index root link n) (Flat (held_flat index root link n))) (Flat refl)
-protect_form aim index root made n PublishRequest post found t = Flat refl
-protect_form aim index root made n LoadOwnClock post found t = Flat refl
-protect_form aim index root made n (PublishHelper first era last) post found t = single _
-protect_form aim index root made n (LoadOwnLink first era last) post found t = Flat refl
-protect_form aim index root made n (CheckOwnClock first era last link) post found t = form_if (found == era) _ _ (Flat refl) (Flat refl)
-protect_form aim index root made n (AnswerOwn first era link) post found t = form_if (found == own_request post index root) _ _ (Flat refl) (Flat refl)
-protect_form aim index root made n (LoadAnswer first) post found t = Flat refl
-protect_form aim index root made n (TakeAnswer link era) post found t = absurd (cc)
-protect_form aim index root made n (WithdrawRequest link era) post found t = Flat refl
-protect_form aim index root made n (WithdrawHelper link era) post found t = ended_form aim index root n link era post (reserves_helper post 0) (single _)
-protect_form aim index root made n LoadWithin post found t = Flat refl
-protect_form aim index root made n (CheckUpper link) post found t =
-    form_if (found == upper post.span) _ _ (ended_form aim index root n link found (protects.held_post post index root link) (told_held index root link n) (Flat (held_flat index root link n))) (Flat refl)
-protect_form aim index root made n (RaiseUpper era) post found t = single _
-
-begin_form : (at : BeginAt) (post : Post) (found : ℕ) → Form (machine.begin_turn at post found).told
-begin_form LoadLower post found = Flat refl
-begin_form (PublishSpan era) post found = single _
-
-walking_form : (birth : ℕ) (post : Post) (x : Option Walk) → Form (allocates.walking birth post x).told
-walking_form birth post None = Flat refl
-walking_form birth post (Some walk) = Flat refl
-
-allocate_form : (at : AllocateAt) (post : Post) (found : ℕ) → Form (machine.allocate_turn at post found).told
-allocate_form LoadBirth post found = Flat refl
-allocate_form (ClaimSlot birth walk) post found = form_if (allocates.is_claimed found walk.slot) _ _ (walking_form birth post (allocates.walk_past post.layout.config.slots walk found)) (single _)
-allocate_form (StoreLife birth slot) post found = Flat refl
-
-retire_form : (at : RetireAt) (post : Post) (found : ℕ) → Form (machine.retire_turn at post found).told
-retire_form (LoadLife slot) post found = Flat refl
-retire_form (LoadRetire slot birth) post found = Flat refl
-retire_form (StoreRetired slot birth retire) post found = single _
-
-hand_form : (era seat tag index old : ℕ) (post : Post) (same : Bool) → Form (movers.after_hand_over era seat tag index old post same).told
-hand_form era seat tag index old post true = single _
-hand_form era seat tag index old post false = Flat refl
-
-move_form : (at : MoveAt) (post : Post) (found : ℕ) → Form (machine.move_turn at post found).told
-move_form (LoadEra helps) post found = form_if (found == post.layout.config.last_era) _ _ (Flat refl) (Flat refl)
-move_form (LoadRequest era seat shows) post found = Flat refl
-move_form (ShowEra era seat tag index root) post found = single _
-move_form (LoadAsked era seat tag index root) post found = Flat refl
-move_form (CheckEra era seat tag index root link) post found = form_if (found == era) _ _ (Flat refl) (Flat refl)
-move_form (AnswerAsked era seat tag index root link) post found = form_if (found == asking post.layout tag index root) _ _ (Flat refl) (Flat refl)
-move_form (LoadReserved era seat tag index root link) post found = form_if ((read_reservation found).tag == tag) _ _ (Flat refl) (Flat refl)
-move_form (HandOver era seat tag index root link old) post found = hand_form era seat tag index old post (found == reservation_word (record { era = old; tag = tag }))
-move_form (HideEra era) post found = single _
-move_form (HideLate seen) post found = single _
-move_form (ExchangeClock era) post found = form_if (found == era) _ _ (Flat refl) (Flat refl)
-
-cleared_clears : (index : ℕ) (x : Option ℕ) → all_of is_clear (cleared index x) ≡ true
-cleared_clears index None = refl
-cleared_clears index (Some slot) = refl
-
-pub base_form : (base : Base) (post : Post) (found : ℕ) → is_taking base ≡ false → Form (machine.after base post found).told
-base_form (Begin at) post found t = begin_form at post found
-base_form (Protect aim index root made at) post found t = protect_form aim index root made (bump made) at post found t
-base_form (Reload parent index slot era made) post found t = form_if (found == parent + 1) _ _ (Flat refl) (Flat refl)
-base_form (Clear index) post found t = Final (record { first = cleared index (stands post index); event = _; is = refl; clears = cleared_clears index (stands post index) })
-base_form Finish post found t = single _
-base_form Release post found t = Final (record { first = cleared 2 (stands post 2); event = _; is = refl; clears = cleared_clears 2 (stands post 2) })
-base_form (Allocate at) post found t = allocate_form at post found
-base_form (Write slot row place) post found t = form_if (place == last_written row) _ _ (Flat refl) (Flat refl)
-base_form (GiveUp slot) post found t = single _
-base_form (Retire at) post found t = retire_form at post found
-base_form (Move at) post found t = move_form at post found
+pub base_form : (base : Base) (post : Post) (found : ℕ) → takes base ≡ false → Form (machine.after base post found).told
+base_form base post found t = shape_form base post found (machine.after base post found).told (shape_of base post found) t
 
 -- what a step tells after its machine: nothing of guards, lives and what stands
 pub record Settled (own told : List Event) : Type 0 where
@@ -284,17 +191,13 @@ is_shut Advances = true
 is_shut (Releases key) = true
 
 shut_resume : (why : Why) (ending : Ending) (post : Post) (desk : Desk) (told : List Event) → is_shut why ≡ true → (steps.resume why ending post desk told).told ≡ told
-shut_resume (Opens task) ending post desk told h = absurd (cc)
-shut_resume (FollowsHead head tail) ending post desk told h = absurd (cc)
-shut_resume (Fills task) ending post desk told h = absurd (cc)
-shut_resume (ClearsNext next) ending post desk told h = absurd (cc)
-shut_resume (Clears task next) ending post desk told h = absurd (cc)
 shut_resume (Finishes task next) ending post desk told h = closed_told task next post desk told
 shut_resume (GivesUp answer) ending post desk told h = refl
 shut_resume (Retires answer) ending post desk told h = retired_told answer ending post desk told
 shut_resume (Tidies later) ending post desk told h = tidied_told later ending post desk told
 shut_resume Advances ending post desk told h = advanced_told ending post desk told
 shut_resume (Releases key) ending post desk told h = released_told key post desk told
+shut_resume why ending post desk told h = absurd (cc)
 
 shut_told : (why : Why) (desk : Desk) (post : Post) (told : List Event) (outcome : Outcome) → is_shut why ≡ true → (steps.resumed why desk post told outcome).told ≡ told
 shut_told why desk post told (Goes base) h = refl
@@ -326,24 +229,17 @@ one_shape why desk event t e h = Late (record { first = []; event = event; is = 
 held_shape : (why : Why) (desk : Desk) (aim : Aim) (index : ℕ) (root : Root) (n link era : ℕ) (post : Post) → Shapes why desk (protects.protected aim index root n link era post)
 held_shape why desk aim index root n link era post = Even (subst (λ (es : List Event). all_of is_flat es ≡ true) (sym (concluded_told aim index root n link era (protects.held_post post index root link) (told_held index root link n))) (held_flat index root link n))
 
-protect_shape : (scheme : SchemeKind) (most : ℕ) (why : Why) (desk : Desk) (aim : Aim) (index : ℕ) (root : Root) (made n : ℕ) (at : ProtectAt) (post : Post) (found : ℕ) → protect_fits scheme most at ≡ true → is_ibr scheme ≡ true → is_taking (Protect aim index root made at) ≡ false → Shapes why desk (machine.protect_turn aim index root n at post found)
-protect_shape scheme most why desk aim index root made n (LoadClock tries) post found f i t = Even refl
+protect_shape : (scheme : SchemeKind) (most : ℕ) (why : Why) (desk : Desk) (aim : Aim) (index : ℕ) (root : Root) (made n : ℕ) (at : ProtectAt) (post : Post) (found : ℕ) → protect_fits scheme most at ≡ true → is_ibr scheme ≡ true → takes (Protect aim index root made at) ≡ false → Shapes why desk (machine.protect_turn aim index root n at post found)
 protect_shape scheme most why desk aim index root made n (PublishEra era tries) post found f i t = one_shape why desk _ (machine.protect_turn aim index root n (PublishEra era tries) post found) refl refl
-protect_shape scheme most why desk aim index root made n (LoadLink era tries) post found f i t = Even refl
 protect_shape scheme most why desk aim index root made n (CheckClock era tries link) post found f i t = if_shape why desk (found == era) _ _ (held_shape why desk aim index root n link era post) (Even refl)
-protect_shape scheme most why desk aim index root made n PublishRequest post found f i t = Even refl
-protect_shape scheme most why desk aim index root made n LoadOwnClock post found f i t = Even refl
 protect_shape scheme most why desk aim index root made n (PublishHelper first era last) post found f i t = one_shape why desk _ (machine.protect_turn aim index root n (PublishHelper first era last) post found) refl refl
-protect_shape scheme most why desk aim index root made n (LoadOwnLink first era last) post found f i t = Even refl
 protect_shape scheme most why desk aim index root made n (CheckOwnClock first era last link) post found f i t = if_shape why desk (found == era) _ _ (Even refl) (Even refl)
 protect_shape scheme most why desk aim index root made n (AnswerOwn first era link) post found f i t = if_shape why desk (found == own_request post index root) _ _ (Even refl) (Even refl)
-protect_shape scheme most why desk aim index root made n (LoadAnswer first) post found f i t = Even refl
 protect_shape scheme most why desk aim index root made n (TakeAnswer link era) post found f i t = absurd (cc)
-protect_shape scheme most why desk aim index root made n (WithdrawRequest link era) post found f i t = Even refl
 protect_shape scheme most why desk aim index root made n (WithdrawHelper link era) post found f i t = absurd (wfe_not_ibr scheme f i)
-protect_shape scheme most why desk aim index root made n LoadWithin post found f i t = Even refl
 protect_shape scheme most why desk aim index root made n (CheckUpper link) post found f i t = if_shape why desk (found == upper post.span) _ _ (held_shape why desk aim index root n link found post) (Even refl)
 protect_shape scheme most why desk aim index root made n (RaiseUpper era) post found f i t = one_shape why desk _ (machine.protect_turn aim index root n (RaiseUpper era) post found) refl refl
+protect_shape scheme most why desk aim index root made n at post found f i t = Even refl
 
 walking_shape : (why : Why) (desk : Desk) (birth : ℕ) (post : Post) (x : Option Walk) → Shapes why desk (allocates.walking birth post x)
 walking_shape why desk birth post None = Even refl
@@ -363,12 +259,12 @@ no_ibr : (b : Bool) → not b ≡ true → b ≡ true → ⊥
 no_ibr true h i = cc
 no_ibr false h i = cc
 
-open_shape : (layout : Layout) (task : Task) (base : Base) (last post : Post) (desk : Desk) (found : ℕ) → Run layout (Opens task) base last → is_ibr layout.config.scheme ≡ true → is_taking base ≡ false → Shapes (Opens task) desk (machine.after base post found)
+open_shape : (layout : Layout) (task : Task) (base : Base) (last post : Post) (desk : Desk) (found : ℕ) → Run layout (Opens task) base last → is_ibr layout.config.scheme ≡ true → takes base ≡ false → Shapes (Opens task) desk (machine.after base post found)
 open_shape layout task (Begin at) last post desk found r i t = begin_shape task desk at post found
 open_shape layout task (Protect aim index root made at) last post desk found r i t = protect_shape layout.config.scheme layout.config.tries (Opens task) desk aim index root made (bump made) at post found r.fits i t
 open_shape layout task base last post desk found r i t = let s = r.suited in absurd (cc)
 
-follow_shape : (layout : Layout) (head tail : ℕ) (base : Base) (last post : Post) (desk : Desk) (found : ℕ) → Run layout (FollowsHead head tail) base last → is_ibr layout.config.scheme ≡ true → is_taking base ≡ false → Shapes (FollowsHead head tail) desk (machine.after base post found)
+follow_shape : (layout : Layout) (head tail : ℕ) (base : Base) (last post : Post) (desk : Desk) (found : ℕ) → Run layout (FollowsHead head tail) base last → is_ibr layout.config.scheme ≡ true → takes base ≡ false → Shapes (FollowsHead head tail) desk (machine.after base post found)
 follow_shape layout head tail (Protect aim index root made at) last post desk found r i t = protect_shape layout.config.scheme layout.config.tries (FollowsHead head tail) desk aim index root made (bump made) at post found r.fits i t
 follow_shape layout head tail (Reload parent index slot era made) last post desk found r i t = if_shape (FollowsHead head tail) desk (found == parent + 1) _ _ (Even refl) (Even refl)
 follow_shape layout head tail base last post desk found r i t = let s = r.suited in absurd (cc)
@@ -382,7 +278,7 @@ clear_shape : (layout : Layout) (why : Why) (base : Base) (last post : Post) (de
 clear_shape layout why (Clear index) last post desk found r s i = absurd (no_ibr (is_ibr layout.config.scheme) r.fits i)
 clear_shape layout why base last post desk found r s i = absurd (cc)
 
-ibr_shape : (layout : Layout) (why : Why) (base : Base) (last post : Post) (desk : Desk) (found : ℕ) → Run layout why base last → is_ibr layout.config.scheme ≡ true → is_taking base ≡ false → Shapes why desk (machine.after base post found)
+ibr_shape : (layout : Layout) (why : Why) (base : Base) (last post : Post) (desk : Desk) (found : ℕ) → Run layout why base last → is_ibr layout.config.scheme ≡ true → takes base ≡ false → Shapes why desk (machine.after base post found)
 ibr_shape layout (Opens task) base last post desk found r i t = open_shape layout task base last post desk found r i t
 ibr_shape layout (FollowsHead head tail) base last post desk found r i t = follow_shape layout head tail base last post desk found r i t
 ibr_shape layout (Fills task) base last post desk found r i t = fill_shape layout task base last post desk found r
@@ -391,12 +287,12 @@ ibr_shape layout (Clears task next) base last post desk found r i t = clear_shap
 ibr_shape layout why base last post desk found r i t = shaped _ _ (base_form base post found t) (shut_settled why base post desk found refl)
 
 -- of each machine
-run_by : (layout : Layout) (why : Why) (base : Base) (last post : Post) (desk : Desk) (found : ℕ) (ibr : Bool) → is_ibr layout.config.scheme ≡ ibr → (machine.after base post found).post.layout ≡ layout → Run layout why base last → is_taking base ≡ false → Shapes why desk (machine.after base post found)
+run_by : (layout : Layout) (why : Why) (base : Base) (last post : Post) (desk : Desk) (found : ℕ) (ibr : Bool) → is_ibr layout.config.scheme ≡ ibr → (machine.after base post found).post.layout ≡ layout → Run layout why base last → takes base ≡ false → Shapes why desk (machine.after base post found)
 run_by layout why base last post desk found true i e r t = ibr_shape layout why base last post desk found r i t
 run_by layout why base last post desk found false i e r t =
     shaped _ _ (base_form base post found t) (plain_settled why base post desk found (ap (λ (x : Layout). is_ibr x.config.scheme) e ∙ i))
 
-pub run_shape : (layout : Layout) (why : Why) (base : Base) (last post : Post) (desk : Desk) (found : ℕ) → (machine.after base post found).post.layout ≡ layout → Run layout why base last → is_taking base ≡ false → Shape (machine.after base post found).told (told_by (steps.phase_turn (Runs why base) post desk found))
+pub run_shape : (layout : Layout) (why : Why) (base : Base) (last post : Post) (desk : Desk) (found : ℕ) → (machine.after base post found).post.layout ≡ layout → Run layout why base last → takes base ≡ false → Shape (machine.after base post found).told (told_by (steps.phase_turn (Runs why base) post desk found))
 run_shape layout why base last post desk found e r t = run_by layout why base last post desk found (is_ibr layout.config.scheme) refl e r t
 
 -- of a scan

@@ -1,8 +1,8 @@
 -- What stands is held at each position of a history's record.
-use Rattle.std.proofs.Common.{ℕ, ◌≡◌, ◌-◌, Bool, true, false, List, [], ◌∷◌, ◌++◌, Option, Some, None, refl, sym, ap, ◌∙◌, subst, arith}
+use Rattle.std.proofs.Common.{ℕ, ◌≡◌, ◌-◌, Bool, true, false, List, [], ◌∷◌, ◌++◌, Some, None, refl, sym, ap, ◌∙◌, subst, arith}
 use Rattle.std.proofs.lemmas.Bool.Decides.{nat_tests}
 use Rattle.std.specs.List.{list_any, list_all}
-use Rattle.std.specs.Prelude.{◌==◌, ◌&&◌, ◌||◌, not, nat_lt, if◌then◌else◌}
+use Rattle.std.specs.Prelude.{◌==◌, ◌&&◌, nat_lt, if◌then◌else◌}
 use Rattle.wfe_core.specs.words.Place.{is_valid}
 use Rattle.wfe_core.specs.words.declared.config.Config.{Config}
 use Rattle.wfe_core.specs.words.declared.layout.Layout.{Layout}
@@ -26,11 +26,10 @@ use Rattle.wfe_core.specs.Phases.Base.{Protect}
 use Rattle.wfe_core.specs.Calls.{ReadGuard, GiveBack, Why, Phase, Idle, Runs, Scans, Works}
 use Rattle.wfe_core.proofs.Facts.{same_number, rest_of, implies_or, then_of}
 use Rattle.inv_all.proofs.covers.Resting.{rests_give}
-use Rattle.inv_all.specs.ends.Standing as told
 use Rattle.inv_all.proofs.ends.Ends.Held.{held_stands}
 use Rattle.inv_all.specs.shapes.Seats.{Seats}
-use Rattle.inv_all.specs.history.History.{Item, Begins, Steps, Made, fits, done, done_if, did, made_from, first_made, made_of, record_of, world_of}
-use Rattle.inv_all.proofs.history.Along.{low_seat, made_snoc}
+use Rattle.inv_all.specs.history.History.{Item, Begins, Steps, Made, fits, done, done_if, made_of, record_of, world_of}
+use Rattle.inv_all.proofs.history.Along.{low_seat, paths_keep}
 use Rattle.laws.specs.HoldLaw.{is_held}
 use Rattle.law_places.proofs.reuse.Holding.Holds.{records_hold}
 use Rattle.inv_all.specs.Inv.{Inv}
@@ -38,8 +37,7 @@ use Rattle.inv_all.proofs.Inv.Guards.{rests_need}
 use Rattle.inv_all.proofs.Inv.Reached.{inv_reached}
 use Rattle.inv_all.specs.history.Record.{Past, Each, EachEntry, tells_of}
 use Rattle.inv_all.proofs.history.Entries.{entries_of_each}
-use Rattle.inv_all.proofs.Each.{all_of}
-use Rattle.inv_all.proofs.Machines.{of_along}
+use Rattle.inv_all.proofs.history.AllOf.{all_of, of_along}
 use Rattle.laws.specs.StateAt.{stood_at, is_row}
 use Rattle.law_places.proofs.reuse.Reuse.Keeps.{record_stands, row_of}
 use Rattle.law_held.proofs.Roots.Ways.{Turning}
@@ -47,12 +45,13 @@ use Rattle.inv_all.proofs.ends.Told.Rows.{own_told, own_post, step_adds}
 use Rattle.inv_all.proofs.ends.Told.Turns.{Adds, is_later}
 use Rattle.law_held.specs.Records.{RecordsHoldThroughout}
 use Rattle.law_held.proofs.Held.Flat.{is_flat, is_at, holds_ok, Good, late_each, take_each, plain_each}
-use Rattle.law_held.proofs.Held.Forms.{Shape, Even, Late, is_taking, run_shape, back_shape}
+use Rattle.law_held.proofs.Held.Forms.{Shape, Even, Late, run_shape, back_shape}
 use Rattle.law_held.proofs.Resting.Resting.{next_made}
 use Rattle.wfe_core.specs.defs.Events.{is_held as event_is_held}
 use Rattle.inv_all.proofs.handover.Asks.{run_of}
 use Rattle.law_places.proofs.answers.AnswersTold.Owed.{append_none}
 use Rattle.law_places.proofs.answers.AnswersTold.Answering.{append_one}
+use Rattle.inv_all.proofs.history.MayTell.{takes}
 
 -- the ends of a step
 good_at : (layout : Layout) (path : List Item) (k j s : ℕ) → is_valid layout ≡ true → Good layout.config k j s (record_of layout path)
@@ -149,7 +148,7 @@ ShapeIn w i phase = Shape (own_told phase (counted (w.seat i).post) (finds w i))
 phase_as : (w : World) (i : ℕ) (phase : Phase) → (w.seat i).phase ≡ phase → ShapeIn w i phase → ShapeIn w i (w.seat i).phase
 phase_as w i phase q f = subst (ShapeIn w i) (sym q) f
 
-not_taking_each : (c : Config) (k j s : ℕ) (w : World) (i : ℕ) (p : Past) (why : Why) (base : Base) → (w.seat i).phase ≡ Runs why base → is_taking base ≡ false → Seats w → Ends c k j s i p (told_in w i) → Each (holds_ok c k j s) p → Each (holds_ok c k j s) (tells_of p i (told_in w i))
+not_taking_each : (c : Config) (k j s : ℕ) (w : World) (i : ℕ) (p : Past) (why : Why) (base : Base) → (w.seat i).phase ≡ Runs why base → takes base ≡ false → Seats w → Ends c k j s i p (told_in w i) → Each (holds_ok c k j s) p → Each (holds_ok c k j s) (tells_of p i (told_in w i))
 not_taking_each c k j s w i p why base q t a e g =
     let post : Post = counted (w.seat i).post in
     let same = (after_same base post (finds w i)).layout ∙ (a.fits i).post.layout in
@@ -182,15 +181,10 @@ item_each layout path (Steps i) true k j s d f g =
     let w : World = world_of layout path in
     step_each layout path i k j s d (record { seat = low_seat i w.layout.config.seats (is_busy w i) f; busy = rest_of (nat_lt i w.layout.config.seats) (is_busy w i) f }) g
 
-items_each : (layout : Layout) (items path : List Item) (made : Made) (k j s : ℕ) → is_valid layout ≡ true → made ≡ made_of layout path → Each (holds_ok layout.config k j s) made.past → Each (holds_ok layout.config k j s) (made_from made items).past
-items_each layout [] path made k j s d e g = g
-items_each layout (item ∷ items) path made k j s d e g =
-    let q : did made item ≡ made_of layout (path ++ item ∷ []) = ap (λ (m : Made). did m item) e ∙ sym (made_snoc (first_made layout) path item) in
-    let h : Each (holds_ok layout.config k j s) (did (made_of layout path) item).past = item_each layout path item (fits (world_of layout path) item) k j s d refl (subst (λ (m : Made). Each (holds_ok layout.config k j s) m.past) e g) in
-    items_each layout items (path ++ item ∷ []) (did made item) k j s d q (subst (λ (m : Made). Each (holds_ok layout.config k j s) (did m item).past) (sym e) h)
-
 record_holds : (layout : Layout) (items : List Item) (k j s : ℕ) → is_valid layout ≡ true → EachEntry (holds_ok layout.config k j s) (record_of layout items)
-record_holds layout items k j s d = entries_of_each (holds_ok layout.config k j s) (record_of layout items) (items_each layout items [] (first_made layout) k j s d refl tt)
+record_holds layout items k j s d =
+    entries_of_each (holds_ok layout.config k j s) (record_of layout items)
+    (paths_keep layout (λ (made : Made). Each (holds_ok layout.config k j s) made.past) (λ path item fit f g. item_each layout path item fit k j s d f g) tt items)
 
 pub records_hold_throughout : RecordsHoldThroughout
 records_hold_throughout layout items d before [] k j s cut t =

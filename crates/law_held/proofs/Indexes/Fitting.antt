@@ -30,10 +30,9 @@ use Rattle.wfe_core.specs.Steps as steps
 use Rattle.wfe_core.specs.Rounds.{scheme_of, bucket_of, index_of, taken_of, finish_base, clear_base, clear_post, clear_told, given_up, closed, finishing_by, finishing, clearing_by, clearing, clearing_next_by, clearing_next}
 use Rattle.wfe_core.specs.Phases.{Base, Ending, Outcome, Goes, Ends}
 use Rattle.wfe_core.specs.Phases.Ending.{Protected, Followed, Allocated, Retired, Clocked}
-use Rattle.wfe_core.specs.Calls.{Task, Gets, Changes, Holds, Enqueues, Dequeues, Next, Again, MakeRoom, Answering, Retiring, AfterScan, ChangeKept, EnqueueKept, GetAt, FindVersion, FindCount, FindKey, FindValue, ChangeAt, LoadVersion, LoadCount, LoadKey, LoadValue, ExchangeRoot, EnqueueAt, LoadNumber, LoadNext, PassTail, ExchangeNext, ExchangeTail, DequeueAt, LoadTail, SwingTail, TakeNumber, TakeValue, ExchangeHead, Work, Getting, Changing, Enqueuing, Dequeuing, Why, Opens, FollowsHead, Fills, ClearsNext, Clears, Finishes, GivesUp, Retires, Tidies, Advances, Releases, CallTurn}
+use Rattle.wfe_core.specs.Calls.{Task, Gets, Changes, Holds, Enqueues, Dequeues, Next, Again, MakeRoom, Answering, Retiring, AfterScan, ChangeKept, EnqueueKept, GetAt, FindVersion, FindCount, FindKey, FindValue, ChangeAt, LoadVersion, LoadCount, LoadKey, LoadValue, ExchangeRoot, EnqueueAt, LoadNumber, LoadNext, PassTail, ExchangeNext, ExchangeTail, DequeueAt, SwingTail, ExchangeHead, Work, Getting, Changing, Enqueuing, Dequeuing, Why, Opens, FollowsHead, Fills, ClearsNext, Clears, Finishes, GivesUp, Retires, Tidies, Advances, Releases, CallTurn}
 use Rattle.law_places.proofs.answers.AnswersTold.Owed.{call_for, TaskServes, WhyServes, WorkServes}
-use Rattle.inv_all.proofs.Each.{all_of}
-use Rattle.inv_all.proofs.Machines.{of_along}
+use Rattle.inv_all.proofs.history.AllOf.{all_of, of_along}
 use Rattle.laws.specs.NoReuse.{protects_at, clears_at}
 
 -- an event at an index of the call, or none of protections
@@ -197,11 +196,9 @@ taken_fit call head next number value post desk true m n = clearing_next_fit cal
 taken_fit call head next number value post desk false m n = clearing_next_fit call Again post desk [] m n refl
 
 dequeue_fit : (call : Call) (at : DequeueAt) (post : Post) (desk : Desk) (found : ℕ) → May call 0 → May call 1 → Left call (dequeues.dequeue_turn at post desk found)
-dequeue_fit call (LoadTail head) post desk found m n = refl
 dequeue_fit call (SwingTail head next) post desk found m n = clearing_next_fit call Again post desk (enqueues.told_link roots.Tail next (found == head + 1)) m n (link_fit call roots.Tail next (found == head + 1))
-dequeue_fit call (TakeNumber head next) post desk found m n = refl
-dequeue_fit call (TakeValue head next number) post desk found m n = refl
 dequeue_fit call (ExchangeHead head next number value) post desk found m n = taken_fit call head next number value post desk (found == head + 1) m n
+dequeue_fit call at post desk found m n = refl
 
 -- where a call may clear
 change_may : (change : Change) → May (call_for change) 0

@@ -1,7 +1,7 @@
 -- A step protects and clears only at indexes of its call.
 use Rattle.std.proofs.Common.{ℕ, ◌≡◌, ◌-◌, ◌+◌, Bool, true, false, List, [], ◌∷◌, Option, Some, None, refl, sym, ap, ◌∙◌, subst}
 use Rattle.std.specs.List.{list_any}
-use Rattle.std.specs.Prelude.{◌==◌, ◌&&◌, ◌||◌, not, nat_lt, if◌then◌else◌}
+use Rattle.std.specs.Prelude.{◌==◌, ◌||◌, not, nat_lt, if◌then◌else◌}
 use Rattle.wfe_core.specs.defs.declared.call.Call.{Call}
 use Rattle.wfe_core.specs.defs.declared.event.Event.{Event}
 use Rattle.wfe_core.specs.defs.declared.event.Event.TheVariants as events
@@ -18,7 +18,7 @@ use Rattle.wfe_core.specs.Machine as machine
 use Rattle.wfe_core.specs.Memory.{bump}
 use Rattle.wfe_core.specs.Phases.{ProtectAt, Base}
 use Rattle.wfe_core.specs.Phases.ProtectAt.{CheckClock, TakeAnswer, CheckUpper}
-use Rattle.wfe_core.specs.Phases.Base.{Begin, Protect, Reload, Clear, Finish, Release, Allocate, Write, GiveUp, Retire, Move}
+use Rattle.wfe_core.specs.Phases.Base.{Protect, Reload, Clear, Release}
 use Rattle.wfe_core.specs.Posts.{stands, counted, cleared, upper}
 use Rattle.wfe_core.specs.Protect.{told_held}
 use Rattle.wfe_core.specs.Rounds.{index_of}
@@ -31,10 +31,10 @@ use Rattle.inv_all.specs.shapes.Seats.{Seats, Shaped, suits, kind_of, protects, 
 use Rattle.inv_all.specs.history.History.{record_of, world_of}
 use Rattle.inv_all.specs.history.Record.{Past, Each, tells_of}
 use Rattle.inv_all.specs.history.Record.Past.{Then}
-use Rattle.inv_all.proofs.Each.{all_of}
-use Rattle.inv_all.proofs.Machines.{is_within, of_along}
+use Rattle.inv_all.proofs.history.AllOf.{all_of, of_along}
+use Rattle.inv_all.proofs.Machines.{is_within, within_of}
 use Rattle.laws.specs.StateAt.{began_of}
-use Rattle.law_places.proofs.answers.AnswersTold.Answering.{within_of, one_began, own_began}
+use Rattle.law_places.proofs.answers.AnswersTold.Answering.{one_began, own_began}
 use Rattle.law_places.proofs.answers.AnswersTold.Owed.{call_for, TaskServes, FreeServes, WhyServes, Serves}
 use Rattle.laws.specs.NoReuse.{protects_at, clears_at, indexes_ok}
 use Rattle.law_held.specs.Records.{RecordsUseIndexes}
@@ -123,17 +123,11 @@ at_index : (f : ℕ → Bool) (index by : ℕ) → index ≡ by → f by ≡ tru
 at_index f index by e h = ap f e ∙ h
 
 base_even : (buckets : ℕ) (call : Call) (why : Why) (base : Base) (post : Post) (found : ℕ) → suits base (kind_of why) ≡ true → Shaped buckets why base → WhyServes call why → base_shows (is_odd call) post base found ≡ false
-base_even buckets call why (Begin at) post found k h s = refl
 base_even buckets call why (Protect aim index root count at) post found k h s = at_even call index root (bump count) post at found (at_index (protects_at (Some call)) index (index_by why) h.at (why_protects call why k s))
 base_even buckets call why (Reload parent index slot era count) post found k h s = and_right_false (found == parent + 1) (is_odd call (events.Held index slot (bump count))) (ap not (at_index (protects_at (Some call)) index (index_by why) h.at (why_reloads call why k s)))
 base_even buckets call why (Clear index) post found k h s = cleared_even call index (stands post index) (at_index (clears_at (Some call)) index (index_by why) h (why_clears call why k s))
-base_even buckets call why Finish post found k h s = refl
 base_even buckets call why Release post found k h s = cleared_even call 2 (stands post 2) (why_releases call why k s)
-base_even buckets call why (Allocate at) post found k h s = refl
-base_even buckets call why (Write slot row place) post found k h s = refl
-base_even buckets call why (GiveUp slot) post found k h s = refl
-base_even buckets call why (Retire at) post found k h s = refl
-base_even buckets call why (Move at) post found k h s = refl
+base_even buckets call why base post found k h s = refl
 
 -- a scan
 scanned_fit : (call : Call) (later : AfterScan) (post : Post) (desk : Desk) (told : List Event) → Fit call told → Fit call (scan.scanned later post desk told).told

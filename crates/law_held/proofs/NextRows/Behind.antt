@@ -1,5 +1,5 @@
 -- A null next link that a dequeue may end with was that of the head's row, at a position of the call.
-use Rattle.std.proofs.Common.{ℕ, ◌≡◌, ◌+◌, Bool, true, false, List, [], ◌∷◌, ◌++◌, Some, None, refl, sym, ap, ◌∙◌, subst, arith}
+use Rattle.std.proofs.Common.{ℕ, ◌≡◌, ◌+◌, Bool, true, false, List, [], ◌∷◌, Some, None, refl, sym, ap, ◌∙◌, subst, arith}
 use Rattle.std.proofs.lemmas.Bool.Decides.{nat_tests}
 use Rattle.std.specs.Prelude.{◌==◌, ◌&&◌, ◌||◌, not, if◌then◌else◌}
 use Rattle.wfe_core.specs.words.Place.{is_valid}
@@ -19,8 +19,8 @@ use Rattle.wfe_core.specs.Calls.{Gets, Changes, Holds, Enqueues, Dequeues, Why, 
 use Rattle.wfe_core.specs.World.{World, finds, is_busy, told_in}
 use Rattle.wfe_core.proofs.Facts.{same_number, first_of, rest_of}
 use Rattle.inv_all.specs.shapes.Seats.{Seats, Run, root_by}
-use Rattle.inv_all.specs.history.History.{Item, Begins, Steps, Made, fits, done_if, did, made_from, made_of, first_made}
-use Rattle.inv_all.proofs.history.Along.{begins_right, low_seat, made_snoc}
+use Rattle.inv_all.specs.history.History.{Item, Begins, Steps, Made, fits, done_if, made_of, first_made}
+use Rattle.inv_all.proofs.history.Along.{begins_right, low_seat, paths_keep}
 use Rattle.inv_all.specs.Known.{Known}
 use Rattle.inv_all.proofs.Inv.Begun.{known_start, known_begin}
 use Rattle.inv_all.proofs.Inv.Kept.{known_kept, asked_next}
@@ -28,8 +28,8 @@ use Rattle.inv_all.proofs.Inv.Whole.{origins_need}
 use Rattle.inv_all.specs.history.Record.{Past, tells_of, begins, held_since}
 use Rattle.inv_all.specs.history.Record.Past.{Start, Then}
 use Rattle.law_places.proofs.answers.Lawful.Current.{idle_untracked}
-use Rattle.inv_all.proofs.Each.{all_of}
-use Rattle.inv_all.proofs.Machines.{is_within}
+use Rattle.inv_all.proofs.history.AllOf.{all_of}
+use Rattle.inv_all.proofs.Machines.{is_within, within_of, within_begins}
 use Rattle.inv_all.specs.links.Origins.{Origins}
 use Rattle.inv_all.specs.links.Tracked.{carries_at, carries_in, root_for, root_in, Tracked, Carried}
 use Rattle.inv_all.proofs.links.Origins.Kept.{origins_kept, origins_start, origins_begin}
@@ -42,7 +42,6 @@ use Rattle.inv_all.specs.rows.Agree.{first_rows, rows_after}
 use Rattle.inv_all.specs.rows.Chain.{first_line, line_after, queue_of}
 use Rattle.inv_all.specs.rows.Queue.{Line, heads_on, stands_on}
 use Rattle.inv_all.specs.rows.Rows.{View}
-use Rattle.law_places.proofs.answers.AnswersTold.Answering.{within_of}
 use Rattle.inv_all.specs.links.Links.{links_to}
 use Rattle.law_held.proofs.Roots.Leads.{Leads, leads_of}
 use Rattle.laws.specs.HoldLaw.{is_last}
@@ -57,10 +56,6 @@ had_none slots p k (roots.Next parent) x = if x == 0 then held_since (begins k) 
 had_none slots p k (roots.Bucket b) x = true
 had_none slots p k roots.Head x = true
 had_none slots p k roots.Tail x = true
-
-pub within_begins : (k i : ℕ) (p : Past) (event : Event) → is_within event ≡ true → begins k p i event ≡ false
-within_begins k i p (events.Begin call) h = absurd (cc)
-within_begins k i p event h = refl
 
 pub one_held : (k i : ℕ) (f : Past → Bool) (p : Past) (event : Event) → begins k p i event ≡ false → held_since (begins k) f p ≡ true → held_since (begins k) f (Then p i event) ≡ true
 one_held k i f p event n h = or_more (f (Then p i event)) (not (begins k p i event) && held_since (begins k) f p) (rw n h)
@@ -191,13 +186,6 @@ item_kept layout made (Steps i) true f t g =
           g.links;
     }
 
-items_kept : (layout : Layout) (items path : List Item) (made : Made) → is_valid layout ≡ true → made ≡ made_of layout path → BehindKept layout made → BehindKept layout (made_from made items)
-items_kept layout [] path made d e g = g
-items_kept layout (item ∷ items) path made d e g =
-    let q : did made item ≡ made_of layout (path ++ item ∷ []) = ap (λ (m : Made). did m item) e ∙ sym (made_snoc (first_made layout) path item) in
-    let t : Leads layout.config.slots made.world.mem made.past = subst (λ (m : Made). Leads layout.config.slots m.world.mem m.past) (sym e) (leads_of layout path d) in
-    items_kept layout items (path ++ item ∷ []) (did made item) d q (item_kept layout made item (fits made.world item) refl t g)
-
 first_kept : (layout : Layout) → is_valid layout ≡ true → BehindKept layout (first_made layout)
 first_kept layout d =
     let q = requests_start layout d in
@@ -212,7 +200,7 @@ first_kept layout d =
     }
 
 pub behind_of : (layout : Layout) (path : List Item) → is_valid layout ≡ true → BehindKept layout (made_of layout path)
-behind_of layout path d = items_kept layout path [] (first_made layout) d refl (first_kept layout d)
+behind_of layout path d = paths_keep layout (BehindKept layout) (λ before item fit f g. item_kept layout (made_of layout before) item fit f (leads_of layout before d) g) (first_kept layout d) path
 
 -- what the link of a protection that follows says, where it may end with it
 pub carried_none : (slots : ℕ) (w : World) (i : ℕ) (z : Asked) (p : Past) (why : Why) (aim : Aim) (index : ℕ) (root : Root) (count : ℕ) (at : ProtectAt) (x : ℕ) → (w.seat i).phase ≡ Runs why (Protect aim index root count at) → Origins (had_none slots p) w z → carries_at (finds w i) (upper (w.seat i).post.span) at x ≡ true → had_none slots p i root x ≡ true

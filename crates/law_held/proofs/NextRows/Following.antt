@@ -2,7 +2,7 @@
 use Rattle.std.proofs.Common.{ℕ, ◌≡◌, ◌-◌, ◌+◌, Bool, true, false, List, [], ◌∷◌, Option, Some, None, refl, sym, ap, ◌∙◌, subst, arith}
 use Rattle.std.proofs.lemmas.Bool.Decides.{nat_tests}
 use Rattle.std.specs.List.{list_any, list_all}
-use Rattle.std.specs.Prelude.{◌==◌, ◌&&◌, ◌||◌, not, if◌then◌else◌}
+use Rattle.std.specs.Prelude.{◌==◌, not, if◌then◌else◌}
 use Rattle.wfe_core.specs.words.Place.Place.{Head}
 use Rattle.wfe_core.specs.words.declared.layout.Layout.{Layout}
 use Rattle.wfe_core.specs.defs.declared.event.Event.{Event}
@@ -23,11 +23,11 @@ use Rattle.wfe_core.specs.Protect.{held_post, told_held, concluded, protected, f
 use Rattle.wfe_core.specs.SlowPath.{own_request}
 use Rattle.wfe_core.specs.World.{World, finds, told_in}
 use Rattle.wfe_core.specs.Phases.{Aim, ProtectAt, Base, Turn, goes}
-use Rattle.wfe_core.specs.Phases.ProtectAt.{LoadClock, PublishEra, LoadLink, CheckClock, PublishRequest, LoadOwnClock, PublishHelper, LoadOwnLink, CheckOwnClock, AnswerOwn, LoadAnswer, TakeAnswer, WithdrawRequest, WithdrawHelper, LoadWithin, CheckUpper, RaiseUpper}
+use Rattle.wfe_core.specs.Phases.ProtectAt.{PublishEra, CheckClock, PublishHelper, CheckOwnClock, AnswerOwn, TakeAnswer, WithdrawHelper, CheckUpper, RaiseUpper}
 use Rattle.wfe_core.specs.Phases.Base.{Protect, Reload, Clear, Release}
 use Rattle.wfe_core.specs.Calls.{Task, Gets, Changes, Holds, Enqueues, Dequeues, ReadGuard, GiveBack, Why, Opens, FollowsHead, Phase, Idle, Runs, Scans, Works}
 use Rattle.wfe_core.proofs.Facts.{same_number, both, and_right_false, number_is}
-use Rattle.law_turns.proofs.Counting.Told.{concluded_told}
+use Rattle.inv_all.proofs.history.MayTell.{concluded_told}
 use Rattle.inv_all.proofs.covers.Held.{finds_at}
 use Rattle.inv_all.proofs.ends.Ends.Tests.{Calm, at_shows, base_shows, base_any}
 use Rattle.inv_all.specs.shapes.Seats.{ToFollow, Run, suits, kind_of, protects, reloads, index_by}
@@ -156,29 +156,22 @@ reserve_stood i p guard span = by (i == i)
 
 protect_each : (slots i : ℕ) (p : Past) (aim : Aim) (index head n : ℕ) (at : ProtectAt) (post : Post) (found : ℕ) → stood_at i 0 p ≡ Some head → ((x : ℕ) → carries_at found (upper post.span) at x ≡ true → had_none slots p i (roots.Next head) x ≡ true) → Each (behind_ok slots) p
     → Each (behind_ok slots) (tells_of p i (machine.protect_turn aim index (roots.Next head) n at post found).told)
-protect_each slots i p aim index head n (LoadClock tries) post found s h g = g
 protect_each slots i p aim index head n (PublishEra era tries) post found s h g = (refl, g)
-protect_each slots i p aim index head n (LoadLink era tries) post found s h g = g
 protect_each slots i p aim index head n (CheckClock era tries link) post found s h g =
     if_each slots i p (found == era) (protected aim index (roots.Next head) n link era post) (goes post [] (Protect aim index (roots.Next head) n (PublishEra found (failed_once tries))))
     (λ e. ended_each slots i p aim index (roots.Next head) n link era (held_post post index (roots.Next head) link) (told_held index (roots.Next head) link n) (null_each slots i index head n p (link == 0) s (h link (both (link == link) (found == era) (same_number link) e)) g)) g
-protect_each slots i p aim index head n PublishRequest post found s h g = g
-protect_each slots i p aim index head n LoadOwnClock post found s h g = g
 protect_each slots i p aim index head n (PublishHelper first era last) post found s h g = (refl, g)
-protect_each slots i p aim index head n (LoadOwnLink first era last) post found s h g = g
 protect_each slots i p aim index head n (CheckOwnClock first era last link) post found s h g = if_each slots i p (found == era) _ _ (λ e. g) g
 protect_each slots i p aim index head n (AnswerOwn first era link) post found s h g = if_each slots i p (found == own_request post index (roots.Next head)) _ _ (λ e. g) g
-protect_each slots i p aim index head n (LoadAnswer first) post found s h g = g
 protect_each slots i p aim index head n (TakeAnswer link era) post found s h g =
     let event : Event = events.Reserve (Index post.seat index) (one_era era) in
     null_each slots i index head n (Then p i event) (link == 0) (reserve_stood i p (Index post.seat index) (one_era era) ∙ s) (within_none slots p i i (roots.Next head) link event refl (h link (same_number link))) (refl, g)
-protect_each slots i p aim index head n (WithdrawRequest link era) post found s h g = g
 protect_each slots i p aim index head n (WithdrawHelper link era) post found s h g = ended_each slots i p aim index (roots.Next head) n link era post (reserves_helper post 0) (refl, g)
-protect_each slots i p aim index head n LoadWithin post found s h g = g
 protect_each slots i p aim index head n (CheckUpper link) post found s h g =
     if_each slots i p (found == upper post.span) (protected aim index (roots.Next head) n link found post) (goes post [] (Protect aim index (roots.Next head) n (RaiseUpper found)))
     (λ e. ended_each slots i p aim index (roots.Next head) n link found (held_post post index (roots.Next head) link) (told_held index (roots.Next head) link n) (null_each slots i index head n p (link == 0) s (h link (both (link == link) (found == upper post.span) (same_number link) e)) g)) g
 protect_each slots i p aim index head n (RaiseUpper era) post found s h g = (refl, g)
+protect_each slots i p aim index head n at post found s h g = g
 
 reload_each : (slots i parent index slot n found : ℕ) (post : Post) (p : Past) (same : Bool) → (found == parent + 1) ≡ same → head_at slots p + 1 ≡ found → (found ≡ parent + 1 → next_at parent p ≡ Some slot) → Each (behind_ok slots) p → Each (behind_ok slots) (tells_of p i (after_reload parent index slot n post found).told)
 reload_each slots i parent index slot n found post p true q a h g =

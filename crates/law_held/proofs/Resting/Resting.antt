@@ -38,7 +38,7 @@ use Rattle.inv_all.specs.history.History.{Item, Steps, Made, fits, done, done_if
 use Rattle.inv_all.proofs.history.Along.{made_snoc}
 use Rattle.laws.specs.StateAt.{stood_at, reserves_of, value_of}
 use Rattle.law_places.proofs.reuse.Reuse.Keeps.{record_stands}
-use Rattle.inv_all.proofs.Each.{all_of}
+use Rattle.inv_all.proofs.history.AllOf.{all_of}
 use Rattle.law_places.proofs.answers.AnswersTold.Owed.{is_open, Owes, owed}
 use Rattle.law_places.proofs.answers.AnswersTold.Answering.{owes_of}
 use Rattle.law_places.proofs.BareEnds.{end_stood}

@@ -1,11 +1,10 @@
 -- Along each history a seat of 2GE whose round is over has no interval, unless a row stands at its index 2.
 use Rattle.std.proofs.Common.{ℕ, ◌≡◌, ◌<◌, ◌-◌, Bool, true, false, List, length, Option, Some, refl, sym, ap, ◌∙◌, subst, arith}
 use Rattle.std.proofs.lemmas.Bool.Decides.{nat_tests}
-use Rattle.std.specs.Prelude.{◌==◌, ◌%◌, not, if◌then◌else◌}
+use Rattle.std.specs.Prelude.{◌==◌, ◌%◌, if◌then◌else◌}
 use Rattle.wfe_core.specs.words.Place.{is_valid}
 use Rattle.wfe_core.specs.words.declared.config.Config.{Config}
 use Rattle.wfe_core.specs.words.declared.config.SchemeKind.{SchemeKind}
-use Rattle.wfe_core.specs.words.declared.config.SchemeKind.TheVariants.{He, Ibr, Wfe}
 use Rattle.wfe_core.specs.words.declared.layout.Layout.{Layout}
 use Rattle.wfe_core.specs.defs.declared.call.Answer.{Answer}
 use Rattle.wfe_core.specs.defs.declared.call.Call.{Call}
@@ -27,13 +26,13 @@ use Rattle.wfe_core.specs.Steps as steps
 use Rattle.wfe_core.specs.World.{World, begin, step, finds, is_busy}
 use Rattle.wfe_core.specs.Phases.{Aim, Alone, Follows, BeginAt, ProtectAt, RetireAt, Base, Ending, Outcome, Goes, Ends, Turn, goes, ends}
 use Rattle.wfe_core.specs.Phases.BeginAt.{LoadLower, PublishSpan}
-use Rattle.wfe_core.specs.Phases.ProtectAt.{LoadClock, PublishEra, LoadLink, CheckClock, PublishRequest, LoadOwnClock, PublishHelper, LoadOwnLink, CheckOwnClock, AnswerOwn, LoadAnswer, TakeAnswer, WithdrawRequest, WithdrawHelper, LoadWithin, CheckUpper, RaiseUpper}
+use Rattle.wfe_core.specs.Phases.ProtectAt.{CheckClock, CheckOwnClock, AnswerOwn, WithdrawHelper, CheckUpper}
 use Rattle.wfe_core.specs.Phases.RetireAt.{LoadLife, LoadRetire, StoreRetired}
 use Rattle.wfe_core.specs.Phases.Base.{Begin, Protect, Reload, Clear, Finish, Release, GiveUp, Retire, Move}
 use Rattle.wfe_core.specs.Phases.Ending.{Protected, Followed}
 use Rattle.wfe_core.specs.Calls.{Task, Gets, Changes, Holds, Enqueues, Dequeues, AfterScan, Next, Why, Opens, FollowsHead, Fills, ClearsNext, Clears, Finishes, GivesUp, Retires, Tidies, Advances, Releases, Phase, Idle, Runs, Scans, Works, CallTurn}
 use Rattle.inv_all.proofs.covers.Held.{stepped_post, stepped_phase}
-use Rattle.wfe_core.specs.words.Schemes.{is_ibr, is_wfe}
+use Rattle.wfe_core.specs.words.Schemes.{is_ibr}
 use Rattle.inv_all.specs.shapes.Frame.{phase_left}
 use Rattle.inv_all.specs.shapes.Seats.{Seats, ToFinish, ToGiveUp, ToRetire, ToMove, ToRelease, Run, suits, base_fits, protect_fits, task_root}
 use Rattle.inv_all.proofs.shapes.Frame.{seat_stays, begin_stays, begin_begins}
@@ -95,24 +94,13 @@ found_out buckets task aim index root n link era post s = concluded_out task aim
 
 protect_out : (buckets : ℕ) (scheme : SchemeKind) (most : ℕ) (task : Task) (aim : Aim) (index : ℕ) (root : Root) (n : ℕ) (at : ProtectAt) (post : Post) (found : ℕ) → scheme_of post ≡ scheme → protect_fits scheme most at ≡ true → Site buckets task index root post
     → Out (Opens task) (protect_turn aim index root n at post found).post (protect_turn aim index root n at post found).outcome
-protect_out buckets scheme most task aim index root n (LoadClock tries) post found e f s = λ o. absurd (cc)
-protect_out buckets scheme most task aim index root n (PublishEra era tries) post found e f s = λ o. absurd (cc)
-protect_out buckets scheme most task aim index root n (LoadLink era tries) post found e f s = λ o. absurd (cc)
 protect_out buckets scheme most task aim index root n (CheckClock era tries link) post found e f s = if_out (Opens task) (found == era) _ _ (found_out buckets task aim index root n link era post s) (λ o. absurd (cc))
-protect_out buckets scheme most task aim index root n PublishRequest post found e f s = λ o. absurd (cc)
-protect_out buckets scheme most task aim index root n LoadOwnClock post found e f s = λ o. absurd (cc)
-protect_out buckets scheme most task aim index root n (PublishHelper first era last) post found e f s = λ o. absurd (cc)
-protect_out buckets scheme most task aim index root n (LoadOwnLink first era last) post found e f s = λ o. absurd (cc)
 protect_out buckets scheme most task aim index root n (CheckOwnClock first era last link) post found e f s = if_out (Opens task) (found == era) _ _ (λ o. absurd (cc)) (λ o. absurd (cc))
 protect_out buckets scheme most task aim index root n (AnswerOwn first era link) post found e f s = if_out (Opens task) (found == own_request post index root) _ _ (λ o. absurd (cc)) (λ o. absurd (cc))
-protect_out buckets scheme most task aim index root n (LoadAnswer first) post found e f s = λ o. absurd (cc)
-protect_out buckets scheme most task aim index root n (TakeAnswer link era) post found e f s = λ o. absurd (cc)
-protect_out buckets scheme most task aim index root n (WithdrawRequest link era) post found e f s = λ o. absurd (cc)
 protect_out buckets scheme most task aim index root n (WithdrawHelper link era) post found e f s =
     concluded_out task aim index root n link era post (reserves_helper post 0) (λ z h. plain_ended post (ap is_ibr e ∙ wfe_plain scheme f))
-protect_out buckets scheme most task aim index root n LoadWithin post found e f s = λ o. absurd (cc)
 protect_out buckets scheme most task aim index root n (CheckUpper link) post found e f s = if_out (Opens task) (found == upper post.span) _ _ (found_out buckets task aim index root n link found post s) (λ o. absurd (cc))
-protect_out buckets scheme most task aim index root n (RaiseUpper era) post found e f s = λ o. absurd (cc)
+protect_out buckets scheme most task aim index root n at post found e f s = λ o. absurd (cc)
 
 -- each machine, by what comes after it
 begin_out : (task : Task) (at : BeginAt) (post : Post) (found : ℕ) → Out (Opens task) (begin_turn at post found).post (begin_turn at post found).outcome

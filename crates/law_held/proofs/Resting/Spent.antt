@@ -29,7 +29,7 @@ use Rattle.wfe_core.specs.Scan as scan
 use Rattle.wfe_core.specs.Steps as steps
 use Rattle.wfe_core.specs.Phases.{Base, Ending, Outcome, Goes, Ends}
 use Rattle.wfe_core.specs.Phases.Ending.{Done, Protected, Followed, Allocated, Retired, Clocked}
-use Rattle.wfe_core.specs.Calls.{Task, Gets, Changes, Holds, Enqueues, Dequeues, Next, Again, MakeRoom, Answering, Retiring, AfterScan, Answered, Repeated, Counted, ChangeKept, EnqueueKept, GetAt, FindVersion, FindCount, FindKey, FindValue, ChangeAt, LoadVersion, LoadCount, LoadKey, LoadValue, ExchangeRoot, EnqueueAt, LoadNumber, LoadNext, PassTail, ExchangeNext, ExchangeTail, DequeueAt, LoadTail, SwingTail, TakeNumber, TakeValue, ExchangeHead, Work, Getting, Changing, Enqueuing, Dequeuing, ScanAt, ReadGuard, GiveBack, Why, Opens, FollowsHead, Fills, ClearsNext, Clears, Finishes, GivesUp, Retires, Tidies, Advances, Releases, Phase, Idle, Runs, Scans, Works, CallTurn}
+use Rattle.wfe_core.specs.Calls.{Task, Gets, Changes, Holds, Enqueues, Dequeues, Next, Again, MakeRoom, Answering, Retiring, AfterScan, Answered, Repeated, Counted, ChangeKept, EnqueueKept, GetAt, FindVersion, FindCount, FindKey, FindValue, ChangeAt, LoadVersion, LoadCount, LoadKey, LoadValue, ExchangeRoot, EnqueueAt, LoadNumber, LoadNext, PassTail, ExchangeNext, ExchangeTail, DequeueAt, SwingTail, ExchangeHead, Work, Getting, Changing, Enqueuing, Dequeuing, ScanAt, ReadGuard, GiveBack, Why, Opens, FollowsHead, Fills, ClearsNext, Clears, Finishes, GivesUp, Retires, Tidies, Advances, Releases, Phase, Idle, Runs, Scans, Works, CallTurn}
 use Rattle.wfe_core.specs.words.Schemes.{is_ibr}
 use Rattle.inv_all.specs.shapes.Frame.{phase_left}
 use Rattle.law_turns.proofs.Counting.Fits.{is_hold}
@@ -185,11 +185,9 @@ taken_spent head next number value post desk true = clearing_next_spent (Retirin
 taken_spent head next number value post desk false = clearing_next_spent Again post desk []
 
 dequeue_spent : (at : DequeueAt) (post : Post) (desk : Desk) (found : ℕ) → Turned (dequeues.dequeue_turn at post desk found)
-dequeue_spent (LoadTail head) post desk found = λ o. absurd (cc)
 dequeue_spent (SwingTail head next) post desk found = clearing_next_spent Again post desk (enqueues.told_link roots.Tail next (found == head + 1))
-dequeue_spent (TakeNumber head next) post desk found = λ o. absurd (cc)
-dequeue_spent (TakeValue head next number) post desk found = λ o. absurd (cc)
 dequeue_spent (ExchangeHead head next number value) post desk found = taken_spent head next number value post desk (found == head + 1)
+dequeue_spent at post desk found = λ o. absurd (cc)
 
 pub work_spent : (work : Work) (post : Post) (desk : Desk) (found : ℕ) → Turned (steps.work_turn work post desk found)
 work_spent (Getting key at) post desk found = get_spent key at post desk found

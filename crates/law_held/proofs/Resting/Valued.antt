@@ -5,17 +5,17 @@ use Rattle.std.specs.Prelude.{◌==◌, ◌&&◌, ◌||◌, nat_lt, if◌then◌
 use Rattle.wfe_core.specs.defs.declared.call.Call.{Call}
 use Rattle.wfe_core.specs.defs.declared.event.Event.{Event}
 use Rattle.wfe_core.specs.defs.declared.event.Event.TheVariants as events
-use Rattle.wfe_core.specs.defs.declared.event.Guard.{Guard}
 use Rattle.wfe_core.specs.defs.declared.event.Guard.TheVariants.{Helper, Index, Whole}
 use Rattle.wfe_core.specs.defs.declared.lifetime.Interval.{Interval}
 use Rattle.wfe_core.proofs.Facts.{first_of, rest_of}
-use Rattle.laws.specs.StateAt.{same_guard, is_index_word, one_more, reserves_by, reserves_of, value_of, reserved_by}
+use Rattle.laws.specs.StateAt.{is_index_word, one_more, reserves_by, reserves_of, value_of, reserved_by}
 use Rattle.laws.specs.Schedule.{event_handed, events_handed, handed_right}
 use Rattle.inv_all.specs.history.Turns.{EachTurn, record_of}
 use Rattle.inv_all.specs.history.Record.{Past, tells_of}
 use Rattle.inv_all.specs.history.Record.Past.{Then}
 use Rattle.inv_all.specs.history.Turns as schedule
 use Rattle.inv_all.specs.history.Turns.History.{Blank, Starts, Turns}
+use Rattle.laws.proofs.Along.{index_guard}
 
 -- where its seat has published nothing, it publishes nothing
 abbrev pub Empty : ℕ → ℕ → Past → Type 0
@@ -27,13 +27,8 @@ span_own None true n x h z = refl
 span_own (Some span) true n x h z = absurd (grind (arith, nat_tests))
 span_own span false n x h z = h z
 
-same_here : (k j : ℕ) (guard : Guard) → same_guard (Index k j) guard ≡ is_index_word k j guard
-same_here k j (Index m n) = grind (arith, nat_tests)
-same_here k j (Helper seat) = refl
-same_here k j (Whole seat) = refl
-
 own_empty : (k j : ℕ) (event : Event) (n : ℕ) (x : Option Interval) → (n ≡ 0 → x ≡ None) → reserves_by k j event n ≡ 0 → reserved_by (Index k j) event x ≡ None
-own_empty k j (events.Reserve guard span) n x h z = rw (same_here k j guard) (span_own span (is_index_word k j guard) n x h z)
+own_empty k j (events.Reserve guard span) n x h z = rw (index_guard k j guard) (span_own span (is_index_word k j guard) n x h z)
 own_empty k j event n x h z = h z
 
 -- an event of another seat

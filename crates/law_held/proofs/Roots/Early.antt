@@ -5,8 +5,6 @@ use Rattle.std.specs.Prelude.{◌==◌, ◌&&◌, not, nat_le, if◌then◌else�
 use Rattle.wfe_core.specs.words.declared.config.Config.{Config}
 use Rattle.wfe_core.specs.words.declared.config.SchemeKind.{SchemeKind}
 use Rattle.wfe_core.specs.words.declared.config.SchemeKind.TheVariants.{He, Ibr, Wfe}
-use Rattle.wfe_core.specs.words.declared.packed.Request.{Request}
-use Rattle.wfe_core.specs.words.declared.packed.Request.TheVariants as requests
 use Rattle.wfe_core.specs.words.Packed.{read_request}
 use Rattle.wfe_core.specs.defs.declared.call.Call.{Call}
 use Rattle.wfe_core.specs.defs.declared.call.Call.TheVariants as names
@@ -22,8 +20,8 @@ use Rattle.wfe_core.specs.Machine as machine
 use Rattle.wfe_core.specs.Memory.{bump}
 use Rattle.wfe_core.specs.Phases.{Aim, Alone, Tries, Endless, Failed, ProtectAt, Base, goes}
 use Rattle.wfe_core.specs.Phases.BeginAt.{LoadLower, PublishSpan}
-use Rattle.wfe_core.specs.Phases.ProtectAt.{LoadClock, PublishEra, LoadLink, CheckClock, PublishRequest, LoadOwnClock, PublishHelper, LoadOwnLink, CheckOwnClock, AnswerOwn, LoadAnswer, TakeAnswer, WithdrawRequest, WithdrawHelper, LoadWithin, CheckUpper, RaiseUpper}
-use Rattle.wfe_core.specs.Phases.Base.{Begin, Protect, Reload, Clear, Finish, Release, Allocate, Write, GiveUp, Retire, Move}
+use Rattle.wfe_core.specs.Phases.ProtectAt.{PublishEra, LoadLink, CheckClock, PublishRequest, CheckOwnClock, AnswerOwn, LoadAnswer, TakeAnswer, WithdrawRequest, WithdrawHelper, CheckUpper, RaiseUpper}
+use Rattle.wfe_core.specs.Phases.Base.{Begin, Protect}
 use Rattle.wfe_core.specs.Posts.{upper}
 use Rattle.wfe_core.specs.Protect.{told_held, protected, trying, failed_once}
 use Rattle.wfe_core.specs.Rest.{is_told}
@@ -33,11 +31,12 @@ use Rattle.wfe_core.specs.Steps as steps
 use Rattle.inv_all.specs.ends.Standing.{is_end}
 use Rattle.inv_all.proofs.ends.Ends.Tests.{base_shows, phase_shows}
 use Rattle.inv_all.specs.shapes.Frame.{phase_left}
-use Rattle.inv_all.specs.shapes.Seats.{ToOpen, suits, kind_of, Shaped, task_root}
+use Rattle.inv_all.specs.shapes.Seats.{ToOpen, suits, kind_of, Shaped}
 use Rattle.law_places.proofs.answers.AnswersTold.Owed.{TaskServes, Serves}
 use Rattle.laws.specs.StateAt.{has_root}
 use Rattle.inv_all.proofs.steps_left.Rest.Told.{answer_untold}
 use Rattle.wfe_core.proofs.Facts.{false_of_not}
+use Rattle.inv_all.proofs.Inv.Ends.{task_end}
 
 -- a call looks for its root, and has not told that it found it
 abbrev pub is_early : Phase → Bool
@@ -99,15 +98,9 @@ either_fate task desk post a b shows false e f = inl (ap not f)
 
 protect_fate : (task : Task) (desk : Desk) (aim : Aim) (index : ℕ) (root : Root) (count : ℕ) (at : ProtectAt) (post : Post) (found : ℕ) → is_told (Protect aim index root count at) ≡ false → index ≡ 0 → is_end root ≡ true
     → Fate (steps.run_turn (Opens task) desk (machine.after (Protect aim index root count at) post found)) (base_shows is_rooting post (Protect aim index root count at) found)
-protect_fate task desk aim index root count (LoadClock tries) post found t i e = inl refl
 protect_fate task desk aim index root count (PublishEra era tries) post found t i e = inl (ap not (trying_early aim index root (bump count) post.layout.config era tries))
-protect_fate task desk aim index root count (LoadLink era tries) post found t i e = inl refl
 protect_fate task desk aim index root count (CheckClock era tries link) post found t i e =
     check_fate task desk aim index root (bump count) link era post (Protect aim index root (bump count) (PublishEra found (failed_once tries))) (found == era) refl (held_rooting index root link (bump count) i e)
-protect_fate task desk aim index root count PublishRequest post found t i e = inl refl
-protect_fate task desk aim index root count LoadOwnClock post found t i e = inl refl
-protect_fate task desk aim index root count (PublishHelper first era last) post found t i e = inl refl
-protect_fate task desk aim index root count (LoadOwnLink first era last) post found t i e = inl refl
 protect_fate task desk aim index root count (CheckOwnClock first era last link) post found t i e =
     either_fate task desk post (Protect aim index root (bump count) (AnswerOwn first era link)) (Protect aim index root (bump count) (lost_turn first last found)) false (found == era) refl (lost_early aim index root (bump count) first last found)
 protect_fate task desk aim index root count (AnswerOwn first era link) post found t i e =
@@ -116,17 +109,9 @@ protect_fate task desk aim index root count (LoadAnswer first) post found t i e 
 protect_fate task desk aim index root count (TakeAnswer link era) post found t i e = inr (held_rooting index root link (bump count) i e)
 protect_fate task desk aim index root count (WithdrawRequest link era) post found t i e = absurd (cc)
 protect_fate task desk aim index root count (WithdrawHelper link era) post found t i e = absurd (cc)
-protect_fate task desk aim index root count LoadWithin post found t i e = inl refl
 protect_fate task desk aim index root count (CheckUpper link) post found t i e =
     check_fate task desk aim index root (bump count) link found post (Protect aim index root (bump count) (RaiseUpper found)) (found == upper post.span) refl (held_rooting index root link (bump count) i e)
-protect_fate task desk aim index root count (RaiseUpper era) post found t i e = inl refl
-
-task_end : (buckets : ℕ) (task : Task) → is_end (task_root buckets task) ≡ true
-task_end buckets (Gets key) = refl
-task_end buckets (Changes kept) = refl
-task_end buckets (Holds key) = refl
-task_end buckets (Enqueues kept) = refl
-task_end buckets Dequeues = refl
+protect_fate task desk aim index root count at post found t i e = inl refl
 
 opens_fate : (buckets : ℕ) (task : Task) (desk : Desk) (base : Base) (post : Post) (found : ℕ) → suits base ToOpen ≡ true → Shaped buckets (Opens task) base → is_told base ≡ false → index_of task ≡ 0
     → Fate (steps.run_turn (Opens task) desk (machine.after base post found)) (base_shows is_rooting post base found)
@@ -134,15 +119,7 @@ opens_fate buckets task desk (Begin LoadLower) post found s h t z = inl refl
 opens_fate buckets task desk (Begin (PublishSpan era)) post found s h t z = inl (opening_early task (machine.after (Begin (PublishSpan era)) post found).post)
 opens_fate buckets task desk (Protect aim index root count at) post found s h t z =
     protect_fate task desk aim index root count at post found t (h.at ∙ z) (ap is_end h.of ∙ task_end buckets task)
-opens_fate buckets task desk (Reload parent index slot era count) post found s h t z = absurd (cc)
-opens_fate buckets task desk (Clear index) post found s h t z = absurd (cc)
-opens_fate buckets task desk Finish post found s h t z = absurd (cc)
-opens_fate buckets task desk Release post found s h t z = absurd (cc)
-opens_fate buckets task desk (Allocate at) post found s h t z = absurd (cc)
-opens_fate buckets task desk (Write slot row place) post found s h t z = absurd (cc)
-opens_fate buckets task desk (GiveUp slot) post found s h t z = absurd (cc)
-opens_fate buckets task desk (Retire at) post found s h t z = absurd (cc)
-opens_fate buckets task desk (Move at) post found s h t z = absurd (cc)
+opens_fate buckets task desk base post found s h t z = absurd (cc)
 
 -- the index of a task whose call has a root
 hold_none : (call : Call) (key : ℕ) → call ≡ names.Hold key → has_root (Some call) ≡ true → ⊥

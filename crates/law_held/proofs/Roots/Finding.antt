@@ -14,7 +14,7 @@ use Rattle.wfe_core.specs.Desks.{Desk, noting}
 use Rattle.wfe_core.specs.Locals.{Local, busy_in, settled_by, begun, begun_post, told_by, told_end, rounds_told, turn}
 use Rattle.wfe_core.specs.Posts.{counted}
 use Rattle.wfe_core.specs.World.{World, begin, step, finds, is_busy, told_in}
-use Rattle.wfe_core.proofs.Facts.{same_number, first_of, rest_of, or_left_true}
+use Rattle.wfe_core.proofs.Facts.{first_of, rest_of, or_left_true}
 use Rattle.inv_all.proofs.ends.Ends.Tests.{Calm, step_any}
 use Rattle.inv_all.specs.shapes.Frame.{phase_left}
 use Rattle.inv_all.specs.shapes.Seats.{Seats}
@@ -24,11 +24,11 @@ use Rattle.inv_all.proofs.history.Along.{Steady, items_keep}
 use Rattle.inv_all.specs.history.Record.{Past, Each, tells_of}
 use Rattle.inv_all.specs.history.Record.Past.{Then}
 use Rattle.laws.proofs.Along.{along}
-use Rattle.inv_all.proofs.Each.{all_of}
-use Rattle.inv_all.proofs.Machines.{is_within}
-use Rattle.laws.specs.StateAt.{began_of, began_by, has_root, rooted_by, rooted_of}
+use Rattle.inv_all.proofs.history.AllOf.{all_of}
+use Rattle.inv_all.proofs.Machines.{is_within, within_of}
+use Rattle.laws.specs.StateAt.{began_of, has_root, rooted_by, rooted_of}
 use Rattle.law_places.proofs.answers.AnswersTold.Answering as answering
-use Rattle.law_places.proofs.answers.AnswersTold.Answering.{first_all, owes_of, within_of, one_began, own_began, began_along}
+use Rattle.law_places.proofs.answers.AnswersTold.Answering.{first_all, owes_of, began_along}
 use Rattle.law_places.proofs.answers.AnswersTold.Owed.{is_open, Serves, Owes, owed}
 use Rattle.law_places.proofs.Placing.Sums.{along_both}
 use Rattle.laws.proofs.Tells.{seen_other, seen_tells, seen_stays, tells_both}

@@ -1,8 +1,8 @@
 -- What a dequeue follows stands where it tells what it found.
-use Rattle.std.proofs.Common.{ℕ, ◌≡◌, ◌-◌, ◌+◌, Bool, true, false, List, [], ◌∷◌, Option, Some, None, refl, sym, ap, ◌∙◌, subst, arith}
+use Rattle.std.proofs.Common.{ℕ, ◌≡◌, ◌+◌, Bool, true, false, List, [], ◌∷◌, Some, refl, sym, ap, ◌∙◌, subst, arith}
 use Rattle.std.proofs.lemmas.Bool.Decides.{nat_tests}
 use Rattle.std.specs.List.{list_any, list_all}
-use Rattle.std.specs.Prelude.{◌==◌, ◌&&◌, ◌||◌, not, is_some, if◌then◌else◌}
+use Rattle.std.specs.Prelude.{◌==◌, not, is_some, if◌then◌else◌}
 use Rattle.wfe_core.specs.words.Place.{Place}
 use Rattle.wfe_core.specs.words.Place.Place.{Head}
 use Rattle.wfe_core.specs.defs.declared.event.Event.{Event}
@@ -10,20 +10,20 @@ use Rattle.wfe_core.specs.defs.declared.event.Event.TheVariants as events
 use Rattle.wfe_core.specs.defs.declared.event.Root.{Root}
 use Rattle.wfe_core.specs.defs.declared.event.Root.TheVariants as roots
 use Rattle.wfe_core.specs.declared.post.Post.{Post}
-use Rattle.wfe_core.specs.Calls.{Task, Gets, Changes, Holds, Enqueues, Dequeues, ReadGuard, GiveBack, Why, Opens, FollowsHead, Phase, Idle, Runs, Scans, Works}
+use Rattle.wfe_core.specs.Calls.{ReadGuard, GiveBack, Why, FollowsHead, Phase, Idle, Runs, Scans, Works}
 use Rattle.wfe_core.specs.Follow.{after_reload}
 use Rattle.wfe_core.specs.Locals.{turn}
 use Rattle.wfe_core.specs.Machine as machine
 use Rattle.wfe_core.specs.Memory.{bump}
 use Rattle.wfe_core.specs.Phases.{ProtectAt, Base}
 use Rattle.wfe_core.specs.Phases.ProtectAt.{CheckClock, TakeAnswer, CheckUpper}
-use Rattle.wfe_core.specs.Phases.Base.{Begin, Protect, Reload, Clear, Finish, Release, Allocate, Write, GiveUp, Retire, Move}
-use Rattle.wfe_core.specs.Posts.{stands, counted, cleared, upper}
+use Rattle.wfe_core.specs.Phases.Base.{Protect, Reload, Clear, Release}
+use Rattle.wfe_core.specs.Posts.{stands, counted, upper}
 use Rattle.wfe_core.specs.Protect.{told_held}
 use Rattle.wfe_core.specs.World.{World, finds, told_in}
 use Rattle.wfe_core.proofs.Facts.{same_number, and_right_false, number_is}
-use Rattle.inv_all.proofs.ends.Ends.Tests.{Calm, at_shows, base_shows, base_any}
-use Rattle.inv_all.specs.shapes.Seats.{ToFollow, Shaped, suits, kind_of, protects, reloads, index_by}
+use Rattle.inv_all.proofs.ends.Ends.Tests.{at_shows, base_shows, base_any}
+use Rattle.inv_all.specs.shapes.Seats.{ToFollow, Shaped, suits, kind_of}
 use Rattle.inv_all.specs.history.History.{record_of, world_of}
 use Rattle.inv_all.specs.history.Record.{Past, Each, tells_of}
 use Rattle.inv_all.specs.history.Record.Past.{Then}
@@ -43,7 +43,7 @@ use Rattle.law_held.proofs.Roots.Ways.{record_each, answers_of}
 use Rattle.inv_all.proofs.rows.Queued.{finds_phase}
 use Rattle.law_turns.proofs.TurnCounts.Tried.{is_follow}
 use Rattle.inv_all.proofs.ends.Ends.Stood.{is_standing, standing_calm}
-use Rattle.law_held.proofs.NextRows.Following.{is_one, task_one, no_reload, why_one, later_one, at_one, cleared_one, one_calm}
+use Rattle.law_held.proofs.NextRows.Following.{is_one, no_reload, why_one, later_one, at_one, cleared_one, one_calm}
 use Rattle.law_held.proofs.Indexes.Clears.{row_there}
 use Rattle.wfe_core.proofs.Lists.{or_left, or_right, or_more}
 
@@ -85,17 +85,11 @@ still_each slots i (event ∷ told) p h s g =
     still_each slots i told (Then p i event) (or_right (is_standing event) (list_any is_standing told) h) (ap is_some (still_stood i p event a) ∙ s) (still_ok slots p i event a s, g)
 
 base_one : (buckets : ℕ) (why : Why) (base : Base) (post : Post) (found : ℕ) → is_follow why ≡ false → suits base (kind_of why) ≡ true → Shaped buckets why base → base_shows is_one post base found ≡ false
-base_one buckets why (Begin at) post found f k h = refl
 base_one buckets why (Protect aim index root count at) post found f k h = at_one index root (bump count) post at found (why_one why index f k h.at)
 base_one buckets why (Reload parent index slot era count) post found f k h = no_reload why (base_shows is_one post (Reload parent index slot era count) found) f k
 base_one buckets why (Clear index) post found f k h = cleared_one index (stands post index)
-base_one buckets why Finish post found f k h = refl
 base_one buckets why Release post found f k h = cleared_one 2 (stands post 2)
-base_one buckets why (Allocate at) post found f k h = refl
-base_one buckets why (Write slot row place) post found f k h = refl
-base_one buckets why (GiveUp slot) post found f k h = refl
-base_one buckets why (Retire at) post found f k h = refl
-base_one buckets why (Move at) post found f k h = refl
+base_one buckets why base post found f k h = refl
 
 -- the protection of a next link tells no row
 next_still : (index n : ℕ) (null : Bool) → list_any is_standing (if null then events.Null index n ∷ [] else []) ≡ false

@@ -26,8 +26,7 @@ use Rattle.inv_all.specs.history.History.{Item, record_of, world_of}
 use Rattle.laws.specs.StateAt.{stood_at, is_row, began_of, tail_at, bucket_at, head_at}
 use Rattle.law_places.proofs.reuse.Reuse.Keeps.{record_stands}
 use Rattle.inv_all.specs.contents.Stands.{Stood}
-use Rattle.inv_all.proofs.Each.{all_of}
-use Rattle.inv_all.proofs.Machines.{of_weaker}
+use Rattle.inv_all.proofs.history.AllOf.{all_of, of_weaker}
 use Rattle.law_places.proofs.answers.AnswersTold.Owed.{Serves}
 use Rattle.law_places.proofs.Placing.Fronts.{linked_front, queued_front, taken_front}
 use Rattle.law_places.proofs.Placing.Marks.{is_common, ordered, InOrder, tells, step_order}

@@ -1,5 +1,5 @@
 -- What a protection may end with its root had at a position of the call; and so what it tells.
-use Rattle.std.proofs.Common.{ℕ, ◌≡◌, ◌-◌, ◌+◌, ◌%◌, Bool, true, false, List, [], ◌∷◌, ◌++◌, Option, Some, None, refl, sym, ap, ◌∙◌, subst, arith}
+use Rattle.std.proofs.Common.{ℕ, ◌≡◌, ◌-◌, ◌+◌, ◌%◌, Bool, true, false, List, [], ◌∷◌, Option, Some, None, refl, sym, ap, ◌∙◌, subst, arith}
 use Rattle.std.proofs.lemmas.Bool.Decides.{nat_tests}
 use Rattle.std.specs.List.{list_any}
 use Rattle.std.specs.Prelude.{◌==◌, ◌&&◌, ◌||◌, not, if◌then◌else◌}
@@ -20,17 +20,16 @@ use Rattle.wfe_core.specs.Calls.{Task, Gets, Changes, Holds, Enqueues, Dequeues,
 use Rattle.wfe_core.specs.Links.{link_place}
 use Rattle.wfe_core.specs.Memory.{bump}
 use Rattle.wfe_core.specs.Phases.{Aim, ProtectAt, Base}
-use Rattle.wfe_core.specs.Phases.ProtectAt.{CheckClock, CheckOwnClock, TakeAnswer, CheckUpper}
+use Rattle.wfe_core.specs.Phases.ProtectAt.{CheckClock, TakeAnswer, CheckUpper}
 use Rattle.wfe_core.specs.Phases.Base.{Protect, Reload, Clear, Release}
 use Rattle.wfe_core.specs.Posts.{counted, cleared, stands, upper}
 use Rattle.wfe_core.specs.Protect.{told_held}
 use Rattle.wfe_core.specs.World.{World, finds, is_busy, told_in}
 use Rattle.wfe_core.proofs.Facts.{same_number, both, first_of, rest_of, true_of_not}
-use Rattle.inv_all.proofs.covers.Held.{finds_at}
 use Rattle.inv_all.proofs.ends.Ends.Tests.{Calm, at_shows, base_shows, phase_shows, step_any}
-use Rattle.inv_all.specs.shapes.Seats.{Seats, protects, reloads, kind_of, index_by, task_root}
-use Rattle.inv_all.specs.history.History.{Item, Begins, Steps, Made, fits, done_if, did, made_from, made_of, first_made, record_of, world_of}
-use Rattle.inv_all.proofs.history.Along.{begins_right, low_seat, made_snoc}
+use Rattle.inv_all.specs.shapes.Seats.{Seats, protects, kind_of, task_root}
+use Rattle.inv_all.specs.history.History.{Item, Begins, Steps, Made, fits, done_if, made_of, first_made, record_of, world_of}
+use Rattle.inv_all.proofs.history.Along.{begins_right, low_seat, paths_keep}
 use Rattle.inv_all.specs.Known.{Known}
 use Rattle.inv_all.proofs.Inv.Begun.{known_start, known_begin}
 use Rattle.inv_all.proofs.Inv.Kept.{known_kept, asked_next}
@@ -38,23 +37,23 @@ use Rattle.inv_all.proofs.Inv.Whole.{origins_need}
 use Rattle.laws.specs.StateAt.{same_value, tail_at, bucket_at, head_at, began_of}
 use Rattle.inv_all.specs.history.Record.{Past, Each, tells_of, begins, held_since}
 use Rattle.inv_all.specs.history.Record.Past.{Start, Then}
-use Rattle.inv_all.proofs.Each.{all_of}
-use Rattle.inv_all.proofs.Machines.{is_within}
+use Rattle.inv_all.proofs.history.AllOf.{all_of}
+use Rattle.inv_all.proofs.Machines.{is_within, within_of, within_begins}
 use Rattle.inv_all.specs.links.Origins.{Origins}
 use Rattle.inv_all.specs.links.Tracked.{carries_at, carries_in, root_for, root_in, Tracked, Carried, Given, Helped}
 use Rattle.inv_all.proofs.links.Origins.Came.{aimed_at, link_busy, helps_busy}
 use Rattle.inv_all.proofs.links.Origins.Kept.{origins_kept, origins_start, origins_begin, idle_deal}
 use Rattle.law_places.proofs.Ordering.Ordered.{word_of}
-use Rattle.inv_all.specs.requests.Deals.{fits as fits_role, is_quiet}
-use Rattle.inv_all.specs.requests.Standing.{Requests, role_of}
-use Rattle.inv_all.specs.requests.Views.{Deal, Role, View as Asked}
+use Rattle.inv_all.specs.requests.Deals.{is_quiet}
+use Rattle.inv_all.specs.requests.Standing.{Requests}
+use Rattle.inv_all.specs.requests.Views.{Deal, View as Asked}
 use Rattle.inv_all.proofs.requests.Kept.{idle_of, requests_begin, requests_start}
 use Rattle.inv_all.specs.rows.Agree.{first_rows, rows_after}
 use Rattle.inv_all.specs.rows.Chain.{first_line, line_after}
 use Rattle.inv_all.specs.rows.Queue.{Line}
 use Rattle.inv_all.specs.rows.Rows.{View}
 use Rattle.inv_all.proofs.ends.Told.Turns.{is_later}
-use Rattle.law_places.proofs.answers.AnswersTold.Answering.{within_of, one_began, own_began}
+use Rattle.law_places.proofs.answers.AnswersTold.Answering.{one_began, own_began}
 use Rattle.law_places.proofs.answers.AnswersTold.Owed.{call_for, TaskServes, Serves}
 use Rattle.laws.specs.HoldLaw.{has_had, sources_ok}
 use Rattle.law_held.specs.Records.{RecordsFindSources}
@@ -63,8 +62,8 @@ use Rattle.law_held.proofs.Roots.Ways.{record_each, answers_of}
 use Rattle.law_places.proofs.answers.Lawful.Counts.{reload_index}
 use Rattle.inv_all.proofs.links.Origins.Ends.{found_clock}
 use Rattle.inv_all.proofs.handover.Asks.{run_of}
-use Rattle.law_held.proofs.NextRows.Behind.{now_held, within_begins, one_held}
-use Rattle.wfe_core.proofs.Lists.{or_left, or_right as none_rest, or_more as or_right}
+use Rattle.law_held.proofs.NextRows.Behind.{now_held, one_held}
+use Rattle.wfe_core.proofs.Lists.{or_left, or_right as none_rest}
 
 -- the row of a link
 abbrev row_of : ℕ → Option ℕ
@@ -169,13 +168,6 @@ item_kept layout made (Steps i) true f l g =
           g.links;
     }
 
-items_kept : (layout : Layout) (items path : List Item) (made : Made) → is_valid layout ≡ true → made ≡ made_of layout path → SourcesKept layout made → SourcesKept layout (made_from made items)
-items_kept layout [] path made d e g = g
-items_kept layout (item ∷ items) path made d e g =
-    let q : did made item ≡ made_of layout (path ++ item ∷ []) = ap (λ (m : Made). did m item) e ∙ sym (made_snoc (first_made layout) path item) in
-    let l : Leads layout.config.slots made.world.mem made.past = subst (λ (m : Made). Leads layout.config.slots m.world.mem m.past) (sym e) (leads_of layout path d) in
-    items_kept layout items (path ++ item ∷ []) (did made item) d q (item_kept layout made item (fits made.world item) refl l g)
-
 first_kept : (layout : Layout) → is_valid layout ≡ true → SourcesKept layout (first_made layout)
 first_kept layout d =
     let q = requests_start layout d in
@@ -183,7 +175,7 @@ first_kept layout d =
     record { table = refl; rows = first_rows layout; line = first_line layout; asked = q.0; known = k; links = origins_start (had_link layout.config Start) layout q.0 (λ m. ap (λ (f : ℕ → Deal). f m) q.1.deal) }
 
 sources_of : (layout : Layout) (path : List Item) → is_valid layout ≡ true → SourcesKept layout (made_of layout path)
-sources_of layout path d = items_kept layout path [] (first_made layout) d refl (first_kept layout d)
+sources_of layout path d = paths_keep layout (SourcesKept layout) (λ before item fit f g. item_kept layout (made_of layout before) item fit f (leads_of layout before d) g) (first_kept layout d) path
 
 -- what a step tells of its root
 abbrev is_odd : Config → Past → ℕ → Event → Bool

@@ -45,8 +45,7 @@ use Rattle.inv_all.proofs.Inv.Begun.{known_start, known_begin}
 use Rattle.inv_all.proofs.Inv.Kept.{known_kept, asked_next}
 use Rattle.inv_all.specs.ends.Told.{row_events, birth_in, move_of}
 use Rattle.laws.proofs.Along.{along}
-use Rattle.inv_all.proofs.Each.{all_of}
-use Rattle.inv_all.proofs.Machines.{of_weaker}
+use Rattle.inv_all.proofs.history.AllOf.{all_of, of_weaker}
 use Rattle.laws.specs.StateAt.{next_by, next_at, was_given_by, was_given, tail_by, tail_at, head_at}
 use Rattle.laws.specs.Once.{is_slot, nexts_ok}
 use Rattle.law_places.specs.Records.{RecordsLinkNexts}

@@ -14,14 +14,14 @@ use Rattle.wfe_core.specs.declared.post.Post.{Post}
 use Rattle.wfe_core.specs.Change.{told_change, changed_bucket}
 use Rattle.wfe_core.specs.Enqueue.{told_link}
 use Rattle.wfe_core.specs.Memory as memory
-use Rattle.wfe_core.specs.Memory.{place_in, written}
+use Rattle.wfe_core.specs.Memory.{written}
 use Rattle.wfe_core.specs.Machine.{base_move}
 use Rattle.wfe_core.specs.Phases.{Base, RowOf}
 use Rattle.wfe_core.specs.Phases.Base.{Write}
 use Rattle.wfe_core.specs.Posts.{counted}
 use Rattle.wfe_core.specs.Steps.{phase_move}
 use Rattle.wfe_core.specs.WriteRow.{row_word}
-use Rattle.wfe_core.specs.Calls.{ChangeKept, EnqueueKept, LoadVersion, LoadCount, LoadKey, LoadValue, ExchangeRoot, LoadNumber, LoadNext, PassTail, ExchangeNext, ExchangeTail, LoadTail, SwingTail, TakeNumber, TakeValue, ExchangeHead, Getting, Changing, Enqueuing, Dequeuing, GetAt, FindVersion, FindCount, FindKey, FindValue, ReadGuard, GiveBack, Why, Phase, Idle, Runs, Scans, Works}
+use Rattle.wfe_core.specs.Calls.{ChangeKept, EnqueueKept, LoadVersion, LoadCount, LoadKey, LoadValue, ExchangeRoot, LoadNumber, LoadNext, PassTail, ExchangeNext, ExchangeTail, LoadTail, SwingTail, TakeNumber, TakeValue, ExchangeHead, Getting, Changing, Enqueuing, Dequeuing, GetAt, FindVersion, ReadGuard, GiveBack, Why, Phase, Idle, Runs, Scans, Works}
 use Rattle.wfe_core.proofs.Facts.{same_number, same_both}
 use Rattle.inv_all.specs.rows.Agree.{Plays}
 use Rattle.inv_all.specs.rows.Hands.{row_move}
@@ -162,9 +162,7 @@ run_left slots i mem v l why base post list s k e = plain_row mem base post s re
 
 get_left : (mem : Place → ℕ) (key : ℕ) (at : GetAt) (post : Post) (s : ℕ) → written mem (phase_move (Works (Getting key at)) post) (Row s 0) ≡ mem (Row s 0)
 get_left mem key (FindVersion slot) post s = refl
-get_left mem key (FindCount slot version) post s = refl
-get_left mem key (FindKey slot version count pair) post s = refl
-get_left mem key (FindValue slot version pair) post s = refl
+get_left mem key at post s = refl
 
 -- the next link of a row that was in the queue since it was claimed
 pub next_moved : (slots i : ℕ) (mem : Place → ℕ) (v : View) (l : Line) (phase : Phase) (post : Post) (list : List Lifetime) (s : ℕ) (x : Option ℕ) → Here slots i mem v l phase post list → l.lined s ≡ true → word_of x ≡ mem (Row s 0)
@@ -229,9 +227,7 @@ run_tail mem why base post = unlinked_tail mem (base_move base post) (base_links
 
 pub get_tail : (mem : Place → ℕ) (key : ℕ) (at : GetAt) (post : Post) → written mem (phase_move (Works (Getting key at)) post) Tail ≡ mem Tail
 get_tail mem key (FindVersion slot) post = refl
-get_tail mem key (FindCount slot version) post = refl
-get_tail mem key (FindKey slot version count pair) post = refl
-get_tail mem key (FindValue slot version pair) post = refl
+get_tail mem key at post = refl
 
 pub before_next : (next : ℕ) → 0 < next → next - 1 + 1 ≡ next
 before_next next h = omega (h, arith)

@@ -34,8 +34,7 @@ use Rattle.inv_all.proofs.Inv.Begun.{known_start, known_begin}
 use Rattle.inv_all.proofs.Inv.Kept.{known_kept, asked_next}
 use Rattle.inv_all.specs.ends.Told.{move_of}
 use Rattle.laws.proofs.Along.{along, along_kind}
-use Rattle.inv_all.proofs.Each.{all_of}
-use Rattle.inv_all.proofs.Machines.{of_weaker}
+use Rattle.inv_all.proofs.history.AllOf.{all_of, of_weaker}
 use Rattle.laws.specs.StateAt.{bucket_by, bucket_at, head_by, head_at}
 use Rattle.laws.specs.Once.{Due, NoneDue, due_linked, due_by, due_at, is_free, changes_due, meets_due, order_ok}
 use Rattle.law_places.specs.Records.{RecordsKeepOrder}

@@ -4,7 +4,6 @@ use Rattle.std.proofs.Common.{ℕ, ◌≡◌, ◌+◌, ◌-◌, ◌%◌, Bool, t
 use Rattle.std.proofs.lemmas.List.{append_assoc}
 use Rattle.std.specs.Prelude.{◌==◌, nat_lt}
 use Rattle.wfe_core.specs.words.declared.config.SchemeKind.{SchemeKind}
-use Rattle.wfe_core.specs.words.declared.config.SchemeKind.TheVariants.{He, Ibr, Wfe}
 use Rattle.wfe_core.specs.defs.declared.call.Answer.{Answer}
 use Rattle.wfe_core.specs.defs.declared.call.Answer.TheVariants as the_answers
 use Rattle.wfe_core.specs.defs.declared.call.ClockMove.TheVariants as moves
@@ -24,7 +23,6 @@ use Rattle.wfe_core.specs.Enqueue as enqueues
 use Rattle.wfe_core.specs.Get as gets
 use Rattle.wfe_core.specs.Guards.{guards, guard_at, published}
 use Rattle.wfe_core.specs.Machine as machine
-use Rattle.wfe_core.specs.Posts.{stands, cleared}
 use Rattle.wfe_core.specs.Scan as scan
 use Rattle.wfe_core.specs.Steps as steps
 use Rattle.wfe_core.specs.Rounds.{scheme_of, bucket_of, index_of, taken_of, finish_base, clear_base, clear_post, clear_told, given_up, closed, finishing_by, finishing, clearing_by, clearing, clearing_next_by, clearing_next}
@@ -33,8 +31,8 @@ use Rattle.wfe_core.specs.Phases.Ending.{Done, Protected, Followed, Allocated, R
 use Rattle.wfe_core.specs.Calls.{Task, Gets, Changes, Holds, Enqueues, Dequeues, Next, Again, MakeRoom, Answering, Retiring, AfterScan, Answered, Repeated, Counted, ChangeKept, EnqueueKept, GetAt, FindVersion, FindCount, FindKey, FindValue, ChangeAt, LoadVersion, LoadCount, LoadKey, LoadValue, ExchangeRoot, EnqueueAt, LoadNumber, LoadNext, PassTail, ExchangeNext, ExchangeTail, DequeueAt, LoadTail, SwingTail, TakeNumber, TakeValue, ExchangeHead, Work, Getting, Changing, Enqueuing, Dequeuing, ScanAt, ReadGuard, GiveBack, Why, Opens, FollowsHead, Fills, ClearsNext, Clears, Finishes, GivesUp, Retires, Tidies, Advances, Releases, Phase, Idle, Runs, Scans, Works, CallTurn, CallOutcome}
 use Rattle.inv_all.proofs.history.Passes.{scan_told}
 use Rattle.law_answers.proofs.AnswersTold.Owed.{append_none}
-use Rattle.inv_all.proofs.Each.{all_of}
-use Rattle.inv_all.proofs.Machines.{of_along}
+use Rattle.inv_all.proofs.history.AllOf.{all_of, of_along}
+use Rattle.inv_all.proofs.history.MayTell.{clear_all}
 
 -- what comes after
 abbrev pub is_after : Event → Bool
@@ -54,14 +52,8 @@ here told post desk outcome = record { more = []; is = sym (append_none told); c
 later : (told some : List Event) (t : CallTurn) → all_of is_after some ≡ true → Starts (told ++ some) t → Starts told t
 later told some t a b = record { more = some ++ b.more; is = b.is ∙ append_assoc told some b.more; calm = of_along is_after some b.more a b.calm }
 
-cleared_after : (index : ℕ) (x : Option ℕ) → all_of is_after (cleared index x) ≡ true
-cleared_after index None = refl
-cleared_after index (Some slot) = refl
-
 clear_after : (scheme : SchemeKind) (post : Post) (index : ℕ) → all_of is_after (clear_told scheme post index) ≡ true
-clear_after He post index = refl
-clear_after Ibr post index = cleared_after index (stands post index)
-clear_after Wfe post index = refl
+clear_after scheme post index = clear_all is_after scheme post index (λ index slot. refl)
 
 -- the end of a round
 given_up_starts : (answer : Answer) (post : Post) (desk : Desk) (told : List Event) (x : Option ℕ) → Starts told (given_up answer post desk told x)
@@ -214,11 +206,9 @@ taken_starts head next number value post desk true = clearing_next_starts (Retir
 taken_starts head next number value post desk false = clearing_next_starts Again post desk []
 
 dequeue_starts : (at : DequeueAt) (post : Post) (desk : Desk) (found : ℕ) → Starts (dequeue_front at found) (dequeues.dequeue_turn at post desk found)
-dequeue_starts (LoadTail head) post desk found = here [] post desk _
 dequeue_starts (SwingTail head next) post desk found = clearing_next_starts Again post desk (enqueues.told_link roots.Tail next (found == head + 1))
-dequeue_starts (TakeNumber head next) post desk found = here [] post desk _
-dequeue_starts (TakeValue head next number) post desk found = here [] post desk _
 dequeue_starts (ExchangeHead head next number value) post desk found = taken_starts head next number value post desk (found == head + 1)
+dequeue_starts at post desk found = here [] post desk _
 
 abbrev pub work_front : Work → Post → ℕ → List Event
 work_front (Getting key at) post found = []

@@ -35,7 +35,7 @@ use Rattle.inv_all.proofs.Inv.Begun.{known_start, known_begin}
 use Rattle.inv_all.proofs.Inv.Kept.{known_kept, asked_next}
 use Rattle.inv_all.specs.ends.Told.{move_of}
 use Rattle.laws.proofs.Along.{along}
-use Rattle.inv_all.proofs.Each.{all_of}
+use Rattle.inv_all.proofs.history.AllOf.{all_of}
 use Rattle.laws.specs.StateAt.{began_of, told_of, Given, Without, given_of, given_by, cuts_of, cuts_by, is_empty, retires_of, retires_by, changed_of, changed_by, seen}
 use Rattle.laws.specs.AnswerLaw.{answers_ok, retires_for, counts_right, retires_ok, is_change, refuses_right, refusing_ok}
 use Rattle.law_answers.proofs.AnswersTold.Answering as answering

@@ -24,8 +24,8 @@ use Rattle.wfe_core.specs.defs.Events.{is_of_rows}
 use Rattle.inv_all.specs.ends.Told.{row_events, birth_in, move_of}
 use Rattle.inv_all.proofs.ends.Told.Rows.{rows_told}
 use Rattle.law_answers.proofs.AnswersTold.Owed.{append_none}
-use Rattle.inv_all.proofs.Each.{all_of}
-use Rattle.inv_all.proofs.Machines.{is_machine, of_along, of_weaker, base_machine, scan_machine}
+use Rattle.inv_all.proofs.history.AllOf.{all_of, of_along, of_weaker}
+use Rattle.inv_all.proofs.Machines.{is_machine, base_machine, scan_machine}
 use Rattle.law_places.proofs.Placing.Fronts.{is_after, Starts, linked_front, queued_front, taken_front, work_front, front, turn_starts}
 
 -- of rows, links and changes, or the beginning or the end of a call

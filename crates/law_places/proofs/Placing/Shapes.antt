@@ -1,5 +1,5 @@
 -- What a step tells of rows, links and changes is what its move of rows says, and so is what its seat has in hand.
-use Rattle.std.proofs.Common.{ℕ, ◌≡◌, ◌+◌, ◌-◌, Bool, true, false, List, [], ◌∷◌, ◌++◌, Option, Some, None, refl, ap, arith}
+use Rattle.std.proofs.Common.{ℕ, ◌≡◌, ◌+◌, ◌-◌, Bool, true, false, List, [], ◌∷◌, ◌++◌, refl, arith}
 use Rattle.std.proofs.lemmas.Bool.Decides.{nat_tests}
 use Rattle.std.specs.Prelude.{◌==◌, if◌then◌else◌}
 use Rattle.wfe_core.specs.words.Place.{Place}
@@ -20,19 +20,19 @@ use Rattle.wfe_core.specs.Desks.{Desk}
 use Rattle.wfe_core.specs.Memory as memory
 use Rattle.wfe_core.specs.Memory.{place_in}
 use Rattle.wfe_core.specs.Phases.{Base, Walk}
-use Rattle.wfe_core.specs.Phases.AllocateAt.{LoadBirth, ClaimSlot, StoreLife}
+use Rattle.wfe_core.specs.Phases.AllocateAt.{ClaimSlot, StoreLife}
 use Rattle.wfe_core.specs.Phases.RetireAt.{LoadLife, LoadRetire, StoreRetired}
-use Rattle.wfe_core.specs.Phases.Base.{Begin, Protect, Reload, Clear, Finish, Release, Allocate, Write, GiveUp, Retire, Move}
+use Rattle.wfe_core.specs.Phases.Base.{Allocate, GiveUp, Retire}
 use Rattle.wfe_core.specs.Posts.{counted}
 use Rattle.wfe_core.specs.Steps.{phase_move, phase_turn}
-use Rattle.wfe_core.specs.Calls.{Task, Gets, Changes, Holds, Enqueues, Dequeues, ChangeKept, EnqueueKept, LoadVersion, LoadCount, LoadKey, LoadValue, ExchangeRoot, LoadNumber, LoadNext, PassTail, ExchangeNext, ExchangeTail, LoadTail, SwingTail, TakeNumber, TakeValue, ExchangeHead, Getting, Changing, Enqueuing, Dequeuing, ReadGuard, GiveBack, Why, Opens, FollowsHead, Fills, ClearsNext, Clears, Finishes, GivesUp, Retires, Tidies, Advances, Releases, Phase, Idle, Runs, Scans, Works, Answers}
-use Rattle.inv_all.specs.rows.Hands.{hand_of, hand_in, hand_why, hand_base, is_right, runs_right, is_plain, holds_slot, base_row, linked_row, row_move}
+use Rattle.wfe_core.specs.Calls.{Task, Gets, Changes, Holds, Enqueues, Dequeues, ChangeKept, EnqueueKept, LoadVersion, LoadCount, LoadKey, LoadValue, ExchangeRoot, LoadNumber, LoadNext, PassTail, ExchangeNext, ExchangeTail, LoadTail, SwingTail, TakeNumber, TakeValue, ExchangeHead, Getting, Changing, Enqueuing, Dequeuing, ReadGuard, GiveBack, Why, Fills, GivesUp, Retires, Phase, Idle, Runs, Scans, Works, Answers}
+use Rattle.inv_all.specs.rows.Hands.{hand_of, hand_in, hand_why, hand_base, is_right, runs_right, is_plain, base_row, linked_row, row_move}
 use Rattle.inv_all.specs.rows.Rows.{Hand, RowMove}
 use Rattle.inv_all.specs.rows.Rows.Hand.{Empty, New, Taken, Old, Known, Dated}
 use Rattle.inv_all.specs.rows.Rows.RowMove.{Stays, Claims, Bears, Drops, Links, Replaces, Appends, Pops, Reads, Seals, Lists, Returns}
 use Rattle.inv_all.specs.ends.Told.{row_events}
 use Rattle.law_answers.proofs.AnswersTold.Owed.{owed}
-use Rattle.inv_all.proofs.Each.{all_of}
+use Rattle.inv_all.proofs.history.AllOf.{all_of}
 use Rattle.law_places.proofs.Placing.Fronts.{linked_front, queued_front, taken_front}
 use Rattle.law_places.proofs.Placing.Marks.{marks}
 use Rattle.inv_all.proofs.rows.Runs.{taken_slot}
@@ -57,35 +57,20 @@ pub why_hand : (why : Why) (b : Base) → runs_right why b ≡ true → is_plain
 why_hand (Fills task) b r h = refl
 why_hand (GivesUp answer) b r h = refl
 why_hand (Retires answer) b r h = refl
-why_hand (Opens task) b r h = absurd (cc)
-why_hand (FollowsHead head tail) b r h = absurd (cc)
-why_hand (ClearsNext next) b r h = absurd (cc)
-why_hand (Clears task next) b r h = absurd (cc)
-why_hand (Finishes task next) b r h = absurd (cc)
-why_hand (Tidies later) b r h = absurd (cc)
-why_hand Advances b r h = absurd (cc)
-why_hand (Releases key) b r h = absurd (cc)
+why_hand why b r h = absurd (cc)
 
 claim_hand : (slot : ℕ) (taken : Bool) (h : Hand) → h ≡ Empty → HandFits (if taken then Stays else Claims slot) h
 claim_hand slot true h e = tt
 claim_hand slot false h e = e
 
 base_hand : (b : Base) (found : ℕ) (h : Hand) → (is_plain b ≡ false → h ≡ hand_base b) → HandFits (base_row b found) h
-base_hand (Begin at) found h e = tt
-base_hand (Protect aim index root steps at) found h e = tt
-base_hand (Reload parent index slot era steps) found h e = tt
-base_hand (Clear index) found h e = tt
-base_hand Finish found h e = tt
-base_hand Release found h e = tt
-base_hand (Allocate LoadBirth) found h e = tt
 base_hand (Allocate (ClaimSlot birth walk)) found h e = claim_hand walk.slot (is_claimed found walk.slot) h (e refl)
 base_hand (Allocate (StoreLife birth slot)) found h e = e refl
-base_hand (Write slot row place) found h e = tt
 base_hand (GiveUp slot) found h e = e refl
 base_hand (Retire (LoadLife slot)) found h e = e refl
 base_hand (Retire (LoadRetire slot birth)) found h e = e refl
 base_hand (Retire (StoreRetired slot birth retire)) found h e = e refl
-base_hand (Move at) found h e = tt
+base_hand base found h e = tt
 
 linked_hand : (bucket slot link : ℕ) (h : Hand) (null : Bool) → h ≡ Taken slot → HandFits (if null then Links bucket slot else Replaces bucket slot (link - 1)) h
 linked_hand bucket slot link h true e = e
@@ -195,16 +180,7 @@ Shape phase post found (Returns slot) told = told ≡ events.Back slot ∷ []
 
 claim_owes : (why : Why) (birth : ℕ) (walk : Walk) (n : ℕ) (call : Call) → runs_right why (Allocate (ClaimSlot birth walk)) ≡ true → owed n call (Runs why (Allocate (ClaimSlot birth walk))) ≡ []
 claim_owes (Fills task) birth walk n call r = refl
-claim_owes (GivesUp answer) birth walk n call r = absurd (cc)
-claim_owes (Retires answer) birth walk n call r = absurd (cc)
-claim_owes (Opens task) birth walk n call r = absurd (cc)
-claim_owes (FollowsHead head tail) birth walk n call r = absurd (cc)
-claim_owes (ClearsNext next) birth walk n call r = absurd (cc)
-claim_owes (Clears task next) birth walk n call r = absurd (cc)
-claim_owes (Finishes task next) birth walk n call r = absurd (cc)
-claim_owes (Tidies later) birth walk n call r = absurd (cc)
-claim_owes Advances birth walk n call r = absurd (cc)
-claim_owes (Releases key) birth walk n call r = absurd (cc)
+claim_owes why birth walk n call r = absurd (cc)
 
 claim_shape : (why : Why) (birth : ℕ) (walk : Walk) (post : Post) (found : ℕ) (taken : Bool) → runs_right why (Allocate (ClaimSlot birth walk)) ≡ true
     → Shape (Runs why (Allocate (ClaimSlot birth walk))) post found (if taken then Stays else Claims walk.slot) (row_events birth (if taken then Stays else Claims walk.slot))
@@ -221,32 +197,13 @@ no_fill Dequeues slot r = r
 give_up_shape : (why : Why) (slot : ℕ) (post : Post) (found : ℕ) → runs_right why (GiveUp slot) ≡ true → Shape (Runs why (GiveUp slot)) post found (Drops slot) (events.Unused slot ∷ [])
 give_up_shape (GivesUp answer) slot post found r = record { is = refl; ends = λ desk. (answer, refl) }
 give_up_shape (Fills task) slot post found r = let x = no_fill task slot r in absurd (cc)
-give_up_shape (Retires answer) slot post found r = absurd (cc)
-give_up_shape (Opens task) slot post found r = absurd (cc)
-give_up_shape (FollowsHead head tail) slot post found r = absurd (cc)
-give_up_shape (ClearsNext next) slot post found r = absurd (cc)
-give_up_shape (Clears task next) slot post found r = absurd (cc)
-give_up_shape (Finishes task next) slot post found r = absurd (cc)
-give_up_shape (Tidies later) slot post found r = absurd (cc)
-give_up_shape Advances slot post found r = absurd (cc)
-give_up_shape (Releases key) slot post found r = absurd (cc)
+give_up_shape why slot post found r = absurd (cc)
 
 run_shape : (why : Why) (b : Base) (post : Post) (found : ℕ) → runs_right why b ≡ true → Shape (Runs why b) post found (row_move (Runs why b) post found) (marks (Runs why b) post found)
-run_shape why (Begin at) post found r = refl
-run_shape why (Protect aim index root steps at) post found r = refl
-run_shape why (Reload parent index slot era steps) post found r = refl
-run_shape why (Clear index) post found r = refl
-run_shape why Finish post found r = refl
-run_shape why Release post found r = refl
-run_shape why (Allocate LoadBirth) post found r = refl
 run_shape why (Allocate (ClaimSlot birth walk)) post found r = claim_shape why birth walk post found (is_claimed found walk.slot) r
-run_shape why (Allocate (StoreLife birth slot)) post found r = refl
-run_shape why (Write slot row place) post found r = refl
 run_shape why (GiveUp slot) post found r = give_up_shape why slot post found r
 run_shape why (Retire (LoadLife slot)) post found r = refl
-run_shape why (Retire (LoadRetire slot birth)) post found r = refl
-run_shape why (Retire (StoreRetired slot birth retire)) post found r = refl
-run_shape why (Move at) post found r = refl
+run_shape why base post found r = refl
 
 same_bucket : (bucket version : ℕ) (change : Change) → is_change_of bucket (told_change bucket version change) ≡ true
 same_bucket bucket version (changes.Put key value) = grind (arith, nat_tests)

@@ -1,5 +1,5 @@
 -- The record of each history keeps the laws on scans that make room and on calls that find no free row.
-use Rattle.std.proofs.Common.{ℕ, ◌≡◌, ◌≤◌, ◌<◌, Bool, true, false, List, [], ◌∷◌, Option, Some, refl, sym, ap, ◌∙◌, subst, arith, rules}
+use Rattle.std.proofs.Common.{ℕ, ◌≡◌, ◌≤◌, ◌<◌, Bool, true, false, List, [], ◌∷◌, Option, Some, refl, sym, ap, ◌∙◌, subst, arith}
 use Rattle.std.proofs.lemmas.Bool.Decides.{nat_tests}
 use Rattle.std.specs.Prelude.{◌==◌, ◌&&◌, ◌||◌, not, nat_lt}
 use Rattle.wfe_core.specs.words.Place.{is_valid}
@@ -34,15 +34,15 @@ use Rattle.laws.proofs.Along.{along}
 use Rattle.law_scans.proofs.reuse.Once.Calm.{is_unread}
 use Rattle.law_scans.proofs.reuse.Once.Keeps as once
 use Rattle.inv_all.proofs.history.Passes.{scan_told}
-use Rattle.inv_all.proofs.Each.{all_of}
-use Rattle.inv_all.proofs.Machines.{is_within}
+use Rattle.inv_all.proofs.history.AllOf.{all_of}
+use Rattle.inv_all.proofs.Machines.{is_within, within_of}
 use Rattle.law_scans.proofs.answers.AnswersTold.Answering as answering
-use Rattle.law_scans.proofs.answers.AnswersTold.Answering.{began_along, first_all, owes_of, within_of, others_began}
+use Rattle.law_scans.proofs.answers.AnswersTold.Answering.{began_along, first_all, owes_of, others_began}
 use Rattle.law_reasons.proofs.Reasons.Later.{Later, later_all, later_same, later_then}
 use Rattle.law_scans.proofs.answers.AnswersTold.Owed.{is_open, owed, Owes}
 use Rattle.law_scans.proofs.places.Placing.Sums.{along_both}
 use Rattle.laws.proofs.Tells.{seen_own, seen_tells, seen_stays, tells_both}
-use Rattle.inv_all.specs.ends.Walks.{SeenTaken, Walking, WalkPhase, seen_after}
+use Rattle.inv_all.specs.ends.Walks.{Walking, WalkPhase, seen_after}
 use Rattle.inv_all.proofs.ends.Walks.Kept.{full_seen, walking_start, walking_kept}
 use Rattle.law_scans.proofs.DueScans.Keeps.{phase_right, told_starts}
 use Rattle.law_scans.proofs.DueScans.Lands.{PhaseRight}

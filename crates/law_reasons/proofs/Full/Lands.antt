@@ -27,7 +27,7 @@ use Rattle.wfe_core.specs.Phases.{RowOf, Walk, AllocateAt, MoveAt, Base, Ending,
 use Rattle.wfe_core.specs.Phases.MoveAt.{ExchangeClock}
 use Rattle.wfe_core.specs.Phases.AllocateAt.{LoadBirth, ClaimSlot, StoreLife}
 use Rattle.wfe_core.specs.Phases.RetireAt.{LoadLife, LoadRetire, StoreRetired}
-use Rattle.wfe_core.specs.Phases.Base.{Begin, Protect, Reload, Clear, Finish, Release, Allocate, Write, GiveUp, Retire, Move}
+use Rattle.wfe_core.specs.Phases.Base.{Allocate, Write, Retire, Move}
 use Rattle.wfe_core.specs.Phases.Ending.{Done, Protected, Followed, Allocated, Retired, Clocked}
 use Rattle.wfe_core.specs.Calls.{Task, Gets, Changes, Holds, Enqueues, Dequeues, Next, Again, MakeRoom, Answering, Retiring, AfterScan, Answered, Repeated, Counted, LoadNumber, LoadNext, PassTail, ExchangeNext, ExchangeTail, Work, Getting, Changing, Enqueuing, Dequeuing, ScanAt, ReadGuard, GiveBack, Why, Opens, FollowsHead, Fills, ClearsNext, Clears, Finishes, GivesUp, Retires, Tidies, Advances, Releases, Phase, Idle, Runs, Scans, Works, CallOutcome, GoesOn, Answers}
 use Rattle.inv_all.specs.shapes.Seats.{Kind, ToOpen, ToFollow, ToClear, ToFinish, ToRelease, ToGiveUp, ToFill, ToRetire, ToMove, kind_of, suits, fills, retires, scan_fits}
@@ -120,15 +120,7 @@ fills_fits c z task (Allocate (ClaimSlot birth walk)) post desk found h s f a u 
     claim_fits c task birth walk post desk found (allocates.is_claimed found walk.slot) z refl h f a u
 fills_fits c z task (Allocate (StoreLife birth slot)) post desk found h s f a u = given_fits c task slot birth post desk [] (StoreLife birth slot) z h f
 fills_fits c z task (Write slot row place) post desk found h s f a u = write_fits c task desk slot place row post found (place == last_written row) z refl f
-fills_fits c z task (Begin at) post desk found h s f a u = absurd (cc)
-fills_fits c z task (Protect aim index root steps at) post desk found h s f a u = absurd (cc)
-fills_fits c z task (Reload parent index slot era steps) post desk found h s f a u = absurd (cc)
-fills_fits c z task (Clear index) post desk found h s f a u = absurd (cc)
-fills_fits c z task Finish post desk found h s f a u = absurd (cc)
-fills_fits c z task Release post desk found h s f a u = absurd (cc)
-fills_fits c z task (GiveUp slot) post desk found h s f a u = absurd (cc)
-fills_fits c z task (Retire at) post desk found h s f a u = absurd (cc)
-fills_fits c z task (Move at) post desk found h s f a u = absurd (cc)
+fills_fits c z task base post desk found h s f a u = absurd (cc)
 
 -- a row is retired
 tidying_fits : (c : Config) (answer : Answer) (post : Post) (desk : Desk) (told : List Event) (due : Bool) (z : Now) → z.search.seeks ≡ false → is_full answer ≡ false → OutFits c (steps.tidying answer post desk told due).outcome z
@@ -142,16 +134,7 @@ retires_fits c z answer (Retire (LoadRetire slot birth)) post desk found s n = n
 retires_fits c z answer (Retire (StoreRetired slot birth retire)) post desk found s n =
     let t = machine.after (Retire (StoreRetired slot birth retire)) post found in
     tidying_fits c answer t.post (with_life desk (record { slot = slot; birth = birth; retire = retire })) t.told (t.post.retired % t.post.layout.config.every == 0) (after_first (events.Retire slot birth retire ∷ []) z) refl n
-retires_fits c z answer (Begin at) post desk found s n = absurd (cc)
-retires_fits c z answer (Protect aim index root steps at) post desk found s n = absurd (cc)
-retires_fits c z answer (Reload parent index slot era steps) post desk found s n = absurd (cc)
-retires_fits c z answer (Clear index) post desk found s n = absurd (cc)
-retires_fits c z answer Finish post desk found s n = absurd (cc)
-retires_fits c z answer Release post desk found s n = absurd (cc)
-retires_fits c z answer (Allocate at) post desk found s n = absurd (cc)
-retires_fits c z answer (Write slot row place) post desk found s n = absurd (cc)
-retires_fits c z answer (GiveUp slot) post desk found s n = absurd (cc)
-retires_fits c z answer (Move at) post desk found s n = absurd (cc)
+retires_fits c z answer base post desk found s n = absurd (cc)
 
 -- the clock is moved
 clock_full : (answer : Answer) (clock : ClockMove) → is_full answer ≡ false → is_full (with_clock answer clock) ≡ false
@@ -221,20 +204,10 @@ fill_on : (c : Config) (task : Task) (base : Base) (x y : Now) → Onto x y → 
 fill_on c task (Allocate LoadBirth) x y o f = record { tie = task_on c task x y o f.tie; fits = o.fits f.fits }
 fill_on c task (Allocate (ClaimSlot birth walk)) x y o f = record { tie = task_on c task x y o f.tie; fits = o.fits f.fits }
 fill_on c task (Allocate (StoreLife birth slot)) x y o f = ap (λ (t : Search). t.reads) o.search ∙ f
-fill_on c task (Begin at) x y o f = task_on c task x y o f
-fill_on c task (Protect aim index root steps at) x y o f = task_on c task x y o f
-fill_on c task (Reload parent index slot era steps) x y o f = task_on c task x y o f
-fill_on c task (Clear index) x y o f = task_on c task x y o f
-fill_on c task Finish x y o f = task_on c task x y o f
-fill_on c task Release x y o f = task_on c task x y o f
-fill_on c task (Write slot row place) x y o f = task_on c task x y o f
-fill_on c task (GiveUp slot) x y o f = task_on c task x y o f
-fill_on c task (Retire at) x y o f = task_on c task x y o f
-fill_on c task (Move at) x y o f = task_on c task x y o f
+fill_on c task base x y o f = task_on c task x y o f
 
 why_on : (c : Config) (why : Why) (base : Base) (x y : Now) → Onto x y → WhyFits c why base x → WhyFits c why base y
 why_on c (Opens task) base x y o f = task_on c task x y o f
-why_on c (FollowsHead head tail) base x y o f = tt
 why_on c (Fills task) base x y o f = fill_on c task base x y o f
 why_on c (ClearsNext next) base x y o f = next_on c Dequeues next x y o f
 why_on c (Clears task next) base x y o f = next_on c task next x y o f
@@ -242,8 +215,7 @@ why_on c (Finishes task next) base x y o f = next_on c task next x y o f
 why_on c (GivesUp answer) base x y o f = answer_on c answer x y o f
 why_on c (Retires answer) base x y o f = f
 why_on c (Tidies later) base x y o f = later_on c 0 later x y o.search o.was f
-why_on c Advances base x y o f = tt
-why_on c (Releases key) base x y o f = tt
+why_on c why base x y o f = tt
 
 work_on : (c : Config) (work : Work) (x y : Now) → Onto x y → WorkFits c work x → WorkFits c work y
 work_on c (Getting key at) x y o f = tt
@@ -278,17 +250,10 @@ move_onto (ExchangeClock era) found z = tick_onto era (found == era) z
 move_onto at found z = onto_same z
 
 still_onto : (base : Base) (kind : Kind) (found : ℕ) (z : Now) → suits base kind ≡ true → fills kind ≡ false → retires kind ≡ false → Onto z (after_first (base_front base found) z)
-still_onto (Begin at) kind found z s a b = onto_same z
-still_onto (Protect aim index root steps at) kind found z s a b = onto_same z
-still_onto (Reload parent index slot era steps) kind found z s a b = onto_same z
-still_onto (Clear index) kind found z s a b = onto_same z
-still_onto Finish kind found z s a b = onto_same z
-still_onto Release kind found z s a b = onto_same z
 still_onto (Allocate at) kind found z s a b = absurd (cc)
-still_onto (Write slot row place) kind found z s a b = onto_same z
-still_onto (GiveUp slot) kind found z s a b = onto_same z
 still_onto (Retire at) kind found z s a b = absurd (cc)
 still_onto (Move at) kind found z s a b = move_onto at found z
+still_onto base kind found z s a b = onto_same z
 
 still_fits : (c : Config) (outcome : CallOutcome) (base : Base) (kind : Kind) (found : ℕ) (z : Now) → suits base kind ≡ true → fills kind ≡ false → retires kind ≡ false → OutFits c outcome z → OutFits c outcome (after_first (base_front base found) z)
 still_fits c outcome base kind found z s a b f = out_on c outcome z (after_first (base_front base found) z) (still_onto base kind found z s a b) f

@@ -21,7 +21,7 @@ use Rattle.inv_all.proofs.Inv.Kept.{known_kept, asked_next}
 use Rattle.law_scans.proofs.answers.Lawful.Current.{base_begun, current_start, current_begin, current_kept, current_same}
 use Rattle.law_scans.proofs.answers.Lawful.Maps.{base_of, begin_base, told_base, told_changes}
 use Rattle.law_scans.proofs.answers.Lawful.Queues.{Agrees, told_agrees}
-use Rattle.law_scans.proofs.answers.AnswersTold.Answering.{within_of}
+use Rattle.inv_all.proofs.Machines.{within_of}
 use Rattle.law_reasons.proofs.Reasons.Reading.{Shown}
 
 pub record Sees (made : Made) : Type 0 where

@@ -21,7 +21,7 @@ use Rattle.wfe_core.proofs.Facts.{both, first_of, rest_of, or_left_true}
 use Rattle.inv_all.specs.shapes.Frame.{phase_left}
 use Rattle.inv_all.specs.history.Record.{Past, Test, begins, own, held_since, tells_of}
 use Rattle.inv_all.specs.history.Record.Past.{Start, Then}
-use Rattle.inv_all.proofs.Each.{all_of}
+use Rattle.inv_all.proofs.history.AllOf.{all_of}
 use Rattle.law_scans.proofs.reuse.Once.Calm as calm
 use Rattle.law_scans.proofs.reuse.Once.Calm.{is_unread, run_unread, work_unread}
 use Rattle.inv_all.specs.ends.Walks.{WalkPhase}

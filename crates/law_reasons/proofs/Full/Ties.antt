@@ -27,7 +27,7 @@ use Rattle.wfe_core.specs.Phases.{Base, Ending, Outcome, Goes, Ends}
 use Rattle.wfe_core.specs.Phases.AllocateAt.{LoadBirth, ClaimSlot, StoreLife}
 use Rattle.wfe_core.specs.Phases.Base.{Allocate}
 use Rattle.wfe_core.specs.Phases.Ending.{Done, Protected, Followed, Allocated, Retired, Clocked}
-use Rattle.wfe_core.specs.Calls.{Task, Gets, Changes, Holds, Enqueues, Dequeues, Next, Again, MakeRoom, Answering, Retiring, AfterScan, Answered, Repeated, Counted, ChangeKept, EnqueueKept, GetAt, FindVersion, FindCount, FindKey, FindValue, ChangeAt, LoadVersion, LoadCount, LoadKey, LoadValue, ExchangeRoot, EnqueueAt, LoadNumber, LoadNext, PassTail, ExchangeNext, ExchangeTail, DequeueAt, LoadTail, SwingTail, TakeNumber, TakeValue, ExchangeHead, Work, Getting, Changing, Enqueuing, Dequeuing, ScanAt, ReadGuard, GiveBack, Why, Opens, FollowsHead, Fills, ClearsNext, Clears, Finishes, GivesUp, Retires, Tidies, Advances, Releases, Phase, Idle, Runs, Scans, Works, CallOutcome, GoesOn, Answers}
+use Rattle.wfe_core.specs.Calls.{Task, Gets, Changes, Holds, Enqueues, Dequeues, Next, Again, MakeRoom, Answering, Retiring, AfterScan, Answered, Repeated, Counted, ChangeKept, EnqueueKept, GetAt, FindVersion, FindCount, FindKey, FindValue, ChangeAt, LoadVersion, LoadCount, LoadKey, LoadValue, ExchangeRoot, EnqueueAt, LoadNumber, LoadNext, PassTail, ExchangeNext, ExchangeTail, DequeueAt, SwingTail, ExchangeHead, Work, Getting, Changing, Enqueuing, Dequeuing, ScanAt, ReadGuard, GiveBack, Why, Opens, FollowsHead, Fills, ClearsNext, Clears, Finishes, GivesUp, Retires, Tidies, Advances, Releases, Phase, Idle, Runs, Scans, Works, CallOutcome, GoesOn, Answers}
 use Rattle.inv_all.specs.rows.Hands.{holds_none}
 use Rattle.laws.specs.ScanLaw.{Search}
 
@@ -351,11 +351,9 @@ taken_fits c head next number value post desk true z =
 taken_fits c head next number value post desk false z = clearing_next_fits c Again post desk [] z (other_task c Dequeues z refl refl)
 
 dequeue_fits : (c : Config) (at : DequeueAt) (post : Post) (desk : Desk) (found : ℕ) (z : Now) → OutFits c (dequeues.dequeue_turn at post desk found).outcome z
-dequeue_fits c (LoadTail head) post desk found z = tt
 dequeue_fits c (SwingTail head next) post desk found z = clearing_next_fits c Again post desk (enqueues.told_link roots.Tail next (found == head + 1)) z (other_task c Dequeues z refl refl)
-dequeue_fits c (TakeNumber head next) post desk found z = tt
-dequeue_fits c (TakeValue head next number) post desk found z = tt
 dequeue_fits c (ExchangeHead head next number value) post desk found z = taken_fits c head next number value post desk (found == head + 1) z
+dequeue_fits c at post desk found z = tt
 
 pub work_fits : (c : Config) (work : Work) (post : Post) (desk : Desk) (found : ℕ) (z : Now) → WorkSure work post found z → WorkFits c work z → OutFits c (steps.work_turn work post desk found).outcome z
 work_fits c (Getting key at) post desk found z d f = get_fits c key at post desk found z

@@ -1,7 +1,7 @@
 -- What a step of a call decides has its reason in the record.
 use Rattle.std.proofs.Common.{ℕ, ◌≡◌, ◌≤◌, ◌<◌, ◌+◌, ◌%◌, Bool, true, false, List, length, Option, Some, None, refl, sym, ap, ◌∙◌, subst, arith}
 use Rattle.std.proofs.lemmas.Bool.Decides.{nat_tests}
-use Rattle.std.specs.Prelude.{◌==◌, ◌&&◌, nat_le, not, is_none, if◌then◌else◌}
+use Rattle.std.specs.Prelude.{◌==◌, ◌&&◌, nat_le, not, if◌then◌else◌}
 use Rattle.wfe_core.specs.words.declared.config.Config.{Config}
 use Rattle.wfe_core.specs.words.declared.layout.Layout.{Layout}
 use Rattle.wfe_core.specs.defs.Pairs.{Pair}
@@ -24,10 +24,9 @@ use Rattle.wfe_core.specs.Machine as machine
 use Rattle.wfe_core.specs.Posts.{counted, stands, withdrawn}
 use Rattle.wfe_core.specs.Rounds.{key_of, with_clock}
 use Rattle.wfe_core.specs.Steps as steps
-use Rattle.wfe_core.specs.Phases.{ProtectAt, Base, Ending, Outcome, Goes, Ends, Turn}
-use Rattle.wfe_core.specs.Phases.ProtectAt.{WithdrawRequest, WithdrawHelper}
+use Rattle.wfe_core.specs.Phases.{Base, Ending, Outcome, Goes, Ends, Turn}
 use Rattle.wfe_core.specs.Phases.Ending.{Protected, Followed}
-use Rattle.wfe_core.specs.Phases.Base.{Begin, Protect, Reload, Clear, Finish, Release, Allocate, Write, GiveUp, Retire, Move}
+use Rattle.wfe_core.specs.Phases.Base.{Clear, Release}
 use Rattle.wfe_core.specs.Calls.{Task, Changes, Holds, ChangeKept, EnqueueKept, ChangeAt, LoadCount, LoadValue, EnqueueAt, LoadNext, Work, Changing, Enqueuing, Why, Opens, FollowsHead, Releases, Phase, Idle, Runs, Scans, Works}
 use Rattle.wfe_core.specs.World.{World, finds}
 use Rattle.wfe_core.proofs.Facts.{both, none_by}
@@ -38,7 +37,7 @@ use Rattle.inv_all.specs.shapes.Seats.{Run, Seats}
 use Rattle.inv_all.specs.history.Record.{Past}
 use Rattle.laws.specs.StateAt.{queued_of, stood_at, is_row, begun_at, has_told, was_empty}
 use Rattle.inv_all.proofs.requests.Standings.{machine_stands}
-use Rattle.inv_all.specs.requests.Parents.{OutcomeStands, base_stands, phase_stands, protect_stands}
+use Rattle.inv_all.specs.requests.Parents.{OutcomeStands, base_stands, phase_stands}
 use Rattle.inv_all.specs.requests.Views.{View as Asked}
 use Rattle.inv_all.specs.rows.Queue.{Line}
 use Rattle.inv_all.specs.rows.Rows.{View}
@@ -49,7 +48,7 @@ use Rattle.law_reasons.proofs.Reasons.Emptied.{Emptied, no_next_seen}
 use Rattle.law_reasons.proofs.Reasons.Reading.{Shown, NumberAt, count_read, value_read, null_base, null_read, number_read}
 use Rattle.law_reasons.proofs.Reasons.Refusing.{ReadAt, some_is, change_refused, change_fits}
 use Rattle.law_reasons.proofs.Reasons.Saying.{RunSays}
-use Rattle.inv_all.proofs.requests.Parents.{protect_counted, base_counted}
+use Rattle.inv_all.proofs.requests.Parents.{base_counted}
 use Rattle.inv_all.proofs.handover.Asks.{run_of}
 
 -- an answer that is decided has its reason, which lasts
@@ -306,15 +305,7 @@ empty_right w i v l z p q head tail base g e o =
 release_stands : (layout : Layout) (key : Option ℕ) (base : Base) (post : Post) (found : ℕ) → Run layout (Releases key) base post → stands (machine.after base post found).post 2 ≡ None
 release_stands layout key (Clear index) post found r = subst (λ (j : ℕ). stands (withdrawn post j) 2 ≡ None) (sym r.shape) (stands-withdrawn_same post 2)
 release_stands layout key Release post found r = stands-withdrawn_same post 2
-release_stands layout key (Begin at) post found r = let x = r.suited in absurd (cc)
-release_stands layout key (Protect aim index root steps at) post found r = let x = r.suited in absurd (cc)
-release_stands layout key (Reload parent index slot era steps) post found r = let x = r.suited in absurd (cc)
-release_stands layout key Finish post found r = let x = r.suited in absurd (cc)
-release_stands layout key (Allocate at) post found r = let x = r.suited in absurd (cc)
-release_stands layout key (Write slot row place) post found r = let x = r.suited in absurd (cc)
-release_stands layout key (GiveUp slot) post found r = let x = r.suited in absurd (cc)
-release_stands layout key (Retire at) post found r = let x = r.suited in absurd (cc)
-release_stands layout key (Move at) post found r = let x = r.suited in absurd (cc)
+release_stands layout key base post found r = let x = r.suited in absurd (cc)
 
 released_right : (w : World) (i : ℕ) (v : View) (l : Line) (z : Asked) (p q : Past) (base : Base) (ending : Ending) → Stepping w i v l z p q → (w.seat i).phase ≡ Runs (Releases None) base
     → (machine.after base (counted (w.seat i).post) (finds w i)).outcome ≡ Ends ending → IsRight w i q the_answers.Released

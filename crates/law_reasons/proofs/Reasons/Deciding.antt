@@ -29,7 +29,7 @@ use Rattle.wfe_core.specs.Steps as steps
 use Rattle.wfe_core.specs.Rounds.{scheme_of, taken_of, index_of, bucket_of, begin_base, finish_base, clear_base, given_up, round, round_by, closed, finishing_by, finishing, clearing_by, clearing, clearing_next_by, clearing_next, with_clock}
 use Rattle.wfe_core.specs.Phases.{Base, Ending, Outcome, Goes, Ends}
 use Rattle.wfe_core.specs.Phases.Ending.{Done, Protected, Followed, Allocated, Retired, Clocked}
-use Rattle.wfe_core.specs.Calls.{Task, Gets, Changes, Holds, Enqueues, Dequeues, Next, Again, MakeRoom, Answering, Retiring, AfterScan, Answered, Repeated, Counted, ChangeKept, EnqueueKept, GetAt, FindVersion, FindCount, FindKey, FindValue, ChangeAt, LoadVersion, LoadCount, LoadKey, LoadValue, ExchangeRoot, EnqueueAt, LoadNumber, LoadNext, PassTail, ExchangeNext, ExchangeTail, DequeueAt, LoadTail, SwingTail, TakeNumber, TakeValue, ExchangeHead, Work, Getting, Changing, Enqueuing, Dequeuing, ScanAt, ReadGuard, GiveBack, Why, Opens, FollowsHead, Fills, ClearsNext, Clears, Finishes, GivesUp, Retires, Tidies, Advances, Releases, Phase, Idle, Runs, Scans, Works, CallOutcome, GoesOn, Answers}
+use Rattle.wfe_core.specs.Calls.{Task, Gets, Changes, Holds, Enqueues, Dequeues, Next, Again, MakeRoom, Answering, Retiring, AfterScan, Answered, Repeated, Counted, ChangeKept, EnqueueKept, GetAt, FindVersion, FindCount, FindKey, FindValue, ChangeAt, LoadVersion, LoadCount, LoadKey, LoadValue, ExchangeRoot, EnqueueAt, LoadNumber, LoadNext, PassTail, ExchangeNext, ExchangeTail, DequeueAt, SwingTail, ExchangeHead, Work, Getting, Changing, Enqueuing, Dequeuing, ScanAt, ReadGuard, GiveBack, Why, Opens, FollowsHead, Fills, ClearsNext, Clears, Finishes, GivesUp, Retires, Tidies, Advances, Releases, Phase, Idle, Runs, Scans, Works, CallOutcome, GoesOn, Answers}
 
 -- a change that fills a row answers with the version after the one that it read, and an enqueue with the number after it
 abbrev pub change_done : ChangeKept → Answer
@@ -116,8 +116,6 @@ task_on K L (Enqueues kept) f h = f (enqueue_done kept) h
 task_on K L Dequeues f h = tt
 
 why_on : (K L : Answer → Type 0) (why : Why) → ((answer : Answer) → K answer → L answer) → WhyKeeps K why → WhyKeeps L why
-why_on K L (Opens task) f h = tt
-why_on K L (FollowsHead head tail) f h = tt
 why_on K L (Fills task) f h = task_on K L task f h
 why_on K L (ClearsNext next) f h = next_on K L next f h
 why_on K L (Clears task next) f h = next_on K L next f h
@@ -125,8 +123,7 @@ why_on K L (Finishes task next) f h = next_on K L next f h
 why_on K L (GivesUp answer) f h = f answer h
 why_on K L (Retires answer) f h = f answer h
 why_on K L (Tidies later) f h = later_on K L later f h
-why_on K L Advances f h = tt
-why_on K L (Releases key) f h = tt
+why_on K L why f h = tt
 
 work_on : (K L : Answer → Type 0) (work : Work) → ((answer : Answer) → K answer → L answer) → WorkKeeps K work → WorkKeeps L work
 work_on K L (Getting key at) f h = tt
@@ -345,11 +342,9 @@ taken_keeps K R s head next number value post desk true = clearing_next_keeps K 
 taken_keeps K R s head next number value post desk false = clearing_next_keeps K R s Again post desk [] tt
 
 dequeue_keeps : (K R : Answer → Type 0) → Sound K R → (at : DequeueAt) (post : Post) (desk : Desk) (found : ℕ) → OutKeeps K R (dequeues.dequeue_turn at post desk found).outcome
-dequeue_keeps K R s (LoadTail head) post desk found = tt
 dequeue_keeps K R s (SwingTail head next) post desk found = clearing_next_keeps K R s Again post desk (enqueues.told_link roots.Tail next (found == head + 1)) tt
-dequeue_keeps K R s (TakeNumber head next) post desk found = tt
-dequeue_keeps K R s (TakeValue head next number) post desk found = tt
 dequeue_keeps K R s (ExchangeHead head next number value) post desk found = taken_keeps K R s head next number value post desk (found == head + 1)
+dequeue_keeps K R s at post desk found = tt
 
 work_keeps : (K R : Answer → Type 0) → Sound K R → (work : Work) (post : Post) (desk : Desk) (found : ℕ) → WorkKeeps K work → WorkDecides K work post found → OutKeeps K R (steps.work_turn work post desk found).outcome
 work_keeps K R s (Getting key at) post desk found h d = get_keeps K R s key at post desk found

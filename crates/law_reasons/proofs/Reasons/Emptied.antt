@@ -14,9 +14,9 @@ use Rattle.wfe_core.specs.Machine as machine
 use Rattle.wfe_core.specs.Posts.{counted, upper}
 use Rattle.wfe_core.specs.Phases.{ProtectAt, Base, Ends}
 use Rattle.wfe_core.specs.Phases.Ending.{Followed}
-use Rattle.wfe_core.specs.Phases.ProtectAt.{LoadClock, PublishEra, LoadLink, CheckClock, PublishRequest, LoadOwnClock, PublishHelper, LoadOwnLink, CheckOwnClock, AnswerOwn, LoadAnswer, TakeAnswer, WithdrawRequest, WithdrawHelper, LoadWithin, CheckUpper, RaiseUpper}
-use Rattle.wfe_core.specs.Phases.Base.{Begin, Protect, Reload, Clear, Finish, Release, Allocate, Write, GiveUp, Retire, Move}
-use Rattle.wfe_core.specs.Calls.{Gets, Changes, Holds, Enqueues, Dequeues, Why, Opens, FollowsHead, Fills, ClearsNext, Clears, Finishes, GivesUp, Retires, Tidies, Advances, Releases, Phase, Idle, Runs, Scans, Works}
+use Rattle.wfe_core.specs.Phases.ProtectAt.{CheckClock, WithdrawHelper, CheckUpper}
+use Rattle.wfe_core.specs.Phases.Base.{Protect, Reload}
+use Rattle.wfe_core.specs.Calls.{Gets, Why, Opens, FollowsHead, Phase, Idle, Runs, Scans, Works}
 use Rattle.wfe_core.specs.World.{World, start, begin, step, is_busy, finds}
 use Rattle.wfe_core.proofs.Facts.{same_number, both, first_of, rest_of}
 use Rattle.inv_all.proofs.ends.Ends.Nulls.{nulls_end}
@@ -59,45 +59,16 @@ record Heads (phase : Phase) (parent : ℕ) : Type 0 where
 why_follows : (buckets : ℕ) (why : Why) (base : Base) (parent : ℕ) → root_by buckets why ≡ roots.Next parent → Heads (Runs why base) parent
 why_follows buckets (FollowsHead head tail) base parent e = let h : head ≡ parent = ap parent_of e in record { stands = rw h (same_number parent); heads = rw h (same_number parent) }
 why_follows buckets (Opens (Gets key)) base parent e = absurd (cc)
-why_follows buckets (Opens (Changes kept)) base parent e = absurd (cc)
-why_follows buckets (Opens (Holds key)) base parent e = absurd (cc)
-why_follows buckets (Opens (Enqueues kept)) base parent e = absurd (cc)
-why_follows buckets (Opens Dequeues) base parent e = absurd (cc)
-why_follows buckets (Fills task) base parent e = absurd (cc)
-why_follows buckets (ClearsNext next) base parent e = absurd (cc)
-why_follows buckets (Clears task next) base parent e = absurd (cc)
-why_follows buckets (Finishes task next) base parent e = absurd (cc)
-why_follows buckets (GivesUp answer) base parent e = absurd (cc)
-why_follows buckets (Retires answer) base parent e = absurd (cc)
-why_follows buckets (Tidies later) base parent e = absurd (cc)
-why_follows buckets Advances base parent e = absurd (cc)
-why_follows buckets (Releases key) base parent e = absurd (cc)
+why_follows buckets why base parent e = absurd (cc)
 
 reload_follows : (layout : Layout) (why : Why) (row index slot era steps parent : ℕ) (post : Post) → Run layout why (Reload row index slot era steps) post → row ≡ parent → Heads (Runs why (Reload row index slot era steps)) parent
 reload_follows layout (FollowsHead head tail) row index slot era steps parent post r e = let h : head ≡ parent = sym r.shape.of ∙ e in record { stands = rw h (same_number parent); heads = rw h (same_number parent) }
-reload_follows layout (Opens task) row index slot era steps parent post r e = let x = r.suited in absurd (cc)
-reload_follows layout (Fills task) row index slot era steps parent post r e = let x = r.suited in absurd (cc)
-reload_follows layout (ClearsNext next) row index slot era steps parent post r e = let x = r.suited in absurd (cc)
-reload_follows layout (Clears task next) row index slot era steps parent post r e = let x = r.suited in absurd (cc)
-reload_follows layout (Finishes task next) row index slot era steps parent post r e = let x = r.suited in absurd (cc)
-reload_follows layout (GivesUp answer) row index slot era steps parent post r e = let x = r.suited in absurd (cc)
-reload_follows layout (Retires answer) row index slot era steps parent post r e = let x = r.suited in absurd (cc)
-reload_follows layout (Tidies later) row index slot era steps parent post r e = let x = r.suited in absurd (cc)
-reload_follows layout Advances row index slot era steps parent post r e = let x = r.suited in absurd (cc)
-reload_follows layout (Releases key) row index slot era steps parent post r e = let x = r.suited in absurd (cc)
+reload_follows layout why row index slot era steps parent post r e = let x = r.suited in absurd (cc)
 
 base_follows : (layout : Layout) (why : Why) (base : Base) (parent : ℕ) (post : Post) → Run layout why base post → root_for (Runs why base) ≡ roots.Next parent → Heads (Runs why base) parent
 base_follows layout why (Protect aim index root steps at) parent post r e = why_follows layout.config.buckets why (Protect aim index root steps at) parent (sym r.shape.of ∙ e)
 base_follows layout why (Reload row index slot era steps) parent post r e = reload_follows layout why row index slot era steps parent post r (ap parent_of e)
-base_follows layout why (Begin at) parent post r e = absurd (cc)
-base_follows layout why (Clear index) parent post r e = absurd (cc)
-base_follows layout why Finish parent post r e = absurd (cc)
-base_follows layout why Release parent post r e = absurd (cc)
-base_follows layout why (Allocate at) parent post r e = absurd (cc)
-base_follows layout why (Write slot row place) parent post r e = absurd (cc)
-base_follows layout why (GiveUp slot) parent post r e = absurd (cc)
-base_follows layout why (Retire at) parent post r e = absurd (cc)
-base_follows layout why (Move at) parent post r e = absurd (cc)
+base_follows layout why base parent post r e = absurd (cc)
 
 phase_follows : (w : World) (k : ℕ) (phase : Phase) (parent : ℕ) → Seats w → (w.seat k).phase ≡ phase → root_for phase ≡ roots.Next parent → Heads phase parent
 phase_follows w k Idle parent s e h = absurd (cc)
@@ -162,20 +133,7 @@ ended_carries : (post : Post) (at : ProtectAt) (found : ℕ) → ended_at post a
 ended_carries post (CheckClock era tries link) found h = both (link == 0) (found == era) (rest_of (found == era) (link == 0) h) (first_of (found == era) (link == 0) h)
 ended_carries post (WithdrawHelper link era) found h = h
 ended_carries post (CheckUpper link) found h = both (link == 0) (found == upper post.span) (rest_of (found == upper post.span) (link == 0) h) (first_of (found == upper post.span) (link == 0) h)
-ended_carries post (LoadClock tries) found h = absurd (cc)
-ended_carries post (PublishEra era tries) found h = absurd (cc)
-ended_carries post (LoadLink era tries) found h = absurd (cc)
-ended_carries post PublishRequest found h = absurd (cc)
-ended_carries post LoadOwnClock found h = absurd (cc)
-ended_carries post (PublishHelper first era last) found h = absurd (cc)
-ended_carries post (LoadOwnLink first era last) found h = absurd (cc)
-ended_carries post (CheckOwnClock first era last link) found h = absurd (cc)
-ended_carries post (AnswerOwn first era link) found h = absurd (cc)
-ended_carries post (LoadAnswer first) found h = absurd (cc)
-ended_carries post (TakeAnswer link era) found h = absurd (cc)
-ended_carries post (WithdrawRequest link era) found h = absurd (cc)
-ended_carries post LoadWithin found h = absurd (cc)
-ended_carries post (RaiseUpper era) found h = absurd (cc)
+ended_carries post at found h = absurd (cc)
 
 none_seen : (w : World) (i : ℕ) (z : Asked) (seen : ℕ → Bool) (head tail : ℕ) (base : Base) → Seats w → Emptied seen w z → (w.seat i).phase ≡ Runs (FollowsHead head tail) base → ended_base (counted (w.seat i).post) base (finds w i) ≡ true → seen i ≡ true
 none_seen w i z seen head tail (Protect aim index root steps at) s e q h =
@@ -183,16 +141,7 @@ none_seen w i z seen head tail (Protect aim index root steps at) s e q h =
     let t : Tracked w z i 0 = Carried (subst (λ (f : Phase). carries_in (w.mem Clock) (upper (w.seat i).post.span) f 0 ≡ true) (sym q) c) in
     let r : root_in w i ≡ roots.Next head = ap root_for q ∙ (aimed_at w i (FollowsHead head tail) aim index root steps at s q).of in
     subst (λ (x : Root). null_seen (seen i) x 0 ≡ true) r (e.links.tracked i 0 t)
-none_seen w i z seen head tail (Begin at) s e q h = absurd (cc)
-none_seen w i z seen head tail (Reload parent index slot era steps) s e q h = absurd (cc)
-none_seen w i z seen head tail (Clear index) s e q h = absurd (cc)
-none_seen w i z seen head tail Finish s e q h = absurd (cc)
-none_seen w i z seen head tail Release s e q h = absurd (cc)
-none_seen w i z seen head tail (Allocate at) s e q h = absurd (cc)
-none_seen w i z seen head tail (Write slot row place) s e q h = absurd (cc)
-none_seen w i z seen head tail (GiveUp slot) s e q h = absurd (cc)
-none_seen w i z seen head tail (Retire at) s e q h = absurd (cc)
-none_seen w i z seen head tail (Move at) s e q h = absurd (cc)
+none_seen w i z seen head tail base s e q h = absurd (cc)
 
 pub no_next_seen : (w : World) (i : ℕ) (z : Asked) (seen : ℕ → Bool) (head tail : ℕ) (base : Base) → Seats w → Emptied seen w z → (w.seat i).phase ≡ Runs (FollowsHead head tail) base → (machine.after base (counted (w.seat i).post) (finds w i)).outcome ≡ Ends (Followed follow_ends.NoNext) → seen i ≡ true
 no_next_seen w i z seen head tail base s e q o = none_seen w i z seen head tail base s e q ((nulls_end base (counted (w.seat i).post) (finds w i)).followed o)

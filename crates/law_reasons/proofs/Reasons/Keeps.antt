@@ -18,7 +18,7 @@ use Rattle.wfe_core.specs.Steps.{first_phase}
 use Rattle.wfe_core.specs.World.{World, start, begin, step, finds, is_busy, told_in}
 use Rattle.wfe_core.proofs.Facts.{first_of, rest_of}
 use Rattle.inv_all.proofs.covers.Begun.{first_begins}
-use Rattle.inv_all.proofs.covers.Held.{settled_post, stepped_post}
+use Rattle.inv_all.proofs.covers.Held.{stepped_post}
 use Rattle.inv_all.proofs.shapes.Frame.{begin_begins, begin_stays, seat_stays, seat_steps}
 use Rattle.inv_all.specs.shapes.Frame.{phase_left}
 use Rattle.inv_all.proofs.contents.Items.Gives.{items_count}
@@ -41,12 +41,12 @@ use Rattle.inv_all.proofs.Inv.Kept.{known_kept, asked_next}
 use Rattle.law_scans.proofs.reuse.Reuse.Keeps.{record_stands}
 use Rattle.laws.specs.StateAt.{stood_at, queued_of, taken_of, began_of, told_of, all_taken, was_empty}
 use Rattle.law_scans.proofs.answers.Lawful.Current.{base_begun, current_start, current_begin, current_kept, current_same}
-use Rattle.inv_all.proofs.Each.{all_of}
-use Rattle.inv_all.proofs.Machines.{is_within}
+use Rattle.inv_all.proofs.history.AllOf.{all_of}
+use Rattle.inv_all.proofs.Machines.{is_within, within_of}
 use Rattle.law_scans.proofs.answers.Lawful.Maps.{base_of, begin_base, told_base, told_changes}
 use Rattle.law_scans.proofs.answers.Lawful.Queues.{Agrees, told_agrees}
 use Rattle.law_scans.proofs.answers.AnswersTold.Answering as answering
-use Rattle.law_scans.proofs.answers.AnswersTold.Answering.{first_all, owes_of, within_of, began_along}
+use Rattle.law_scans.proofs.answers.AnswersTold.Answering.{first_all, owes_of, began_along}
 use Rattle.law_scans.proofs.answers.AnswersTold.Owed.{is_open, Owes, owed}
 use Rattle.law_scans.proofs.places.BareEnds.{end_stood}
 use Rattle.laws.specs.AnswerLaw.{reason, reasons_ok}

@@ -17,8 +17,8 @@ use Rattle.wfe_core.proofs.Facts.{both, first_of, rest_of}
 use Rattle.laws.specs.StateAt.{was_current, bucket_of, changes_of, count_of, with_change, queued_of, all_taken, begun_at, had_version, has_told, is_there, pairs_at, was_empty}
 use Rattle.inv_all.specs.history.Record.{Past, begins, own, told_since, tells_of}
 use Rattle.inv_all.specs.history.Record.Past.{Then}
-use Rattle.inv_all.proofs.Each.{all_of}
-use Rattle.inv_all.proofs.Machines.{is_within}
+use Rattle.inv_all.proofs.history.AllOf.{all_of}
+use Rattle.inv_all.proofs.Machines.{is_within, within_begins}
 use Rattle.wfe_core.specs.defs.Events.{is_null}
 use Rattle.laws.specs.AnswerLaw.{put_reason, remove_reason, enqueue_reason, dequeue_reason, hold_reason, release_reason, reason}
 
@@ -82,13 +82,9 @@ later_then i k p q event n h = record {
 }
 
 -- what a step tells begins no call
-pub within_none : (i k : ℕ) (p : Past) (event : Event) → is_within event ≡ true → begins i p k event ≡ false
-within_none i k p (events.Begin call) h = absurd (cc)
-within_none i k p event h = refl
-
 pub later_all : (i k : ℕ) (p q : Past) (told : List Event) → all_of is_within told ≡ true → Later i p q → Later i p (tells_of q k told)
 later_all i k p q [] h l = l
-later_all i k p q (event ∷ told) h l = later_all i k p (Then q k event) told (rest_of (is_within event) (all_of is_within told) h) (later_then i k p q event (within_none i k q event (first_of (is_within event) (all_of is_within told) h)) l)
+later_all i k p q (event ∷ told) h l = later_all i k p (Then q k event) told (rest_of (is_within event) (all_of is_within told) h) (later_then i k p q event (within_begins i k q event (first_of (is_within event) (all_of is_within told) h)) l)
 
 -- versions and numbers do not run out
 pub record Bounds (c : Config) (q : Past) : Type 0 where

@@ -26,9 +26,9 @@ use Rattle.wfe_core.specs.SlowPath as slow
 use Rattle.wfe_core.specs.Steps as steps
 use Rattle.wfe_core.specs.Phases.{Aim, Alone, Follows, Tries, Endless, Failed, ProtectAt, Base, Ending, Outcome, Goes, Ends, Turn}
 use Rattle.wfe_core.specs.Phases.Ending.{Done, Protected, Followed, Allocated, Retired, Clocked}
-use Rattle.wfe_core.specs.Phases.ProtectAt.{LoadClock, PublishEra, LoadLink, CheckClock, PublishRequest, LoadOwnClock, PublishHelper, LoadOwnLink, CheckOwnClock, AnswerOwn, LoadAnswer, TakeAnswer, WithdrawRequest, WithdrawHelper, LoadWithin, CheckUpper, RaiseUpper}
+use Rattle.wfe_core.specs.Phases.ProtectAt.{PublishEra, LoadLink, CheckClock, PublishRequest, CheckOwnClock, AnswerOwn, LoadAnswer, TakeAnswer, WithdrawRequest, WithdrawHelper, CheckUpper}
 use Rattle.wfe_core.specs.Phases.Base.{Begin, Protect, Reload, Clear, Finish, Release, Allocate, Write, GiveUp, Retire, Move}
-use Rattle.wfe_core.specs.Calls.{Task, Gets, Changes, Holds, Enqueues, Dequeues, Why, Opens, FollowsHead, Fills, ClearsNext, Clears, Finishes, GivesUp, Retires, Tidies, Advances, Releases, Phase, Idle, Runs, Scans, Works, CallTurn, CallOutcome, GoesOn, Answers}
+use Rattle.wfe_core.specs.Calls.{Task, Why, Opens, FollowsHead, Phase, Idle, Runs, Scans, Works, CallTurn, CallOutcome, GoesOn, Answers}
 use Rattle.wfe_core.specs.World.{World, finds, told_in}
 use Rattle.wfe_core.proofs.Facts.{same_number, both, first_of, rest_of, is_one_more}
 use Rattle.inv_all.specs.shapes.Frame.{phase_left}
@@ -44,11 +44,12 @@ use Rattle.inv_all.specs.ends.Standing.{is_end, holds_base, holds_in}
 use Rattle.inv_all.specs.history.Record.{Past, begins, own, told_since, tells_of}
 use Rattle.inv_all.specs.history.Record.Past.{Then}
 use Rattle.inv_all.proofs.links.Origins.Plain.{is_move, ends_plain, out_moves, out_plain, moves_on, plain_after}
-use Rattle.inv_all.proofs.Each.{all_of}
-use Rattle.inv_all.proofs.Machines.{is_within}
+use Rattle.inv_all.proofs.history.AllOf.{all_of}
+use Rattle.inv_all.proofs.Machines.{is_within, within_begins}
 use Rattle.laws.specs.StateAt.{has_told}
-use Rattle.law_reasons.proofs.Reasons.Later.{Later, later_same, later_all, within_none}
+use Rattle.law_reasons.proofs.Reasons.Later.{Later, later_same, later_all}
 use Rattle.inv_all.proofs.handover.Asks.{run_of}
+use Rattle.inv_all.proofs.Inv.Ends.{task_end}
 
 -- an event that a step tells was told in the call
 counts_now : (n : ℕ) (begins kind own : Bool) → begins ≡ false → kind ≡ true → own ≡ true → nat_lt 0 (if begins then 0 else if kind && own then n + 1 else n) ≡ true
@@ -61,7 +62,7 @@ told_by_one : (i : ℕ) (kind : Event → Bool) (p : Past) (event : Event) (told
     → (list_any kind told ≡ true → has_told i kind (tells_of (Then p i event) i told) ≡ true) → has_told i kind (tells_of (Then p i event) i told) ≡ true
 told_by_one i kind p event told true e y h k later =
     let l : Later i (Then p i event) (tells_of (Then p i event) i told) = later_all i i (Then p i event) (Then p i event) told h (later_same i (Then p i event)) in
-    l.told kind (counts_now (told_since (begins i) (own i kind) p) (begins i p i event) (kind event) (i == i) (within_none i i p event y) e (same_number i))
+    l.told kind (counts_now (told_since (begins i) (own i kind) p) (begins i p i event) (kind event) (i == i) (within_begins i i p event y) e (same_number i))
 told_by_one i kind p event told false e y h k later = later k
 
 pub told_now : (i : ℕ) (kind : Event → Bool) (p : Past) (told : List Event) → all_of is_within told ≡ true → list_any kind told ≡ true → has_told i kind (tells_of p i told) ≡ true
@@ -194,25 +195,18 @@ lost_says i index root first true found q = tt
 lost_says i index root first false found q = tt
 
 protect_says : (i : ℕ) (aim : Aim) (index : ℕ) (root : Root) (steps n : ℕ) (at : ProtectAt) (post : Post) (found : ℕ) (q : Past) → AtSays i index root at q → Now i post (Protect aim index root steps at) found q → OutSays i index root (machine.protect_turn aim index root n at (counted post) found).outcome q
-protect_says i aim index root steps n (LoadClock tries) post found q h e = tt
 protect_says i aim index root steps n (PublishEra era tries) post found q h e = trying_says i index root post.layout.config era tries q
-protect_says i aim index root steps n (LoadLink era tries) post found q h e = tt
 protect_says i aim index root steps n (CheckClock era tries link) post found q h e =
     either_says i index root _ _ (found == era) q (λ c. concluded_says i aim index root n link era _ _ q (check_said i post aim index root steps era tries link found q c e)) (λ c. tt)
-protect_says i aim index root steps n PublishRequest post found q h e = tt
-protect_says i aim index root steps n LoadOwnClock post found q h e = tt
-protect_says i aim index root steps n (PublishHelper first era last) post found q h e = tt
-protect_says i aim index root steps n (LoadOwnLink first era last) post found q h e = tt
 protect_says i aim index root steps n (CheckOwnClock first era last link) post found q h e = either_says i index root _ _ (found == era) q (λ c. tt) (λ c. lost_says i index root first last found q)
 protect_says i aim index root steps n (AnswerOwn first era link) post found q h e = either_says i index root _ _ (found == slow.own_request post index root) q (λ c. tt) (λ c. answer_says i index root (read_request found) q)
 protect_says i aim index root steps n (LoadAnswer first) post found q h e = answer_says i index root (read_request found) q
 protect_says i aim index root steps n (TakeAnswer link era) post found q h e = take_said i post aim index root steps link era found q e
 protect_says i aim index root steps n (WithdrawRequest link era) post found q h e = h
 protect_says i aim index root steps n (WithdrawHelper link era) post found q h e = concluded_says i aim index root n link era (counted post) (reserves_helper (counted post) 0) q h
-protect_says i aim index root steps n LoadWithin post found q h e = tt
 protect_says i aim index root steps n (CheckUpper link) post found q h e =
     either_says i index root _ _ (found == upper post.span) q (λ c. concluded_says i aim index root n link found _ _ q (upper_said i post aim index root steps link found q c e)) (λ c. tt)
-protect_says i aim index root steps n (RaiseUpper era) post found q h e = tt
+protect_says i aim index root steps n at post found q h e = tt
 
 -- what it says to the call that it is run for
 abbrev pub WhySays : ℕ → Why → Ending → Past → Type 0
@@ -224,13 +218,6 @@ WhySays i why ending q = Unit {0}
 abbrev pub RunSays : ℕ → Why → Outcome → Past → Type 0
 RunSays i why (Goes base) q = BaseSays i base q
 RunSays i why (Ends ending) q = WhySays i why ending q
-
-task_end : (buckets : ℕ) (task : Task) → is_end (task_root buckets task) ≡ true
-task_end buckets (Gets key) = refl
-task_end buckets (Changes kept) = refl
-task_end buckets (Holds key) = refl
-task_end buckets (Enqueues kept) = refl
-task_end buckets Dequeues = refl
 
 task_says : (i buckets : ℕ) (task : Task) (index : ℕ) (root : Root) (ending : Ending) (q : Past) → index ≡ index_of task → root ≡ task_root buckets task → EndSays i index root ending q → WhySays i (Opens task) ending q
 task_says i buckets task index root (Protected protect_ends.Null) q e r h = subst (λ (j : ℕ). has_told i (is_null j) q ≡ true) e h
@@ -254,15 +241,7 @@ follow_says i head tail index root (Clocked clock) q e h = tt
 why_says : (i buckets : ℕ) (why : Why) (aim : Aim) (index : ℕ) (root : Root) (ending : Ending) (q : Past) → Aimed buckets why aim index root → EndSays i index root ending q → WhySays i why ending q
 why_says i buckets (Opens task) aim index root ending q a h = task_says i buckets task index root ending q a.at a.of h
 why_says i buckets (FollowsHead head tail) aim index root ending q a h = follow_says i head tail index root ending q a.at h
-why_says i buckets (Fills task) aim index root ending q a h = tt
-why_says i buckets (ClearsNext next) aim index root ending q a h = tt
-why_says i buckets (Clears task next) aim index root ending q a h = tt
-why_says i buckets (Finishes task next) aim index root ending q a h = tt
-why_says i buckets (GivesUp answer) aim index root ending q a h = tt
-why_says i buckets (Retires answer) aim index root ending q a h = tt
-why_says i buckets (Tidies later) aim index root ending q a h = tt
-why_says i buckets Advances aim index root ending q a h = tt
-why_says i buckets (Releases key) aim index root ending q a h = tt
+why_says i buckets why aim index root ending q a h = tt
 
 run_says : (i buckets : ℕ) (why : Why) (aim : Aim) (index : ℕ) (root : Root) (outcome : Outcome) (q : Past) → Aimed buckets why aim index root → OutSays i index root outcome q → RunSays i why outcome q
 run_says i buckets why aim index root (Goes base) q a h = h

@@ -18,7 +18,7 @@ use Rattle.wfe_core.specs.Phases.{Base}
 use Rattle.wfe_core.specs.Posts.{counted}
 use Rattle.wfe_core.specs.Rest.{is_told, lost_by}
 use Rattle.wfe_core.specs.Rounds.{index_of, key_of}
-use Rattle.wfe_core.specs.Calls.{Task, Gets, Changes, Holds, Enqueues, Dequeues, Why, Opens, FollowsHead, Fills, ClearsNext, Clears, Finishes, GivesUp, Retires, Tidies, Advances, Releases, Phase, Idle, Runs, Scans, Works, CallTurn, CallOutcome, GoesOn, Answers}
+use Rattle.wfe_core.specs.Calls.{Task, Gets, Changes, Holds, Enqueues, Dequeues, Why, Opens, Phase, Idle, Runs, Scans, Works, CallTurn, CallOutcome, GoesOn, Answers}
 use Rattle.wfe_core.specs.Desks.{noting}
 use Rattle.wfe_core.specs.Locals.{Local, rounds_told, settled_by, told_by, told_end, turn}
 use Rattle.wfe_core.specs.World.{World, start, begin, step, finds, is_busy, told_in}
@@ -40,9 +40,9 @@ use Rattle.laws.specs.StateAt.{count_of, began_of, finds_of, tails_of}
 use Rattle.inv_all.proofs.history.Entries.{entries_of_each}
 use Rattle.inv_all.specs.history.History.{Begins, Steps, Made, fits, done, first_made, record_of}
 use Rattle.inv_all.proofs.history.Along.{Steady, items_keep}
-use Rattle.inv_all.proofs.Each.{all_of}
-use Rattle.inv_all.proofs.Machines.{is_within}
-use Rattle.law_scans.proofs.answers.AnswersTold.Answering.{first_all, owes_of, within_of}
+use Rattle.inv_all.proofs.history.AllOf.{all_of}
+use Rattle.inv_all.proofs.Machines.{is_within, within_of}
+use Rattle.law_scans.proofs.answers.AnswersTold.Answering.{first_all, owes_of}
 use Rattle.law_scans.proofs.answers.AnswersTold.Owed.{Owes, Serves, TaskServes, call_for, is_open, owed}
 use Rattle.laws.proofs.Tells.{seen_stays, tells_both}
 use Rattle.inv_all.specs.steps_left.Rounds.{Rounds}
@@ -214,16 +214,7 @@ own_opens layout made i told k task base false g e y n f =
 own_runs : (layout : Layout) (made : Made) (i : ℕ) (told : List Event) (k : Keeps layout made) (why : Why) (base : Base) → (made.world.seat i).phase ≡ Runs why base → is_busy made.world i ≡ true → all_of is_within told ≡ true → finds_in told ≤ opens_now (Runs why base)
     → MayFind made.world.layout.config i (tells_of made.past i told)
 own_runs layout made i told k (Opens task) base e y n f = own_opens layout made i told k task base (is_told base) refl e y n f
-own_runs layout made i told k (FollowsHead head tail) base e y n f = quiet_find made.world.layout.config i told made.past n f (k.may i)
-own_runs layout made i told k (Fills task) base e y n f = quiet_find made.world.layout.config i told made.past n f (k.may i)
-own_runs layout made i told k (ClearsNext next) base e y n f = quiet_find made.world.layout.config i told made.past n f (k.may i)
-own_runs layout made i told k (Clears task next) base e y n f = quiet_find made.world.layout.config i told made.past n f (k.may i)
-own_runs layout made i told k (Finishes task next) base e y n f = quiet_find made.world.layout.config i told made.past n f (k.may i)
-own_runs layout made i told k (GivesUp answer) base e y n f = quiet_find made.world.layout.config i told made.past n f (k.may i)
-own_runs layout made i told k (Retires answer) base e y n f = quiet_find made.world.layout.config i told made.past n f (k.may i)
-own_runs layout made i told k (Tidies later) base e y n f = quiet_find made.world.layout.config i told made.past n f (k.may i)
-own_runs layout made i told k Advances base e y n f = quiet_find made.world.layout.config i told made.past n f (k.may i)
-own_runs layout made i told k (Releases key) base e y n f = quiet_find made.world.layout.config i told made.past n f (k.may i)
+own_runs layout made i told k why base e y n f = quiet_find made.world.layout.config i told made.past n f (k.may i)
 
 own_may : (layout : Layout) (made : Made) (i : ℕ) (told : List Event) (k : Keeps layout made) (phase : Phase) → (made.world.seat i).phase ≡ phase → is_busy made.world i ≡ true → all_of is_within told ≡ true → finds_in told ≤ phase_top phase → MayFind made.world.layout.config i (tells_of made.past i told)
 own_may layout made i told k Idle e y n f = quiet_find made.world.layout.config i told made.past n f (k.may i)

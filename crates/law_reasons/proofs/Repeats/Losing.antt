@@ -6,12 +6,12 @@ use Rattle.wfe_core.specs.defs.declared.call.Call.TheVariants as names
 use Rattle.wfe_core.specs.Phases.{Base}
 use Rattle.wfe_core.specs.Rest.{is_told, lost_by, rounds_most}
 use Rattle.wfe_core.specs.Rounds.{key_of}
-use Rattle.wfe_core.specs.Calls.{ChangeKept, EnqueueKept, Task, Gets, Changes, Holds, Enqueues, Dequeues, Next, Again, MakeRoom, Answering, Retiring, AfterScan, Answered, Repeated, Counted, Why, Opens, FollowsHead, Fills, ClearsNext, Clears, Finishes, GivesUp, Retires, Tidies, Advances, Releases, EnqueueAt, LoadNumber, LoadNext, PassTail, ExchangeNext, ExchangeTail, DequeueAt, LoadTail, SwingTail, TakeNumber, TakeValue, ExchangeHead, Work, Getting, Changing, Enqueuing, Dequeuing, Phase, Idle, Runs, Scans, Works}
+use Rattle.wfe_core.specs.Calls.{ChangeKept, EnqueueKept, Task, Gets, Changes, Holds, Enqueues, Dequeues, Next, Again, MakeRoom, Answering, Retiring, AfterScan, Answered, Repeated, Counted, Why, Opens, FollowsHead, Fills, ClearsNext, Clears, Finishes, Tidies, Releases, EnqueueAt, ExchangeTail, DequeueAt, LoadTail, Work, Getting, Changing, Enqueuing, Dequeuing, Phase, Idle, Runs, Scans, Works}
 use Rattle.wfe_core.specs.Locals.{busy_in}
 use Rattle.law_reasons.proofs.Repeats.Records.{is_counted}
 use Rattle.law_scans.proofs.answers.AnswersTold.Owed.{Serves, WhyServes, WorkServes, LaterServes, TaskServes, FreeServes}
 use Rattle.inv_all.specs.steps_left.Losses.{InRound, LostRound, tells_fit, opens_fit, fills_fit, lost_fit, next_fit, finish_fit, later_fit, why_fit, work_fit, phase_fit}
-use Rattle.inv_all.specs.steps_left.Tallies.{Tally, once, changes_so_far, passes_so_far, task_paced, fills_paced, next_paced, later_paced, why_paced, enqueue_paced, dequeue_paced, work_paced, phase_paced}
+use Rattle.inv_all.specs.steps_left.Tallies.{Tally, changes_so_far, passes_so_far, task_paced, fills_paced, next_paced, later_paced, why_paced, enqueue_paced, dequeue_paced, work_paced, phase_paced}
 use Rattle.inv_all.proofs.steps_left.Rounds.Ending.{once_few}
 
 -- no more is counted than the setting allows
@@ -103,25 +103,17 @@ why_more c t call rounds n base (Fills task) k s h p = fills_more c t call round
 why_more c t call rounds n base (ClearsNext next) k s h p = next_more c t call rounds n Dequeues next k s.0 h p
 why_more c t call rounds n base (Clears task next) k s h p = next_more c t call rounds n task next k s.0 h p
 why_more c t call rounds n base (Finishes task next) k s h p = finish_more c t call rounds n task next k s.0 h p
-why_more c t call rounds n base (GivesUp answer) k s h p = tt
-why_more c t call rounds n base (Retires answer) k s h p = tt
 why_more c t call rounds n base (Tidies later) k s h p = later_more c t call rounds n later k s h p
-why_more c t call rounds n base Advances k s h p = tt
 why_more c t call rounds n base (Releases key) k s h p = releases_more c t call rounds n key k s h
+why_more c t call rounds n base why k s h p = tt
 
 enqueue_more : (c : Config) (t : Tally) (call : Call) (rounds n : ℕ) (kept : EnqueueKept) (at : EnqueueAt) → Counts c t call n → (rounds + n ≤ 2 * c.last_version + 2) → InRound (rounds_most c (Enqueues kept)) rounds → enqueue_paced t kept at (rounds + n - 1) → InRound (rounds_most c (Enqueues kept)) (rounds + n)
-enqueue_more c t call rounds n kept LoadNumber k i h p = in_more (rounds_most c (Enqueues kept)) rounds n (passes_so_far t kept) h p.lost_few (passes_few c t kept k.few)
-enqueue_more c t call rounds n kept LoadNext k i h p = in_more (rounds_most c (Enqueues kept)) rounds n (passes_so_far t kept) h p.lost_few (passes_few c t kept k.few)
-enqueue_more c t call rounds n kept (PassTail next) k i h p = in_more (rounds_most c (Enqueues kept)) rounds n (passes_so_far t kept) h p.lost_few (passes_few c t kept k.few)
-enqueue_more c t call rounds n kept (ExchangeNext slot) k i h p = in_more (rounds_most c (Enqueues kept)) rounds n (passes_so_far t kept) h p.lost_few (passes_few c t kept k.few)
 enqueue_more c t call rounds n kept (ExchangeTail slot) k i h p = let a = h.told in record { told = omega (arith, a); few = omega (arith, i) }
+enqueue_more c t call rounds n kept at k i h p = in_more (rounds_most c (Enqueues kept)) rounds n (passes_so_far t kept) h p.lost_few (passes_few c t kept k.few)
 
 dequeue_lost : (t : Tally) (at : DequeueAt) (lost : ℕ) → dequeue_paced t at lost → lost ≤ t.takes
 dequeue_lost t (LoadTail head) lost p = p.lost_few
-dequeue_lost t (SwingTail head next) lost p = p.lost_few
-dequeue_lost t (TakeNumber head next) lost p = p.lost_few
-dequeue_lost t (TakeValue head next number) lost p = p.lost_few
-dequeue_lost t (ExchangeHead head next number value) lost p = p.lost_few
+dequeue_lost t at lost p = p.lost_few
 
 work_more : (c : Config) (t : Tally) (call : Call) (rounds n : ℕ) (work : Work) → Counts c t call n → (is_counted call ≡ true → rounds + n ≤ 2 * c.last_version + 2) → WorkServes call work → work_fit c rounds work → work_paced t work (rounds + n - 1) → work_fit c (rounds + n) work
 work_more c t call rounds n (Getting key at) k i s h p = none_more c (λ r. InRound (rounds_most c (Gets key)) r) rounds n (zero_by c t call (names.Get key) n k s refl) h

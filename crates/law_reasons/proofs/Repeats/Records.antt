@@ -1,7 +1,6 @@
 -- What a record says of how often a call has found its root, and of what makes it begin anew, after what a step tells.
-use Rattle.std.proofs.Common.{ℕ, ◌≡◌, ◌≤◌, ◌+◌, Bool, true, false, List, [], ◌∷◌, length, Option, Some, refl, ap, ◌∙◌, arith}
+use Rattle.std.proofs.Common.{ℕ, ◌≡◌, ◌≤◌, ◌+◌, Bool, true, false, List, [], ◌∷◌, Option, Some, refl, ap, ◌∙◌, arith}
 use Rattle.std.proofs.lemmas.Bool.Decides.{nat_tests}
-use Rattle.std.proofs.lemmas.List.{length-append}
 use Rattle.std.specs.Prelude.{◌==◌, ◌&&◌, nat_le, if◌then◌else◌}
 use Rattle.wfe_core.specs.words.declared.config.Config.{Config}
 use Rattle.wfe_core.specs.defs.declared.call.Call.{Call}
@@ -13,11 +12,11 @@ use Rattle.wfe_core.specs.Locals.{round_told, rounds_told}
 use Rattle.wfe_core.proofs.Facts.{same_number, first_of, rest_of}
 use Rattle.inv_all.specs.history.Record.{Past, begins, value_since, tells_of}
 use Rattle.inv_all.specs.history.Record.Past.{Start, Then}
-use Rattle.laws.specs.StateAt.{bucket_of, changes_of, count_of, queued_of, taken_of, began_by, began_of, finds_root, finds_of, tails_by, tails_of}
-use Rattle.inv_all.proofs.Each.{all_of}
-use Rattle.inv_all.proofs.Machines.{is_within}
+use Rattle.laws.specs.StateAt.{bucket_of, taken_of, began_by, began_of, finds_root, finds_of, tails_by, tails_of}
+use Rattle.inv_all.proofs.history.AllOf.{all_of}
+use Rattle.inv_all.proofs.Machines.{is_within, within_begins}
 use Rattle.laws.proofs.Tells.{seen_own}
-use Rattle.law_reasons.proofs.Reasons.Later.{Later, later_all, later_same, within_none, more_queued, more_count}
+use Rattle.law_reasons.proofs.Reasons.Later.{later_all, later_same, more_queued, more_count}
 use Rattle.law_reasons.proofs.Full.Since.{others_begin, others_own}
 use Rattle.laws.specs.ScanLaw.{Search, search_by, no_search, search_of}
 use Rattle.laws.specs.AnswerLaw.{moves_of, moves_before, whole_scan}
@@ -60,7 +59,7 @@ began_stays k i (event ∷ told) p h = began_stays k i told (Then p i event) (re
 value_stays : (f : Past → ℕ) (k i : ℕ) (told : List Event) (p : Past) → all_of is_within told ≡ true → value_since (begins k) f (tells_of p i told) ≡ value_since (begins k) f p
 value_stays f k i [] p h = refl
 value_stays f k i (event ∷ told) p h =
-    value_stays f k i told (Then p i event) (rest_of (is_within event) (all_of is_within told) h) ∙ rw (within_none k i p event (first_of (is_within event) (all_of is_within told) h)) refl
+    value_stays f k i told (Then p i event) (rest_of (is_within event) (all_of is_within told) h) ∙ rw (within_begins k i p event (first_of (is_within event) (all_of is_within told) h)) refl
 
 pub before_stays : (c : Config) (k i : ℕ) (told : List Event) (p : Past) → all_of is_within told ≡ true → moves_before c k (tells_of p i told) ≡ moves_before c k p
 before_stays c k i told p h =

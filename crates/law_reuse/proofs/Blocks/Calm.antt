@@ -24,7 +24,7 @@ use Rattle.law_reuse.proofs.Once.Calm.{is_unread}
 use Rattle.law_reuse.proofs.Once.Desks.{left_desk, left_at, resumed_desk, work_desk}
 use Rattle.laws.specs.ScanLaw.{is_over, scan_by, scan_ok}
 use Rattle.law_reuse.proofs.Blocks.Placed.{Rests}
-use Rattle.inv_all.proofs.Each.{all_of}
+use Rattle.inv_all.proofs.history.AllOf.{all_of}
 use Rattle.inv_all.proofs.covers.Kept.{resumed_fresh}
 
 pub read_own : (all i : ℕ) (event : Event) (p : Past) → read_of all i (Then p i event) ≡ read_by all event (read_of all i p)

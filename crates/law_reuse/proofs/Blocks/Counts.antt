@@ -40,8 +40,8 @@ use Rattle.laws.specs.ScanLaw.{is_scan_call, answers_scan, count_ok}
 use Rattle.law_reuse.specs.Records.{RecordsCountScans}
 use Rattle.law_reuse.proofs.Blocks.Keeps.{ScanFits, scans_fit}
 use Rattle.law_reuse.proofs.Blocks.Placed.{scan_event, scan_tells}
-use Rattle.inv_all.proofs.Each.{all_of}
-use Rattle.inv_all.proofs.Machines.{is_within, of_along}
+use Rattle.inv_all.proofs.history.AllOf.{all_of, of_along}
+use Rattle.inv_all.proofs.Machines.{is_within}
 use Rattle.inv_all.proofs.Inv.Whole.{covers_of}
 
 calm_within : (told : List Event) → all_of is_calm told ≡ true → all_of is_within told ≡ true

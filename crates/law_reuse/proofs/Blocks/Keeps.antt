@@ -36,7 +36,7 @@ use Rattle.laws.specs.ScanLaw.{scan_by, scan_ok}
 use Rattle.law_reuse.specs.Records.{RecordsKeepScans}
 use Rattle.law_reuse.proofs.Blocks.Calm.{read_own, scans_own, read_other, scans_other, RestsAt, told_same, told_rests, one_allowed, told_each, unread_rests, unread_same, run_report, work_report, run_fresh, works_fresh}
 use Rattle.law_reuse.proofs.Blocks.Placed.{Rests, PlacedAt, Placed, fresh_placed, TurnPlaced, scan_event, scan_placed, scan_tells, scan_reads, scan_allowed}
-use Rattle.inv_all.proofs.Each.{all_of}
+use Rattle.inv_all.proofs.history.AllOf.{all_of}
 
 -- what the record says of a seat's scan is so
 abbrev pub SeatPlaced : ℕ → ℕ → Local → Past → Type 0

@@ -1,40 +1,48 @@
 -- What a step tells of guards is what it makes them publish.
-use Rattle.std.proofs.Common.{ℕ, ◌≡◌, ◌≤◌, ◌<◌, ◌+◌, ◌-◌, Bool, true, false, List, [], ◌∷◌, ◌++◌, Option, Some, None, refl, ap, ◌∙◌, arith}
-use Rattle.std.specs.Prelude.{◌==◌, if◌then◌else◌}
+use Rattle.std.proofs.Common.{ℕ, ◌≡◌, ◌≤◌, ◌<◌, ◌+◌, Bool, true, false, List, [], ◌∷◌, ◌++◌, Option, Some, None, refl, ap, ◌∙◌, arith, sym, subst}
+use Rattle.std.specs.Prelude.{◌==◌, if◌then◌else◌, not, is_some}
 use Rattle.std.specs.List.{filter}
-use Rattle.wfe_core.specs.words.Packed.{reservation_word, read_reservation}
-use Rattle.wfe_core.specs.words.Place.{Place}
+use Rattle.wfe_core.specs.words.Packed.{reservation_word}
+use Rattle.wfe_core.specs.words.Place.{Place, has}
 use Rattle.wfe_core.specs.defs.declared.event.Event.{Event}
 use Rattle.wfe_core.specs.defs.declared.event.Event.TheVariants as events
 use Rattle.wfe_core.specs.defs.declared.event.Guard.{Guard}
 use Rattle.wfe_core.specs.defs.declared.event.Guard.TheVariants.{Helper, Index, Whole}
 use Rattle.wfe_core.specs.defs.declared.event.Root.{Root}
-use Rattle.wfe_core.specs.defs.declared.event.Root.TheVariants as roots
 use Rattle.wfe_core.specs.declared.post.Post.{Post}
-use Rattle.wfe_core.specs.Allocate as allocates
-use Rattle.wfe_core.specs.Calls.{ReadGuard, GiveBack, Phase, Idle, Runs, Scans, Works, LoadVersion, LoadCount, LoadKey, LoadValue, ExchangeRoot, LoadNumber, LoadNext, PassTail, ExchangeNext, ExchangeTail, LoadTail, SwingTail, TakeNumber, TakeValue, ExchangeHead, FindVersion, FindCount, FindKey, FindValue, Work, Getting, Changing, Enqueuing, Dequeuing}
+use Rattle.wfe_core.specs.Calls.{ReadGuard, GiveBack, Phase, Idle, Runs, Scans, Works, LoadVersion, LoadNumber, LoadTail, FindVersion, Work, Getting, Changing, Enqueuing, Dequeuing, Why}
 use Rattle.wfe_core.specs.Guards.{guard_place, published, one_era, from_to}
 use Rattle.wfe_core.specs.Machine as machine
 use Rattle.wfe_core.specs.Memory as memory
-use Rattle.wfe_core.specs.Memory.{Move, Load, Store, Cas, Or, And, bump, put, written, place_in}
+use Rattle.wfe_core.specs.Memory.{bump, put, place_in, found}
 use Rattle.wfe_core.specs.MoveClock as movers
-use Rattle.wfe_core.specs.Phases.{Aim, Alone, Follows, BeginAt, ProtectAt, AllocateAt, RetireAt, MoveAt, Walk, Base, Turn}
+use Rattle.wfe_core.specs.Phases.{Aim, BeginAt, ProtectAt, MoveAt, Base}
 use Rattle.wfe_core.specs.Phases.BeginAt.{LoadLower, PublishSpan}
-use Rattle.wfe_core.specs.Phases.ProtectAt.{LoadClock, PublishEra, LoadLink, CheckClock, PublishRequest, LoadOwnClock, PublishHelper, LoadOwnLink, CheckOwnClock, AnswerOwn, LoadAnswer, TakeAnswer, WithdrawRequest, WithdrawHelper, LoadWithin, CheckUpper, RaiseUpper}
-use Rattle.wfe_core.specs.Phases.AllocateAt.{LoadBirth, ClaimSlot, StoreLife}
-use Rattle.wfe_core.specs.Phases.RetireAt.{LoadLife, LoadRetire, StoreRetired}
-use Rattle.wfe_core.specs.Phases.MoveAt.{LoadEra, LoadRequest, ShowEra, LoadAsked, CheckEra, AnswerAsked, LoadReserved, HandOver, HideEra, HideLate, ExchangeClock}
-use Rattle.wfe_core.specs.Phases.Base.{Begin, Protect, Reload, Clear, Finish, Release, Allocate, Write, GiveUp, Retire}
+use Rattle.wfe_core.specs.Phases.ProtectAt.{PublishEra, PublishHelper, TakeAnswer, WithdrawHelper, RaiseUpper}
+use Rattle.wfe_core.specs.Phases.AllocateAt.{LoadBirth}
+use Rattle.wfe_core.specs.Phases.RetireAt.{LoadLife}
+use Rattle.wfe_core.specs.Phases.MoveAt.{ShowEra, HandOver, HideEra, HideLate}
+use Rattle.wfe_core.specs.Phases.Base.{Begin, Protect, Clear, Finish, Release, Allocate, Retire}
 use Rattle.wfe_core.specs.Posts.{stands, cleared, counted, lower, upper, tag_of, reserves_helper}
-use Rattle.wfe_core.specs.Protect as protects
-use Rattle.wfe_core.specs.SlowPath.{own_request, asking}
 use Rattle.wfe_core.specs.Steps.{phase_move, work_move}
-use Rattle.wfe_core.specs.WriteRow.{last_written}
-use Rattle.inv_all.proofs.ends.Told.Rows.{own_told}
-use Rattle.laws.proofs.Along.{along}
-use Rattle.laws.specs.StateAt.{reserved_by}
+use Rattle.inv_all.proofs.ends.Told.Rows.{own_told, step_filter}
+use Rattle.laws.proofs.Along.{along, along_kind}
+use Rattle.laws.specs.StateAt.{reserved_by, value_of}
 use Rattle.law_reuse.proofs.Blocks.Words.{leaves, Publishes, none_published, put_published, era_shown, span_shown, nothing_shown}
 use Rattle.inv_all.proofs.rows.Words.{put_back}
+use Rattle.inv_all.proofs.history.MayTell.{Tells, publishes, may_publish, bare, base_all, held_any, concluded_told}
+use Rattle.inv_all.proofs.history.AllOf.{all_of}
+use Rattle.wfe_core.proofs.Facts.{first_of, rest_of, false_of_not, false_not_true}
+use Rattle.wfe_core.specs.words.declared.layout.Layout.{Layout}
+use Rattle.wfe_core.specs.defs.declared.lifetime.Interval.{Interval}
+use Rattle.wfe_core.specs.World.{World, start, step, finds, told_in}
+use Rattle.inv_all.specs.covers.Covers.{shown}
+use Rattle.inv_all.specs.shapes.Eras.{PhaseEras, SpanIn, base_eras, begin_eras, protect_eras, move_eras}
+use Rattle.wfe_core.specs.words.Schemes.{is_ibr}
+use Rattle.inv_all.specs.shapes.Seats.{PhaseFits, Run}
+use Rattle.inv_all.specs.history.Record.{Past, tells_of}
+use Rattle.inv_all.specs.history.Record.Past.{Then}
+use Rattle.inv_all.proofs.ends.Told.Turns.{is_later}
 
 -- the events of guards
 abbrev pub is_guard : Event → Bool
@@ -45,40 +53,20 @@ is_guard event = false
 abbrev pub of_guards : List Event → List Event
 of_guards told = filter is_guard told
 
--- a machine that tells nothing of guards
-quiet_if : (a b : Turn) (same : Bool) → of_guards a.told ≡ [] → of_guards b.told ≡ [] → of_guards (if same then a else b).told ≡ []
-quiet_if a b true h k = h
-quiet_if a b false h k = k
+none_of : (told : List Event) → all_of (λ event. not (is_guard event)) told ≡ true → of_guards told ≡ []
+none_of [] h = refl
+none_of (event ∷ told) h =
+    let no : is_guard event ≡ false = false_of_not (is_guard event) (first_of (not (is_guard event)) (all_of (λ other. not (is_guard other)) told) h) in
+    rw no (none_of told (rest_of (not (is_guard event)) (all_of (λ other. not (is_guard other)) told) h))
 
-link_quiet : (index slot n : ℕ) (none : Bool) → of_guards (if none then events.Null index n ∷ [] else events.Held index slot n ∷ []) ≡ []
-link_quiet index slot n true = refl
-link_quiet index slot n false = refl
+-- a machine that publishes nothing tells nothing of guards
+bare_one : (base : Base) (post : Post) (found : ℕ) (event : Event) → publishes base ≡ false → Tells base post found event → not (is_guard event) ≡ true
+bare_one base post found (events.Reserve guard span) p h = absurd (false_not_true (may_publish base post found guard span) (bare base post found guard span p) h)
+bare_one base post found (events.Read guard span) p h = absurd (cc)
+bare_one base post found event p h = refl
 
-next_quiet : (index n : ℕ) (none : Bool) → of_guards (if none then events.Null index n ∷ [] else []) ≡ []
-next_quiet index n true = refl
-next_quiet index n false = refl
-
-held_quiet : (index : ℕ) (root : Root) (link n : ℕ) → of_guards (protects.told_held index root link n) ≡ []
-held_quiet index (roots.Next parent) link n = next_quiet index n (link == 0)
-held_quiet index (roots.Bucket bucket) link n = link_quiet index (link - 1) n (link == 0)
-held_quiet index roots.Head link n = link_quiet index (link - 1) n (link == 0)
-held_quiet index roots.Tail link n = link_quiet index (link - 1) n (link == 0)
-
-told_if : (a b : Turn) (told : List Event) (same : Bool) → a.told ≡ told → b.told ≡ told → (if same then a else b).told ≡ told
-told_if a b told true h k = h
-told_if a b told false h k = k
-
-pub concluded_told : (aim : Aim) (index : ℕ) (root : Root) (n link era : ℕ) (post : Post) (told : List Event) → (protects.concluded aim index root n link era post told).told ≡ told
-concluded_told Alone index root n link era post told = refl
-concluded_told Follows index root n link era post told = told_if _ _ told (link == 0) refl refl
-
-protected_quiet : (aim : Aim) (index : ℕ) (root : Root) (n link era : ℕ) (post : Post) → of_guards (protects.protected aim index root n link era post).told ≡ []
-protected_quiet aim index root n link era post =
-    ap of_guards (concluded_told aim index root n link era (protects.held_post post index root link) (protects.told_held index root link n)) ∙ held_quiet index root link n
-
-walking_quiet : (birth : ℕ) (post : Post) (x : Option Walk) → of_guards (allocates.walking birth post x).told ≡ []
-walking_quiet birth post None = refl
-walking_quiet birth post (Some walk) = refl
+quiet : (base : Base) (post : Post) (found : ℕ) → publishes base ≡ false → of_guards (machine.after base post found).told ≡ []
+quiet base post found p = none_of (machine.after base post found).told (base_all (λ event. not (is_guard event)) base post found (λ event. bare_one base post found event p))
 
 cleared_one : (index : ℕ) (x : Option ℕ) (event : Event) → is_guard event ≡ true → of_guards (cleared index x ++ event ∷ []) ≡ event ∷ []
 cleared_one index None event h = rw h refl
@@ -105,38 +93,19 @@ begin_shows : (guard : Guard) (mem : Place → ℕ) (at : BeginAt) (post : Post)
 begin_shows guard mem LoadLower post h = refl
 begin_shows guard mem (PublishSpan era) post h = put_published guard (Whole post.seat) mem _ (from_to era era) _ (span_shown era era h.0 (omega arith) h.1) refl
 
+bare_shows : (guard : Guard) (mem : Place → ℕ) (base : Base) (post : Post) → publishes base ≡ false → leaves (machine.base_move base post) ≡ true → Shows guard mem base post
+bare_shows guard mem base post p l = none_published guard mem (machine.base_move base post) _ l (quiet base (counted post) (memory.found (machine.base_move base post) (mem (place_in (machine.base_move base post)))) p)
+
 protect_shows : (guard : Guard) (mem : Place → ℕ) (aim : Aim) (index : ℕ) (root : Root) (n : ℕ) (at : ProtectAt) (post : Post) → ProtectWords index at post → Shows guard mem (Protect aim index root n at) post
-protect_shows guard mem aim index root n (LoadClock tries) post h = refl
 protect_shows guard mem aim index root n (PublishEra era tries) post h = put_published guard (Index post.seat index) mem _ (one_era era) _ (era_shown era (tag_of post index) h) refl
-protect_shows guard mem aim index root n (LoadLink era tries) post h = refl
-protect_shows guard mem aim index root n (CheckClock era tries link) post h = none_published guard mem (Load Place.Clock) _ refl (quiet_if _ _ (mem Place.Clock == era) (protected_quiet aim index root (bump n) link era (counted post)) refl)
-protect_shows guard mem aim index root n PublishRequest post h = none_published guard mem (machine.protect_move index root PublishRequest post) _ refl refl
-protect_shows guard mem aim index root n LoadOwnClock post h = refl
 protect_shows guard mem aim index root n (PublishHelper first era last) post h = put_published guard (Helper post.seat) mem _ (one_era era) _ (era_shown era 0 (omega arith)) refl
-protect_shows guard mem aim index root n (LoadOwnLink first era last) post h = refl
-protect_shows guard mem aim index root n (CheckOwnClock first era last link) post h = none_published guard mem (Load Place.Clock) _ refl (quiet_if _ _ (mem Place.Clock == era) refl refl)
-protect_shows guard mem aim index root n (AnswerOwn first era link) post h = none_published guard mem (machine.protect_move index root (AnswerOwn first era link) post) _ refl (quiet_if _ _ (mem (Place.Request post.seat) == own_request (counted post) index root) refl refl)
-protect_shows guard mem aim index root n (LoadAnswer first) post h = refl
 protect_shows guard mem aim index root n (TakeAnswer link era) post h =
-    put_published guard (Index post.seat index) mem _ (one_era era) _ (era_shown era (tag_of post index + 1) h) (ap (λ (es : List Event). events.Reserve (Index post.seat index) (one_era era) ∷ es) (held_quiet index root link (bump n)))
-protect_shows guard mem aim index root n (WithdrawRequest link era) post h = none_published guard mem (machine.protect_move index root (WithdrawRequest link era) post) _ refl refl
+    put_published guard (Index post.seat index) mem _ (one_era era) _ (era_shown era (tag_of post index + 1) h)
+    (held_any (λ told. of_guards (events.Reserve (Index post.seat index) (one_era era) ∷ told) ≡ events.Reserve (Index post.seat index) (one_era era) ∷ []) index root link (bump n) refl refl (λ slot. refl))
 protect_shows guard mem aim index root n (WithdrawHelper link era) post h =
     put_published guard (Helper post.seat) mem 0 None _ (nothing_shown (Helper post.seat)) (ap of_guards (concluded_told aim index root (bump n) link era (counted post) (reserves_helper (counted post) 0)))
-protect_shows guard mem aim index root n LoadWithin post h = refl
-protect_shows guard mem aim index root n (CheckUpper link) post h = none_published guard mem (Load Place.Clock) _ refl (quiet_if _ _ (mem Place.Clock == upper post.span) (protected_quiet aim index root (bump n) link (mem Place.Clock) (counted post)) refl)
 protect_shows guard mem aim index root n (RaiseUpper era) post h = put_published guard (Whole post.seat) mem _ (from_to (lower post.span) era) _ (span_shown (lower post.span) era h.0 h.1 h.2) refl
-
-allocate_shows : (guard : Guard) (mem : Place → ℕ) (at : AllocateAt) (post : Post) → Shows guard mem (Allocate at) post
-allocate_shows guard mem LoadBirth post = refl
-allocate_shows guard mem (ClaimSlot birth walk) post =
-    none_published guard mem (machine.allocate_move (ClaimSlot birth walk)) _ refl
-    (quiet_if _ _ (allocates.is_claimed (memory.found (machine.allocate_move (ClaimSlot birth walk)) (mem (place_in (machine.allocate_move (ClaimSlot birth walk))))) walk.slot) (walking_quiet birth (counted post) _) refl)
-allocate_shows guard mem (StoreLife birth slot) post = none_published guard mem (machine.allocate_move (StoreLife birth slot)) _ refl refl
-
-retire_shows : (guard : Guard) (mem : Place → ℕ) (at : RetireAt) (post : Post) → Shows guard mem (Retire at) post
-retire_shows guard mem (LoadLife slot) post = refl
-retire_shows guard mem (LoadRetire slot birth) post = refl
-retire_shows guard mem (StoreRetired slot birth retire) post = none_published guard mem (machine.retire_move (StoreRetired slot birth retire)) _ refl refl
+protect_shows guard mem aim index root n at post h = bare_shows guard mem (Protect aim index root n at) post refl refl
 
 hand_by : (guard : Guard) (mem : Place → ℕ) (era seat tag index old new : ℕ) (post : Post) (same : Bool) → published (Index seat index) new ≡ one_era era
     → published guard (put mem (Place.Index seat index) (if same then new else mem (Place.Index seat index)) (guard_place guard)) ≡ along (reserved_by guard) (of_guards (movers.after_hand_over era seat tag index old post same).told) (published guard (mem (guard_place guard)))
@@ -144,54 +113,37 @@ hand_by guard mem era seat tag index old new post true e = put_published guard (
 hand_by guard mem era seat tag index old new post false e = ap (published guard) (put_back mem (Place.Index seat index) (guard_place guard))
 
 move_shows : (guard : Guard) (mem : Place → ℕ) (at : MoveAt) (post : Post) → BaseWords (Base.Move at) post → Shows guard mem (Base.Move at) post
-move_shows guard mem (LoadEra helps) post h = none_published guard mem (Load Place.Clock) _ refl (quiet_if _ _ (mem Place.Clock == post.layout.config.last_era) refl refl)
-move_shows guard mem (LoadRequest era seat shows) post h = refl
 move_shows guard mem (ShowEra era seat tag index root) post h = put_published guard (Helper post.seat) mem _ (one_era era) _ (era_shown era 0 (omega arith)) refl
-move_shows guard mem (LoadAsked era seat tag index root) post h = refl
-move_shows guard mem (CheckEra era seat tag index root link) post h = none_published guard mem (Load Place.Clock) _ refl (quiet_if _ _ (mem Place.Clock == era) refl refl)
-move_shows guard mem (AnswerAsked era seat tag index root link) post h = none_published guard mem (machine.move_move (AnswerAsked era seat tag index root link) post) _ refl (quiet_if _ _ (mem (Place.Request seat) == asking post.layout tag index root) refl refl)
-move_shows guard mem (LoadReserved era seat tag index root link) post h = none_published guard mem (Load (Place.Index seat index)) _ refl (quiet_if _ _ ((read_reservation (mem (Place.Index seat index))).tag == tag) refl refl)
 move_shows guard mem (HandOver era seat tag index root link old) post h =
     hand_by guard mem era seat tag index old (reservation_word (record { era = era; tag = tag + 1 })) (counted post) (mem (Place.Index seat index) == reservation_word (record { era = old; tag = tag })) (era_shown era (tag + 1) h)
 move_shows guard mem (HideEra era) post h = put_published guard (Helper post.seat) mem 0 None _ (nothing_shown (Helper post.seat)) refl
 move_shows guard mem (HideLate seen) post h = put_published guard (Helper post.seat) mem 0 None _ (nothing_shown (Helper post.seat)) refl
-move_shows guard mem (ExchangeClock era) post h = none_published guard mem (machine.move_move (ExchangeClock era) post) _ refl (quiet_if _ _ (mem Place.Clock == era) refl refl)
+move_shows guard mem at post h = bare_shows guard mem (Base.Move at) post refl refl
 
 base_shows : (guard : Guard) (mem : Place → ℕ) (base : Base) (post : Post) → BaseWords base post → Shows guard mem base post
 base_shows guard mem (Begin at) post h = begin_shows guard mem at post h
 base_shows guard mem (Protect aim index root steps at) post h = protect_shows guard mem aim index root steps at post h
-base_shows guard mem (Reload parent index slot era steps) post h = none_published guard mem (Load Place.Head) _ refl (quiet_if _ _ (mem Place.Head == parent + 1) refl refl)
 base_shows guard mem (Clear index) post h =
     put_published guard (Index post.seat index) mem _ (one_era 0) _ (era_shown 0 (tag_of post index) h) (cleared_one index (stands post index) (events.Reserve (Index post.seat index) (one_era 0)) refl)
 base_shows guard mem Finish post h = put_published guard (Whole post.seat) mem 0 None _ (nothing_shown (Whole post.seat)) refl
 base_shows guard mem Release post h = put_published guard (Whole post.seat) mem 0 None _ (nothing_shown (Whole post.seat)) (cleared_one 2 (stands post 2) (events.Reserve (Whole post.seat) None) refl)
-base_shows guard mem (Allocate at) post h = allocate_shows guard mem at post
-base_shows guard mem (Write slot row place) post h = none_published guard mem (machine.base_move (Write slot row place) post) _ refl (quiet_if _ _ (place == last_written row) refl refl)
-base_shows guard mem (GiveUp slot) post h = none_published guard mem (machine.free_move slot) _ refl refl
-base_shows guard mem (Retire at) post h = retire_shows guard mem at post
+base_shows guard mem (Allocate LoadBirth) post h = refl
+base_shows guard mem (Allocate at) post h = bare_shows guard mem (Allocate at) post refl refl
+base_shows guard mem (Retire (LoadLife slot)) post h = refl
+base_shows guard mem (Retire at) post h = bare_shows guard mem (Retire at) post refl refl
 base_shows guard mem (Base.Move at) post h = move_shows guard mem at post h
+base_shows guard mem base post h = bare_shows guard mem base post refl refl
 
 -- a call's own steps write no guard's word
 work_leaves : (work : Work) (post : Post) → leaves (work_move work post) ≡ true
 work_leaves (Getting key (FindVersion slot)) post = refl
-work_leaves (Getting key (FindCount slot version)) post = refl
-work_leaves (Getting key (FindKey slot version count pair)) post = refl
-work_leaves (Getting key (FindValue slot version pair)) post = refl
+work_leaves (Getting key at) post = refl
 work_leaves (Changing kept (LoadVersion slot)) post = refl
-work_leaves (Changing kept (LoadCount slot)) post = refl
-work_leaves (Changing kept (LoadKey slot count)) post = refl
-work_leaves (Changing kept (LoadValue slot count key)) post = refl
-work_leaves (Changing kept (ExchangeRoot slot)) post = refl
+work_leaves (Changing kept at) post = refl
 work_leaves (Enqueuing kept LoadNumber) post = refl
-work_leaves (Enqueuing kept LoadNext) post = refl
-work_leaves (Enqueuing kept (PassTail next)) post = refl
-work_leaves (Enqueuing kept (ExchangeNext slot)) post = refl
-work_leaves (Enqueuing kept (ExchangeTail slot)) post = refl
+work_leaves (Enqueuing kept at) post = refl
 work_leaves (Dequeuing (LoadTail head)) post = refl
-work_leaves (Dequeuing (SwingTail head next)) post = refl
-work_leaves (Dequeuing (TakeNumber head next)) post = refl
-work_leaves (Dequeuing (TakeValue head next number)) post = refl
-work_leaves (Dequeuing (ExchangeHead head next number value)) post = refl
+work_leaves (Dequeuing at) post = refl
 
 abbrev pub PhaseWords : Phase → Post → Type 0
 PhaseWords (Runs why base) post = BaseWords base post
@@ -204,3 +156,72 @@ phase_shows guard mem (Runs why base) post h = base_shows guard mem base post h
 phase_shows guard mem (Scans later (ReadGuard number)) post h = refl
 phase_shows guard mem (Scans later (GiveBack place slot)) post h = none_published guard mem (machine.free_move slot) _ refl refl
 phase_shows guard mem (Works work) post h = none_published guard mem (work_move work post) _ (work_leaves work post) refl
+
+-- what a step's machine takes of the eras and tags
+raise_words : (x : Option Interval) (era clock : ℕ) → SpanIn clock x → is_some x ≡ true → upper x ≤ era → era ≤ clock → clock < 4294967296 → (0 < lower x) × (lower x ≤ era) × (era < 4294967296)
+raise_words None era clock s i u m c = absurd (cc)
+raise_words (Some span) era clock s i u m c = let a = s.0 in let b = s.1 in (omega arith, omega arith, omega arith)
+
+protect_words : (clock : ℕ) (index : ℕ) (at : ProtectAt) (post : Post) → ((j : ℕ) → tag_of post j < 4294967295) → clock < 4294967296 → SpanIn clock post.span → ((era : ℕ) → at ≡ RaiseUpper era → is_some post.span ≡ true) → protect_eras clock post at → ProtectWords index at post
+protect_words clock index (PublishEra era tries) post t c s i e = let a = t index in omega arith
+protect_words clock index (TakeAnswer link era) post t c s i e = let a = t index in omega arith
+protect_words clock index (RaiseUpper era) post t c s i e = raise_words post.span era clock s (i era refl) e.rises e.most c
+protect_words clock index at post t c s i e = tt
+
+begin_words : (clock : ℕ) (at : BeginAt) (post : Post) → clock < 4294967296 → begin_eras clock at → BaseWords (Begin at) post
+begin_words clock LoadLower post c e = tt
+begin_words clock (PublishSpan era) post c e = let a = e.some in let b = e.most in (omega arith, omega arith)
+
+move_words : (layout : Layout) (clock : ℕ) (at : MoveAt) (post : Post) → move_eras layout clock at → BaseWords (Base.Move at) post
+move_words layout clock (HandOver era seat tag index root link old) post e = let a = e.helps.asked.few in omega arith
+move_words layout clock at post e = tt
+
+span_there : (layout : Layout) (why : Why) (post : Post) (aim : Aim) (index : ℕ) (root : Root) (steps era : ℕ) → post.layout ≡ layout → Run layout why (Protect aim index root steps (RaiseUpper era)) post → is_some post.span ≡ true
+span_there layout why post aim index root steps era l r = r.posted (ap (λ (x : Layout). is_ibr x.config.scheme) l ∙ r.fits)
+
+base_words : (layout : Layout) (clock : ℕ) (why : Why) (base : Base) (post : Post) → ((j : ℕ) → tag_of post j < 4294967295) → clock < 4294967296 → SpanIn clock post.span → post.layout ≡ layout → Run layout why base post → base_eras layout clock post base → BaseWords base post
+base_words layout clock why (Begin at) post t c s l r e = begin_words clock at post c e
+base_words layout clock why (Protect aim index root steps at) post t c s l r e =
+    protect_words clock index at post t c s (λ era q. span_there layout why post aim index root steps era l (subst (λ (x : ProtectAt). Run layout why (Protect aim index root steps x) post) q r)) e
+base_words layout clock why (Clear index) post t c s l r e = let a = t index in omega arith
+base_words layout clock why (Base.Move at) post t c s l r e = move_words layout clock at post e
+base_words layout clock why base post t c s l r e = tt
+
+pub phase_words : (layout : Layout) (clock : ℕ) (phase : Phase) (post : Post) → ((j : ℕ) → tag_of post j < 4294967295) → clock < 4294967296 → SpanIn clock post.span → post.layout ≡ layout → PhaseFits layout post phase → PhaseEras layout clock post phase → PhaseWords phase post
+phase_words layout clock Idle post t c s l r e = tt
+phase_words layout clock (Runs why base) post t c s l r e = base_words layout clock why base post t c s l r e
+phase_words layout clock (Scans later at) post t c s l r e = tt
+phase_words layout clock (Works work) post t c s l r e = tt
+
+-- what the record says after a step
+later_guards : (event : Event) → is_later event ≡ true → is_guard event ≡ false
+later_guards (events.Reserve guard span) h = absurd (cc)
+later_guards (events.Read guard span) h = absurd (cc)
+later_guards event h = refl
+
+reserved_quiet : (guard : Guard) (event : Event) (x : Option Interval) → is_guard event ≡ false → reserved_by guard event x ≡ x
+reserved_quiet guard (events.Reserve other span) x h = absurd (cc)
+reserved_quiet guard event x h = refl
+
+reserved_tells : (guard : Guard) (i : ℕ) (told : List Event) (p : Past) → value_of guard (tells_of p i told) ≡ along (reserved_by guard) told (value_of guard p)
+reserved_tells guard i [] p = refl
+reserved_tells guard i (event ∷ told) p = reserved_tells guard i told (Then p i event)
+
+pub step_shown : (w : World) (i : ℕ) (p : Past) (guard : Guard) → PhaseWords (w.seat i).phase (w.seat i).post → shown w guard ≡ value_of guard p → shown (step w i) guard ≡ value_of guard (tells_of p i (told_in w i))
+step_shown w i p guard h t =
+    let own : List Event = own_told (w.seat i).phase (counted (w.seat i).post) (finds w i) in
+    let a : shown (step w i) guard ≡ along (reserved_by guard) (of_guards own) (shown w guard) = phase_shows guard w.mem (w.seat i).phase (w.seat i).post h in
+    let b : of_guards (told_in w i) ≡ of_guards own = step_filter is_guard w i later_guards in
+    let c : value_of guard (tells_of p i (told_in w i)) ≡ along (reserved_by guard) (of_guards (told_in w i)) (value_of guard p) =
+    reserved_tells guard i (told_in w i) p ∙ along_kind (reserved_by guard) is_guard (reserved_quiet guard) (told_in w i) (value_of guard p) in
+    a ∙ ap (along (reserved_by guard) (of_guards own)) t ∙ ap (λ (es : List Event). along (reserved_by guard) es (value_of guard p)) (sym b) ∙ sym c
+
+-- at the start no guard publishes
+start_if : (guard : Guard) (there : Bool) (x : ℕ) → x ≡ 0 → published guard (if there then x else 0) ≡ None
+start_if guard true x e = ap (published guard) e ∙ nothing_shown guard
+start_if guard false x e = nothing_shown guard
+
+pub start_shown : (layout : Layout) (guard : Guard) → shown (start layout) guard ≡ None
+start_shown layout (Helper seat) = start_if (Helper seat) (has layout (Place.Helper seat)) 0 refl
+start_shown layout (Index seat index) = start_if (Index seat index) (has layout (Place.Index seat index)) 0 refl
+start_shown layout (Whole seat) = start_if (Whole seat) (has layout (Place.Interval seat)) 0 refl

@@ -1,18 +1,16 @@
 -- What a history keeps of guards and of lives, and so what stands is held.
-use Rattle.std.proofs.Common.{ℕ, ◌≡◌, ◌<◌, ◌&&◌, Bool, true, false, List, [], ◌∷◌, Option, Some, None, refl, sym, ap, ◌∙◌, subst, arith}
+use Rattle.std.proofs.Common.{ℕ, ◌≡◌, ◌<◌, ◌&&◌, Bool, true, false, List, Option, Some, None, refl, sym, ap, ◌∙◌, subst, arith}
 use Rattle.std.proofs.lemmas.Bool.Decides.{nat_tests}
 use Rattle.std.specs.Prelude.{◌==◌, if◌then◌else◌, nat_le}
-use Rattle.wfe_core.specs.words.Place.{is_valid, has, Place as places}
+use Rattle.wfe_core.specs.words.Place.{is_valid}
 use Rattle.wfe_core.specs.words.Place.Place.{Clock}
-use Rattle.wfe_core.specs.words.Packed.{read_reservation, read_span}
 use Rattle.wfe_core.specs.words.declared.layout.Layout.{Layout}
 use Rattle.wfe_core.specs.defs.declared.call.Call.{Call}
 use Rattle.wfe_core.specs.defs.declared.event.Event.{Event}
 use Rattle.wfe_core.specs.defs.declared.event.Guard.{Guard}
-use Rattle.wfe_core.specs.defs.declared.event.Guard.TheVariants.{Helper, Index, Whole}
 use Rattle.wfe_core.specs.defs.declared.lifetime.Interval.{Interval}
 use Rattle.wfe_core.specs.Calls.{Why, Runs}
-use Rattle.wfe_core.specs.Guards.{one_era, interval_in, own_guard}
+use Rattle.wfe_core.specs.Guards.{own_guard}
 use Rattle.wfe_core.specs.Phases.{Base}
 use Rattle.wfe_core.specs.Posts.{stands}
 use Rattle.wfe_core.specs.Scan.{meets_span}
@@ -23,13 +21,13 @@ use Rattle.inv_all.specs.rows.Agree.{first_rows, rows_after}
 use Rattle.inv_all.proofs.requests.Kept.{requests_begin, requests_start}
 use Rattle.inv_all.specs.rows.Chain.{first_line, line_after}
 use Rattle.inv_all.specs.rows.Queue.{Line}
-use Rattle.inv_all.specs.rows.Rows.{Status, View, is_settled, is_taken, has_life, retire_in}
+use Rattle.inv_all.specs.rows.Rows.{Status, View, is_settled, is_taken, retire_in}
 use Rattle.inv_all.specs.rows.Rows.Status.{Free, Claimed, Born, Linked, InQueue, Cut, Sealed, Listed}
 use Rattle.inv_all.specs.covers.Covers.{shown, spans, until, life_of}
 use Rattle.inv_all.proofs.covers.Kept.{before_at}
 use Rattle.inv_all.specs.history.Record.{Past, tells_of}
-use Rattle.inv_all.specs.history.Record.Past.{Start, Then}
-use Rattle.inv_all.specs.history.History.{Item, Begins, Steps, Made, fits, done, made_of, first_made, record_of, world_of}
+use Rattle.inv_all.specs.history.Record.Past.{Start}
+use Rattle.inv_all.specs.history.History.{Item, Begins, Steps, Made, done, made_of, first_made, record_of, world_of}
 use Rattle.inv_all.proofs.history.Along.{Steady, items_keep}
 use Rattle.inv_all.specs.ends.Births.{Given, GivenNeeds, given_after}
 use Rattle.inv_all.proofs.ends.Told.Births.{given_start, given_begin, given_kept}
@@ -50,7 +48,8 @@ use Rattle.law_reuse.proofs.Once.Moves.{taken_made}
 use Rattle.laws.specs.HoldLaw.{is_held}
 use Rattle.law_reuse.specs.Records.{RecordsHold, RecordValues}
 use Rattle.law_reuse.proofs.Holding.Lives.{retire_tells, retire_quiet, birth_tells, retire_made}
-use Rattle.law_reuse.proofs.Holding.Values.{reserved, Ranges, step_agrees}
+use Rattle.law_reuse.proofs.Holding.Values.{Ranges}
+use Rattle.law_reuse.proofs.Blocks.Reserves.{PhaseWords, phase_words, step_shown, start_shown}
 use Rattle.inv_all.proofs.handover.Asks.{run_of}
 
 -- what a record says of guards and lives is so
@@ -61,29 +60,7 @@ pub record Tied (w : World) (v : View) (p : Past) (births : ℕ → ℕ) : Type 
   pub retires : (s : ℕ) → is_taken (v.status s) ≡ true → retire_of s p ≡ retire_in (v.status s)
   pub taken : (s : ℕ) → taken_at w.layout.config.slots s p ≡ is_taken (v.status s)
 
-value_tells : (guard : Guard) (i : ℕ) (told : List Event) (p : Past) → value_of guard (tells_of p i told) ≡ reserved guard told (value_of guard p)
-value_tells guard i [] p = refl
-value_tells guard i (event ∷ told) p = value_tells guard i told (Then p i event)
-
 -- at the start
-first_value : (layout : Layout) (guard : Guard) → None ≡ shown (start layout) guard
-unfolding read_reservation read_span
-first_value layout (Helper seat) = by (has layout (places.Helper seat))
-  where
-    by : (b : Bool) → None ≡ one_era (read_reservation (if b then 0 else 0)).era
-    by true = refl
-    by false = refl
-first_value layout (Index seat index) = by (has layout (places.Index seat index))
-  where
-    by : (b : Bool) → None ≡ one_era (read_reservation (if b then 0 else 0)).era
-    by true = refl
-    by false = refl
-first_value layout (Whole seat) = by (has layout (places.Interval seat))
-  where
-    by : (b : Bool) → None ≡ interval_in (read_span (if b then 0 else 0))
-    by true = refl
-    by false = refl
-
 first_retire : (slots s : ℕ) (same : Bool) → (s == slots) ≡ same → 0 ≡ retire_in (if s == slots then InQueue else Free)
 first_retire slots s true e = rw e refl
 first_retire slots s false e = rw e refl
@@ -94,7 +71,7 @@ first_taken slots s false e = rw e refl
 
 tied_start : (layout : Layout) → Tied (start layout) (first_rows layout) Start (λ s. 1)
 tied_start layout = record {
-  values = λ guard. first_value layout guard;
+  values = λ guard. sym (start_shown layout guard);
   given = given_start layout;
   told = λ s. refl;
   retires = λ s t. first_retire layout.config.slots s (s == layout.config.slots) refl;
@@ -116,9 +93,13 @@ ranges_of w i v l z why base k e = record {
   eras = eras_of w i why base k.eras e;
 }
 
+words_of : (w : World) (i : ℕ) (v : View) (l : Line) (z : Asked) → Known w v l z → PhaseWords (w.seat i).phase (w.seat i).post
+words_of w i v l z k =
+    phase_words w.layout (w.mem Clock) (w.seat i).phase (w.seat i).post (eras_need w i v z k.valid k.seats k.whole.both.rows k.requests).tags (clock_small w k.valid k.eras) (k.eras.seats i).post.span (k.seats.fits i).post.layout (k.seats.fits i).phase (k.eras.seats i).phase
+
 tied_step : (w : World) (i : ℕ) (v : View) (l : Line) (z : Asked) (p : Past) (births : ℕ → ℕ) → Known w v l z → Tied w v p births → Tied (step w i) (rows_after w i v) (tells_of p i (told_in w i)) (given_after w i births)
 tied_step w i v l z p births k h = record {
-  values = λ guard. value_tells guard i (told_in w i) p ∙ ap (reserved guard (told_in w i)) (h.values guard) ∙ step_agrees w i guard (λ why base e. ranges_of w i v l z why base k e);
+  values = λ guard. sym (step_shown w i p guard (words_of w i v l z k) (sym (h.values guard)));
   given = given_kept w i v births (given_need w i v l z k) h.given;
   told = λ s. birth_tells i (told_in w i) p births h.told s;
   retires = λ s t.

@@ -1,11 +1,8 @@
 -- No machine tells that a guard is read or that a row is back, and only the last step of a retirement ends with a life.
-use Rattle.std.proofs.Common.{ℕ, ◌≡◌, ◌-◌, ◌+◌, Bool, true, false, List, [], ◌∷◌, ◌++◌, Option, Some, None, refl, arith}
-use Rattle.wfe_core.specs.words.declared.config.SchemeKind.{SchemeKind}
-use Rattle.wfe_core.specs.words.declared.config.SchemeKind.TheVariants.{He, Ibr, Wfe}
+use Rattle.std.proofs.Common.{ℕ, ◌≡◌, ◌+◌, Bool, true, false, List, Option, Some, None, refl}
 use Rattle.wfe_core.specs.defs.declared.event.Event.{Event}
 use Rattle.wfe_core.specs.defs.declared.event.Event.TheVariants as events
 use Rattle.wfe_core.specs.defs.declared.event.Root.{Root}
-use Rattle.wfe_core.specs.defs.declared.event.Root.TheVariants as roots
 use Rattle.wfe_core.specs.declared.post.Post.{Post}
 use Rattle.wfe_core.specs.Allocate as allocates
 use Rattle.wfe_core.specs.Desks.{Desk}
@@ -13,27 +10,25 @@ use Rattle.wfe_core.specs.Locals.{told_by}
 use Rattle.wfe_core.specs.Machine as machine
 use Rattle.wfe_core.specs.Memory.{bump}
 use Rattle.wfe_core.specs.MoveClock as movers
-use Rattle.wfe_core.specs.Posts.{stands, cleared, reserves_index, reserves_span, upper, reserves_helper}
+use Rattle.wfe_core.specs.Posts.{upper, reserves_helper}
 use Rattle.wfe_core.specs.Protect as protects
-use Rattle.wfe_core.specs.Rounds.{scheme_of, clear_told}
 use Rattle.wfe_core.specs.Steps as steps
 use Rattle.wfe_core.specs.Phases.{Aim, Alone, Follows, BeginAt, ProtectAt, AllocateAt, RetireAt, MoveAt, Walk, Base, Turn, Outcome, Goes, Ends}
 use Rattle.wfe_core.specs.Phases.BeginAt.{LoadLower, PublishSpan}
-use Rattle.wfe_core.specs.Phases.ProtectAt.{LoadClock, PublishEra, LoadLink, CheckClock, PublishRequest, LoadOwnClock, PublishHelper, LoadOwnLink, CheckOwnClock, AnswerOwn, LoadAnswer, TakeAnswer, WithdrawRequest, WithdrawHelper, LoadWithin, CheckUpper, RaiseUpper}
+use Rattle.wfe_core.specs.Phases.ProtectAt.{CheckClock, CheckOwnClock, AnswerOwn, WithdrawHelper, CheckUpper}
 use Rattle.wfe_core.specs.Phases.AllocateAt.{LoadBirth, ClaimSlot, StoreLife}
 use Rattle.wfe_core.specs.Phases.RetireAt.{LoadLife, LoadRetire, StoreRetired}
-use Rattle.wfe_core.specs.Phases.MoveAt.{LoadEra, LoadRequest, ShowEra, LoadAsked, CheckEra, AnswerAsked, LoadReserved, HandOver, HideEra, HideLate, ExchangeClock}
-use Rattle.wfe_core.specs.Phases.Base.{Begin, Protect, Reload, Clear, Finish, Release, Allocate, Write, GiveUp, Retire, Move}
+use Rattle.wfe_core.specs.Phases.MoveAt.{LoadEra, CheckEra, AnswerAsked, LoadReserved, HandOver, ExchangeClock}
+use Rattle.wfe_core.specs.Phases.Base.{Begin, Protect, Reload, Allocate, Write, Retire, Move}
 use Rattle.wfe_core.specs.Calls.{Runs, Works, Why, Work}
-use Rattle.inv_all.proofs.history.Passes.{is_quiet, all_quiet, Closed, step_goes}
+use Rattle.inv_all.proofs.history.Passes.{is_quiet}
 use Rattle.wfe_core.specs.words.Packed.{read_reservation, reservation_word}
 use Rattle.wfe_core.specs.Phases.Ending.{Done, Protected, Followed, Allocated, Retired, Clocked}
 use Rattle.wfe_core.specs.SlowPath.{own_request, asking}
 use Rattle.wfe_core.specs.WriteRow.{last_written}
-use Rattle.wfe_core.proofs.Facts.{both, first_of, rest_of}
-use Rattle.std.specs.Prelude.{◌==◌, ◌&&◌, if◌then◌else◌}
-use Rattle.inv_all.proofs.Each.{all_of}
-use Rattle.inv_all.proofs.Machines.{of_along}
+use Rattle.std.specs.Prelude.{◌==◌, if◌then◌else◌}
+use Rattle.inv_all.proofs.history.AllOf.{all_of, of_weaker}
+use Rattle.inv_all.proofs.history.MayTell.{Tells, base_all, Passes, step_all}
 
 -- no guard is read, and no row goes back
 abbrev pub is_unread : Event → Bool
@@ -51,151 +46,38 @@ is_calm event = true
 abbrev All : List Event → Type 0
 All told = all_of is_calm told ≡ true
 
-link_calm : (index slot n : ℕ) (none : Bool) → All (if none then events.Null index n ∷ [] else events.Held index slot n ∷ [])
-link_calm index slot n true = refl
-link_calm index slot n false = refl
-
-next_calm : (index n : ℕ) (none : Bool) → All (if none then events.Null index n ∷ [] else [])
-next_calm index n true = refl
-next_calm index n false = refl
-
-held_calm : (index : ℕ) (root : Root) (link n : ℕ) → All (protects.told_held index root link n)
-held_calm index (roots.Next parent) link n = next_calm index n (link == 0)
-held_calm index (roots.Bucket bucket) link n = link_calm index (link - 1) n (link == 0)
-held_calm index roots.Head link n = link_calm index (link - 1) n (link == 0)
-held_calm index roots.Tail link n = link_calm index (link - 1) n (link == 0)
-
-concluded_calm : (aim : Aim) (index : ℕ) (root : Root) (n link era : ℕ) (post : Post) (told : List Event) → All told → All (protects.concluded aim index root n link era post told).told
-concluded_calm Alone index root n link era post told h = h
-concluded_calm Follows index root n link era post told h = by_link (link == 0) refl
-  where
-    by_link : (x : Bool) → (link == 0) ≡ x → All (protects.concluded Follows index root n link era post told).told
-    by_link true e = rw e h
-    by_link false e = rw e h
-
-protected_calm : (aim : Aim) (index : ℕ) (root : Root) (n link era : ℕ) (post : Post) → All (protects.protected aim index root n link era post).told
-protected_calm aim index root n link era post = concluded_calm aim index root n link era (protects.held_post post index root link) (protects.told_held index root link n) (held_calm index root link n)
-
-protect_calm : (aim : Aim) (index : ℕ) (root : Root) (n : ℕ) (at : ProtectAt) (post : Post) (found : ℕ) → All (machine.protect_turn aim index root n at post found).told
-protect_calm aim index root n (LoadClock tries) post found = refl
-protect_calm aim index root n (PublishEra era tries) post found = refl
-protect_calm aim index root n (LoadLink era tries) post found = refl
-protect_calm aim index root n (CheckClock era tries link) post found = grind (arith, protected_calm aim index root n link era post)
-protect_calm aim index root n PublishRequest post found = refl
-protect_calm aim index root n LoadOwnClock post found = refl
-protect_calm aim index root n (PublishHelper first era last) post found = refl
-protect_calm aim index root n (LoadOwnLink first era last) post found = refl
-protect_calm aim index root n (CheckOwnClock first era last link) post found = grind arith
-protect_calm aim index root n (AnswerOwn first era link) post found = grind arith
-protect_calm aim index root n (LoadAnswer first) post found = refl
-protect_calm aim index root n (TakeAnswer link era) post found = of_along is_calm (reserves_index post index era) (protects.told_held index root link n) refl (held_calm index root link n)
-protect_calm aim index root n (WithdrawRequest link era) post found = refl
-protect_calm aim index root n (WithdrawHelper link era) post found = concluded_calm aim index root n link era post (reserves_helper post 0) refl
-protect_calm aim index root n LoadWithin post found = refl
-protect_calm aim index root n (CheckUpper link) post found = grind (arith, protected_calm aim index root n link found post)
-protect_calm aim index root n (RaiseUpper era) post found = refl
-
-move_calm : (at : MoveAt) (post : Post) (found : ℕ) → All (machine.move_turn at post found).told
-move_calm (LoadEra helps) post found = grind arith
-move_calm (LoadRequest era seat shows) post found = refl
-move_calm (ShowEra era seat tag index root) post found = refl
-move_calm (LoadAsked era seat tag index root) post found = refl
-move_calm (CheckEra era seat tag index root link) post found = grind arith
-move_calm (AnswerAsked era seat tag index root link) post found = grind arith
-move_calm (LoadReserved era seat tag index root link) post found = grind arith
-move_calm (HandOver era seat tag index root link old) post found = handed (found == reservation_word (record { era = old; tag = tag }))
-  where
-    handed : (same : Bool) → All (movers.after_hand_over era seat tag index old post same).told
-    handed true = refl
-    handed false = refl
-move_calm (HideEra era) post found = refl
-move_calm (HideLate seen) post found = refl
-move_calm (ExchangeClock era) post found = grind arith
-
-begin_calm : (at : BeginAt) (post : Post) (found : ℕ) → All (machine.begin_turn at post found).told
-begin_calm LoadLower post found = refl
-begin_calm (PublishSpan era) post found = refl
-
-walking_calm : (birth : ℕ) (post : Post) (x : Option Walk) → All (allocates.walking birth post x).told
-walking_calm birth post None = refl
-walking_calm birth post (Some walk) = refl
-
-claim_calm : (birth : ℕ) (walk : Walk) (post : Post) (found : ℕ) (x : Bool) → allocates.is_claimed found walk.slot ≡ x → All (allocates.after_claim_slot birth walk post found).told
-claim_calm birth walk post found true e = rw e (walking_calm birth post (allocates.walk_past post.layout.config.slots walk found))
-claim_calm birth walk post found false e = rw e refl
-
-allocate_calm : (at : AllocateAt) (post : Post) (found : ℕ) → All (machine.allocate_turn at post found).told
-allocate_calm LoadBirth post found = refl
-allocate_calm (ClaimSlot birth walk) post found = claim_calm birth walk post found (allocates.is_claimed found walk.slot) refl
-allocate_calm (StoreLife birth slot) post found = refl
-
-retire_calm : (at : RetireAt) (post : Post) (found : ℕ) → All (machine.retire_turn at post found).told
-retire_calm (LoadLife slot) post found = refl
-retire_calm (LoadRetire slot birth) post found = refl
-retire_calm (StoreRetired slot birth retire) post found = refl
-
-cleared_calm : (index : ℕ) (x : Option ℕ) → All (cleared index x)
-cleared_calm index None = refl
-cleared_calm index (Some slot) = refl
-
-pub clear_calm : (scheme : SchemeKind) (post : Post) (index : ℕ) → All (clear_told scheme post index)
-clear_calm He post index = refl
-clear_calm Ibr post index = cleared_calm index (stands post index)
-clear_calm Wfe post index = refl
-
-pub base_calm : (base : Base) (post : Post) (found : ℕ) → All (machine.after base post found).told
-base_calm (Begin at) post found = begin_calm at post found
-base_calm (Protect aim index root steps at) post found = protect_calm aim index root (bump steps) at post found
-base_calm (Reload parent index slot era steps) post found = grind arith
-base_calm (Clear index) post found = of_along is_calm (cleared index (stands post index)) (reserves_index post index 0) (cleared_calm index (stands post index)) refl
-base_calm Finish post found = refl
-base_calm Release post found = of_along is_calm (cleared 2 (stands post 2)) (reserves_span post None) (cleared_calm 2 (stands post 2)) refl
-base_calm (Allocate at) post found = allocate_calm at post found
-base_calm (Write slot row place) post found = grind arith
-base_calm (GiveUp slot) post found = refl
-base_calm (Retire at) post found = retire_calm at post found
-base_calm (Move at) post found = move_calm at post found
+tells_calm : (base : Base) (post : Post) (found : ℕ) (event : Event) → Tells base post found event → is_calm event ≡ true
+tells_calm base post found (events.Read guard span) h = absurd (cc)
+tells_calm base post found (events.Back slot) h = absurd (cc)
+tells_calm base post found (events.Begin call) h = absurd (cc)
+tells_calm base post found event h = refl
 
 -- what comes after a machine reads nothing either
-quiet_calm : (told : List Event) → all_quiet told ≡ true → All told
-quiet_calm [] h = refl
-quiet_calm (event ∷ told) h = both (is_calm event) (all_of is_calm told) (one_calm event (first_of (is_quiet event) (all_quiet told) h)) (quiet_calm told (rest_of (is_quiet event) (all_quiet told) h))
-  where
-    one_calm : (event : Event) → is_quiet event ≡ true → is_calm event ≡ true
-    one_calm (events.Read guard span) h = absurd (cc)
-    one_calm (events.Back slot) h = absurd (cc)
-    one_calm (events.Begin call) h = absurd (cc)
-    one_calm event h = refl
+quiet_calm : (event : Event) → is_quiet event ≡ true → is_calm event ≡ true
+quiet_calm (events.Read guard span) h = absurd (cc)
+quiet_calm (events.Back slot) h = absurd (cc)
+quiet_calm (events.Begin call) h = absurd (cc)
+quiet_calm event h = refl
 
-abbrev Calm : Post → List Event → Type 0
-Calm post told = All told
-
-calm_closed : Closed Calm
-calm_closed = record {
-  calm = λ post told more q h. of_along is_calm told more h (quiet_calm more q);
-  clears = λ post told index h. of_along is_calm told (clear_told (scheme_of post) post index) h (clear_calm (scheme_of post) post index);
-}
+passes : Passes is_calm
+passes = record { quiet = quiet_calm; clears = λ index slot. refl }
 
 pub run_calm : (why : Why) (base : Base) (post : Post) (desk : Desk) (found : ℕ) → All (told_by (steps.phase_turn (Runs why base) post desk found))
-run_calm why base post desk found = step_goes Calm calm_closed (Runs why base) post desk found (base_calm base post found)
+run_calm why base post desk found = step_all is_calm passes (Runs why base) post desk found (base_all is_calm base post found (tells_calm base post found))
 
 pub work_calm : (work : Work) (post : Post) (desk : Desk) (found : ℕ) → All (told_by (steps.phase_turn (Works work) post desk found))
-work_calm work post desk found = step_goes Calm calm_closed (Works work) post desk found refl
+work_calm work post desk found = step_all is_calm passes (Works work) post desk found refl
 
 calm_unread : (event : Event) → is_calm event ≡ true → is_unread event ≡ true
 calm_unread (events.Read guard span) h = absurd (cc)
 calm_unread (events.Back slot) h = absurd (cc)
 calm_unread event h = refl
 
-of_calm : (told : List Event) → all_of is_calm told ≡ true → all_of is_unread told ≡ true
-of_calm [] h = refl
-of_calm (event ∷ told) h = both (is_unread event) (all_of is_unread told) (calm_unread event (first_of (is_calm event) (all_of is_calm told) h)) (of_calm told (rest_of (is_calm event) (all_of is_calm told) h))
-
 pub run_unread : (why : Why) (base : Base) (post : Post) (desk : Desk) (found : ℕ) → all_of is_unread (told_by (steps.phase_turn (Runs why base) post desk found)) ≡ true
-run_unread why base post desk found = of_calm (told_by (steps.phase_turn (Runs why base) post desk found)) (run_calm why base post desk found)
+run_unread why base post desk found = of_weaker is_calm is_unread (told_by (steps.phase_turn (Runs why base) post desk found)) calm_unread (run_calm why base post desk found)
 
 pub work_unread : (work : Work) (post : Post) (desk : Desk) (found : ℕ) → all_of is_unread (told_by (steps.phase_turn (Works work) post desk found)) ≡ true
-work_unread work post desk found = of_calm (told_by (steps.phase_turn (Works work) post desk found)) (work_calm work post desk found)
+work_unread work post desk found = of_weaker is_calm is_unread (told_by (steps.phase_turn (Works work) post desk found)) calm_unread (work_calm work post desk found)
 
 -- a machine that does not end with a life
 abbrev pub keeps_list : Outcome → Bool
@@ -219,23 +101,12 @@ protected_keeps : (aim : Aim) (index : ℕ) (root : Root) (n link era : ℕ) (po
 protected_keeps aim index root n link era post = concluded_keeps aim index root n link era (protects.held_post post index root link) (protects.told_held index root link n)
 
 protect_keeps : (aim : Aim) (index : ℕ) (root : Root) (n : ℕ) (at : ProtectAt) (post : Post) (found : ℕ) → keeps_list (machine.protect_turn aim index root n at post found).outcome ≡ true
-protect_keeps aim index root n (LoadClock tries) post found = refl
-protect_keeps aim index root n (PublishEra era tries) post found = refl
-protect_keeps aim index root n (LoadLink era tries) post found = refl
 protect_keeps aim index root n (CheckClock era tries link) post found = either_keeps _ _ (found == era) (protected_keeps aim index root n link era post) refl
-protect_keeps aim index root n PublishRequest post found = refl
-protect_keeps aim index root n LoadOwnClock post found = refl
-protect_keeps aim index root n (PublishHelper first era last) post found = refl
-protect_keeps aim index root n (LoadOwnLink first era last) post found = refl
 protect_keeps aim index root n (CheckOwnClock first era last link) post found = either_keeps _ _ (found == era) refl refl
 protect_keeps aim index root n (AnswerOwn first era link) post found = either_keeps _ _ (found == own_request post index root) refl refl
-protect_keeps aim index root n (LoadAnswer first) post found = refl
-protect_keeps aim index root n (TakeAnswer link era) post found = refl
-protect_keeps aim index root n (WithdrawRequest link era) post found = refl
 protect_keeps aim index root n (WithdrawHelper link era) post found = concluded_keeps aim index root n link era post (reserves_helper post 0)
-protect_keeps aim index root n LoadWithin post found = refl
 protect_keeps aim index root n (CheckUpper link) post found = either_keeps _ _ (found == upper post.span) (protected_keeps aim index root n link found post) refl
-protect_keeps aim index root n (RaiseUpper era) post found = refl
+protect_keeps aim index root n at post found = refl
 
 hand_keeps : (era seat tag index old : ℕ) (post : Post) (same : Bool) → keeps_list (movers.after_hand_over era seat tag index old post same).outcome ≡ true
 hand_keeps era seat tag index old post true = refl
@@ -243,16 +114,12 @@ hand_keeps era seat tag index old post false = refl
 
 move_keeps : (at : MoveAt) (post : Post) (found : ℕ) → keeps_list (machine.move_turn at post found).outcome ≡ true
 move_keeps (LoadEra helps) post found = either_keeps _ _ (found == post.layout.config.last_era) refl refl
-move_keeps (LoadRequest era seat shows) post found = refl
-move_keeps (ShowEra era seat tag index root) post found = refl
-move_keeps (LoadAsked era seat tag index root) post found = refl
 move_keeps (CheckEra era seat tag index root link) post found = either_keeps _ _ (found == era) refl refl
 move_keeps (AnswerAsked era seat tag index root link) post found = either_keeps _ _ (found == asking post.layout tag index root) refl refl
 move_keeps (LoadReserved era seat tag index root link) post found = either_keeps _ _ ((read_reservation found).tag == tag) refl refl
 move_keeps (HandOver era seat tag index root link old) post found = hand_keeps era seat tag index old post (found == reservation_word (record { era = old; tag = tag }))
-move_keeps (HideEra era) post found = refl
-move_keeps (HideLate seen) post found = refl
 move_keeps (ExchangeClock era) post found = either_keeps _ _ (found == era) refl refl
+move_keeps at post found = refl
 
 walking_keeps : (birth : ℕ) (post : Post) (x : Option Walk) → keeps_list (allocates.walking birth post x).outcome ≡ true
 walking_keeps birth post None = refl
@@ -286,11 +153,8 @@ pub base_keeps : (base : Base) (post : Post) (found : ℕ) → ends_life base �
 base_keeps (Begin at) post found h = begin_keeps at post found
 base_keeps (Protect aim index root steps at) post found h = protect_keeps aim index root (bump steps) at post found
 base_keeps (Reload parent index slot era steps) post found h = either_keeps _ _ (found == parent + 1) refl refl
-base_keeps (Clear index) post found h = refl
-base_keeps Finish post found h = refl
-base_keeps Release post found h = refl
 base_keeps (Allocate at) post found h = allocate_keeps at post found
 base_keeps (Write slot row place) post found h = either_keeps _ _ (place == last_written row) refl refl
-base_keeps (GiveUp slot) post found h = refl
 base_keeps (Retire at) post found h = retire_keeps at post found h
 base_keeps (Move at) post found h = move_keeps at post found
+base_keeps base post found h = refl

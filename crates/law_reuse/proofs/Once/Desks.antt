@@ -16,7 +16,7 @@ use Rattle.wfe_core.specs.declared.post.Post.{Post}
 use Rattle.wfe_core.specs.Desks.{Desk, with_life}
 use Rattle.wfe_core.specs.Phases.{Base, Ending, Outcome, Goes, Ends}
 use Rattle.wfe_core.specs.Phases.Ending.{Protected, Followed, Allocated, Retired, Clocked}
-use Rattle.wfe_core.specs.Calls.{ChangeKept, EnqueueKept, Task, Gets, Changes, Holds, Enqueues, Dequeues, Next, Again, MakeRoom, Answering, Retiring, AfterScan, Why, Opens, FollowsHead, Fills, ClearsNext, Clears, Finishes, GivesUp, Retires, Tidies, Advances, Releases, GetAt, FindVersion, FindCount, FindKey, FindValue, ChangeAt, LoadVersion, LoadCount, LoadKey, LoadValue, ExchangeRoot, EnqueueAt, LoadNumber, LoadNext, PassTail, ExchangeNext, ExchangeTail, DequeueAt, LoadTail, SwingTail, TakeNumber, TakeValue, ExchangeHead, Work, Getting, Changing, Enqueuing, Dequeuing}
+use Rattle.wfe_core.specs.Calls.{ChangeKept, EnqueueKept, Task, Gets, Changes, Holds, Enqueues, Dequeues, Next, Again, MakeRoom, Answering, Retiring, AfterScan, Why, Opens, FollowsHead, Fills, ClearsNext, Clears, Finishes, GivesUp, Retires, Tidies, Advances, Releases, GetAt, FindVersion, FindCount, FindKey, FindValue, ChangeAt, LoadVersion, LoadCount, LoadKey, LoadValue, ExchangeRoot, EnqueueAt, LoadNumber, LoadNext, PassTail, ExchangeNext, ExchangeTail, DequeueAt, SwingTail, ExchangeHead, Work, Getting, Changing, Enqueuing, Dequeuing}
 use Rattle.wfe_core.specs.Rounds.{scheme_of, clear_post, closed, finishing_by, finishing, clearing_by, clearing, clearing_next_by, clearing_next, given_up}
 use Rattle.wfe_core.specs.Rounds as rounds
 use Rattle.wfe_core.specs.Get.{got, finding, found_key, get_turn}
@@ -143,12 +143,10 @@ taken_desk head next number value post desk true =
 taken_desk head next number value post desk false = clearing_next_desk Again post desk []
 
 dequeue_desk : (at : DequeueAt) (post : Post) (desk : Desk) (found : ℕ) → (dequeue_turn at post desk found).desk ≡ desk
-dequeue_desk (LoadTail head) post desk found = refl
 dequeue_desk (SwingTail head next) post desk found =
     clearing_next_desk Again post desk (told_link roots.Tail next (found == head + 1))
-dequeue_desk (TakeNumber head next) post desk found = refl
-dequeue_desk (TakeValue head next number) post desk found = refl
 dequeue_desk (ExchangeHead head next number value) post desk found = taken_desk head next number value post desk _
+dequeue_desk at post desk found = refl
 
 pub work_desk : (work : Work) (post : Post) (desk : Desk) (found : ℕ) → (work_turn work post desk found).desk ≡ desk
 work_desk (Getting key at) post desk found = get_desk key at post desk found

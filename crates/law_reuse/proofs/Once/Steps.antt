@@ -13,14 +13,14 @@ use Rattle.wfe_core.specs.defs.declared.event.Root.TheVariants as roots
 use Rattle.wfe_core.specs.defs.declared.lifetime.Lifetime.{Lifetime}
 use Rattle.wfe_core.specs.declared.post.Post.{Post}
 use Rattle.wfe_core.specs.Allocate.{is_claimed}
-use Rattle.wfe_core.specs.Calls.{ChangeKept, Task, Changes, Dequeues, Next, Again, MakeRoom, Answering, Retiring, AfterScan, Answered, Repeated, Counted, Why, Opens, FollowsHead, Fills, ClearsNext, Clears, Finishes, GivesUp, Retires, Tidies, Advances, Releases, ReadGuard, GiveBack, LoadVersion, LoadCount, LoadKey, LoadValue, ExchangeRoot, LoadNumber, LoadNext, PassTail, ExchangeNext, ExchangeTail, LoadTail, SwingTail, TakeNumber, TakeValue, ExchangeHead, Work, Getting, Changing, Enqueuing, Dequeuing, Phase, Idle, Runs, Scans, Works, CallTurn}
+use Rattle.wfe_core.specs.Calls.{ChangeKept, Task, Changes, Dequeues, Next, Again, MakeRoom, Answering, Retiring, AfterScan, Answered, Repeated, Counted, Why, Fills, Retires, ReadGuard, GiveBack, LoadVersion, LoadCount, LoadKey, LoadValue, ExchangeRoot, LoadNumber, LoadNext, PassTail, ExchangeNext, ExchangeTail, LoadTail, SwingTail, TakeNumber, TakeValue, ExchangeHead, Work, Getting, Changing, Enqueuing, Dequeuing, Phase, Idle, Runs, Scans, Works, CallTurn}
 use Rattle.wfe_core.specs.Change.{told_linked, told_change, changed_bucket, answer_done}
 use Rattle.wfe_core.specs.Desks.{Desk, Seen}
 use Rattle.wfe_core.specs.Guards.{guards, guard_at, published}
 use Rattle.wfe_core.specs.Locals.{told_by, told_end}
 use Rattle.wfe_core.specs.Machine.{after}
 use Rattle.wfe_core.specs.Phases.{Base, Outcome, Goes, Ends}
-use Rattle.wfe_core.specs.Phases.AllocateAt.{LoadBirth, ClaimSlot, StoreLife}
+use Rattle.wfe_core.specs.Phases.AllocateAt.{ClaimSlot}
 use Rattle.wfe_core.specs.Phases.RetireAt.{LoadLife, LoadRetire, StoreRetired}
 use Rattle.wfe_core.specs.Phases.Base.{Begin, Protect, Reload, Clear, Finish, Release, Allocate, Write, GiveUp, Retire, Move}
 use Rattle.wfe_core.specs.Phases.Ending.{Done, Protected, Followed, Allocated, Retired, Clocked}
@@ -58,21 +58,9 @@ claim_list slot true list = refl
 claim_list slot false list = refl
 
 base_list : (base : Base) (found : ℕ) (list : List Lifetime) → ends_life base ≡ false → moved_list (base_row base found) list ≡ list
-base_list (Begin at) found list h = refl
-base_list (Protect aim index root steps at) found list h = refl
-base_list (Reload parent index slot era steps) found list h = refl
-base_list (Clear index) found list h = refl
-base_list Finish found list h = refl
-base_list Release found list h = refl
-base_list (Allocate LoadBirth) found list h = refl
 base_list (Allocate (ClaimSlot birth walk)) found list h = claim_list walk.slot (is_claimed found walk.slot) list
-base_list (Allocate (StoreLife birth slot)) found list h = refl
-base_list (Write slot row place) found list h = refl
-base_list (GiveUp slot) found list h = refl
-base_list (Retire (LoadLife slot)) found list h = refl
-base_list (Retire (LoadRetire slot birth)) found list h = refl
 base_list (Retire (StoreRetired slot birth retire)) found list h = absurd (cc)
-base_list (Move at) found list h = refl
+base_list base found list h = refl
 
 linked_list : (bucket slot link : ℕ) (null : Bool) (list : List Lifetime) → moved_list (if null then Links bucket slot else Replaces bucket slot (link - 1)) list ≡ list
 linked_list bucket slot link true list = refl
@@ -134,16 +122,8 @@ no_fill Task.Dequeues slot birth retire h = h
 store_list : (why : Why) (slot birth retire : ℕ) (last post : Post) (desk : Desk) (found : ℕ) → is_right (Runs why (Retire (StoreRetired slot birth retire))) desk.list ≡ true → (phase_turn (Runs why (Retire (StoreRetired slot birth retire))) post desk found).desk.list ≡ moved_list (Lists slot birth retire) desk.list
 store_list (Retires answer) slot birth retire last post desk found h =
     let t = after (Retire (StoreRetired slot birth retire)) post found in ap (λ (d : Desk). d.list) (resumed_desk (Retires answer) desk t.post t.told t.outcome)
-store_list (Opens task) slot birth retire last post desk found h = absurd (cc)
-store_list (FollowsHead head tail) slot birth retire last post desk found h = absurd (cc)
 store_list (Fills task) slot birth retire last post desk found h = let x = no_fill task slot birth retire h in absurd (cc)
-store_list (ClearsNext next) slot birth retire last post desk found h = absurd (cc)
-store_list (Clears task next) slot birth retire last post desk found h = absurd (cc)
-store_list (Finishes task next) slot birth retire last post desk found h = absurd (cc)
-store_list (GivesUp answer) slot birth retire last post desk found h = absurd (cc)
-store_list (Tidies later) slot birth retire last post desk found h = absurd (cc)
-store_list Advances slot birth retire last post desk found h = absurd (cc)
-store_list (Releases key) slot birth retire last post desk found h = absurd (cc)
+store_list why slot birth retire last post desk found h = absurd (cc)
 
 calm_list : (why : Why) (base : Base) (post : Post) (desk : Desk) (found : ℕ) → ends_life base ≡ false → (phase_turn (Runs why base) post desk found).desk.list ≡ moved_list (base_row base found) desk.list
 calm_list why base post desk found h = ap (λ (d : Desk). d.list) (run_left why base post desk found h) ∙ sym (base_list base found desk.list h)
@@ -263,21 +243,9 @@ claim_cuts s slot true h = h
 claim_cuts s slot false h = h
 
 base_cuts : (s : ℕ) (base : Base) (found : ℕ) → cuts (base_row base found) s ≡ true → false ≡ true
-base_cuts s (Begin at) found h = h
-base_cuts s (Protect aim index root steps at) found h = h
-base_cuts s (Reload parent index slot era steps) found h = h
-base_cuts s (Clear index) found h = h
-base_cuts s Finish found h = h
-base_cuts s Release found h = h
-base_cuts s (Allocate LoadBirth) found h = h
 base_cuts s (Allocate (ClaimSlot birth walk)) found h = claim_cuts s walk.slot (is_claimed found walk.slot) h
-base_cuts s (Allocate (StoreLife birth slot)) found h = h
-base_cuts s (Write slot row place) found h = h
-base_cuts s (GiveUp slot) found h = h
 base_cuts s (Retire (LoadLife slot)) found h = h
-base_cuts s (Retire (LoadRetire slot birth)) found h = h
-base_cuts s (Retire (StoreRetired slot birth retire)) found h = h
-base_cuts s (Move at) found h = h
+base_cuts s base found h = h
 
 -- a step tells the row that it cuts
 pub phase_cuts : (s : ℕ) (phase : Phase) (last post : Post) (desk : Desk) (found : ℕ) → cuts (row_move phase last found) s ≡ true → list_any (cut_of s) (told_by (phase_turn phase post desk found)) ≡ true

@@ -19,10 +19,10 @@ use Rattle.wfe_core.specs.Protect as protects
 use Rattle.wfe_core.specs.Rounds.{scheme_of, clear_post, clear_told}
 use Rattle.wfe_core.specs.Phases.{Aim, Alone, Follows, BeginAt, ProtectAt, AllocateAt, RetireAt, MoveAt, Walk, Base, Turn, RowOf, Tries}
 use Rattle.wfe_core.specs.Phases.BeginAt.{LoadLower, PublishSpan}
-use Rattle.wfe_core.specs.Phases.ProtectAt.{LoadClock, PublishEra, LoadLink, CheckClock, PublishRequest, LoadOwnClock, PublishHelper, LoadOwnLink, CheckOwnClock, AnswerOwn, LoadAnswer, TakeAnswer, WithdrawRequest, WithdrawHelper, LoadWithin, CheckUpper, RaiseUpper}
+use Rattle.wfe_core.specs.Phases.ProtectAt.{CheckClock, CheckOwnClock, AnswerOwn, TakeAnswer, WithdrawHelper, CheckUpper}
 use Rattle.wfe_core.specs.Phases.AllocateAt.{LoadBirth, ClaimSlot, StoreLife}
 use Rattle.wfe_core.specs.Phases.RetireAt.{LoadLife, LoadRetire, StoreRetired}
-use Rattle.wfe_core.specs.Phases.MoveAt.{LoadEra, LoadRequest, ShowEra, LoadAsked, CheckEra, AnswerAsked, LoadReserved, HandOver, HideEra, HideLate, ExchangeClock}
+use Rattle.wfe_core.specs.Phases.MoveAt.{LoadEra, CheckEra, AnswerAsked, LoadReserved, HandOver, ExchangeClock}
 use Rattle.wfe_core.specs.Phases.Base.{Begin, Protect, Reload, Clear, Finish, Release, Allocate, Write, GiveUp, Retire, Move}
 use Rattle.wfe_core.specs.WriteRow.{last_written, after_write}
 use Rattle.inv_all.specs.covers.Held.{index_base}
@@ -142,23 +142,13 @@ answer_follows post aim index root n first era link found true e = rw e (λ j. r
 answer_follows post aim index root n first era link found false e = rw e (λ j. refl)
 
 protect_follows : (post : Post) (aim : Aim) (index : ℕ) (root : Root) (n : ℕ) (at : ProtectAt) (found : ℕ) → index < length post.standing → Turns post (machine.protect_turn aim index root n at post found)
-protect_follows post aim index root n (LoadClock tries) found h j = refl
-protect_follows post aim index root n (PublishEra era tries) found h j = refl
-protect_follows post aim index root n (LoadLink era tries) found h j = refl
 protect_follows post aim index root n (CheckClock era tries link) found h j = check_follows post aim index root n era tries link found (found == era) refl h j
-protect_follows post aim index root n PublishRequest found h j = refl
-protect_follows post aim index root n LoadOwnClock found h j = refl
-protect_follows post aim index root n (PublishHelper first era last) found h j = refl
-protect_follows post aim index root n (LoadOwnLink first era last) found h j = refl
 protect_follows post aim index root n (CheckOwnClock first era last link) found h j = own_follows post aim index root n first era last link found (found == era) refl j
 protect_follows post aim index root n (AnswerOwn first era link) found h j = answer_follows post aim index root n first era link found (found == own_request post index root) refl j
-protect_follows post aim index root n (LoadAnswer first) found h j = refl
 protect_follows post aim index root n (TakeAnswer link era) found h j = held_follows (with_tag post index (tag_of post index + 1)) index root link n h j
-protect_follows post aim index root n (WithdrawRequest link era) found h j = refl
 protect_follows post aim index root n (WithdrawHelper link era) found h j = concluded_follows post aim index root n link era post (reserves_helper post 0) (λ i. refl) j
-protect_follows post aim index root n LoadWithin found h j = refl
 protect_follows post aim index root n (CheckUpper link) found h j = upper_follows post aim index root n link found (found == upper post.span) refl h j
-protect_follows post aim index root n (RaiseUpper era) found h j = refl
+protect_follows post aim index root n at found h j = refl
 
 reload_follows : (post : Post) (parent index slot n found : ℕ) (same : Bool) → (found == parent + 1) ≡ same → index < length post.standing → Turns post (after_reload parent index slot n post found)
 reload_follows post parent index slot n found true e h = rw e (row_follows post index slot n h)
@@ -190,16 +180,12 @@ hand_follows post era seat tag index old false j = refl
 
 move_follows : (post : Post) (at : MoveAt) (found : ℕ) → Turns post (machine.move_turn at post found)
 move_follows post (LoadEra helps) found j = era_follows post helps found (found == post.layout.config.last_era) refl j
-move_follows post (LoadRequest era seat shows) found j = refl
-move_follows post (ShowEra era seat tag index root) found j = refl
-move_follows post (LoadAsked era seat tag index root) found j = refl
 move_follows post (CheckEra era seat tag index root link) found j = late_follows post era seat tag index root link found (found == era) refl j
 move_follows post (AnswerAsked era seat tag index root link) found j = asked_follows post era seat tag index root link found (found == asking post.layout tag index root) refl j
 move_follows post (LoadReserved era seat tag index root link) found j = reserved_follows post era seat tag index root link found ((read_reservation found).tag == tag) refl j
 move_follows post (HandOver era seat tag index root link old) found j = hand_follows post era seat tag index old (found == reservation_word (record { era = old; tag = tag })) j
-move_follows post (HideEra era) found j = refl
-move_follows post (HideLate seen) found j = refl
 move_follows post (ExchangeClock era) found j = clock_follows post era found (found == era) refl j
+move_follows post at found j = refl
 
 begin_follows : (post : Post) (at : BeginAt) (found : ℕ) → Turns post (machine.begin_turn at post found)
 begin_follows post LoadLower found j = refl

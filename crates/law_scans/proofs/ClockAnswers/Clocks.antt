@@ -32,12 +32,12 @@ use Rattle.wfe_core.specs.Scan as scan
 use Rattle.wfe_core.specs.Steps as steps
 use Rattle.wfe_core.specs.Rounds.{with_clock, scheme_of, bucket_of, index_of, taken_of, begin_base, round, round_by, finish_base, clear_base, clear_post, clear_told, given_up, closed, finishing_by, finishing, clearing_by, clearing, clearing_next_by, clearing_next}
 use Rattle.wfe_core.specs.Phases.{MoveAt, Base, Ending, Outcome, Goes, Ends}
-use Rattle.wfe_core.specs.Phases.AllocateAt.{LoadBirth, ClaimSlot, StoreLife}
+use Rattle.wfe_core.specs.Phases.AllocateAt.{ClaimSlot}
 use Rattle.wfe_core.specs.Phases.RetireAt.{LoadLife, LoadRetire, StoreRetired}
-use Rattle.wfe_core.specs.Phases.MoveAt.{LoadEra, LoadRequest, ShowEra, LoadAsked, CheckEra, AnswerAsked, LoadReserved, HandOver, HideEra, HideLate, ExchangeClock}
-use Rattle.wfe_core.specs.Phases.Base.{Begin, Protect, Reload, Clear, Finish, Release, Allocate, Write, GiveUp, Retire, Move}
+use Rattle.wfe_core.specs.Phases.MoveAt.{LoadEra, CheckEra, AnswerAsked, LoadReserved, HandOver, HideLate, ExchangeClock}
+use Rattle.wfe_core.specs.Phases.Base.{Allocate, Retire, Move}
 use Rattle.wfe_core.specs.Phases.Ending.{Done, Protected, Followed, Allocated, Retired, Clocked}
-use Rattle.wfe_core.specs.Calls.{Task, Gets, Changes, Holds, Enqueues, Dequeues, Next, Again, MakeRoom, Answering, Retiring, AfterScan, Answered, Repeated, Counted, ChangeKept, EnqueueKept, GetAt, FindVersion, FindCount, FindKey, FindValue, ChangeAt, LoadVersion, LoadCount, LoadKey, LoadValue, ExchangeRoot, EnqueueAt, LoadNumber, LoadNext, PassTail, ExchangeNext, ExchangeTail, DequeueAt, LoadTail, SwingTail, TakeNumber, TakeValue, ExchangeHead, Work, Getting, Changing, Enqueuing, Dequeuing, ScanAt, ReadGuard, GiveBack, Why, Opens, FollowsHead, Fills, ClearsNext, Clears, Finishes, GivesUp, Retires, Tidies, Advances, Releases, Phase, Idle, Runs, Scans, Works, CallOutcome, GoesOn, Answers}
+use Rattle.wfe_core.specs.Calls.{Task, Gets, Changes, Holds, Enqueues, Dequeues, Next, Again, MakeRoom, Answering, Retiring, AfterScan, Answered, Repeated, Counted, ChangeKept, EnqueueKept, GetAt, FindVersion, FindCount, FindKey, FindValue, ChangeAt, LoadVersion, LoadCount, LoadKey, LoadValue, ExchangeRoot, EnqueueAt, LoadNumber, LoadNext, PassTail, ExchangeNext, ExchangeTail, DequeueAt, SwingTail, ExchangeHead, Work, Getting, Changing, Enqueuing, Dequeuing, ScanAt, ReadGuard, GiveBack, Why, Opens, FollowsHead, Fills, ClearsNext, Clears, Finishes, GivesUp, Retires, Tidies, Advances, Releases, Phase, Idle, Runs, Scans, Works, CallOutcome, GoesOn, Answers}
 use Rattle.inv_all.specs.shapes.Seats.{Kind, ToRetire, ToMove, kind_of, suits, retires, moves as moves_kind}
 use Rattle.laws.proofs.Along.{along}
 use Rattle.inv_all.proofs.history.Passes.{scan_told}
@@ -266,11 +266,9 @@ taken_fits last head next number value post desk true c s =
 taken_fits last head next number value post desk false c s = clearing_next_fits last Again post desk [] c s
 
 dequeue_fits : (last : ℕ) (at : DequeueAt) (post : Post) (desk : Desk) (found : ℕ) (c : ClockTally) → c.due ≡ false → OutFits last (dequeues.dequeue_turn at post desk found).outcome c
-dequeue_fits last (LoadTail head) post desk found c s = s
 dequeue_fits last (SwingTail head next) post desk found c s = clearing_next_fits last Again post desk (enqueues.told_link roots.Tail next (found == head + 1)) c s
-dequeue_fits last (TakeNumber head next) post desk found c s = s
-dequeue_fits last (TakeValue head next number) post desk found c s = s
 dequeue_fits last (ExchangeHead head next number value) post desk found c s = taken_fits last head next number value post desk (found == head + 1) c s
+dequeue_fits last at post desk found c s = s
 
 pub work_fits : (last : ℕ) (work : Work) (post : Post) (desk : Desk) (found : ℕ) (c : ClockTally) → c.due ≡ false → OutFits last (steps.work_turn work post desk found).outcome c
 work_fits last (Getting key at) post desk found c f = get_fits last key at post desk found c f
@@ -406,19 +404,10 @@ claim_same every birth slot x true = refl
 claim_same every birth slot x false = refl
 
 calm_base : (every : ℕ) (x : ClockTally) (base : Base) (kind : Kind) (found : ℕ) → suits base kind ≡ true → is_calm kind ≡ true → Calm every x base found
-calm_base every x (Begin at) kind found s q = record { same = refl; count = λ why n. refl }
-calm_base every x (Protect aim index root steps at) kind found s q = record { same = refl; count = λ why n. refl }
-calm_base every x (Reload parent index slot era steps) kind found s q = record { same = refl; count = λ why n. refl }
-calm_base every x (Clear index) kind found s q = record { same = refl; count = λ why n. refl }
-calm_base every x Finish kind found s q = record { same = refl; count = λ why n. refl }
-calm_base every x Release kind found s q = record { same = refl; count = λ why n. refl }
-calm_base every x (Allocate LoadBirth) kind found s q = record { same = refl; count = λ why n. refl }
 calm_base every x (Allocate (ClaimSlot birth walk)) kind found s q = record { same = claim_same every birth walk.slot x (allocates.is_claimed found walk.slot); count = λ why n. refl }
-calm_base every x (Allocate (StoreLife birth slot)) kind found s q = record { same = refl; count = λ why n. refl }
-calm_base every x (Write slot row place) kind found s q = record { same = refl; count = λ why n. refl }
-calm_base every x (GiveUp slot) kind found s q = record { same = refl; count = λ why n. refl }
 calm_base every x (Retire at) kind found s q = let n : is_calm kind ≡ false = retires_loud kind s in absurd (cc)
 calm_base every x (Move at) kind found s q = let n : is_calm kind ≡ false = moves_loud kind s in absurd (cc)
+calm_base every x base kind found s q = record { same = refl; count = λ why n. refl }
 
 same_lands : (every last : ℕ) (x y : ClockTally) (phase : Phase) (first : List Event) (outcome : CallOutcome) → along (clock_by every) first x ≡ y → y.retired ≡ counts phase x.retired → OutFits last outcome y → Lands every last x phase first outcome
 same_lands every last x y phase first outcome e n f =
@@ -444,16 +433,7 @@ retires_lands last x answer (Retire (StoreRetired slot birth retire)) post desk 
           (along (clock_by post.layout.config.every) (events.Retire slot birth retire ∷ []) x) (due_same x.retired post.retired post.layout.config.every r) refl q;
       count = refl;
     }
-retires_lands last x answer (Begin at) post desk found s r f q = absurd (cc)
-retires_lands last x answer (Protect aim index root steps at) post desk found s r f q = absurd (cc)
-retires_lands last x answer (Reload parent index slot era steps) post desk found s r f q = absurd (cc)
-retires_lands last x answer (Clear index) post desk found s r f q = absurd (cc)
-retires_lands last x answer Finish post desk found s r f q = absurd (cc)
-retires_lands last x answer Release post desk found s r f q = absurd (cc)
-retires_lands last x answer (Allocate at) post desk found s r f q = absurd (cc)
-retires_lands last x answer (Write slot row place) post desk found s r f q = absurd (cc)
-retires_lands last x answer (GiveUp slot) post desk found s r f q = absurd (cc)
-retires_lands last x answer (Move at) post desk found s r f q = absurd (cc)
+retires_lands last x answer base post desk found s r f q = absurd (cc)
 
 -- the clock is moved
 abbrev EndOut : ℕ → ClockTally → Ending → Type 0
@@ -500,16 +480,13 @@ tick_out every era post found x false e d = rw e (other_out post.layout.config.l
 
 move_out : (every : ℕ) (at : MoveAt) (post : Post) (found : ℕ) (x : ClockTally) → MoveDue x → MoveOut post.layout.config.last_era (along (clock_by every) (move_front at found) x) (machine.move_turn at post found).outcome
 move_out every (LoadEra helps) post found x d = load_out helps post found x (found == post.layout.config.last_era) refl d
-move_out every (LoadRequest era seat shows) post found x d = d
-move_out every (ShowEra era seat tag index root) post found x d = d
-move_out every (LoadAsked era seat tag index root) post found x d = d
 move_out every (CheckEra era seat tag index root link) post found x d = check_out era seat tag index root link post found x (found == era) refl d
 move_out every (AnswerAsked era seat tag index root link) post found x d = asked_out era seat tag index root link post found x (found == asking post.layout tag index root) refl d
 move_out every (LoadReserved era seat tag index root link) post found x d = reserved_out era seat tag index root link post found x ((read_reservation found).tag == tag) refl d
 move_out every (HandOver era seat tag index root link old) post found x d = handed_out era seat tag index root link old post found x (found == reservation_word (record { era = old; tag = tag })) refl d
-move_out every (HideEra era) post found x d = d
 move_out every (HideLate seen) post found x d = other_out post.layout.config.last_era seen x d
 move_out every (ExchangeClock era) post found x d = tick_out every era post found x (found == era) refl d
+move_out every at post found x d = d
 
 -- only whether a move is due stays
 tick_due : (every era : ℕ) (x : ClockTally) (same : Bool) → (along (clock_by every) (tick_front era same) x).due ≡ x.due
@@ -598,32 +575,14 @@ tidies_lands : (every : ℕ) (x : ClockTally) (later : AfterScan) (base : Base) 
 tidies_lands every x later (Move at) post desk found s f =
     let t = machine.after (Move at) post found in
     record { fits = resumed_tidies post.layout.config.last_era x (along (clock_by every) (move_front at found) x) later desk t.post t.told t.outcome f (move_due every at found x) (λ d. move_out every at post found x d); count = move_count every at found x }
-tidies_lands every x later (Begin at) post desk found s f = absurd (cc)
-tidies_lands every x later (Protect aim index root steps at) post desk found s f = absurd (cc)
-tidies_lands every x later (Reload parent index slot era steps) post desk found s f = absurd (cc)
-tidies_lands every x later (Clear index) post desk found s f = absurd (cc)
-tidies_lands every x later Finish post desk found s f = absurd (cc)
-tidies_lands every x later Release post desk found s f = absurd (cc)
-tidies_lands every x later (Allocate at) post desk found s f = absurd (cc)
-tidies_lands every x later (Write slot row place) post desk found s f = absurd (cc)
-tidies_lands every x later (GiveUp slot) post desk found s f = absurd (cc)
-tidies_lands every x later (Retire at) post desk found s f = absurd (cc)
+tidies_lands every x later base post desk found s f = absurd (cc)
 
 advances_lands : (every : ℕ) (x : ClockTally) (base : Base) (post : Post) (desk : Desk) (found : ℕ) → suits base ToMove ≡ true → MoveDue x
     → Lands every post.layout.config.last_era x (Runs Advances base) (base_front base found) (steps.run_turn Advances desk (machine.after base post found)).outcome
 advances_lands every x (Move at) post desk found s d =
     let t = machine.after (Move at) post found in
     record { fits = resumed_advances post.layout.config.last_era (along (clock_by every) (move_front at found) x) desk t.post t.told t.outcome (move_out every at post found x d); count = move_count every at found x }
-advances_lands every x (Begin at) post desk found s d = absurd (cc)
-advances_lands every x (Protect aim index root steps at) post desk found s d = absurd (cc)
-advances_lands every x (Reload parent index slot era steps) post desk found s d = absurd (cc)
-advances_lands every x (Clear index) post desk found s d = absurd (cc)
-advances_lands every x Finish post desk found s d = absurd (cc)
-advances_lands every x Release post desk found s d = absurd (cc)
-advances_lands every x (Allocate at) post desk found s d = absurd (cc)
-advances_lands every x (Write slot row place) post desk found s d = absurd (cc)
-advances_lands every x (GiveUp slot) post desk found s d = absurd (cc)
-advances_lands every x (Retire at) post desk found s d = absurd (cc)
+advances_lands every x base post desk found s d = absurd (cc)
 
 run_lands : (x : ClockTally) (why : Why) (base : Base) (post : Post) (desk : Desk) (found : ℕ) → suits base (kind_of why) ≡ true → x.retired ≡ post.retired → WhyFits post.layout.config.last_era why x
     → Lands post.layout.config.every post.layout.config.last_era x (Runs why base) (base_front base found) (steps.run_turn why desk (machine.after base post found)).outcome

@@ -20,7 +20,7 @@ use Rattle.inv_all.proofs.history.Entries.{entries_of_each}
 use Rattle.inv_all.specs.history.History.{Made, fits, first_made, record_of}
 use Rattle.inv_all.proofs.history.Along.{Steady, items_keep}
 use Rattle.laws.proofs.Along.{along}
-use Rattle.inv_all.proofs.Each.{all_of}
+use Rattle.inv_all.proofs.history.AllOf.{all_of}
 use Rattle.law_places.proofs.answers.AnswersTold.Answering.{owes_of}
 use Rattle.law_places.proofs.answers.AnswersTold.Owed.{is_open, owed, Owes}
 use Rattle.law_places.proofs.Placing.Sums.{along_both}

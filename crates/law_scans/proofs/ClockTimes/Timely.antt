@@ -21,7 +21,7 @@ use Rattle.inv_all.specs.history.Record.Past.{Then}
 use Rattle.inv_all.proofs.history.Entries.{entries_of_each}
 use Rattle.inv_all.specs.history.History.{Item, Begins, Steps, Made, fits, done, done_if, did, made_from, made_of, first_made, record_of}
 use Rattle.inv_all.proofs.history.Along.{item_keeps, made_snoc}
-use Rattle.inv_all.proofs.Each.{all_of}
+use Rattle.inv_all.proofs.history.AllOf.{all_of, of_along}
 use Rattle.law_places.proofs.answers.AnswersTold.Answering.{owes_of}
 use Rattle.law_places.proofs.answers.AnswersTold.Owed.{is_open, owed, Owes}
 use Rattle.wfe_core.specs.words.Place.Place.{Clock}
@@ -39,7 +39,6 @@ use Rattle.wfe_core.specs.Steps.{phase_move}
 use Rattle.wfe_core.specs.Allocate as allocates
 use Rattle.wfe_core.proofs.Facts.{both, first_of, rest_of, both_below}
 use Rattle.inv_all.proofs.covers.Held.{stepped_phase}
-use Rattle.inv_all.proofs.Machines.{of_along}
 use Rattle.laws.proofs.Tells.{tells_both}
 use Rattle.laws.specs.StateAt.{ticked_by, clock_of}
 use Rattle.law_eras.proofs.EraLaw.Keeps.{record_clock}

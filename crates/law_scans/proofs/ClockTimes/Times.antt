@@ -22,9 +22,9 @@ use Rattle.wfe_core.specs.Scan as scan
 use Rattle.wfe_core.specs.Steps as steps
 use Rattle.wfe_core.specs.Rounds.{scheme_of, begin_base, round, round_by, with_clock}
 use Rattle.wfe_core.specs.Phases.{MoveAt, Base, Ending, Outcome, Goes, Ends}
-use Rattle.wfe_core.specs.Phases.AllocateAt.{LoadBirth, ClaimSlot, StoreLife}
+use Rattle.wfe_core.specs.Phases.AllocateAt.{ClaimSlot}
 use Rattle.wfe_core.specs.Phases.MoveAt.{LoadEra, LoadRequest, ShowEra, LoadAsked, CheckEra, AnswerAsked, LoadReserved, HandOver, HideEra, HideLate, ExchangeClock}
-use Rattle.wfe_core.specs.Phases.Base.{Begin, Protect, Reload, Clear, Finish, Release, Allocate, Write, GiveUp, Retire, Move}
+use Rattle.wfe_core.specs.Phases.Base.{Allocate, Retire, Move}
 use Rattle.wfe_core.specs.Phases.Ending.{Done, Protected, Followed, Allocated, Retired, Clocked}
 use Rattle.wfe_core.specs.Calls.{Task, Gets, Holds, Dequeues, Next, Again, MakeRoom, Answering, Retiring, AfterScan, Answered, Repeated, Counted, ScanAt, ReadGuard, GiveBack, Why, Opens, FollowsHead, Fills, ClearsNext, Clears, Finishes, GivesUp, Retires, Tidies, Advances, Releases, Phase, Idle, Runs, Scans, Works, CallOutcome, GoesOn, Answers}
 use Rattle.inv_all.specs.shapes.Seats.{Kind, ToRetire, kind_of, suits, retires}
@@ -118,16 +118,7 @@ at_rises from now later (ExchangeClock era) h w = within_rises from era now late
 
 base_rises : (from now later : ℕ) (base : Base) → now ≤ later → BaseIn from now base → BaseIn from later base
 base_rises from now later (Move at) h w = at_rises from now later at h w
-base_rises from now later (Begin at) h w = absurd w
-base_rises from now later (Protect aim index root steps at) h w = absurd w
-base_rises from now later (Reload parent index slot era steps) h w = absurd w
-base_rises from now later (Clear index) h w = absurd w
-base_rises from now later Finish h w = absurd w
-base_rises from now later Release h w = absurd w
-base_rises from now later (Allocate at) h w = absurd w
-base_rises from now later (Write slot row place) h w = absurd w
-base_rises from now later (GiveUp slot) h w = absurd w
-base_rises from now later (Retire at) h w = absurd w
+base_rises from now later base h w = absurd w
 
 le_rises : (seen now later : ℕ) → now ≤ later → nat_le seen now ≡ true → nat_le seen later ≡ true
 le_rises seen now later h l = grind (arith, nat_tests)
@@ -151,18 +142,8 @@ later_rises last from now later Counted h f = tt
 
 why_rises : (from now later : ℕ) (why : Why) (base : Base) → now ≤ later → WhyIn from now why base → WhyIn from later why base
 why_rises from now later (Tidies (Answered answer)) base h f = base_rises from now later base h f
-why_rises from now later (Tidies (Repeated task)) base h f = tt
-why_rises from now later (Tidies Counted) base h f = tt
 why_rises from now later Advances base h f = base_rises from now later base h f
-why_rises from now later (Opens task) base h f = tt
-why_rises from now later (FollowsHead head tail) base h f = tt
-why_rises from now later (Fills task) base h f = tt
-why_rises from now later (ClearsNext next) base h f = tt
-why_rises from now later (Clears task next) base h f = tt
-why_rises from now later (Finishes task next) base h f = tt
-why_rises from now later (GivesUp answer) base h f = tt
-why_rises from now later (Retires answer) base h f = tt
-why_rises from now later (Releases key) base h f = tt
+why_rises from now later why base h f = tt
 
 pub phase_rises : (last from now later : ℕ) (phase : Phase) → now ≤ later → PhaseIn last from now phase → PhaseIn last from later phase
 phase_rises last from now later Idle h f = tt
@@ -235,15 +216,13 @@ tick_in last from now era post found false e f w = rw e (late_fits last from now
 pub move_in : (last from now : ℕ) (at : MoveAt) (post : Post) (found : ℕ) → post.layout.config.last_era ≡ last → from ≤ now → (loads at ≡ true → found ≡ now) → AtFrom from now at → MoveIn last from now (machine.move_turn at post found).outcome
 move_in last from now (LoadEra helps) post found t l f w = load_in last from now helps post found (found == post.layout.config.last_era) t refl l (f refl)
 move_in last from now (LoadRequest era seat shows) post found t l f w = asked_in from now post era seat shows (read_request found) w
-move_in last from now (ShowEra era seat tag index root) post found t l f w = w
-move_in last from now (LoadAsked era seat tag index root) post found t l f w = w
 move_in last from now (CheckEra era seat tag index root link) post found t l f w = check_in last from now era seat tag index root link post found (found == era) refl (f refl) w
 move_in last from now (AnswerAsked era seat tag index root link) post found t l f w = answer_asked_in last from now era seat tag index root link post found (found == asking post.layout tag index root) refl w
 move_in last from now (LoadReserved era seat tag index root link) post found t l f w = reserved_in last from now era seat tag index root link post found ((read_reservation found).tag == tag) refl w
 move_in last from now (HandOver era seat tag index root link old) post found t l f w = handed_in last from now era seat tag index root link old post found (found == reservation_word (record { era = old; tag = tag })) refl w
-move_in last from now (HideEra era) post found t l f w = w
 move_in last from now (HideLate seen) post found t l f w = late_fits last from now seen w
 move_in last from now (ExchangeClock era) post found t l f w = tick_in last from now era post found (found == era) refl (f refl) w
+move_in last from now at post found t l f w = w
 
 -- what comes after it
 with_in : (last from now : ℕ) (answer : Answer) (clock : ClockMove) → is_plain answer ≡ true → inner_fits last from now clock ≡ true → answer_in last from now (with_clock answer clock) ≡ true
@@ -332,17 +311,7 @@ calm_answer last from now y answer d h = refl
 calm_why : (last from now : ℕ) (y : ClockTally) (why : Why) (base : Base) → y.due ≡ false → WhyFits last why y → WhyIn from now why base
 calm_why last from now y (Tidies (Answered answer)) base d f = let m = f.0 in let e : y.due ≡ true = m.due in absurd (cc)
 calm_why last from now y Advances base d f = let e : y.due ≡ true = f.due in absurd (cc)
-calm_why last from now y (Tidies (Repeated task)) base d f = tt
-calm_why last from now y (Tidies Counted) base d f = tt
-calm_why last from now y (Opens task) base d f = tt
-calm_why last from now y (FollowsHead head tail) base d f = tt
-calm_why last from now y (Fills task) base d f = tt
-calm_why last from now y (ClearsNext next) base d f = tt
-calm_why last from now y (Clears task next) base d f = tt
-calm_why last from now y (Finishes task next) base d f = tt
-calm_why last from now y (GivesUp answer) base d f = tt
-calm_why last from now y (Retires answer) base d f = tt
-calm_why last from now y (Releases key) base d f = tt
+calm_why last from now y why base d f = tt
 
 calm_out : (last from now : ℕ) (y : ClockTally) (outcome : CallOutcome) → y.due ≡ false → OutFits last outcome y → OutIn last from now outcome
 calm_out last from now y (GoesOn Idle) d f = tt
@@ -359,19 +328,10 @@ claim_due every birth slot x true = refl
 claim_due every birth slot x false = refl
 
 base_due : (every : ℕ) (x : ClockTally) (base : Base) (found : ℕ) → suits base ToRetire ≡ false → (along (clock_by every) (base_front base found) x).due ≡ x.due
-base_due every x (Allocate LoadBirth) found n = refl
 base_due every x (Allocate (ClaimSlot birth walk)) found n = claim_due every birth walk.slot x (allocates.is_claimed found walk.slot)
-base_due every x (Allocate (StoreLife birth slot)) found n = refl
 base_due every x (Retire at) found n = absurd (cc)
 base_due every x (Move at) found n = move_due every at found x
-base_due every x (Begin at) found n = refl
-base_due every x (Protect aim index root steps at) found n = refl
-base_due every x (Reload parent index slot era steps) found n = refl
-base_due every x (Clear index) found n = refl
-base_due every x Finish found n = refl
-base_due every x Release found n = refl
-base_due every x (Write slot row place) found n = refl
-base_due every x (GiveUp slot) found n = refl
+base_due every x base found n = refl
 
 -- a kind that is not for retiring
 not_retiring : (base : Base) (kind : Kind) → suits base kind ≡ true → retires kind ≡ false → suits base ToRetire ≡ false
@@ -392,16 +352,7 @@ pub record Needs (last from now : ℕ) (post : Post) (phase : Phase) (found : �
 
 base_move_in : (last from now : ℕ) (why : Why) (base : Base) (post : Post) (found : ℕ) → Needs last from now post (Runs why base) found → BaseIn from now base → MoveIn last from now (machine.after base post found).outcome
 base_move_in last from now why (Move at) post found n f = move_in last from now at post found n.table (n.low why at refl) (λ l. n.loaded why at refl l) f
-base_move_in last from now why (Begin at) post found n f = absurd f
-base_move_in last from now why (Protect aim index root steps at) post found n f = absurd f
-base_move_in last from now why (Reload parent index slot era steps) post found n f = absurd f
-base_move_in last from now why (Clear index) post found n f = absurd f
-base_move_in last from now why Finish post found n f = absurd f
-base_move_in last from now why Release post found n f = absurd f
-base_move_in last from now why (Allocate at) post found n f = absurd f
-base_move_in last from now why (Write slot row place) post found n f = absurd f
-base_move_in last from now why (GiveUp slot) post found n f = absurd f
-base_move_in last from now why (Retire at) post found n f = absurd f
+base_move_in last from now why base post found n f = absurd f
 
 run_in : (every last from now : ℕ) (x : ClockTally) (why : Why) (base : Base) (post : Post) (desk : Desk) (found : ℕ) → Needs last from now post (Runs why base) found → suits base (kind_of why) ≡ true → WhyFits last why x → WhyIn from now why base
     → OutFits last (steps.run_turn why desk (machine.after base post found)).outcome (along (clock_by every) (base_front base found) x) → OutIn last from now (steps.run_turn why desk (machine.after base post found)).outcome

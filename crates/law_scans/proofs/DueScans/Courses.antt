@@ -20,9 +20,9 @@ use Rattle.wfe_core.specs.Steps as steps
 use Rattle.wfe_core.specs.Rounds.{scheme_of, bucket_of, index_of, taken_of, begin_base, round, round_by, finish_base, clear_base, clear_post, clear_told, given_up, closed, finishing_by, finishing, clearing_by, clearing, clearing_next_by, clearing_next}
 use Rattle.wfe_core.specs.Phases.{Base, Ending, Outcome, Goes, Ends}
 use Rattle.wfe_core.specs.Phases.AllocateAt.{StoreLife}
-use Rattle.wfe_core.specs.Phases.Base.{Begin, Protect, Reload, Clear, Finish, Release, Allocate, Write, GiveUp, Retire, Move}
+use Rattle.wfe_core.specs.Phases.Base.{Allocate, Retire, Move}
 use Rattle.wfe_core.specs.Phases.Ending.{Done, Protected, Followed, Allocated, Retired, Clocked}
-use Rattle.wfe_core.specs.Calls.{Task, Gets, Changes, Holds, Enqueues, Dequeues, Next, Again, MakeRoom, Answering, Retiring, AfterScan, Answered, Repeated, Counted, ChangeKept, EnqueueKept, GetAt, FindVersion, FindCount, FindKey, FindValue, ChangeAt, LoadVersion, LoadCount, LoadKey, LoadValue, ExchangeRoot, EnqueueAt, LoadNumber, LoadNext, PassTail, ExchangeNext, ExchangeTail, DequeueAt, LoadTail, SwingTail, TakeNumber, TakeValue, ExchangeHead, Work, Getting, Changing, Enqueuing, Dequeuing, ScanAt, ReadGuard, GiveBack, Why, Opens, FollowsHead, Fills, ClearsNext, Clears, Finishes, GivesUp, Retires, Tidies, Advances, Releases, Phase, Idle, Runs, Scans, Works, CallOutcome, GoesOn, Answers}
+use Rattle.wfe_core.specs.Calls.{Task, Gets, Changes, Holds, Enqueues, Dequeues, Next, Again, MakeRoom, Answering, Retiring, AfterScan, Answered, Repeated, Counted, ChangeKept, EnqueueKept, GetAt, FindVersion, FindCount, FindKey, FindValue, ChangeAt, LoadVersion, LoadCount, LoadKey, LoadValue, ExchangeRoot, EnqueueAt, LoadNumber, LoadNext, PassTail, ExchangeNext, ExchangeTail, DequeueAt, SwingTail, ExchangeHead, Work, Getting, Changing, Enqueuing, Dequeuing, ScanAt, ReadGuard, GiveBack, Why, Opens, FollowsHead, Fills, ClearsNext, Clears, Finishes, GivesUp, Retires, Tidies, Advances, Releases, Phase, Idle, Runs, Scans, Works, CallOutcome, GoesOn, Answers}
 use Rattle.inv_all.specs.shapes.Seats.{Kind, ToFill, ToRetire, ToMove, kind_of, suits, fills, retires, moves as moves_kind}
 use Rattle.inv_all.specs.rows.Hands.{holds_none}
 use Rattle.laws.proofs.Along.{along}
@@ -280,11 +280,9 @@ taken_fits all head next number value post desk true c s =
 taken_fits all head next number value post desk false c s = clearing_next_fits all Again post desk [] c (other_task all Dequeues c refl s)
 
 dequeue_fits : (all : ℕ) (at : DequeueAt) (post : Post) (desk : Desk) (found : ℕ) (c : Course) → is_settled all c ≡ true → OutFits all (dequeues.dequeue_turn at post desk found).outcome c
-dequeue_fits all (LoadTail head) post desk found c s = s
 dequeue_fits all (SwingTail head next) post desk found c s = clearing_next_fits all Again post desk (enqueues.told_link roots.Tail next (found == head + 1)) c (other_task all Dequeues c refl s)
-dequeue_fits all (TakeNumber head next) post desk found c s = s
-dequeue_fits all (TakeValue head next number) post desk found c s = s
 dequeue_fits all (ExchangeHead head next number value) post desk found c s = taken_fits all head next number value post desk (found == head + 1) c s
+dequeue_fits all at post desk found c s = s
 
 pub work_fits : (all : ℕ) (work : Work) (post : Post) (desk : Desk) (found : ℕ) (c : Course) → WorkFits all work c → OutFits all (steps.work_turn work post desk found).outcome c
 work_fits all (Getting key at) post desk found c f = get_fits all key at post desk found c f
@@ -352,17 +350,10 @@ record Silent (base : Base) (found : ℕ) : Type 0 where
   same : (why : Why) (n : ℕ) → counts (Runs why base) n ≡ n
 
 silent : (base : Base) (kind : Kind) (found : ℕ) → suits base kind ≡ true → is_silent kind ≡ true → Silent base found
-silent (Begin at) kind found s q = record { none = refl; same = λ why n. refl }
-silent (Protect aim index root steps at) kind found s q = record { none = refl; same = λ why n. refl }
-silent (Reload parent index slot era steps) kind found s q = record { none = refl; same = λ why n. refl }
-silent (Clear index) kind found s q = record { none = refl; same = λ why n. refl }
-silent Finish kind found s q = record { none = refl; same = λ why n. refl }
-silent Release kind found s q = record { none = refl; same = λ why n. refl }
 silent (Allocate at) kind found s q = let n : is_silent kind ≡ false = fills_loud kind s in absurd (cc)
-silent (Write slot row place) kind found s q = record { none = refl; same = λ why n. refl }
-silent (GiveUp slot) kind found s q = record { none = refl; same = λ why n. refl }
 silent (Retire at) kind found s q = let n : is_silent kind ≡ false = retires_loud kind s in absurd (cc)
 silent (Move at) kind found s q = let n : is_silent kind ≡ false = moves_loud kind s in absurd (cc)
+silent base kind found s q = record { none = refl; same = λ why n. refl }
 
 pub nothing_lands : (every all : ℕ) (x : Tally) (phase : Phase) (first : List Event) (outcome : CallOutcome) → first ≡ [] → counts phase x.retired ≡ x.retired → OutFits all outcome x.course → Lands every all x phase first outcome
 nothing_lands every all x phase first outcome e n f = subst (λ (told : List Event). Lands every all x phase told outcome) (sym e) (record { right = tt; fits = f; count = sym n })

@@ -35,7 +35,7 @@ use Rattle.inv_all.specs.Known.{Known}
 use Rattle.inv_all.proofs.Inv.Begun.{known_start, known_begin}
 use Rattle.inv_all.proofs.Inv.Kept.{known_kept, asked_next}
 use Rattle.laws.proofs.Along.{along}
-use Rattle.inv_all.proofs.Each.{all_of}
+use Rattle.inv_all.proofs.history.AllOf.{all_of}
 use Rattle.law_places.proofs.answers.AnswersTold.Answering as answering
 use Rattle.law_places.proofs.answers.AnswersTold.Answering.{owes_of}
 use Rattle.law_places.proofs.answers.AnswersTold.Owed.{is_open, owed, Owes, append_none}

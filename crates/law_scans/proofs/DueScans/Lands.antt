@@ -26,7 +26,7 @@ use Rattle.wfe_core.specs.Phases.{RowOf, Walk, AllocateAt, MoveAt, Base, Ending,
 use Rattle.wfe_core.specs.Phases.AllocateAt.{LoadBirth, ClaimSlot, StoreLife}
 use Rattle.wfe_core.specs.Phases.RetireAt.{LoadLife, LoadRetire, StoreRetired}
 use Rattle.wfe_core.specs.Phases.MoveAt.{LoadEra, LoadRequest, ShowEra, LoadAsked, CheckEra, AnswerAsked, LoadReserved, HandOver, HideEra, HideLate, ExchangeClock}
-use Rattle.wfe_core.specs.Phases.Base.{Begin, Protect, Reload, Clear, Finish, Release, Allocate, Write, GiveUp, Retire, Move}
+use Rattle.wfe_core.specs.Phases.Base.{Allocate, Write, Retire, Move}
 use Rattle.wfe_core.specs.Phases.Ending.{Done, Protected, Followed, Allocated, Retired, Clocked}
 use Rattle.wfe_core.specs.Calls.{Task, Gets, Changes, Holds, Enqueues, Dequeues, Again, AfterScan, Answered, Repeated, Counted, ScanAt, ReadGuard, GiveBack, Why, Opens, FollowsHead, Fills, ClearsNext, Clears, Finishes, GivesUp, Retires, Tidies, Advances, Releases, Phase, Idle, Runs, Scans, Works}
 use Rattle.wfe_core.proofs.Facts.{both, rest_of}
@@ -100,15 +100,7 @@ fills_lands every all x task (Allocate LoadBirth) post desk found h s f = record
 fills_lands every all x task (Allocate (ClaimSlot birth walk)) post desk found h s f = claim_lands every all x task birth walk post desk found (allocates.is_claimed found walk.slot) refl h f
 fills_lands every all x task (Allocate (StoreLife birth slot)) post desk found h s f = record { right = tt; fits = given_fits all task slot birth post desk [] (StoreLife birth slot) x.course h f; count = refl }
 fills_lands every all x task (Write slot row place) post desk found h s f = record { right = tt; fits = write_fits all task desk slot place row post found (place == last_written row) x.course refl f; count = refl }
-fills_lands every all x task (Begin at) post desk found h s f = absurd (cc)
-fills_lands every all x task (Protect aim index root steps at) post desk found h s f = absurd (cc)
-fills_lands every all x task (Reload parent index slot era steps) post desk found h s f = absurd (cc)
-fills_lands every all x task (Clear index) post desk found h s f = absurd (cc)
-fills_lands every all x task Finish post desk found h s f = absurd (cc)
-fills_lands every all x task Release post desk found h s f = absurd (cc)
-fills_lands every all x task (GiveUp slot) post desk found h s f = absurd (cc)
-fills_lands every all x task (Retire at) post desk found h s f = absurd (cc)
-fills_lands every all x task (Move at) post desk found h s f = absurd (cc)
+fills_lands every all x task base post desk found h s f = absurd (cc)
 
 -- a row is retired
 tidying_fits : (all : ℕ) (answer : Answer) (post : Post) (desk : Desk) (told : List Event) (due : Bool) → OutFits all (steps.tidying answer post desk told due).outcome (retired_course due)
@@ -130,16 +122,7 @@ retires_lands all x answer (Retire (StoreRetired slot birth retire)) post desk f
           (tidying_fits all answer t.post (with_life desk (record { slot = slot; birth = birth; retire = retire })) t.told (bump post.retired % post.layout.config.every == 0));
       count = refl;
     }
-retires_lands all x answer (Begin at) post desk found s r f = absurd (cc)
-retires_lands all x answer (Protect aim index root steps at) post desk found s r f = absurd (cc)
-retires_lands all x answer (Reload parent index slot era steps) post desk found s r f = absurd (cc)
-retires_lands all x answer (Clear index) post desk found s r f = absurd (cc)
-retires_lands all x answer Finish post desk found s r f = absurd (cc)
-retires_lands all x answer Release post desk found s r f = absurd (cc)
-retires_lands all x answer (Allocate at) post desk found s r f = absurd (cc)
-retires_lands all x answer (Write slot row place) post desk found s r f = absurd (cc)
-retires_lands all x answer (GiveUp slot) post desk found s r f = absurd (cc)
-retires_lands all x answer (Move at) post desk found s r f = absurd (cc)
+retires_lands all x answer base post desk found s r f = absurd (cc)
 
 -- the clock is moved
 after_fits : (later : AfterScan) (clock : ClockMove) → AfterFits later → AfterFits (steps.after_move later clock)
@@ -217,32 +200,14 @@ tidies_lands every all x later (Move at) post desk found s f =
     moves_lands every all x (Tidies later) at post desk found b.moves
     (λ era. tidied_fits all later (Clocked (moves.Moved (era + 1))) post desk (events.Era (era + 1) ∷ []) (moved_course x.course) b.moved b.after)
     (λ other told outcome. resumed_tidies all later desk other told outcome x.course f)
-tidies_lands every all x later (Begin at) post desk found s f = absurd (cc)
-tidies_lands every all x later (Protect aim index root steps at) post desk found s f = absurd (cc)
-tidies_lands every all x later (Reload parent index slot era steps) post desk found s f = absurd (cc)
-tidies_lands every all x later (Clear index) post desk found s f = absurd (cc)
-tidies_lands every all x later Finish post desk found s f = absurd (cc)
-tidies_lands every all x later Release post desk found s f = absurd (cc)
-tidies_lands every all x later (Allocate at) post desk found s f = absurd (cc)
-tidies_lands every all x later (Write slot row place) post desk found s f = absurd (cc)
-tidies_lands every all x later (GiveUp slot) post desk found s f = absurd (cc)
-tidies_lands every all x later (Retire at) post desk found s f = absurd (cc)
+tidies_lands every all x later base post desk found s f = absurd (cc)
 
 advances_lands : (every all : ℕ) (x : Tally) (base : Base) (post : Post) (desk : Desk) (found : ℕ) → suits base ToMove ≡ true → x.course ≡ Advancing
     → Lands every all x (Runs Advances base) (base_front base found) (steps.run_turn Advances desk (machine.after base post found)).outcome
 advances_lands every all x (Move at) post desk found s f =
     moves_lands every all x Advances at post desk found (ap may_move f) (λ era. ap (λ (c : Course). is_settled all (moved_course c)) f)
     (λ other told outcome. resumed_advances all desk other told outcome x.course f)
-advances_lands every all x (Begin at) post desk found s f = absurd (cc)
-advances_lands every all x (Protect aim index root steps at) post desk found s f = absurd (cc)
-advances_lands every all x (Reload parent index slot era steps) post desk found s f = absurd (cc)
-advances_lands every all x (Clear index) post desk found s f = absurd (cc)
-advances_lands every all x Finish post desk found s f = absurd (cc)
-advances_lands every all x Release post desk found s f = absurd (cc)
-advances_lands every all x (Allocate at) post desk found s f = absurd (cc)
-advances_lands every all x (Write slot row place) post desk found s f = absurd (cc)
-advances_lands every all x (GiveUp slot) post desk found s f = absurd (cc)
-advances_lands every all x (Retire at) post desk found s f = absurd (cc)
+advances_lands every all x base post desk found s f = absurd (cc)
 
 run_lands : (all : ℕ) (x : Tally) (why : Why) (base : Base) (post : Post) (desk : Desk) (found : ℕ) → suits base (kind_of why) ≡ true → runs_right why base ≡ true → x.retired ≡ post.retired → WhyFits all why base x.course
     → Lands post.layout.config.every all x (Runs why base) (base_front base found) (steps.run_turn why desk (machine.after base post found)).outcome

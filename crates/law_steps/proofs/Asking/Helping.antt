@@ -2,7 +2,6 @@
 use Rattle.std.proofs.Common.{ℕ, ◌≡◌, ◌+◌, Bool, true, false, List, [], ◌∷◌, ◌++◌, Option, Some, None, refl, ap, subst, arith}
 use Rattle.std.proofs.lemmas.Bool.Decides.{nat_tests}
 use Rattle.std.specs.Prelude.{◌==◌, ◌&&◌, nat_le, if◌then◌else◌}
-use Rattle.wfe_core.specs.words.Packed.{reservation_word, read_reservation}
 use Rattle.wfe_core.specs.words.declared.config.Config.{Config}
 use Rattle.wfe_core.specs.words.declared.layout.Layout.{Layout}
 use Rattle.wfe_core.specs.defs.declared.event.Event.{Event}
@@ -13,18 +12,13 @@ use Rattle.wfe_core.specs.defs.declared.lifetime.Interval.{Interval}
 use Rattle.wfe_core.specs.declared.post.Post.{Post}
 use Rattle.wfe_core.specs.Guards.{one_era}
 use Rattle.wfe_core.specs.Machine as machine
-use Rattle.wfe_core.specs.Memory.{bump}
-use Rattle.wfe_core.specs.MoveClock as movers
-use Rattle.wfe_core.specs.Posts.{stands, cleared, counted, upper, reserves_index, reserves_helper, reserves_span}
-use Rattle.wfe_core.specs.Protect as protects
+use Rattle.wfe_core.specs.Posts.{counted, reserves_helper}
 use Rattle.wfe_core.specs.Rounds.{scheme_of, clear_told}
-use Rattle.wfe_core.specs.SlowPath as slow
-use Rattle.wfe_core.specs.WriteRow.{last_written}
 use Rattle.wfe_core.specs.World.{World, finds, told_in}
-use Rattle.wfe_core.specs.Phases.{Aim, ProtectAt, MoveAt, Base}
-use Rattle.wfe_core.specs.Phases.ProtectAt.{LoadClock, PublishEra, LoadLink, CheckClock, PublishRequest, LoadOwnClock, PublishHelper, LoadOwnLink, CheckOwnClock, AnswerOwn, LoadAnswer, TakeAnswer, WithdrawRequest, WithdrawHelper, LoadWithin, CheckUpper, RaiseUpper}
-use Rattle.wfe_core.specs.Phases.MoveAt.{LoadEra, LoadRequest, ShowEra, LoadAsked, CheckEra, AnswerAsked, LoadReserved, HandOver, HideEra, HideLate, ExchangeClock}
-use Rattle.wfe_core.specs.Phases.Base.{Begin, Protect, Reload, Clear, Finish, Release, Allocate, Write, GiveUp, Retire, Move}
+use Rattle.wfe_core.specs.Phases.{Base}
+use Rattle.wfe_core.specs.Phases.ProtectAt.{PublishHelper}
+use Rattle.wfe_core.specs.Phases.MoveAt.{ShowEra}
+use Rattle.wfe_core.specs.Phases.Base.{Protect, Clear, Move}
 use Rattle.wfe_core.specs.Calls.{Why, Opens, FollowsHead, Fills, ClearsNext, Clears, Finishes, GivesUp, Retires, Tidies, Advances, Releases, ReadGuard, GiveBack, Phase, Idle, Runs, Scans, Works}
 use Rattle.wfe_core.proofs.Facts.{same_number, both, first_of, rest_of}
 use Rattle.wfe_core.specs.words.Schemes.{is_wfe}
@@ -44,7 +38,7 @@ use Rattle.laws.specs.Schedule.{turns_since}
 use Rattle.laws.specs.StateAt.{tried_by, tried_of, last_of}
 use Rattle.laws.specs.StepLaw.{tried_enough, helper_ok}
 use Rattle.law_steps.specs.Records.{RecordsKeepHelpers}
-use Rattle.law_turns.proofs.Withdrawals.Withdrawing.{is_mute, all_mute, quiet_mute, clear_mute, is_plain, all_plain, plain_along, plain_if, held_plain, concluded_plain, cleared_plain, allocate_plain, retire_plain, begin_plain}
+use Rattle.law_turns.proofs.Withdrawals.Withdrawing.{is_mute, all_mute, quiet_mute, clear_mute, is_plain, all_plain, base_plain}
 use Rattle.law_turns.proofs.TurnCounts.Trying.{base_tried}
 use Rattle.law_turns.proofs.TurnCounts.Tried.{why_tried, phase_tried}
 use Rattle.law_turns.proofs.TurnCounts.Underway as underway
@@ -88,20 +82,6 @@ helps_closed i j tries n = record {
   clears = λ post told index h. helps_both i j tries told (clear_told (scheme_of post) post index) n h (mute_plain (clear_told (scheme_of post) post index) (clear_mute (scheme_of post) post index));
 }
 
--- the steps that publish in a helper word
-abbrev is_asking : ProtectAt → Bool
-is_asking (PublishHelper first era last) = true
-is_asking at = false
-
-abbrev is_showing : MoveAt → Bool
-is_showing (ShowEra era seat tag index root) = true
-is_showing at = false
-
-abbrev publishes_helper : Base → Bool
-publishes_helper (Protect aim index root steps at) = is_asking at
-publishes_helper (Move at) = is_showing at
-publishes_helper base = false
-
 abbrev is_clearing : Base → Bool
 is_clearing (Clear index) = true
 is_clearing base = false
@@ -112,58 +92,6 @@ helper_helps i j tries n post era h = by (one_era era)
     by : (span : Option Interval) → helps_along i j tries (events.Reserve (Helper post.seat) span ∷ []) n ≡ true
     by None = refl
     by (Some span) = both (tried_enough tries n) true h refl
-
-abbrev Plain : List Event → Type 0
-Plain told = all_plain told ≡ true
-
-protect_plain : (aim : Aim) (index : ℕ) (root : Root) (n : ℕ) (at : ProtectAt) (post : Post) (found : ℕ) → is_asking at ≡ false → Plain (machine.protect_turn aim index root n at post found).told
-protect_plain aim index root n (LoadClock tries) post found h = refl
-protect_plain aim index root n (PublishEra era tries) post found h = refl
-protect_plain aim index root n (LoadLink era tries) post found h = refl
-protect_plain aim index root n (CheckClock era tries link) post found h = plain_if (found == era) _ _ (concluded_plain aim index root n link era (protects.held_post post index root link) (protects.told_held index root link n) (held_plain index root link n)) refl
-protect_plain aim index root n PublishRequest post found h = refl
-protect_plain aim index root n LoadOwnClock post found h = refl
-protect_plain aim index root n (PublishHelper first era last) post found h = absurd (cc)
-protect_plain aim index root n (LoadOwnLink first era last) post found h = refl
-protect_plain aim index root n (CheckOwnClock first era last link) post found h = plain_if (found == era) _ _ refl refl
-protect_plain aim index root n (AnswerOwn first era link) post found h = plain_if (found == slow.own_request post index root) _ _ refl refl
-protect_plain aim index root n (LoadAnswer first) post found h = refl
-protect_plain aim index root n (TakeAnswer link era) post found h = held_plain index root link n
-protect_plain aim index root n (WithdrawRequest link era) post found h = refl
-protect_plain aim index root n (WithdrawHelper link era) post found h = concluded_plain aim index root n link era post (reserves_helper post 0) refl
-protect_plain aim index root n LoadWithin post found h = refl
-protect_plain aim index root n (CheckUpper link) post found h = plain_if (found == upper post.span) _ _ (concluded_plain aim index root n link found (protects.held_post post index root link) (protects.told_held index root link n) (held_plain index root link n)) refl
-protect_plain aim index root n (RaiseUpper era) post found h = refl
-
-handed_plain : (era seat tag index old : ℕ) (post : Post) (same : Bool) → Plain (movers.after_hand_over era seat tag index old post same).told
-handed_plain era seat tag index old post true = refl
-handed_plain era seat tag index old post false = refl
-
-move_plain : (at : MoveAt) (post : Post) (found : ℕ) → is_showing at ≡ false → Plain (machine.move_turn at post found).told
-move_plain (LoadEra helps) post found h = plain_if (found == post.layout.config.last_era) _ _ refl refl
-move_plain (LoadRequest era seat shows) post found h = refl
-move_plain (ShowEra era seat tag index root) post found h = absurd (cc)
-move_plain (LoadAsked era seat tag index root) post found h = refl
-move_plain (CheckEra era seat tag index root link) post found h = plain_if (found == era) _ _ refl refl
-move_plain (AnswerAsked era seat tag index root link) post found h = plain_if (found == slow.asking post.layout tag index root) _ _ refl refl
-move_plain (LoadReserved era seat tag index root link) post found h = plain_if ((read_reservation found).tag == tag) _ _ refl refl
-move_plain (HandOver era seat tag index root link old) post found h = handed_plain era seat tag index old post (found == reservation_word (record { era = old; tag = tag }))
-move_plain (HideEra era) post found h = refl
-move_plain (HideLate seen) post found h = refl
-move_plain (ExchangeClock era) post found h = plain_if (found == era) _ _ refl refl
-
-base_plain : (base : Base) (post : Post) (found : ℕ) → publishes_helper base ≡ false → Plain (machine.after base post found).told
-base_plain (Begin at) post found h = begin_plain at post found
-base_plain (Protect aim index root made at) post found h = protect_plain aim index root (bump made) at post found h
-base_plain (Reload parent index slot era made) post found h = plain_if (found == parent + 1) _ _ refl refl
-base_plain (Clear index) post found h = plain_along (cleared index (stands post index)) (reserves_index post index 0) (cleared_plain index (stands post index)) refl
-base_plain Finish post found h = refl
-base_plain Release post found h = plain_along (cleared 2 (stands post 2)) (reserves_span post None) (cleared_plain 2 (stands post 2)) refl
-base_plain (Allocate at) post found h = allocate_plain at post found
-base_plain (Write slot row place) post found h = plain_if (place == last_written row) _ _ refl refl
-base_plain (GiveUp slot) post found h = refl
-base_plain (Retire at) post found h = retire_plain at post found
-base_plain (Move at) post found h = move_plain at post found h
 
 -- a protection that publishes in the helper word has tried enough
 enough_own : (tries times : ℕ) → nat_le (tries + 1) times ≡ true → tried_enough tries times ≡ true

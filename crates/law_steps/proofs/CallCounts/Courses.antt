@@ -23,7 +23,7 @@ use Rattle.wfe_core.specs.Rounds.{scheme_of, bucket_of, index_of, root_of, clear
 use Rattle.wfe_core.specs.SlowPath as slow
 use Rattle.wfe_core.specs.Steps as steps
 use Rattle.wfe_core.specs.Phases.{Aim, Alone, Follows, Failed, ProtectAt, MoveAt, Base, Turn, Outcome, Goes, Ends}
-use Rattle.wfe_core.specs.Phases.ProtectAt.{LoadClock, PublishEra, LoadLink, CheckClock, PublishRequest, LoadOwnClock, PublishHelper, LoadOwnLink, CheckOwnClock, AnswerOwn, LoadAnswer, TakeAnswer, WithdrawRequest, WithdrawHelper, LoadWithin, CheckUpper, RaiseUpper}
+use Rattle.wfe_core.specs.Phases.ProtectAt.{LoadClock, CheckClock, CheckOwnClock, AnswerOwn, WithdrawHelper, CheckUpper}
 use Rattle.wfe_core.specs.Phases.MoveAt.{LoadEra, ExchangeClock}
 use Rattle.wfe_core.specs.Phases.Base.{Protect, Clear, Release, Move}
 use Rattle.wfe_core.specs.Phases.Ending.{Protected, Clocked}
@@ -88,23 +88,12 @@ alone_if n true t u h k = h
 alone_if n false t u h k = k
 
 pub protect_alone : (index : ℕ) (root : Root) (n : ℕ) (at : ProtectAt) (post : Post) (found : ℕ) → OutAlone n (machine.protect_turn Alone index root n at post found).outcome
-protect_alone index root n (LoadClock tries) post found = refl
-protect_alone index root n (PublishEra era tries) post found = refl
-protect_alone index root n (LoadLink era tries) post found = refl
 protect_alone index root n (CheckClock era tries link) post found = alone_if n (found == era) _ _ tt refl
-protect_alone index root n PublishRequest post found = refl
-protect_alone index root n LoadOwnClock post found = refl
-protect_alone index root n (PublishHelper first era last) post found = refl
-protect_alone index root n (LoadOwnLink first era last) post found = refl
 protect_alone index root n (CheckOwnClock first era last link) post found = alone_if n (found == era) _ _ refl refl
 protect_alone index root n (AnswerOwn first era link) post found = alone_if n (found == slow.own_request post index root) _ _ refl refl
-protect_alone index root n (LoadAnswer first) post found = refl
-protect_alone index root n (TakeAnswer link era) post found = refl
-protect_alone index root n (WithdrawRequest link era) post found = refl
 protect_alone index root n (WithdrawHelper link era) post found = tt
-protect_alone index root n LoadWithin post found = refl
 protect_alone index root n (CheckUpper link) post found = alone_if n (found == upper post.span) _ _ tt refl
-protect_alone index root n (RaiseUpper era) post found = refl
+protect_alone index root n at post found = refl
 
 -- how a round goes on under Wait-Free Eras
 clearing_next : (task : Task) (next : Next) (post : Post) (desk : Desk) (told : List Event) → scheme_of post ≡ Wfe → (clearing task next post desk told).outcome ≡ GoesOn (Runs (Clears task next) (Clear (index_of task)))

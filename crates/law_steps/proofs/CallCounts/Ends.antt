@@ -43,11 +43,12 @@ use Rattle.inv_all.proofs.covers.Held.{stepped_post}
 use Rattle.inv_all.specs.Inv.{Inv}
 use Rattle.laws.specs.StateAt.{began_of, backs_by, backs_of}
 use Rattle.law_turns.proofs.answers.AnswersTold.Answering as answering
-use Rattle.law_turns.proofs.answers.AnswersTold.Answering.{began_along, first_all, owes_of, within_of}
+use Rattle.inv_all.proofs.Machines.{within_of}
+use Rattle.law_turns.proofs.answers.AnswersTold.Answering.{began_along, first_all, owes_of}
 use Rattle.law_turns.proofs.answers.AnswersTold.Moves.{phase_ends}
 use Rattle.law_turns.proofs.answers.AnswersTold.Owed.{is_open}
 use Rattle.law_turns.proofs.answers.AnswersTold.Owing.{PhaseEnds}
-use Rattle.inv_all.proofs.Each.{all_of}
+use Rattle.inv_all.proofs.history.AllOf.{all_of}
 use Rattle.law_turns.proofs.answers.OneStep.Along.{Around, Kept, history_keeps}
 use Rattle.laws.specs.StepLaw.{steps_right, end_ok}
 use Rattle.law_steps.specs.Records.{RecordsKeepEnds}

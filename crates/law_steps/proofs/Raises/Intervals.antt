@@ -20,24 +20,24 @@ use Rattle.wfe_core.specs.Memory.{bump}
 use Rattle.wfe_core.specs.Posts.{stands, cleared, upper, lower, withdrawn, with_span, reserves_span}
 use Rattle.law_turns.proofs.Counting.Runs.{bump_low, calm_kind, is_calm, calm_of}
 use Rattle.wfe_core.specs.Protect as protects
-use Rattle.wfe_core.specs.Rounds.{scheme_of, index_of}
+use Rattle.wfe_core.specs.Rounds.{scheme_of}
 use Rattle.wfe_core.specs.Phases.{Aim, Alone, Follows, Tries, BeginAt, ProtectAt, Base, Turn, Ending, Outcome, Goes, Ends, goes, ends}
 use Rattle.wfe_core.specs.Phases.BeginAt.{LoadLower, PublishSpan}
-use Rattle.wfe_core.specs.Phases.ProtectAt.{LoadClock, PublishEra, LoadLink, CheckClock, PublishRequest, LoadOwnClock, PublishHelper, LoadOwnLink, CheckOwnClock, AnswerOwn, LoadAnswer, TakeAnswer, WithdrawRequest, WithdrawHelper, LoadWithin, CheckUpper, RaiseUpper}
-use Rattle.wfe_core.specs.Phases.Base.{Begin, Protect, Reload, Clear, Finish, Release, Allocate, Write, GiveUp, Retire, Move}
+use Rattle.wfe_core.specs.Phases.ProtectAt.{LoadClock, PublishEra, LoadLink, CheckClock, LoadWithin, CheckUpper, RaiseUpper}
+use Rattle.wfe_core.specs.Phases.Base.{Begin, Protect, Reload, Clear, Finish, Release}
 use Rattle.wfe_core.specs.Phases.Ending.{Done, Protected, Followed, Allocated, Retired, Clocked}
 use Rattle.wfe_core.specs.Calls.{Task, Gets, Changes, Holds, Enqueues, Dequeues, Why, Opens, FollowsHead, Fills, ClearsNext, Clears, Finishes, GivesUp, Retires, Tidies, Advances, Releases}
 use Rattle.wfe_core.proofs.Facts.{both, first_of, rest_of, and_true, zero_of_test, le_of_test, le_one_more, no_truth}
 use Rattle.wfe_core.specs.words.Schemes.{is_ibr}
 use Rattle.inv_all.specs.shapes.Frame.{Moves, Passed}
-use Rattle.inv_all.specs.shapes.Seats.{PostFits, PhaseFits, Run, protect_fits, Kind, kind_of, suits, protects as protecting, index_by, root_by, aim_by}
+use Rattle.inv_all.specs.shapes.Seats.{PostFits, PhaseFits, Run, protect_fits, kind_of, protects as protecting, index_by, root_by, aim_by}
 use Rattle.laws.specs.StateAt.{is_whole, spanned_by, raised_by}
 use Rattle.laws.specs.StepLaw.{number_raised}
 use Rattle.law_steps.proofs.Raises.Raising.{spanned_along, raised_along, counts_along, still_spans, still_raises, still_counts, at_raised, base_raised, Out, Made, made_if, calm_still, calm_span}
 use Rattle.law_turns.proofs.TurnCounts.Tried.{is_follow, other_kind, is_other, calm_other, other_of_kind}
 use Rattle.law_turns.proofs.Withdrawals.Withdrawing.{tells_link}
 use Rattle.law_turns.proofs.TryCounts.{task_index}
-use Rattle.law_scans.proofs.reuse.Blocks.Reserves.{concluded_told}
+use Rattle.inv_all.proofs.history.MayTell.{concluded_told}
 
 -- what is known of a machine that makes a step; `count` are the steps of its call before it
 pub record Stage (i : ℕ) (s : Bool) (r : ℕ) (layout : Layout) (why : Why) (base : Base) (post : Post) (found count : ℕ) : Type 0 where
@@ -60,26 +60,13 @@ is_within at = false
 
 within_ibr : (most : ℕ) (at : ProtectAt) → protect_fits Ibr most at ≡ true → is_within at ≡ true
 within_ibr most (LoadClock Tries.Endless) h = absurd (cc)
-within_ibr most (LoadClock (Tries.Failed count)) h = absurd (cc)
 within_ibr most (PublishEra era Tries.Endless) h = absurd (cc)
-within_ibr most (PublishEra era (Tries.Failed count)) h = absurd (cc)
 within_ibr most (LoadLink era Tries.Endless) h = absurd (cc)
-within_ibr most (LoadLink era (Tries.Failed count)) h = absurd (cc)
 within_ibr most (CheckClock era Tries.Endless link) h = absurd (cc)
-within_ibr most (CheckClock era (Tries.Failed count) link) h = absurd (cc)
-within_ibr most PublishRequest h = absurd (cc)
-within_ibr most LoadOwnClock h = absurd (cc)
-within_ibr most (PublishHelper first era last) h = absurd (cc)
-within_ibr most (LoadOwnLink first era last) h = absurd (cc)
-within_ibr most (CheckOwnClock first era last link) h = absurd (cc)
-within_ibr most (AnswerOwn first era link) h = absurd (cc)
-within_ibr most (LoadAnswer first) h = absurd (cc)
-within_ibr most (TakeAnswer link era) h = absurd (cc)
-within_ibr most (WithdrawRequest link era) h = absurd (cc)
-within_ibr most (WithdrawHelper link era) h = absurd (cc)
 within_ibr most LoadWithin h = refl
 within_ibr most (CheckUpper link) h = refl
 within_ibr most (RaiseUpper era) h = refl
+within_ibr most at h = absurd (cc)
 
 -- what a link that was found tells
 told_none : (i index : ℕ) (root : Root) (link n : ℕ) (s : Bool) (r : ℕ) → tells_link root link ≡ true → raised_along i (protects.told_held index root link n) s r ≡ 0
@@ -139,15 +126,7 @@ held_counts i index roots.Tail link n s r e h = two_ways i index (link - 1) n s 
 found_counts : (i buckets : ℕ) (why : Why) (index : ℕ) (root : Root) (link n : ℕ) (s : Bool) (r : ℕ) → protecting (kind_of why) ≡ true → index ≡ index_by why → root ≡ root_by buckets why → (n == 3 * r + 2) ≡ true → counts_along i (protects.told_held index root link n) s r ≡ true
 found_counts i buckets (Opens task) index root link n s r p a e h = held_counts i index root link n s r (rw a (task_index task)) h
 found_counts i buckets (FollowsHead head tail) index root link n s r p a e h = rw e (one_way i index n s r (link == 0) h)
-found_counts i buckets (Fills task) index root link n s r p a e h = absurd (cc)
-found_counts i buckets (ClearsNext next) index root link n s r p a e h = absurd (cc)
-found_counts i buckets (Clears task next) index root link n s r p a e h = absurd (cc)
-found_counts i buckets (Finishes task next) index root link n s r p a e h = absurd (cc)
-found_counts i buckets (GivesUp answer) index root link n s r p a e h = absurd (cc)
-found_counts i buckets (Retires answer) index root link n s r p a e h = absurd (cc)
-found_counts i buckets (Tidies later) index root link n s r p a e h = absurd (cc)
-found_counts i buckets Advances index root link n s r p a e h = absurd (cc)
-found_counts i buckets (Releases key) index root link n s r p a e h = absurd (cc)
+found_counts i buckets why index root link n s r p a e h = absurd (cc)
 
 -- a protection is over
 task_tells : (buckets : ℕ) (task : Task) (root : Root) (link : ℕ) → root ≡ root_by buckets (Opens task) → tells_link root link ≡ true

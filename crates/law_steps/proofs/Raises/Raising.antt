@@ -13,22 +13,24 @@ use Rattle.wfe_core.specs.declared.post.Post.{Post}
 use Rattle.wfe_core.specs.Allocate as allocates
 use Rattle.wfe_core.specs.Machine as machine
 use Rattle.wfe_core.specs.MoveClock as movers
-use Rattle.wfe_core.specs.Posts.{stands, cleared}
+use Rattle.wfe_core.specs.Posts.{cleared}
 use Rattle.wfe_core.specs.Rounds.{scheme_of, clear_told, clear_post}
 use Rattle.wfe_core.specs.SlowPath as slow
 use Rattle.wfe_core.specs.WriteRow.{last_written}
-use Rattle.wfe_core.specs.Phases.{ProtectAt, AllocateAt, RetireAt, MoveAt, Walk, Base, Turn, Outcome, Goes, Ends}
+use Rattle.wfe_core.specs.Phases.{ProtectAt, MoveAt, Walk, Base, Turn, Outcome, Goes, Ends}
 use Rattle.wfe_core.specs.Phases.ProtectAt.{LoadWithin, CheckUpper, RaiseUpper}
-use Rattle.wfe_core.specs.Phases.AllocateAt.{LoadBirth, ClaimSlot, StoreLife}
-use Rattle.wfe_core.specs.Phases.RetireAt.{LoadLife, LoadRetire, StoreRetired}
-use Rattle.wfe_core.specs.Phases.MoveAt.{LoadEra, LoadRequest, ShowEra, LoadAsked, CheckEra, AnswerAsked, LoadReserved, HandOver, HideEra, HideLate, ExchangeClock}
-use Rattle.wfe_core.specs.Phases.Base.{Begin, Protect, Reload, Clear, Finish, Release, Allocate, Write, GiveUp, Retire, Move}
+use Rattle.wfe_core.specs.Phases.AllocateAt.{ClaimSlot}
+use Rattle.wfe_core.specs.Phases.RetireAt.{LoadLife}
+use Rattle.wfe_core.specs.Phases.MoveAt.{LoadEra, CheckEra, AnswerAsked, LoadReserved, HandOver, ExchangeClock}
+use Rattle.wfe_core.specs.Phases.Base.{Begin, Protect, Reload, Clear, Finish, Release, Allocate, Write, Retire, Move}
 use Rattle.wfe_core.specs.Phases.Ending.{Followed}
 use Rattle.wfe_core.proofs.Facts.{both, first_of, rest_of}
 use Rattle.inv_all.proofs.history.Passes.{is_quiet, all_quiet, Closed}
 use Rattle.laws.specs.StateAt.{spanned_by, raised_by}
 use Rattle.laws.specs.StepLaw.{number_raised}
 use Rattle.law_turns.proofs.Counting.Runs.{is_calm}
+use Rattle.inv_all.proofs.history.MayTell.{Tells, base_all, cleared_all, clear_all}
+use Rattle.inv_all.proofs.history.AllOf.{all_of, of_weaker}
 
 -- along what a step tells
 abbrev pub spanned_along : (seat : ℕ) → List Event → Bool → Bool
@@ -65,8 +67,7 @@ is_still (events.Null index steps) = false
 is_still event = true
 
 abbrev pub all_still : List Event → Bool
-all_still [] = true
-all_still (event ∷ told) = is_still event && all_still told
+all_still told = all_of is_still told
 
 still_span : (i : ℕ) (event : Event) (s : Bool) → is_still event ≡ true → spanned_by i event s ≡ s
 still_span i (events.Reserve (Whole seat) span) s h = absurd (cc)
@@ -106,17 +107,13 @@ quiet_one (events.Null index steps) h = absurd (cc)
 quiet_one event h = refl
 
 pub quiet_still : (told : List Event) → all_quiet told ≡ true → all_still told ≡ true
-quiet_still [] h = refl
-quiet_still (event ∷ told) h = both (is_still event) (all_still told) (quiet_one event (first_of (is_quiet event) (all_quiet told) h)) (quiet_still told (rest_of (is_quiet event) (all_quiet told) h))
+quiet_still told h = of_weaker is_quiet is_still told quiet_one h
 
 pub cleared_still : (index : ℕ) (o : Option ℕ) → all_still (cleared index o) ≡ true
-cleared_still index None = refl
-cleared_still index (Some slot) = refl
+cleared_still index o = cleared_all is_still index o (λ index slot. refl)
 
 pub clear_still : (scheme : SchemeKind) (post : Post) (index : ℕ) → all_still (clear_told scheme post index) ≡ true
-clear_still He post index = refl
-clear_still Ibr post index = cleared_still index (stands post index)
-clear_still Wfe post index = refl
+clear_still scheme post index = clear_all is_still scheme post index (λ index slot. refl)
 
 pub clear_span : (scheme : SchemeKind) (post : Post) (index : ℕ) → (clear_post scheme post index).span ≡ post.span
 clear_span He post index = refl
@@ -171,56 +168,17 @@ made_if moved i s r true t u h k = h refl
 made_if moved i s r false t u h k = k refl
 
 -- the machines that tell nothing of intervals
-abbrev Still : List Event → Type 0
-Still told = all_still told ≡ true
+one_still : (base : Base) (post : Post) (found : ℕ) (event : Event) → is_calm base ≡ true → Tells base post found event → is_still event ≡ true
+one_still (Protect aim own root made at) post found event h t = absurd (cc)
+one_still base post found (events.Reserve (Whole seat) span) h t = cc
+one_still base post found (events.Held index slot steps) h t = cc
+one_still base post found (events.Null index steps) h t = absurd (cc)
+one_still base post found (events.Reserve (Helper seat) span) h t = refl
+one_still base post found (events.Reserve (Index seat index) span) h t = refl
+one_still base post found event h t = refl
 
-still_if : (c : Bool) (t u : Turn) → Still t.told → Still u.told → Still (if c then t else u).told
-still_if true t u h k = h
-still_if false t u h k = k
-
-walking_still : (birth : ℕ) (post : Post) (x : Option Walk) → Still (allocates.walking birth post x).told
-walking_still birth post None = refl
-walking_still birth post (Some walk) = refl
-
-allocate_still : (at : AllocateAt) (post : Post) (found : ℕ) → Still (machine.allocate_turn at post found).told
-allocate_still LoadBirth post found = refl
-allocate_still (ClaimSlot birth walk) post found = still_if (allocates.is_claimed found walk.slot) _ _ (walking_still birth post (allocates.walk_past post.layout.config.slots walk found)) refl
-allocate_still (StoreLife birth slot) post found = refl
-
-retire_still : (at : RetireAt) (post : Post) (found : ℕ) → Still (machine.retire_turn at post found).told
-retire_still (LoadLife slot) post found = refl
-retire_still (LoadRetire slot birth) post found = refl
-retire_still (StoreRetired slot birth retire) post found = refl
-
-handed_still : (era seat tag index old : ℕ) (post : Post) (same : Bool) → Still (movers.after_hand_over era seat tag index old post same).told
-handed_still era seat tag index old post true = refl
-handed_still era seat tag index old post false = refl
-
-move_still : (at : MoveAt) (post : Post) (found : ℕ) → Still (machine.move_turn at post found).told
-move_still (LoadEra helps) post found = still_if (found == post.layout.config.last_era) _ _ refl refl
-move_still (LoadRequest era seat shows) post found = refl
-move_still (ShowEra era seat tag index root) post found = refl
-move_still (LoadAsked era seat tag index root) post found = refl
-move_still (CheckEra era seat tag index root link) post found = still_if (found == era) _ _ refl refl
-move_still (AnswerAsked era seat tag index root link) post found = still_if (found == slow.asking post.layout tag index root) _ _ refl refl
-move_still (LoadReserved era seat tag index root link) post found = still_if ((read_reservation found).tag == tag) _ _ refl refl
-move_still (HandOver era seat tag index root link old) post found = handed_still era seat tag index old post (found == reservation_word (record { era = old; tag = tag }))
-move_still (HideEra era) post found = refl
-move_still (HideLate seen) post found = refl
-move_still (ExchangeClock era) post found = still_if (found == era) _ _ refl refl
-
-pub calm_still : (base : Base) (post : Post) (found : ℕ) → is_calm base ≡ true → Still (machine.after base post found).told
-calm_still (Allocate at) post found h = allocate_still at post found
-calm_still (Write slot row place) post found h = still_if (place == last_written row) _ _ refl refl
-calm_still (GiveUp slot) post found h = refl
-calm_still (Retire at) post found h = retire_still at post found
-calm_still (Move at) post found h = move_still at post found
-calm_still (Begin at) post found h = absurd (cc)
-calm_still (Protect aim index root steps at) post found h = absurd (cc)
-calm_still (Reload parent index slot era steps) post found h = absurd (cc)
-calm_still (Clear index) post found h = absurd (cc)
-calm_still Finish post found h = absurd (cc)
-calm_still Release post found h = absurd (cc)
+pub calm_still : (base : Base) (post : Post) (found : ℕ) → is_calm base ≡ true → all_still (machine.after base post found).told ≡ true
+calm_still base post found h = base_all is_still base post found (λ event. one_still base post found event h)
 
 -- and leave the interval as it is
 span_if : (post : Post) (c : Bool) (t u : Turn) → t.post.span ≡ post.span → u.post.span ≡ post.span → (if c then t else u).post.span ≡ post.span
@@ -237,26 +195,17 @@ handed_span era seat tag index old post false = refl
 
 move_span : (at : MoveAt) (post : Post) (found : ℕ) → (machine.move_turn at post found).post.span ≡ post.span
 move_span (LoadEra helps) post found = span_if post (found == post.layout.config.last_era) _ _ refl refl
-move_span (LoadRequest era seat shows) post found = refl
-move_span (ShowEra era seat tag index root) post found = refl
-move_span (LoadAsked era seat tag index root) post found = refl
 move_span (CheckEra era seat tag index root link) post found = span_if post (found == era) _ _ refl refl
 move_span (AnswerAsked era seat tag index root link) post found = span_if post (found == slow.asking post.layout tag index root) _ _ refl refl
 move_span (LoadReserved era seat tag index root link) post found = span_if post ((read_reservation found).tag == tag) _ _ refl refl
 move_span (HandOver era seat tag index root link old) post found = handed_span era seat tag index old post (found == reservation_word (record { era = old; tag = tag }))
-move_span (HideEra era) post found = refl
-move_span (HideLate seen) post found = refl
 move_span (ExchangeClock era) post found = span_if post (found == era) _ _ refl refl
+move_span at post found = refl
 
 pub calm_span : (base : Base) (post : Post) (found : ℕ) → is_calm base ≡ true → (machine.after base post found).post.span ≡ post.span
-calm_span (Allocate LoadBirth) post found h = refl
 calm_span (Allocate (ClaimSlot birth walk)) post found h = span_if post (allocates.is_claimed found walk.slot) _ _ (walking_span birth post (allocates.walk_past post.layout.config.slots walk found)) refl
-calm_span (Allocate (StoreLife birth slot)) post found h = refl
 calm_span (Write slot row place) post found h = span_if post (place == last_written row) _ _ refl refl
-calm_span (GiveUp slot) post found h = refl
 calm_span (Retire (LoadLife slot)) post found h = refl
-calm_span (Retire (LoadRetire slot birth)) post found h = refl
-calm_span (Retire (StoreRetired slot birth retire)) post found h = refl
 calm_span (Move at) post found h = move_span at post found
 calm_span (Begin at) post found h = absurd (cc)
 calm_span (Protect aim index root steps at) post found h = absurd (cc)
@@ -264,3 +213,4 @@ calm_span (Reload parent index slot era steps) post found h = absurd (cc)
 calm_span (Clear index) post found h = absurd (cc)
 calm_span Finish post found h = absurd (cc)
 calm_span Release post found h = absurd (cc)
+calm_span base post found h = refl

@@ -27,29 +27,25 @@ use Rattle.inv_all.specs.history.Heard.{heard_of}
 use Rattle.law_turns.proofs.answers.Turns.Counted.{histories_count}
 use Rattle.laws.specs.Schedule.{turns_since, event_handed, events_handed, handed_right}
 use Rattle.inv_all.specs.history.Turns.{EachTurn}
-use Rattle.law_turns.proofs.answers.OneStep.Along.{Kept, history_keeps}
-use Rattle.law_turns.proofs.Counting.Counting.{Keeps, step_kept, begin_kept, first_kept, kept}
+use Rattle.law_turns.proofs.answers.OneStep.Along.{history_keeps}
+use Rattle.law_turns.proofs.Counting.Counting.{Keeps, first_kept, kept}
 use Rattle.law_turns.proofs.Counting.Fits.{own}
 use Rattle.law_turns.proofs.Handovers.{handovers_meet}
+use Rattle.laws.proofs.Along.{index_guard}
 
 -- an index word that publishes has been told to since its seat told nothing of it
 abbrev marked : ℕ → ℕ → Past → Bool
 marked k j p = not (is_some (value_of (Index k j) p)) || nat_lt 0 (reserves_of k j p)
 
-same_index : (k j : ℕ) (guard : Guard) → same_guard (Index k j) guard ≡ is_index_word k j guard
-same_index k j (Helper seat) = refl
-same_index k j (Index seat index) = grind (arith, nat_tests)
-same_index k j (Whole seat) = refl
-
 -- the seat itself tells it
 own_told : (k j : ℕ) (guard : Guard) (span value : Option Interval) (before : ℕ) (same : Bool) → is_index_word k j guard ≡ same → (not (is_some value) || nat_lt 0 before) ≡ true
     → (not (is_some (if same_guard (Index k j) guard then span else value)) || nat_lt 0 (if is_index_word k j guard then one_more span before else before)) ≡ true
-own_told k j guard None value before true e h = rw (same_index k j guard, e) refl
-own_told k j guard (Some span) value before true e h = rw (same_index k j guard, e) (some_told before)
+own_told k j guard None value before true e h = rw (index_guard k j guard, e) refl
+own_told k j guard (Some span) value before true e h = rw (index_guard k j guard, e) (some_told before)
   where
     some_told : (before : ℕ) → nat_lt 0 (before + 1) ≡ true
     some_told before = grind (arith, nat_tests)
-own_told k j guard span value before false e h = rw (same_index k j guard, e) h
+own_told k j guard span value before false e h = rw (index_guard k j guard, e) h
 
 -- another seat hands over
 other_told : (k j i : ℕ) (guard : Guard) (span value : Option Interval) (before : ℕ) (x : ℕ → ℕ → ℕ) (same : Bool) → is_index_word k j guard ≡ same → (k == i) ≡ false → x k j ≡ before → event_handed i x (events.Reserve guard span) ≡ true → (not (is_some value) || nat_lt 0 before) ≡ true
@@ -66,7 +62,7 @@ other_told k j i (Index a b) span value before x true e o r h m =
     any false b h = h
 other_told k j i (Helper seat) span value before x same e o r h m = m
 other_told k j i (Whole seat) span value before x same e o r h m = m
-other_told k j i (Index a b) span value before x false e o r h m = rw (same_index k j (Index a b), e) m
+other_told k j i (Index a b) span value before x false e o r h m = rw (index_guard k j (Index a b), e) m
 
 if_true : (same : Bool) (a b : ℕ) → same ≡ true → (if same then a else b) ≡ a
 if_true true a b h = refl

@@ -18,11 +18,11 @@ use Rattle.wfe_core.specs.Calls.{Why, Phase, Idle, Runs, Scans, Works}
 use Rattle.wfe_core.specs.Machine as machine
 use Rattle.wfe_core.specs.Memory.{bump}
 use Rattle.wfe_core.specs.Phases.{Aim, Alone, Follows, Tries, Endless, Failed, ProtectAt, Walk, Base, Turn, Outcome, Goes, Ends}
-use Rattle.wfe_core.specs.Phases.BeginAt.{LoadLower, PublishSpan}
-use Rattle.wfe_core.specs.Phases.ProtectAt.{LoadClock, PublishEra, LoadLink, CheckClock, PublishRequest, LoadOwnClock, PublishHelper, LoadOwnLink, CheckOwnClock, AnswerOwn, LoadAnswer, TakeAnswer, WithdrawRequest, WithdrawHelper, LoadWithin, CheckUpper, RaiseUpper}
-use Rattle.wfe_core.specs.Phases.AllocateAt.{LoadBirth, ClaimSlot, StoreLife}
-use Rattle.wfe_core.specs.Phases.RetireAt.{LoadLife, LoadRetire, StoreRetired}
-use Rattle.wfe_core.specs.Phases.Base.{Begin, Protect, Reload, Clear, Finish, Release, Allocate, Write, GiveUp, Retire, Move}
+use Rattle.wfe_core.specs.Phases.BeginAt.{LoadLower}
+use Rattle.wfe_core.specs.Phases.ProtectAt.{LoadClock, PublishEra, LoadLink, CheckClock, PublishRequest, CheckOwnClock, AnswerOwn, LoadAnswer, TakeAnswer, WithdrawHelper, CheckUpper, RaiseUpper}
+use Rattle.wfe_core.specs.Phases.AllocateAt.{ClaimSlot}
+use Rattle.wfe_core.specs.Phases.RetireAt.{LoadLife}
+use Rattle.wfe_core.specs.Phases.Base.{Begin, Protect, Reload, Allocate, Write, Retire, Move}
 use Rattle.wfe_core.specs.Posts.{counted, upper, reserves_helper}
 use Rattle.wfe_core.specs.Protect as protects
 use Rattle.wfe_core.specs.Rounds.{protect_at, release_base, scheme_of}
@@ -112,23 +112,15 @@ answer_risen values helper post index None h = h
 protect_on : (values : ℕ → Option Interval) (helper : Option Interval) (aim : Aim) (index : ℕ) (root : Root) (n : ℕ) (at : ProtectAt) (post : Post) (found : ℕ) → protect_raises values helper post index at found → TurnRisen values helper (machine.protect_turn aim index root n at post found)
 protect_on values helper aim index root n (LoadClock tries) post found h = rw h refl
 protect_on values helper aim index root n (PublishEra era tries) post found h = trying_risen values helper post index post.layout.config era tries
-protect_on values helper aim index root n (LoadLink era tries) post found h = tt
 protect_on values helper aim index root n (CheckClock era tries link) post found h =
     risen_if values helper _ _ (found == era) (concluded_risen values helper aim index root n link era (protects.held_post post index root link) (protects.told_held index root link n)) h
-protect_on values helper aim index root n PublishRequest post found h = tt
-protect_on values helper aim index root n LoadOwnClock post found h = tt
-protect_on values helper aim index root n (PublishHelper first era last) post found h = tt
-protect_on values helper aim index root n (LoadOwnLink first era last) post found h = tt
 protect_on values helper aim index root n (CheckOwnClock first era last link) post found h = risen_if values helper _ _ (found == era) tt (λ e. lost_risen values helper post index first found last h)
 protect_on values helper aim index root n (AnswerOwn first era link) post found h = risen_if values helper _ _ (found == own_request post index root) h (λ e. answer_risen values helper post index (read_request found) h)
 protect_on values helper aim index root n (LoadAnswer first) post found h = answer_risen values helper post index (read_request found) h
-protect_on values helper aim index root n (TakeAnswer link era) post found h = tt
-protect_on values helper aim index root n (WithdrawRequest link era) post found h = tt
 protect_on values helper aim index root n (WithdrawHelper link era) post found h = concluded_risen values helper aim index root n link era post (reserves_helper post 0)
-protect_on values helper aim index root n LoadWithin post found h = tt
 protect_on values helper aim index root n (CheckUpper link) post found h =
     risen_if values helper _ _ (found == upper post.span) (concluded_risen values helper aim index root n link found (protects.held_post post index root link) (protects.told_held index root link n)) h
-protect_on values helper aim index root n (RaiseUpper era) post found h = tt
+protect_on values helper aim index root n at post found h = tt
 
 moves_risen : (values : ℕ → Option Interval) (helper : Option Interval) (post : Post) (outcome : Outcome) → out_moves outcome ≡ true → OutRisen values helper post outcome
 moves_risen values helper post (Goes (Protect aim index root made at)) h = absurd (cc)
@@ -141,22 +133,14 @@ walking_risen values helper birth post (Some walk) = tt
 
 base_on : (values : ℕ → Option Interval) (helper : Option Interval) (base : Base) (post : Post) (found : ℕ) → base_raises values helper post base found → TurnRisen values helper (machine.after base post found)
 base_on values helper (Begin LoadLower) post found h = tt
-base_on values helper (Begin (PublishSpan era)) post found h = tt
 base_on values helper (Protect aim index root made at) post found h = protect_on values helper aim index root (bump made) at post found h
 base_on values helper (Reload parent index slot era made) post found h = risen_if values helper _ _ (found == parent + 1) tt (λ e. tt)
-base_on values helper (Clear index) post found h = tt
-base_on values helper Finish post found h = tt
-base_on values helper Release post found h = tt
-base_on values helper (Allocate LoadBirth) post found h = tt
 base_on values helper (Allocate (ClaimSlot birth walk)) post found h =
     risen_if values helper _ _ (allocates.is_claimed found walk.slot) (walking_risen values helper birth post (allocates.walk_past post.layout.config.slots walk found)) (λ e. tt)
-base_on values helper (Allocate (StoreLife birth slot)) post found h = tt
 base_on values helper (Write slot row place) post found h = risen_if values helper _ _ (place == last_written row) tt (λ e. tt)
-base_on values helper (GiveUp slot) post found h = tt
 base_on values helper (Retire (LoadLife slot)) post found h = tt
-base_on values helper (Retire (LoadRetire slot birth)) post found h = tt
-base_on values helper (Retire (StoreRetired slot birth retire)) post found h = tt
 base_on values helper (Move at) post found h = moves_risen values helper (machine.after (Move at) post found).post (machine.after (Move at) post found).outcome (moves_on at post found)
+base_on values helper base post found h = tt
 
 opened_risen : (values : ℕ → Option Interval) (helper : Option Interval) (post : Post) (index : ℕ) (scheme : SchemeKind) → protect_risen values helper post index (protect_at scheme)
 opened_risen values helper post index He = tt

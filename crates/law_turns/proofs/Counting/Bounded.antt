@@ -16,7 +16,7 @@ use Rattle.inv_all.specs.history.Turns.History.{Blank, Starts, Turns}
 use Rattle.inv_all.specs.history.History as histories
 use Rattle.laws.specs.StepLaw.{few_steps, steps_ok, event_bounded, events_bounded, turns_bounded}
 use Rattle.law_answers.proofs.Lawful.Counts.{records_keep_steps}
-use Rattle.inv_all.proofs.Each.{all_of}
+use Rattle.inv_all.proofs.history.AllOf.{all_of}
 use Rattle.inv_all.specs.history.Heard.{heard_of}
 use Rattle.law_answers.specs.Heard.{IsCounted}
 use Rattle.law_answers.proofs.Turns.Counted.{histories_count}

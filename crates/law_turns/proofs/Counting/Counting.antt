@@ -18,9 +18,9 @@ use Rattle.wfe_core.specs.Rest.{rest}
 use Rattle.wfe_core.specs.Steps as steps
 use Rattle.wfe_core.specs.World.{World, begin, step, finds, is_busy, told_in}
 use Rattle.wfe_core.specs.Phases.{Aim, ProtectAt, MoveAt, Base}
-use Rattle.wfe_core.specs.Phases.ProtectAt.{LoadClock, PublishEra, LoadLink, CheckClock, PublishRequest, LoadOwnClock, PublishHelper, LoadOwnLink, CheckOwnClock, AnswerOwn, LoadAnswer, TakeAnswer, WithdrawRequest, WithdrawHelper, LoadWithin, CheckUpper, RaiseUpper}
+use Rattle.wfe_core.specs.Phases.ProtectAt.{PublishEra, TakeAnswer}
 use Rattle.wfe_core.specs.Phases.MoveAt.{HandOver}
-use Rattle.wfe_core.specs.Phases.Base.{Begin, Protect, Reload, Clear, Finish, Release, Allocate, Write, GiveUp, Retire, Move}
+use Rattle.wfe_core.specs.Phases.Base.{Protect, Reload, Move}
 use Rattle.wfe_core.specs.Calls.{Why, Phase, Idle, Runs, Scans, Works, ReadGuard, GiveBack, CallTurn}
 use Rattle.wfe_core.proofs.Facts.{same_number, both, first_of, rest_of}
 use Rattle.inv_all.specs.history.Turns as schedule
@@ -60,15 +60,7 @@ use Rattle.law_turns.proofs.Counting.Protects.{u_next}
 base_own_same : (x u y v : ℕ → ℕ) (post : Post) (base : Base) → ((j : ℕ) → y j ≡ x j) → ((j : ℕ) → v j ≡ u j) → base_own x u post base ≡ true → base_own y v post base ≡ true
 base_own_same x u y v post (Protect aim index root made at) p q h = rw (p index) (rw (q index) h)
 base_own_same x u y v post (Reload parent index slot era made) p q h = rw (p index) (rw (q index) h)
-base_own_same x u y v post (Begin at) p q h = refl
-base_own_same x u y v post (Clear index) p q h = refl
-base_own_same x u y v post Finish p q h = refl
-base_own_same x u y v post Release p q h = refl
-base_own_same x u y v post (Allocate at) p q h = refl
-base_own_same x u y v post (Write slot row place) p q h = refl
-base_own_same x u y v post (GiveUp slot) p q h = refl
-base_own_same x u y v post (Retire at) p q h = refl
-base_own_same x u y v post (Move at) p q h = refl
+base_own_same x u y v post base p q h = refl
 
 own_same : (x u y v : ℕ → ℕ) (post : Post) (phase : Phase) → ((j : ℕ) → y j ≡ x j) → ((j : ℕ) → v j ≡ u j) → own x u post phase ≡ true → own y v post phase ≡ true
 own_same x u y v post Idle p q h = refl
@@ -105,34 +97,11 @@ protect_era w i a why aim index root made (TakeAnswer link era) e =
     let k = a.known in
     let q : Requests w a.asked = k.requests in
     answer_some index (link_number w.layout root) link era a.asked.clock (w.layout.config.slots + 1) (a.asked.deal i) (fits_at w a.asked i (Runs why (Protect aim index root made (TakeAnswer link era))) q e) (q.parts.timely i)
-protect_era w i a why aim index root made (LoadClock tries) e = tt
-protect_era w i a why aim index root made (LoadLink era tries) e = tt
-protect_era w i a why aim index root made (CheckClock era tries link) e = tt
-protect_era w i a why aim index root made PublishRequest e = tt
-protect_era w i a why aim index root made LoadOwnClock e = tt
-protect_era w i a why aim index root made (PublishHelper first era last) e = tt
-protect_era w i a why aim index root made (LoadOwnLink first era last) e = tt
-protect_era w i a why aim index root made (CheckOwnClock first era last link) e = tt
-protect_era w i a why aim index root made (AnswerOwn first era link) e = tt
-protect_era w i a why aim index root made (LoadAnswer first) e = tt
-protect_era w i a why aim index root made (WithdrawRequest link era) e = tt
-protect_era w i a why aim index root made (WithdrawHelper link era) e = tt
-protect_era w i a why aim index root made LoadWithin e = tt
-protect_era w i a why aim index root made (CheckUpper link) e = tt
-protect_era w i a why aim index root made (RaiseUpper era) e = tt
+protect_era w i a why aim index root made at e = tt
 
 base_era : (w : World) (i : ℕ) (a : Inv w) (why : Why) (base : Base) → (w.seat i).phase ≡ Runs why base → SomeEra base
 base_era w i a why (Protect aim index root made at) e = protect_era w i a why aim index root made at e
-base_era w i a why (Begin at) e = tt
-base_era w i a why (Reload parent index slot era made) e = tt
-base_era w i a why (Clear index) e = tt
-base_era w i a why Finish e = tt
-base_era w i a why Release e = tt
-base_era w i a why (Allocate at) e = tt
-base_era w i a why (Write slot row place) e = tt
-base_era w i a why (GiveUp slot) e = tt
-base_era w i a why (Retire at) e = tt
-base_era w i a why (Move at) e = tt
+base_era w i a why base e = tt
 
 -- no seat hands over to itself
 pub no_own : (why why2 : Why) (base : MoveAt) (aim : Aim) (index : ℕ) (root : Root) (made : ℕ) (at : ProtectAt) → Runs why (Move base) ≡ Runs why2 (Protect aim index root made at) → ⊥

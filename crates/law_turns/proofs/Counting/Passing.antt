@@ -1,5 +1,5 @@
 -- A step inside a machine keeps what a seat has published where it stands, and the numbers that it tells are right.
-use Rattle.std.proofs.Common.{ℕ, ◌≡◌, ◌≢◌, ◌≤◌, ◌-◌, ◌+◌, Bool, true, false, List, [], ◌∷◌, length, Option, Some, None, refl, sym, ap, ◌∙◌, arith}
+use Rattle.std.proofs.Common.{ℕ, ◌≡◌, ◌≢◌, ◌≤◌, ◌-◌, ◌+◌, Bool, true, false, length, Option, Some, None, refl, sym, ap, ◌∙◌, arith}
 use Rattle.std.proofs.lemmas.Bool.Decides.{nat_tests}
 use Rattle.std.specs.Prelude.{◌==◌, ◌&&◌, ◌||◌, ◌*◌, nat_le, if◌then◌else◌, not}
 use Rattle.wfe_core.specs.words.declared.config.Config.{Config}
@@ -8,9 +8,8 @@ use Rattle.wfe_core.specs.words.declared.config.SchemeKind.TheVariants.{He, Ibr,
 use Rattle.wfe_core.specs.words.declared.packed.Request.{Request}
 use Rattle.wfe_core.specs.words.declared.packed.Request.TheVariants as requests
 use Rattle.wfe_core.specs.words.Packed.{reservation_word}
-use Rattle.wfe_core.specs.defs.declared.event.Event.{Event}
 use Rattle.wfe_core.specs.defs.declared.event.Event.TheVariants as events
-use Rattle.wfe_core.specs.defs.declared.event.Guard.TheVariants.{Index, Whole}
+use Rattle.wfe_core.specs.defs.declared.event.Guard.TheVariants.{Index}
 use Rattle.wfe_core.specs.defs.declared.event.Root.{Root}
 use Rattle.wfe_core.specs.defs.declared.event.Root.TheVariants as roots
 use Rattle.wfe_core.specs.declared.post.Post.{Post}
@@ -18,23 +17,22 @@ use Rattle.wfe_core.specs.Guards.{one_era}
 use Rattle.wfe_core.specs.Machine as machine
 use Rattle.wfe_core.specs.Memory.{bump}
 use Rattle.wfe_core.specs.MoveClock as movers
-use Rattle.wfe_core.specs.Posts.{upper, stands, with_row, cleared, reserves_index, reserves_helper}
-use Rattle.wfe_core.specs.Protect.{failed_once, held_post, told_held, concluded, trying}
+use Rattle.wfe_core.specs.Posts.{stands, with_row, cleared, reserves_index}
+use Rattle.wfe_core.specs.Protect.{failed_once, held_post, trying}
 use Rattle.wfe_core.specs.Rounds.{scheme_of, index_of}
-use Rattle.wfe_core.specs.SlowPath.{own_request, answer_in, lost_turn}
-use Rattle.wfe_core.specs.Phases.{Aim, Tries, Endless, Failed, BeginAt, ProtectAt, MoveAt, Base, Turn}
-use Rattle.wfe_core.specs.Phases.BeginAt.{LoadLower, PublishSpan}
-use Rattle.wfe_core.specs.Phases.ProtectAt.{LoadClock, PublishEra, LoadLink, CheckClock, PublishRequest, LoadOwnClock, PublishHelper, LoadOwnLink, CheckOwnClock, AnswerOwn, LoadAnswer, TakeAnswer, WithdrawRequest, WithdrawHelper, LoadWithin, CheckUpper, RaiseUpper}
+use Rattle.wfe_core.specs.SlowPath.{answer_in, lost_turn}
+use Rattle.wfe_core.specs.Phases.{Tries, Endless, Failed, ProtectAt, Base}
+use Rattle.wfe_core.specs.Phases.ProtectAt.{PublishEra, LoadLink, PublishRequest, TakeAnswer}
 use Rattle.wfe_core.specs.Phases.MoveAt.{HandOver}
-use Rattle.wfe_core.specs.Phases.Base.{Begin, Protect, Reload, Clear, Finish, Release, Allocate, Write, GiveUp, Retire, Move}
-use Rattle.wfe_core.specs.Calls.{Task, Gets, Changes, Holds, Enqueues, Dequeues, Why, Opens, FollowsHead, Fills, ClearsNext, Clears, Finishes, GivesUp, Retires, Tidies, Advances, Releases}
+use Rattle.wfe_core.specs.Phases.Base.{Protect, Clear, Move}
+use Rattle.wfe_core.specs.Calls.{Task, Gets, Changes, Holds, Enqueues, Dequeues, Why, Opens, FollowsHead}
 use Rattle.wfe_core.proofs.Facts.{same_number, both}
-use Rattle.wfe_core.specs.words.Schemes.{is_ibr, is_he, is_wfe}
+use Rattle.wfe_core.specs.words.Schemes.{is_ibr, is_he}
 use Rattle.inv_all.specs.shapes.Seats.{try_fits, index_by, root_by, kind_of, protects}
 use Rattle.laws.specs.StateAt.{reserves_by}
 use Rattle.laws.specs.Schedule.{number_right}
 use Rattle.law_turns.proofs.Counting.Fits.{tried, free_why, holds_why, is_hold, Clean, since, paced, stands_taken, taken}
-use Rattle.law_turns.proofs.Counting.Told.{reserved_along, dull_reserved, cleared_dull, concluded_told, move_dull, allocate_dull, retire_dull, write_dull, index_more, index_none, index_other, held_reserved, reserved_both}
+use Rattle.law_turns.proofs.Counting.Told.{reserved_along, dull_reserved, cleared_dull, index_more, index_none, index_other, held_reserved, reserved_both, unindexed_reserved}
 use Rattle.wfe_core.proofs.Standing.{stands-with_row_same, stands-with_row_other}
 
 -- what a machine's step makes of what the seat has published at its index word j
@@ -63,63 +61,22 @@ abbrev pub Apart : (i found : ℕ) → Base → Type 0
 Apart i found (Move (HandOver era seat tag index root link old)) = (found == reservation_word (record { era = old; tag = tag })) ≡ true → (seat == i) ≡ false
 Apart i found base = Unit {0}
 
-kept_if : (i j n m : ℕ) (c : Bool) (t u : Turn) → reserved_along i j t.told n ≡ m → reserved_along i j u.told n ≡ m → reserved_along i j (if c then t else u).told n ≡ m
-kept_if i j n m true t u h k = h
-kept_if i j n m false t u h k = k
-
-concluded_comes : (i j n m : ℕ) (aim : Aim) (index : ℕ) (root : Root) (steps link era : ℕ) (post : Post) (told : List Event) → reserved_along i j told n ≡ m → reserved_along i j (concluded aim index root steps link era post told).told n ≡ m
-concluded_comes i j n m aim index root steps link era post told h = ap (λ (es : List Event). reserved_along i j es n) (concluded_told aim index root steps link era post told) ∙ h
-
-protect_comes : (i j n : ℕ) (aim : Aim) (index : ℕ) (root : Root) (steps m : ℕ) (at : ProtectAt) (post : Post) (found : ℕ) → post.seat ≡ i → SomeEra (Protect aim index root steps at) → reserved_along i j (machine.protect_turn aim index root m at post found).told n ≡ protect_x index at j n
-protect_comes i j n aim index root steps m (LoadClock tries) post found s e = refl
-protect_comes i j n aim index root steps m (PublishEra era tries) post found s e = index_more i j post.seat index era n s e
-protect_comes i j n aim index root steps m (LoadLink era tries) post found s e = refl
-protect_comes i j n aim index root steps m (CheckClock era tries link) post found s e =
-    kept_if i j n n (found == era) _ _ (concluded_comes i j n n aim index root m link era (held_post post index root link) (told_held index root link m) (held_reserved i j index root link m n)) refl
-protect_comes i j n aim index root steps m PublishRequest post found s e = refl
-protect_comes i j n aim index root steps m LoadOwnClock post found s e = refl
-protect_comes i j n aim index root steps m (PublishHelper first era last) post found s e = refl
-protect_comes i j n aim index root steps m (LoadOwnLink first era last) post found s e = refl
-protect_comes i j n aim index root steps m (CheckOwnClock first era last link) post found s e = kept_if i j n n (found == era) _ _ refl refl
-protect_comes i j n aim index root steps m (AnswerOwn first era link) post found s e = kept_if i j n n (found == own_request post index root) _ _ refl refl
-protect_comes i j n aim index root steps m (LoadAnswer first) post found s e = refl
-protect_comes i j n aim index root steps m (TakeAnswer link era) post found s e =
-    held_reserved i j index root link m (reserves_by i j (events.Reserve (Index post.seat index) (one_era era)) n) ∙ index_more i j post.seat index era n s e
-protect_comes i j n aim index root steps m (WithdrawRequest link era) post found s e = refl
-protect_comes i j n aim index root steps m (WithdrawHelper link era) post found s e = concluded_comes i j n n aim index root m link era post (reserves_helper post 0) refl
-protect_comes i j n aim index root steps m LoadWithin post found s e = refl
-protect_comes i j n aim index root steps m (CheckUpper link) post found s e =
-    kept_if i j n n (found == upper post.span) _ _ (concluded_comes i j n n aim index root m link found (held_post post index root link) (told_held index root link m) (held_reserved i j index root link m n)) refl
-protect_comes i j n aim index root steps m (RaiseUpper era) post found s e = refl
-
 handed_comes : (i j n era seat tag index old : ℕ) (post : Post) (same : Bool) → (same ≡ true → (seat == i) ≡ false) → reserved_along i j (movers.after_hand_over era seat tag index old post same).told n ≡ n
 handed_comes i j n era seat tag index old post true a = index_other i j seat index n (one_era era) (a refl)
 handed_comes i j n era seat tag index old post false a = refl
 
-move_comes : (i j n : ℕ) (at : MoveAt) (post : Post) (found : ℕ) → Apart i found (Move at) → reserved_along i j (machine.move_turn at post found).told n ≡ n
-move_comes i j n (HandOver era seat tag index root link old) post found a = handed_comes i j n era seat tag index old post (found == reservation_word (record { era = old; tag = tag })) a
-move_comes i j n at post found a = dull_reserved i j (machine.move_turn at post found).told n (move_dull at post found refl)
-
-begin_comes : (i j n : ℕ) (at : BeginAt) (post : Post) (found : ℕ) → reserved_along i j (machine.begin_turn at post found).told n ≡ n
-begin_comes i j n LoadLower post found = refl
-begin_comes i j n (PublishSpan era) post found = refl
-
 pub base_comes : (i j n : ℕ) (base : Base) (post : Post) (found : ℕ) → post.seat ≡ i → SomeEra base → Apart i found base → reserved_along i j (machine.after base post found).told n ≡ after_x base j n
-base_comes i j n (Begin at) post found s e a = begin_comes i j n at post found
-base_comes i j n (Protect aim index root steps at) post found s e a = protect_comes i j n aim index root steps (bump steps) at post found s e
-base_comes i j n (Reload parent index slot era steps) post found s e a = kept_if i j n n (found == parent + 1) _ _ refl refl
+base_comes i j n (Protect aim index root steps (PublishEra era tries)) post found s e a = index_more i j post.seat index era n s e
+base_comes i j n (Protect aim index root steps (TakeAnswer link era)) post found s e a =
+    held_reserved i j index root link (bump steps) (reserves_by i j (events.Reserve (Index post.seat index) (one_era era)) n) ∙ index_more i j post.seat index era n s e
 base_comes i j n (Clear index) post found s e a =
     reserved_both i j (cleared index (stands post index)) (reserves_index post index 0) n
     ∙ ap (reserved_along i j (reserves_index post index 0)) (dull_reserved i j (cleared index (stands post index)) n (cleared_dull index (stands post index)))
     ∙ index_none i j post.seat index n s
-base_comes i j n Finish post found s e a = refl
-base_comes i j n Release post found s e a =
-    reserved_both i j (cleared 2 (stands post 2)) (events.Reserve (Whole post.seat) None ∷ []) n ∙ dull_reserved i j (cleared 2 (stands post 2)) n (cleared_dull 2 (stands post 2))
-base_comes i j n (Allocate at) post found s e a = dull_reserved i j (machine.allocate_turn at post found).told n (allocate_dull at post found)
-base_comes i j n (Write slot row place) post found s e a = dull_reserved i j (machine.after (Write slot row place) post found).told n (write_dull slot row place post found)
-base_comes i j n (GiveUp slot) post found s e a = refl
-base_comes i j n (Retire at) post found s e a = dull_reserved i j (machine.retire_turn at post found).told n (retire_dull at post found)
-base_comes i j n (Move at) post found s e a = move_comes i j n at post found a
+base_comes i j n (Move (HandOver era seat tag index root link old)) post found s e a = handed_comes i j n era seat tag index old post (found == reservation_word (record { era = old; tag = tag })) a
+base_comes i j n (Protect aim index root steps at) post found s e a = unindexed_reserved i j (Protect aim index root steps at) post found n refl
+base_comes i j n (Move at) post found s e a = unindexed_reserved i j (Move at) post found n refl
+base_comes i j n base post found s e a = unindexed_reserved i j base post found n refl
 
 -- numbers
 pub since_next : (steps x u : ℕ) → since steps x u ≡ true → since (steps + 1) x (turned x u) ≡ true
@@ -243,29 +200,13 @@ held_taken buckets (Opens (Holds key)) index root link post p i r h = rw i (rw r
 held_taken buckets (Opens (Enqueues kept)) index root link post p i r h = taken_other index link _ (rw i refl)
 held_taken buckets (Opens Dequeues) index root link post p i r h = taken_other index link _ (rw i refl)
 held_taken buckets (FollowsHead head tail) index root link post p i r h = taken_other index link _ (rw i refl)
-held_taken buckets (Fills task) index root link post p i r h = absurd (cc)
-held_taken buckets (ClearsNext next) index root link post p i r h = absurd (cc)
-held_taken buckets (Clears task next) index root link post p i r h = absurd (cc)
-held_taken buckets (Finishes task next) index root link post p i r h = absurd (cc)
-held_taken buckets (GivesUp answer) index root link post p i r h = absurd (cc)
-held_taken buckets (Retires answer) index root link post p i r h = absurd (cc)
-held_taken buckets (Tidies later) index root link post p i r h = absurd (cc)
-held_taken buckets Advances index root link post p i r h = absurd (cc)
-held_taken buckets (Releases key) index root link post p i r h = absurd (cc)
+held_taken buckets why index root link post p i r h = absurd (cc)
 
 -- the index of a protection is not free, and it is 2 for a hold alone
 why_apart : (why : Why) (index j : ℕ) → protects (kind_of why) ≡ true → index ≡ index_by why → free_why why j ≡ true → (index == j) ≡ false
 why_apart (Opens task) index j p i e = rw i (grind (arith, nat_tests))
 why_apart (FollowsHead head tail) index j p i e = rw i (grind (arith, nat_tests))
-why_apart (Fills task) index j p i e = absurd (cc)
-why_apart (ClearsNext next) index j p i e = absurd (cc)
-why_apart (Clears task next) index j p i e = absurd (cc)
-why_apart (Finishes task next) index j p i e = absurd (cc)
-why_apart (GivesUp answer) index j p i e = absurd (cc)
-why_apart (Retires answer) index j p i e = absurd (cc)
-why_apart (Tidies later) index j p i e = absurd (cc)
-why_apart Advances index j p i e = absurd (cc)
-why_apart (Releases key) index j p i e = absurd (cc)
+why_apart why index j p i e = absurd (cc)
 
 task_apart : (task : Task) → is_hold task ≡ false → (index_of task == 2) ≡ false
 task_apart (Gets key) e = refl
@@ -277,15 +218,7 @@ task_apart Dequeues e = refl
 two_apart : (why : Why) (index : ℕ) → protects (kind_of why) ≡ true → index ≡ index_by why → holds_why why ≡ false → (index == 2) ≡ false
 two_apart (Opens task) index p i e = rw i (task_apart task e)
 two_apart (FollowsHead head tail) index p i e = rw i refl
-two_apart (Fills task) index p i e = absurd (cc)
-two_apart (ClearsNext next) index p i e = absurd (cc)
-two_apart (Clears task next) index p i e = absurd (cc)
-two_apart (Finishes task next) index p i e = absurd (cc)
-two_apart (GivesUp answer) index p i e = absurd (cc)
-two_apart (Retires answer) index p i e = absurd (cc)
-two_apart (Tidies later) index p i e = absurd (cc)
-two_apart Advances index p i e = absurd (cc)
-two_apart (Releases key) index p i e = absurd (cc)
+two_apart why index p i e = absurd (cc)
 
 x_apart : (index : ℕ) (at : ProtectAt) (j n : ℕ) → (index == j) ≡ false → protect_x index at j n ≡ n
 x_apart index (PublishEra era tries) j n e = rw e refl

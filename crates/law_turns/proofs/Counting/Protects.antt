@@ -23,7 +23,8 @@ use Rattle.wfe_core.specs.words.Schemes.{is_ibr, is_he}
 use Rattle.inv_all.specs.shapes.Seats.{protect_fits, aim_by, index_by, root_by, kind_of, protects}
 use Rattle.laws.specs.Schedule.{events_right}
 use Rattle.law_turns.proofs.Counting.Fits.{tried, free_why, holds_why, is_hold, Clean, since, paced, stands_taken, taken, Passes, Opened}
-use Rattle.law_turns.proofs.Counting.Told.{concluded_told, held_right}
+use Rattle.inv_all.proofs.history.MayTell.{concluded_told}
+use Rattle.law_turns.proofs.Counting.Told.{held_right}
 use Rattle.law_turns.proofs.Counting.Passing.{tried_of, tried_with, tried_again, he_tried, he_first, he_publish, protect_x, turned, since_next, since_publish, publish_next, since_again, first_next, few_next, number_of, own_x, paced_trying, taken_trying, paced_lost, taken_lost, paced_answer, taken_answer, held_other, held_taken, protect_clean}
 use Rattle.law_answers.proofs.Turns.Steady.{held_same}
 use Rattle.inv_all.proofs.requests.Paced.{wfe_not_he}
@@ -216,28 +217,20 @@ concluded_rights x u call aim index root n link era post told h = rw (concluded_
 
 -- the number that it tells
 pub protect_rights : (x u : ℕ → ℕ) (buckets : ℕ) (why : Why) (aim : Aim) (index : ℕ) (root : Root) (steps n count : ℕ) (at : ProtectAt) (post : Post) (found : ℕ) → Site x u buckets why aim index root steps n count at post → events_right (x_next x index at) (u_next x u) (count + 1) (machine.protect_turn aim index root n at post found).told ≡ true
-protect_rights x u buckets why aim index root steps n count (LoadClock tries) post found s = refl
-protect_rights x u buckets why aim index root steps n count (PublishEra era tries) post found s = refl
-protect_rights x u buckets why aim index root steps n count (LoadLink era tries) post found s = refl
 protect_rights x u buckets why aim index root steps n count (CheckClock era tries link) post found s =
     let p : since n (x index) (turned (x index) (u index)) ≡ true = rw (s.next) (since_next steps (x index) (u index) (first_of (since steps (x index) (u index)) (tried tries (steps == 3 * x index)) s.paced)) in
     let f : nat_le n (count + 1) ≡ true = rw (s.next) (few_next steps count s.few) in
     rights_if (x_next x index (CheckClock era tries link)) (u_next x u) (count + 1) (found == era) (concluded aim index root n link era (held_post post index root link) (told_held index root link n)) _
     (concluded_rights (x_next x index (CheckClock era tries link)) (u_next x u) (count + 1) aim index root n link era (held_post post index root link) (told_held index root link n) (held_right (x_next x index (CheckClock era tries link)) (u_next x u) (count + 1) index root link n (number_of n (x index) (turned (x index) (u index)) (count + 1) p f))) refl
-protect_rights x u buckets why aim index root steps n count PublishRequest post found s = refl
-protect_rights x u buckets why aim index root steps n count LoadOwnClock post found s = refl
-protect_rights x u buckets why aim index root steps n count (PublishHelper first era last) post found s = refl
-protect_rights x u buckets why aim index root steps n count (LoadOwnLink first era last) post found s = refl
 protect_rights x u buckets why aim index root steps n count (CheckOwnClock first era last link) post found s = rights_if (x_next x index (CheckOwnClock first era last link)) (u_next x u) (count + 1) (found == era) _ _ refl refl
 protect_rights x u buckets why aim index root steps n count (AnswerOwn first era link) post found s = rights_if (x_next x index (AnswerOwn first era link)) (u_next x u) (count + 1) (found == own_request post index root) _ _ refl refl
-protect_rights x u buckets why aim index root steps n count (LoadAnswer first) post found s = refl
 protect_rights x u buckets why aim index root steps n count (TakeAnswer link era) post found s =
     let q : x_next x index (TakeAnswer link era) index ≡ x index + 1 = own_x index (x index) in
     let p : since n (x_next x index (TakeAnswer link era) index) (turned (x index) (u index)) ≡ true = rw q (rw (s.next) (since_publish steps (x index) (u index) s.paced)) in
     let f : nat_le n (count + 1) ≡ true = rw (s.next) (few_next steps count s.few) in
     held_right (x_next x index (TakeAnswer link era)) (u_next x u) (count + 1) index root link n (number_of n (x_next x index (TakeAnswer link era) index) (turned (x index) (u index)) (count + 1) p f)
-protect_rights x u buckets why aim index root steps n count (WithdrawRequest link era) post found s = refl
 protect_rights x u buckets why aim index root steps n count (WithdrawHelper link era) post found s = concluded_rights (x_next x index (WithdrawHelper link era)) (u_next x u) (count + 1) aim index root n link era post (reserves_helper post 0) refl
 protect_rights x u buckets why aim index root steps n count LoadWithin post found s = absurd (false_not_true (is_ibr (scheme_of post)) s.scheme s.fits)
 protect_rights x u buckets why aim index root steps n count (CheckUpper link) post found s = absurd (false_not_true (is_ibr (scheme_of post)) s.scheme s.fits)
 protect_rights x u buckets why aim index root steps n count (RaiseUpper era) post found s = absurd (false_not_true (is_ibr (scheme_of post)) s.scheme s.fits)
+protect_rights x u buckets why aim index root steps n count at post found s = refl

@@ -12,7 +12,7 @@ use Rattle.wfe_core.specs.Desks.{Desk}
 use Rattle.wfe_core.specs.Machine as machine
 use Rattle.wfe_core.specs.Memory.{bump}
 use Rattle.wfe_core.specs.MoveClock as movers
-use Rattle.wfe_core.specs.Posts.{stands, with_row, withdrawn, counted, cleared, reserves_index}
+use Rattle.wfe_core.specs.Posts.{stands, with_row, withdrawn, counted}
 use Rattle.wfe_core.specs.Rounds.{scheme_of, index_of}
 use Rattle.wfe_core.specs.SlowPath.{asking}
 use Rattle.wfe_core.specs.Steps as steps
@@ -21,7 +21,7 @@ use Rattle.wfe_core.specs.Phases.{Aim, ProtectAt, AllocateAt, RetireAt, MoveAt, 
 use Rattle.wfe_core.specs.defs.declared.event.Root.{Root}
 use Rattle.wfe_core.specs.Phases.AllocateAt.{LoadBirth, ClaimSlot, StoreLife}
 use Rattle.wfe_core.specs.Phases.RetireAt.{LoadLife, LoadRetire, StoreRetired}
-use Rattle.wfe_core.specs.Phases.MoveAt.{LoadEra, LoadRequest, ShowEra, LoadAsked, CheckEra, AnswerAsked, LoadReserved, HandOver, HideEra, HideLate, ExchangeClock}
+use Rattle.wfe_core.specs.Phases.MoveAt.{LoadEra, CheckEra, AnswerAsked, LoadReserved, HandOver, ExchangeClock}
 use Rattle.wfe_core.specs.Phases.Base.{Begin, Protect, Reload, Clear, Finish, Release, Allocate, Write, GiveUp, Retire, Move}
 use Rattle.wfe_core.specs.declared.ends.FollowEnd.TheVariants as follow_ends
 use Rattle.wfe_core.specs.Phases.Ending.{Followed}
@@ -37,7 +37,7 @@ use Rattle.inv_all.specs.covers.Rests.{spare, bare, beside, within, deep, vacant
 use Rattle.inv_all.proofs.history.Passes.{First}
 use Rattle.laws.specs.Schedule.{event_right, events_right}
 use Rattle.law_turns.proofs.Counting.Fits.{free_why, holds_why, is_hold, fills_task, Clean, since, paced, taken, base_own, Fits, Passes, Resumes, Left, work_fits, scan_fits, resumed_fits}
-use Rattle.law_turns.proofs.Counting.Told.{dull_rights, cleared_dull, move_dull, allocate_dull, retire_dull, write_dull, right_along}
+use Rattle.law_turns.proofs.Counting.Told.{base_rights}
 use Rattle.law_turns.proofs.Counting.Passing.{after_x, turned, since_next, few_next, number_of}
 use Rattle.law_turns.proofs.Counting.Protects.{Site, protect_passes, protect_rights, u_next, rights_if}
 use Rattle.wfe_core.proofs.Standing.{stands-withdrawn_other, stands-with_row_other}
@@ -116,29 +116,20 @@ handed_stays era seat tag index old post false = refl
 
 move_stays : (at : MoveAt) (post : Post) (found : ℕ) → stands (machine.move_turn at post found).post 2 ≡ stands post 2
 move_stays (LoadEra helps) post found = stays_if post (found == post.layout.config.last_era) _ _ refl refl
-move_stays (LoadRequest era seat shows) post found = refl
-move_stays (ShowEra era seat tag index root) post found = refl
-move_stays (LoadAsked era seat tag index root) post found = refl
 move_stays (CheckEra era seat tag index root link) post found = stays_if post (found == era) _ _ refl refl
 move_stays (AnswerAsked era seat tag index root link) post found = stays_if post (found == asking post.layout tag index root) _ _ refl refl
 move_stays (LoadReserved era seat tag index root link) post found = stays_if post ((read_reservation found).tag == tag) _ _ refl refl
 move_stays (HandOver era seat tag index root link old) post found = handed_stays era seat tag index old post (found == reservation_word (record { era = old; tag = tag }))
-move_stays (HideEra era) post found = refl
-move_stays (HideLate seen) post found = refl
 move_stays (ExchangeClock era) post found = stays_if post (found == era) _ _ refl refl
+move_stays at post found = refl
 
 calm_stays : (base : Base) (post : Post) (found : ℕ) → is_calm base ≡ true → stands (machine.after base post found).post 2 ≡ stands post 2
-calm_stays (Begin at) post found h = absurd (cc)
-calm_stays (Protect aim index root count at) post found h = absurd (cc)
-calm_stays (Reload parent index slot era count) post found h = absurd (cc)
-calm_stays (Clear index) post found h = absurd (cc)
-calm_stays Finish post found h = absurd (cc)
-calm_stays Release post found h = absurd (cc)
 calm_stays (Allocate at) post found h = allocate_stays at post found
 calm_stays (Write slot row place) post found h = stays_if post (place == last_written row) _ _ refl refl
 calm_stays (GiveUp slot) post found h = refl
 calm_stays (Retire at) post found h = retire_stays at post found
 calm_stays (Move at) post found h = move_stays at post found
+calm_stays base post found h = absurd (cc)
 
 abbrev pub x_after : (ℕ → ℕ) → Base → ℕ → ℕ
 x_after x base j = after_x base j (x j)
@@ -299,14 +290,6 @@ run_reached x u layout (Clears task next) base post found count s = absurd (no_t
 run_reached x u layout (Releases key) base post found count s = absurd (no_truth s.run.suited)
 run_reached x u layout (Finishes task next) base post found count s = absurd (no_truth s.run.suited)
 
-handed_rights : (x u : ℕ → ℕ) (call era seat tag index old : ℕ) (post : Post) (same : Bool) → events_right x u call (movers.after_hand_over era seat tag index old post same).told ≡ true
-handed_rights x u call era seat tag index old post true = refl
-handed_rights x u call era seat tag index old post false = refl
-
-move_rights : (x u : ℕ → ℕ) (call : ℕ) (at : MoveAt) (post : Post) (found : ℕ) → events_right x u call (machine.move_turn at post found).told ≡ true
-move_rights x u call (HandOver era seat tag index root link old) post found = handed_rights x u call era seat tag index old post (found == reservation_word (record { era = old; tag = tag }))
-move_rights x u call at post found = dull_rights x u call (machine.move_turn at post found).told (move_dull at post found refl)
-
 run_rights : (x u : ℕ → ℕ) (layout : Layout) (why : Why) (base : Base) (post : Post) (found count : ℕ) → Stage x u layout why base post found count → events_right (x_after x base) (u_next x u) (count + 1) (machine.after base post found).told ≡ true
 run_rights x u layout why (Begin at) post found count s = absurd (false_not_true (is_ibr layout.config.scheme) s.scheme s.run.fits)
 run_rights x u layout why (Protect aim index root made at) post found count s = protect_rights x u layout.config.buckets why aim index root made (bump made) count at post found (site_of layout why aim index root made at post found count s)
@@ -316,14 +299,8 @@ run_rights x u layout why (Reload parent index slot era made) post found count s
     let e : bump made ≡ made + 1 = bump_low made count (le_of_test made count f) s.low in
     rights_if x (u_next x u) (count + 1) (found == parent + 1) (ends (with_row post index slot) (events.Held index slot (bump made) ∷ []) (Followed (follow_ends.Followed slot))) (ends post [] (Followed (follow_ends.RootMoved found)))
     (and_true (event_right x (u_next x u) (count + 1) (events.Held index slot (bump made))) (rw e (number_of (made + 1) (x index) (turned (x index) (u index)) (count + 1) (since_next made (x index) (u index) h) (few_next made count f)))) refl
-run_rights x u layout why (Clear index) post found count s = right_along (x_after x (Clear index)) (u_next x u) (count + 1) (cleared index (stands post index)) (reserves_index post index 0) (dull_rights (x_after x (Clear index)) (u_next x u) (count + 1) (cleared index (stands post index)) (cleared_dull index (stands post index))) refl
-run_rights x u layout why Finish post found count s = refl
 run_rights x u layout why Release post found count s = absurd (false_not_true (is_ibr layout.config.scheme) s.scheme s.run.fits)
-run_rights x u layout why (Allocate at) post found count s = dull_rights x (u_next x u) (count + 1) (machine.allocate_turn at post found).told (allocate_dull at post found)
-run_rights x u layout why (Write slot row place) post found count s = dull_rights x (u_next x u) (count + 1) (machine.after (Write slot row place) post found).told (write_dull slot row place post found)
-run_rights x u layout why (GiveUp slot) post found count s = refl
-run_rights x u layout why (Retire at) post found count s = dull_rights x (u_next x u) (count + 1) (machine.retire_turn at post found).told (retire_dull at post found)
-run_rights x u layout why (Move at) post found count s = move_rights x (u_next x u) (count + 1) at post found
+run_rights x u layout why base post found count s = base_rights (x_after x base) (u_next x u) (count + 1) base post found refl
 
 -- of any phase
 abbrev pub phase_x : Phase → ℕ → ℕ → ℕ

@@ -1,36 +1,28 @@
 -- What the events of a step make of what its seat has published at its index words, and that only protections tell numbers.
-use Rattle.std.proofs.Common.{ℕ, ◌≡◌, ◌≤◌, ◌-◌, ◌+◌, Bool, true, false, List, [], ◌∷◌, ◌++◌, Option, Some, None, refl, ap, ◌∙◌, arith}
+use Rattle.std.proofs.Common.{ℕ, ◌≡◌, ◌≤◌, ◌+◌, Bool, true, false, List, [], ◌∷◌, ◌++◌, Option, Some, None, refl, ap, ◌∙◌, arith}
 use Rattle.std.proofs.lemmas.Bool.Decides.{nat_tests}
-use Rattle.std.specs.Prelude.{◌==◌, ◌&&◌, if◌then◌else◌}
+use Rattle.std.specs.Prelude.{◌==◌, ◌&&◌, if◌then◌else◌, not}
 use Rattle.wfe_core.specs.words.declared.config.SchemeKind.{SchemeKind}
-use Rattle.wfe_core.specs.words.declared.config.SchemeKind.TheVariants.{He, Ibr, Wfe}
-use Rattle.wfe_core.specs.words.Packed.{read_reservation}
 use Rattle.wfe_core.specs.defs.declared.event.Event.{Event}
 use Rattle.wfe_core.specs.defs.declared.event.Event.TheVariants as events
 use Rattle.wfe_core.specs.defs.declared.event.Guard.TheVariants.{Helper, Index, Whole}
 use Rattle.wfe_core.specs.defs.declared.event.Root.{Root}
-use Rattle.wfe_core.specs.defs.declared.event.Root.TheVariants as roots
 use Rattle.wfe_core.specs.defs.declared.lifetime.Interval.{Interval}
 use Rattle.wfe_core.specs.declared.post.Post.{Post}
-use Rattle.wfe_core.specs.Allocate as allocates
 use Rattle.wfe_core.specs.Guards.{one_era}
 use Rattle.wfe_core.specs.Machine as machine
-use Rattle.wfe_core.specs.Posts.{stands, cleared}
+use Rattle.wfe_core.specs.Posts.{cleared}
 use Rattle.wfe_core.specs.Protect as protects
 use Rattle.wfe_core.specs.Rounds.{scheme_of, clear_told}
-use Rattle.wfe_core.specs.SlowPath.{asking}
-use Rattle.wfe_core.specs.WriteRow.{last_written}
-use Rattle.wfe_core.specs.Phases.{Aim, Alone, Follows, AllocateAt, RetireAt, MoveAt, RowOf, Walk, Turn}
-use Rattle.wfe_core.specs.Phases.AllocateAt.{LoadBirth, ClaimSlot, StoreLife}
-use Rattle.wfe_core.specs.Phases.RetireAt.{LoadLife, LoadRetire, StoreRetired}
-use Rattle.wfe_core.specs.Phases.MoveAt.{LoadEra, LoadRequest, ShowEra, LoadAsked, CheckEra, AnswerAsked, LoadReserved, HandOver, HideEra, HideLate, ExchangeClock}
-use Rattle.wfe_core.specs.Phases.Base.{Write}
+use Rattle.wfe_core.specs.Phases.{Base}
 use Rattle.wfe_core.proofs.Facts.{same_number, both, first_of, rest_of, and_true}
 use Rattle.inv_all.specs.history.Record.{Past, tells_of}
 use Rattle.inv_all.specs.history.Record.Past.{Then}
 use Rattle.inv_all.proofs.history.Passes.{is_quiet, all_quiet, Closed}
 use Rattle.laws.specs.StateAt.{one_more, reserves_by, reserves_of}
 use Rattle.laws.specs.Schedule.{event_right, events_right}
+use Rattle.inv_all.proofs.history.MayTell.{held_any, cleared_all, clear_all, is_find, is_index, finds, stores_index, no_find, no_index}
+use Rattle.inv_all.proofs.history.AllOf.{all_of, of_weaker, of_both}
 
 -- along what a step tells
 abbrev pub reserved_along : (seat index : ℕ) → List Event → ℕ → ℕ
@@ -63,31 +55,55 @@ is_dull (events.Null index steps) = false
 is_dull event = true
 
 abbrev pub all_dull : List Event → Bool
-all_dull [] = true
-all_dull (event ∷ told) = is_dull event && all_dull told
+all_dull told = all_of is_dull told
 
-dull_one : (i j : ℕ) (event : Event) (n : ℕ) → is_dull event ≡ true → reserves_by i j event n ≡ n
-dull_one i j (events.Reserve (Helper seat) span) n h = refl
-dull_one i j (events.Reserve (Index seat index) span) n h = absurd (cc)
-dull_one i j (events.Reserve (Whole seat) span) n h = refl
-dull_one i j event n h = refl
+unindexed_one : (i j : ℕ) (event : Event) (n : ℕ) → not (is_index event) ≡ true → reserves_by i j event n ≡ n
+unindexed_one i j (events.Reserve (Helper seat) span) n h = refl
+unindexed_one i j (events.Reserve (Index seat index) span) n h = absurd (cc)
+unindexed_one i j (events.Reserve (Whole seat) span) n h = refl
+unindexed_one i j event n h = refl
+
+unindexed_along : (i j : ℕ) (told : List Event) (n : ℕ) → all_of (λ event. not (is_index event)) told ≡ true → reserved_along i j told n ≡ n
+unindexed_along i j [] n h = refl
+unindexed_along i j (event ∷ told) n h = ap (reserved_along i j told) (unindexed_one i j event n (first_of (not (is_index event)) (all_of (λ other. not (is_index other)) told) h)) ∙ unindexed_along i j told n (rest_of (not (is_index event)) (all_of (λ other. not (is_index other)) told) h)
+
+pub unindexed_reserved : (i j : ℕ) (base : Base) (post : Post) (found : ℕ) (n : ℕ) → stores_index base ≡ false → reserved_along i j (machine.after base post found).told n ≡ n
+unindexed_reserved i j base post found n f = unindexed_along i j (machine.after base post found).told n (no_index base post found f)
+
+dull_unindexed : (event : Event) → is_dull event ≡ true → not (is_index event) ≡ true
+dull_unindexed (events.Reserve (Helper seat) span) h = refl
+dull_unindexed (events.Reserve (Index seat index) span) h = absurd (cc)
+dull_unindexed (events.Reserve (Whole seat) span) h = refl
+dull_unindexed event h = refl
 
 pub dull_reserved : (i j : ℕ) (told : List Event) (n : ℕ) → all_dull told ≡ true → reserved_along i j told n ≡ n
-dull_reserved i j [] n h = refl
-dull_reserved i j (event ∷ told) n h = ap (reserved_along i j told) (dull_one i j event n (first_of (is_dull event) (all_dull told) h)) ∙ dull_reserved i j told n (rest_of (is_dull event) (all_dull told) h)
+dull_reserved i j told n h = unindexed_along i j told n (of_weaker is_dull (λ event. not (is_index event)) told dull_unindexed h)
 
-dull_right : (x u : ℕ → ℕ) (call : ℕ) (event : Event) → is_dull event ≡ true → event_right x u call event ≡ true
-dull_right x u call (events.Held index slot steps) h = absurd (cc)
-dull_right x u call (events.Null index steps) h = absurd (cc)
-dull_right x u call event h = refl
+unfound_right : (x u : ℕ → ℕ) (call : ℕ) (event : Event) → not (is_find event) ≡ true → event_right x u call event ≡ true
+unfound_right x u call (events.Held index slot steps) h = absurd (cc)
+unfound_right x u call (events.Null index steps) h = absurd (cc)
+unfound_right x u call event h = refl
+
+unfound_rights : (x u : ℕ → ℕ) (call : ℕ) (told : List Event) → all_of (λ event. not (is_find event)) told ≡ true → events_right x u call told ≡ true
+unfound_rights x u call [] h = refl
+unfound_rights x u call (event ∷ told) h =
+    both (event_right x u call event) (events_right x u call told) (unfound_right x u call event (first_of (not (is_find event)) (all_of (λ other. not (is_find other)) told) h)) (unfound_rights x u call told (rest_of (not (is_find event)) (all_of (λ other. not (is_find other)) told) h))
+
+-- a step that finds nothing tells no number
+pub base_rights : (x u : ℕ → ℕ) (call : ℕ) (base : Base) (post : Post) (found : ℕ) → finds base ≡ false → events_right x u call (machine.after base post found).told ≡ true
+base_rights x u call base post found f = unfound_rights x u call (machine.after base post found).told (no_find base post found f)
+
+pub dull_unfound : (event : Event) → is_dull event ≡ true → not (is_find event) ≡ true
+dull_unfound (events.Held index slot steps) h = absurd (cc)
+dull_unfound (events.Null index steps) h = absurd (cc)
+dull_unfound event h = refl
 
 pub right_along : (x u : ℕ → ℕ) (call : ℕ) (xs ys : List Event) → events_right x u call xs ≡ true → events_right x u call ys ≡ true → events_right x u call (xs ++ ys) ≡ true
 right_along x u call [] ys h k = k
 right_along x u call (e ∷ xs) ys h k = both (event_right x u call e) (events_right x u call (xs ++ ys)) (first_of (event_right x u call e) (events_right x u call xs) h) (right_along x u call xs ys (rest_of (event_right x u call e) (events_right x u call xs) h) k)
 
-pub dull_rights : (x u : ℕ → ℕ) (call : ℕ) (told : List Event) → all_dull told ≡ true → events_right x u call told ≡ true
-dull_rights x u call [] h = refl
-dull_rights x u call (event ∷ told) h = both (event_right x u call event) (events_right x u call told) (dull_right x u call event (first_of (is_dull event) (all_dull told) h)) (dull_rights x u call told (rest_of (is_dull event) (all_dull told) h))
+dull_rights : (x u : ℕ → ℕ) (call : ℕ) (told : List Event) → all_dull told ≡ true → events_right x u call told ≡ true
+dull_rights x u call told h = unfound_rights x u call told (of_weaker is_dull (λ event. not (is_find event)) told dull_unfound h)
 
 quiet_one : (event : Event) → is_quiet event ≡ true → is_dull event ≡ true
 quiet_one (events.Reserve guard span) h = absurd (cc)
@@ -96,17 +112,13 @@ quiet_one (events.Null index steps) h = absurd (cc)
 quiet_one event h = refl
 
 pub quiet_dull : (told : List Event) → all_quiet told ≡ true → all_dull told ≡ true
-quiet_dull [] h = refl
-quiet_dull (event ∷ told) h = both (is_dull event) (all_dull told) (quiet_one event (first_of (is_quiet event) (all_quiet told) h)) (quiet_dull told (rest_of (is_quiet event) (all_quiet told) h))
+quiet_dull told h = of_weaker is_quiet is_dull told quiet_one h
 
 pub cleared_dull : (index : ℕ) (o : Option ℕ) → all_dull (cleared index o) ≡ true
-cleared_dull index None = refl
-cleared_dull index (Some slot) = refl
+cleared_dull index o = cleared_all is_dull index o (λ index slot. refl)
 
 pub clear_dull : (scheme : SchemeKind) (post : Post) (index : ℕ) → all_dull (clear_told scheme post index) ≡ true
-clear_dull He post index = refl
-clear_dull Ibr post index = cleared_dull index (stands post index)
-clear_dull Wfe post index = refl
+clear_dull scheme post index = clear_all is_dull scheme post index (λ index slot. refl)
 
 -- what comes after a machine changes neither
 abbrev pub Comes : (i j n m : ℕ) → Post → List Event → Type 0
@@ -128,54 +140,16 @@ rights_closed x u call = record {
 }
 
 -- the machines that tell neither
-abbrev Dull : List Event → Type 0
-Dull told = all_dull told ≡ true
+one_dull : (event : Event) → not (is_find event) ≡ true → not (is_index event) ≡ true → is_dull event ≡ true
+one_dull (events.Reserve (Helper seat) span) f k = refl
+one_dull (events.Reserve (Index seat index) span) f k = absurd (cc)
+one_dull (events.Reserve (Whole seat) span) f k = refl
+one_dull (events.Held index slot steps) f k = absurd (cc)
+one_dull (events.Null index steps) f k = absurd (cc)
+one_dull event f k = refl
 
-dull_if : (c : Bool) (t u : Turn) → Dull t.told → Dull u.told → Dull (if c then t else u).told
-dull_if true t u h k = h
-dull_if false t u h k = k
-
-told_if : (c : Bool) (t u : Turn) (told : List Event) → t.told ≡ told → u.told ≡ told → (if c then t else u).told ≡ told
-told_if true t u told h k = h
-told_if false t u told h k = k
-
-pub concluded_told : (aim : Aim) (index : ℕ) (root : Root) (n link era : ℕ) (post : Post) (told : List Event) → (protects.concluded aim index root n link era post told).told ≡ told
-concluded_told Alone index root n link era post told = refl
-concluded_told Follows index root n link era post told = told_if (link == 0) _ _ told refl refl
-
-abbrev pub is_plain_move : MoveAt → Bool
-is_plain_move (HandOver era seat tag index root link old) = false
-is_plain_move at = true
-
-pub move_dull : (at : MoveAt) (post : Post) (found : ℕ) → is_plain_move at ≡ true → Dull (machine.move_turn at post found).told
-move_dull (LoadEra helps) post found h = dull_if (found == post.layout.config.last_era) _ _ refl refl
-move_dull (LoadRequest era seat shows) post found h = refl
-move_dull (ShowEra era seat tag index root) post found h = refl
-move_dull (LoadAsked era seat tag index root) post found h = refl
-move_dull (CheckEra era seat tag index root link) post found h = dull_if (found == era) _ _ refl refl
-move_dull (AnswerAsked era seat tag index root link) post found h = dull_if (found == asking post.layout tag index root) _ _ refl refl
-move_dull (LoadReserved era seat tag index root link) post found h = dull_if ((read_reservation found).tag == tag) _ _ refl refl
-move_dull (HandOver era seat tag index root link old) post found h = absurd (cc)
-move_dull (HideEra era) post found h = refl
-move_dull (HideLate seen) post found h = refl
-move_dull (ExchangeClock era) post found h = dull_if (found == era) _ _ refl refl
-
-walking_dull : (birth : ℕ) (post : Post) (o : Option Walk) → Dull (allocates.walking birth post o).told
-walking_dull birth post None = refl
-walking_dull birth post (Some walk) = refl
-
-pub allocate_dull : (at : AllocateAt) (post : Post) (found : ℕ) → Dull (machine.allocate_turn at post found).told
-allocate_dull LoadBirth post found = refl
-allocate_dull (ClaimSlot birth walk) post found = dull_if (allocates.is_claimed found walk.slot) _ _ (walking_dull birth post (allocates.walk_past post.layout.config.slots walk found)) refl
-allocate_dull (StoreLife birth slot) post found = refl
-
-pub retire_dull : (at : RetireAt) (post : Post) (found : ℕ) → Dull (machine.retire_turn at post found).told
-retire_dull (LoadLife slot) post found = refl
-retire_dull (LoadRetire slot birth) post found = refl
-retire_dull (StoreRetired slot birth retire) post found = refl
-
-pub write_dull : (slot : ℕ) (row : RowOf) (place : ℕ) (post : Post) (found : ℕ) → Dull (machine.after (Write slot row place) post found).told
-write_dull slot row place post found = dull_if (place == last_written row) _ _ refl refl
+pub base_dull : (base : Base) (post : Post) (found : ℕ) → finds base ≡ false → stores_index base ≡ false → all_dull (machine.after base post found).told ≡ true
+base_dull base post found f k = of_both (λ event. not (is_find event)) (λ event. not (is_index event)) is_dull (machine.after base post found).told one_dull (no_find base post found f) (no_index base post found k)
 
 -- an index word of the seat
 pub era_more : (era n : ℕ) → 1 ≤ era → one_more (one_era era) n ≡ n + 1
@@ -205,30 +179,8 @@ pub index_other : (i j seat index n : ℕ) (span : Option Interval) → (seat ==
 index_other i j seat index n span e = rw e refl
 
 -- what a protection tells where it ends its search changes nothing of index words
-link_reserved : (i j index slot m n : ℕ) (none : Bool) → reserved_along i j (if none then events.Null index m ∷ [] else events.Held index slot m ∷ []) n ≡ n
-link_reserved i j index slot m n true = refl
-link_reserved i j index slot m n false = refl
-
-next_reserved : (i j index m n : ℕ) (none : Bool) → reserved_along i j (if none then events.Null index m ∷ [] else []) n ≡ n
-next_reserved i j index m n true = refl
-next_reserved i j index m n false = refl
-
 pub held_reserved : (i j index : ℕ) (root : Root) (link m n : ℕ) → reserved_along i j (protects.told_held index root link m) n ≡ n
-held_reserved i j index (roots.Next parent) link m n = next_reserved i j index m n (link == 0)
-held_reserved i j index (roots.Bucket bucket) link m n = link_reserved i j index (link - 1) m n (link == 0)
-held_reserved i j index roots.Head link m n = link_reserved i j index (link - 1) m n (link == 0)
-held_reserved i j index roots.Tail link m n = link_reserved i j index (link - 1) m n (link == 0)
-
-two_ways : (x u : ℕ → ℕ) (call index slot m : ℕ) (none : Bool) → event_right x u call (events.Null index m) ≡ true → events_right x u call (if none then events.Null index m ∷ [] else events.Held index slot m ∷ []) ≡ true
-two_ways x u call index slot m true h = and_true (event_right x u call (events.Null index m)) h
-two_ways x u call index slot m false h = and_true (event_right x u call (events.Null index m)) h
-
-one_way : (x u : ℕ → ℕ) (call index m : ℕ) (none : Bool) → event_right x u call (events.Null index m) ≡ true → events_right x u call (if none then events.Null index m ∷ [] else []) ≡ true
-one_way x u call index m true h = and_true (event_right x u call (events.Null index m)) h
-one_way x u call index m false h = refl
+held_reserved i j index root link m n = held_any (λ told. reserved_along i j told n ≡ n) index root link m refl refl (λ slot. refl)
 
 pub held_right : (x u : ℕ → ℕ) (call index : ℕ) (root : Root) (link m : ℕ) → event_right x u call (events.Null index m) ≡ true → events_right x u call (protects.told_held index root link m) ≡ true
-held_right x u call index (roots.Next parent) link m h = one_way x u call index m (link == 0) h
-held_right x u call index (roots.Bucket bucket) link m h = two_ways x u call index (link - 1) m (link == 0) h
-held_right x u call index roots.Head link m h = two_ways x u call index (link - 1) m (link == 0) h
-held_right x u call index roots.Tail link m h = two_ways x u call index (link - 1) m (link == 0) h
+held_right x u call index root link m h = let e = and_true (event_right x u call (events.Null index m)) h in held_any (λ told. events_right x u call told ≡ true) index root link m refl e (λ slot. e)

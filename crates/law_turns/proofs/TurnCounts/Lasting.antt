@@ -2,8 +2,6 @@
 use Rattle.std.proofs.Common.{ℕ, ◌≡◌, ◌≤◌, ◌<◌, ◌+◌, Bool, true, false, List, [], ◌∷◌, refl, sym, ap, ◌∙◌, subst, arith, Option, Some, None}
 use Rattle.std.proofs.lemmas.Bool.Decides.{nat_tests}
 use Rattle.std.specs.Prelude.{◌==◌, ◌&&◌, ◌||◌, ◌*◌, not, nat_le, nat_lt, if◌then◌else◌}
-use Rattle.wfe_core.specs.words.Place.{Place as places}
-use Rattle.wfe_core.specs.words.Packed.{reservation_word}
 use Rattle.wfe_core.specs.words.declared.config.Config.{Config}
 use Rattle.wfe_core.specs.words.declared.config.SchemeKind.{SchemeKind}
 use Rattle.wfe_core.specs.words.declared.layout.Layout.{Layout}
@@ -14,16 +12,15 @@ use Rattle.wfe_core.specs.defs.declared.lifetime.Interval.{Interval}
 use Rattle.wfe_core.specs.declared.ends.FollowEnd.{FollowEnd}
 use Rattle.wfe_core.specs.declared.ends.FollowEnd.TheVariants as follow_ends
 use Rattle.wfe_core.specs.declared.post.Post.{Post}
-use Rattle.wfe_core.specs.Links.{link_number}
 use Rattle.wfe_core.specs.Machine as machine
 use Rattle.wfe_core.specs.Posts.{counted, stands}
 use Rattle.wfe_core.specs.World.{World, finds, told_in}
-use Rattle.wfe_core.specs.Phases.{Aim, ProtectAt, MoveAt, Base, Ending, Outcome, Goes, Ends}
-use Rattle.wfe_core.specs.Phases.ProtectAt.{LoadClock, PublishEra, LoadLink, CheckClock, PublishRequest, LoadOwnClock, PublishHelper, LoadOwnLink, CheckOwnClock, AnswerOwn, LoadAnswer, TakeAnswer, WithdrawRequest, WithdrawHelper, LoadWithin, CheckUpper, RaiseUpper}
+use Rattle.wfe_core.specs.Phases.{Aim, ProtectAt, Base, Ending, Outcome, Goes, Ends}
+use Rattle.wfe_core.specs.Phases.ProtectAt.{LoadClock, PublishEra, LoadLink, CheckClock, WithdrawRequest, WithdrawHelper, LoadWithin, CheckUpper, RaiseUpper}
 use Rattle.wfe_core.specs.Phases.MoveAt.{HandOver}
 use Rattle.wfe_core.specs.Phases.Base.{Protect, Reload, Clear, Move}
 use Rattle.wfe_core.specs.Phases.Ending.{Done, Protected, Followed, Allocated, Retired, Clocked}
-use Rattle.wfe_core.specs.Calls.{Again, Why, Opens, FollowsHead, Fills, ClearsNext, Clears, Finishes, GivesUp, Retires, Tidies, Advances, Releases, ReadGuard, GiveBack, Phase, Idle, Runs, Scans, Works}
+use Rattle.wfe_core.specs.Calls.{Again, Why, FollowsHead, ClearsNext, ReadGuard, GiveBack, Phase, Idle, Runs, Scans, Works}
 use Rattle.wfe_core.proofs.Facts.{same_number, both, first_of, rest_of, false_not_true, zero_test, or_left_true}
 use Rattle.inv_all.specs.shapes.Eras.{Eras}
 use Rattle.wfe_core.specs.words.Schemes.{is_ibr, is_wfe}
@@ -32,13 +29,8 @@ use Rattle.inv_all.specs.shapes.Seats.{PhaseFits, Run, protect_fits, Kind, kind_
 use Rattle.inv_all.specs.history.Record.{Past, tells_of}
 use Rattle.inv_all.specs.history.Record.Past.{Start, Then}
 use Rattle.inv_all.proofs.requests.Paced.{in_time}
-use Rattle.inv_all.proofs.covers.Held.{finds_at}
-use Rattle.inv_all.proofs.handover.Asks.{Asker, asker}
-use Rattle.inv_all.proofs.handover.Deals.{handed_deal}
-use Rattle.inv_all.proofs.handover.Words.{Handed}
 use Rattle.inv_all.specs.Inv.{Inv}
 use Rattle.inv_all.proofs.Inv.Shapes.{eras_of}
-use Rattle.inv_all.proofs.Inv.Whole.{handover_need}
 use Rattle.inv_all.proofs.history.Passes.{First, step_goes}
 use Rattle.laws.specs.StateAt.{is_index_word, one_more, reserves_by, reserves_of, tried_by, tried_of, last_by, last_of}
 use Rattle.law_turns.proofs.Counting.Fits.{own, base_own, paced, taken, since}
@@ -157,19 +149,10 @@ at_turns tries scheme (LoadClock count) made x u n f h k = clock_turns tries mad
 at_turns tries scheme (PublishEra era count) made x u n f h k = publish_turns tries made x u _ h k
 at_turns tries scheme (LoadLink era count) made x u n f h k = since_turns tries made x u (first_of (since made x u) _ h) k
 at_turns tries scheme (CheckClock era count link) made x u n f h k = since_turns tries made x u (first_of (since made x u) _ h) k
-at_turns tries scheme PublishRequest made x u n f h k = since_turns tries made x u h k
-at_turns tries scheme LoadOwnClock made x u n f h k = since_turns tries made x u h k
-at_turns tries scheme (PublishHelper first era last) made x u n f h k = since_turns tries made x u h k
-at_turns tries scheme (LoadOwnLink first era last) made x u n f h k = since_turns tries made x u h k
-at_turns tries scheme (CheckOwnClock first era last link) made x u n f h k = since_turns tries made x u h k
-at_turns tries scheme (AnswerOwn first era link) made x u n f h k = since_turns tries made x u h k
-at_turns tries scheme (LoadAnswer first) made x u n f h k = since_turns tries made x u h k
-at_turns tries scheme (TakeAnswer link era) made x u n f h k = since_turns tries made x u h k
-at_turns tries scheme (WithdrawRequest link era) made x u n f h k = since_turns tries made x u h k
-at_turns tries scheme (WithdrawHelper link era) made x u n f h k = since_turns tries made x u h k
 at_turns tries scheme LoadWithin made x u n f h k = absurd (false_not_true (is_ibr scheme) n f)
 at_turns tries scheme (CheckUpper link) made x u n f h k = absurd (false_not_true (is_ibr scheme) n f)
 at_turns tries scheme (RaiseUpper era) made x u n f h k = absurd (false_not_true (is_ibr scheme) n f)
+at_turns tries scheme at made x u n f h k = since_turns tries made x u h k
 
 pub protect_turns : (w : World) (i : ℕ) (x u : ℕ → ℕ) (why : Why) (aim : Aim) (index : ℕ) (root : Root) (made : ℕ) (at : ProtectAt) → Inv w → is_wfe w.layout.config.scheme ≡ true → is_ibr w.layout.config.scheme ≡ false → (w.seat i).phase ≡ Runs why (Protect aim index root made at) → base_own x u (w.seat i).post (Protect aim index root made at) ≡ true → turned (x index) (u index) + 1 ≤ 3 * w.layout.config.tries + 14
 protect_turns w i x u why aim index root made at a f n e o =
@@ -209,30 +192,12 @@ one_bound : (tries j n : ℕ) → (j == 1) ≡ true → n ≤ 3 * tries + 16 →
 one_bound tries j n e h = rw e h
 
 why_base : (c : Config) (u : ℕ) (why : Why) (base : Base) (j times last : ℕ) → protects (kind_of why) ≡ true → why_tried c u why base j times last ≡ base_tried c base j times last
-why_base c u (Opens task) base j times last h = refl
-why_base c u (FollowsHead head tail) base j times last h = refl
 why_base c u (ClearsNext next) base j times last h = absurd (cc)
-why_base c u (Fills task) base j times last h = refl
-why_base c u (Clears task next) base j times last h = refl
-why_base c u (Finishes task next) base j times last h = refl
-why_base c u (GivesUp answer) base j times last h = refl
-why_base c u (Retires answer) base j times last h = refl
-why_base c u (Tidies later) base j times last h = refl
-why_base c u Advances base j times last h = refl
-why_base c u (Releases key) base j times last h = refl
+why_base c u why base j times last h = refl
 
 follow_base : (c : Config) (u : ℕ) (why : Why) (base : Base) (j times last : ℕ) → reloads (kind_of why) ≡ true → why_tried c u why base j times last ≡ base_tried c base j times last
-follow_base c u (FollowsHead head tail) base j times last h = refl
-follow_base c u (Opens task) base j times last h = refl
 follow_base c u (ClearsNext next) base j times last h = absurd (cc)
-follow_base c u (Fills task) base j times last h = refl
-follow_base c u (Clears task next) base j times last h = refl
-follow_base c u (Finishes task next) base j times last h = refl
-follow_base c u (GivesUp answer) base j times last h = refl
-follow_base c u (Retires answer) base j times last h = refl
-follow_base c u (Tidies later) base j times last h = refl
-follow_base c u Advances base j times last h = refl
-follow_base c u (Releases key) base j times last h = refl
+follow_base c u why base j times last h = refl
 
 due_told : (index : ℕ) (root : Root) (at : ProtectAt) (last : ℕ) → at_last index root at last ≡ true → nat_lt 0 (due.at_due root at) ≡ true → (last == index) ≡ true
 due_told index root (WithdrawRequest link era) last h k = by (tells_link root link) h k
@@ -270,16 +235,7 @@ other_due base h = refl
 
 other_right : (c : Config) (u : ℕ) (why : Why) (base : Base) (j times last : ℕ) → is_other base ≡ true → why_tried c u why base j times last ≡ true → (times == 0 || (j == 1 && nat_le (u + 1) (3 * c.tries + 15))) ≡ true
 other_right c u (ClearsNext next) base j times last b h = h
-other_right c u (Opens task) base j times last b h = or_left_true (times == 0) _ (sym (other_tried c base j times last b) ∙ h)
-other_right c u (FollowsHead head tail) base j times last b h = or_left_true (times == 0) _ (sym (other_tried c base j times last b) ∙ h)
-other_right c u (Fills task) base j times last b h = or_left_true (times == 0) _ (sym (other_tried c base j times last b) ∙ h)
-other_right c u (Clears task next) base j times last b h = or_left_true (times == 0) _ (sym (other_tried c base j times last b) ∙ h)
-other_right c u (Finishes task next) base j times last b h = or_left_true (times == 0) _ (sym (other_tried c base j times last b) ∙ h)
-other_right c u (GivesUp answer) base j times last b h = or_left_true (times == 0) _ (sym (other_tried c base j times last b) ∙ h)
-other_right c u (Retires answer) base j times last b h = or_left_true (times == 0) _ (sym (other_tried c base j times last b) ∙ h)
-other_right c u (Tidies later) base j times last b h = or_left_true (times == 0) _ (sym (other_tried c base j times last b) ∙ h)
-other_right c u Advances base j times last b h = or_left_true (times == 0) _ (sym (other_tried c base j times last b) ∙ h)
-other_right c u (Releases key) base j times last b h = or_left_true (times == 0) _ (sym (other_tried c base j times last b) ∙ h)
+other_right c u why base j times last b h = or_left_true (times == 0) _ (sym (other_tried c base j times last b) ∙ h)
 
 moved_way : (tries j times owed last u n : ℕ) → owed ≡ 0 → (times == 0 || (j == 1 && nat_le (u + 1) (3 * tries + 15))) ≡ true → n ≤ u + 1 → ways times owed last j ≡ true → n + 1 ≤ bound tries j
 moved_way tries j times owed last u n z h k w = one_bound tries j (n + 1) (grind (arith, nat_tests)) (grind (arith, nat_tests))
@@ -326,16 +282,7 @@ goes_right c u (ClearsNext next) base j times last s h = or_left_true (times == 
     clear_other (Protect aim index root steps at) h = absurd (cc)
     clear_other (Reload parent index slot era steps) h = absurd (cc)
     clear_other base h = refl
-goes_right c u (Opens task) base j times last s h = h
-goes_right c u (FollowsHead head tail) base j times last s h = h
-goes_right c u (Fills task) base j times last s h = h
-goes_right c u (Clears task next) base j times last s h = h
-goes_right c u (Finishes task next) base j times last s h = h
-goes_right c u (GivesUp answer) base j times last s h = h
-goes_right c u (Retires answer) base j times last s h = h
-goes_right c u (Tidies later) base j times last s h = h
-goes_right c u Advances base j times last s h = h
-goes_right c u (Releases key) base j times last s h = h
+goes_right c u why base j times last s h = h
 
 -- nothing is under way at a new phase
 no_moved : (times : ℕ) → (times == 0 || false) ≡ true → times ≡ 0
@@ -361,16 +308,7 @@ new_base c base j last h = refl
 
 pub new_why : (c : Config) (u : ℕ) (why : Why) (base : Base) (j last : ℕ) → is_first base ≡ true → why_tried c u why base j 0 last ≡ true
 new_why c u (ClearsNext next) base j last h = refl
-new_why c u (Opens task) base j last h = new_base c base j last h
-new_why c u (FollowsHead head tail) base j last h = new_base c base j last h
-new_why c u (Fills task) base j last h = new_base c base j last h
-new_why c u (Clears task next) base j last h = new_base c base j last h
-new_why c u (Finishes task next) base j last h = new_base c base j last h
-new_why c u (GivesUp answer) base j last h = new_base c base j last h
-new_why c u (Retires answer) base j last h = new_base c base j last h
-new_why c u (Tidies later) base j last h = new_base c base j last h
-new_why c u Advances base j last h = new_base c base j last h
-new_why c u (Releases key) base j last h = new_base c base j last h
+new_why c u why base j last h = new_base c base j last h
 
 pub new_tried : (c : Config) (u : ℕ) (phase : Phase) (j times last : ℕ) → is_new phase ≡ true → times ≡ 0 → phase_tried c u phase j times last ≡ true
 new_tried c u Idle j times last h z = zero_test times z
@@ -387,16 +325,7 @@ moved_tried c u (FollowsHead head tail) seen next j times last h l b =
     by : (none : Bool) → (none || j == 1) ≡ true → (none || (j == 1 && nat_le (u + 1) (3 * c.tries + 15))) ≡ true
     by true h = refl
     by false h = let one : j ≡ 1 = grind (arith, nat_tests) in let m = b refl one in both (j == 1) (nat_le (u + 1) (3 * c.tries + 15)) h (grind (arith, nat_tests))
-moved_tried c u (Opens task) seen next j times last h l b = new_tried c u next j times last l.0 (no_moved times h)
-moved_tried c u (Fills task) seen next j times last h l b = new_tried c u next j times last l.0 (no_moved times h)
-moved_tried c u (ClearsNext more) seen next j times last h l b = new_tried c u next j times last l.0 (no_moved times h)
-moved_tried c u (Clears task more) seen next j times last h l b = new_tried c u next j times last l.0 (no_moved times h)
-moved_tried c u (Finishes task more) seen next j times last h l b = new_tried c u next j times last l.0 (no_moved times h)
-moved_tried c u (GivesUp answer) seen next j times last h l b = new_tried c u next j times last l.0 (no_moved times h)
-moved_tried c u (Retires answer) seen next j times last h l b = new_tried c u next j times last l.0 (no_moved times h)
-moved_tried c u (Tidies later) seen next j times last h l b = new_tried c u next j times last l.0 (no_moved times h)
-moved_tried c u Advances seen next j times last h l b = new_tried c u next j times last l.0 (no_moved times h)
-moved_tried c u (Releases key) seen next j times last h l b = new_tried c u next j times last l.0 (no_moved times h)
+moved_tried c u why seen next j times last h l b = new_tried c u next j times last l.0 (no_moved times h)
 
 follow_tried : (c : Config) (u : ℕ) (why : Why) (end : FollowEnd) (next : Phase) (j times last : ℕ) → Out (is_follow why) c j times last (Ends (Followed end)) → (is_new next ≡ true) × Moved false why (Followed end) next → (is_follow why ≡ true → j ≡ 1 → u + 1 ≤ 3 * c.tries + 15) → phase_tried c u next j times last ≡ true
 follow_tried c u why (follow_ends.RootMoved seen) next j times last o l b = moved_tried c u why seen next j times last o l b

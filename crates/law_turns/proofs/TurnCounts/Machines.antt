@@ -19,7 +19,7 @@ use Rattle.wfe_core.specs.Protect as protects
 use Rattle.wfe_core.specs.Rounds.{scheme_of}
 use Rattle.wfe_core.specs.SlowPath as slow
 use Rattle.wfe_core.specs.Phases.{Aim, Alone, Follows, Tries, Endless, Failed, ProtectAt, Base}
-use Rattle.wfe_core.specs.Phases.ProtectAt.{LoadClock, PublishEra, LoadLink, CheckClock, PublishRequest, LoadOwnClock, PublishHelper, LoadOwnLink, CheckOwnClock, AnswerOwn, LoadAnswer, TakeAnswer, WithdrawRequest, WithdrawHelper, LoadWithin, CheckUpper, RaiseUpper}
+use Rattle.wfe_core.specs.Phases.ProtectAt.{LoadClock, PublishEra, LoadLink, CheckClock, PublishRequest, LoadOwnClock, PublishHelper, LoadOwnLink, CheckOwnClock, AnswerOwn, LoadAnswer, TakeAnswer, WithdrawRequest, WithdrawHelper}
 use Rattle.wfe_core.specs.Phases.Base.{Protect}
 use Rattle.wfe_core.proofs.Facts.{both, false_not_true, zero_of_test, zero_test}
 use Rattle.wfe_core.specs.words.Schemes.{is_ibr}
@@ -191,6 +191,4 @@ protect_made moved c i j x last aim index root made n (WithdrawHelper link era) 
     by_own : (own : Bool) → (index == j) ≡ own → tells_link root link ≡ true → x ≡ 0
     by_own true o t = no_tells (tells_link root link) x (own_of (index == j) (not (tells_link root link) || x == 0) (x == 0) o s.times) t
     by_own false o t = zero_of_test x (other_of (index == j) (not (tells_link root link) || x == 0) (x == 0) o s.times)
-protect_made moved c i j x last aim index root made n LoadWithin post found e s = absurd (false_not_true (is_ibr (scheme_of post)) s.plain s.fits)
-protect_made moved c i j x last aim index root made n (CheckUpper link) post found e s = absurd (false_not_true (is_ibr (scheme_of post)) s.plain s.fits)
-protect_made moved c i j x last aim index root made n (RaiseUpper era) post found e s = absurd (false_not_true (is_ibr (scheme_of post)) s.plain s.fits)
+protect_made moved c i j x last aim index root made n at post found e s = absurd (false_not_true (is_ibr (scheme_of post)) s.plain s.fits)

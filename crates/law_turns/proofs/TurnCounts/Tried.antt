@@ -15,7 +15,7 @@ use Rattle.wfe_core.specs.Machine as machine
 use Rattle.wfe_core.specs.Memory.{bump}
 use Rattle.wfe_core.specs.MoveClock as movers
 use Rattle.wfe_core.specs.Posts.{stands, cleared, reserves_index}
-use Rattle.wfe_core.specs.Phases.{Aim, Alone, Follows, MoveAt, Base, Ending, Outcome, Goes, Ends}
+use Rattle.wfe_core.specs.Phases.{Aim, Alone, Follows, Base, Ending, Outcome, Goes, Ends}
 use Rattle.wfe_core.specs.Phases.MoveAt.{HandOver}
 use Rattle.wfe_core.specs.Phases.Base.{Begin, Protect, Reload, Clear, Finish, Release, Allocate, Write, GiveUp, Retire, Move}
 use Rattle.wfe_core.specs.Phases.Ending.{Done, Protected, Followed, Allocated, Retired, Clocked}
@@ -25,7 +25,7 @@ use Rattle.wfe_core.specs.words.Schemes.{is_ibr}
 use Rattle.inv_all.specs.shapes.Frame.{Moves, Passed}
 use Rattle.inv_all.specs.shapes.Seats.{PostFits, PhaseFits, Run, protect_fits, Kind, kind_of, suits, protects, reloads, aim_by, index_by, root_by}
 use Rattle.law_turns.proofs.Counting.Passing.{Apart}
-use Rattle.law_turns.proofs.Counting.Told.{all_dull, cleared_dull, index_none, index_other, move_dull, allocate_dull, retire_dull, write_dull}
+use Rattle.law_turns.proofs.Counting.Told.{all_dull, cleared_dull, index_none, index_other, base_dull}
 use Rattle.laws.specs.StateAt.{tried_by}
 use Rattle.law_turns.proofs.Withdrawals.Withdrawing.{tells_link}
 use Rattle.law_turns.proofs.TurnCounts.Trying.{tried_along, last_along, dull_tried, at_tried, at_last, base_tried, Out, Made, made_if}
@@ -59,42 +59,15 @@ alone_tells buckets (Opens (Changes kept)) aim root link p a r e = rw r refl
 alone_tells buckets (Opens (Holds key)) aim root link p a r e = rw r refl
 alone_tells buckets (Opens (Enqueues kept)) aim root link p a r e = rw r refl
 alone_tells buckets (Opens Dequeues) aim root link p a r e = rw r refl
-alone_tells buckets (FollowsHead head tail) aim root link p a r e = absurd (cc)
-alone_tells buckets (Fills task) aim root link p a r e = absurd (cc)
-alone_tells buckets (ClearsNext next) aim root link p a r e = absurd (cc)
-alone_tells buckets (Clears task next) aim root link p a r e = absurd (cc)
-alone_tells buckets (Finishes task next) aim root link p a r e = absurd (cc)
-alone_tells buckets (GivesUp answer) aim root link p a r e = absurd (cc)
-alone_tells buckets (Retires answer) aim root link p a r e = absurd (cc)
-alone_tells buckets (Tidies later) aim root link p a r e = absurd (cc)
-alone_tells buckets Advances aim root link p a r e = absurd (cc)
-alone_tells buckets (Releases key) aim root link p a r e = absurd (cc)
+alone_tells buckets why aim root link p a r e = absurd (cc)
 
 follows_one : (why : Why) (aim : Aim) (index : ℕ) → protects (kind_of why) ≡ true → aim ≡ aim_by why → index ≡ index_by why → aim ≡ Follows → index ≡ 1
-follows_one (Opens task) aim index p a r e = absurd (cc)
 follows_one (FollowsHead head tail) aim index p a r e = r
-follows_one (Fills task) aim index p a r e = absurd (cc)
-follows_one (ClearsNext next) aim index p a r e = absurd (cc)
-follows_one (Clears task next) aim index p a r e = absurd (cc)
-follows_one (Finishes task next) aim index p a r e = absurd (cc)
-follows_one (GivesUp answer) aim index p a r e = absurd (cc)
-follows_one (Retires answer) aim index p a r e = absurd (cc)
-follows_one (Tidies later) aim index p a r e = absurd (cc)
-follows_one Advances aim index p a r e = absurd (cc)
-follows_one (Releases key) aim index p a r e = absurd (cc)
+follows_one why aim index p a r e = absurd (cc)
 
 pub reload_one : (why : Why) → reloads (kind_of why) ≡ true → index_by why ≡ 1
 reload_one (FollowsHead head tail) h = refl
-reload_one (Opens task) h = absurd (cc)
-reload_one (Fills task) h = absurd (cc)
-reload_one (ClearsNext next) h = absurd (cc)
-reload_one (Clears task next) h = absurd (cc)
-reload_one (Finishes task next) h = absurd (cc)
-reload_one (GivesUp answer) h = absurd (cc)
-reload_one (Retires answer) h = absurd (cc)
-reload_one (Tidies later) h = absurd (cc)
-reload_one Advances h = absurd (cc)
-reload_one (Releases key) h = absurd (cc)
+reload_one why h = absurd (cc)
 
 -- a machine other than a protection
 abbrev pub is_other : Base → Bool
@@ -143,22 +116,14 @@ handed_tried : (i j x era seat tag index old : ℕ) (post : Post) (same : Bool) 
 handed_tried i j x era seat tag index old post true a = index_other i j seat index x (one_era era) (a refl)
 handed_tried i j x era seat tag index old post false a = refl
 
-move_tried : (i j x : ℕ) (at : MoveAt) (post : Post) (found : ℕ) → Apart i found (Move at) → tried_along i j (machine.move_turn at post found).told x ≡ x
-move_tried i j x (HandOver era seat tag index root link old) post found a = handed_tried i j x era seat tag index old post (found == reservation_word (record { era = old; tag = tag })) a
-move_tried i j x at post found a = dull_tried i j (machine.move_turn at post found).told x (move_dull at post found refl)
-
 calm_tried : (i j x : ℕ) (base : Base) (post : Post) (found : ℕ) → is_calm base ≡ true → Apart i found base → tried_along i j (machine.after base post found).told x ≡ x
-calm_tried i j x (Allocate at) post found h a = dull_tried i j (machine.allocate_turn at post found).told x (allocate_dull at post found)
-calm_tried i j x (Write slot row place) post found h a = dull_tried i j (machine.after (Write slot row place) post found).told x (write_dull slot row place post found)
+calm_tried i j x (Move (HandOver era seat tag index root link old)) post found h a = handed_tried i j x era seat tag index old post (found == reservation_word (record { era = old; tag = tag })) a
+calm_tried i j x (Move at) post found h a = dull_tried i j (machine.after (Move at) post found).told x (base_dull (Move at) post found refl refl)
+calm_tried i j x (Allocate at) post found h a = dull_tried i j (machine.after (Allocate at) post found).told x (base_dull (Allocate at) post found refl refl)
+calm_tried i j x (Write slot row place) post found h a = dull_tried i j (machine.after (Write slot row place) post found).told x (base_dull (Write slot row place) post found refl refl)
 calm_tried i j x (GiveUp slot) post found h a = refl
-calm_tried i j x (Retire at) post found h a = dull_tried i j (machine.retire_turn at post found).told x (retire_dull at post found)
-calm_tried i j x (Move at) post found h a = move_tried i j x at post found a
-calm_tried i j x (Begin at) post found h a = absurd (cc)
-calm_tried i j x (Protect aim index root steps at) post found h a = absurd (cc)
-calm_tried i j x (Reload parent index slot era steps) post found h a = absurd (cc)
-calm_tried i j x (Clear index) post found h a = absurd (cc)
-calm_tried i j x Finish post found h a = absurd (cc)
-calm_tried i j x Release post found h a = absurd (cc)
+calm_tried i j x (Retire at) post found h a = dull_tried i j (machine.after (Retire at) post found).told x (base_dull (Retire at) post found refl refl)
+calm_tried i j x base post found h a = absurd (cc)
 
 pub calm_other : (kind : Kind) → calm_kind kind ≡ true → other_kind kind ≡ true
 calm_other Kind.ToOpen h = absurd (cc)
@@ -171,17 +136,12 @@ calm_is (Reload parent index slot era steps) h = absurd (cc)
 calm_is base h = refl
 
 calm_why : (c : Config) (turns : ℕ) (why : Why) (base : Base) (j x last : ℕ) → calm_kind (kind_of why) ≡ true → is_calm base ≡ true → why_tried c turns why base j x last ≡ true → x ≡ 0
-calm_why c turns (ClearsNext next) base j x last k b h = absurd (cc)
-calm_why c turns (Opens task) base j x last k b h = absurd (cc)
-calm_why c turns (FollowsHead head tail) base j x last k b h = absurd (cc)
-calm_why c turns (Clears task next) base j x last k b h = absurd (cc)
-calm_why c turns (Finishes task next) base j x last k b h = absurd (cc)
-calm_why c turns (Releases key) base j x last k b h = absurd (cc)
 calm_why c turns (Fills task) base j x last k b h = zero_of_test x (sym (other_tried c base j x last (calm_is base b)) ∙ h)
 calm_why c turns (GivesUp answer) base j x last k b h = zero_of_test x (sym (other_tried c base j x last (calm_is base b)) ∙ h)
 calm_why c turns (Retires answer) base j x last k b h = zero_of_test x (sym (other_tried c base j x last (calm_is base b)) ∙ h)
 calm_why c turns (Tidies later) base j x last k b h = zero_of_test x (sym (other_tried c base j x last (calm_is base b)) ∙ h)
 calm_why c turns Advances base j x last k b h = zero_of_test x (sym (other_tried c base j x last (calm_is base b)) ∙ h)
+calm_why c turns why base j x last k b h = absurd (cc)
 
 calm_made : (moved : Bool) (c : Config) (i j x last turns : ℕ) (layout : Layout) (why : Why) (base : Base) (post : Post) (found : ℕ) → calm_kind (kind_of why) ≡ true → Stage c i j x last turns layout why base post found → Made moved c i j x last (machine.after base post found)
 calm_made moved c i j x last turns layout why base post found k s =

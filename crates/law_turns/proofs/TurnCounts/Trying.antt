@@ -17,11 +17,12 @@ use Rattle.wfe_core.specs.Phases.{Aim, Alone, Follows, Tries, Endless, Failed, P
 use Rattle.wfe_core.specs.Phases.ProtectAt.{LoadClock, PublishEra, LoadLink, CheckClock, WithdrawRequest, WithdrawHelper, LoadWithin, CheckUpper, RaiseUpper}
 use Rattle.wfe_core.specs.Phases.Base.{Protect, Reload}
 use Rattle.wfe_core.specs.Phases.Ending.{Followed}
-use Rattle.wfe_core.proofs.Facts.{both, first_of, rest_of}
+use Rattle.wfe_core.proofs.Facts.{first_of, rest_of}
 use Rattle.inv_all.proofs.history.Passes.{Closed}
 use Rattle.law_turns.proofs.Counting.Told.{is_dull, all_dull}
 use Rattle.laws.specs.StateAt.{tried_by, last_by}
 use Rattle.law_turns.proofs.Withdrawals.Withdrawing.{is_mute, all_mute, quiet_mute, clear_mute, tells_link}
+use Rattle.inv_all.proofs.history.AllOf.{of_weaker}
 
 -- along what a step tells
 abbrev pub tried_along : (seat index : ℕ) → List Event → ℕ → ℕ
@@ -69,8 +70,7 @@ mute_dull_one (events.Null index steps) h = absurd (cc)
 mute_dull_one event h = refl
 
 mute_dull : (told : List Event) → all_mute told ≡ true → all_dull told ≡ true
-mute_dull [] h = refl
-mute_dull (event ∷ told) h = both (is_dull event) (all_dull told) (mute_dull_one event (first_of (is_mute event) (all_mute told) h)) (mute_dull told (rest_of (is_mute event) (all_mute told) h))
+mute_dull told h = of_weaker is_mute is_dull told mute_dull_one h
 
 -- what a step tells comes to these two
 pub record Comes (i j n last y m : ℕ) (told : List Event) : Type 0 where

@@ -3,8 +3,6 @@ use Rattle.std.proofs.Common.{ℕ, ◌≡◌, ◌≤◌, ◌<◌, ◌+◌, Bool,
 use Rattle.std.proofs.lemmas.Bool.Decides.{nat_tests}
 use Rattle.std.specs.Prelude.{◌==◌, ◌*◌, nat_le, if◌then◌else◌}
 use Rattle.wfe_core.specs.words.declared.config.Config.{Config}
-use Rattle.wfe_core.specs.words.declared.config.SchemeKind.{SchemeKind}
-use Rattle.wfe_core.specs.words.declared.config.SchemeKind.TheVariants.{He, Ibr, Wfe}
 use Rattle.wfe_core.specs.words.declared.layout.Layout.{Layout}
 use Rattle.wfe_core.specs.defs.declared.call.Call.{Call}
 use Rattle.wfe_core.specs.defs.declared.event.Event.{Event}
@@ -16,7 +14,7 @@ use Rattle.wfe_core.specs.World.{World, begin, step, finds, is_busy, told_in}
 use Rattle.wfe_core.specs.Phases.{Base, Turn}
 use Rattle.wfe_core.specs.Phases.Base.{Protect, Reload}
 use Rattle.wfe_core.specs.Calls.{Why, Opens, FollowsHead, Fills, ClearsNext, Clears, Finishes, GivesUp, Retires, Tidies, Advances, Releases, Phase, Idle, Runs, Scans, Works}
-use Rattle.wfe_core.proofs.Facts.{same_number, zero_of_test, le_test}
+use Rattle.wfe_core.proofs.Facts.{zero_of_test, le_test}
 use Rattle.wfe_core.specs.words.Schemes.{is_ibr, is_wfe}
 use Rattle.inv_all.specs.shapes.Frame.{Moves}
 use Rattle.inv_all.specs.shapes.Seats.{PostFits, PhaseFits, Run, kind_of, suits, index_by}
@@ -55,16 +53,7 @@ pub record Lasts (layout : Layout) (made : Made) (h : schedule.History) : Type 0
 -- a follow is at index 1
 follow_index : (why : Why) → is_follow why ≡ true → index_by why ≡ 1
 follow_index (FollowsHead head tail) h = refl
-follow_index (Opens task) h = absurd (cc)
-follow_index (Fills task) h = absurd (cc)
-follow_index (ClearsNext next) h = absurd (cc)
-follow_index (Clears task next) h = absurd (cc)
-follow_index (Finishes task next) h = absurd (cc)
-follow_index (GivesUp answer) h = absurd (cc)
-follow_index (Retires answer) h = absurd (cc)
-follow_index (Tidies later) h = absurd (cc)
-follow_index Advances h = absurd (cc)
-follow_index (Releases key) h = absurd (cc)
+follow_index why h = absurd (cc)
 
 abbrev is_path : Base → Bool
 is_path (Protect aim index root steps at) = true

@@ -25,12 +25,12 @@ use Rattle.wfe_core.specs.Steps as steps
 use Rattle.wfe_core.specs.WriteRow.{last_written}
 use Rattle.wfe_core.specs.World.{World, begin, step, finds, is_busy, told_in}
 use Rattle.wfe_core.specs.Phases.{Aim, Alone, Follows, Tries, Endless, Failed, ProtectAt, MoveAt, Walk, Base, Turn, Outcome, Goes, Ends}
-use Rattle.wfe_core.specs.Phases.BeginAt.{LoadLower, PublishSpan}
-use Rattle.wfe_core.specs.Phases.ProtectAt.{LoadClock, PublishEra, LoadLink, CheckClock, PublishRequest, LoadOwnClock, PublishHelper, LoadOwnLink, CheckOwnClock, AnswerOwn, LoadAnswer, TakeAnswer, WithdrawRequest, WithdrawHelper, LoadWithin, CheckUpper, RaiseUpper}
-use Rattle.wfe_core.specs.Phases.AllocateAt.{LoadBirth, ClaimSlot, StoreLife}
-use Rattle.wfe_core.specs.Phases.RetireAt.{LoadLife, LoadRetire, StoreRetired}
-use Rattle.wfe_core.specs.Phases.MoveAt.{LoadEra, LoadRequest, ShowEra, LoadAsked, CheckEra, AnswerAsked, LoadReserved, HandOver, HideEra, HideLate, ExchangeClock}
-use Rattle.wfe_core.specs.Phases.Base.{Begin, Protect, Reload, Clear, Finish, Release, Allocate, Write, GiveUp, Retire, Move}
+use Rattle.wfe_core.specs.Phases.BeginAt.{LoadLower}
+use Rattle.wfe_core.specs.Phases.ProtectAt.{LoadClock, PublishEra, LoadLink, CheckClock, PublishRequest, PublishHelper, CheckOwnClock, AnswerOwn, LoadAnswer, WithdrawRequest, WithdrawHelper, LoadWithin, CheckUpper}
+use Rattle.wfe_core.specs.Phases.AllocateAt.{ClaimSlot}
+use Rattle.wfe_core.specs.Phases.RetireAt.{LoadLife}
+use Rattle.wfe_core.specs.Phases.MoveAt.{LoadEra, LoadRequest, ShowEra, CheckEra, AnswerAsked, LoadReserved, HandOver, ExchangeClock}
+use Rattle.wfe_core.specs.Phases.Base.{Begin, Protect, Reload, Allocate, Write, Retire, Move}
 use Rattle.wfe_core.specs.Calls.{Why, Phase, Idle, Runs, Scans, Works}
 use Rattle.wfe_core.proofs.Facts.{same_number}
 use Rattle.inv_all.specs.shapes.Eras.{Eras}
@@ -46,7 +46,7 @@ use Rattle.inv_all.specs.Inv.{Inv}
 use Rattle.inv_all.proofs.Inv.Shapes.{eras_of}
 use Rattle.inv_all.proofs.history.Passes.{Closed, step_goes}
 use Rattle.law_answers.proofs.OneStep.Along.{Around, Kept, history_keeps}
-use Rattle.law_turns.proofs.Counting.Told.{concluded_told}
+use Rattle.inv_all.proofs.history.MayTell.{concluded_told}
 use Rattle.laws.specs.StateAt.{shown_by, shown_of}
 use Rattle.laws.specs.StepLaw.{found_shown, one_less, due_of, withdraws_first, withdraws_by, withdrawn_right}
 use Rattle.law_turns.specs.Records.{WithdrawalsFollow}
@@ -105,18 +105,11 @@ abbrev BaseOut : Base → Post → ℕ → Type 0
 BaseOut base post found = Out (base_leaves base) (next_due base) (machine.after base post found).outcome
 
 protect_out : (aim : Aim) (index : ℕ) (root : Root) (made : ℕ) (at : ProtectAt) (post : Post) (found : ℕ) → BaseOut (Protect aim index root made at) post found
-protect_out aim index root made (LoadClock tries) post found = (refl, refl)
 protect_out aim index root made (PublishEra era tries) post found = trying_shows post.layout.config root era tries
-protect_out aim index root made (LoadLink era tries) post found = (refl, refl)
 protect_out aim index root made (CheckClock era tries link) post found = out_if false 0 (found == era) _ _ (concluded_out aim index root (bump made) link era _ _) (refl, refl)
-protect_out aim index root made PublishRequest post found = (refl, refl)
-protect_out aim index root made LoadOwnClock post found = (refl, refl)
-protect_out aim index root made (PublishHelper first era last) post found = (refl, refl)
-protect_out aim index root made (LoadOwnLink first era last) post found = (refl, refl)
 protect_out aim index root made (CheckOwnClock first era last link) post found = out_if true 0 (found == era) _ _ (refl, refl) (lost_shows root first last found)
 protect_out aim index root made (AnswerOwn first era link) post found = out_if true 0 (found == slow.own_request post index root) _ _ (refl, refl) (answer_shows root (read_request found))
 protect_out aim index root made (LoadAnswer first) post found = answer_shows root (read_request found)
-protect_out aim index root made (TakeAnswer link era) post found = (refl, refl)
 protect_out aim index root made (WithdrawRequest link era) post found = (refl, by (tells_link root link))
   where
     by : (b : Bool) → (if b then 1 else 0) ≡ one_less (if b then 2 else 0)
@@ -127,9 +120,8 @@ protect_out aim index root made (WithdrawHelper link era) post found = subst (λ
     by : (b : Bool) → 0 ≡ one_less (if b then 1 else 0)
     by true = refl
     by false = refl
-protect_out aim index root made LoadWithin post found = (refl, refl)
 protect_out aim index root made (CheckUpper link) post found = out_if false 0 (found == upper post.span) _ _ (concluded_out aim index root (bump made) link found _ _) (refl, refl)
-protect_out aim index root made (RaiseUpper era) post found = (refl, refl)
+protect_out aim index root made at post found = (refl, refl)
 
 met_all : (era : ℕ) (shows : Bool) → move_shows (movers.all_met era shows) ≡ shows
 met_all era true = refl
@@ -163,15 +155,12 @@ handed_out era seat tag index old post false = (next_shows post era seat true, r
 move_out : (at : MoveAt) (post : Post) (found : ℕ) → BaseOut (Move at) post found
 move_out (LoadEra helps) post found = out_if false 0 (found == post.layout.config.last_era) _ _ (refl, refl) (moving_shows helps found, refl)
 move_out (LoadRequest era seat shows) post found = (met_shows post era seat shows (read_request found), refl)
-move_out (ShowEra era seat tag index root) post found = (refl, refl)
-move_out (LoadAsked era seat tag index root) post found = (refl, refl)
 move_out (CheckEra era seat tag index root link) post found = out_if true 0 (found == era) _ _ (refl, refl) (refl, refl)
 move_out (AnswerAsked era seat tag index root link) post found = out_if true 0 (found == slow.asking post.layout tag index root) _ _ (refl, refl) (next_shows post era seat true, refl)
 move_out (LoadReserved era seat tag index root link) post found = out_if true 0 ((read_reservation found).tag == tag) _ _ (refl, refl) (next_shows post era seat true, refl)
 move_out (HandOver era seat tag index root link old) post found = handed_out era seat tag index old post (found == reservation_word (record { era = old; tag = tag }))
-move_out (HideEra era) post found = (refl, refl)
-move_out (HideLate seen) post found = (refl, refl)
 move_out (ExchangeClock era) post found = out_if false 0 (found == era) _ _ (refl, refl) (refl, refl)
+move_out at post found = (refl, refl)
 
 walking_out : (birth : ℕ) (post : Post) (x : Option Walk) → Out false 0 (allocates.walking birth post x).outcome
 walking_out birth post None = (refl, refl)
@@ -179,21 +168,13 @@ walking_out birth post (Some walk) = (refl, refl)
 
 base_out : (base : Base) (post : Post) (found : ℕ) → BaseOut base post found
 base_out (Begin LoadLower) post found = (refl, refl)
-base_out (Begin (PublishSpan era)) post found = (refl, refl)
 base_out (Protect aim index root made at) post found = protect_out aim index root made at post found
 base_out (Reload parent index slot era made) post found = out_if false 0 (found == parent + 1) _ _ (refl, refl) (refl, refl)
-base_out (Clear index) post found = (refl, refl)
-base_out Finish post found = (refl, refl)
-base_out Release post found = (refl, refl)
-base_out (Allocate LoadBirth) post found = (refl, refl)
 base_out (Allocate (ClaimSlot birth walk)) post found = out_if false 0 (allocates.is_claimed found walk.slot) _ _ (walking_out birth post (allocates.walk_past post.layout.config.slots walk found)) (refl, refl)
-base_out (Allocate (StoreLife birth slot)) post found = (refl, refl)
 base_out (Write slot row place) post found = out_if false 0 (place == last_written row) _ _ (refl, refl) (refl, refl)
-base_out (GiveUp slot) post found = (refl, refl)
 base_out (Retire (LoadLife slot)) post found = (refl, refl)
-base_out (Retire (LoadRetire slot birth)) post found = (refl, refl)
-base_out (Retire (StoreRetired slot birth retire)) post found = (refl, refl)
 base_out (Move at) post found = move_out at post found
+base_out base post found = (refl, refl)
 
 -- a new phase shows nothing, and owes nothing
 new_base : (base : Base) → is_first base ≡ true → (base_shows base ≡ false) × (base_due base ≡ 0)

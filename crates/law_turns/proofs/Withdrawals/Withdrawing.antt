@@ -1,10 +1,9 @@
 -- The helper word of a reader is withdrawn in the second turn after the one with which it takes an answer.
-use Rattle.std.proofs.Common.{ℕ, ◌≡◌, ◌≤◌, ◌-◌, ◌+◌, Bool, true, false, List, [], ◌∷◌, ◌++◌, Option, Some, None, refl, ap, ◌∙◌, arith}
+use Rattle.std.proofs.Common.{ℕ, ◌≡◌, ◌≤◌, ◌-◌, ◌+◌, Bool, true, false, List, [], ◌∷◌, ◌++◌, Some, None, refl, ap, ◌∙◌, arith}
 use Rattle.std.proofs.lemmas.Bool.Decides.{nat_tests}
-use Rattle.std.specs.Prelude.{◌==◌, ◌&&◌, ◌||◌, is_some, if◌then◌else◌, is_none}
-use Rattle.wfe_core.specs.words.Packed.{reservation_word, read_reservation}
+use Rattle.std.specs.Prelude.{◌==◌, ◌&&◌, ◌||◌, is_some, if◌then◌else◌, is_none, not}
+use Rattle.wfe_core.specs.words.Packed.{reservation_word}
 use Rattle.wfe_core.specs.words.declared.config.SchemeKind.{SchemeKind}
-use Rattle.wfe_core.specs.words.declared.config.SchemeKind.TheVariants.{He, Ibr, Wfe}
 use Rattle.wfe_core.specs.defs.declared.event.Event.{Event}
 use Rattle.wfe_core.specs.defs.declared.event.Event.TheVariants as events
 use Rattle.wfe_core.specs.defs.declared.event.Guard.TheVariants.{Helper, Index, Whole}
@@ -12,28 +11,25 @@ use Rattle.wfe_core.specs.defs.declared.event.Root.{Root}
 use Rattle.wfe_core.specs.defs.declared.lifetime.Interval.{Interval}
 use Rattle.wfe_core.specs.defs.declared.event.Root.TheVariants as roots
 use Rattle.wfe_core.specs.declared.post.Post.{Post}
-use Rattle.wfe_core.specs.Allocate as allocates
 use Rattle.wfe_core.specs.Guards.{one_era}
 use Rattle.wfe_core.specs.Machine as machine
 use Rattle.wfe_core.specs.Memory.{bump}
 use Rattle.wfe_core.specs.MoveClock as movers
-use Rattle.wfe_core.specs.Posts.{stands, cleared, upper, reserves_index, reserves_helper, reserves_span}
+use Rattle.wfe_core.specs.Posts.{reserves_helper}
 use Rattle.wfe_core.specs.Protect as protects
 use Rattle.wfe_core.specs.Rounds.{scheme_of, clear_told}
-use Rattle.wfe_core.specs.SlowPath.{asking, own_request}
-use Rattle.wfe_core.specs.WriteRow.{last_written}
-use Rattle.wfe_core.specs.Phases.{Aim, Alone, Follows, BeginAt, ProtectAt, AllocateAt, RetireAt, MoveAt, Walk, Base, Turn}
-use Rattle.wfe_core.specs.Phases.BeginAt.{LoadLower, PublishSpan}
-use Rattle.wfe_core.specs.Phases.ProtectAt.{LoadClock, PublishEra, LoadLink, CheckClock, PublishRequest, LoadOwnClock, PublishHelper, LoadOwnLink, CheckOwnClock, AnswerOwn, LoadAnswer, TakeAnswer, WithdrawRequest, WithdrawHelper, LoadWithin, CheckUpper, RaiseUpper}
-use Rattle.wfe_core.specs.Phases.AllocateAt.{LoadBirth, ClaimSlot, StoreLife}
-use Rattle.wfe_core.specs.Phases.RetireAt.{LoadLife, LoadRetire, StoreRetired}
+use Rattle.wfe_core.specs.Phases.{Aim, ProtectAt, MoveAt, Base}
+use Rattle.wfe_core.specs.Phases.ProtectAt.{PublishHelper, LoadOwnLink, CheckOwnClock, AnswerOwn, LoadAnswer, TakeAnswer, WithdrawRequest, WithdrawHelper}
 use Rattle.wfe_core.specs.Phases.MoveAt.{LoadEra, LoadRequest, ShowEra, LoadAsked, CheckEra, AnswerAsked, LoadReserved, HandOver, HideEra, HideLate, ExchangeClock}
-use Rattle.wfe_core.specs.Phases.Base.{Begin, Protect, Reload, Clear, Finish, Release, Allocate, Write, GiveUp, Retire, Move}
+use Rattle.wfe_core.specs.Phases.Base.{Protect, Move}
 use Rattle.wfe_core.specs.Calls.{ReadGuard, GiveBack, Phase, Idle, Runs, Scans, Works}
-use Rattle.wfe_core.proofs.Facts.{both, first_of, rest_of, and_false, or_false}
+use Rattle.wfe_core.proofs.Facts.{first_of, rest_of, and_false, or_false, false_not_true}
 use Rattle.inv_all.proofs.history.Passes.{is_quiet, all_quiet, Closed, First}
 use Rattle.laws.specs.StateAt.{shown_by}
 use Rattle.laws.specs.StepLaw.{is_found, found_shown}
+use Rattle.inv_all.proofs.history.MayTell as may
+use Rattle.inv_all.proofs.history.MayTell.{Tells, may_store, may_publish, same_span, span_of, publishes, finds, is_find, bare, no_find, base_tells, base_all, clear_all, concluded_told}
+use Rattle.inv_all.proofs.history.AllOf.{all_of, of_weaker, of_both}
 
 -- along what a step tells
 abbrev pub shown_along : (seat : ℕ) → List Event → Bool → Bool
@@ -135,8 +131,7 @@ is_mute (events.Null index steps) = false
 is_mute event = true
 
 abbrev pub all_mute : List Event → Bool
-all_mute [] = true
-all_mute (event ∷ told) = is_mute event && all_mute told
+all_mute told = all_of is_mute told
 
 mute_one : (i : ℕ) (event : Event) (b : Bool) → is_mute event ≡ true → shown_by i event b ≡ b
 mute_one i (events.Reserve guard span) b h = absurd (cc)
@@ -162,17 +157,10 @@ quiet_one (events.Null index steps) h = absurd (cc)
 quiet_one event h = refl
 
 pub quiet_mute : (told : List Event) → all_quiet told ≡ true → all_mute told ≡ true
-quiet_mute [] h = refl
-quiet_mute (event ∷ told) h = both (is_mute event) (all_mute told) (quiet_one event (first_of (is_quiet event) (all_quiet told) h)) (quiet_mute told (rest_of (is_quiet event) (all_quiet told) h))
-
-pub cleared_mute : (index : ℕ) (o : Option ℕ) → all_mute (cleared index o) ≡ true
-cleared_mute index None = refl
-cleared_mute index (Some slot) = refl
+quiet_mute told h = of_weaker is_quiet is_mute told quiet_one h
 
 pub clear_mute : (scheme : SchemeKind) (post : Post) (index : ℕ) → all_mute (clear_told scheme post index) ≡ true
-clear_mute He post index = refl
-clear_mute Ibr post index = cleared_mute index (stands post index)
-clear_mute Wfe post index = refl
+clear_mute scheme post index = clear_all is_mute scheme post index (λ index slot. refl)
 
 shows_along : (i : ℕ) (b c f : Bool) (told more : List Event) → all_mute more ≡ true → Shows i b c f told → Shows i b c f (told ++ more)
 shows_along i b c f told more m s =
@@ -194,8 +182,7 @@ is_plain (events.Reserve (Helper seat) span) = is_none span
 is_plain event = true
 
 abbrev pub all_plain : List Event → Bool
-all_plain [] = true
-all_plain (event ∷ told) = is_plain event && all_plain told
+all_plain told = all_of is_plain told
 
 plain_one : (i : ℕ) (event : Event) → is_plain event ≡ true → shown_by i event false ≡ false
 plain_one i (events.Reserve (Helper seat) None) h = helper_by (seat == i)
@@ -215,53 +202,49 @@ plain_shows i (event ∷ told) h =
     let s = plain_shows i told (rest_of (is_plain event) (all_plain told) h) in
     record { left = rw q s.left; found = rw (and_false (is_found event)) (rw q s.found) }
 
-pub plain_along : (xs ys : List Event) → all_plain xs ≡ true → all_plain ys ≡ true → all_plain (xs ++ ys) ≡ true
-plain_along [] ys h k = k
-plain_along (x ∷ xs) ys h k = both (is_plain x) (all_plain (xs ++ ys)) (first_of (is_plain x) (all_plain xs) h) (plain_along xs ys (rest_of (is_plain x) (all_plain xs) h) k)
+-- the steps that publish in a helper word
+abbrev pub at_helps : ProtectAt → Bool
+at_helps (PublishHelper first era last) = true
+at_helps at = false
 
-pub plain_if : (c : Bool) (t u : Turn) → all_plain t.told ≡ true → all_plain u.told ≡ true → all_plain (if c then t else u).told ≡ true
-plain_if true t u h k = h
-plain_if false t u h k = k
+abbrev pub move_helps : MoveAt → Bool
+move_helps (ShowEra era seat tag index root) = true
+move_helps at = false
 
-link_plain : (index slot n : ℕ) (none : Bool) → all_plain (if none then events.Null index n ∷ [] else events.Held index slot n ∷ []) ≡ true
-link_plain index slot n true = refl
-link_plain index slot n false = refl
+abbrev pub base_helps : Base → Bool
+base_helps (Protect aim index root made at) = at_helps at
+base_helps (Move at) = move_helps at
+base_helps base = false
 
-next_plain : (index n : ℕ) (none : Bool) → all_plain (if none then events.Null index n ∷ [] else []) ≡ true
-next_plain index n true = refl
-next_plain index n false = refl
+hides : (base : Base) (post : Post) (found seat : ℕ) → base_helps base ≡ false → may_store base post found (Helper seat) ≡ true → may.base_shows base post ≡ None
+hides (Protect aim index root made (WithdrawHelper link era)) post found seat f h = refl
+hides (Protect aim index root made (PublishHelper first era last)) post found seat f h = absurd (cc)
+hides (Protect aim index root made at) post found seat f h = absurd (cc)
+hides (Move (HideEra era)) post found seat f h = refl
+hides (Move (HideLate seen)) post found seat f h = refl
+hides (Move (ShowEra era asker tag index root)) post found seat f h = absurd (cc)
+hides (Move at) post found seat f h = absurd (cc)
+hides base post found seat f h = absurd (cc)
 
-pub held_plain : (index : ℕ) (root : Root) (link n : ℕ) → all_plain (protects.told_held index root link n) ≡ true
-held_plain index (roots.Next parent) link n = next_plain index n (link == 0)
-held_plain index (roots.Bucket bucket) link n = link_plain index (link - 1) n (link == 0)
-held_plain index roots.Head link n = link_plain index (link - 1) n (link == 0)
-held_plain index roots.Tail link n = link_plain index (link - 1) n (link == 0)
+one_plain : (base : Base) (post : Post) (found : ℕ) (event : Event) → base_helps base ≡ false → Tells base post found event → is_plain event ≡ true
+one_plain base post found (events.Reserve (Helper seat) span) f t =
+    let e : span ≡ None = span_of base post found (Helper seat) span t ∙ hides base post found seat f (first_of (may_store base post found (Helper seat)) (same_span span (may.base_shows base post)) t) in rw e refl
+one_plain base post found (events.Reserve (Index seat index) span) f t = refl
+one_plain base post found (events.Reserve (Whole seat) span) f t = refl
+one_plain base post found event f t = refl
 
-pub concluded_plain : (aim : Aim) (index : ℕ) (root : Root) (n link era : ℕ) (post : Post) (told : List Event) → all_plain told ≡ true → all_plain (protects.concluded aim index root n link era post told).told ≡ true
-concluded_plain Alone index root n link era post told h = h
-concluded_plain Follows index root n link era post told h = plain_if (link == 0) _ _ h h
+pub base_plain : (base : Base) (post : Post) (found : ℕ) → base_helps base ≡ false → all_plain (machine.after base post found).told ≡ true
+base_plain base post found f = base_all is_plain base post found (λ event. one_plain base post found event f)
 
-pub cleared_plain : (index : ℕ) (o : Option ℕ) → all_plain (cleared index o) ≡ true
-cleared_plain index None = refl
-cleared_plain index (Some slot) = refl
+-- a step that stores no guard's word and finds nothing
+one_mute : (base : Base) (post : Post) (found : ℕ) (event : Event) → publishes base ≡ false → not (is_find event) ≡ true → Tells base post found event → is_mute event ≡ true
+one_mute base post found (events.Reserve guard span) p f t = absurd (false_not_true (may_publish base post found guard span) (bare base post found guard span p) t)
+one_mute base post found (events.Held index slot steps) p f t = absurd (cc)
+one_mute base post found (events.Null index steps) p f t = absurd (cc)
+one_mute base post found event p f t = refl
 
-walking_plain : (birth : ℕ) (post : Post) (x : Option Walk) → all_plain (allocates.walking birth post x).told ≡ true
-walking_plain birth post None = refl
-walking_plain birth post (Some walk) = refl
-
-pub allocate_plain : (at : AllocateAt) (post : Post) (found : ℕ) → all_plain (machine.allocate_turn at post found).told ≡ true
-allocate_plain LoadBirth post found = refl
-allocate_plain (ClaimSlot birth walk) post found = plain_if (allocates.is_claimed found walk.slot) _ _ (walking_plain birth post (allocates.walk_past post.layout.config.slots walk found)) refl
-allocate_plain (StoreLife birth slot) post found = refl
-
-pub retire_plain : (at : RetireAt) (post : Post) (found : ℕ) → all_plain (machine.retire_turn at post found).told ≡ true
-retire_plain (LoadLife slot) post found = refl
-retire_plain (LoadRetire slot birth) post found = refl
-retire_plain (StoreRetired slot birth retire) post found = refl
-
-pub begin_plain : (at : BeginAt) (post : Post) (found : ℕ) → all_plain (machine.begin_turn at post found).told ≡ true
-begin_plain LoadLower post found = refl
-begin_plain (PublishSpan era) post found = refl
+base_mute : (base : Base) (post : Post) (found : ℕ) → publishes base ≡ false → finds base ≡ false → all_mute (machine.after base post found).told ≡ true
+base_mute base post found p f = of_both (λ event. not (is_find event)) (may.may_tell base post found) is_mute (machine.after base post found).told (λ event. one_mute base post found event p) (no_find base post found f) (base_tells base post found)
 
 -- an era is one that the clock has shown
 abbrev pub ShownEra : Base → Type 0
@@ -298,70 +281,47 @@ held_found i index (roots.Bucket bucket) link n = link_found i index (link - 1) 
 held_found i index roots.Head link n = link_found i index (link - 1) n (link == 0)
 held_found i index roots.Tail link n = link_found i index (link - 1) n (link == 0)
 
-shows_if : (i : ℕ) (b c f : Bool) (same : Bool) (t u : Turn) → Shows i b c f t.told → Shows i b c f u.told → Shows i b c f (if same then t else u).told
-shows_if i b c f true t u h k = h
-shows_if i b c f false t u h k = k
-
-concluded_shows : (i : ℕ) (b c f : Bool) (aim : Aim) (index : ℕ) (root : Root) (n link era : ℕ) (post : Post) (told : List Event) → Shows i b c f told → Shows i b c f (protects.concluded aim index root n link era post told).told
-concluded_shows i b c f Alone index root n link era post told h = h
-concluded_shows i b c f Follows index root n link era post told h = shows_if i b c f (link == 0) _ _ h h
-
 nothing : (i : ℕ) (b : Bool) → Shows i b b false []
 nothing i b = record { left = refl; found = refl }
 
 abbrev BaseShown : ℕ → Base → Post → ℕ → Type 0
 BaseShown i base post found = Shows i (base_shows base) (base_leaves base) (base_finds base) (machine.after base post found).told
 
+plain_base : (i : ℕ) (base : Base) (post : Post) (found : ℕ) → base_helps base ≡ false → Shows i false false false (machine.after base post found).told
+plain_base i base post found f = plain_shows i (machine.after base post found).told (base_plain base post found f)
+
+mute_base : (i : ℕ) (b : Bool) (base : Base) (post : Post) (found : ℕ) → publishes base ≡ false → finds base ≡ false → Shows i b b false (machine.after base post found).told
+mute_base i b base post found p f = mute_shows i (machine.after base post found).told b (base_mute base post found p f)
+
 protect_shown : (i : ℕ) (aim : Aim) (index : ℕ) (root : Root) (made : ℕ) (at : ProtectAt) (post : Post) (found : ℕ) → post.seat ≡ i → ShownEra (Protect aim index root made at) → BaseShown i (Protect aim index root made at) post found
-protect_shown i aim index root made (LoadClock tries) post found s e = nothing i false
-protect_shown i aim index root made (PublishEra era tries) post found s e = plain_shows i (reserves_index post index era) refl
-protect_shown i aim index root made (LoadLink era tries) post found s e = nothing i false
-protect_shown i aim index root made (CheckClock era tries link) post found s e =
-    shows_if i false false false (found == era) _ _ (plain_shows i _ (concluded_plain aim index root (bump made) link era (protects.held_post post index root link) (protects.told_held index root link (bump made)) (held_plain index root link (bump made)))) (nothing i false)
-protect_shown i aim index root made PublishRequest post found s e = nothing i false
-protect_shown i aim index root made LoadOwnClock post found s e = nothing i false
 protect_shown i aim index root made (PublishHelper first era last) post found s e = helper_era i post era last s e
 protect_shown i aim index root made (LoadOwnLink first era last) post found s e = nothing i true
-protect_shown i aim index root made (CheckOwnClock first era last link) post found s e = shows_if i true true false (found == era) _ _ (nothing i true) (nothing i true)
-protect_shown i aim index root made (AnswerOwn first era link) post found s e = shows_if i true true false (found == own_request post index root) _ _ (nothing i true) (nothing i true)
+protect_shown i aim index root made (CheckOwnClock first era last link) post found s e = mute_base i true (Protect aim index root made (CheckOwnClock first era last link)) post found refl refl
+protect_shown i aim index root made (AnswerOwn first era link) post found s e = mute_base i true (Protect aim index root made (AnswerOwn first era link)) post found refl refl
 protect_shown i aim index root made (LoadAnswer first) post found s e = nothing i true
 protect_shown i aim index root made (TakeAnswer link era) post found s e = let h = held_found i index root link (bump made) in record { left = h.left; found = h.found }
 protect_shown i aim index root made (WithdrawRequest link era) post found s e = nothing i true
-protect_shown i aim index root made (WithdrawHelper link era) post found s e = concluded_shows i true false false aim index root (bump made) link era post (reserves_helper post 0) (helper_none i post true s)
-protect_shown i aim index root made LoadWithin post found s e = nothing i false
-protect_shown i aim index root made (CheckUpper link) post found s e =
-    shows_if i false false false (found == upper post.span) _ _ (plain_shows i _ (concluded_plain aim index root (bump made) link found (protects.held_post post index root link) (protects.told_held index root link (bump made)) (held_plain index root link (bump made)))) (nothing i false)
-protect_shown i aim index root made (RaiseUpper era) post found s e = plain_shows i _ refl
+protect_shown i aim index root made (WithdrawHelper link era) post found s e = rw (concluded_told aim index root (bump made) link era post (reserves_helper post 0)) (helper_none i post true s)
+protect_shown i aim index root made at post found s e = plain_base i (Protect aim index root made at) post found refl
 
 handed_shown : (i era seat tag index old : ℕ) (post : Post) (same : Bool) → Shows i true true false (movers.after_hand_over era seat tag index old post same).told
 handed_shown i era seat tag index old post true = record { left = refl; found = refl }
 handed_shown i era seat tag index old post false = nothing i true
 
 move_shown : (i : ℕ) (at : MoveAt) (post : Post) (found : ℕ) → post.seat ≡ i → ShownEra (Move at) → BaseShown i (Move at) post found
-move_shown i (LoadEra helps) post found s e = shows_if i false false false (found == post.layout.config.last_era) _ _ (nothing i false) (nothing i false)
 move_shown i (LoadRequest era seat shows) post found s e = nothing i shows
 move_shown i (ShowEra era seat tag index root) post found s e = helper_era i post era false s e
-move_shown i (LoadAsked era seat tag index root) post found s e = nothing i true
-move_shown i (CheckEra era seat tag index root link) post found s e = shows_if i true true false (found == era) _ _ (nothing i true) (nothing i true)
-move_shown i (AnswerAsked era seat tag index root link) post found s e = shows_if i true true false (found == asking post.layout tag index root) _ _ (nothing i true) (nothing i true)
-move_shown i (LoadReserved era seat tag index root link) post found s e = shows_if i true true false ((read_reservation found).tag == tag) _ _ (nothing i true) (nothing i true)
 move_shown i (HandOver era seat tag index root link old) post found s e = handed_shown i era seat tag index old post (found == reservation_word (record { era = old; tag = tag }))
 move_shown i (HideEra era) post found s e = helper_none i post true s
 move_shown i (HideLate seen) post found s e = helper_none i post true s
-move_shown i (ExchangeClock era) post found s e = shows_if i false false false (found == era) _ _ (record { left = refl; found = refl }) (nothing i false)
+move_shown i (LoadEra helps) post found s e = plain_base i (Move (LoadEra helps)) post found refl
+move_shown i (ExchangeClock era) post found s e = plain_base i (Move (ExchangeClock era)) post found refl
+move_shown i at post found s e = mute_base i true (Move at) post found refl refl
 
 base_shown : (i : ℕ) (base : Base) (post : Post) (found : ℕ) → post.seat ≡ i → ShownEra base → BaseShown i base post found
-base_shown i (Begin at) post found s e = plain_shows i _ (begin_plain at post found)
 base_shown i (Protect aim index root made at) post found s e = protect_shown i aim index root made at post found s e
-base_shown i (Reload parent index slot era made) post found s e = shows_if i false false false (found == parent + 1) _ _ (record { left = refl; found = refl }) (nothing i false)
-base_shown i (Clear index) post found s e = plain_shows i _ (plain_along (cleared index (stands post index)) (reserves_index post index 0) (cleared_plain index (stands post index)) refl)
-base_shown i Finish post found s e = plain_shows i _ refl
-base_shown i Release post found s e = plain_shows i _ (plain_along (cleared 2 (stands post 2)) (reserves_span post None) (cleared_plain 2 (stands post 2)) refl)
-base_shown i (Allocate at) post found s e = plain_shows i _ (allocate_plain at post found)
-base_shown i (Write slot row place) post found s e = shows_if i false false false (place == last_written row) _ _ (nothing i false) (nothing i false)
-base_shown i (GiveUp slot) post found s e = plain_shows i _ refl
-base_shown i (Retire at) post found s e = plain_shows i _ (retire_plain at post found)
 base_shown i (Move at) post found s e = move_shown i at post found s e
+base_shown i base post found s e = plain_base i base post found refl
 
 abbrev pub PhaseEra : Phase → Type 0
 PhaseEra (Runs why base) = ShownEra base
