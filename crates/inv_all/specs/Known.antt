@@ -4,7 +4,7 @@ use Rattle.wfe_core.specs.words.Place.{is_valid}
 use Rattle.wfe_core.specs.World.{World}
 use Rattle.inv_ends.specs.shapes.Eras.{Eras}
 use Rattle.inv_ends.specs.shapes.Noted.{Noted}
-use Rattle.wfe_core.specs.words.Schemes.{is_wfe}
+use Rattle.wfe_core.specs.words.Schemes.{helps}
 use Rattle.inv_ends.specs.shapes.Seats.{Seats}
 use Rattle.inv_ends.specs.shapes.Slots.{Slots}
 use Rattle.inv_ends.specs.requests.Paces.{Paces}
@@ -53,7 +53,7 @@ pub record Known (w : World) (v : View) (l : Line) (z : Asked) : Type 0 where
   -- what stands is covered, and so is what a try has loaded
   pub held : Held w v
   -- under Wait-Free Eras so are the rows of requests, from the load of the link to the taking of the answer
-  pub helped : is_wfe w.layout.config.scheme ≡ true → Helped w v z.deal
+  pub helped : helps w.layout.config.scheme ≡ true → Helped w v z.deal
   -- a link that a protection may end with is one of its root
   pub links : Links w v l z
   -- what rows of the map show, and what calls know of it

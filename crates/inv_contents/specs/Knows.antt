@@ -8,7 +8,7 @@ use Rattle.inv_rows.specs.model.Phases.Base.{Begin, Protect, Reload, Clear, Fini
 use Rattle.inv_rows.specs.model.Rounds.{key_of}
 use Rattle.inv_rows.specs.model.Change.{new_row}
 use Rattle.inv_rows.specs.model.Enqueue.{new_item}
-use Rattle.inv_rows.specs.model.Calls.{EnqueueKept, EnqueueAt, LoadNumber, LoadNext, PassTail, ExchangeNext, ExchangeTail, ChangeKept, Task, Gets, Changes, Holds, Enqueues, Dequeues, Why, Opens, FollowsHead, Fills, ClearsNext, Clears, Finishes, GivesUp, Retires, Tidies, Advances, Releases, GetAt, FindVersion, FindCount, FindKey, FindValue, ChangeAt, LoadVersion, LoadCount, LoadKey, LoadValue, ExchangeRoot, Work, Getting, Changing, Enqueuing, Dequeuing, Phase, Idle, Runs, Scans, Works}
+use Rattle.inv_rows.specs.model.Calls.{EnqueueKept, EnqueueAt, LoadNumber, LoadNext, PassTail, ExchangeNext, ExchangeTail, ChangeKept, Task, Gets, Changes, Holds, Enqueues, Dequeues, Why, Opens, FollowsHead, Fills, GetAt, FindVersion, FindCount, FindKey, FindValue, ChangeAt, LoadVersion, LoadCount, LoadKey, LoadValue, ExchangeRoot, Work, Getting, Changing, Enqueuing, Dequeuing, Phase, Idle, Runs, Scans, Works}
 use Rattle.inv_contents.specs.Shelf.{Shelf, Filled}
 
 -- what a seat's knowledge is of: the number of buckets, what rows show by the book, and the words
@@ -125,9 +125,7 @@ ItemKnows g kept Finish = Unit {0}
 ItemKnows g kept Release = Unit {0}
 ItemKnows g kept (Allocate at) = Unit {0}
 ItemKnows g kept (Write slot row place) = WritingItem g kept slot row place
-ItemKnows g kept (GiveUp slot) = Unit {0}
-ItemKnows g kept (Retire at) = Unit {0}
-ItemKnows g kept (Move at) = Unit {0}
+ItemKnows g kept base = Unit {0}
 
 abbrev pub EnqueueKnows : Ground → EnqueueKept → EnqueueAt → Type 0
 EnqueueKnows g kept LoadNumber = Unit {0}
@@ -147,14 +145,7 @@ abbrev pub WhyKnows : Ground → Why → Base → Type 0
 WhyKnows g (Opens task) base = Unit {0}
 WhyKnows g (FollowsHead head tail) base = Unit {0}
 WhyKnows g (Fills task) base = TaskKnows g task base
-WhyKnows g (ClearsNext next) base = Unit {0}
-WhyKnows g (Clears task next) base = Unit {0}
-WhyKnows g (Finishes task next) base = Unit {0}
-WhyKnows g (GivesUp answer) base = Unit {0}
-WhyKnows g (Retires answer) base = Unit {0}
-WhyKnows g (Tidies later) base = Unit {0}
-WhyKnows g Advances base = Unit {0}
-WhyKnows g (Releases key) base = Unit {0}
+WhyKnows g why base = Unit {0}
 
 abbrev pub WorkKnows : Ground → Work → Type 0
 WorkKnows g (Getting key at) = GetKnows g key at
@@ -180,22 +171,13 @@ get_reads (FindValue slot version pair) s = slot == s
 abbrev pub task_reads : Task → ℕ → Bool
 task_reads (Gets key) s = false
 task_reads (Changes kept) s = kept.link == s + 1
-task_reads (Holds key) s = false
-task_reads (Enqueues kept) s = false
-task_reads Dequeues s = false
+task_reads task s = false
 
 abbrev pub why_reads : Why → ℕ → Bool
 why_reads (Opens task) s = false
 why_reads (FollowsHead head tail) s = false
 why_reads (Fills task) s = task_reads task s
-why_reads (ClearsNext next) s = false
-why_reads (Clears task next) s = false
-why_reads (Finishes task next) s = false
-why_reads (GivesUp answer) s = false
-why_reads (Retires answer) s = false
-why_reads (Tidies later) s = false
-why_reads Advances s = false
-why_reads (Releases key) s = false
+why_reads why s = false
 
 abbrev pub work_reads : Work → ℕ → Bool
 work_reads (Getting key at) s = get_reads at s
@@ -221,22 +203,13 @@ base_owns Finish s = false
 base_owns Release s = false
 base_owns (Allocate at) s = false
 base_owns (Write slot row place) s = slot == s
-base_owns (GiveUp slot) s = false
-base_owns (Retire at) s = false
-base_owns (Move at) s = false
+base_owns base s = false
 
 abbrev pub why_owns : Why → Base → ℕ → Bool
 why_owns (Opens task) base s = false
 why_owns (FollowsHead head tail) base s = false
 why_owns (Fills task) base s = base_owns base s
-why_owns (ClearsNext next) base s = false
-why_owns (Clears task next) base s = false
-why_owns (Finishes task next) base s = false
-why_owns (GivesUp answer) base s = false
-why_owns (Retires answer) base s = false
-why_owns (Tidies later) base s = false
-why_owns Advances base s = false
-why_owns (Releases key) base s = false
+why_owns why base s = false
 
 abbrev pub change_owns : ChangeAt → ℕ → Bool
 change_owns (LoadVersion slot) s = false

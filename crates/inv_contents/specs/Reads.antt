@@ -1,6 +1,6 @@
 -- What a seat that enqueues or dequeues has read of the queue's rows.
 use Rattle.std.specs.Prelude.{ℕ, ◌≡◌, ◌<◌, ◌-◌, ◌==◌, ◌&&◌, Bool, true, false, List, slice_index_or}
-use Rattle.inv_rows.specs.model.Calls.{EnqueueKept, Task, Gets, Changes, Holds, Enqueues, Dequeues, Why, Opens, FollowsHead, Fills, ClearsNext, Clears, Finishes, GivesUp, Retires, Tidies, Advances, Releases, EnqueueAt, LoadNumber, LoadNext, PassTail, ExchangeNext, ExchangeTail, DequeueAt, LoadTail, SwingTail, TakeNumber, TakeValue, ExchangeHead, Work, Getting, Changing, Enqueuing, Dequeuing, Phase, Idle, Runs, Scans, Works}
+use Rattle.inv_rows.specs.model.Calls.{EnqueueKept, Task, Gets, Changes, Holds, Enqueues, Dequeues, Why, Opens, FollowsHead, Fills, EnqueueAt, LoadNumber, LoadNext, PassTail, ExchangeNext, ExchangeTail, DequeueAt, LoadTail, SwingTail, TakeNumber, TakeValue, ExchangeHead, Work, Getting, Changing, Enqueuing, Dequeuing, Phase, Idle, Runs, Scans, Works}
 use Rattle.inv_rows.specs.Queue.{Line}
 use Rattle.inv_contents.specs.Stands.{nexts_in}
 
@@ -36,14 +36,7 @@ abbrev pub why_numbers : Why → ℕ → ℕ → Bool
 why_numbers (Opens task) t n = false
 why_numbers (FollowsHead head tail) t n = false
 why_numbers (Fills task) t n = task_numbers task t n
-why_numbers (ClearsNext next) t n = false
-why_numbers (Clears task next) t n = false
-why_numbers (Finishes task next) t n = false
-why_numbers (GivesUp answer) t n = false
-why_numbers (Retires answer) t n = false
-why_numbers (Tidies later) t n = false
-why_numbers Advances t n = false
-why_numbers (Releases key) t n = false
+why_numbers why t n = false
 
 abbrev pub work_numbers : Work → ℕ → ℕ → Bool
 work_numbers (Getting key at) t n = false

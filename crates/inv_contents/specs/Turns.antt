@@ -11,7 +11,7 @@ use Rattle.inv_rows.specs.model.Desks.{Desk}
 use Rattle.inv_rows.specs.model.Machine as machine
 use Rattle.inv_rows.specs.model.Phases.{Ending, Outcome, Goes, Ends}
 use Rattle.inv_rows.specs.model.Phases.Ending.{Done, Protected, Followed, Allocated, Retired, Clocked}
-use Rattle.inv_rows.specs.model.Calls.{ChangeKept, EnqueueKept, Why, Opens, FollowsHead, Fills, ClearsNext, Clears, Finishes, GivesUp, Retires, Tidies, Advances, Releases, ChangeAt, LoadVersion, LoadCount, LoadKey, LoadValue, ExchangeRoot, EnqueueAt, LoadNumber, LoadNext, PassTail, ExchangeNext, ExchangeTail, DequeueAt, LoadTail, SwingTail, TakeNumber, TakeValue, ExchangeHead, Work, Getting, Changing, Enqueuing, Dequeuing, Phase, Idle, Runs, Scans, Works, CallTurn}
+use Rattle.inv_rows.specs.model.Calls.{ChangeKept, EnqueueKept, Why, Opens, FollowsHead, ChangeAt, LoadVersion, LoadCount, LoadKey, LoadValue, ExchangeRoot, EnqueueAt, LoadNumber, LoadNext, PassTail, ExchangeNext, ExchangeTail, DequeueAt, LoadTail, SwingTail, TakeNumber, TakeValue, ExchangeHead, Work, Getting, Changing, Enqueuing, Dequeuing, Phase, Idle, Runs, Scans, Works, CallTurn}
 use Rattle.inv_rows.specs.model.Steps.{phase_turn, first_phase}
 use Rattle.inv_requests.specs.shapes.Frame.{phase_left}
 use Rattle.inv_rows.specs.Queue.{Line}
@@ -117,15 +117,7 @@ outcome_right l (Ends ending) = ending_right l ending
 abbrev pub why_right : Line → Why → Outcome → Type 0
 why_right l (Opens task) outcome = Unit {0}
 why_right l (FollowsHead head tail) outcome = outcome_right l outcome
-why_right l (Fills task) outcome = Unit {0}
-why_right l (ClearsNext next) outcome = Unit {0}
-why_right l (Clears task next) outcome = Unit {0}
-why_right l (Finishes task next) outcome = Unit {0}
-why_right l (GivesUp answer) outcome = Unit {0}
-why_right l (Retires answer) outcome = Unit {0}
-why_right l (Tidies later) outcome = Unit {0}
-why_right l Advances outcome = Unit {0}
-why_right l (Releases key) outcome = Unit {0}
+why_right l why outcome = Unit {0}
 
 -- what a step finds, and how its machine ends
 abbrev pub phase_right : Line → List ℕ → Phase → Post → ℕ → Type 0

@@ -18,7 +18,6 @@ use Rattle.inv_shapes.specs.model.Calls.{Gets, Changes, Holds as ToHold, Enqueue
 use Rattle.inv_shapes.specs.model.Locals.{Local, begun, begun_post}
 use Rattle.inv_shapes.specs.model.World.{World, begin}
 use Rattle.inv_shapes.specs.words.declared.config.SchemeKind.{SchemeKind}
-use Rattle.inv_shapes.specs.words.declared.config.SchemeKind.TheVariants.{He, Ibr, Wfe}
 use Rattle.inv_rows.specs.Rows.{View}
 use Rattle.inv_covers.specs.Covers.{has_met, life_of, number_of, Covers}
 use Rattle.inv_covers.specs.Tries.{is_start, starts_base, Begins}
@@ -28,6 +27,7 @@ use Rattle.inv_covers.proofs.Kept.{not_reused}
 use Rattle.inv_covers.proofs.Scans.{fresh_met}
 use Rattle.inv_covers.proofs.Tried.{start_untried}
 use Rattle.inv_shapes.proofs.model.Facts.{no_truth}
+use Rattle.inv_shapes.proofs.model.Schemes.{each_release}
 
 -- nothing stands in a new post
 pub new_stands : (seat : ℕ) (layout : Layout) (j s : ℕ) → stands (new_post seat layout) j ≡ Some s → false ≡ true
@@ -49,9 +49,7 @@ held_start layout v = record {
 
 -- a call begins
 release_begins : (key : Option ℕ) (scheme : SchemeKind) → Begins (Runs (Releases key) (release_base scheme))
-release_begins key He = record { fresh = refl; starts = refl }
-release_begins key Ibr = record { fresh = refl; starts = refl }
-release_begins key Wfe = record { fresh = refl; starts = refl }
+release_begins key scheme = each_release scheme (λ (base : Base). Begins (Runs (Releases key) base)) (record { fresh = refl; starts = refl }) (record { fresh = refl; starts = refl })
 
 holding_begins : (key : ℕ) (post : Post) (x : Option ℕ) → Begins (holding key post x)
 holding_begins key post None = round_fresh (ToHold key) post

@@ -25,7 +25,7 @@ use Rattle.inv_shapes.specs.model.Scan.{Entry, scanned, giving_back, reading, un
 use Rattle.inv_shapes.specs.model.Steps.{resumed, phase_turn, holding, first_phase}
 use Rattle.inv_shapes.specs.model.Calls.{Task, Gets, Changes, Holds, Enqueues, Dequeues, AfterScan, Answered, Repeated, Counted, ScanAt, ReadGuard, GiveBack, Why, Opens, FollowsHead, Fills, ClearsNext, Clears, Finishes, GivesUp, Retires, Tidies, Advances, Releases, Phase, Idle, Runs, Scans, Works, CallTurn, CallOutcome, GoesOn, Answers}
 use Rattle.inv_shapes.specs.Seats.{task_root, root_by, protect_fits, Run}
-use Rattle.inv_shapes.specs.words.Schemes.{is_wfe}
+use Rattle.inv_shapes.specs.words.Schemes.{helps}
 use Rattle.inv_shapes.specs.model.declared.ends.ProtectEnd.TheVariants as protect_ends
 use Rattle.inv_shapes.specs.model.Locals.{Local, turn, settled, settled_by, told_by, rounds_told, begun, begun_post}
 use Rattle.inv_shapes.specs.model.Locals as locals
@@ -100,7 +100,7 @@ concluded_gives : (buckets : ℕ) (task : Task) (index : ℕ) (root : Root) (n l
 concluded_gives buckets task index root n link era post other true b a = task_stands task post (held_post post index root link) link era (link == 0) (λ q. held_stands buckets task index root link n era post b a q)
 concluded_gives buckets task index root n link era post other false b a = λ row h. absurd (cc)
 
-opens_gives : (buckets : ℕ) (task : Task) (scheme : SchemeKind) (most index : ℕ) (root : Root) (n : ℕ) (at : ProtectAt) (post : Post) (found : ℕ) → is_wfe scheme ≡ false → protect_fits scheme most at ≡ true → 0 < length post.standing → Aims buckets task index root
+opens_gives : (buckets : ℕ) (task : Task) (scheme : SchemeKind) (most index : ℕ) (root : Root) (n : ℕ) (at : ProtectAt) (post : Post) (found : ℕ) → helps scheme ≡ false → protect_fits scheme most at ≡ true → 0 < length post.standing → Aims buckets task index root
     → Gives (Opens task) (protect_turn Alone index root n at post found).post (protect_turn Alone index root n at post found).outcome
 opens_gives buckets task scheme most index root n (LoadClock tries) post found w f b a = λ row h. absurd (cc)
 opens_gives buckets task scheme most index root n (PublishEra era tries) post found w f b a = λ row h. absurd (cc)
@@ -120,7 +120,7 @@ next_gives : (head tail index n link era : ℕ) (post : Post) (other : Base) (sa
 next_gives head tail index n link era post other true h = linked_gives head tail index n link era post (told_held index (roots.Next head) link n) (link == 0) refl h
 next_gives head tail index n link era post other false h = h
 
-follow_gives : (head tail : ℕ) (scheme : SchemeKind) (most index n : ℕ) (at : ProtectAt) (post : Post) (found : ℕ) → is_wfe scheme ≡ false → protect_fits scheme most at ≡ true → Parent (Runs (FollowsHead head tail) Finish) post
+follow_gives : (head tail : ℕ) (scheme : SchemeKind) (most index n : ℕ) (at : ProtectAt) (post : Post) (found : ℕ) → helps scheme ≡ false → protect_fits scheme most at ≡ true → Parent (Runs (FollowsHead head tail) Finish) post
     → Gives (FollowsHead head tail) (protect_turn Follows index (roots.Next head) n at post found).post (protect_turn Follows index (roots.Next head) n at post found).outcome
 follow_gives head tail scheme most index n (LoadClock tries) post found w f h = h
 follow_gives head tail scheme most index n (PublishEra era tries) post found w f h = h
@@ -139,7 +139,7 @@ begin_gives : (task : Task) (at : BeginAt) (post : Post) (found : ℕ) → Gives
 begin_gives task LoadLower post found = λ row h. absurd (cc)
 begin_gives task (PublishSpan era) post found = tt
 
-run_gives : (layout : Layout) (why : Why) (base : Base) (last post : Post) (found : ℕ) → is_wfe layout.config.scheme ≡ false → Run layout why base last → 0 < length post.standing → Parent (Runs why Finish) post → Gives why (after base post found).post (after base post found).outcome
+run_gives : (layout : Layout) (why : Why) (base : Base) (last post : Post) (found : ℕ) → helps layout.config.scheme ≡ false → Run layout why base last → 0 < length post.standing → Parent (Runs why Finish) post → Gives why (after base post found).post (after base post found).outcome
 run_gives layout (Opens task) (Begin at) last post found w r l h = begin_gives task at post found
 run_gives layout (Opens task) (Protect aim index root steps at) last post found w r l h = subst (λ (a : Aim). Gives (Opens task) (protect_turn a index root (bump steps) at post found).post (protect_turn a index root (bump steps) at post found).outcome) (sym r.shape.aimed) (opens_gives layout.config.buckets task layout.config.scheme layout.config.tries index root (bump steps) at post found w r.fits l (record { at = r.shape.at; of = r.shape.of }))
 run_gives layout (Opens task) (Reload parent index slot era steps) last post found w r l h = absurd (no_truth r.suited)
@@ -172,7 +172,7 @@ run_gives layout (Tidies later) base last post found w r l h = other_gives (Tidi
 run_gives layout Advances base last post found w r l h = other_gives Advances (after base post found).post (after base post found).outcome (λ row. refl) (λ e. tt)
 run_gives layout (Releases key) base last post found w r l h = other_gives (Releases key) (after base post found).post (after base post found).outcome (λ row. refl) (λ e. tt)
 
-turn_tends : (layout : Layout) (phase : Phase) (last post : Post) (desk : Desk) (found : ℕ) → is_wfe layout.config.scheme ≡ false → ((why : Why) (base : Base) → phase ≡ Runs why base → Run layout why base last) → 0 < length post.standing → Parent phase post → Tended (phase_turn phase post desk found)
+turn_tends : (layout : Layout) (phase : Phase) (last post : Post) (desk : Desk) (found : ℕ) → helps layout.config.scheme ≡ false → ((why : Why) (base : Base) → phase ≡ Runs why base → Run layout why base last) → 0 < length post.standing → Parent phase post → Tended (phase_turn phase post desk found)
 turn_tends layout Idle last post desk found w r l h = λ row k. absurd (cc)
 turn_tends layout (Runs why base) last post desk found w r l h =
     let u : Turn = after base post found in resumed_tends why desk u.post u.told u.outcome (run_gives layout why base last post found w (r why base refl) l h)
@@ -230,15 +230,7 @@ root_parent buckets (Opens (Holds key)) row h = absurd (cc)
 root_parent buckets (Opens (Enqueues kept)) row h = absurd (cc)
 root_parent buckets (Opens Dequeues) row h = absurd (cc)
 root_parent buckets (FollowsHead head tail) row h = h
-root_parent buckets (Fills task) row h = absurd (cc)
-root_parent buckets (ClearsNext next) row h = absurd (cc)
-root_parent buckets (Clears task next) row h = absurd (cc)
-root_parent buckets (Finishes task next) row h = absurd (cc)
-root_parent buckets (GivesUp answer) row h = absurd (cc)
-root_parent buckets (Retires answer) row h = absurd (cc)
-root_parent buckets (Tidies later) row h = absurd (cc)
-root_parent buckets Advances row h = absurd (cc)
-root_parent buckets (Releases key) row h = absurd (cc)
+root_parent buckets why row h = absurd (cc)
 
 reload_parent : (layout : Layout) (why : Why) (parent index slot era steps : ℕ) (post : Post) (row : ℕ) → Run layout why (Reload parent index slot era steps) post → (parent == row) ≡ true → has_parent_why why row ≡ true
 reload_parent layout (Opens task) parent index slot era steps post row r h = absurd (no_truth r.suited)

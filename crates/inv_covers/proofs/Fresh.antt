@@ -15,7 +15,7 @@ use Rattle.inv_shapes.specs.model.declared.ends.FollowEnd.TheVariants as follow_
 use Rattle.inv_shapes.specs.model.declared.ends.ProtectEnd.TheVariants as protect_ends
 use Rattle.inv_shapes.specs.model.declared.post.Post.{Post}
 use Rattle.inv_shapes.specs.model.Desks.{Desk, with_life}
-use Rattle.inv_shapes.specs.model.Phases.{Ending}
+use Rattle.inv_shapes.specs.model.Phases.{Ending, Base}
 use Rattle.inv_shapes.specs.model.Phases.Ending.{Done, Protected, Followed, Allocated, Retired, Clocked}
 use Rattle.inv_shapes.specs.model.Rounds.{bucket_of, scheme_of, index_of, taken_of, begin_base, clear_base, clear_post, clear_told, finish_base, round_by, round, given_up, closed, finishing_by, finishing, clearing_by, clearing, clearing_next_by, clearing_next, begin_span, finish_span, protect_base, opening, root_of}
 use Rattle.inv_shapes.specs.model.Get as gets
@@ -31,6 +31,7 @@ use Rattle.inv_shapes.specs.model.Posts.{stands}
 use Rattle.inv_shapes.specs.defs.declared.event.Root.{Root}
 use Rattle.inv_covers.proofs.Stands.{withdrawn_shrinks}
 use Rattle.inv_covers.specs.Tries.{Begins, Leaves, Shrinks}
+use Rattle.inv_shapes.proofs.model.Schemes.{each_begin, each_clear, each_clear_post, each_finish}
 
 opening_at : (task : Task) (post : Post) (index : ℕ) (root : Root) (scheme : SchemeKind) → Begins (Phase.Runs (Opens task) (protect_base scheme index root))
 opening_at task post index root He = record { fresh = refl; starts = refl }
@@ -50,9 +51,7 @@ begun_fresh task post None = record { fresh = refl; starts = refl }
 begun_fresh task post (Some span) = opening_fresh task post
 
 round_by_fresh : (task : Task) (post : Post) (scheme : SchemeKind) → Begins (round_by task post (begin_base scheme post))
-round_by_fresh task post He = opening_fresh task post
-round_by_fresh task post Ibr = begun_fresh task post post.span
-round_by_fresh task post Wfe = opening_fresh task post
+round_by_fresh task post scheme = each_begin scheme post (λ (base : Option Base). Begins (round_by task post base)) (opening_fresh task post) (begun_fresh task post post.span)
 
 -- a round begins
 pub round_fresh : (task : Task) (post : Post) → Begins (round task post)
@@ -73,9 +72,10 @@ finish_fresh task next post desk told None = record { fresh = refl; starts = ref
 finish_fresh task next post desk told (Some slot) = closed_fresh task next post desk told
 
 finishing_by_fresh : (task : Task) (next : Next) (post : Post) (desk : Desk) (told : List Event) (scheme : SchemeKind) → Leaves post (finishing_by task next post desk told (finish_base scheme post))
-finishing_by_fresh task next post desk told He = closed_fresh task next post desk told
-finishing_by_fresh task next post desk told Ibr = finish_fresh task next post desk told (stands post 2)
-finishing_by_fresh task next post desk told Wfe = closed_fresh task next post desk told
+finishing_by_fresh task next post desk told scheme =
+    each_finish scheme post (λ (base : Option Base). Leaves post (finishing_by task next post desk told base))
+    (closed_fresh task next post desk told)
+    (finish_fresh task next post desk told (stands post 2))
 
 finishing_fresh : (task : Task) (next : Next) (post : Post) (desk : Desk) (told : List Event) → Leaves post (finishing task next post desk told)
 finishing_fresh task Again post desk told = closed_fresh task Again post desk told
@@ -87,28 +87,26 @@ leaves_through : (post next : Post) (t : CallTurn) → Shrinks post next → Lea
 leaves_through post next t a b = record { fresh = b.fresh; starts = b.starts; shrinks = λ j s h. a j s (b.shrinks j s h) }
 
 clear_shrinks : (scheme : SchemeKind) (post : Post) (index : ℕ) → Shrinks post (clear_post scheme post index)
-clear_shrinks He post index j s h = h
-clear_shrinks Ibr post index j s h = withdrawn_shrinks post index j s h
-clear_shrinks Wfe post index j s h = h
+clear_shrinks scheme post index = each_clear_post scheme post index (λ (p : Post). Shrinks post p) (λ j s h. h) (withdrawn_shrinks post index)
 
 clearing_by_fresh : (task : Task) (next : Next) (post : Post) (desk : Desk) (told : List Event) (scheme : SchemeKind) → Leaves post (clearing_by task next post desk told (clear_base scheme (index_of task)))
-clearing_by_fresh task next post desk told He = record { fresh = refl; starts = refl; shrinks = λ j s h. h }
-clearing_by_fresh task next post desk told Ibr =
-    let p : Post = clear_post (scheme_of post) post (index_of task) in
+clearing_by_fresh task next post desk told scheme =
+    each_clear scheme (index_of task) (λ (base : Option Base). Leaves post (clearing_by task next post desk told base))
+    (record { fresh = refl; starts = refl; shrinks = λ j s h. h })
+    (let p : Post = clear_post (scheme_of post) post (index_of task) in
     let t : List Event = told ++ clear_told (scheme_of post) post (index_of task) in
-    leaves_through post p (finishing task next p desk t) (clear_shrinks (scheme_of post) post (index_of task)) (finishing_fresh task next p desk t)
-clearing_by_fresh task next post desk told Wfe = record { fresh = refl; starts = refl; shrinks = λ j s h. h }
+    leaves_through post p (finishing task next p desk t) (clear_shrinks (scheme_of post) post (index_of task)) (finishing_fresh task next p desk t))
 
 clearing_fresh : (task : Task) (next : Next) (post : Post) (desk : Desk) (told : List Event) → Leaves post (clearing task next post desk told)
 clearing_fresh task next post desk told = clearing_by_fresh task next post desk told (scheme_of post)
 
 clearing_next_by_fresh : (next : Next) (post : Post) (desk : Desk) (told : List Event) (scheme : SchemeKind) → Leaves post (clearing_next_by next post desk told (clear_base scheme 1))
-clearing_next_by_fresh next post desk told He = record { fresh = refl; starts = refl; shrinks = λ j s h. h }
-clearing_next_by_fresh next post desk told Ibr =
-    let p : Post = clear_post (scheme_of post) post 1 in
+clearing_next_by_fresh next post desk told scheme =
+    each_clear scheme 1 (λ (base : Option Base). Leaves post (clearing_next_by next post desk told base))
+    (record { fresh = refl; starts = refl; shrinks = λ j s h. h })
+    (let p : Post = clear_post (scheme_of post) post 1 in
     let t : List Event = told ++ clear_told (scheme_of post) post 1 in
-    leaves_through post p (clearing Dequeues next p desk t) (clear_shrinks (scheme_of post) post 1) (clearing_fresh Dequeues next p desk t)
-clearing_next_by_fresh next post desk told Wfe = record { fresh = refl; starts = refl; shrinks = λ j s h. h }
+    leaves_through post p (clearing Dequeues next p desk t) (clear_shrinks (scheme_of post) post 1) (clearing_fresh Dequeues next p desk t))
 
 clearing_next_fresh : (next : Next) (post : Post) (desk : Desk) (told : List Event) → Leaves post (clearing_next next post desk told)
 clearing_next_fresh next post desk told = clearing_next_by_fresh next post desk told (scheme_of post)

@@ -13,7 +13,7 @@ use Rattle.inv_shapes.specs.defs.declared.lifetime.Lifetime.{Lifetime}
 use Rattle.inv_shapes.specs.model.Guards.{index_at, guards, guards_by, guard_by, own_guard}
 use Rattle.inv_shapes.specs.model.Desks.{Report}
 use Rattle.inv_shapes.specs.model.Calls.{Phase}
-use Rattle.inv_shapes.specs.words.Schemes.{is_wfe}
+use Rattle.inv_shapes.specs.words.Schemes.{helps}
 use Rattle.inv_covers.specs.Covers.{has_met, number_by, life_of}
 use Rattle.inv_shapes.specs.model.World.{step}
 use Rattle.inv_rows.specs.Agree.{rows_after}
@@ -48,7 +48,7 @@ own_fits_by Wfe config k j h l = record {
 pub guards_fit : GuardsFit
 guards_fit config k j h l = let f = own_fits_by config.scheme config k j h l in record { below = f.below; is = f.is }
 
-helper_fits_by : (scheme : SchemeKind) (config : Config) (k : ℕ) → is_wfe scheme ≡ true → k < config.seats → Fits scheme config (Helper k)
+helper_fits_by : (scheme : SchemeKind) (config : Config) (k : ℕ) → helps scheme ≡ true → k < config.seats → Fits scheme config (Helper k)
 helper_fits_by He config k w h = absurd (cc)
 helper_fits_by Ibr config k w h = absurd (cc)
 helper_fits_by Wfe config k w h = record { below = omega (arith, h); is = (let e : nat_lt k config.seats ≡ true = grind (arith, nat_tests) in rw e refl) }
@@ -60,7 +60,7 @@ helpers_fit config k w h = let f = helper_fits_by config.scheme config k w h in 
 met_later : (all one two : ℕ) (phase : Phase) (report : Report) (life : Lifetime) → one ≤ two → has_met all phase report one life ≡ true → has_met all phase report two life ≡ true
 met_later all one two phase report life l h = grind (arith, nat_tests)
 
-helpers_first : (scheme : SchemeKind) (config : Config) (m k j : ℕ) → is_wfe scheme ≡ true → m < config.seats → number_by scheme config (Helper m) ≤ number_by scheme config (Index k j)
+helpers_first : (scheme : SchemeKind) (config : Config) (m k j : ℕ) → helps scheme ≡ true → m < config.seats → number_by scheme config (Helper m) ≤ number_by scheme config (Index k j)
 helpers_first He config m k j w h = absurd (cc)
 helpers_first Ibr config m k j w h = absurd (cc)
 helpers_first Wfe config m k j w h = omega (arith, h)

@@ -5,7 +5,6 @@ use Rattle.std.specs.Prelude.{◌==◌}
 use Rattle.inv_shapes.specs.words.Place.{Place}
 use Rattle.inv_shapes.specs.words.Place.Place.{Clock, Head, Index as IndexOf}
 use Rattle.inv_shapes.specs.words.declared.config.SchemeKind.{SchemeKind}
-use Rattle.inv_shapes.specs.words.declared.config.SchemeKind.TheVariants.{He, Ibr, Wfe}
 use Rattle.inv_shapes.specs.defs.declared.event.Event.{Event}
 use Rattle.inv_shapes.specs.defs.declared.event.Guard.{Guard}
 use Rattle.inv_shapes.specs.defs.declared.event.Guard.TheVariants.{Index, Whole}
@@ -19,7 +18,7 @@ use Rattle.inv_shapes.specs.model.Links.{link_place, parent_of}
 use Rattle.inv_shapes.specs.model.Memory.{found, place_in, written, bump}
 use Rattle.inv_shapes.specs.model.Memory as memory
 use Rattle.inv_shapes.specs.model.Posts.{index_word, stands, upper, lower, counted}
-use Rattle.inv_shapes.specs.model.Phases.{Aim, Alone, Follows, Tries, Endless, Failed, ProtectAt, Base, Outcome, Goes, Ends, Turn}
+use Rattle.inv_shapes.specs.model.Phases.{Aim, Alone, Follows, Tries, ProtectAt, Base, Outcome, Goes, Ends, Turn}
 use Rattle.inv_shapes.specs.model.Phases.BeginAt.{LoadLower, PublishSpan}
 use Rattle.inv_shapes.specs.model.Phases.ProtectAt.{LoadClock, PublishEra, LoadLink, CheckClock, PublishRequest, LoadOwnClock, PublishHelper, LoadOwnLink, CheckOwnClock, AnswerOwn, LoadAnswer, TakeAnswer, WithdrawRequest, WithdrawHelper, LoadWithin, CheckUpper, RaiseUpper}
 use Rattle.inv_shapes.specs.model.Phases.Base.{Begin, Protect, Reload, Clear, Finish, Release, Allocate, Write, GiveUp, Retire, Move}
@@ -35,8 +34,8 @@ use Rattle.inv_rows.specs.Rows.Status.{Free, Claimed, Born, Linked, InQueue, Cut
 use Rattle.inv_rows.specs.Hands.{row_move}
 use Rattle.inv_rows.specs.Agree.{Agree, rows_after}
 use Rattle.inv_shapes.specs.Frame.{phase_left}
-use Rattle.inv_shapes.specs.words.Schemes.{is_ibr, is_wfe}
-use Rattle.inv_shapes.specs.Seats.{protect_fits, base_fits}
+use Rattle.inv_shapes.specs.words.Schemes.{has_one_interval, helps}
+use Rattle.inv_shapes.specs.Seats.{base_fits}
 use Rattle.inv_shapes.proofs.Frame.{seat_stays, seat_steps}
 use Rattle.inv_covers.specs.Covers.{spans, shown, Covers, Widens}
 use Rattle.inv_covers.specs.Tries.{is_start, starts_base}
@@ -51,6 +50,10 @@ use Rattle.inv_covers.proofs.Tried.{out_tries, out_index, loads_link, protect_tr
 use Rattle.inv_covers.proofs.Words.{keeps, shown_kept, widens_same, stores_guard, base_other, base_quiet, scan_quiet, work_quiet}
 use Rattle.inv_rows.proofs.Queued.{queue_is}
 use Rattle.inv_shapes.proofs.model.Facts.{no_truth}
+use Rattle.inv_shapes.proofs.model.Schemes.{each_guard, index_guard, interval_guard}
+use Rattle.inv_shapes.proofs.words.Schemes.{eras_not_interval}
+use Rattle.inv_shapes.proofs.Tries.{try_eras}
+pub use Rattle.inv_shapes.proofs.Frame.{finds_at, settled_phase}
 
 -- a row that a root leads to is linked, and its life goes on
 abbrev pub is_live : Status → Bool
@@ -112,10 +115,6 @@ pub settled_post : (l : Local) (post : Post) (desk : Desk) (rounds : ℕ) (outco
 settled_post l post desk rounds (GoesOn phase) = refl
 settled_post l post desk rounds (Answers answer) = refl
 
-pub settled_phase : (l : Local) (post : Post) (desk : Desk) (rounds : ℕ) (outcome : CallOutcome) → (settled_by l post desk rounds outcome).phase ≡ phase_left outcome
-settled_phase l post desk rounds (GoesOn phase) = refl
-settled_phase l post desk rounds (Answers answer) = refl
-
 pub stepped_post : (w : World) (i : ℕ) → ((step w i).seat i).post ≡ (turn (w.seat i) (finds w i)).post
 stepped_post w i = let l : Local = w.seat i in let t : CallTurn = turn l (finds w i) in ap (λ (x : Local). x.post) (seat_steps w i) ∙ settled_post l t.post (noting t.desk (told_by t)) (rounds_told l.rounds (told_by t)) t.outcome
 
@@ -150,19 +149,7 @@ pub keeps_at : (w : World) (i : ℕ) (phase : Phase) (place : Place) → (w.seat
 keeps_at w i phase place e h = rw (move_is w i phase e) h
 
 index_keeps : (scheme : SchemeKind) (i j seat index value : ℕ) → (j == index) ≡ false → keeps (memory.Store (IndexOf seat index) value) (guard_place (own_guard scheme i j)) ≡ true
-index_keeps He i j seat index value e = grind (arith, nat_tests)
-index_keeps Ibr i j seat index value e = refl
-index_keeps Wfe i j seat index value e = grind (arith, nat_tests)
-
-ibr_guard : (scheme : SchemeKind) (i j : ℕ) → is_ibr scheme ≡ true → own_guard scheme i j ≡ Whole i
-ibr_guard He i j h = absurd (cc)
-ibr_guard Ibr i j h = refl
-ibr_guard Wfe i j h = absurd (cc)
-
-he_guard : (scheme : SchemeKind) (i j : ℕ) → is_ibr scheme ≡ false → own_guard scheme i j ≡ Index i j
-he_guard He i j h = refl
-he_guard Ibr i j h = absurd (cc)
-he_guard Wfe i j h = refl
+index_keeps scheme i j seat index value e = each_guard scheme i j (λ (g : Guard). keeps (memory.Store (IndexOf seat index) value) (guard_place g) ≡ true) (grind (arith, nat_tests)) refl
 
 none_widens : (x y : Option Interval) → x ≡ None → Widens x y
 none_widens x y e = subst (λ (z : Option Interval). Widens z y) (sym e) tt
@@ -186,13 +173,13 @@ era_widens w i v why aim index root steps era tries j s true o e b h =
 era_widens w i v why aim index root steps era tries j s false o e b h =
     kept_widens w i (own_guard w.layout.config.scheme i j) (keeps_at w i (Runs why (Protect aim index root steps (PublishEra era tries))) (guard_place (own_guard w.layout.config.scheme i j)) e (index_keeps w.layout.config.scheme i j (w.seat i).post.seat index (index_word (w.seat i).post index era) o))
 
-quiet_widens : (w : World) (i : ℕ) (why : Why) (base : Base) (j : ℕ) → is_wfe w.layout.config.scheme ≡ false → (w.seat i).phase ≡ Runs why base → base_fits w.layout.config base ≡ true → stores_guard base ≡ false → Widens (shown w (own_guard w.layout.config.scheme i j)) (shown (step w i) (own_guard w.layout.config.scheme i j))
+quiet_widens : (w : World) (i : ℕ) (why : Why) (base : Base) (j : ℕ) → helps w.layout.config.scheme ≡ false → (w.seat i).phase ≡ Runs why base → base_fits w.layout.config base ≡ true → stores_guard base ≡ false → Widens (shown w (own_guard w.layout.config.scheme i j)) (shown (step w i) (own_guard w.layout.config.scheme i j))
 quiet_widens w i why base j f e b q =
     kept_widens w i (own_guard w.layout.config.scheme i j) (keeps_at w i (Runs why base) (guard_place (own_guard w.layout.config.scheme i j)) e (base_quiet w.layout.config.scheme i j w.layout.config base (w.seat i).post f b q))
 
 -- under 2GE an interval begins where none stands, or rises
-whole_widens : (w : World) (i j : ℕ) → is_ibr w.layout.config.scheme ≡ true → Widens (shown w (Whole i)) (shown (step w i) (Whole i)) → Widens (shown w (own_guard w.layout.config.scheme i j)) (shown (step w i) (own_guard w.layout.config.scheme i j))
-whole_widens w i j f h = subst (λ (g : Guard). Widens (shown w g) (shown (step w i) g)) (sym (ibr_guard w.layout.config.scheme i j f)) h
+whole_widens : (w : World) (i j : ℕ) → has_one_interval w.layout.config.scheme ≡ true → Widens (shown w (Whole i)) (shown (step w i) (Whole i)) → Widens (shown w (own_guard w.layout.config.scheme i j)) (shown (step w i) (own_guard w.layout.config.scheme i j))
+whole_widens w i j f h = subst (λ (g : Guard). Widens (shown w g) (shown (step w i) g)) (sym (interval_guard w.layout.config.scheme i j f)) h
 
 pub turned_post : (w : World) (i : ℕ) (phase : Phase) → (w.seat i).phase ≡ phase → ((step w i).seat i).post ≡ (phase_turn phase (counted (w.seat i).post) (w.seat i).desk (finds w i)).post
 turned_post w i phase e = stepped_post w i ∙ ap (λ (p : Phase). (phase_turn p (counted (w.seat i).post) (w.seat i).desk (finds w i)).post) e
@@ -200,7 +187,7 @@ turned_post w i phase e = stepped_post w i ∙ ap (λ (p : Phase). (phase_turn p
 pub turned_phase : (w : World) (i : ℕ) (phase : Phase) → (w.seat i).phase ≡ phase → ((step w i).seat i).phase ≡ phase_left (phase_turn phase (counted (w.seat i).post) (w.seat i).desk (finds w i)).outcome
 turned_phase w i phase e = stepped_phase w i ∙ ap (λ (p : Phase). phase_left (phase_turn p (counted (w.seat i).post) (w.seat i).desk (finds w i)).outcome) e
 
-span_raised : (w : World) (i : ℕ) (v : View) (why : Why) (aim : Aim) (index : ℕ) (root : Root) (steps era : ℕ) → (w.seat i).phase ≡ Runs why (Protect aim index root steps (RaiseUpper era)) → is_ibr w.layout.config.scheme ≡ true → HeldNeeds w i v → upper (w.seat i).post.span ≤ era → Widens (shown w (Whole i)) (shown (step w i) (Whole i))
+span_raised : (w : World) (i : ℕ) (v : View) (why : Why) (aim : Aim) (index : ℕ) (root : Root) (steps era : ℕ) → (w.seat i).phase ≡ Runs why (Protect aim index root steps (RaiseUpper era)) → has_one_interval w.layout.config.scheme ≡ true → HeldNeeds w i v → upper (w.seat i).post.span ≤ era → Widens (shown w (Whole i)) (shown (step w i) (Whole i))
 span_raised w i v why aim index root steps era e f n u =
     let old : shown w (Whole i) ≡ (w.seat i).post.span = n.spans f in
     let new : shown (step w i) (Whole i) ≡ from_to (lower (w.seat i).post.span) era = n.spans_next f ∙ ap (λ (p : Post). p.span) (turned_post w i (Runs why (Protect aim index root steps (RaiseUpper era))) e) in
@@ -208,7 +195,7 @@ span_raised w i v why aim index root steps era e f n u =
     subst (λ (x : Option Interval). Widens x (shown (step w i) (Whole i))) (sym old) (subst (λ (y : Option Interval). Widens (w.seat i).post.span y) (sym new) k)
 
 -- the own guard of an index at which a row stands after a machine's step
-own_widens : (w : World) (i : ℕ) (v : View) (why : Why) (base : Base) (j s : ℕ) → is_wfe w.layout.config.scheme ≡ false → HeldNeeds w i v → (w.seat i).phase ≡ Runs why base → stands (machine.after base (counted (w.seat i).post) (finds w i)).post j ≡ Some s → Was (w.mem Clock) v.status (w.seat i).post base j s
+own_widens : (w : World) (i : ℕ) (v : View) (why : Why) (base : Base) (j s : ℕ) → helps w.layout.config.scheme ≡ false → HeldNeeds w i v → (w.seat i).phase ≡ Runs why base → stands (machine.after base (counted (w.seat i).post) (finds w i)).post j ≡ Some s → Was (w.mem Clock) v.status (w.seat i).post base j s
     → Widens (shown w (own_guard w.layout.config.scheme i j)) (shown (step w i) (own_guard w.layout.config.scheme i j))
 own_widens w i v why (Begin LoadLower) j s f n e h y = quiet_widens w i why (Begin LoadLower) j f e (n.base why (Begin LoadLower) e).fits refl
 own_widens w i v why (Begin (PublishSpan era)) j s f n e h y =
@@ -269,11 +256,8 @@ was_held w i v why base j s h e (inr x) = rw x.0 (h.tried i why base s e x.1)
 pub head_queued : (w : World) (v : View) (p : ℕ) → Agree w v → w.mem Head ≡ p + 1 → in_queue (v.status p) ≡ true
 head_queued w v p a e = let q : v.status p ≡ InQueue = a.good.queue p (sym a.words.head ∙ e) in rw q refl
 
-pub finds_at : (w : World) (i : ℕ) (phase : Phase) → (w.seat i).phase ≡ phase → finds w i ≡ found (phase_move phase (w.seat i).post) (w.mem (place_in (phase_move phase (w.seat i).post)))
-finds_at w i phase e = ap (λ (p : Phase). found (phase_move p (w.seat i).post) (w.mem (place_in (phase_move p (w.seat i).post)))) e
-
 -- what stands at an index of the seat that steps
-own_from : (w : World) (i : ℕ) (v : View) (phase : Phase) (j s : ℕ) → is_wfe w.layout.config.scheme ≡ false → HeldNeeds w i v → Held w v → (w.seat i).phase ≡ phase → From phase (w.seat i).post (finds w i) j s → Holds (step w i) (rows_after w i v) (own_guard w.layout.config.scheme i j) s
+own_from : (w : World) (i : ℕ) (v : View) (phase : Phase) (j s : ℕ) → helps w.layout.config.scheme ≡ false → HeldNeeds w i v → Held w v → (w.seat i).phase ≡ phase → From phase (w.seat i).post (finds w i) j s → Holds (step w i) (rows_after w i v) (own_guard w.layout.config.scheme i j) s
 own_from w i v Idle j s f n h e y =
     holds_kept w i v (own_guard w.layout.config.scheme i j) s n (kept_widens w i (own_guard w.layout.config.scheme i j) (keeps_at w i Idle (guard_place (own_guard w.layout.config.scheme i j)) e refl)) (h.stood i j s y)
 own_from w i v (Runs why base) j s f n h e y =
@@ -287,7 +271,7 @@ own_from w i v (Scans later at) j s f n h e y =
 own_from w i v (Works work) j s f n h e y =
     holds_kept w i v (own_guard w.layout.config.scheme i j) s n (kept_widens w i (own_guard w.layout.config.scheme i j) (keeps_at w i (Works work) (guard_place (own_guard w.layout.config.scheme i j)) e (work_quiet w.layout.config.scheme i j work (w.seat i).post))) (h.stood i j s y)
 
-own_stood : (w : World) (i : ℕ) (v : View) (j s : ℕ) → is_wfe w.layout.config.scheme ≡ false → HeldNeeds w i v → Held w v → stands ((step w i).seat i).post j ≡ Some s → Holds (step w i) (rows_after w i v) (own_guard w.layout.config.scheme i j) s
+own_stood : (w : World) (i : ℕ) (v : View) (j s : ℕ) → helps w.layout.config.scheme ≡ false → HeldNeeds w i v → Held w v → stands ((step w i).seat i).post j ≡ Some s → Holds (step w i) (rows_after w i v) (own_guard w.layout.config.scheme i j) s
 own_stood w i v j s f n h y =
     own_from w i v (w.seat i).phase j s f n h refl (turn_from (w.seat i).phase (w.seat i).post (w.seat i).desk (finds w i) j s (subst (λ (p : Post). stands p j ≡ Some s) (stepped_post w i) y))
 
@@ -311,34 +295,27 @@ resumed_comes clock status next why desk post told (Goes one) other base s e h =
 resumed_comes clock status next why desk post told (Ends ending) other base s e h =
     absurd (no_truth (out_start clock status next (phase_left (resumed why desk post told (Ends ending)).outcome) other base s (resume_fresh why ending post desk told).starts e h))
 
--- a try is not of 2GE
-try_not_ibr : (scheme : SchemeKind) (most era : ℕ) (tries : Tries) → protect_fits scheme most (LoadLink era tries) ≡ true → is_ibr scheme ≡ false
-try_not_ibr He most era tries h = refl
-try_not_ibr Ibr most era Endless h = absurd (cc)
-try_not_ibr Ibr most era (Failed count) h = absurd (grind (arith, nat_tests))
-try_not_ibr Wfe most era tries h = refl
-
 -- the interval reaches up to the clock
 whole_covers : (w : World) (i : ℕ) (v : View) (s : ℕ) → HeldNeeds w i v → (x : Option Interval) → shown w (Whole i) ≡ x → 1 ≤ w.mem Clock → w.mem Clock ≡ upper x → is_live (v.status s) ≡ true → Covers w v (Whole i) s
 whole_covers w i v s n None e o c l = absurd (omega (arith, o, c))
 whole_covers w i v s n (Some span) e o c l = live_covers w v (Whole i) span.lo span.hi s n.roots e (omega (arith, c)) l
 
 -- the link that a try loads is covered by the own guard
-loaded_covers : (w : World) (i : ℕ) (v : View) (why : Why) (aim : Aim) (index : ℕ) (root : Root) (steps : ℕ) (at : ProtectAt) (s : ℕ) → HeldNeeds w i v → (w.seat i).phase ≡ Runs why (Protect aim index root steps at) → is_wfe w.layout.config.scheme ≡ false → loads_link (w.mem Clock) v.status w.mem (w.seat i).post root at s ≡ true
+loaded_covers : (w : World) (i : ℕ) (v : View) (why : Why) (aim : Aim) (index : ℕ) (root : Root) (steps : ℕ) (at : ProtectAt) (s : ℕ) → HeldNeeds w i v → (w.seat i).phase ≡ Runs why (Protect aim index root steps at) → helps w.layout.config.scheme ≡ false → loads_link (w.mem Clock) v.status w.mem (w.seat i).post root at s ≡ true
     → Covers w v (own_guard w.layout.config.scheme i index) s
 loaded_covers w i v why aim index root steps (LoadLink era tries) s n e f h =
     let b = n.base why (Protect aim index root steps (LoadLink era tries)) e in
     let l : w.mem (link_place root) ≡ s + 1 = grind (arith, nat_tests) in
     let u : under v.status root ≡ true = grind (arith, nat_tests) in
     let c : w.mem Clock ≤ era = grind (arith, nat_tests) in
-    let g = he_guard w.layout.config.scheme i index (try_not_ibr w.layout.config.scheme w.layout.config.tries era tries b.fits) in
+    let g = index_guard w.layout.config.scheme i index (eras_not_interval w.layout.config.scheme (try_eras w.layout.config.scheme w.layout.config.tries tries b.fits)) in
     rw g (live_covers w v (Index i index) era era s n.roots (b.published aim index root steps era tries refl) c (root_live w v root s n.roots l u))
 loaded_covers w i v why aim index root steps LoadWithin s n e f h =
     let b = n.base why (Protect aim index root steps LoadWithin) e in
     let l : w.mem (link_place root) ≡ s + 1 = grind (arith, nat_tests) in
     let u : under v.status root ≡ true = grind (arith, nat_tests) in
     let c : w.mem Clock ≡ upper (w.seat i).post.span = grind (arith, nat_tests) in
-    let g = ibr_guard w.layout.config.scheme i index b.fits in
+    let g = interval_guard w.layout.config.scheme i index b.fits in
     rw g (whole_covers w i v s n (w.seat i).post.span (n.spans b.fits) n.some c (root_live w v root s n.roots l u))
 loaded_covers w i v why aim index root steps (LoadClock tries) s n e f h = absurd (cc)
 loaded_covers w i v why aim index root steps (PublishEra era tries) s n e f h = absurd (cc)
@@ -357,7 +334,7 @@ loaded_covers w i v why aim index root steps (CheckUpper link) s n e f h = absur
 loaded_covers w i v why aim index root steps (RaiseUpper era) s n e f h = absurd (cc)
 
 -- a try of the seat that steps
-tried_holds : (w : World) (i : ℕ) (v : View) (why : Why) (aim : Aim) (index : ℕ) (root : Root) (steps : ℕ) (at : ProtectAt) (s : ℕ) → HeldNeeds w i v → Held w v → (w.seat i).phase ≡ Runs why (Protect aim index root steps at) → is_wfe w.layout.config.scheme ≡ false → (tries_protect (w.mem Clock) v.status (w.seat i).post root at s ≡ true) ⊎ (loads_link (w.mem Clock) v.status w.mem (w.seat i).post root at s ≡ true)
+tried_holds : (w : World) (i : ℕ) (v : View) (why : Why) (aim : Aim) (index : ℕ) (root : Root) (steps : ℕ) (at : ProtectAt) (s : ℕ) → HeldNeeds w i v → Held w v → (w.seat i).phase ≡ Runs why (Protect aim index root steps at) → helps w.layout.config.scheme ≡ false → (tries_protect (w.mem Clock) v.status (w.seat i).post root at s ≡ true) ⊎ (loads_link (w.mem Clock) v.status w.mem (w.seat i).post root at s ≡ true)
     → Holds (step w i) (rows_after w i v) (own_guard w.layout.config.scheme i index) s
 tried_holds w i v why aim index root steps at s n h e f (inl x) =
     let b = n.base why (Protect aim index root steps at) e in
@@ -416,7 +393,7 @@ load_span w i why aim index root steps at e q =
     let z : (w.seat i).phase ≡ Runs why (Protect aim index root steps LoadWithin) = subst (λ (a : ProtectAt). (w.seat i).phase ≡ Runs why (Protect aim index root steps a)) q e in
     ap (λ (p : Post). p.span) (turned_post w i (Runs why (Protect aim index root steps LoadWithin)) z)
 
-protect_comes : (w : World) (i : ℕ) (v : View) (why : Why) (aim : Aim) (index : ℕ) (root : Root) (steps : ℕ) (at : ProtectAt) (base : Base) (s : ℕ) → HeldNeeds w i v → Held w v → (w.seat i).phase ≡ Runs why (Protect aim index root steps at) → is_wfe w.layout.config.scheme ≡ false
+protect_comes : (w : World) (i : ℕ) (v : View) (why : Why) (aim : Aim) (index : ℕ) (root : Root) (steps : ℕ) (at : ProtectAt) (base : Base) (s : ℕ) → HeldNeeds w i v → Held w v → (w.seat i).phase ≡ Runs why (Protect aim index root steps at) → helps w.layout.config.scheme ≡ false
     → Comes (w.mem Clock) v.status ((step w i).seat i).post (machine.after (Protect aim index root steps at) (counted (w.seat i).post) (finds w i)).outcome base s
     → Holds (step w i) (rows_after w i v) (own_guard w.layout.config.scheme i (index_base base)) s
 protect_comes w i v why aim index root steps at base s n h e f c =
@@ -426,7 +403,7 @@ protect_comes w i v why aim index root steps at base s n h e f c =
     let g = protect_tries (w.mem Clock) v.status w.layout.config.scheme w.layout.config.tries w.mem aim index root (bump steps) at (counted (w.seat i).post) (w.seat i).post ((step w i).seat i).post s refl f b.fits (follows_next aim index root steps at b.followed) (load_span w i why aim index root steps at e) z.tried in
     rw (sym z.at ∙ g.0) (tried_holds w i v why aim index root steps at s n h e f (counted_tries (w.mem Clock) v.status w.mem (w.seat i).post root at s g.1))
 
-run_comes : (w : World) (i : ℕ) (v : View) (reason : Why) (one : Base) (why : Why) (base : Base) (s : ℕ) → HeldNeeds w i v → Held w v → is_wfe w.layout.config.scheme ≡ false → (w.seat i).phase ≡ Runs reason one
+run_comes : (w : World) (i : ℕ) (v : View) (reason : Why) (one : Base) (why : Why) (base : Base) (s : ℕ) → HeldNeeds w i v → Held w v → helps w.layout.config.scheme ≡ false → (w.seat i).phase ≡ Runs reason one
     → phase_left (phase_turn (Runs reason one) (counted (w.seat i).post) (w.seat i).desk (finds w i)).outcome ≡ Runs why base
     → tries_base ((step w i).mem Clock) (rows_after w i v).status ((step w i).seat i).post base s ≡ true
     → Holds (step w i) (rows_after w i v) (own_guard w.layout.config.scheme i (index_base base)) s
@@ -458,7 +435,7 @@ run_comes w i v reason (Move at) why base s n h f e o t =
     absurd (no_truth (other_comes ((step w i).mem Clock) (rows_after w i v).status ((step w i).seat i).post (counted (w.seat i).post) (Move at) base (finds w i) s refl (turn_out w i reason (Move at) why base ((step w i).mem Clock) (rows_after w i v).status s o t)))
 
 -- the turn of the seat that steps comes to a try
-turn_comes : (w : World) (i : ℕ) (v : View) (phase : Phase) (why : Why) (base : Base) (s : ℕ) → HeldNeeds w i v → Held w v → is_wfe w.layout.config.scheme ≡ false → (w.seat i).phase ≡ phase
+turn_comes : (w : World) (i : ℕ) (v : View) (phase : Phase) (why : Why) (base : Base) (s : ℕ) → HeldNeeds w i v → Held w v → helps w.layout.config.scheme ≡ false → (w.seat i).phase ≡ phase
     → phase_left (phase_turn phase (counted (w.seat i).post) (w.seat i).desk (finds w i)).outcome ≡ Runs why base
     → tries_base ((step w i).mem Clock) (rows_after w i v).status ((step w i).seat i).post base s ≡ true
     → Holds (step w i) (rows_after w i v) (own_guard w.layout.config.scheme i (index_base base)) s
@@ -469,18 +446,18 @@ turn_comes w i v (Works work) why base s n h f e o t =
     absurd (no_truth (out_start ((step w i).mem Clock) (rows_after w i v).status ((step w i).seat i).post (phase_left (work_turn work (counted (w.seat i).post) (w.seat i).desk (finds w i)).outcome) why base s (work_fresh work (counted (w.seat i).post) (w.seat i).desk (finds w i)).starts o t))
 turn_comes w i v (Runs reason one) why base s n h f e o t = run_comes w i v reason one why base s n h f e o t
 
-own_tried : (w : World) (i : ℕ) (v : View) (why : Why) (base : Base) (s : ℕ) → is_wfe w.layout.config.scheme ≡ false → HeldNeeds w i v → Held w v → ((step w i).seat i).phase ≡ Runs why base → tries_base ((step w i).mem Clock) (rows_after w i v).status ((step w i).seat i).post base s ≡ true
+own_tried : (w : World) (i : ℕ) (v : View) (why : Why) (base : Base) (s : ℕ) → helps w.layout.config.scheme ≡ false → HeldNeeds w i v → Held w v → ((step w i).seat i).phase ≡ Runs why base → tries_base ((step w i).mem Clock) (rows_after w i v).status ((step w i).seat i).post base s ≡ true
     → Holds (step w i) (rows_after w i v) (own_guard w.layout.config.scheme i (index_base base)) s
 own_tried w i v why base s f n h e t = turn_comes w i v (w.seat i).phase why base s n h f refl (sym (stepped_phase w i) ∙ e) t
 
 -- the other seats
-other_keeps : (w : World) (i k j : ℕ) (v : View) (phase : Phase) → (k == i) ≡ false → is_wfe w.layout.config.scheme ≡ false → HeldNeeds w i v → (w.seat i).phase ≡ phase → keeps (phase_move phase (w.seat i).post) (guard_place (own_guard w.layout.config.scheme k j)) ≡ true
+other_keeps : (w : World) (i k j : ℕ) (v : View) (phase : Phase) → (k == i) ≡ false → helps w.layout.config.scheme ≡ false → HeldNeeds w i v → (w.seat i).phase ≡ phase → keeps (phase_move phase (w.seat i).post) (guard_place (own_guard w.layout.config.scheme k j)) ≡ true
 other_keeps w i k j v Idle o f n e = refl
 other_keeps w i k j v (Runs why base) o f n e = base_other w.layout.config.scheme k j w.layout.config base (w.seat i).post f (n.base why base e).fits (rw n.seat o)
 other_keeps w i k j v (Scans later at) o f n e = scan_quiet w.layout.config.scheme k j at (w.seat i).post
 other_keeps w i k j v (Works work) o f n e = work_quiet w.layout.config.scheme k j work (w.seat i).post
 
-other_holds : (w : World) (i k j : ℕ) (v : View) (s : ℕ) → (k == i) ≡ false → is_wfe w.layout.config.scheme ≡ false → HeldNeeds w i v → Holds w v (own_guard w.layout.config.scheme k j) s → Holds (step w i) (rows_after w i v) (own_guard w.layout.config.scheme k j) s
+other_holds : (w : World) (i k j : ℕ) (v : View) (s : ℕ) → (k == i) ≡ false → helps w.layout.config.scheme ≡ false → HeldNeeds w i v → Holds w v (own_guard w.layout.config.scheme k j) s → Holds (step w i) (rows_after w i v) (own_guard w.layout.config.scheme k j) s
 other_holds w i k j v s o f n h = holds_kept w i v (own_guard w.layout.config.scheme k j) s n (kept_widens w i (own_guard w.layout.config.scheme k j) (other_keeps w i k j v (w.seat i).phase o f n refl)) h
 
 parent_back : (w : World) (i k : ℕ) (v : View) (why : Why) (base : Base) (p : ℕ) → HeldNeeds w i v → Held w v → (w.seat k).phase ≡ Runs why base → follows_row base p ≡ true → in_queue ((rows_after w i v).status p) ≡ true → in_queue (v.status p) ≡ true
@@ -488,20 +465,20 @@ parent_back w i k v why base p n h e r q =
     let c = (h.stood k 0 p (n.parents k why base p e r)).covers in
     queued_back i v (row_move (w.seat i).phase (w.seat i).post (finds w i)) p (before_at w i v n.covers) (spans_past (shown w (own_guard w.layout.config.scheme k 0)) (v.birth p) (v.status p) c.spans) q
 
-other_tried : (w : World) (i k : ℕ) (v : View) (why : Why) (base : Base) (s : ℕ) → (k == i) ≡ false → is_wfe w.layout.config.scheme ≡ false → HeldNeeds w i v → Held w v → (w.seat k).phase ≡ Runs why base → tries_base ((step w i).mem Clock) (rows_after w i v).status (w.seat k).post base s ≡ true
+other_tried : (w : World) (i k : ℕ) (v : View) (why : Why) (base : Base) (s : ℕ) → (k == i) ≡ false → helps w.layout.config.scheme ≡ false → HeldNeeds w i v → Held w v → (w.seat k).phase ≡ Runs why base → tries_base ((step w i).mem Clock) (rows_after w i v).status (w.seat k).post base s ≡ true
     → Holds (step w i) (rows_after w i v) (own_guard w.layout.config.scheme k (index_base base)) s
 other_tried w i k v why base s o f n h e t =
     other_holds w i k (index_base base) v s o f n (h.tried k why base s e (tries_back (w.mem Clock) ((step w i).mem Clock) v.status (rows_after w i v).status (w.seat k).post base s n.clock (n.eras k why base e) (λ p r q. parent_back w i k v why base p n h e r q) t))
 
 -- each seat, by whether it is the one that steps
-stood_at : (w : World) (i k j s : ℕ) (v : View) (own : Bool) → (k == i) ≡ own → is_wfe w.layout.config.scheme ≡ false → HeldNeeds w i v → Held w v → stands ((step w i).seat k).post j ≡ Some s → Holds (step w i) (rows_after w i v) (own_guard w.layout.config.scheme k j) s
+stood_at : (w : World) (i k j s : ℕ) (v : View) (own : Bool) → (k == i) ≡ own → helps w.layout.config.scheme ≡ false → HeldNeeds w i v → Held w v → stands ((step w i).seat k).post j ≡ Some s → Holds (step w i) (rows_after w i v) (own_guard w.layout.config.scheme k j) s
 stood_at w i k j s v true o f n h y =
     let q : k ≡ i = grind (arith, nat_tests) in
     subst (λ (m : ℕ). stands ((step w i).seat m).post j ≡ Some s → Holds (step w i) (rows_after w i v) (own_guard w.layout.config.scheme m j) s) (sym q) (own_stood w i v j s f n h) y
 stood_at w i k j s v false o f n h y =
     other_holds w i k j v s o f n (h.stood k j s (subst (λ (l : Local). stands l.post j ≡ Some s) (seat_stays w i k o) y))
 
-tried_at : (w : World) (i k : ℕ) (v : View) (why : Why) (base : Base) (s : ℕ) (own : Bool) → (k == i) ≡ own → is_wfe w.layout.config.scheme ≡ false → HeldNeeds w i v → Held w v → ((step w i).seat k).phase ≡ Runs why base → tries_base ((step w i).mem Clock) (rows_after w i v).status ((step w i).seat k).post base s ≡ true
+tried_at : (w : World) (i k : ℕ) (v : View) (why : Why) (base : Base) (s : ℕ) (own : Bool) → (k == i) ≡ own → helps w.layout.config.scheme ≡ false → HeldNeeds w i v → Held w v → ((step w i).seat k).phase ≡ Runs why base → tries_base ((step w i).mem Clock) (rows_after w i v).status ((step w i).seat k).post base s ≡ true
     → Holds (step w i) (rows_after w i v) (own_guard w.layout.config.scheme k (index_base base)) s
 tried_at w i k v why base s true o f n h e t =
     let q : k ≡ i = grind (arith, nat_tests) in

@@ -55,16 +55,7 @@ stood_task task (Clocked clock) post = Unit {0}
 
 abbrev pub stood_why : Why → Ending → Post → Type 0
 stood_why (Opens task) ending post = stood_task task ending post
-stood_why (FollowsHead head tail) ending post = Unit {0}
-stood_why (Fills task) ending post = Unit {0}
-stood_why (ClearsNext next) ending post = Unit {0}
-stood_why (Clears task next) ending post = Unit {0}
-stood_why (Finishes task next) ending post = Unit {0}
-stood_why (GivesUp answer) ending post = Unit {0}
-stood_why (Retires answer) ending post = Unit {0}
-stood_why (Tidies later) ending post = Unit {0}
-stood_why Advances ending post = Unit {0}
-stood_why (Releases key) ending post = Unit {0}
+stood_why why ending post = Unit {0}
 
 row_of : (task : Task) (slot era : ℕ) (post : Post) → stood_task task (Protected (protect_ends.Held slot era)) post → stood_row task slot post
 row_of task slot era post s = s

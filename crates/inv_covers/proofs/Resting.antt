@@ -14,7 +14,7 @@ use Rattle.inv_shapes.specs.model.Phases.ProtectAt.{PublishEra, TakeAnswer}
 use Rattle.inv_shapes.specs.model.Phases.Base.{Protect, Finish, Release}
 use Rattle.inv_shapes.specs.model.Rounds.{index_of}
 use Rattle.inv_shapes.specs.model.Steps.{holding, first_phase}
-use Rattle.inv_shapes.specs.model.Calls.{Task, Gets, Changes, Holds, Enqueues, Dequeues, Why, Opens, FollowsHead, Fills, ClearsNext, Clears, Finishes, GivesUp, Retires, Tidies, Advances, Releases, Phase, Idle, Runs, Scans, Works, CallTurn, CallOutcome, GoesOn, Answers}
+use Rattle.inv_shapes.specs.model.Calls.{Task, Gets, Changes, Holds, Enqueues, Dequeues, Why, Opens, FollowsHead, Fills, ClearsNext, Clears, Finishes, GivesUp, Retires, Tidies, Advances, Releases, Phase, Idle, CallTurn, CallOutcome, GoesOn, Answers}
 use Rattle.inv_shapes.specs.model.Locals.{Local, busy_in, turn, after, settled, settled_by, told_by, rounds_told, begun, begun_post}
 use Rattle.inv_shapes.specs.model.World.{finds}
 use Rattle.inv_shapes.specs.Frame.{phase_left}
@@ -62,9 +62,7 @@ rests_start layout = record { vacant = λ k j e. new_vacant k layout j }
 -- a call begins where only what is held stands
 idle_spare : (phase : Phase) (post : Post) → busy_in phase ≡ false → Vacant (vacant phase) post → Vacant spare post
 idle_spare Idle post b h = h
-idle_spare (Runs why base) post b h = absurd (cc)
-idle_spare (Scans later at) post b h = absurd (cc)
-idle_spare (Works work) post b h = absurd (cc)
+idle_spare phase post b h = absurd (cc)
 
 all_vacant : (post : Post) → Vacant spare post → stands post 2 ≡ None → (j : ℕ) → stands post j ≡ None
 all_vacant post h n j = by_two (j == 2) refl where

@@ -1,7 +1,7 @@
 -- Where nothing stands after a call's own step, and after what comes after a machine.
 use Rattle.std.proofs.Common.{ℕ, ◌≡◌, ◌≢◌, ◌+◌, ◌∙◌, Bool, true, false, List, [], ◌∷◌, ◌++◌, length, Option, Some, None, refl, ap, sym, subst, arith}
 use Rattle.std.proofs.lemmas.Bool.Decides.{nat_tests}
-use Rattle.std.specs.Prelude.{◌==◌, ◌%◌, ◌-◌, nat_lt}
+use Rattle.std.specs.Prelude.{◌==◌, ◌%◌, ◌-◌, nat_lt, if◌then◌else◌}
 use Rattle.inv_shapes.specs.defs.declared.call.Answer.{Answer}
 use Rattle.inv_shapes.specs.defs.declared.call.Answer.TheVariants as the_answers
 use Rattle.inv_shapes.specs.defs.declared.call.ClockMove.TheVariants as moves
@@ -15,9 +15,9 @@ use Rattle.inv_shapes.specs.model.declared.ends.FollowEnd.TheVariants as follow_
 use Rattle.inv_shapes.specs.model.declared.ends.ProtectEnd.TheVariants as protect_ends
 use Rattle.inv_shapes.specs.model.declared.post.Post.{Post}
 use Rattle.inv_shapes.specs.model.Desks.{Desk, with_life}
-use Rattle.inv_shapes.specs.model.Phases.{Ending}
+use Rattle.inv_shapes.specs.model.Phases.{Ending, Base}
 use Rattle.inv_shapes.specs.model.Phases.Ending.{Done, Protected, Followed, Allocated, Retired, Clocked}
-use Rattle.inv_shapes.specs.model.Rounds.{bucket_of, scheme_of, index_of, root_of, taken_of, begin_span, begin_base, clear_base, clear_post, clear_told, finish_base, round_by, round, given_up, closed, finishing_by, finishing, clearing_by, clearing, clearing_next_by, clearing_next, finish_span, protect_base, opening}
+use Rattle.inv_shapes.specs.model.Rounds.{bucket_of, scheme_of, index_of, root_of, taken_of, begin_span, begin_base, clear_post, clear_told, finish_base, round_by, round, given_up, closed, finishing_by, finishing, clearing_by, clearing, clearing_next_by, clearing_next, finish_span, protect_base, opening}
 use Rattle.inv_shapes.specs.model.Get as gets
 use Rattle.inv_shapes.specs.model.Change as alters
 use Rattle.inv_shapes.specs.model.Enqueue as enqueues
@@ -32,6 +32,9 @@ use Rattle.inv_shapes.specs.defs.declared.lifetime.Interval.{Interval}
 use Rattle.inv_shapes.specs.Frame.{phase_left}
 use Rattle.inv_covers.specs.Rests.{spare, bare, beside, within, deep, vacant_later, vacant_dequeue, vacant_work, vacant, vacant_filled, vacant_opened, vacant_followed, vacant_released, vacant_after, Vacant}
 use Rattle.inv_shapes.proofs.model.Standing.{stands-withdrawn_same, stands-withdrawn_other}
+use Rattle.inv_shapes.proofs.model.Schemes.{each_begin, each_finish}
+use Rattle.inv_shapes.specs.words.Schemes.{has_one_interval}
+use Rattle.inv_shapes.specs.model.Phases.Base.{Clear}
 
 -- nothing stands where the next phase says so
 abbrev pub Turned : CallTurn → Type 0
@@ -64,9 +67,10 @@ span_vacant task post None h = h
 span_vacant task post (Some span) h = opening_vacant task post h
 
 round_by_vacant : (task : Task) (post : Post) (scheme : SchemeKind) → Vacant (bare task) post → Vacant (vacant (round_by task post (begin_base scheme post))) post
-round_by_vacant task post He h = opening_vacant task post h
-round_by_vacant task post Ibr h = span_vacant task post post.span h
-round_by_vacant task post Wfe h = opening_vacant task post h
+round_by_vacant task post scheme h =
+    each_begin scheme post (λ (base : Option Base). Vacant (vacant (round_by task post base)) post)
+    (opening_vacant task post h)
+    (span_vacant task post post.span h)
 
 pub round_vacant : (task : Task) (post : Post) → Vacant (bare task) post → Vacant (vacant (round task post)) post
 round_vacant task post h = round_by_vacant task post (scheme_of post) h
@@ -92,9 +96,10 @@ finish_vacant task next post desk told None n h = λ j e. all_vacant task post h
 finish_vacant task next post desk told (Some slot) n h = closed_vacant task next post desk told h
 
 finishing_by_vacant : (task : Task) (next : Next) (post : Post) (desk : Desk) (told : List Event) (scheme : SchemeKind) → Vacant (bare task) post → Turned (finishing_by task next post desk told (finish_base scheme post))
-finishing_by_vacant task next post desk told He h = closed_vacant task next post desk told h
-finishing_by_vacant task next post desk told Ibr h = finish_vacant task next post desk told (stands post 2) refl h
-finishing_by_vacant task next post desk told Wfe h = closed_vacant task next post desk told h
+finishing_by_vacant task next post desk told scheme h =
+    each_finish scheme post (λ (base : Option Base). Turned (finishing_by task next post desk told base))
+    (closed_vacant task next post desk told h)
+    (finish_vacant task next post desk told (stands post 2) refl h)
 
 finishing_vacant : (task : Task) (next : Next) (post : Post) (desk : Desk) (told : List Event) → Vacant (bare task) post → Turned (finishing task next post desk told)
 finishing_vacant task Again post desk told h = closed_vacant task Again post desk told h
@@ -112,31 +117,29 @@ withdrawn_vacant f g post index w h j e = by_own (j == index) refl where
 pub bare_beside : (task : Task) (j : ℕ) → (j == index_of task) ≡ false → bare task j ≡ true → beside task j ≡ true
 bare_beside task j n h = grind (arith, nat_tests)
 
-cleared_vacant : (task : Task) (next : Next) (post : Post) (desk : Desk) (told : List Event) (scheme : SchemeKind) → scheme_of post ≡ scheme → Vacant (beside task) post → Turned (finishing task next (withdrawn post (index_of task)) desk told)
-cleared_vacant task next post desk told scheme e h = finishing_vacant task next (withdrawn post (index_of task)) desk told (withdrawn_vacant (beside task) (bare task) post (index_of task) (λ j n k. bare_beside task j n k) h)
+cleared_vacant : (task : Task) (next : Next) (post : Post) (desk : Desk) (told : List Event) → Vacant (beside task) post → Turned (finishing task next (withdrawn post (index_of task)) desk told)
+cleared_vacant task next post desk told h = finishing_vacant task next (withdrawn post (index_of task)) desk told (withdrawn_vacant (beside task) (bare task) post (index_of task) (λ j n k. bare_beside task j n k) h)
 
 same_turn : (one two : CallTurn) → one ≡ two → Turned one → Turned two
 same_turn one two e h = subst Turned e h
 
-clearing_by_vacant : (task : Task) (next : Next) (post : Post) (desk : Desk) (told : List Event) (scheme : SchemeKind) → scheme_of post ≡ scheme → Vacant (beside task) post → Turned (clearing_by task next post desk told (clear_base scheme (index_of task)))
-clearing_by_vacant task next post desk told He e h = h
-clearing_by_vacant task next post desk told Ibr e h =
-    let q : clear_post (scheme_of post) post (index_of task) ≡ withdrawn post (index_of task) = ap (λ (s : SchemeKind). clear_post s post (index_of task)) e in
-    subst (λ (p : Post). Turned (finishing task next p desk (told ++ clear_told (scheme_of post) post (index_of task)))) (sym q) (cleared_vacant task next post desk (told ++ clear_told (scheme_of post) post (index_of task)) Ibr e h)
-clearing_by_vacant task next post desk told Wfe e h = h
+clearing_by_vacant : (task : Task) (next : Next) (post : Post) (desk : Desk) (told : List Event) (interval : Bool) → has_one_interval (scheme_of post) ≡ interval → Vacant (beside task) post → Turned (clearing_by task next post desk told (if interval then None else Some (Clear (index_of task))))
+clearing_by_vacant task next post desk told false e h = h
+clearing_by_vacant task next post desk told true e h =
+    let q : clear_post (scheme_of post) post (index_of task) ≡ withdrawn post (index_of task) = ap (λ (b : Bool). if b then withdrawn post (index_of task) else post) e in
+    subst (λ (p : Post). Turned (finishing task next p desk (told ++ clear_told (scheme_of post) post (index_of task)))) (sym q) (cleared_vacant task next post desk (told ++ clear_told (scheme_of post) post (index_of task)) h)
 
 pub clearing_vacant : (task : Task) (next : Next) (post : Post) (desk : Desk) (told : List Event) → Vacant (beside task) post → Turned (clearing task next post desk told)
-clearing_vacant task next post desk told h = clearing_by_vacant task next post desk told (scheme_of post) refl h
+clearing_vacant task next post desk told h = clearing_by_vacant task next post desk told (has_one_interval (scheme_of post)) refl h
 
-clearing_next_by_vacant : (next : Next) (post : Post) (desk : Desk) (told : List Event) (scheme : SchemeKind) → scheme_of post ≡ scheme → Vacant deep post → Turned (clearing_next_by next post desk told (clear_base scheme 1))
-clearing_next_by_vacant next post desk told He e h = h
-clearing_next_by_vacant next post desk told Ibr e h =
-    let q : clear_post (scheme_of post) post 1 ≡ withdrawn post 1 = ap (λ (s : SchemeKind). clear_post s post 1) e in
+clearing_next_by_vacant : (next : Next) (post : Post) (desk : Desk) (told : List Event) (interval : Bool) → has_one_interval (scheme_of post) ≡ interval → Vacant deep post → Turned (clearing_next_by next post desk told (if interval then None else Some (Clear 1)))
+clearing_next_by_vacant next post desk told false e h = h
+clearing_next_by_vacant next post desk told true e h =
+    let q : clear_post (scheme_of post) post 1 ≡ withdrawn post 1 = ap (λ (b : Bool). if b then withdrawn post 1 else post) e in
     subst (λ (p : Post). Turned (clearing Dequeues next p desk (told ++ clear_told (scheme_of post) post 1))) (sym q) (clearing_vacant Dequeues next (withdrawn post 1) desk (told ++ clear_told (scheme_of post) post 1) (withdrawn_vacant deep within post 1 (λ j n k. grind (arith, nat_tests)) h))
-clearing_next_by_vacant next post desk told Wfe e h = h
 
 clearing_next_vacant : (next : Next) (post : Post) (desk : Desk) (told : List Event) → Vacant deep post → Turned (clearing_next next post desk told)
-clearing_next_vacant next post desk told h = clearing_next_by_vacant next post desk told (scheme_of post) refl h
+clearing_next_vacant next post desk told h = clearing_next_by_vacant next post desk told (has_one_interval (scheme_of post)) refl h
 
 got_vacant : (key version : ℕ) (value : Option ℕ) (post : Post) (desk : Desk) (told : List Event) → Vacant (beside (Gets key)) post → Turned (gets.got key version value post desk told)
 got_vacant key version value post desk told h = clearing_vacant (Gets key) (Answering (the_answers.Got version value)) post desk (told ++ events.Got (bucket_of post key) version key value ∷ []) (λ j e. h j (grind (arith, nat_tests)))

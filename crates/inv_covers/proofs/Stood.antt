@@ -12,7 +12,7 @@ use Rattle.inv_shapes.specs.model.declared.post.Post.{Post}
 use Rattle.inv_shapes.specs.model.Memory.{found, place_in, bump}
 use Rattle.inv_shapes.specs.model.Posts.{stands, upper, with_row}
 use Rattle.inv_shapes.specs.model.Allocate.{walking, walk_past, is_claimed, after_claim_slot}
-use Rattle.inv_shapes.specs.model.Phases.{Aim, Alone, Follows, Walk, Tries, BeginAt, ProtectAt, AllocateAt, RetireAt, MoveAt, Base, RowOf, goes, ends}
+use Rattle.inv_shapes.specs.model.Phases.{Aim, Walk, Tries, BeginAt, ProtectAt, AllocateAt, RetireAt, MoveAt, Base, RowOf, goes, ends}
 use Rattle.inv_shapes.specs.model.Phases.BeginAt.{LoadLower, PublishSpan}
 use Rattle.inv_shapes.specs.model.Phases.ProtectAt.{LoadClock, PublishEra, LoadLink, CheckClock, PublishRequest, LoadOwnClock, PublishHelper, LoadOwnLink, CheckOwnClock, AnswerOwn, LoadAnswer, TakeAnswer, WithdrawRequest, WithdrawHelper, LoadWithin, CheckUpper, RaiseUpper}
 use Rattle.inv_shapes.specs.model.Phases.AllocateAt.{LoadBirth, ClaimSlot, StoreLife}
@@ -30,11 +30,12 @@ use Rattle.inv_shapes.specs.model.SlowPath.{asking, own_request, after_check_own
 use Rattle.inv_shapes.specs.model.MoveClock.{after_load_era, after_check_era, after_answer_asked, after_load_reserved, after_hand_over, after_exchange_clock}
 use Rattle.inv_shapes.specs.model.WriteRow.{last_written, after_write}
 use Rattle.inv_rows.specs.Rows.{Status}
-use Rattle.inv_shapes.specs.words.Schemes.{is_wfe}
+use Rattle.inv_shapes.specs.words.Schemes.{helps}
 use Rattle.inv_shapes.specs.Seats.{protect_fits, base_fits}
 use Rattle.inv_covers.specs.Held.{leads, under, tries_protect, tries_base, index_base}
 use Rattle.inv_rows.specs.Queue.{in_queue}
 use Rattle.inv_covers.proofs.Stands.{withdrawn_shrinks, with_row_apart, with_row_is}
+pub use Rattle.inv_shapes.proofs.Frame.{concluded_post}
 
 -- how a row comes to stand
 abbrev pub Was : ℕ → (ℕ → Status) → Post → Base → ℕ → ℕ → Type 0
@@ -57,14 +58,6 @@ held_rises status post index (roots.Bucket bucket) link j s b h = link_rises sta
 held_rises status post index roots.Head link j s b h = link_rises status post index roots.Head link j s (link == 0) refl b refl h
 held_rises status post index roots.Tail link j s b h = link_rises status post index roots.Tail link j s (link == 0) refl b refl h
 held_rises status post index (roots.Next parent) link j s b h = inl h
-
-followed_post : (index : ℕ) (root : Root) (n link era : ℕ) (post : Post) (told : List Event) (null : Bool) → (link == 0) ≡ null → (concluded Follows index root n link era post told).post ≡ post
-followed_post index root n link era post told true e = rw e refl
-followed_post index root n link era post told false e = rw e refl
-
-pub concluded_post : (aim : Aim) (index : ℕ) (root : Root) (n link era : ℕ) (post : Post) (told : List Event) → (concluded aim index root n link era post told).post ≡ post
-concluded_post Alone index root n link era post told = refl
-concluded_post Follows index root n link era post told = followed_post index root n link era post told (link == 0) refl
 
 pub protected_post : (aim : Aim) (index : ℕ) (root : Root) (n link era : ℕ) (post : Post) → (protected aim index root n link era post).post ≡ held_post post index root link
 protected_post aim index root n link era post = concluded_post aim index root n link era (held_post post index root link) (told_held index root link n)
@@ -100,7 +93,7 @@ answer_stood first era link found aim index root n post j s false e h = rw e at 
 pub concluded_stood : (aim : Aim) (index : ℕ) (root : Root) (n link era : ℕ) (post : Post) (told : List Event) (j s : ℕ) → stands (concluded aim index root n link era post told).post j ≡ Some s → stands post j ≡ Some s
 concluded_stood aim index root n link era post told j s h = same_stands (concluded aim index root n link era post told).post post j s (concluded_post aim index root n link era post told) h
 
-protect_stood : (clock : ℕ) (status : ℕ → Status) (scheme : SchemeKind) (most : ℕ) (mem : Place → ℕ) (aim : Aim) (index : ℕ) (root : Root) (n : ℕ) (at : ProtectAt) (post last : Post) (j s : ℕ) → clock ≡ mem Clock → is_wfe scheme ≡ false → protect_fits scheme most at ≡ true → index < length post.standing
+protect_stood : (clock : ℕ) (status : ℕ → Status) (scheme : SchemeKind) (most : ℕ) (mem : Place → ℕ) (aim : Aim) (index : ℕ) (root : Root) (n : ℕ) (at : ProtectAt) (post last : Post) (j s : ℕ) → clock ≡ mem Clock → helps scheme ≡ false → protect_fits scheme most at ≡ true → index < length post.standing
     → stands (protect_turn aim index root n at post (found (protect_move index root at last) (mem (place_in (protect_move index root at last))))).post j ≡ Some s → (stands post j ≡ Some s) ⊎ ((j ≡ index) × (tries_protect clock status post root at s ≡ true))
 protect_stood clock status scheme most mem aim index root n (LoadClock tries) post last j s c w f b h = inl h
 protect_stood clock status scheme most mem aim index root n (PublishEra era tries) post last j s c w f b h = inl h
@@ -196,7 +189,7 @@ begin_stood LoadLower found post j s h = h
 begin_stood (PublishSpan era) found post j s h = h
 
 -- what stands after a machine's step
-pub base_stood : (status : ℕ → Status) (config : Config) (mem : Place → ℕ) (base : Base) (post last : Post) (j s : ℕ) → is_wfe config.scheme ≡ false → base_fits config base ≡ true → index_base base < length post.standing → ((p : ℕ) → mem Head ≡ p + 1 → in_queue (status p) ≡ true)
+pub base_stood : (status : ℕ → Status) (config : Config) (mem : Place → ℕ) (base : Base) (post last : Post) (j s : ℕ) → helps config.scheme ≡ false → base_fits config base ≡ true → index_base base < length post.standing → ((p : ℕ) → mem Head ≡ p + 1 → in_queue (status p) ≡ true)
     → stands (after base post (found (base_move base last) (mem (place_in (base_move base last))))).post j ≡ Some s → Was (mem Clock) status post base j s
 base_stood status config mem (Begin at) post last j s w f b q h = inl (begin_stood at (found (base_move (Begin at) last) (mem (place_in (base_move (Begin at) last)))) post j s h)
 base_stood status config mem (Protect aim index root steps at) post last j s w f b q h = protect_stood (mem Clock) status config.scheme config.tries mem aim index root (bump steps) at post last j s refl w f b h

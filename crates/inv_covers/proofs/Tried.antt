@@ -30,7 +30,7 @@ use Rattle.inv_shapes.specs.defs.declared.event.Event.TheVariants as events
 use Rattle.inv_covers.proofs.Words.{stores_protect}
 use Rattle.inv_rows.specs.Rows.{Status, View, RowMove, made, is_settled}
 use Rattle.inv_rows.specs.Rows.RowMove.{Stays, Claims, Bears, Drops, Links, Replaces, Appends, Pops, Reads, Seals, Lists, Returns}
-use Rattle.inv_shapes.specs.words.Schemes.{is_wfe}
+use Rattle.inv_shapes.specs.words.Schemes.{helps}
 use Rattle.inv_shapes.specs.Seats.{protect_fits}
 use Rattle.inv_rows.proofs.Fits.{MoveFits}
 use Rattle.inv_covers.specs.Held.{leads, under, tries_protect, tries_base, index_base, follows_root, follows_row, era_protect, era_base}
@@ -88,7 +88,7 @@ trying_none clock status config post root era (Failed count) s = by_more (nat_le
   by_more true = refl
   by_more false = refl
 
-pub protect_tries : (clock : ℕ) (status : ℕ → Status) (scheme : SchemeKind) (most : ℕ) (mem : Place → ℕ) (aim : Aim) (index : ℕ) (root : Root) (n : ℕ) (at : ProtectAt) (post last next : Post) (s : ℕ) → clock ≡ mem Clock → is_wfe scheme ≡ false → protect_fits scheme most at ≡ true → (aim ≡ Follows → root ≡ roots.Next (parent_of root)) → (at ≡ LoadWithin → next.span ≡ post.span)
+pub protect_tries : (clock : ℕ) (status : ℕ → Status) (scheme : SchemeKind) (most : ℕ) (mem : Place → ℕ) (aim : Aim) (index : ℕ) (root : Root) (n : ℕ) (at : ProtectAt) (post last next : Post) (s : ℕ) → clock ≡ mem Clock → helps scheme ≡ false → protect_fits scheme most at ≡ true → (aim ≡ Follows → root ≡ roots.Next (parent_of root)) → (at ≡ LoadWithin → next.span ≡ post.span)
     → out_tries clock status next (protect_turn aim index root n at post (found (protect_move index root at last) (mem (place_in (protect_move index root at last))))).outcome s ≡ true
     → Goes_on clock status mem post index root at (protect_turn aim index root n at post (found (protect_move index root at last) (mem (place_in (protect_move index root at last))))).outcome s
 protect_tries clock status scheme most mem aim index root n (LoadClock tries) post last next s c w f g e h = absurd (cc)
@@ -135,14 +135,7 @@ pub start_untried : (clock : ℕ) (status : ℕ → Status) (post : Post) (base 
 start_untried clock status post (Begin at) s h = refl
 start_untried clock status post (Protect aim index root steps at) s h = start_protect clock status post root at s h
 start_untried clock status post (Reload parent index slot era steps) s h = absurd (cc)
-start_untried clock status post (Clear index) s h = refl
-start_untried clock status post Finish s h = refl
-start_untried clock status post Release s h = refl
-start_untried clock status post (Allocate at) s h = refl
-start_untried clock status post (Write slot row place) s h = refl
-start_untried clock status post (GiveUp slot) s h = refl
-start_untried clock status post (Retire at) s h = refl
-start_untried clock status post (Move at) s h = refl
+start_untried clock status post base s h = refl
 
 -- a row that was linked and is in the queue was in it before
 pub queued_back : (i : ℕ) (v : View) (m : RowMove) (p : ℕ) → MoveFits i v m → is_settled (v.status p) ≡ true → in_queue ((made i v m).status p) ≡ true → in_queue (v.status p) ≡ true
@@ -189,14 +182,7 @@ pub tries_back : (clock later : ℕ) (old new : ℕ → Status) (post : Post) (b
 tries_back clock later old new post (Begin at) s l m f h = absurd (cc)
 tries_back clock later old new post (Protect aim index root steps at) s l m f h = protect_back clock later old new post root at s l m f h
 tries_back clock later old new post (Reload parent index slot era steps) s l m f h = let q : in_queue (new parent) ≡ true = grind (arith, nat_tests) in let k = f parent (grind (arith, nat_tests)) q in grind (arith, nat_tests)
-tries_back clock later old new post (Clear index) s l m f h = absurd (cc)
-tries_back clock later old new post Finish s l m f h = absurd (cc)
-tries_back clock later old new post Release s l m f h = absurd (cc)
-tries_back clock later old new post (Allocate at) s l m f h = absurd (cc)
-tries_back clock later old new post (Write slot row place) s l m f h = absurd (cc)
-tries_back clock later old new post (GiveUp slot) s l m f h = absurd (cc)
-tries_back clock later old new post (Retire at) s l m f h = absurd (cc)
-tries_back clock later old new post (Move at) s l m f h = absurd (cc)
+tries_back clock later old new post base s l m f h = absurd (cc)
 
 -- other machines come to no try
 tries_if : (clock : ℕ) (status : ℕ → Status) (post : Post) (one two : Turn) (s : ℕ) (same : Bool) → out_tries clock status post one.outcome s ≡ false → out_tries clock status post two.outcome s ≡ false → out_tries clock status post (if same then one else two).outcome s ≡ false

@@ -6,7 +6,6 @@ use Rattle.inv_shapes.specs.words.Place.{Place, same}
 use Rattle.inv_shapes.specs.words.Place.Place.{Index, Interval}
 use Rattle.inv_shapes.specs.words.declared.config.Config.{Config}
 use Rattle.inv_shapes.specs.words.declared.config.SchemeKind.{SchemeKind}
-use Rattle.inv_shapes.specs.words.declared.config.SchemeKind.TheVariants.{He, Ibr, Wfe}
 use Rattle.inv_shapes.specs.defs.declared.event.Guard.{Guard}
 use Rattle.inv_shapes.specs.defs.declared.event.Root.{Root}
 use Rattle.inv_shapes.specs.defs.declared.lifetime.Interval.{Interval as Span}
@@ -30,9 +29,10 @@ use Rattle.inv_shapes.specs.model.Steps.{work_move}
 use Rattle.inv_shapes.specs.model.Calls.{ChangeKept, EnqueueKept, ScanAt, ReadGuard, GiveBack, GetAt, FindVersion, ChangeAt, LoadVersion, EnqueueAt, LoadNumber, DequeueAt, LoadTail, Work, Getting, Changing, Enqueuing, Dequeuing}
 use Rattle.inv_shapes.specs.model.Locals.{move}
 use Rattle.inv_shapes.specs.model.World.{World, step}
-use Rattle.inv_shapes.specs.words.Schemes.{is_wfe}
+use Rattle.inv_shapes.specs.words.Schemes.{helps}
 use Rattle.inv_shapes.specs.Seats.{move_fits, base_fits}
 use Rattle.inv_covers.specs.Covers.{shown, Widens}
+use Rattle.inv_shapes.proofs.model.Schemes.{each_guard}
 
 -- the operation leaves the word of the place
 abbrev pub keeps : Act → Place → Bool
@@ -88,7 +88,7 @@ protect_index k j index root (PublishEra era tries) post e = rw e refl
 protect_index k j index root (TakeAnswer link era) post e = rw e refl
 protect_index k j index root at post e = refl
 
-move_index : (k j : ℕ) (scheme : SchemeKind) (seats : ℕ) (at : MoveAt) (post : Post) → is_wfe scheme ≡ false → move_fits scheme seats at ≡ true → keeps (move_move at post) (Index k j) ≡ true
+move_index : (k j : ℕ) (scheme : SchemeKind) (seats : ℕ) (at : MoveAt) (post : Post) → helps scheme ≡ false → move_fits scheme seats at ≡ true → keeps (move_move at post) (Index k j) ≡ true
 move_index k j scheme seats (HandOver era seat tag index root link old) post n f = absurd (grind (arith, nat_tests))
 move_index k j scheme seats at post n f = refl
 
@@ -100,7 +100,7 @@ pub retire_index : (k j : ℕ) (at : RetireAt) → keeps (retire_move at) (Index
 retire_index k j (LoadLife slot) = refl
 retire_index k j at = refl
 
-base_index : (k j : ℕ) (config : Config) (base : Base) (post : Post) → is_wfe config.scheme ≡ false → base_fits config base ≡ true → (k == post.seat) ≡ false → keeps (base_move base post) (Index k j) ≡ true
+base_index : (k j : ℕ) (config : Config) (base : Base) (post : Post) → helps config.scheme ≡ false → base_fits config base ≡ true → (k == post.seat) ≡ false → keeps (base_move base post) (Index k j) ≡ true
 base_index k j config (Begin at) post n f e = begin_index k j at post e
 base_index k j config (Protect aim index root steps at) post n f e = protect_index k j index root at post e
 base_index k j config (Reload parent index slot era steps) post n f e = refl
@@ -145,7 +145,7 @@ quiet_protect_index k j index root (TakeAnswer link era) post e = absurd (cc)
 quiet_protect_index k j index root (RaiseUpper era) post e = absurd (cc)
 quiet_protect_index k j index root at post e = refl
 
-quiet_base_index : (k j : ℕ) (config : Config) (base : Base) (post : Post) → is_wfe config.scheme ≡ false → base_fits config base ≡ true → stores_guard base ≡ false → keeps (base_move base post) (Index k j) ≡ true
+quiet_base_index : (k j : ℕ) (config : Config) (base : Base) (post : Post) → helps config.scheme ≡ false → base_fits config base ≡ true → stores_guard base ≡ false → keeps (base_move base post) (Index k j) ≡ true
 quiet_base_index k j config (Begin LoadLower) post n f e = refl
 quiet_base_index k j config (Begin (PublishSpan era)) post n f e = absurd (cc)
 quiet_base_index k j config (Protect aim index root steps at) post n f e = quiet_protect_index k j index root at post e
@@ -168,7 +168,7 @@ protect_span : (k : ℕ) (index : ℕ) (root : Root) (at : ProtectAt) (post : Po
 protect_span k index root (RaiseUpper era) post e = rw e refl
 protect_span k index root at post e = refl
 
-move_span : (k : ℕ) (scheme : SchemeKind) (seats : ℕ) (at : MoveAt) (post : Post) → is_wfe scheme ≡ false → move_fits scheme seats at ≡ true → keeps (move_move at post) (Interval k) ≡ true
+move_span : (k : ℕ) (scheme : SchemeKind) (seats : ℕ) (at : MoveAt) (post : Post) → helps scheme ≡ false → move_fits scheme seats at ≡ true → keeps (move_move at post) (Interval k) ≡ true
 move_span k scheme seats (LoadEra helps) post n f = refl
 move_span k scheme seats at post n f = refl
 
@@ -180,7 +180,7 @@ retire_span : (k : ℕ) (at : RetireAt) → keeps (retire_move at) (Interval k) 
 retire_span k (LoadLife slot) = refl
 retire_span k at = refl
 
-base_span : (k : ℕ) (config : Config) (base : Base) (post : Post) → is_wfe config.scheme ≡ false → base_fits config base ≡ true → (k == post.seat) ≡ false → keeps (base_move base post) (Interval k) ≡ true
+base_span : (k : ℕ) (config : Config) (base : Base) (post : Post) → helps config.scheme ≡ false → base_fits config base ≡ true → (k == post.seat) ≡ false → keeps (base_move base post) (Interval k) ≡ true
 base_span k config (Begin at) post n f e = begin_span k at post e
 base_span k config (Protect aim index root steps at) post n f e = protect_span k index root at post e
 base_span k config (Reload parent index slot era steps) post n f e = refl
@@ -225,7 +225,7 @@ quiet_protect_span k index root (TakeAnswer link era) post e = absurd (cc)
 quiet_protect_span k index root (RaiseUpper era) post e = absurd (cc)
 quiet_protect_span k index root at post e = refl
 
-quiet_base_span : (k : ℕ) (config : Config) (base : Base) (post : Post) → is_wfe config.scheme ≡ false → base_fits config base ≡ true → stores_guard base ≡ false → keeps (base_move base post) (Interval k) ≡ true
+quiet_base_span : (k : ℕ) (config : Config) (base : Base) (post : Post) → helps config.scheme ≡ false → base_fits config base ≡ true → stores_guard base ≡ false → keeps (base_move base post) (Interval k) ≡ true
 quiet_base_span k config (Begin LoadLower) post n f e = refl
 quiet_base_span k config (Begin (PublishSpan era)) post n f e = absurd (cc)
 quiet_base_span k config (Protect aim index root steps at) post n f e = quiet_protect_span k index root at post e
@@ -240,22 +240,20 @@ quiet_base_span k config (Retire at) post n f e = retire_span k at
 quiet_base_span k config (Move at) post n f e = move_span k config.scheme config.seats at post n f
 
 -- the guard of an index, by the scheme
-pub base_other : (scheme : SchemeKind) (k j : ℕ) (config : Config) (base : Base) (post : Post) → is_wfe config.scheme ≡ false → base_fits config base ≡ true → (k == post.seat) ≡ false → keeps (base_move base post) (guard_place (own_guard scheme k j)) ≡ true
-base_other He k j config base post n f e = base_index k j config base post n f e
-base_other Ibr k j config base post n f e = base_span k config base post n f e
-base_other Wfe k j config base post n f e = base_index k j config base post n f e
+pub base_other : (scheme : SchemeKind) (k j : ℕ) (config : Config) (base : Base) (post : Post) → helps config.scheme ≡ false → base_fits config base ≡ true → (k == post.seat) ≡ false → keeps (base_move base post) (guard_place (own_guard scheme k j)) ≡ true
+base_other scheme k j config base post n f e =
+    each_guard scheme k j (λ (g : Guard). keeps (base_move base post) (guard_place g) ≡ true)
+    (base_index k j config base post n f e)
+    (base_span k config base post n f e)
 
-pub base_quiet : (scheme : SchemeKind) (k j : ℕ) (config : Config) (base : Base) (post : Post) → is_wfe config.scheme ≡ false → base_fits config base ≡ true → stores_guard base ≡ false → keeps (base_move base post) (guard_place (own_guard scheme k j)) ≡ true
-base_quiet He k j config base post n f e = quiet_base_index k j config base post n f e
-base_quiet Ibr k j config base post n f e = quiet_base_span k config base post n f e
-base_quiet Wfe k j config base post n f e = quiet_base_index k j config base post n f e
+pub base_quiet : (scheme : SchemeKind) (k j : ℕ) (config : Config) (base : Base) (post : Post) → helps config.scheme ≡ false → base_fits config base ≡ true → stores_guard base ≡ false → keeps (base_move base post) (guard_place (own_guard scheme k j)) ≡ true
+base_quiet scheme k j config base post n f e =
+    each_guard scheme k j (λ (g : Guard). keeps (base_move base post) (guard_place g) ≡ true)
+    (quiet_base_index k j config base post n f e)
+    (quiet_base_span k config base post n f e)
 
 pub scan_quiet : (scheme : SchemeKind) (k j : ℕ) (at : ScanAt) (post : Post) → keeps (scan_move at post) (guard_place (own_guard scheme k j)) ≡ true
-scan_quiet He k j at post = scan_index k j at post
-scan_quiet Ibr k j at post = scan_span k at post
-scan_quiet Wfe k j at post = scan_index k j at post
+scan_quiet scheme k j at post = each_guard scheme k j (λ (g : Guard). keeps (scan_move at post) (guard_place g) ≡ true) (scan_index k j at post) (scan_span k at post)
 
 pub work_quiet : (scheme : SchemeKind) (k j : ℕ) (work : Work) (post : Post) → keeps (work_move work post) (guard_place (own_guard scheme k j)) ≡ true
-work_quiet He k j work post = work_index k j work post
-work_quiet Ibr k j work post = work_span k work post
-work_quiet Wfe k j work post = work_index k j work post
+work_quiet scheme k j work post = each_guard scheme k j (λ (g : Guard). keeps (work_move work post) (guard_place g) ≡ true) (work_index k j work post) (work_span k work post)

@@ -20,7 +20,7 @@ use Rattle.inv_shapes.specs.defs.declared.event.Guard.TheVariants.{Index, Whole,
 use Rattle.inv_shapes.specs.Seats.{base_fits}
 use Rattle.inv_rows.specs.Agree.{Agree, rows_after}
 use Rattle.inv_rows.specs.Rows.Status.{InQueue}
-use Rattle.inv_shapes.specs.words.Schemes.{is_ibr, is_wfe}
+use Rattle.inv_shapes.specs.words.Schemes.{has_one_interval, helps}
 use Rattle.inv_shapes.specs.words.declared.layout.Layout.{Layout}
 use Rattle.inv_shapes.specs.defs.declared.call.Call.{Call}
 use Rattle.inv_rows.specs.Hands.{row_move}
@@ -62,14 +62,7 @@ abbrev pub tries_base : ℕ → (ℕ → Status) → Post → Base → ℕ → B
 tries_base clock status post (Begin at) s = false
 tries_base clock status post (Protect aim index root steps at) s = tries_protect clock status post root at s
 tries_base clock status post (Reload parent index slot era steps) s = slot == s && in_queue (status parent)
-tries_base clock status post (Clear index) s = false
-tries_base clock status post Finish s = false
-tries_base clock status post Release s = false
-tries_base clock status post (Allocate at) s = false
-tries_base clock status post (Write slot row place) s = false
-tries_base clock status post (GiveUp slot) s = false
-tries_base clock status post (Retire at) s = false
-tries_base clock status post (Move at) s = false
+tries_base clock status post base s = false
 
 -- the index of a protection
 abbrev pub index_base : Base → ℕ
@@ -113,9 +106,7 @@ follows_row Finish row = false
 follows_row Release row = false
 follows_row (Allocate at) row = false
 follows_row (Write slot row place) other = false
-follows_row (GiveUp slot) row = false
-follows_row (Retire at) row = false
-follows_row (Move at) row = false
+follows_row base row = false
 
 -- the era that a try compares with the clock
 abbrev pub era_protect : Post → ProtectAt → ℕ
@@ -192,8 +183,8 @@ pub record HeldNeeds (w : World) (i : ℕ) (v : View) : Type 0 where
   pub base : (why : Why) (base : Base) → (w.seat i).phase ≡ Runs why base → BaseNeeds w i base
   pub roots : RootsNeeds w v
   -- under 2GE an interval word has the seat's interval, before and after the step
-  pub spans : is_ibr w.layout.config.scheme ≡ true → shown w (Whole i) ≡ (w.seat i).post.span
-  pub spans_next : is_ibr w.layout.config.scheme ≡ true → shown (step w i) (Whole i) ≡ ((step w i).seat i).post.span
+  pub spans : has_one_interval w.layout.config.scheme ≡ true → shown w (Whole i) ≡ (w.seat i).post.span
+  pub spans_next : has_one_interval w.layout.config.scheme ≡ true → shown (step w i) (Whole i) ≡ ((step w i).seat i).post.span
   -- the era of a try is at most the clock, and the clock is positive and never falls
   pub eras : (k : ℕ) (why : Why) (base : Base) → (w.seat k).phase ≡ Runs why base → era_base (w.seat k).post base ≤ w.mem Clock
   pub some : 1 ≤ w.mem Clock
@@ -206,7 +197,7 @@ pub record HeldNeeds (w : World) (i : ℕ) (v : View) : Type 0 where
 abbrev pub HeldKept : Type 0
 HeldKept =
     (w : World) (i : ℕ) (v : View)
-    → is_wfe w.layout.config.scheme ≡ false
+    → helps w.layout.config.scheme ≡ false
     → HeldNeeds w i v
     → Held w v
     → Held (step w i) (rows_after w i v)
@@ -234,13 +225,13 @@ abbrev pub GuardsFit : Type 0
 GuardsFit = (config : Config) (k j : ℕ) → k < config.seats → j < config.indexes → GuardFits config (own_guard config.scheme k j)
 
 abbrev pub HelpersFit : Type 0
-HelpersFit = (config : Config) (k : ℕ) → is_wfe config.scheme ≡ true → k < config.seats → GuardFits config (Helper k)
+HelpersFit = (config : Config) (k : ℕ) → helps config.scheme ≡ true → k < config.seats → GuardFits config (Helper k)
 
 -- what a helper word covers, any index word covers that publishes the same: a scan reads helper words first
 abbrev pub HandedCovers : Type 0
 HandedCovers =
     (w : World) (v : View) (m k j slot : ℕ)
-    → is_wfe w.layout.config.scheme ≡ true
+    → helps w.layout.config.scheme ≡ true
     → m < w.layout.config.seats
     → shown w (Index k j) ≡ shown w (Helper m)
     → Covers w v (Helper m) slot
@@ -251,7 +242,7 @@ HandedCovers =
 abbrev pub HandedKept : Type 0
 HandedKept =
     (w : World) (i : ℕ) (v : View) (m k j slot : ℕ)
-    → is_wfe w.layout.config.scheme ≡ true
+    → helps w.layout.config.scheme ≡ true
     → CoversNeeds w i v
     → Scanning w
     → m < w.layout.config.seats

@@ -5,9 +5,9 @@ use Rattle.inv_shapes.specs.defs.declared.call.Call.{Call}
 use Rattle.inv_shapes.specs.model.declared.post.Post.{Post}
 use Rattle.inv_shapes.specs.model.Posts.{stands}
 use Rattle.inv_shapes.specs.model.Phases.{Base}
-use Rattle.inv_shapes.specs.model.Calls.{Why, Opens, FollowsHead, Fills, ClearsNext, Clears, Finishes, GivesUp, Retires, Tidies, Advances, Releases, DequeueAt, LoadTail, SwingTail, TakeNumber, TakeValue, ExchangeHead, Work, Getting, Changing, Enqueuing, Dequeuing, Phase, Idle, Runs, Scans, Works}
+use Rattle.inv_shapes.specs.model.Calls.{Why, Opens, FollowsHead, DequeueAt, LoadTail, SwingTail, TakeNumber, TakeValue, ExchangeHead, Work, Getting, Changing, Enqueuing, Dequeuing, Phase, Idle, Runs, Scans, Works}
 use Rattle.inv_shapes.specs.model.World.{World, start, begin, step}
-use Rattle.inv_shapes.specs.words.Schemes.{is_wfe}
+use Rattle.inv_shapes.specs.words.Schemes.{helps}
 use Rattle.inv_shapes.specs.Seats.{Run}
 use Rattle.inv_covers.specs.Held.{follows_row}
 
@@ -15,15 +15,7 @@ use Rattle.inv_covers.specs.Held.{follows_row}
 abbrev pub has_parent_why : Why → ℕ → Bool
 has_parent_why (Opens task) row = false
 has_parent_why (FollowsHead head tail) row = head == row
-has_parent_why (Fills task) row = false
-has_parent_why (ClearsNext next) row = false
-has_parent_why (Clears task next) row = false
-has_parent_why (Finishes task next) row = false
-has_parent_why (GivesUp answer) row = false
-has_parent_why (Retires answer) row = false
-has_parent_why (Tidies later) row = false
-has_parent_why Advances row = false
-has_parent_why (Releases key) row = false
+has_parent_why why row = false
 
 abbrev pub has_parent_dequeue : DequeueAt → ℕ → Bool
 has_parent_dequeue (LoadTail head) row = head == row
@@ -63,7 +55,7 @@ ParentsBegin = (w : World) (i : ℕ) (call : Call) → Parents w → Parents (be
 
 -- under Hazard Eras and 2GE
 abbrev pub ParentsKept : Type 0
-ParentsKept = (w : World) (i : ℕ) → is_wfe w.layout.config.scheme ≡ false → ParentsNeeds w i → Parents w → Parents (step w i)
+ParentsKept = (w : World) (i : ℕ) → helps w.layout.config.scheme ≡ false → ParentsNeeds w i → Parents w → Parents (step w i)
 
 -- a row whose next link is followed stands at index 0
 abbrev pub ParentsGive : Type 0

@@ -4,7 +4,7 @@ use Rattle.inv_shapes.specs.model.declared.post.Post.{Post}
 use Rattle.inv_shapes.specs.model.Posts.{stands}
 use Rattle.inv_shapes.specs.model.Phases.{ProtectAt, MoveAt, Base}
 use Rattle.inv_shapes.specs.model.Phases.ProtectAt.{LoadClock, PublishEra, LoadLink, CheckClock, PublishRequest, LoadOwnClock, PublishHelper, LoadOwnLink, CheckOwnClock, AnswerOwn, LoadAnswer, TakeAnswer, WithdrawRequest, WithdrawHelper, LoadWithin, CheckUpper, RaiseUpper}
-use Rattle.inv_shapes.specs.model.Phases.MoveAt.{LoadEra, LoadRequest, ShowEra, LoadAsked, CheckEra, AnswerAsked, LoadReserved, HandOver, HideEra, HideLate, ExchangeClock}
+use Rattle.inv_shapes.specs.model.Phases.MoveAt.{LoadEra, LoadRequest, ShowEra, LoadAsked, CheckEra, AnswerAsked, LoadReserved, HandOver}
 use Rattle.inv_shapes.specs.model.Phases.Base.{Begin, Protect, Reload, Clear, Finish, Release, Allocate, Write, GiveUp, Retire, Move}
 use Rattle.inv_shapes.specs.model.Calls.{Phase, Idle, Runs, Scans, Works, CallTurn}
 use Rattle.inv_shapes.specs.Frame.{phase_left}
@@ -39,9 +39,7 @@ starts_move (CheckEra era seat tag index root link) = false
 starts_move (AnswerAsked era seat tag index root link) = false
 starts_move (LoadReserved era seat tag index root link) = false
 starts_move (HandOver era seat tag index root link old) = false
-starts_move (HideEra era) = true
-starts_move (HideLate seen) = true
-starts_move (ExchangeClock era) = true
+starts_move at = true
 
 abbrev pub starts_base : Base → Bool
 starts_base (Begin at) = true

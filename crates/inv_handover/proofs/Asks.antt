@@ -17,7 +17,7 @@ use Rattle.inv_covers.specs.model.World.{World}
 use Rattle.inv_covers.specs.shapes.Seats.{Run, PhaseFits, Seats}
 use Rattle.inv_requests.specs.Deals.{is_quiet, is_open, asked_at, answered_with, taken_with, fits}
 use Rattle.inv_requests.specs.Standing.{protect_role, move_role, role_of, Requests}
-use Rattle.inv_requests.specs.Views.{Deal, Role, View as Asked}
+use Rattle.inv_requests.specs.Views.{Deal, View as Asked}
 use Rattle.inv_requests.specs.Views.Deal.{Quiet, Open, Answered, Passed, Taken}
 use Rattle.inv_covers.specs.rows.Rows.{Status, View}
 use Rattle.inv_covers.specs.Covers.{shown}
@@ -26,6 +26,7 @@ use Rattle.inv_covers.specs.Rests.{has_taken, vacant_opening, vacant_why, vacant
 use Rattle.inv_covers.proofs.Held.{same_run}
 use Rattle.inv_covers.proofs.Resting.{bare_own}
 use Rattle.inv_covers.proofs.model.Facts.{first_of, no_truth}
+pub use Rattle.inv_requests.proofs.Known.{fits_at}
 
 -- the own request is published and not taken yet
 abbrev pub in_slow : ProtectAt → Bool
@@ -41,11 +42,7 @@ in_slow (CheckOwnClock first era last link) = true
 in_slow (AnswerOwn first era link) = true
 in_slow (LoadAnswer first) = true
 in_slow (TakeAnswer link era) = true
-in_slow (WithdrawRequest link era) = false
-in_slow (WithdrawHelper link era) = false
-in_slow LoadWithin = false
-in_slow (CheckUpper link) = false
-in_slow (RaiseUpper era) = false
+in_slow at = false
 
 -- the seat that asks, at this index, for the link word of this number
 pub record Asker (w : World) (k j word : ℕ) : Type 0 where
@@ -154,10 +151,6 @@ phase_asks w k j word d (Runs why (Write slot row place)) e f a = absurd (no_tru
 phase_asks w k j word d (Runs why (GiveUp slot)) e f a = absurd (no_truth (quiet_asks d j word f a))
 phase_asks w k j word d (Runs why (Retire at)) e f a = absurd (no_truth (quiet_asks d j word f a))
 phase_asks w k j word d (Runs why (Move at)) e f a = absurd (no_truth (quiet_asks d j word (move_quiet w.layout at d f) a))
-
--- what the deal of a seat fits, by the seat's phase
-pub fits_at : (w : World) (z : Asked) (k : ℕ) (phase : Phase) → Requests w z → (w.seat k).phase ≡ phase → fits (role_of w.layout phase) (z.deal k) ≡ true
-fits_at w z k phase q e = subst (λ (r : Role). fits r (z.deal k) ≡ true) (sym (q.locals.roles k) ∙ ap (role_of w.layout) e) (q.parts.fit k)
 
 pub asker : (w : World) (z : Asked) (k j word : ℕ) → Requests w z → asked_at j word (z.deal k) ≡ true → Asker w k j word
 asker w z k j word q a = phase_asks w k j word (z.deal k) (w.seat k).phase refl (fits_at w z k (w.seat k).phase q refl) a

@@ -25,7 +25,7 @@ use Rattle.inv_covers.specs.model.Calls.{Why, Phase, Idle, Runs, Scans, Works}
 use Rattle.inv_covers.specs.model.World.{World, step, finds}
 use Rattle.inv_covers.proofs.model.Roots.{root_at_link}
 use Rattle.inv_covers.specs.shapes.Frame.{phase_left}
-use Rattle.inv_covers.specs.words.Schemes.{is_wfe}
+use Rattle.inv_covers.specs.words.Schemes.{helps}
 use Rattle.inv_requests.specs.Deals.{asked_at, stays}
 use Rattle.inv_requests.specs.NextDeals.{next_deals}
 use Rattle.inv_requests.specs.Standing.{protect_role, move_role, base_role, role_of}
@@ -58,7 +58,7 @@ still_helper : (w : World) (i : ℕ) (v : View) (z : Asked) (why : Why) (base : 
 still_helper w i v z why base s n e o h = holds_stay w i v (Helper i) s n.covers n.scans (helper_stays w i i (Runs why base) (n.seats.fits i).post.seat e (rw o (no_store i i))) h
 
 -- a link that is loaded under the own helper word
-helper_load : (w : World) (i : ℕ) (v : View) (z : Asked) (root : Root) (era s : ℕ) → is_wfe w.layout.config.scheme ≡ true → HandoverNeeds w i v z → z.helper i ≡ era → w.mem Clock ≡ era → leads (w.mem (link_place root)) s ≡ true → under v.status root ≡ true → Holds w v (Helper i) s
+helper_load : (w : World) (i : ℕ) (v : View) (z : Asked) (root : Root) (era s : ℕ) → helps w.layout.config.scheme ≡ true → HandoverNeeds w i v z → z.helper i ≡ era → w.mem Clock ≡ era → leads (w.mem (link_place root)) s ≡ true → under v.status root ≡ true → Holds w v (Helper i) s
 helper_load w i v z root era s f n h c l u =
     let m = n.eras.some in
     let x : shown w (Helper i) ≡ from_to era era = helper_shows w z i n.requests ∙ ap one_era h ∙ one_from era (omega (arith, c, m)) in
@@ -68,7 +68,7 @@ helper_load w i v z root era s f n h c l u =
 move_rows : (w : World) (i : ℕ) (v : View) (why : Why) (at : MoveAt) → (w.seat i).phase ≡ Runs why (Move at) → rows_after w i v ≡ v
 move_rows w i v why at e = ap (λ (p : Phase). made i v (row_move p (w.seat i).post (finds w i))) e
 
-turn_loads : (w : World) (i : ℕ) (v : View) (z : Asked) (why : Why) (aim : Aim) (index : ℕ) (root : Root) (steps : ℕ) (at : ProtectAt) (s : ℕ) → is_wfe w.layout.config.scheme ≡ true → HandoverNeeds w i v z → Helped w v z.deal → (w.seat i).phase ≡ Runs why (Protect aim index root steps at)
+turn_loads : (w : World) (i : ℕ) (v : View) (z : Asked) (why : Why) (aim : Aim) (index : ℕ) (root : Root) (steps : ℕ) (at : ProtectAt) (s : ℕ) → helps w.layout.config.scheme ≡ true → HandoverNeeds w i v z → Helped w v z.deal → (w.seat i).phase ≡ Runs why (Protect aim index root steps at)
     → turn_from_link (w.mem Clock) v.status root at (finds w i) s ≡ true → Holds (step w i) (rows_after w i v) (Helper i) s
 turn_loads w i v z why aim index root steps (LoadOwnLink first era last) s f n g e h =
     let r = stands_as w z i (Runs why (Protect aim index root steps (LoadOwnLink first era last))) n.requests e in
@@ -88,7 +88,7 @@ turn_loads w i v z why aim index root steps (CheckOwnClock first era last link) 
     (both (leads link s) (w.mem Clock == era && under v.status root) (first_of (leads link s) (under v.status root) q) (both (w.mem Clock == era) (under v.status root) c (rest_of (leads link s) (under v.status root) q))))
 turn_loads w i v z why aim index root steps at s f n g e h = absurd (cc)
 
-move_loads_held : (w : World) (i : ℕ) (v : View) (z : Asked) (why : Why) (at : MoveAt) (clock s : ℕ) → is_wfe w.layout.config.scheme ≡ true → HandoverNeeds w i v z → Helped w v z.deal → (w.seat i).phase ≡ Runs why (Move at) → clock ≡ (step w i).mem Clock
+move_loads_held : (w : World) (i : ℕ) (v : View) (z : Asked) (why : Why) (at : MoveAt) (clock s : ℕ) → helps w.layout.config.scheme ≡ true → HandoverNeeds w i v z → Helped w v z.deal → (w.seat i).phase ≡ Runs why (Move at) → clock ≡ (step w i).mem Clock
     → move_from_link w.layout clock v.status (next_deals w i z.deal) at (finds w i) s ≡ true → Holds (step w i) (rows_after w i v) (Helper i) s
 move_loads_held w i v z why (LoadAsked era k t j root) clock s f n g e d h =
     let r = stands_as w z i (Runs why (Move (LoadAsked era k t j root))) n.requests e in
@@ -117,7 +117,7 @@ resumed_holds layout clock status deal why desk post told (Goes one) other base 
 resumed_holds layout clock status deal why desk post told (Ends ending) other base s e h =
     absurd (no_truth (starts_unheld layout clock status deal (phase_left (resumed why desk post told (Ends ending)).outcome) other base s (resume_fresh why ending post desk told).starts e h))
 
-run_loads : (w : World) (i : ℕ) (v : View) (z : Asked) (reason : Why) (one : Base) (s : ℕ) (may : Bool) → may_load one ≡ may → is_wfe w.layout.config.scheme ≡ true → HandoverNeeds w i v z → Helped w v z.deal → (w.seat i).phase ≡ Runs reason one
+run_loads : (w : World) (i : ℕ) (v : View) (z : Asked) (reason : Why) (one : Base) (s : ℕ) (may : Bool) → may_load one ≡ may → helps w.layout.config.scheme ≡ true → HandoverNeeds w i v z → Helped w v z.deal → (w.seat i).phase ≡ Runs reason one
     → out_holds w.layout ((step w i).mem Clock) (rows_after w i v).status (next_deals w i z.deal) (after one (counted (w.seat i).post) (finds w i)).outcome s ≡ true → Holds (step w i) (rows_after w i v) (Helper i) s
 run_loads w i v z reason (Protect aim index root steps at) s may p f n g e h =
     let c = protect_stays w i reason aim index root steps at e in
@@ -133,7 +133,7 @@ run_loads w i v z reason one s true p f n g e h = absurd (cc)
 run_loads w i v z reason one s false p f n g e h =
     absurd (no_truth (sym (other_unheld w.layout ((step w i).mem Clock) (rows_after w i v).status (next_deals w i z.deal) one (counted (w.seat i).post) (finds w i) s p) ∙ h))
 
-phase_loads : (w : World) (i : ℕ) (v : View) (z : Asked) (phase : Phase) (why : Why) (base : Base) (s : ℕ) → is_wfe w.layout.config.scheme ≡ true → HandoverNeeds w i v z → Helped w v z.deal → (w.seat i).phase ≡ phase
+phase_loads : (w : World) (i : ℕ) (v : View) (z : Asked) (phase : Phase) (why : Why) (base : Base) (s : ℕ) → helps w.layout.config.scheme ≡ true → HandoverNeeds w i v z → Helped w v z.deal → (w.seat i).phase ≡ phase
     → phase_left (phase_turn phase (counted (w.seat i).post) (w.seat i).desk (finds w i)).outcome ≡ Runs why base
     → helper_holds w.layout ((step w i).mem Clock) (rows_after w i v).status (next_deals w i z.deal) base s ≡ true → Holds (step w i) (rows_after w i v) (Helper i) s
 phase_loads w i v z Idle why base s f n g e o h = absurd (cc)
@@ -146,7 +146,7 @@ phase_loads w i v z (Runs reason one) why base s f n g e o h =
     run_loads w i v z reason one s (may_load one) refl f n g e
     (resumed_holds w.layout ((step w i).mem Clock) (rows_after w i v).status (next_deals w i z.deal) reason (w.seat i).desk u.post u.told u.outcome why base s o h)
 
-pub own_loaded : (w : World) (i : ℕ) (v : View) (z : Asked) (why : Why) (base : Base) (s : ℕ) → is_wfe w.layout.config.scheme ≡ true → HandoverNeeds w i v z → Helped w v z.deal → ((step w i).seat i).phase ≡ Runs why base
+pub own_loaded : (w : World) (i : ℕ) (v : View) (z : Asked) (why : Why) (base : Base) (s : ℕ) → helps w.layout.config.scheme ≡ true → HandoverNeeds w i v z → Helped w v z.deal → ((step w i).seat i).phase ≡ Runs why base
     → helper_holds w.layout ((step w i).mem Clock) (rows_after w i v).status (next_deals w i z.deal) base s ≡ true → Holds (step w i) (rows_after w i v) (Helper i) s
 own_loaded w i v z why base s f n g e h = phase_loads w i v z (w.seat i).phase why base s f n g refl (sym (stepped_phase w i) ∙ e) h
 
@@ -289,7 +289,7 @@ same_passed w i v z k index s (Passed t j word l e) n h g x q a =
     by r (inl f) = holds_stay w i v (Index k j) s n.covers n.scans f r
     by r (inr f) = absurd (no_truth (handed_once w i v z k j t word l e n f q))
 
-passed_from : (w : World) (i : ℕ) (v : View) (z : Asked) (k index s : ℕ) → is_wfe w.layout.config.scheme ≡ true → HandoverNeeds w i v z → Held w v → Helped w v z.deal → DealStep w i k z.deal → passed_to w.layout (rows_after w i v).status index (next_deals w i z.deal k) s ≡ true → Holds (step w i) (rows_after w i v) (Index k index) s
+passed_from : (w : World) (i : ℕ) (v : View) (z : Asked) (k index s : ℕ) → helps w.layout.config.scheme ≡ true → HandoverNeeds w i v z → Held w v → Helped w v z.deal → DealStep w i k z.deal → passed_to w.layout (rows_after w i v).status index (next_deals w i z.deal k) s ≡ true → Holds (step w i) (rows_after w i v) (Index k index) s
 passed_from w i v z k index s f n h g (SameDeal e) a = same_passed w i v z k index s (z.deal k) n h g e refl (subst (λ (d : Deal). passed_to w.layout (rows_after w i v).status index d s ≡ true) e a)
 passed_from w i v z k index s f n h g (NewAsk why aim place root steps o q e) a = absurd (let x = rw e at a in no_truth x)
 passed_from w i v z k index s f n h g (OwnAnswer why aim place root steps first era link o q e) a = absurd (let x = rw e at a in no_truth x)
@@ -307,5 +307,5 @@ passed_from w i v z k index s f n h g (HandedOver why era t j root link old q m 
     let u = asked_under w i v z k j (link_number w.layout root) n h x (rest_of (leads link s) (under (rows_after w i v).status (root_at w.layout (link_number w.layout root))) c) in
     rw (sym y) (handed_holds w i v z k j s f n g t1 (first_of (leads link s) (under (rows_after w i v).status (root_at w.layout (link_number w.layout root))) c) u)
 
-pub passed_hold : (w : World) (i : ℕ) (v : View) (z : Asked) (k index s : ℕ) → is_wfe w.layout.config.scheme ≡ true → HandoverNeeds w i v z → Held w v → Helped w v z.deal → passed_to w.layout (rows_after w i v).status index (next_deals w i z.deal k) s ≡ true → Holds (step w i) (rows_after w i v) (Index k index) s
+pub passed_hold : (w : World) (i : ℕ) (v : View) (z : Asked) (k index s : ℕ) → helps w.layout.config.scheme ≡ true → HandoverNeeds w i v z → Held w v → Helped w v z.deal → passed_to w.layout (rows_after w i v).status index (next_deals w i z.deal k) s ≡ true → Holds (step w i) (rows_after w i v) (Index k index) s
 passed_hold w i v z k index s f n h g a = passed_from w i v z k index s f n h g (deal_step w i k z.deal) a

@@ -9,7 +9,7 @@ use Rattle.inv_covers.specs.model.Posts.{stands}
 use Rattle.inv_covers.specs.model.Phases.{Base}
 use Rattle.inv_covers.specs.model.Calls.{Why, Runs}
 use Rattle.inv_covers.specs.model.World.{World, step, finds}
-use Rattle.inv_covers.specs.words.Schemes.{is_wfe}
+use Rattle.inv_covers.specs.words.Schemes.{helps}
 use Rattle.inv_requests.specs.NextDeals.{next_deals}
 use Rattle.inv_requests.specs.Views.{View as Asked}
 use Rattle.inv_covers.specs.rows.Rows.{View}
@@ -23,27 +23,27 @@ use Rattle.inv_handover.specs.Handover.{HandoverNeeds, HandoverKept, AnsweredRow
 use Rattle.inv_covers.proofs.Kept.{not_reused}
 use Rattle.inv_handover.proofs.Others.{other_stands, other_tries_hold, other_loaded}
 use Rattle.inv_handover.proofs.Helps.{own_loaded, answers_hold, passed_hold}
-use Rattle.inv_handover.proofs.Shown.{wfe_guard}
+use Rattle.inv_handover.proofs.Shown.{helped_guard}
 use Rattle.inv_handover.proofs.Own.{own_stands, own_tries}
 
-own_holds : (w : World) (i : ℕ) (v : View) (k j s : ℕ) → is_wfe w.layout.config.scheme ≡ true → Holds (step w i) (rows_after w i v) (Index k j) s → Holds (step w i) (rows_after w i v) (own_guard w.layout.config.scheme k j) s
-own_holds w i v k j s f h = subst (λ (g : Guard). Holds (step w i) (rows_after w i v) g s) (sym (wfe_guard w.layout.config.scheme k j f)) h
+own_holds : (w : World) (i : ℕ) (v : View) (k j s : ℕ) → helps w.layout.config.scheme ≡ true → Holds (step w i) (rows_after w i v) (Index k j) s → Holds (step w i) (rows_after w i v) (own_guard w.layout.config.scheme k j) s
+own_holds w i v k j s f h = subst (λ (g : Guard). Holds (step w i) (rows_after w i v) g s) (sym (helped_guard w.layout.config.scheme k j f)) h
 
 -- each seat, by whether it is the one that steps
-stands_at : (w : World) (i : ℕ) (v : View) (z : Asked) (k j s : ℕ) (own : Bool) → (k == i) ≡ own → is_wfe w.layout.config.scheme ≡ true → HandoverNeeds w i v z → Held w v → Helped w v z.deal → stands ((step w i).seat k).post j ≡ Some s → Holds (step w i) (rows_after w i v) (Index k j) s
+stands_at : (w : World) (i : ℕ) (v : View) (z : Asked) (k j s : ℕ) (own : Bool) → (k == i) ≡ own → helps w.layout.config.scheme ≡ true → HandoverNeeds w i v z → Held w v → Helped w v z.deal → stands ((step w i).seat k).post j ≡ Some s → Holds (step w i) (rows_after w i v) (Index k j) s
 stands_at w i v z k j s true o f n h g y =
     let q : k ≡ i = grind (arith, nat_tests) in
     subst (λ (m : ℕ). stands ((step w i).seat m).post j ≡ Some s → Holds (step w i) (rows_after w i v) (Index m j) s) (sym q) (own_stands w i v z j s f n h g) y
 stands_at w i v z k j s false o f n h g y = other_stands w i v z k j s o f n h y
 
-tries_at : (w : World) (i : ℕ) (v : View) (z : Asked) (k : ℕ) (why : Why) (base : Base) (s : ℕ) (own : Bool) → (k == i) ≡ own → is_wfe w.layout.config.scheme ≡ true → HandoverNeeds w i v z → Held w v → Helped w v z.deal → ((step w i).seat k).phase ≡ Runs why base → tries_base ((step w i).mem Clock) (rows_after w i v).status ((step w i).seat k).post base s ≡ true
+tries_at : (w : World) (i : ℕ) (v : View) (z : Asked) (k : ℕ) (why : Why) (base : Base) (s : ℕ) (own : Bool) → (k == i) ≡ own → helps w.layout.config.scheme ≡ true → HandoverNeeds w i v z → Held w v → Helped w v z.deal → ((step w i).seat k).phase ≡ Runs why base → tries_base ((step w i).mem Clock) (rows_after w i v).status ((step w i).seat k).post base s ≡ true
     → Holds (step w i) (rows_after w i v) (Index k (index_base base)) s
 tries_at w i v z k why base s true o f n h g e t =
     let q : k ≡ i = grind (arith, nat_tests) in
     subst (λ (m : ℕ). ((step w i).seat m).phase ≡ Runs why base → tries_base ((step w i).mem Clock) (rows_after w i v).status ((step w i).seat m).post base s ≡ true → Holds (step w i) (rows_after w i v) (Index m (index_base base)) s) (sym q) (own_tries w i v z why base s f n h g) e t
 tries_at w i v z k why base s false o f n h g e t = other_tries_hold w i v z k why base s o f n h e t
 
-loaded_at : (w : World) (i : ℕ) (v : View) (z : Asked) (k : ℕ) (why : Why) (base : Base) (s : ℕ) (own : Bool) → (k == i) ≡ own → is_wfe w.layout.config.scheme ≡ true → HandoverNeeds w i v z → Held w v → Helped w v z.deal → ((step w i).seat k).phase ≡ Runs why base
+loaded_at : (w : World) (i : ℕ) (v : View) (z : Asked) (k : ℕ) (why : Why) (base : Base) (s : ℕ) (own : Bool) → (k == i) ≡ own → helps w.layout.config.scheme ≡ true → HandoverNeeds w i v z → Held w v → Helped w v z.deal → ((step w i).seat k).phase ≡ Runs why base
     → helper_holds w.layout ((step w i).mem Clock) (rows_after w i v).status (next_deals w i z.deal) base s ≡ true → Holds (step w i) (rows_after w i v) (Helper k) s
 loaded_at w i v z k why base s true o f n h g e t =
     let q : k ≡ i = grind (arith, nat_tests) in

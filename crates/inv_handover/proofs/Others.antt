@@ -1,25 +1,24 @@
 -- What the words of the other seats hold after a step held before it.
-use Rattle.std.proofs.Common.{ℕ, ◌≡◌, ◌≤◌, ◌<◌, ◌∙◌, Bool, true, false, Option, Some, None, refl, ap, sym, subst, arith, ◌&&◌}
+use Rattle.std.proofs.Common.{ℕ, ◌≡◌, ◌≤◌, ◌<◌, ◌∙◌, Bool, true, false, Some, refl, ap, sym, subst, arith, ◌&&◌}
 use Rattle.std.proofs.lemmas.Bool.Decides.{nat_tests}
 use Rattle.std.specs.Prelude.{◌==◌, ◌||◌, nat_lt}
 use Rattle.inv_covers.specs.words.Place.{has}
 use Rattle.inv_covers.specs.words.Place.Place.{Clock}
 use Rattle.inv_covers.specs.defs.declared.event.Guard.TheVariants.{Helper, Index}
 use Rattle.inv_covers.specs.defs.declared.event.Root.{Root}
-use Rattle.inv_covers.specs.defs.declared.lifetime.Interval.{Interval}
 use Rattle.inv_covers.specs.model.declared.post.Post.{Post}
 use Rattle.inv_covers.specs.model.Links.{link_place, link_number, root_at}
 use Rattle.inv_covers.specs.model.Posts.{stands, tag_of, upper}
 use Rattle.inv_covers.specs.model.Phases.{Aim, ProtectAt, MoveAt, Base}
-use Rattle.inv_covers.specs.model.Phases.ProtectAt.{LoadClock, PublishEra, LoadLink, CheckClock, PublishRequest, LoadOwnClock, PublishHelper, LoadOwnLink, CheckOwnClock, AnswerOwn, LoadAnswer, TakeAnswer, WithdrawRequest, WithdrawHelper, LoadWithin, CheckUpper, RaiseUpper}
+use Rattle.inv_covers.specs.model.Phases.ProtectAt.{CheckClock, PublishRequest, CheckOwnClock, AnswerOwn}
 use Rattle.inv_covers.specs.model.Phases.MoveAt.{CheckEra, AnswerAsked}
 use Rattle.inv_covers.specs.model.Phases.Base.{Protect, Move}
 use Rattle.inv_covers.specs.model.Calls.{Why, Phase, Idle, Runs, Scans, Works}
 use Rattle.inv_covers.specs.model.Locals.{Local}
 use Rattle.inv_covers.specs.model.World.{World, step}
 use Rattle.inv_covers.proofs.model.Roots.{root_at_link}
-use Rattle.inv_covers.specs.shapes.Eras.{Eras, SpanIn, protect_eras, PhaseEras}
-use Rattle.inv_covers.specs.words.Schemes.{is_wfe}
+use Rattle.inv_covers.specs.shapes.Eras.{Eras, protect_eras, PhaseEras}
+use Rattle.inv_covers.specs.words.Schemes.{helps}
 use Rattle.inv_covers.proofs.shapes.Frame.{seat_stays}
 use Rattle.inv_covers.proofs.shapes.Decode.{clock_next}
 use Rattle.inv_requests.specs.Deals.{is_quiet, asked_at, asked_by}
@@ -55,28 +54,13 @@ other_helper i k (Runs why base) o = rw o refl
 other_helper i k (Scans later at) o = refl
 other_helper i k (Works work) o = refl
 
-pub other_stands : (w : World) (i : ℕ) (v : View) (z : Asked) (k j s : ℕ) → (k == i) ≡ false → is_wfe w.layout.config.scheme ≡ true → HandoverNeeds w i v z → Held w v → stands ((step w i).seat k).post j ≡ Some s → Holds (step w i) (rows_after w i v) (Index k j) s
+pub other_stands : (w : World) (i : ℕ) (v : View) (z : Asked) (k j s : ℕ) → (k == i) ≡ false → helps w.layout.config.scheme ≡ true → HandoverNeeds w i v z → Held w v → stands ((step w i).seat k).post j ≡ Some s → Holds (step w i) (rows_after w i v) (Index k j) s
 other_stands w i v z k j s o f n d y =
     stood_stays w i v z k j s (w.seat i).phase f n d refl (other_index i k j (w.seat i).phase o) (subst (λ (l : Local). stands l.post j ≡ Some s) (seat_stays w i k o) y)
 
 protect_low : (w : World) (k : ℕ) (post : Post) (at : ProtectAt) → upper post.span ≤ w.mem Clock → protect_eras (w.mem Clock) post at → era_protect post at ≤ w.mem Clock
 protect_low w k post (CheckClock era tries link) u e = let q = e.most in omega (arith, q)
-protect_low w k post (LoadClock tries) u e = u
-protect_low w k post (PublishEra era tries) u e = u
-protect_low w k post (LoadLink era tries) u e = u
-protect_low w k post PublishRequest u e = u
-protect_low w k post LoadOwnClock u e = u
-protect_low w k post (PublishHelper first era last) u e = u
-protect_low w k post (LoadOwnLink first era last) u e = u
-protect_low w k post (CheckOwnClock first era last link) u e = u
-protect_low w k post (AnswerOwn first era link) u e = u
-protect_low w k post (LoadAnswer first) u e = u
-protect_low w k post (TakeAnswer link era) u e = u
-protect_low w k post (WithdrawRequest link era) u e = u
-protect_low w k post (WithdrawHelper link era) u e = u
-protect_low w k post LoadWithin u e = u
-protect_low w k post (CheckUpper link) u e = u
-protect_low w k post (RaiseUpper era) u e = u
+protect_low w k post at u e = u
 
 base_low : (w : World) (k : ℕ) (why : Why) (base : Base) → Eras w → (w.seat k).phase ≡ Runs why base → era_base (w.seat k).post base ≤ w.mem Clock
 base_low w k why (Protect aim index root steps at) n e =
@@ -88,7 +72,7 @@ tries_before w i v z k why base s n d e t =
     tries_back (w.mem Clock) ((step w i).mem Clock) v.status (rows_after w i v).status (w.seat k).post base s (clock_next w i n.eras).rises (base_low w k why base n.eras e)
     (λ p r q. stood_back w i v k p n.covers d (followed_rows_stand w k why base p n.seats n.parents e r) q) t
 
-pub other_tries_hold : (w : World) (i : ℕ) (v : View) (z : Asked) (k : ℕ) (why : Why) (base : Base) (s : ℕ) → (k == i) ≡ false → is_wfe w.layout.config.scheme ≡ true → HandoverNeeds w i v z → Held w v → ((step w i).seat k).phase ≡ Runs why base → tries_base ((step w i).mem Clock) (rows_after w i v).status ((step w i).seat k).post base s ≡ true
+pub other_tries_hold : (w : World) (i : ℕ) (v : View) (z : Asked) (k : ℕ) (why : Why) (base : Base) (s : ℕ) → (k == i) ≡ false → helps w.layout.config.scheme ≡ true → HandoverNeeds w i v z → Held w v → ((step w i).seat k).phase ≡ Runs why base → tries_base ((step w i).mem Clock) (rows_after w i v).status ((step w i).seat k).post base s ≡ true
     → Holds (step w i) (rows_after w i v) (Index k (index_base base)) s
 other_tries_hold w i v z k why base s o f n d e t =
     let q : (w.seat k).phase ≡ Runs why base = sym (ap (λ (l : Local). l.phase) (seat_stays w i k o)) ∙ e in

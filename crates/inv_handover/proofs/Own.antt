@@ -25,7 +25,7 @@ use Rattle.inv_covers.specs.model.Calls.{Why, Opens, FollowsHead, Fills, ClearsN
 use Rattle.inv_covers.specs.model.World.{World, step, finds}
 use Rattle.inv_covers.proofs.model.Ranges.{bounds_of}
 use Rattle.inv_covers.specs.shapes.Frame.{phase_left}
-use Rattle.inv_covers.specs.words.Schemes.{is_wfe}
+use Rattle.inv_covers.specs.words.Schemes.{helps}
 use Rattle.inv_covers.specs.shapes.Seats.{Run}
 use Rattle.inv_requests.specs.Views.{View as Asked}
 use Rattle.inv_covers.specs.rows.Rows.{Status, View}
@@ -49,7 +49,7 @@ use Rattle.inv_handover.proofs.Asks.{Asker, asker, run_of, asker_rests, asker_un
 use Rattle.inv_handover.proofs.Back.{inside_of}
 use Rattle.inv_handover.proofs.Deals.{handed_deal}
 use Rattle.inv_handover.proofs.Words.{stores_protect, own_index, Handed, index_stays}
-use Rattle.inv_handover.proofs.Shown.{index_shows, one_from, wfe_guard, index_fits, holds_stay, no_store, taken_holds}
+use Rattle.inv_handover.proofs.Shown.{index_shows, one_from, helped_guard, index_fits, holds_stay, no_store, taken_holds}
 use Rattle.inv_requests.proofs.Known.{stands_as}
 use Rattle.inv_covers.proofs.model.Facts.{no_truth}
 
@@ -60,22 +60,22 @@ no_row x s a b = absurd (cc)
 handed_asker : (w : World) (i : ℕ) (v : View) (z : Asked) (k j : ℕ) → HandoverNeeds w i v z → (h : Handed w i k j) → Asker w k j (link_number w.layout h.root)
 handed_asker w i v z k j n h = asker w z k j (link_number w.layout h.root) n.requests (rw (handed_deal w i v z k j n h) (grind (arith, nat_tests)))
 
-wfe_holds : (w : World) (v : View) (k j s : ℕ) → is_wfe w.layout.config.scheme ≡ true → Holds w v (own_guard w.layout.config.scheme k j) s → Holds w v (Index k j) s
-wfe_holds w v k j s f h = subst (λ (g : Guard). Holds w v g s) (wfe_guard w.layout.config.scheme k j f) h
+helped_holds : (w : World) (v : View) (k j s : ℕ) → helps w.layout.config.scheme ≡ true → Holds w v (own_guard w.layout.config.scheme k j) s → Holds w v (Index k j) s
+helped_holds w v k j s f h = subst (λ (g : Guard). Holds w v g s) (helped_guard w.layout.config.scheme k j f) h
 
 -- a row that stands at an index whose word its own seat leaves
-pub stood_stays : (w : World) (i : ℕ) (v : View) (z : Asked) (k j s : ℕ) (phase : Phase) → is_wfe w.layout.config.scheme ≡ true → HandoverNeeds w i v z → Held w v → (w.seat i).phase ≡ phase → own_index i phase k j ≡ false → stands (w.seat k).post j ≡ Some s → Holds (step w i) (rows_after w i v) (Index k j) s
+pub stood_stays : (w : World) (i : ℕ) (v : View) (z : Asked) (k j s : ℕ) (phase : Phase) → helps w.layout.config.scheme ≡ true → HandoverNeeds w i v z → Held w v → (w.seat i).phase ≡ phase → own_index i phase k j ≡ false → stands (w.seat k).post j ≡ Some s → Holds (step w i) (rows_after w i v) (Index k j) s
 stood_stays w i v z k j s phase f n d e o y = by (index_stays w i k j phase (n.seats.fits i).post.seat e o) where
   by : (shown (step w i) (Index k j) ≡ shown w (Index k j)) ⊎ Handed w i k j → Holds (step w i) (rows_after w i v) (Index k j) s
-  by (inl q) = holds_stay w i v (Index k j) s n.covers n.scans q (wfe_holds w v k j s f (d.stood k j s y))
+  by (inl q) = holds_stay w i v (Index k j) s n.covers n.scans q (helped_holds w v k j s f (d.stood k j s y))
   by (inr h) = absurd (no_truth (no_row (stands (w.seat k).post j) s (asker_rests w k j (link_number w.layout h.root) n.seats n.rests (handed_asker w i v z k j n h)) y))
 
 -- a row that is tried
-pub tried_stays : (w : World) (i : ℕ) (v : View) (z : Asked) (k : ℕ) (why : Why) (base : Base) (s : ℕ) (phase : Phase) → is_wfe w.layout.config.scheme ≡ true → HandoverNeeds w i v z → Held w v → (w.seat i).phase ≡ phase → own_index i phase k (index_base base) ≡ false
+pub tried_stays : (w : World) (i : ℕ) (v : View) (z : Asked) (k : ℕ) (why : Why) (base : Base) (s : ℕ) (phase : Phase) → helps w.layout.config.scheme ≡ true → HandoverNeeds w i v z → Held w v → (w.seat i).phase ≡ phase → own_index i phase k (index_base base) ≡ false
     → (w.seat k).phase ≡ Runs why base → tries_base (w.mem Clock) v.status (w.seat k).post base s ≡ true → Holds (step w i) (rows_after w i v) (Index k (index_base base)) s
 tried_stays w i v z k why base s phase f n d e o q y = by (index_stays w i k (index_base base) phase (n.seats.fits i).post.seat e o) where
   by : (shown (step w i) (Index k (index_base base)) ≡ shown w (Index k (index_base base))) ⊎ Handed w i k (index_base base) → Holds (step w i) (rows_after w i v) (Index k (index_base base)) s
-  by (inl x) = holds_stay w i v (Index k (index_base base)) s n.covers n.scans x (wfe_holds w v k (index_base base) s f (d.tried k why base s q y))
+  by (inl x) = holds_stay w i v (Index k (index_base base)) s n.covers n.scans x (helped_holds w v k (index_base base) s f (d.tried k why base s q y))
   by (inr h) = absurd (no_truth (sym (asker_untried w v k (index_base base) (link_number w.layout h.root) why base s (handed_asker w i v z k (index_base base) n h) q) ∙ y))
 
 -- the own index word, by what the step stores
@@ -87,7 +87,7 @@ own_apart i true h = refl
 own_apart i false h = grind (arith, nat_tests)
 
 -- where an era is published or an answer taken nothing stood
-protect_left : (w : World) (i : ℕ) (v : View) (z : Asked) (why : Why) (aim : Aim) (index : ℕ) (root : Root) (steps : ℕ) (at : ProtectAt) (j s : ℕ) (own : Bool) → is_wfe w.layout.config.scheme ≡ true → HandoverNeeds w i v z → Held w v → (w.seat i).phase ≡ Runs why (Protect aim index root steps at) → stores_protect index at j ≡ own → stands (w.seat i).post j ≡ Some s → Holds (step w i) (rows_after w i v) (Index i j) s
+protect_left : (w : World) (i : ℕ) (v : View) (z : Asked) (why : Why) (aim : Aim) (index : ℕ) (root : Root) (steps : ℕ) (at : ProtectAt) (j s : ℕ) (own : Bool) → helps w.layout.config.scheme ≡ true → HandoverNeeds w i v z → Held w v → (w.seat i).phase ≡ Runs why (Protect aim index root steps at) → stores_protect index at j ≡ own → stands (w.seat i).post j ≡ Some s → Holds (step w i) (rows_after w i v) (Index i j) s
 protect_left w i v z why aim index root steps at j s false f n d e o y = stood_stays w i v z i j s (Runs why (Protect aim index root steps at)) f n d e (own_stores i (stores_protect index at j) o) y
 protect_left w i v z why aim index root steps at j s true f n d e o y =
     let x : Vacant (vacant_why why (Protect aim index root steps at)) (w.seat i).post = subst (λ (p : Phase). Vacant (vacant p) (w.seat i).post) e (n.rests.vacant i) in
@@ -110,12 +110,12 @@ loads_apart clock status mem index root (TakeAnswer link era) s h = absurd (cc)
 loads_apart clock status mem index root at s h = refl
 
 -- an answer is taken
-takes_holds : (w : World) (i : ℕ) (v : View) (z : Asked) (why : Why) (aim : Aim) (index : ℕ) (root : Root) (steps : ℕ) (at : ProtectAt) (s : ℕ) → is_wfe w.layout.config.scheme ≡ true → HandoverNeeds w i v z → Helped w v z.deal → (w.seat i).phase ≡ Runs why (Protect aim index root steps at) → takes_row v.status root at s ≡ true → Holds (step w i) (rows_after w i v) (Index i index) s
+takes_holds : (w : World) (i : ℕ) (v : View) (z : Asked) (why : Why) (aim : Aim) (index : ℕ) (root : Root) (steps : ℕ) (at : ProtectAt) (s : ℕ) → helps w.layout.config.scheme ≡ true → HandoverNeeds w i v z → Helped w v z.deal → (w.seat i).phase ≡ Runs why (Protect aim index root steps at) → takes_row v.status root at s ≡ true → Holds (step w i) (rows_after w i v) (Index i index) s
 takes_holds w i v z why aim index root steps (TakeAnswer link era) s f n d e h = taken_holds w i v z why aim index root steps link era s f n d e (grind (arith, nat_tests)) (grind (arith, nat_tests))
 takes_holds w i v z why aim index root steps at s f n d e h = absurd (cc)
 
 -- a link is loaded in a try
-load_holds : (w : World) (i : ℕ) (v : View) (z : Asked) (why : Why) (aim : Aim) (index : ℕ) (root : Root) (steps : ℕ) (at : ProtectAt) (s : ℕ) → is_wfe w.layout.config.scheme ≡ true → HandoverNeeds w i v z → (w.seat i).phase ≡ Runs why (Protect aim index root steps at) → try_loads (w.mem Clock) v.status w.mem root at s ≡ true → Holds w v (Index i index) s
+load_holds : (w : World) (i : ℕ) (v : View) (z : Asked) (why : Why) (aim : Aim) (index : ℕ) (root : Root) (steps : ℕ) (at : ProtectAt) (s : ℕ) → helps w.layout.config.scheme ≡ true → HandoverNeeds w i v z → (w.seat i).phase ≡ Runs why (Protect aim index root steps at) → try_loads (w.mem Clock) v.status w.mem root at s ≡ true → Holds w v (Index i index) s
 load_holds w i v z why aim index root steps (LoadLink era tries) s f n e h =
     let r = stands_as w z i (Runs why (Protect aim index root steps (LoadLink era tries))) n.requests e in
     let p : (z.era i index == era) ≡ true = rw r at (n.requests.parts.published i) in
@@ -139,7 +139,7 @@ still_index w i v z why aim index root steps at j n e o = by (index_stays w i i 
   by (inl q) = q
   by (inr h) = absurd (no_phase h.why why h.era i h.tag j h.root h.link h.old aim index root steps at (sym h.is ∙ e))
 
-load_stays : (w : World) (i : ℕ) (v : View) (z : Asked) (why : Why) (aim : Aim) (index : ℕ) (root : Root) (steps : ℕ) (at : ProtectAt) (s : ℕ) → is_wfe w.layout.config.scheme ≡ true → HandoverNeeds w i v z → (w.seat i).phase ≡ Runs why (Protect aim index root steps at) → try_loads (w.mem Clock) v.status w.mem root at s ≡ true → Holds (step w i) (rows_after w i v) (Index i index) s
+load_stays : (w : World) (i : ℕ) (v : View) (z : Asked) (why : Why) (aim : Aim) (index : ℕ) (root : Root) (steps : ℕ) (at : ProtectAt) (s : ℕ) → helps w.layout.config.scheme ≡ true → HandoverNeeds w i v z → (w.seat i).phase ≡ Runs why (Protect aim index root steps at) → try_loads (w.mem Clock) v.status w.mem root at s ≡ true → Holds (step w i) (rows_after w i v) (Index i index) s
 load_stays w i v z why aim index root steps at s f n e h =
     holds_stay w i v (Index i index) s n.covers n.scans (still_index w i v z why aim index root steps at index n e (loads_apart (w.mem Clock) v.status w.mem index root at s h)) (load_holds w i v z why aim index root steps at s f n e h)
 
@@ -166,7 +166,7 @@ reload_index layout Advances parent index slot era steps post r = absurd (no_tru
 reload_index layout (Releases key) parent index slot era steps post r = absurd (no_truth r.suited)
 
 -- what stands after a protection's step
-rose_holds : (w : World) (i : ℕ) (v : View) (z : Asked) (why : Why) (aim : Aim) (index : ℕ) (root : Root) (steps : ℕ) (at : ProtectAt) (j s : ℕ) → is_wfe w.layout.config.scheme ≡ true → HandoverNeeds w i v z → Held w v → Helped w v z.deal → (w.seat i).phase ≡ Runs why (Protect aim index root steps at)
+rose_holds : (w : World) (i : ℕ) (v : View) (z : Asked) (why : Why) (aim : Aim) (index : ℕ) (root : Root) (steps : ℕ) (at : ProtectAt) (j s : ℕ) → helps w.layout.config.scheme ≡ true → HandoverNeeds w i v z → Held w v → Helped w v z.deal → (w.seat i).phase ≡ Runs why (Protect aim index root steps at)
     → Rose (w.mem Clock) v.status (counted (w.seat i).post) index root at j s → Holds (step w i) (rows_after w i v) (Index i j) s
 rose_holds w i v z why aim index root steps at j s f n d g e (inl y) = protect_left w i v z why aim index root steps at j s (stores_protect index at j) f n d e refl y
 rose_holds w i v z why aim index root steps at j s f n d g e (inr y) = rw y.0 (by y.1) where
@@ -176,7 +176,7 @@ rose_holds w i v z why aim index root steps at j s f n d g e (inr y) = rw y.0 (b
       tried_stays w i v z i why (Protect aim index root steps at) s (Runs why (Protect aim index root steps at)) f n d e (own_stores i (stores_protect index at index) (tried_apart (w.mem Clock) v.status (w.seat i).post index root at s t)) e t
   by (inr x) = takes_holds w i v z why aim index root steps at s f n g e x
 
-protect_holds : (w : World) (i : ℕ) (v : View) (z : Asked) (why : Why) (aim : Aim) (index : ℕ) (root : Root) (steps : ℕ) (at : ProtectAt) (j s : ℕ) → is_wfe w.layout.config.scheme ≡ true → HandoverNeeds w i v z → Held w v → Helped w v z.deal → (w.seat i).phase ≡ Runs why (Protect aim index root steps at)
+protect_holds : (w : World) (i : ℕ) (v : View) (z : Asked) (why : Why) (aim : Aim) (index : ℕ) (root : Root) (steps : ℕ) (at : ProtectAt) (j s : ℕ) → helps w.layout.config.scheme ≡ true → HandoverNeeds w i v z → Held w v → Helped w v z.deal → (w.seat i).phase ≡ Runs why (Protect aim index root steps at)
     → stands (after (Protect aim index root steps at) (counted (w.seat i).post) (finds w i)).post j ≡ Some s → Holds (step w i) (rows_after w i v) (Index i j) s
 protect_holds w i v z why aim index root steps at j s f n d g e y =
     let x = finds_at w i (Runs why (Protect aim index root steps at)) e in
@@ -185,7 +185,7 @@ protect_holds w i v z why aim index root steps at j s f n d g e y =
     (protect_rose (w.mem Clock) v.status w.layout.config.scheme w.layout.config.tries w.mem aim index root (bump steps) at (counted (w.seat i).post) (w.seat i).post j s refl f (run_of w i why (Protect aim index root steps at) n.seats e).fits (index_small w i v z why aim index root steps at n e) t)
 
 -- a followed row is held from the reload on
-reload_holds : (w : World) (i : ℕ) (v : View) (z : Asked) (why : Why) (parent index slot era steps : ℕ) (j s : ℕ) → is_wfe w.layout.config.scheme ≡ true → HandoverNeeds w i v z → Held w v → (w.seat i).phase ≡ Runs why (Reload parent index slot era steps)
+reload_holds : (w : World) (i : ℕ) (v : View) (z : Asked) (why : Why) (parent index slot era steps : ℕ) (j s : ℕ) → helps w.layout.config.scheme ≡ true → HandoverNeeds w i v z → Held w v → (w.seat i).phase ≡ Runs why (Reload parent index slot era steps)
     → (stands (counted (w.seat i).post) j ≡ Some s) ⊎ ((j ≡ index) × ((slot == s && in_queue (v.status parent)) ≡ true)) → Holds (step w i) (rows_after w i v) (Index i j) s
 reload_holds w i v z why parent index slot era steps j s f n d e (inl y) = stood_stays w i v z i j s (Runs why (Reload parent index slot era steps)) f n d e (no_store i i) y
 reload_holds w i v z why parent index slot era steps j s f n d e (inr y) = rw y.0 (tried_stays w i v z i why (Reload parent index slot era steps) s (Runs why (Reload parent index slot era steps)) f n d e (no_store i i) e y.1)
@@ -200,7 +200,7 @@ reload_from w i v z why parent index slot era steps j s n e y =
     reload_stood v.status parent index slot (w.mem Head) (bump steps) (counted (w.seat i).post) j s (w.mem Head == parent + 1) refl (omega (arith, o, l)) (λ q. head_queued w v parent n.covers.rows q) t
 
 -- a machine of the seat that steps
-base_holds : (w : World) (i : ℕ) (v : View) (z : Asked) (why : Why) (base : Base) (j s : ℕ) → is_wfe w.layout.config.scheme ≡ true → HandoverNeeds w i v z → Held w v → Helped w v z.deal → (w.seat i).phase ≡ Runs why base
+base_holds : (w : World) (i : ℕ) (v : View) (z : Asked) (why : Why) (base : Base) (j s : ℕ) → helps w.layout.config.scheme ≡ true → HandoverNeeds w i v z → Held w v → Helped w v z.deal → (w.seat i).phase ≡ Runs why base
     → stands (after base (counted (w.seat i).post) (finds w i)).post j ≡ Some s → Holds (step w i) (rows_after w i v) (Index i j) s
 base_holds w i v z why (Begin at) j s f n d g e y = stood_stays w i v z i j s (Runs why (Begin at)) f n d e (no_store i i) (begin_stood at (finds w i) (counted (w.seat i).post) j s y)
 base_holds w i v z why (Protect aim index root steps at) j s f n d g e y = protect_holds w i v z why aim index root steps at j s f n d g e y
@@ -215,19 +215,19 @@ base_holds w i v z why (GiveUp slot) j s f n d g e y = stood_stays w i v z i j s
 base_holds w i v z why (Retire at) j s f n d g e y = stood_stays w i v z i j s (Runs why (Retire at)) f n d e (no_store i i) (retire_stood at (finds w i) (counted (w.seat i).post) j s y)
 base_holds w i v z why (Move at) j s f n d g e y = stood_stays w i v z i j s (Runs why (Move at)) f n d e (no_store i i) (move_stood at (finds w i) (counted (w.seat i).post) j s y)
 
-from_holds : (w : World) (i : ℕ) (v : View) (z : Asked) (phase : Phase) (j s : ℕ) → is_wfe w.layout.config.scheme ≡ true → HandoverNeeds w i v z → Held w v → Helped w v z.deal → (w.seat i).phase ≡ phase → From phase (w.seat i).post (finds w i) j s → Holds (step w i) (rows_after w i v) (Index i j) s
+from_holds : (w : World) (i : ℕ) (v : View) (z : Asked) (phase : Phase) (j s : ℕ) → helps w.layout.config.scheme ≡ true → HandoverNeeds w i v z → Held w v → Helped w v z.deal → (w.seat i).phase ≡ phase → From phase (w.seat i).post (finds w i) j s → Holds (step w i) (rows_after w i v) (Index i j) s
 from_holds w i v z Idle j s f n d g e y = stood_stays w i v z i j s Idle f n d e refl y
 from_holds w i v z (Runs why base) j s f n d g e y = base_holds w i v z why base j s f n d g e y
 from_holds w i v z (Scans later at) j s f n d g e y = stood_stays w i v z i j s (Scans later at) f n d e refl y
 from_holds w i v z (Works work) j s f n d g e y = stood_stays w i v z i j s (Works work) f n d e refl y
 
 -- what stands at an index of the seat that steps
-pub own_stands : (w : World) (i : ℕ) (v : View) (z : Asked) (j s : ℕ) → is_wfe w.layout.config.scheme ≡ true → HandoverNeeds w i v z → Held w v → Helped w v z.deal → stands ((step w i).seat i).post j ≡ Some s → Holds (step w i) (rows_after w i v) (Index i j) s
+pub own_stands : (w : World) (i : ℕ) (v : View) (z : Asked) (j s : ℕ) → helps w.layout.config.scheme ≡ true → HandoverNeeds w i v z → Held w v → Helped w v z.deal → stands ((step w i).seat i).post j ≡ Some s → Holds (step w i) (rows_after w i v) (Index i j) s
 own_stands w i v z j s f n d g y =
     from_holds w i v z (w.seat i).phase j s f n d g refl (turn_from (w.seat i).phase (w.seat i).post (w.seat i).desk (finds w i) j s (subst (λ (p : Post). stands p j ≡ Some s) (stepped_post w i) y))
 
 -- a try of the seat that steps
-next_holds : (w : World) (i : ℕ) (v : View) (z : Asked) (why : Why) (aim : Aim) (index : ℕ) (root : Root) (steps : ℕ) (at : ProtectAt) (s : ℕ) → is_wfe w.layout.config.scheme ≡ true → HandoverNeeds w i v z → Held w v → Helped w v z.deal → (w.seat i).phase ≡ Runs why (Protect aim index root steps at)
+next_holds : (w : World) (i : ℕ) (v : View) (z : Asked) (why : Why) (aim : Aim) (index : ℕ) (root : Root) (steps : ℕ) (at : ProtectAt) (s : ℕ) → helps w.layout.config.scheme ≡ true → HandoverNeeds w i v z → Held w v → Helped w v z.deal → (w.seat i).phase ≡ Runs why (Protect aim index root steps at)
     → (tries_protect (w.mem Clock) v.status (counted (w.seat i).post) root at s ≡ true) ⊎ ((try_loads (w.mem Clock) v.status w.mem root at s ≡ true) ⊎ (takes_row v.status root at s ≡ true)) → Holds (step w i) (rows_after w i v) (Index i index) s
 next_holds w i v z why aim index root steps at s f n d g e (inl x) =
     let t = sym (tries_counted (w.mem Clock) v.status (w.seat i).post (Protect aim index root steps at) s) ∙ x in
@@ -249,7 +249,7 @@ followed_root layout (Tidies later) aim index root steps at post r e = absurd (n
 followed_root layout Advances aim index root steps at post r e = absurd (no_truth r.suited)
 followed_root layout (Releases key) aim index root steps at post r e = absurd (no_truth r.suited)
 
-protect_comes : (w : World) (i : ℕ) (v : View) (z : Asked) (why : Why) (aim : Aim) (index : ℕ) (root : Root) (steps : ℕ) (at : ProtectAt) (base : Base) (s : ℕ) → is_wfe w.layout.config.scheme ≡ true → HandoverNeeds w i v z → Held w v → Helped w v z.deal → (w.seat i).phase ≡ Runs why (Protect aim index root steps at)
+protect_comes : (w : World) (i : ℕ) (v : View) (z : Asked) (why : Why) (aim : Aim) (index : ℕ) (root : Root) (steps : ℕ) (at : ProtectAt) (base : Base) (s : ℕ) → helps w.layout.config.scheme ≡ true → HandoverNeeds w i v z → Held w v → Helped w v z.deal → (w.seat i).phase ≡ Runs why (Protect aim index root steps at)
     → Comes (w.mem Clock) v.status ((step w i).seat i).post (after (Protect aim index root steps at) (counted (w.seat i).post) (finds w i)).outcome base s
     → Holds (step w i) (rows_after w i v) (Index i (index_base base)) s
 protect_comes w i v z why aim index root steps at base s f n d g e c =
@@ -259,7 +259,7 @@ protect_comes w i v z why aim index root steps at base s f n d g e c =
     let q = protect_next (w.mem Clock) v.status w.layout.config.scheme w.layout.config.tries w.mem aim index root (bump steps) at (counted (w.seat i).post) (w.seat i).post ((step w i).seat i).post s refl f r.fits (followed_root w.layout why aim index root steps at (w.seat i).post r) y.tried in
     rw (sym y.at ∙ q.0) (next_holds w i v z why aim index root steps at s f n d g e q.1)
 
-run_comes : (w : World) (i : ℕ) (v : View) (z : Asked) (reason : Why) (one : Base) (why : Why) (base : Base) (s : ℕ) (own : Bool) → is_protect one ≡ own → is_wfe w.layout.config.scheme ≡ true → HandoverNeeds w i v z → Held w v → Helped w v z.deal → (w.seat i).phase ≡ Runs reason one
+run_comes : (w : World) (i : ℕ) (v : View) (z : Asked) (reason : Why) (one : Base) (why : Why) (base : Base) (s : ℕ) (own : Bool) → is_protect one ≡ own → helps w.layout.config.scheme ≡ true → HandoverNeeds w i v z → Held w v → Helped w v z.deal → (w.seat i).phase ≡ Runs reason one
     → phase_left (phase_turn (Runs reason one) (counted (w.seat i).post) (w.seat i).desk (finds w i)).outcome ≡ Runs why base
     → tries_base ((step w i).mem Clock) (rows_after w i v).status ((step w i).seat i).post base s ≡ true
     → Holds (step w i) (rows_after w i v) (Index i (index_base base)) s
@@ -273,7 +273,7 @@ run_comes w i v z reason one why base s true p f n d g e o t = absurd (cc)
 run_comes w i v z reason one why base s false p f n d g e o t =
     absurd (no_truth (other_comes ((step w i).mem Clock) (rows_after w i v).status ((step w i).seat i).post (counted (w.seat i).post) one base (finds w i) s p (turn_out w i reason one why base ((step w i).mem Clock) (rows_after w i v).status s o t)))
 
-turn_comes : (w : World) (i : ℕ) (v : View) (z : Asked) (phase : Phase) (why : Why) (base : Base) (s : ℕ) → is_wfe w.layout.config.scheme ≡ true → HandoverNeeds w i v z → Held w v → Helped w v z.deal → (w.seat i).phase ≡ phase
+turn_comes : (w : World) (i : ℕ) (v : View) (z : Asked) (phase : Phase) (why : Why) (base : Base) (s : ℕ) → helps w.layout.config.scheme ≡ true → HandoverNeeds w i v z → Held w v → Helped w v z.deal → (w.seat i).phase ≡ phase
     → phase_left (phase_turn phase (counted (w.seat i).post) (w.seat i).desk (finds w i)).outcome ≡ Runs why base
     → tries_base ((step w i).mem Clock) (rows_after w i v).status ((step w i).seat i).post base s ≡ true
     → Holds (step w i) (rows_after w i v) (Index i (index_base base)) s
@@ -284,6 +284,6 @@ turn_comes w i v z (Works work) why base s f n d g e o t =
     absurd (no_truth (out_start ((step w i).mem Clock) (rows_after w i v).status ((step w i).seat i).post (phase_left (work_turn work (counted (w.seat i).post) (w.seat i).desk (finds w i)).outcome) why base s (work_fresh work (counted (w.seat i).post) (w.seat i).desk (finds w i)).starts o t))
 turn_comes w i v z (Runs reason one) why base s f n d g e o t = run_comes w i v z reason one why base s (is_protect one) refl f n d g e o t
 
-pub own_tries : (w : World) (i : ℕ) (v : View) (z : Asked) (why : Why) (base : Base) (s : ℕ) → is_wfe w.layout.config.scheme ≡ true → HandoverNeeds w i v z → Held w v → Helped w v z.deal → ((step w i).seat i).phase ≡ Runs why base → tries_base ((step w i).mem Clock) (rows_after w i v).status ((step w i).seat i).post base s ≡ true
+pub own_tries : (w : World) (i : ℕ) (v : View) (z : Asked) (why : Why) (base : Base) (s : ℕ) → helps w.layout.config.scheme ≡ true → HandoverNeeds w i v z → Held w v → Helped w v z.deal → ((step w i).seat i).phase ≡ Runs why base → tries_base ((step w i).mem Clock) (rows_after w i v).status ((step w i).seat i).post base s ≡ true
     → Holds (step w i) (rows_after w i v) (Index i (index_base base)) s
 own_tries w i v z why base s f n d g e t = turn_comes w i v z (w.seat i).phase why base s f n d g refl (sym (stepped_phase w i) ∙ e) t

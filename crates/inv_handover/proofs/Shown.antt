@@ -7,7 +7,6 @@ use Rattle.inv_covers.specs.words.Packed.{halves, read_reservation}
 use Rattle.inv_covers.specs.words.declared.packed.Reservation.{Reservation}
 use Rattle.inv_covers.specs.words.declared.config.Config.{Config}
 use Rattle.inv_covers.specs.words.declared.config.SchemeKind.{SchemeKind}
-use Rattle.inv_covers.specs.words.declared.config.SchemeKind.TheVariants.{He, Ibr, Wfe}
 use Rattle.inv_covers.proofs.words.Parts.{read_reservation-halves}
 use Rattle.inv_covers.specs.defs.declared.event.Guard.{Guard}
 use Rattle.inv_covers.specs.defs.declared.event.Guard.TheVariants.{Helper, Index}
@@ -25,7 +24,7 @@ use Rattle.inv_covers.specs.model.Calls.{Why, Phase, Runs}
 use Rattle.inv_covers.specs.model.World.{World, step}
 use Rattle.inv_covers.proofs.model.Ranges.{bounds_of}
 use Rattle.inv_covers.proofs.model.Roots.{root_at_link}
-use Rattle.inv_covers.specs.words.Schemes.{is_wfe}
+use Rattle.inv_covers.specs.words.Schemes.{helps}
 use Rattle.inv_covers.proofs.shapes.Frame.{word_steps}
 use Rattle.inv_requests.specs.Deals.{answered_with, stays}
 use Rattle.inv_requests.specs.Roles.{is_away}
@@ -48,6 +47,8 @@ use Rattle.inv_handover.proofs.Deals.{mark_few, handed_deal}
 use Rattle.inv_handover.proofs.Words.{Handed, helper_stays}
 use Rattle.inv_requests.proofs.Known.{stands_as}
 use Rattle.inv_covers.proofs.model.Facts.{rest_of}
+use Rattle.inv_covers.proofs.model.Schemes.{index_guard}
+use Rattle.inv_covers.proofs.words.Schemes.{helps_not_interval}
 
 pub helper_shows : (w : World) (z : Asked) (k : ℕ) → Requests w z → shown w (Helper k) ≡ one_era (z.helper k)
 helper_shows w z k q =
@@ -62,13 +63,11 @@ index_shows w i v z k j n =
 pub one_from : (era : ℕ) → 1 ≤ era → one_era era ≡ from_to era era
 one_from era h = let e : (era == 0) ≡ false = grind (arith, nat_tests) in rw e refl
 
-pub wfe_guard : (scheme : SchemeKind) (k j : ℕ) → is_wfe scheme ≡ true → own_guard scheme k j ≡ Index k j
-wfe_guard He k j h = absurd (cc)
-wfe_guard Ibr k j h = absurd (cc)
-wfe_guard Wfe k j h = refl
+pub helped_guard : (scheme : SchemeKind) (k j : ℕ) → helps scheme ≡ true → own_guard scheme k j ≡ Index k j
+helped_guard scheme k j h = index_guard scheme k j (helps_not_interval scheme h)
 
-pub index_fits : (config : Config) (k j : ℕ) → is_wfe config.scheme ≡ true → k < config.seats → j < config.indexes → GuardFits config (Index k j)
-index_fits config k j f a b = subst (λ (g : Guard). GuardFits config g) (wfe_guard config.scheme k j f) (guards_fit config k j a b)
+pub index_fits : (config : Config) (k j : ℕ) → helps config.scheme ≡ true → k < config.seats → j < config.indexes → GuardFits config (Index k j)
+index_fits config k j f a b = subst (λ (g : Guard). GuardFits config g) (helped_guard config.scheme k j f) (guards_fit config k j a b)
 
 -- what is held stays held while the word is the same
 pub holds_stay : (w : World) (i : ℕ) (v : View) (guard : Guard) (s : ℕ) → CoversNeeds w i v → Scanning w → shown (step w i) guard ≡ shown w guard → Holds w v guard s → Holds (step w i) (rows_after w i v) guard s
@@ -91,7 +90,7 @@ pub no_store : (i k : ℕ) → (k == i && false) ≡ false
 no_store i k = grind (arith, nat_tests)
 
 -- what a helper's word covered, the index word covers
-pub over_holds : (w : World) (i : ℕ) (v : View) (z : Asked) (m k j s era : ℕ) → is_wfe w.layout.config.scheme ≡ true → HandoverNeeds w i v z → m < w.layout.config.seats → k < w.layout.config.seats → j < w.layout.config.indexes
+pub over_holds : (w : World) (i : ℕ) (v : View) (z : Asked) (m k j s era : ℕ) → helps w.layout.config.scheme ≡ true → HandoverNeeds w i v z → m < w.layout.config.seats → k < w.layout.config.seats → j < w.layout.config.indexes
     → shown (step w i) (Helper m) ≡ shown w (Helper m) → z.helper m ≡ era → shown (step w i) (Index k j) ≡ one_era era → Holds w v (Helper m) s → Holds (step w i) (rows_after w i v) (Index k j) s
 over_holds w i v z m k j s era f n b c d e q r h = record {
   fits = index_fits w.layout.config k j f c d;
@@ -99,7 +98,7 @@ over_holds w i v z m k j s era f n b c d e q r h = record {
       (r ∙ sym (e ∙ helper_shows w z m n.requests ∙ ap one_era q)) h.covers;
 }
 
-pub handed_holds : (w : World) (i : ℕ) (v : View) (z : Asked) (k j s : ℕ) → is_wfe w.layout.config.scheme ≡ true → HandoverNeeds w i v z → Helped w v z.deal → (h : Handed w i k j) → leads h.link s ≡ true → under v.status (root_at w.layout (link_number w.layout h.root)) ≡ true
+pub handed_holds : (w : World) (i : ℕ) (v : View) (z : Asked) (k j s : ℕ) → helps w.layout.config.scheme ≡ true → HandoverNeeds w i v z → Helped w v z.deal → (h : Handed w i k j) → leads h.link s ≡ true → under v.status (root_at w.layout (link_number w.layout h.root)) ≡ true
     → Holds (step w i) (rows_after w i v) (Index k j) s
 handed_holds w i v z k j s f n d h l u =
     let phase : Phase = Runs h.why (Move (HandOver h.era k h.tag j h.root h.link h.old)) in
@@ -144,7 +143,7 @@ giver_below w i v z k t j word l e m n q =
     below true o h = let x = n.requests.parts.outside m (grind (arith, nat_tests)) in absurd (cc)
     below false o h = grind (arith, nat_tests)
 
-taken_by : (w : World) (i : ℕ) (v : View) (z : Asked) (why : Why) (aim : Aim) (index : ℕ) (root : Root) (steps link era s : ℕ) (d : Deal) → is_wfe w.layout.config.scheme ≡ true → HandoverNeeds w i v z → Helped w v z.deal → (w.seat i).phase ≡ Runs why (Protect aim index root steps (TakeAnswer link era)) → z.deal i ≡ d
+taken_by : (w : World) (i : ℕ) (v : View) (z : Asked) (why : Why) (aim : Aim) (index : ℕ) (root : Root) (steps link era s : ℕ) (d : Deal) → helps w.layout.config.scheme ≡ true → HandoverNeeds w i v z → Helped w v z.deal → (w.seat i).phase ≡ Runs why (Protect aim index root steps (TakeAnswer link era)) → z.deal i ≡ d
     → answered_with index (link_number w.layout root) link era d ≡ true → leads link s ≡ true → under v.status (root_at w.layout (link_number w.layout root)) ≡ true → index < w.layout.config.indexes → Holds (step w i) (rows_after w i v) (Index i index) s
 taken_by w i v z why aim index root steps link era s Quiet f n d e q a l u b = absurd (cc)
 taken_by w i v z why aim index root steps link era s (Open t j' w') f n d e q a l u b = absurd (cc)
@@ -168,7 +167,7 @@ taken_by w i v z why aim index root steps link era s (Passed t j' w' l' e') f n 
     let r : z.era i index ≡ era = grind (arith, nat_tests) in
     holds_stay w i v (Index i index) s n.covers n.scans (take_shown w i v z why aim index root steps link era n e ∙ ap one_era (sym r) ∙ sym (index_shows w i v z i index n)) (d.passed i index s o)
 
-pub taken_holds : (w : World) (i : ℕ) (v : View) (z : Asked) (why : Why) (aim : Aim) (index : ℕ) (root : Root) (steps link era s : ℕ) → is_wfe w.layout.config.scheme ≡ true → HandoverNeeds w i v z → Helped w v z.deal → (w.seat i).phase ≡ Runs why (Protect aim index root steps (TakeAnswer link era))
+pub taken_holds : (w : World) (i : ℕ) (v : View) (z : Asked) (why : Why) (aim : Aim) (index : ℕ) (root : Root) (steps link era s : ℕ) → helps w.layout.config.scheme ≡ true → HandoverNeeds w i v z → Helped w v z.deal → (w.seat i).phase ≡ Runs why (Protect aim index root steps (TakeAnswer link era))
     → leads link s ≡ true → under v.status root ≡ true → Holds (step w i) (rows_after w i v) (Index i index) s
 taken_holds w i v z why aim index root steps link era s f n d e l u =
     let o = inside_of w i v z i why aim index root steps (TakeAnswer link era) n e in

@@ -7,7 +7,6 @@ use Rattle.inv_covers.specs.words.Place.Place.{Clock}
 use Rattle.inv_covers.specs.words.Packed.{read_request}
 use Rattle.inv_covers.specs.words.declared.packed.Request.{Request}
 use Rattle.inv_covers.specs.words.declared.config.SchemeKind.{SchemeKind}
-use Rattle.inv_covers.specs.words.declared.config.SchemeKind.TheVariants.{He, Ibr, Wfe}
 use Rattle.inv_covers.specs.defs.declared.event.Event.{Event}
 use Rattle.inv_covers.specs.defs.declared.event.Root.{Root}
 use Rattle.inv_covers.specs.defs.declared.event.Root.TheVariants as roots
@@ -22,7 +21,8 @@ use Rattle.inv_covers.specs.model.Protect.{concluded}
 use Rattle.inv_covers.specs.model.SlowPath.{own_request, answer_in, lost_turn}
 use Rattle.inv_covers.specs.model.Machine.{protect_move, protect_turn}
 use Rattle.inv_covers.proofs.model.Facts.{both, no_truth}
-use Rattle.inv_covers.specs.words.Schemes.{is_wfe, is_ibr}
+use Rattle.inv_covers.proofs.words.Schemes.{no_help_in_interval}
+use Rattle.inv_covers.specs.words.Schemes.{helps}
 use Rattle.inv_covers.specs.shapes.Seats.{protect_fits}
 use Rattle.inv_covers.specs.rows.Rows.{Status}
 use Rattle.inv_covers.specs.Held.{leads, under, tries_protect, tries_base}
@@ -39,11 +39,6 @@ abbrev pub takes_row : (ℕ → Status) → Root → ProtectAt → ℕ → Bool
 takes_row status root (TakeAnswer link era) s = leads link s && under status root
 takes_row status root at s = false
 
-not_ibr : (scheme : SchemeKind) → is_wfe scheme ≡ true → is_ibr scheme ≡ true → false ≡ true
-not_ibr He w i = w
-not_ibr Ibr w i = w
-not_ibr Wfe w i = i
-
 -- what stands at an index after a protection's step
 abbrev pub Rose : ℕ → (ℕ → Status) → Post → ℕ → Root → ProtectAt → ℕ → ℕ → Type 0
 Rose clock status post index root at j s = (stands post j ≡ Some s) ⊎ ((j ≡ index) × ((tries_protect clock status post root at s ≡ true) ⊎ (takes_row status root at s ≡ true)))
@@ -56,7 +51,7 @@ from_taken : (clock : ℕ) (status : ℕ → Status) (post : Post) (index : ℕ)
 from_taken clock status post index root link era j s (inl x) = inl x
 from_taken clock status post index root link era j s (inr x) = inr (x.0, inr (both (leads link s) (under status root) x.1 x.2))
 
-pub protect_rose : (clock : ℕ) (status : ℕ → Status) (scheme : SchemeKind) (most : ℕ) (mem : Place → ℕ) (aim : Aim) (index : ℕ) (root : Root) (n : ℕ) (at : ProtectAt) (post last : Post) (j s : ℕ) → clock ≡ mem Clock → is_wfe scheme ≡ true → protect_fits scheme most at ≡ true → index < length post.standing
+pub protect_rose : (clock : ℕ) (status : ℕ → Status) (scheme : SchemeKind) (most : ℕ) (mem : Place → ℕ) (aim : Aim) (index : ℕ) (root : Root) (n : ℕ) (at : ProtectAt) (post last : Post) (j s : ℕ) → clock ≡ mem Clock → helps scheme ≡ true → protect_fits scheme most at ≡ true → index < length post.standing
     → stands (protect_turn aim index root n at post (found (protect_move index root at last) (mem (place_in (protect_move index root at last))))).post j ≡ Some s → Rose clock status post index root at j s
 protect_rose clock status scheme most mem aim index root n (LoadClock tries) post last j s c w f b h = inl h
 protect_rose clock status scheme most mem aim index root n (PublishEra era tries) post last j s c w f b h = inl h
@@ -75,7 +70,7 @@ protect_rose clock status scheme most mem aim index root n (TakeAnswer link era)
 protect_rose clock status scheme most mem aim index root n (WithdrawRequest link era) post last j s c w f b h = inl h
 protect_rose clock status scheme most mem aim index root n (WithdrawHelper link era) post last j s c w f b h = inl (concluded_stood aim index root n link era post (reserves_helper post 0) j s h)
 protect_rose clock status scheme most mem aim index root n LoadWithin post last j s c w f b h = inl h
-protect_rose clock status scheme most mem aim index root n (CheckUpper link) post last j s c w f b h = absurd (no_truth (not_ibr scheme w f))
+protect_rose clock status scheme most mem aim index root n (CheckUpper link) post last j s c w f b h = absurd (no_help_in_interval scheme w f)
 protect_rose clock status scheme most mem aim index root n (RaiseUpper era) post last j s c w f b h = inl h
 
 -- what a protection comes to
@@ -104,7 +99,7 @@ over_tries clock status mem aim index root n link era post next told s f h =
     let c : (clock == clock) ≡ true = grind (arith, nat_tests) in
     let q = concluded_tries clock status mem clock aim index root n link era post next told s (link == 0) refl f c h in (q.0, let x = q.1 in grind (arith, nat_tests))
 
-pub protect_next : (clock : ℕ) (status : ℕ → Status) (scheme : SchemeKind) (most : ℕ) (mem : Place → ℕ) (aim : Aim) (index : ℕ) (root : Root) (n : ℕ) (at : ProtectAt) (post last next : Post) (s : ℕ) → clock ≡ mem Clock → is_wfe scheme ≡ true → protect_fits scheme most at ≡ true → (aim ≡ Follows → root ≡ roots.Next (parent_of root))
+pub protect_next : (clock : ℕ) (status : ℕ → Status) (scheme : SchemeKind) (most : ℕ) (mem : Place → ℕ) (aim : Aim) (index : ℕ) (root : Root) (n : ℕ) (at : ProtectAt) (post last next : Post) (s : ℕ) → clock ≡ mem Clock → helps scheme ≡ true → protect_fits scheme most at ≡ true → (aim ≡ Follows → root ≡ roots.Next (parent_of root))
     → out_tries clock status next (protect_turn aim index root n at post (found (protect_move index root at last) (mem (place_in (protect_move index root at last))))).outcome s ≡ true
     → Next clock status mem post index root at (protect_turn aim index root n at post (found (protect_move index root at last) (mem (place_in (protect_move index root at last))))).outcome s
 protect_next clock status scheme most mem aim index root n (LoadClock tries) post last next s c w f g h = absurd (cc)
@@ -125,6 +120,6 @@ protect_next clock status scheme most mem aim index root n (TakeAnswer link era)
 protect_next clock status scheme most mem aim index root n (WithdrawRequest link era) post last next s c w f g h = (refl, inl h)
 protect_next clock status scheme most mem aim index root n (WithdrawHelper link era) post last next s c w f g h =
     let q = over_tries clock status mem aim index root n link era post next (reserves_helper post 0) s g h in (q.0, inl q.1)
-protect_next clock status scheme most mem aim index root n LoadWithin post last next s c w f g h = absurd (no_truth (not_ibr scheme w f))
-protect_next clock status scheme most mem aim index root n (CheckUpper link) post last next s c w f g h = absurd (no_truth (not_ibr scheme w f))
+protect_next clock status scheme most mem aim index root n LoadWithin post last next s c w f g h = absurd (no_help_in_interval scheme w f)
+protect_next clock status scheme most mem aim index root n (CheckUpper link) post last next s c w f g h = absurd (no_help_in_interval scheme w f)
 protect_next clock status scheme most mem aim index root n (RaiseUpper era) post last next s c w f g h = absurd (cc)

@@ -9,7 +9,7 @@ use Rattle.inv_covers.specs.model.Phases.{Base}
 use Rattle.inv_covers.specs.model.Calls.{Why, Runs}
 use Rattle.inv_covers.specs.model.World.{World, start, begin, step, finds}
 use Rattle.inv_covers.specs.shapes.Eras.{Eras}
-use Rattle.inv_covers.specs.words.Schemes.{is_wfe}
+use Rattle.inv_covers.specs.words.Schemes.{helps}
 use Rattle.inv_covers.specs.shapes.Seats.{Seats}
 use Rattle.inv_covers.specs.shapes.Slots.{Slots}
 use Rattle.inv_requests.specs.NextDeals.{next_deals}
@@ -54,7 +54,7 @@ HandoverBegin = (w : World) (i : ℕ) (call : Call) (v : View) (deal : ℕ → D
 abbrev pub HandoverKept : Type 0
 HandoverKept =
     (w : World) (i : ℕ) (v : View) (z : Asked)
-    → is_wfe w.layout.config.scheme ≡ true
+    → helps w.layout.config.scheme ≡ true
     → HandoverNeeds w i v z
     → Held w v
     → Helped w v z.deal

@@ -6,7 +6,7 @@ use Rattle.inv_covers.specs.defs.declared.event.Guard.TheVariants.{Helper, Index
 use Rattle.inv_covers.specs.defs.declared.event.Root.{Root}
 use Rattle.inv_covers.specs.model.Links.{link_number, root_at}
 use Rattle.inv_covers.specs.model.Phases.{ProtectAt, MoveAt, Base}
-use Rattle.inv_covers.specs.model.Phases.ProtectAt.{LoadClock, PublishEra, LoadLink, CheckClock, PublishRequest, LoadOwnClock, PublishHelper, LoadOwnLink, CheckOwnClock, AnswerOwn, LoadAnswer, TakeAnswer, WithdrawRequest, WithdrawHelper, LoadWithin, CheckUpper, RaiseUpper}
+use Rattle.inv_covers.specs.model.Phases.ProtectAt.{LoadClock, PublishEra, LoadLink, CheckClock, PublishRequest, LoadOwnClock, PublishHelper, LoadOwnLink, CheckOwnClock, AnswerOwn}
 use Rattle.inv_covers.specs.model.Phases.MoveAt.{LoadEra, LoadRequest, ShowEra, LoadAsked, CheckEra, AnswerAsked, LoadReserved, HandOver, HideEra, HideLate, ExchangeClock}
 use Rattle.inv_covers.specs.model.Phases.Base.{Begin, Protect, Reload, Clear, Finish, Release, Allocate, Write, GiveUp, Retire, Move}
 use Rattle.inv_covers.specs.model.Calls.{Why, Runs}
@@ -36,13 +36,7 @@ turn_holds clock status root (PublishHelper first era last) s = false
 turn_holds clock status root (LoadOwnLink first era last) s = false
 turn_holds clock status root (CheckOwnClock first era last link) s = leads link s && (clock == era && under status root)
 turn_holds clock status root (AnswerOwn first era link) s = leads link s && under status root
-turn_holds clock status root (LoadAnswer first) s = false
-turn_holds clock status root (TakeAnswer link era) s = false
-turn_holds clock status root (WithdrawRequest link era) s = false
-turn_holds clock status root (WithdrawHelper link era) s = false
-turn_holds clock status root LoadWithin s = false
-turn_holds clock status root (CheckUpper link) s = false
-turn_holds clock status root (RaiseUpper era) s = false
+turn_holds clock status root at s = false
 
 -- a mover has loaded a link to the row for a request that has no answer yet: so long the row whose next link it is stands
 -- with the seat that asks

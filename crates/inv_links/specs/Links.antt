@@ -20,7 +20,7 @@ use Rattle.inv_covers.specs.model.Rounds.{key_of}
 use Rattle.inv_covers.specs.model.Calls.{ChangeKept, Task, Gets, Changes, Why, Opens, FollowsHead, Runs}
 use Rattle.inv_covers.specs.model.World.{World, start, begin, step, is_busy, finds}
 use Rattle.inv_covers.specs.shapes.Seats.{Seats}
-use Rattle.inv_covers.specs.words.Schemes.{is_wfe}
+use Rattle.inv_covers.specs.words.Schemes.{helps}
 use Rattle.inv_requests.specs.NextDeals.{next_deals}
 use Rattle.inv_requests.specs.Standing.{Requests}
 use Rattle.inv_requests.specs.Views.{View as Asking}
@@ -109,7 +109,7 @@ pub record Tried (w : World) (v : View) (k s : ℕ) : Type 0 where
 abbrev pub TrackedTried : Type 0
 TrackedTried =
     (w : World) (k s : ℕ) (v : View) (z : Asking)
-    → is_wfe w.layout.config.scheme ≡ false
+    → helps w.layout.config.scheme ≡ false
     → Seats w
     → Requests w z
     → Tracked w z k (s + 1)
@@ -120,7 +120,7 @@ TrackedTried =
 abbrev pub HeldLinksStay : Type 0
 HeldLinksStay =
     (w : World) (i k s : ℕ) (v : View) (z : Asking)
-    → is_wfe w.layout.config.scheme ≡ false
+    → helps w.layout.config.scheme ≡ false
     → Seats w
     → Requests w z
     → CoversNeeds w i v

@@ -12,7 +12,7 @@ use Rattle.inv_covers.specs.model.Machine.{after}
 use Rattle.inv_covers.specs.model.Posts.{counted}
 use Rattle.inv_covers.specs.model.Phases.{Aim, ProtectAt, MoveAt, Base, Ends, Protected}
 use Rattle.inv_covers.specs.model.Phases.ProtectAt.{LoadClock, PublishEra, LoadLink, CheckClock, PublishRequest, LoadOwnClock, PublishHelper, LoadOwnLink, CheckOwnClock, AnswerOwn, LoadAnswer, TakeAnswer, WithdrawRequest, WithdrawHelper, LoadWithin, CheckUpper, RaiseUpper}
-use Rattle.inv_covers.specs.model.Phases.MoveAt.{LoadEra, LoadRequest, ShowEra, LoadAsked, CheckEra, AnswerAsked, LoadReserved, HandOver, HideEra, HideLate, ExchangeClock}
+use Rattle.inv_covers.specs.model.Phases.MoveAt.{LoadEra, LoadRequest, ShowEra, LoadAsked}
 use Rattle.inv_covers.specs.model.Phases.Base.{Begin, Protect, Reload, Clear, Finish, Release, Allocate, Write, GiveUp, Retire, Move}
 use Rattle.inv_covers.specs.model.Calls.{Why, Phase, Idle, Runs, Scans, Works}
 use Rattle.inv_covers.specs.model.World.{World, start, begin, step, is_busy, finds}
@@ -51,13 +51,7 @@ loads_asked (LoadEra helps) = false
 loads_asked (LoadRequest era seat shows) = false
 loads_asked (ShowEra era seat tag index root) = false
 loads_asked (LoadAsked era seat tag index root) = true
-loads_asked (CheckEra era seat tag index root link) = false
-loads_asked (AnswerAsked era seat tag index root link) = false
-loads_asked (LoadReserved era seat tag index root link) = false
-loads_asked (HandOver era seat tag index root link old) = false
-loads_asked (HideEra era) = false
-loads_asked (HideLate seen) = false
-loads_asked (ExchangeClock era) = false
+loads_asked at = false
 
 abbrev pub loads_base : Base → Bool
 loads_base (Begin at) = false

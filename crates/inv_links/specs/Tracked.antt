@@ -42,14 +42,7 @@ abbrev pub carries_base : ℕ → ℕ → Base → ℕ → Bool
 carries_base clock upto (Begin at) x = false
 carries_base clock upto (Protect aim index root steps at) x = carries_at clock upto at x
 carries_base clock upto (Reload parent index slot era steps) x = slot + 1 == x
-carries_base clock upto (Clear index) x = false
-carries_base clock upto Finish x = false
-carries_base clock upto Release x = false
-carries_base clock upto (Allocate at) x = false
-carries_base clock upto (Write slot row place) x = false
-carries_base clock upto (GiveUp slot) x = false
-carries_base clock upto (Retire at) x = false
-carries_base clock upto (Move at) x = false
+carries_base clock upto base x = false
 
 abbrev pub carries_in : ℕ → ℕ → Phase → ℕ → Bool
 carries_in clock upto Idle x = false

@@ -27,10 +27,10 @@ use Rattle.inv_shapes.specs.model.Phases.Base.{Move}
 use Rattle.inv_shapes.specs.model.Phases.Ending.{Clocked}
 use Rattle.inv_shapes.specs.model.Machine.{move_turn}
 use Rattle.inv_shapes.specs.model.Rest.{move_left, move_most, requests_left}
-use Rattle.inv_shapes.specs.model.Calls.{Why, Opens, FollowsHead, Fills, ClearsNext, Clears, Finishes, GivesUp, Retires, Tidies, Advances, Releases, Phase, Idle, Runs, Scans, Works}
+use Rattle.inv_shapes.specs.model.Calls.{Why, Opens, FollowsHead, Phase, Idle, Runs, Scans, Works}
 use Rattle.inv_shapes.specs.model.World.{World, finds}
 use Rattle.inv_shapes.specs.Seats.{Seats, PhaseFits, move_fits}
-use Rattle.inv_shapes.specs.words.Schemes.{is_wfe}
+use Rattle.inv_shapes.specs.words.Schemes.{helps}
 use Rattle.inv_shapes.specs.Slots.{Slots, WhyIn, PhaseIn}
 use Rattle.inv_requests.specs.Needs.{Needs, head_fits, heads_fit}
 use Rattle.inv_requests.specs.Paces.{Falls, MovesOn}
@@ -70,23 +70,23 @@ move_falls c (LoadEra helps) post found h s f =
     (λ (t : Turn). Falls c (move_most c) t.outcome) (λ g. omega arith) (λ g. moving_left c found helps s)
 move_falls c (LoadRequest e k shown) post found h s f = met_left c post e k shown (read_request found) h (below c.scheme c.seats k f)
   where
-    below : (scheme : SchemeKind) (seats k : ℕ) → (is_wfe scheme && nat_lt k seats) ≡ true → k < seats
-    below scheme seats k g = let x : nat_lt k seats ≡ true = rest_of (is_wfe scheme) (nat_lt k seats) g in grind (arith, nat_tests)
+    below : (scheme : SchemeKind) (seats k : ℕ) → (helps scheme && nat_lt k seats) ≡ true → k < seats
+    below scheme seats k g = let x : nat_lt k seats ≡ true = rest_of (helps scheme) (nat_lt k seats) g in grind (arith, nat_tests)
 move_falls c (ShowEra e k t j r) post found h s f = omega arith
 move_falls c (LoadAsked e k t j r) post found h s f = omega arith
 move_falls c (CheckEra e k t j r link) post found h s f =
     if_by (found == e) (goes post [] (Move (AnswerAsked e k t j r link))) (goes post [] (Move (HideLate found)))
     (λ (x : Turn). Falls c (requests_left c k 4) x.outcome) (λ g. omega arith) (λ g. omega arith)
 move_falls c (AnswerAsked e k t j r link) post found h s f =
-    let b : k < c.seats = (let x : nat_lt k c.seats ≡ true = rest_of (is_wfe c.scheme) (nat_lt k c.seats) f in grind (arith, nat_tests)) in
+    let b : k < c.seats = (let x : nat_lt k c.seats ≡ true = rest_of (helps c.scheme) (nat_lt k c.seats) f in grind (arith, nat_tests)) in
     if_by (found == asking post.layout t j r) (goes post [] (Move (LoadReserved e k t j r link))) (goes post [] (Move (next_request post e k true)))
     (λ (x : Turn). Falls c (requests_left c k 3) x.outcome) (λ g. omega arith) (λ g. next_left c post e k (requests_left c k 3) true h b (omega arith))
 move_falls c (LoadReserved e k t j r link) post found h s f =
-    let b : k < c.seats = (let x : nat_lt k c.seats ≡ true = rest_of (is_wfe c.scheme) (nat_lt k c.seats) f in grind (arith, nat_tests)) in
+    let b : k < c.seats = (let x : nat_lt k c.seats ≡ true = rest_of (helps c.scheme) (nat_lt k c.seats) f in grind (arith, nat_tests)) in
     if_by ((read_reservation found).tag == t) (goes post [] (Move (HandOver e k t j r link (read_reservation found).era))) (goes post [] (Move (next_request post e k true)))
     (λ (x : Turn). Falls c (requests_left c k 2) x.outcome) (λ g. omega arith) (λ g. next_left c post e k (requests_left c k 2) true h b (omega arith))
 move_falls c (HandOver e k t j r link old) post found h s f =
-    let b : k < c.seats = (let x : nat_lt k c.seats ≡ true = rest_of (is_wfe c.scheme) (nat_lt k c.seats) f in grind (arith, nat_tests)) in
+    let b : k < c.seats = (let x : nat_lt k c.seats ≡ true = rest_of (helps c.scheme) (nat_lt k c.seats) f in grind (arith, nat_tests)) in
     hand_left c e k t j old post (found == reservation_word (record { era = old; tag = t })) h b
 move_falls c (HideEra e) post found h s f = omega arith
 move_falls c (HideLate seen) post found h s f = omega arith
@@ -106,15 +106,7 @@ moves_on w k y s = record {
 head_of : (c : Config) (why : Why) → WhyIn c why → head_fits c why ≡ true
 head_of c (Opens task) h = refl
 head_of c (FollowsHead head tail) h = grind (arith, nat_tests)
-head_of c (Fills task) h = refl
-head_of c (ClearsNext next) h = refl
-head_of c (Clears task next) h = refl
-head_of c (Finishes task next) h = refl
-head_of c (GivesUp answer) h = refl
-head_of c (Retires answer) h = refl
-head_of c (Tidies later) h = refl
-head_of c Advances h = refl
-head_of c (Releases key) h = refl
+head_of c why h = refl
 
 heads_of : (layout : Layout) (desk : Desk) (phase : Phase) → PhaseIn layout desk phase → heads_fit layout.config phase ≡ true
 heads_of layout desk Idle h = refl

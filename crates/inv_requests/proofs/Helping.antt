@@ -8,7 +8,7 @@ use Rattle.inv_shapes.specs.defs.declared.event.Event.{Event}
 use Rattle.inv_shapes.specs.defs.declared.event.Root.{Root}
 use Rattle.inv_shapes.specs.model.declared.post.Post.{Post}
 use Rattle.inv_shapes.specs.model.Links.{link_place, link_number}
-use Rattle.inv_shapes.specs.model.Memory.{upd, written, put, Move}
+use Rattle.inv_shapes.specs.model.Memory.{upd, written, Move}
 use Rattle.inv_shapes.specs.model.Memory as memory
 use Rattle.inv_shapes.specs.model.Posts.{counted}
 use Rattle.inv_shapes.specs.model.Phases.{Aim, ProtectAt, MoveAt, Base, Turn, goes, ends, Base as bases}
@@ -19,11 +19,11 @@ use Rattle.inv_shapes.specs.model.Machine.{move_turn}
 use Rattle.inv_shapes.specs.Frame.{Moves}
 use Rattle.inv_shapes.specs.words.declared.layout.Layout.{Layout}
 use Rattle.inv_shapes.specs.model.Phases.MoveAt.{LoadEra, LoadRequest, ShowEra, LoadAsked, CheckEra, AnswerAsked, LoadReserved, HandOver, HideEra, HideLate, ExchangeClock}
-use Rattle.inv_shapes.specs.model.Phases.ProtectAt.{LoadClock, PublishEra, LoadLink, CheckClock, PublishRequest, LoadOwnClock, PublishHelper, LoadOwnLink, CheckOwnClock, AnswerOwn, LoadAnswer, TakeAnswer, WithdrawRequest, WithdrawHelper, LoadWithin, CheckUpper, RaiseUpper}
+use Rattle.inv_shapes.specs.model.Phases.ProtectAt.{LoadClock, PublishEra, LoadLink, CheckClock, PublishRequest, LoadOwnClock, PublishHelper, LoadOwnLink, CheckOwnClock, AnswerOwn, LoadAnswer}
 use Rattle.inv_shapes.specs.model.Phases.Ending.{Clocked}
 use Rattle.inv_shapes.specs.defs.declared.call.ClockMove.TheVariants as moves
 use Rattle.inv_shapes.specs.model.MoveClock.{next_request, all_met, moving}
-use Rattle.inv_shapes.specs.words.Schemes.{is_wfe}
+use Rattle.inv_shapes.specs.words.Schemes.{helps}
 use Rattle.inv_shapes.specs.Seats.{agree}
 use Rattle.inv_requests.specs.Views.{View, Role, Role as roles}
 use Rattle.inv_requests.specs.Views.Deal.{Open}
@@ -66,19 +66,19 @@ next_go mem seat i v m why told e k shown at v' a q t u f g =
     last_there layout era false = refl
 
 -- 1. The clock is loaded.
-pub load_era : {Q : Post → Type 0} {P : Post → Phase → Type 0} (mem : Place → ℕ) (seat : ℕ → Local) (i : ℕ) (v : View) (why : Why) (helps : Bool) → At mem seat i v → (seat i).phase ≡ Runs why (bases.Move (LoadEra helps)) → agree helps (is_wfe (seat i).post.layout.config.scheme) ≡ true
-    → Moves Q P why (move_turn (LoadEra helps) (counted (seat i).post) (mem Clock))
-    → Made mem seat i (memory.Load Clock) (run_turn why (seat i).desk (move_turn (LoadEra helps) (counted (seat i).post) (mem Clock))) v.deal
-load_era {Q} {P} mem seat i v why helps a q f m =
-    if_by (mem Clock == (seat i).post.layout.config.last_era) (ends (counted (seat i).post) [] (Clocked (moves.EraSpent (mem Clock)))) (goes (counted (seat i).post) [] (bases.Move (moving helps (mem Clock))))
+pub load_era : {Q : Post → Type 0} {P : Post → Phase → Type 0} (mem : Place → ℕ) (seat : ℕ → Local) (i : ℕ) (v : View) (why : Why) (helping : Bool) → At mem seat i v → (seat i).phase ≡ Runs why (bases.Move (LoadEra helping)) → agree helping (helps (seat i).post.layout.config.scheme) ≡ true
+    → Moves Q P why (move_turn (LoadEra helping) (counted (seat i).post) (mem Clock))
+    → Made mem seat i (memory.Load Clock) (run_turn why (seat i).desk (move_turn (LoadEra helping) (counted (seat i).post) (mem Clock))) v.deal
+load_era {Q} {P} mem seat i v why helping a q f m =
+    if_by (mem Clock == (seat i).post.layout.config.last_era) (ends (counted (seat i).post) [] (Clocked (moves.EraSpent (mem Clock)))) (goes (counted (seat i).post) [] (bases.Move (moving helping (mem Clock))))
     (λ (t : Turn). Moves Q P why t → Made mem seat i (memory.Load Clock) (run_turn why (seat i).desk t) v.deal)
     (λ h g. rest mem seat i v (memory.Load Clock) why (ends (counted (seat i).post) [] (Clocked (moves.EraSpent (mem Clock)))) (record v { role = upd v.role i roles.Away }) a
     (record { post = own_post mem seat i v a; phase = g.phase }) refl refl a.facts.words
-    (same_role (seat i).post.layout.config v i roles.Away a.facts.parts (stands_in mem seat i v (Runs why (bases.Move (LoadEra helps))) a q)))
-    (λ h g. begin_move helps f (stands_in mem seat i v (Runs why (bases.Move (LoadEra helps))) a q) (rw a.facts.words.clocks at h))
+    (same_role (seat i).post.layout.config v i roles.Away a.facts.parts (stands_in mem seat i v (Runs why (bases.Move (LoadEra helping))) a q)))
+    (λ h g. begin_move helping f (stands_in mem seat i v (Runs why (bases.Move (LoadEra helping))) a q) (rw a.facts.words.clocks at h))
     m
   where
-    begin_move : (b : Bool) → agree b (is_wfe (seat i).post.layout.config.scheme) ≡ true → v.role i ≡ roles.Away → (v.clock == (seat i).post.layout.config.last_era) ≡ false
+    begin_move : (b : Bool) → agree b (helps (seat i).post.layout.config.scheme) ≡ true → v.role i ≡ roles.Away → (v.clock == (seat i).post.layout.config.last_era) ≡ false
         → Made mem seat i (memory.Load Clock) (run_turn why (seat i).desk (goes (counted (seat i).post) [] (bases.Move (moving b (mem Clock))))) v.deal
     begin_move true w r h =
         go mem seat i v (memory.Load Clock) why [] (bases.Move (LoadRequest (mem Clock) 0 false)) (roles.Meets v.clock 0 false) (record v { role = upd v.role i (roles.Meets v.clock 0 false) }) a
@@ -106,12 +106,7 @@ asker_at layout aim index root steps (LoadOwnLink first era last) why t j w h f 
 asker_at layout aim index root steps (CheckOwnClock first era last link) why t j w h f = asker_here layout index root t j w h f
 asker_at layout aim index root steps (AnswerOwn first era link) why t j w h f = asker_here layout index root t j w h f
 asker_at layout aim index root steps (LoadAnswer first) why t j w h f = absurd (grind (arith, nat_tests))
-asker_at layout aim index root steps (TakeAnswer link era) why t j w h f = absurd (cc)
-asker_at layout aim index root steps (WithdrawRequest link era) why t j w h f = absurd (cc)
-asker_at layout aim index root steps (WithdrawHelper link era) why t j w h f = absurd (cc)
-asker_at layout aim index root steps LoadWithin why t j w h f = absurd (cc)
-asker_at layout aim index root steps (CheckUpper link) why t j w h f = absurd (cc)
-asker_at layout aim index root steps (RaiseUpper era) why t j w h f = absurd (cc)
+asker_at layout aim index root steps at why t j w h f = absurd (cc)
 
 asker_base : (layout : Layout) (base : Base) (why : Why) (t j w : ℕ) → phase_there layout (Runs why base) ≡ true → fits (role_of layout (Runs why base)) (Open t j w) ≡ true → Asker layout j w
 asker_base layout (bases.Begin at) why t j w h f = absurd (cc)

@@ -1,5 +1,5 @@
 -- Each step of each seat keeps what holds of requests.
-use Rattle.std.proofs.Common.{ℕ, ◌≡◌, ◌≤◌, ◌<◌, ◌+◌, Bool, true, false, arith, refl, sym, ap, subst, ◌∙◌}
+use Rattle.std.proofs.Common.{ℕ, ◌≡◌, ◌≤◌, ◌<◌, ◌+◌, true, false, arith, refl, sym, ap, subst, ◌∙◌}
 use Rattle.std.proofs.lemmas.Bool.Decides.{nat_tests}
 use Rattle.std.specs.Prelude.{◌&&◌, nat_lt, if◌then◌else◌, ◌%◌}
 use Rattle.inv_shapes.specs.words.Place.{Place, has, is_valid}
@@ -10,7 +10,7 @@ use Rattle.inv_shapes.specs.model.Links.{link_place}
 use Rattle.inv_shapes.specs.model.Memory.{upd, Move, place_in, found, bump}
 use Rattle.inv_shapes.specs.model.Posts.{counted, tag_of, new_post}
 use Rattle.inv_shapes.specs.model.Phases.{Aim, Tries, Endless, Failed, ProtectAt, MoveAt, Base, Base as bases}
-use Rattle.inv_shapes.specs.model.Calls.{Why, Phase, Idle, Runs, Task, Gets, Changes, Holds, Enqueues, Dequeues, Opens, FollowsHead, Fills, ClearsNext, Clears, Finishes, GivesUp, Retires, Tidies, Advances, Releases, Scans, Works}
+use Rattle.inv_shapes.specs.model.Calls.{Why, Phase, Idle, Runs, Task, Gets, Changes, Holds, Enqueues, Dequeues, Opens, FollowsHead, Scans, Works}
 use Rattle.inv_shapes.specs.model.Steps.{run_turn, phase_move, phase_turn}
 use Rattle.inv_shapes.specs.model.Locals.{Local, busy_in, begun}
 use Rattle.inv_shapes.specs.model.Machine.{protect_move, protect_turn, move_move, move_turn, base_move, after}
@@ -19,11 +19,11 @@ use Rattle.inv_shapes.specs.words.declared.layout.Layout.{Layout}
 use Rattle.inv_shapes.specs.defs.declared.call.Call.{Call}
 use Rattle.inv_shapes.specs.model.Phases.ProtectAt.{LoadClock, PublishEra, LoadLink, CheckClock, PublishRequest, LoadOwnClock, PublishHelper, LoadOwnLink, CheckOwnClock, AnswerOwn, LoadAnswer, TakeAnswer, WithdrawRequest, WithdrawHelper, LoadWithin, CheckUpper, RaiseUpper}
 use Rattle.inv_shapes.specs.model.Phases.MoveAt.{LoadEra, LoadRequest, ShowEra, LoadAsked, CheckEra, AnswerAsked, LoadReserved, HandOver, HideEra, HideLate, ExchangeClock}
-use Rattle.inv_shapes.specs.model.Rounds.{index_of, key_of}
+use Rattle.inv_shapes.specs.model.Rounds.{index_of}
 use Rattle.inv_shapes.specs.model.World.{World, step, begin, start, is_busy}
 use Rattle.inv_shapes.proofs.model.Ranges.{bounds_of}
-use Rattle.inv_shapes.specs.words.Schemes.{is_wfe}
-use Rattle.inv_shapes.specs.Seats.{base_fits, protect_fits, Seats, PostFits, PhaseFits, Shaped, task_root, index_by, root_by}
+use Rattle.inv_shapes.specs.words.Schemes.{helps}
+use Rattle.inv_shapes.specs.Seats.{base_fits, protect_fits, Seats, PostFits, PhaseFits, Shaped, root_by}
 use Rattle.inv_shapes.proofs.Inside.{shape_moves}
 use Rattle.inv_shapes.proofs.Kept.{counted_fits, run_counted}
 use Rattle.inv_requests.specs.Views.{View, Role, Role as roles}
@@ -135,15 +135,7 @@ below_buckets key buckets h = let b : key % buckets < buckets = omega arith in g
 root_by_there : (layout : Layout) (why : Why) → 1 ≤ layout.config.buckets → head_fits layout.config why ≡ true → has layout (link_place (root_by layout.config.buckets why)) ≡ true
 root_by_there layout (Opens task) b h = task_there layout task b
 root_by_there layout (FollowsHead head tail) b h = grind (arith, nat_tests)
-root_by_there layout (Fills task) b h = refl
-root_by_there layout (ClearsNext next) b h = refl
-root_by_there layout (Clears task next) b h = refl
-root_by_there layout (Finishes task next) b h = refl
-root_by_there layout (GivesUp answer) b h = refl
-root_by_there layout (Retires answer) b h = refl
-root_by_there layout (Tidies later) b h = refl
-root_by_there layout Advances b h = refl
-root_by_there layout (Releases key) b h = refl
+root_by_there layout why b h = refl
 
 base_inside : (layout : Layout) (why : Why) (base : Base) → is_valid layout ≡ true → Shaped layout.config.buckets why base → head_fits layout.config why ≡ true → guards_there layout base ≡ true
 base_inside layout why (bases.Begin at) y s h = refl
@@ -173,7 +165,7 @@ phase_inside layout (Scans later at) post y f h = refl
 phase_inside layout (Works work) post y f h = refl
 
 -- own turns are made under Wait-Free Eras alone
-protect_alone : (layout : Layout) (index : ℕ) (root : Root) (at : ProtectAt) → protect_fits layout.config.scheme layout.config.tries at ≡ true → is_wfe layout.config.scheme ≡ false → is_turn (protect_role layout index root at) ≡ false
+protect_alone : (layout : Layout) (index : ℕ) (root : Root) (at : ProtectAt) → protect_fits layout.config.scheme layout.config.tries at ≡ true → helps layout.config.scheme ≡ false → is_turn (protect_role layout index root at) ≡ false
 protect_alone layout index root (LoadClock tries) f h = refl
 protect_alone layout index root (PublishEra era tries) f h = refl
 protect_alone layout index root (LoadLink era tries) f h = refl
@@ -184,13 +176,7 @@ protect_alone layout index root (PublishHelper first era last) f h = absurd (cc)
 protect_alone layout index root (LoadOwnLink first era last) f h = absurd (cc)
 protect_alone layout index root (CheckOwnClock first era last link) f h = absurd (cc)
 protect_alone layout index root (AnswerOwn first era link) f h = absurd (cc)
-protect_alone layout index root (LoadAnswer first) f h = refl
-protect_alone layout index root (TakeAnswer link era) f h = refl
-protect_alone layout index root (WithdrawRequest link era) f h = refl
-protect_alone layout index root (WithdrawHelper link era) f h = refl
-protect_alone layout index root LoadWithin f h = refl
-protect_alone layout index root (CheckUpper link) f h = refl
-protect_alone layout index root (RaiseUpper era) f h = refl
+protect_alone layout index root at f h = refl
 
 move_alone : (layout : Layout) (at : MoveAt) → is_turn (move_role layout at) ≡ false
 move_alone layout (LoadEra helps) = refl
@@ -205,7 +191,7 @@ move_alone layout (HideEra e) = refl
 move_alone layout (HideLate seen) = refl
 move_alone layout (ExchangeClock e) = refl
 
-base_alone : (layout : Layout) (base : Base) → base_fits layout.config base ≡ true → is_wfe layout.config.scheme ≡ false → is_turn (base_role layout base) ≡ false
+base_alone : (layout : Layout) (base : Base) → base_fits layout.config base ≡ true → helps layout.config.scheme ≡ false → is_turn (base_role layout base) ≡ false
 base_alone layout (bases.Begin at) f h = refl
 base_alone layout (bases.Protect aim index root steps at) f h = protect_alone layout index root at f h
 base_alone layout (bases.Reload parent index slot era steps) f h = refl
@@ -218,7 +204,7 @@ base_alone layout (bases.GiveUp slot) f h = refl
 base_alone layout (bases.Retire at) f h = refl
 base_alone layout (bases.Move at) f h = move_alone layout at
 
-phase_alone : (layout : Layout) (phase : Phase) (post : Post) → PhaseFits layout post phase → is_wfe layout.config.scheme ≡ false → is_turn (role_of layout phase) ≡ false
+phase_alone : (layout : Layout) (phase : Phase) (post : Post) → PhaseFits layout post phase → helps layout.config.scheme ≡ false → is_turn (role_of layout phase) ≡ false
 phase_alone layout Idle post f h = refl
 phase_alone layout (Runs why base) post f h = base_alone layout base f.fits h
 phase_alone layout (Scans later at) post f h = refl
@@ -236,7 +222,7 @@ at_of w i v y b s n f =
       valid = subst (λ (l : Layout). is_valid l ≡ true) e y;
       inside = λ k. subst (λ (l : Layout). phase_there l (w.seat k).phase ≡ true) e (phase_inside w.layout (w.seat k).phase (w.seat k).post y (s.fits k).phase (n.heads k));
       links = λ root h. subst (λ (l : Layout). w.mem (link_place root) ≤ l.config.slots + 1) e (n.links root (subst (λ (l : Layout). has l (link_place root) ≡ true) (sym e) h));
-      alone = λ k h. subst (λ (r : Role). is_turn r ≡ false) (f.locals.roles k) (phase_alone w.layout (w.seat k).phase (w.seat k).post (s.fits k).phase (subst (λ (l : Layout). is_wfe l.config.scheme ≡ false) (sym e) h));
+      alone = λ k h. subst (λ (r : Role). is_turn r ≡ false) (f.locals.roles k) (phase_alone w.layout (w.seat k).phase (w.seat k).post (s.fits k).phase (subst (λ (l : Layout). helps l.config.scheme ≡ false) (sym e) h));
     }
 
 -- one step of a seat
@@ -250,9 +236,7 @@ requests_step w i v y b s p n f =
 -- a seat between calls
 pub idle_of : (phase : Phase) → busy_in phase ≡ false → phase ≡ Idle
 idle_of Idle h = refl
-idle_of (Runs why base) h = absurd (cc)
-idle_of (Scans later at) h = absurd (cc)
-idle_of (Works work) h = absurd (cc)
+idle_of phase h = absurd (cc)
 
 begun_made : (mem : Place → ℕ) (seat : ℕ → Local) (i : ℕ) (v : View) (call : Call) → is_valid (seat i).post.layout ≡ true → (seat i).phase ≡ Idle → Facts (seat i).post.layout mem seat v
     → (u : View) × Dealt (seat i).post.layout mem (upd seat i (begun (seat i) call)) v.deal u

@@ -1,5 +1,5 @@
 -- What the part on requests tells of a seat's own post and of what its step finds.
-use Rattle.std.proofs.Common.{ℕ, ◌≡◌, ◌<◌, ◌+◌, Bool, true, false, arith, refl, sym, ap, ◌∙◌}
+use Rattle.std.proofs.Common.{ℕ, ◌≡◌, ◌<◌, ◌+◌, Bool, true, false, arith, refl, sym, ap, subst, ◌∙◌}
 use Rattle.std.proofs.lemmas.Bool.Decides.{nat_tests}
 use Rattle.std.specs.Prelude.{◌==◌, ◌&&◌, not}
 use Rattle.inv_shapes.specs.words.Place.{is_valid}
@@ -9,31 +9,31 @@ use Rattle.inv_shapes.specs.words.declared.layout.Layout.{Layout}
 use Rattle.inv_shapes.specs.defs.declared.event.Root.{Root}
 use Rattle.inv_shapes.proofs.model.Ranges.{bounds_of}
 use Rattle.inv_shapes.specs.model.Links.{link_number}
-use Rattle.inv_shapes.specs.model.Memory.{place_in, found}
+use Rattle.inv_shapes.specs.model.Memory.{found}
 use Rattle.inv_shapes.specs.model.Posts.{tag_of}
 use Rattle.inv_shapes.specs.model.SlowPath.{asking, own_request}
 use Rattle.inv_shapes.specs.model.Phases.ProtectAt.{AnswerOwn, LoadAnswer, TakeAnswer}
 use Rattle.inv_shapes.specs.model.Phases.Base.{Protect}
 use Rattle.inv_shapes.specs.model.Calls.{Phase, Idle, Runs}
-use Rattle.inv_shapes.specs.model.Steps.{phase_move}
 use Rattle.inv_shapes.specs.model.World.{World, finds}
 use Rattle.inv_shapes.specs.Seats.{Seats}
-use Rattle.inv_requests.specs.Deals.{is_open, asked_at}
+use Rattle.inv_shapes.proofs.Frame.{finds_at}
+use Rattle.inv_requests.specs.Deals.{is_open, asked_at, fits}
 use Rattle.inv_requests.specs.Known.{IsAnswer, Known}
 use Rattle.inv_requests.specs.Standing.{role_of, request_of, Requests}
-use Rattle.inv_requests.specs.Views.{View, Role as roles}
+use Rattle.inv_requests.specs.Views.{View, Role, Role as roles}
 use Rattle.inv_requests.proofs.Answering.{heard, word_by_open}
 use Rattle.inv_requests.proofs.Kept.{idle_of}
 use Rattle.inv_requests.proofs.Words.{no_halves}
 use Rattle.inv_shapes.proofs.model.Facts.{not_right, first_of, number_is, same_test}
 
--- what a seat finds, by its phase
-finds_by : (w : World) (k : ℕ) (phase : Phase) → (w.seat k).phase ≡ phase → finds w k ≡ found (phase_move phase (w.seat k).post) (w.mem (place_in (phase_move phase (w.seat k).post)))
-finds_by w k phase q = ap (λ (p : Phase). found (phase_move p (w.seat k).post) (w.mem (place_in (phase_move p (w.seat k).post)))) q
-
 -- the role of a seat, by its phase
 pub stands_as : (w : World) (v : View) (k : ℕ) (phase : Phase) → Requests w v → (w.seat k).phase ≡ phase → v.role k ≡ role_of w.layout phase
 stands_as w v k phase f q = sym (f.locals.roles k) ∙ ap (role_of w.layout) q
+
+-- the deal of a seat fits its phase
+pub fits_at : (w : World) (z : View) (k : ℕ) (phase : Phase) → Requests w z → (w.seat k).phase ≡ phase → fits (role_of w.layout phase) (z.deal k) ≡ true
+fits_at w z k phase f q = subst (λ (r : Role). fits r (z.deal k) ≡ true) (stands_as w z k phase f q) (f.parts.fit k)
 
 tag_low : (w : World) (v : View) (k index : ℕ) → is_valid w.layout ≡ true → Requests w v → tag_of (w.seat k).post index < 4294967295
 tag_low w v k index y f = let b = bounds_of w.layout y in omega (arith, f.locals.tags k index, f.parts.low k index, f.parts.clock, b.eras)
@@ -91,8 +91,8 @@ known w v k y s f = record {
   tags = λ index. tag_low w v k index y f;
   rises = λ why aim index root steps link era q. tag_rises w v k index (link_number w.layout root) link era y f (stands_as w v k (Runs why (Protect aim index root steps (TakeAnswer link era))) f q);
   hears = λ why aim index root steps first q. hears_answer w v k index (link_number w.layout root) (finds w k) f (stands_as w v k (Runs why (Protect aim index root steps (LoadAnswer first))) f q)
-      (finds_by w k (Runs why (Protect aim index root steps (LoadAnswer first))) q ∙ own_word w v k s f);
+      (finds_at w k (Runs why (Protect aim index root steps (LoadAnswer first))) q ∙ own_word w v k s f);
   meets = λ why aim index root steps first era link q n. meets_answer w v k index root first era link (finds w k) s f (stands_as w v k (Runs why (Protect aim index root steps (AnswerOwn first era link))) f q)
-      (finds_by w k (Runs why (Protect aim index root steps (AnswerOwn first era link))) q ∙ own_word w v k s f) n;
+      (finds_at w k (Runs why (Protect aim index root steps (AnswerOwn first era link))) q ∙ own_word w v k s f) n;
   hidden = λ b. hidden_word w v k f (stands_as w v k Idle f (idle_of (w.seat k).phase b));
 }

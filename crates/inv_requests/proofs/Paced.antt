@@ -31,10 +31,12 @@ use Rattle.inv_shapes.specs.model.Rounds.{scheme_of, protect_at, release_base}
 use Rattle.inv_shapes.specs.model.SlowPath.{asking}
 use Rattle.inv_shapes.specs.model.WriteRow.{last_written}
 use Rattle.inv_shapes.specs.model.Calls.{Why, Phase, Idle, Runs, Scans, Works}
-use Rattle.inv_shapes.specs.model.Locals.{Local, begun_post}
+use Rattle.inv_shapes.specs.model.Locals.{Local}
 use Rattle.inv_shapes.specs.model.World.{World, start, begin, step, finds}
 use Rattle.inv_shapes.specs.Frame.{StepsOn, Grows, Owes, Moves}
-use Rattle.inv_shapes.specs.words.Schemes.{is_ibr, is_wfe, is_he}
+use Rattle.inv_shapes.specs.words.Schemes.{counts_tries}
+use Rattle.inv_shapes.proofs.words.Schemes.{no_counts_by_clock, no_counts_in_interval}
+pub use Rattle.inv_shapes.proofs.words.Schemes.{no_counts_by_clock as wfe_not_he, no_counts_in_interval as wfe_not_ibr}
 use Rattle.inv_shapes.specs.Seats.{PostFits, PhaseFits, Run, Seats, protect_fits}
 use Rattle.inv_shapes.proofs.Frame.{seat_stays, seat_steps, begin_stays, begin_begins, after_seated, begun_seated, moves_with}
 use Rattle.inv_shapes.proofs.Shapes.{shape_grows}
@@ -43,6 +45,7 @@ use Rattle.inv_shapes.proofs.Kept.{counted_fits, run_counted, one_moves, begun_f
 use Rattle.inv_requests.specs.Paces.{paced, reload_paced, base_paced, phase_paced, Paces, InTime}
 use Rattle.inv_requests.proofs.Paces.{Any, InPace, bump_near, protect_pace}
 use Rattle.inv_shapes.proofs.model.Facts.{if_by}
+use Rattle.inv_shapes.proofs.model.Schemes.{each_release}
 
 protect_starts : (c : Config) (scheme : SchemeKind) → paced c 0 (protect_at scheme) ≡ true
 protect_starts c He = refl
@@ -50,9 +53,7 @@ protect_starts c Ibr = refl
 protect_starts c Wfe = refl
 
 release_starts : (c : Config) (scheme : SchemeKind) → base_paced c (release_base scheme) ≡ true
-release_starts c He = refl
-release_starts c Ibr = refl
-release_starts c Wfe = refl
+release_starts c scheme = each_release scheme (λ (base : Base). base_paced c base ≡ true) refl refl
 
 -- each phase that a call comes to by anything but a step inside a machine
 pace_grows : (layout : Layout) (k : ℕ) → is_valid layout ≡ true → Grows (PostFits layout k) (InPace layout.config)
@@ -179,25 +180,15 @@ paces_begin w i call v s p =
 pub paces_start : (layout : Layout) → Paces (start layout)
 paces_start layout = record { paced = λ k. refl }
 
-pub wfe_not_he : (scheme : SchemeKind) → is_wfe scheme ≡ true → is_he scheme ≡ true → ⊥
-wfe_not_he He w h = cc
-wfe_not_he Ibr w h = cc
-wfe_not_he Wfe w h = cc
-
-pub wfe_not_ibr : (scheme : SchemeKind) → is_wfe scheme ≡ true → is_ibr scheme ≡ true → ⊥
-wfe_not_ibr He w h = cc
-wfe_not_ibr Ibr w h = cc
-wfe_not_ibr Wfe w h = cc
-
 -- a protection's next step is no later than its last
-pub protects_in_time : (c : Config) (steps : ℕ) (at : ProtectAt) → paced c steps at ≡ true → is_wfe c.scheme ≡ true → protect_fits c.scheme c.tries at ≡ true → steps + 1 ≤ protect_most c
-protects_in_time c steps (LoadClock Endless) p w f = absurd (wfe_not_he c.scheme w f)
+pub protects_in_time : (c : Config) (steps : ℕ) (at : ProtectAt) → paced c steps at ≡ true → counts_tries c.scheme ≡ true → protect_fits c.scheme c.tries at ≡ true → steps + 1 ≤ protect_most c
+protects_in_time c steps (LoadClock Endless) p w f = absurd (no_counts_by_clock c.scheme w f)
 protects_in_time c steps (LoadClock (Failed count)) p w f = grind (arith, nat_tests)
-protects_in_time c steps (PublishEra era Endless) p w f = absurd (wfe_not_he c.scheme w f)
+protects_in_time c steps (PublishEra era Endless) p w f = absurd (no_counts_by_clock c.scheme w f)
 protects_in_time c steps (PublishEra era (Failed count)) p w f = grind (arith, nat_tests)
-protects_in_time c steps (LoadLink era Endless) p w f = absurd (wfe_not_he c.scheme w f)
+protects_in_time c steps (LoadLink era Endless) p w f = absurd (no_counts_by_clock c.scheme w f)
 protects_in_time c steps (LoadLink era (Failed count)) p w f = grind (arith, nat_tests)
-protects_in_time c steps (CheckClock era Endless link) p w f = absurd (wfe_not_he c.scheme w f)
+protects_in_time c steps (CheckClock era Endless link) p w f = absurd (no_counts_by_clock c.scheme w f)
 protects_in_time c steps (CheckClock era (Failed count) link) p w f = grind (arith, nat_tests)
 protects_in_time c steps PublishRequest p w f = grind (arith, nat_tests)
 protects_in_time c steps LoadOwnClock p w f = grind (arith, nat_tests)
@@ -212,19 +203,19 @@ protects_in_time c steps (LoadAnswer first) p w f = grind (arith, nat_tests)
 protects_in_time c steps (TakeAnswer link era) p w f = grind (arith, nat_tests)
 protects_in_time c steps (WithdrawRequest link era) p w f = grind (arith, nat_tests)
 protects_in_time c steps (WithdrawHelper link era) p w f = grind (arith, nat_tests)
-protects_in_time c steps LoadWithin p w f = absurd (wfe_not_ibr c.scheme w f)
-protects_in_time c steps (CheckUpper link) p w f = absurd (wfe_not_ibr c.scheme w f)
-protects_in_time c steps (RaiseUpper era) p w f = absurd (wfe_not_ibr c.scheme w f)
+protects_in_time c steps LoadWithin p w f = absurd (no_counts_in_interval c.scheme w f)
+protects_in_time c steps (CheckUpper link) p w f = absurd (no_counts_in_interval c.scheme w f)
+protects_in_time c steps (RaiseUpper era) p w f = absurd (no_counts_in_interval c.scheme w f)
 
-pub reloads_in_time : (c : Config) (parent index slot era steps : ℕ) → base_paced c (Reload parent index slot era steps) ≡ true → is_wfe c.scheme ≡ true → steps ≤ protect_most c
-reloads_in_time c parent index slot era steps p w = reload_in_time (is_wfe c.scheme) p w
+pub reloads_in_time : (c : Config) (parent index slot era steps : ℕ) → base_paced c (Reload parent index slot era steps) ≡ true → counts_tries c.scheme ≡ true → steps ≤ protect_most c
+reloads_in_time c parent index slot era steps p w = reload_in_time (counts_tries c.scheme) p w
   where
     reload_in_time : (b : Bool) → reload_paced c steps b ≡ true → b ≡ true → steps ≤ protect_most c
     reload_in_time true p w = grind (arith, nat_tests)
     reload_in_time false p w = absurd (cc)
 
-tried_in_time : (c : Config) (steps era : ℕ) (tries : Tries) (link : ℕ) → paced c steps (CheckClock era tries link) ≡ true → is_wfe c.scheme ≡ true → protect_fits c.scheme c.tries (CheckClock era tries link) ≡ true → steps + 1 ≤ 3 * c.tries + 1
-tried_in_time c steps era Endless link p w f = absurd (wfe_not_he c.scheme w f)
+tried_in_time : (c : Config) (steps era : ℕ) (tries : Tries) (link : ℕ) → paced c steps (CheckClock era tries link) ≡ true → counts_tries c.scheme ≡ true → protect_fits c.scheme c.tries (CheckClock era tries link) ≡ true → steps + 1 ≤ 3 * c.tries + 1
+tried_in_time c steps era Endless link p w f = absurd (no_counts_by_clock c.scheme w f)
 tried_in_time c steps era (Failed count) link p w f = grind (arith, nat_tests)
 
 taken_in_time : (c : Config) (steps link era : ℕ) → paced c steps (TakeAnswer link era) ≡ true → steps + 1 ≤ 3 * c.tries + 12

@@ -4,7 +4,6 @@ use Rattle.std.proofs.lemmas.Bool.Decides.{nat_tests}
 use Rattle.std.specs.Prelude.{◌==◌, nat_le, Option, Some, None}
 use Rattle.inv_shapes.specs.words.declared.config.Config.{Config}
 use Rattle.inv_shapes.specs.words.declared.config.SchemeKind.{SchemeKind}
-use Rattle.inv_shapes.specs.words.declared.config.SchemeKind.TheVariants.{He, Ibr, Wfe}
 use Rattle.inv_shapes.specs.words.declared.packed.Request.{Request}
 use Rattle.inv_shapes.specs.words.declared.packed.Request.TheVariants as requests
 use Rattle.inv_shapes.specs.words.Packed.{read_request}
@@ -25,7 +24,8 @@ use Rattle.inv_shapes.specs.model.Machine.{protect_turn}
 use Rattle.inv_shapes.specs.model.Rest.{protect_most}
 use Rattle.inv_shapes.specs.model.Calls.{Why, Phase}
 use Rattle.inv_shapes.specs.Frame.{StepsOn}
-use Rattle.inv_shapes.specs.words.Schemes.{is_ibr, is_wfe, is_he}
+use Rattle.inv_shapes.specs.words.Schemes.{counts_tries}
+use Rattle.inv_shapes.proofs.words.Schemes.{clock_not_counts, interval_not_counts}
 use Rattle.inv_shapes.specs.Seats.{protect_fits}
 use Rattle.inv_requests.specs.Paces.{paced, reload_paced, phase_paced}
 use Rattle.inv_shapes.proofs.model.Facts.{if_by}
@@ -49,7 +49,7 @@ answer_paced c n (Some requests.Idle) h = h
 answer_paced c n None h = h
 
 -- a protection that ends has made no more steps than it may
-concluded_pace : (c : Config) (why : Why) (aim : Aim) (index : ℕ) (root : Root) (n link era : ℕ) (post : Post) (told : List Event) → reload_paced c n (is_wfe c.scheme) ≡ true → StepsOn Any (InPace c) why (concluded aim index root n link era post told)
+concluded_pace : (c : Config) (why : Why) (aim : Aim) (index : ℕ) (root : Root) (n link era : ℕ) (post : Post) (told : List Event) → reload_paced c n (counts_tries c.scheme) ≡ true → StepsOn Any (InPace c) why (concluded aim index root n link era post told)
 concluded_pace c why Alone index root n link era post told h = record { post = tt; phase = tt }
 concluded_pace c why Follows index root n link era post told h =
     if_by (link == 0) (ends post told (Followed follow_ends.NoNext)) (goes post told (Reload (parent_of root) index (link - 1) era n))
@@ -59,21 +59,9 @@ most_reload : (c : Config) (n : ℕ) (b : Bool) → n ≤ protect_most c → rel
 most_reload c n true h = grind (arith, nat_tests)
 most_reload c n false h = refl
 
--- under 2GE, and under Hazard Eras, steps are not counted
-free_reload : (c : Config) (n : ℕ) (scheme : SchemeKind) → is_wfe scheme ≡ false → reload_paced c n (is_wfe scheme) ≡ true
-free_reload c n He h = refl
-free_reload c n Ibr h = refl
-free_reload c n Wfe h = absurd (cc)
-
-he_not_wfe : (scheme : SchemeKind) → is_he scheme ≡ true → is_wfe scheme ≡ false
-he_not_wfe He h = refl
-he_not_wfe Ibr h = refl
-he_not_wfe Wfe h = absurd (cc)
-
-ibr_not_wfe : (scheme : SchemeKind) → is_ibr scheme ≡ true → is_wfe scheme ≡ false
-ibr_not_wfe He h = refl
-ibr_not_wfe Ibr h = refl
-ibr_not_wfe Wfe h = absurd (cc)
+-- where tries are not counted, steps are not
+free_reload : (c : Config) (n : ℕ) (scheme : SchemeKind) → counts_tries scheme ≡ false → reload_paced c n (counts_tries scheme) ≡ true
+free_reload c n scheme h = rw h refl
 
 publish_pace : (c : Config) (why : Why) (aim : Aim) (index : ℕ) (root : Root) (steps n era : ℕ) (tries : Tries) (post : Post) (told : List Event) → n ≤ steps + 1 → paced c steps (PublishEra era tries) ≡ true
     → StepsOn Any (InPace c) why (goes post told (Protect aim index root n (trying c era tries)))
@@ -86,11 +74,11 @@ check_pace : (c : Config) (why : Why) (aim : Aim) (index : ℕ) (root : Root) (s
     → StepsOn Any (InPace c) why (protect_turn aim index root n (CheckClock era tries link) post found)
 check_pace c why aim index root steps n era link found Endless post h p f =
     if_by (found == era) (protected aim index root n link era post) (goes post [] (Protect aim index root n (PublishEra found Endless))) (StepsOn Any (InPace c) why)
-    (λ e. concluded_pace c why aim index root n link era (held_post post index root link) (told_held index root link n) (free_reload c n c.scheme (he_not_wfe c.scheme f)))
+    (λ e. concluded_pace c why aim index root n link era (held_post post index root link) (told_held index root link n) (free_reload c n c.scheme (clock_not_counts c.scheme f)))
     (λ e. record { post = tt; phase = refl })
 check_pace c why aim index root steps n era link found (Failed count) post h p f =
     if_by (found == era) (protected aim index root n link era post) (goes post [] (Protect aim index root n (PublishEra found (Failed (count + 1))))) (StepsOn Any (InPace c) why)
-    (λ e. concluded_pace c why aim index root n link era (held_post post index root link) (told_held index root link n) (most_reload c n (is_wfe c.scheme) (grind (arith, nat_tests))))
+    (λ e. concluded_pace c why aim index root n link era (held_post post index root link) (told_held index root link n) (most_reload c n (counts_tries c.scheme) (grind (arith, nat_tests))))
     (λ e. record { post = tt; phase = grind (arith, nat_tests) })
 
 load_clock_pace : (c : Config) (steps n era : ℕ) (tries : Tries) → n ≤ steps + 1 → paced c steps (LoadClock tries) ≡ true → paced c n (PublishEra era tries) ≡ true
@@ -138,10 +126,10 @@ protect_pace c why aim index root steps n (AnswerOwn first era link) post found 
 protect_pace c why aim index root steps n (LoadAnswer first) post found t h p f = record { post = tt; phase = answer_paced c n (read_request found) (grind (arith, nat_tests)) }
 protect_pace c why aim index root steps n (TakeAnswer link era) post found t h p f = record { post = tt; phase = grind (arith, nat_tests) }
 protect_pace c why aim index root steps n (WithdrawRequest link era) post found t h p f = record { post = tt; phase = grind (arith, nat_tests) }
-protect_pace c why aim index root steps n (WithdrawHelper link era) post found t h p f = concluded_pace c why aim index root n link era post (reserves_helper post 0) (most_reload c n (is_wfe c.scheme) (grind (arith, nat_tests)))
+protect_pace c why aim index root steps n (WithdrawHelper link era) post found t h p f = concluded_pace c why aim index root n link era post (reserves_helper post 0) (most_reload c n (counts_tries c.scheme) (grind (arith, nat_tests)))
 protect_pace c why aim index root steps n LoadWithin post found t h p f = record { post = tt; phase = refl }
 protect_pace c why aim index root steps n (CheckUpper link) post found t h p f =
     if_by (found == upper post.span) (protected aim index root n link found post) (goes post [] (Protect aim index root n (RaiseUpper found))) (StepsOn Any (InPace c) why)
-    (λ e. concluded_pace c why aim index root n link found (held_post post index root link) (told_held index root link n) (free_reload c n c.scheme (ibr_not_wfe c.scheme f)))
+    (λ e. concluded_pace c why aim index root n link found (held_post post index root link) (told_held index root link n) (free_reload c n c.scheme (interval_not_counts c.scheme f)))
     (λ e. record { post = tt; phase = refl })
 protect_pace c why aim index root steps n (RaiseUpper era) post found t h p f = record { post = tt; phase = refl }

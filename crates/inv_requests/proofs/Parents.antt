@@ -8,9 +8,9 @@ use Rattle.inv_shapes.specs.model.Desks.{Desk}
 use Rattle.inv_shapes.specs.model.Posts.{counted}
 use Rattle.inv_shapes.specs.model.Phases.{ProtectAt, Base, Outcome, Goes, Ends}
 use Rattle.inv_shapes.specs.model.Phases.ProtectAt.{WithdrawRequest, WithdrawHelper}
-use Rattle.inv_shapes.specs.model.Phases.Base.{Begin, Protect, Reload, Clear, Finish, Release, Allocate, Write, GiveUp, Retire, Move}
+use Rattle.inv_shapes.specs.model.Phases.Base.{Protect}
 use Rattle.inv_shapes.specs.model.Machine.{after}
-use Rattle.inv_shapes.specs.model.Calls.{Why, Opens, FollowsHead, Fills, ClearsNext, Clears, Finishes, GivesUp, Retires, Tidies, Advances, Releases, Work, Getting, Changing, Enqueuing, Dequeuing, Phase, Idle, Runs, Scans, Works}
+use Rattle.inv_shapes.specs.model.Calls.{Why, Opens, FollowsHead, Work, Getting, Changing, Enqueuing, Dequeuing, Phase, Idle, Runs, Scans, Works}
 use Rattle.inv_shapes.specs.model.Steps.{resumed, phase_turn}
 use Rattle.inv_shapes.specs.model.Locals.{Local, begun_post, turn}
 use Rattle.inv_shapes.specs.model.World.{World, start, begin, step, finds}
@@ -31,29 +31,12 @@ protect_counted at index post h = tt
 
 pub base_counted : (base : Base) (post : Post) → base_stands base post → base_stands base (counted post)
 base_counted (Protect aim index root steps at) post h = protect_counted at index post h
-base_counted (Begin at) post h = tt
-base_counted (Reload parent index slot era steps) post h = tt
-base_counted (Clear index) post h = tt
-base_counted Finish post h = tt
-base_counted Release post h = tt
-base_counted (Allocate at) post h = tt
-base_counted (Write slot row place) post h = tt
-base_counted (GiveUp slot) post h = tt
-base_counted (Retire at) post h = tt
-base_counted (Move at) post h = tt
+base_counted base post h = tt
 
 pub why_counted : (why : Why) (base : Base) (post : Post) → why_stands why base post → why_stands why base (counted post)
 why_counted (Opens task) base post h = base_counted base post h
 why_counted (FollowsHead head tail) base post h = h
-why_counted (Fills task) base post h = tt
-why_counted (ClearsNext next) base post h = tt
-why_counted (Clears task next) base post h = tt
-why_counted (Finishes task next) base post h = tt
-why_counted (GivesUp answer) base post h = tt
-why_counted (Retires answer) base post h = tt
-why_counted (Tidies later) base post h = tt
-why_counted Advances base post h = tt
-why_counted (Releases key) base post h = tt
+why_counted why base post h = tt
 
 work_counted : (work : Work) (post : Post) → work_stands work post → work_stands work (counted post)
 work_counted (Getting key at) post h = tt

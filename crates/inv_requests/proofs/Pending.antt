@@ -9,7 +9,7 @@ use Rattle.inv_shapes.specs.model.Links.{link_number}
 use Rattle.inv_shapes.specs.model.Posts.{tag_of}
 use Rattle.inv_shapes.specs.model.SlowPath.{own_request}
 use Rattle.inv_shapes.specs.model.Phases.{Aim, ProtectAt, MoveAt}
-use Rattle.inv_shapes.specs.model.Phases.ProtectAt.{LoadClock, PublishEra, LoadLink, CheckClock, PublishRequest, LoadOwnClock, PublishHelper, LoadOwnLink, CheckOwnClock, AnswerOwn, LoadAnswer, TakeAnswer, WithdrawRequest, WithdrawHelper, LoadWithin, CheckUpper, RaiseUpper}
+use Rattle.inv_shapes.specs.model.Phases.ProtectAt.{LoadClock, PublishEra, LoadLink, CheckClock, PublishRequest, LoadOwnClock, PublishHelper, LoadOwnLink, CheckOwnClock, AnswerOwn}
 use Rattle.inv_shapes.specs.model.Phases.MoveAt.{LoadEra, LoadRequest, ShowEra, LoadAsked, CheckEra, AnswerAsked, LoadReserved, HandOver, HideEra, HideLate, ExchangeClock}
 use Rattle.inv_shapes.specs.model.Phases.Base.{Protect}
 use Rattle.inv_shapes.specs.model.Calls.{Why, Runs}
@@ -41,13 +41,7 @@ own_turn layout index root (PublishHelper start era last) first e = record { tur
 own_turn layout index root (LoadOwnLink start era last) first e = record { turns = refl; since = cc; asks = λ d h. h }
 own_turn layout index root (CheckOwnClock start era last link) first e = record { turns = refl; since = cc; asks = λ d h. h }
 own_turn layout index root (AnswerOwn start era link) first e = record { turns = refl; since = cc; asks = λ d h. h }
-own_turn layout index root (LoadAnswer start) first e = absurd (cc)
-own_turn layout index root (TakeAnswer link era) first e = absurd (cc)
-own_turn layout index root (WithdrawRequest link era) first e = absurd (cc)
-own_turn layout index root (WithdrawHelper link era) first e = absurd (cc)
-own_turn layout index root LoadWithin first e = absurd (cc)
-own_turn layout index root (CheckUpper link) first e = absurd (cc)
-own_turn layout index root (RaiseUpper era) first e = absurd (cc)
+own_turn layout index root at first e = absurd (cc)
 
 -- a mover from an era, by its phase
 pub record From (layout : Layout) (at : MoveAt) (era : ℕ) : Type 0 where

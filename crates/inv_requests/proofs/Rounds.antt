@@ -32,6 +32,7 @@ use Rattle.inv_shapes.specs.model.Scan as scan
 use Rattle.inv_shapes.specs.model.Steps as steps
 use Rattle.inv_shapes.specs.model.Calls.{Task, Gets, Changes, Holds, Enqueues, Dequeues, Next, Again, MakeRoom, Answering, Retiring, AfterScan, Answered, Repeated, Counted, Why, ChangeKept, EnqueueKept, GetAt, FindVersion, FindCount, FindKey, FindValue, ChangeAt, LoadVersion, LoadCount, LoadKey, LoadValue, ExchangeRoot, EnqueueAt, LoadNumber, LoadNext, PassTail, ExchangeNext, ExchangeTail, DequeueAt, LoadTail, SwingTail, TakeNumber, TakeValue, ExchangeHead, Work, Getting, Changing, Enqueuing, Dequeuing, ScanAt, ReadGuard, GiveBack, Opens, FollowsHead, Fills, ClearsNext, Clears, Finishes, GivesUp, Retires, Tidies, Advances, Releases}
 use Rattle.inv_requests.specs.Parents.{protect_stands, phase_stands, head_in, work_stands, ended, why_ended, TurnStands}
+use Rattle.inv_shapes.proofs.model.Schemes.{each_begin}
 
 protect_starts : (scheme : SchemeKind) (index : ℕ) (post : Post) → protect_stands (protect_at scheme) index post
 protect_starts He index post = tt
@@ -43,9 +44,10 @@ span_stands task post None = tt
 span_stands task post (Some span) = protect_starts (scheme_of post) (index_of task) post
 
 begin_stands : (task : Task) (post : Post) (scheme : SchemeKind) → phase_stands (round_by task post (begin_base scheme post)) post
-begin_stands task post He = protect_starts (scheme_of post) (index_of task) post
-begin_stands task post Ibr = span_stands task post post.span
-begin_stands task post Wfe = protect_starts (scheme_of post) (index_of task) post
+begin_stands task post scheme =
+    each_begin scheme post (λ (base : Option Base). phase_stands (round_by task post base) post)
+    (protect_starts (scheme_of post) (index_of task) post)
+    (span_stands task post post.span)
 
 pub round_stands : (task : Task) (post : Post) → phase_stands (round task post) post
 round_stands task post = begin_stands task post (scheme_of post)

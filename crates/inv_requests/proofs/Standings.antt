@@ -1,5 +1,5 @@
 -- Inside a machine the parent of a followed link stands on, and what was protected stands.
-use Rattle.std.proofs.Common.{ℕ, ◌≡◌, ◌<◌, ◌+◌, Bool, true, false, List, [], ◌∷◌, length, arith, refl, sym, ap, subst, ◌∙◌}
+use Rattle.std.proofs.Common.{ℕ, ◌≡◌, ◌<◌, ◌+◌, Bool, true, false, [], ◌∷◌, length, arith, refl, sym, ap, subst, ◌∙◌}
 use Rattle.std.proofs.lemmas.Bool.Decides.{nat_tests}
 use Rattle.std.proofs.lemmas.List.{get_or-set_same, get_or-set_other}
 use Rattle.std.specs.Prelude.{◌==◌, ◌-◌, nat_le, if◌then◌else◌, Option, Some, None}
@@ -7,7 +7,6 @@ use Rattle.inv_shapes.specs.words.Packed.{read_request}
 use Rattle.inv_shapes.specs.words.declared.layout.Layout.{Layout}
 use Rattle.inv_shapes.specs.words.declared.packed.Request.{Request}
 use Rattle.inv_shapes.specs.words.declared.packed.Request.TheVariants as requests
-use Rattle.inv_shapes.specs.defs.declared.event.Event.{Event}
 use Rattle.inv_shapes.specs.defs.declared.event.Event.TheVariants as events
 use Rattle.inv_shapes.specs.defs.declared.event.Root.{Root}
 use Rattle.inv_shapes.specs.defs.declared.event.Root.TheVariants as root_names
@@ -15,12 +14,11 @@ use Rattle.inv_shapes.specs.model.declared.ends.FollowEnd.TheVariants as follow_
 use Rattle.inv_shapes.specs.model.declared.ends.ProtectEnd.{ProtectEnd}
 use Rattle.inv_shapes.specs.model.declared.ends.ProtectEnd.TheVariants as protect_ends
 use Rattle.inv_shapes.specs.model.declared.post.Post.{Post}
-use Rattle.inv_shapes.specs.model.Links.{parent_of}
 use Rattle.inv_shapes.specs.model.Memory.{bump}
 use Rattle.inv_shapes.specs.model.Posts.{stands, with_row, with_tag, tag_of, upper, reserves_index, reserves_helper}
-use Rattle.inv_shapes.specs.model.Protect.{protect_end, held_post, told_held, concluded, protected, trying, failed_once}
+use Rattle.inv_shapes.specs.model.Protect.{protect_end, held_post, told_held, protected, trying, failed_once}
 use Rattle.inv_shapes.specs.model.SlowPath.{answer_in, lost_turn, own_request}
-use Rattle.inv_shapes.specs.model.Phases.{Aim, Alone, Follows, Tries, Endless, Failed, ProtectAt, Base, Ending, Outcome, Goes, Ends, Turn, goes, ends}
+use Rattle.inv_shapes.specs.model.Phases.{Aim, Alone, Tries, Endless, Failed, ProtectAt, Base, Ending, Outcome, Goes, Ends, Turn, goes, ends}
 use Rattle.inv_shapes.specs.model.Phases.BeginAt.{LoadLower, PublishSpan}
 use Rattle.inv_shapes.specs.model.Phases.ProtectAt.{LoadClock, PublishEra, LoadLink, CheckClock, PublishRequest, LoadOwnClock, PublishHelper, LoadOwnLink, CheckOwnClock, AnswerOwn, LoadAnswer, TakeAnswer, WithdrawRequest, WithdrawHelper, LoadWithin, CheckUpper, RaiseUpper}
 use Rattle.inv_shapes.specs.model.Phases.Base.{Begin, Protect, Reload, Clear, Finish, Release, Allocate, Write, GiveUp, Retire, Move}
@@ -32,6 +30,7 @@ use Rattle.inv_shapes.specs.Seats.{PostFits, Run, task_root}
 use Rattle.inv_requests.specs.Parents.{LinkStands, protect_stands, base_stands, why_stands, protect_ended, why_ended, OutcomeStands, MachineStands}
 use Rattle.inv_shapes.proofs.model.Standing.{stands-with_row_same}
 use Rattle.inv_shapes.proofs.model.Facts.{if_by}
+use Rattle.inv_shapes.proofs.Frame.{concluded_post}
 
 row_other : (post : Post) (index slot j : ℕ) → (j == index) ≡ false → stands (with_row post index slot) j ≡ stands post j
 row_other post index slot j h = get_or-set_other post.standing index j (Some slot) None (λ e. grind (arith, nat_tests))
@@ -111,11 +110,6 @@ open_stands task index root n (CheckUpper link) post found e r b h =
 open_stands task index root n (RaiseUpper era) post found e r b h = tt
 
 -- the follow leaves what stands at index 0
-concluded_post : (aim : Aim) (index : ℕ) (root : Root) (n link era : ℕ) (post : Post) (told : List Event) → (concluded aim index root n link era post told).post ≡ post
-concluded_post Alone index root n link era post told = refl
-concluded_post Follows index root n link era post told =
-    if_by (link == 0) (ends post told (Followed follow_ends.NoNext)) (goes post told (Reload (parent_of root) index (link - 1) era n)) (λ (t : Turn). t.post ≡ post) (λ e. refl) (λ e. refl)
-
 follow_keeps : (aim : Aim) (index parent n : ℕ) (at : ProtectAt) (post : Post) (found : ℕ) → stands (protect_turn aim index (root_names.Next parent) n at post found).post 0 ≡ stands post 0
 follow_keeps aim index parent n (LoadClock tries) post found = refl
 follow_keeps aim index parent n (PublishEra era tries) post found = refl

@@ -24,6 +24,8 @@ use Rattle.inv_requests.specs.Views.Role.{Away}
 use Rattle.inv_requests.specs.Parts.{Parts}
 use Rattle.inv_requests.specs.Standing.{protect_role, base_role, base_there, role_of, is_there, Words, Locals}
 use Rattle.inv_requests.specs.Turns.{PostOf, RoleOf, Made}
+use Rattle.inv_shapes.proofs.model.Schemes.{each_release}
+use Rattle.inv_shapes.specs.model.Phases.{Base}
 
 some_cells : (n m : ℕ) → 1 ≤ n → 1 ≤ m → 0 < n * m
 some_cells n m a b = grind (arith, rows)
@@ -43,14 +45,10 @@ protect_away layout index root Ibr = refl
 protect_away layout index root Wfe = refl
 
 release_away : (layout : Layout) (scheme : SchemeKind) → base_role layout (release_base scheme) ≡ Away
-release_away layout He = refl
-release_away layout Ibr = refl
-release_away layout Wfe = refl
+release_away layout scheme = each_release scheme (λ (base : Base). base_role layout base ≡ Away) refl refl
 
 release_there : (layout : Layout) (scheme : SchemeKind) → base_there layout (release_base scheme) ≡ true
-release_there layout He = refl
-release_there layout Ibr = refl
-release_there layout Wfe = refl
+release_there layout scheme = each_release scheme (λ (base : Base). base_there layout base ≡ true) refl refl
 
 -- each phase that a call comes to by anything but a step inside a machine asks and helps nothing
 pub away : (layout : Layout) (tags : List ℕ) → Grows (PostOf layout tags) (RoleOf layout Away)

@@ -5,10 +5,10 @@ use Rattle.inv_shapes.specs.words.declared.layout.Layout.{Layout}
 use Rattle.inv_shapes.specs.defs.declared.event.Root.{Root}
 use Rattle.inv_shapes.specs.model.Links.{link_place}
 use Rattle.inv_shapes.specs.model.Phases.{Base}
-use Rattle.inv_shapes.specs.model.Phases.Base.{Begin, Protect, Reload, Clear, Finish, Release, Allocate, Write, GiveUp, Retire, Move}
+use Rattle.inv_shapes.specs.model.Phases.Base.{Begin, Protect}
 use Rattle.inv_shapes.specs.model.Calls.{Phase, Idle, Runs, Scans, Works}
 use Rattle.inv_shapes.specs.model.Locals.{Local}
-use Rattle.inv_shapes.specs.words.Schemes.{is_wfe}
+use Rattle.inv_shapes.specs.words.Schemes.{helps}
 use Rattle.inv_requests.specs.Views.{View}
 use Rattle.inv_requests.specs.Roles.{is_turn}
 use Rattle.inv_requests.specs.Standing.{Facts}
@@ -17,15 +17,7 @@ use Rattle.inv_requests.specs.Standing.{Facts}
 abbrev pub guards_there : Layout → Base → Bool
 guards_there layout (Begin at) = true
 guards_there layout (Protect aim index root steps at) = nat_lt index layout.config.indexes && has layout (link_place root)
-guards_there layout (Reload parent index slot era steps) = true
-guards_there layout (Clear index) = true
-guards_there layout Finish = true
-guards_there layout Release = true
-guards_there layout (Allocate at) = true
-guards_there layout (Write slot row place) = true
-guards_there layout (GiveUp slot) = true
-guards_there layout (Retire at) = true
-guards_there layout (Move at) = true
+guards_there layout base = true
 
 abbrev pub phase_there : Layout → Phase → Bool
 phase_there layout Idle = true
@@ -45,4 +37,4 @@ pub record At (mem : Place → ℕ) (seat : ℕ → Local) (i : ℕ) (v : View) 
   -- a word that holds links holds one in range
   pub links : (root : Root) → has (seat i).post.layout (link_place root) ≡ true → mem (link_place root) ≤ (seat i).post.layout.config.slots + 1
   -- requests are made under Wait-Free Eras alone
-  pub alone : (k : ℕ) → is_wfe (seat i).post.layout.config.scheme ≡ false → is_turn (v.role k) ≡ false
+  pub alone : (k : ℕ) → helps (seat i).post.layout.config.scheme ≡ false → is_turn (v.role k) ≡ false

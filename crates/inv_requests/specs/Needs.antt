@@ -4,22 +4,14 @@ use Rattle.inv_shapes.specs.words.Place.{has}
 use Rattle.inv_shapes.specs.words.declared.config.Config.{Config}
 use Rattle.inv_shapes.specs.defs.declared.event.Root.{Root}
 use Rattle.inv_shapes.specs.model.Links.{link_place}
-use Rattle.inv_shapes.specs.model.Calls.{Why, Opens, FollowsHead, Fills, ClearsNext, Clears, Finishes, GivesUp, Retires, Tidies, Advances, Releases, Phase, Idle, Runs, Scans, Works}
+use Rattle.inv_shapes.specs.model.Calls.{Why, Opens, FollowsHead, Phase, Idle, Runs, Scans, Works}
 use Rattle.inv_shapes.specs.model.World.{World}
 
 -- the head's row, whose next link is followed, is one of the table's
 abbrev pub head_fits : Config → Why → Bool
 head_fits c (Opens task) = true
 head_fits c (FollowsHead head tail) = nat_le head c.slots
-head_fits c (Fills task) = true
-head_fits c (ClearsNext next) = true
-head_fits c (Clears task next) = true
-head_fits c (Finishes task next) = true
-head_fits c (GivesUp answer) = true
-head_fits c (Retires answer) = true
-head_fits c (Tidies later) = true
-head_fits c Advances = true
-head_fits c (Releases key) = true
+head_fits c why = true
 
 abbrev pub heads_fit : Config → Phase → Bool
 heads_fit c Idle = true

@@ -10,7 +10,7 @@ use Rattle.inv_shapes.specs.model.Memory.{upd}
 use Rattle.inv_shapes.specs.model.Posts.{tag_of}
 use Rattle.inv_shapes.specs.model.SlowPath.{asking, own_request}
 use Rattle.inv_shapes.specs.model.Phases.{ProtectAt, MoveAt, Base}
-use Rattle.inv_shapes.specs.model.Phases.ProtectAt.{LoadClock, PublishEra, LoadLink, CheckClock, PublishRequest, LoadOwnClock, PublishHelper, LoadOwnLink, CheckOwnClock, AnswerOwn, LoadAnswer, TakeAnswer, WithdrawRequest, WithdrawHelper, LoadWithin, CheckUpper, RaiseUpper}
+use Rattle.inv_shapes.specs.model.Phases.ProtectAt.{LoadClock, PublishEra, LoadLink, CheckClock, PublishRequest, LoadOwnClock, PublishHelper, LoadOwnLink, CheckOwnClock, AnswerOwn, LoadAnswer, TakeAnswer, WithdrawRequest}
 use Rattle.inv_shapes.specs.model.Phases.MoveAt.{LoadEra, LoadRequest, ShowEra, LoadAsked, CheckEra, AnswerAsked, LoadReserved, HandOver, HideEra, HideLate, ExchangeClock}
 use Rattle.inv_shapes.specs.model.Phases.Base.{Begin, Protect, Reload, Clear, Finish, Release, Allocate, Write, GiveUp, Retire, Move}
 use Rattle.inv_shapes.specs.model.Calls.{Phase, Idle, Runs, Scans, Works}
@@ -36,10 +36,7 @@ protect_deals mem i post j r (AnswerOwn first era link) deals =
 protect_deals mem i post j r (LoadAnswer first) deals = deals
 protect_deals mem i post j r (TakeAnswer link era) deals = upd deals i (Taken (tag_of post j) j (link_number post.layout r) link era)
 protect_deals mem i post j r (WithdrawRequest link era) deals = upd deals i Quiet
-protect_deals mem i post j r (WithdrawHelper link era) deals = deals
-protect_deals mem i post j r LoadWithin deals = deals
-protect_deals mem i post j r (CheckUpper link) deals = deals
-protect_deals mem i post j r (RaiseUpper era) deals = deals
+protect_deals mem i post j r at deals = deals
 
 -- a mover answers a request, and hands its answer over
 abbrev pub move_deals : (Place → ℕ) → ℕ → Post → MoveAt → (ℕ → Deal) → ℕ → Deal

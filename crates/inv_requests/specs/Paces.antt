@@ -2,7 +2,7 @@
 use Rattle.std.specs.Prelude.{ℕ, ◌≡◌, Bool, true, false, not, nat_le, nat_lt, ◌&&◌, ◌||◌, ◌+◌, ◌*◌, ◌≤◌, ◌==◌}
 use Rattle.inv_shapes.specs.words.declared.config.Config.{Config}
 use Rattle.inv_shapes.specs.model.Phases.{Aim, Tries, Endless, Failed, ProtectAt, MoveAt, Base, Outcome, Goes, Ends}
-use Rattle.inv_shapes.specs.model.Phases.ProtectAt.{LoadClock, PublishEra, LoadLink, CheckClock, PublishRequest, LoadOwnClock, PublishHelper, LoadOwnLink, CheckOwnClock, AnswerOwn, LoadAnswer, TakeAnswer, WithdrawRequest, WithdrawHelper, LoadWithin, CheckUpper, RaiseUpper}
+use Rattle.inv_shapes.specs.model.Phases.ProtectAt.{LoadClock, PublishEra, LoadLink, CheckClock, PublishRequest, LoadOwnClock, PublishHelper, LoadOwnLink, CheckOwnClock, AnswerOwn, LoadAnswer, TakeAnswer, WithdrawRequest, WithdrawHelper}
 use Rattle.inv_shapes.specs.model.Phases.Base.{Begin, Protect, Reload, Clear, Finish, Release, Allocate, Write, GiveUp, Retire, Move}
 use Rattle.inv_shapes.specs.model.Phases.MoveAt.{LoadEra}
 use Rattle.inv_shapes.specs.model.Machine.{move_turn}
@@ -11,7 +11,7 @@ use Rattle.inv_shapes.specs.model.Calls.{Why, Phase, Idle, Runs, Scans, Works}
 use Rattle.inv_shapes.specs.defs.declared.event.Root.{Root}
 use Rattle.inv_shapes.specs.model.Rest.{protect_left, protect_most, move_left}
 use Rattle.inv_shapes.specs.model.World.{World, finds}
-use Rattle.inv_shapes.specs.words.Schemes.{is_wfe}
+use Rattle.inv_shapes.specs.words.Schemes.{counts_tries}
 
 -- the steps made and those that are left are no more than a protection takes, while at most so many tries have failed
 abbrev pub try_paced : Config → ℕ → ProtectAt → Bool → Tries → Bool
@@ -37,9 +37,7 @@ paced c steps (LoadAnswer first) = nat_le (steps + protect_left c (LoadAnswer fi
 paced c steps (TakeAnswer link era) = nat_le (steps + protect_left c (TakeAnswer link era)) (protect_most c)
 paced c steps (WithdrawRequest link era) = nat_le (steps + protect_left c (WithdrawRequest link era)) (protect_most c)
 paced c steps (WithdrawHelper link era) = nat_le (steps + protect_left c (WithdrawHelper link era)) (protect_most c)
-paced c steps LoadWithin = true
-paced c steps (CheckUpper link) = true
-paced c steps (RaiseUpper era) = true
+paced c steps at = true
 
 -- a reload is one step more
 abbrev pub reload_paced : Config → ℕ → Bool → Bool
@@ -49,15 +47,8 @@ reload_paced c steps false = true
 abbrev pub base_paced : Config → Base → Bool
 base_paced c (Begin at) = true
 base_paced c (Protect aim index root steps at) = paced c steps at
-base_paced c (Reload parent index slot era steps) = reload_paced c steps (is_wfe c.scheme)
-base_paced c (Clear index) = true
-base_paced c Finish = true
-base_paced c Release = true
-base_paced c (Allocate at) = true
-base_paced c (Write slot row place) = true
-base_paced c (GiveUp slot) = true
-base_paced c (Retire at) = true
-base_paced c (Move at) = true
+base_paced c (Reload parent index slot era steps) = reload_paced c steps (counts_tries c.scheme)
+base_paced c base = true
 
 abbrev pub phase_paced : Config → Phase → Bool
 phase_paced c Idle = true
@@ -70,14 +61,14 @@ pub record Paces (w : World) : Type 0 where
 
 -- under Wait-Free Eras the next step of a protection, or of its reload, is no later than its last
 pub record InTime (w : World) (k : ℕ) : Type 0 where
-  pub protects : (why : Why) (aim : Aim) (index : ℕ) (root : Root) (steps : ℕ) (at : ProtectAt) → is_wfe w.layout.config.scheme ≡ true
+  pub protects : (why : Why) (aim : Aim) (index : ℕ) (root : Root) (steps : ℕ) (at : ProtectAt) → counts_tries w.layout.config.scheme ≡ true
       → (w.seat k).phase ≡ Runs why (Protect aim index root steps at) → steps + 1 ≤ 3 * w.layout.config.tries + 14
   -- where Held or Null is told with the last try, and with the taking of an answer
-  pub tries : (why : Why) (aim : Aim) (index : ℕ) (root : Root) (steps era : ℕ) (tries : Tries) (link : ℕ) → is_wfe w.layout.config.scheme ≡ true
+  pub tries : (why : Why) (aim : Aim) (index : ℕ) (root : Root) (steps era : ℕ) (tries : Tries) (link : ℕ) → counts_tries w.layout.config.scheme ≡ true
       → (w.seat k).phase ≡ Runs why (Protect aim index root steps (CheckClock era tries link)) → steps + 1 ≤ 3 * w.layout.config.tries + 1
   pub takes : (why : Why) (aim : Aim) (index : ℕ) (root : Root) (steps link era : ℕ)
       → (w.seat k).phase ≡ Runs why (Protect aim index root steps (TakeAnswer link era)) → steps + 1 ≤ 3 * w.layout.config.tries + 12
-  pub reloads : (why : Why) (parent index slot era steps : ℕ) → is_wfe w.layout.config.scheme ≡ true
+  pub reloads : (why : Why) (parent index slot era steps : ℕ) → counts_tries w.layout.config.scheme ≡ true
       → (w.seat k).phase ≡ Runs why (Reload parent index slot era steps) → steps + 1 ≤ 3 * w.layout.config.tries + 15
 
 -- the machine is still the move, with fewer steps left

@@ -7,10 +7,10 @@ use Rattle.inv_shapes.specs.model.declared.post.Post.{Post}
 use Rattle.inv_shapes.specs.model.Posts.{stands}
 use Rattle.inv_shapes.specs.model.Phases.{ProtectAt, Base, Ending, Outcome, Goes, Ends, Turn}
 use Rattle.inv_shapes.specs.model.Phases.ProtectAt.{WithdrawRequest, WithdrawHelper}
-use Rattle.inv_shapes.specs.model.Phases.Base.{Begin, Protect, Reload, Clear, Finish, Release, Allocate, Write, GiveUp, Retire, Move}
+use Rattle.inv_shapes.specs.model.Phases.Base.{Begin, Protect}
 use Rattle.inv_shapes.specs.model.Phases.Ending.{Done, Protected, Followed, Allocated, Retired, Clocked}
 use Rattle.inv_shapes.specs.model.Rounds.{index_of}
-use Rattle.inv_shapes.specs.model.Calls.{Why, Opens, FollowsHead, Fills, ClearsNext, Clears, Finishes, GivesUp, Retires, Tidies, Advances, Releases, DequeueAt, LoadTail, SwingTail, TakeNumber, TakeValue, ExchangeHead, Work, Getting, Changing, Enqueuing, Dequeuing, Phase, Idle, Runs, Scans, Works, CallTurn}
+use Rattle.inv_shapes.specs.model.Calls.{Why, Opens, FollowsHead, DequeueAt, LoadTail, SwingTail, TakeNumber, TakeValue, ExchangeHead, Work, Getting, Changing, Enqueuing, Dequeuing, Phase, Idle, Runs, Scans, Works, CallTurn}
 use Rattle.inv_shapes.specs.model.World.{World}
 use Rattle.inv_shapes.specs.Frame.{phase_left}
 
@@ -26,28 +26,12 @@ protect_stands at index post = Unit {0}
 abbrev pub base_stands : Base → Post → Type 0
 base_stands (Begin at) post = Unit {0}
 base_stands (Protect aim index root steps at) post = protect_stands at index post
-base_stands (Reload parent index slot era steps) post = Unit {0}
-base_stands (Clear index) post = Unit {0}
-base_stands Finish post = Unit {0}
-base_stands Release post = Unit {0}
-base_stands (Allocate at) post = Unit {0}
-base_stands (Write slot row place) post = Unit {0}
-base_stands (GiveUp slot) post = Unit {0}
-base_stands (Retire at) post = Unit {0}
-base_stands (Move at) post = Unit {0}
+base_stands base post = Unit {0}
 
 abbrev pub why_stands : Why → Base → Post → Type 0
 why_stands (Opens task) base post = base_stands base post
 why_stands (FollowsHead head tail) base post = stands post 0 ≡ Some head
-why_stands (Fills task) base post = Unit {0}
-why_stands (ClearsNext next) base post = Unit {0}
-why_stands (Clears task next) base post = Unit {0}
-why_stands (Finishes task next) base post = Unit {0}
-why_stands (GivesUp answer) base post = Unit {0}
-why_stands (Retires answer) base post = Unit {0}
-why_stands (Tidies later) base post = Unit {0}
-why_stands Advances base post = Unit {0}
-why_stands (Releases key) base post = Unit {0}
+why_stands why base post = Unit {0}
 
 -- the head's row that a dequeue protects
 abbrev pub head_in : DequeueAt → ℕ
@@ -86,15 +70,7 @@ ended (Clocked clock) index post = Unit {0}
 abbrev pub why_ended : Why → Ending → Post → Type 0
 why_ended (Opens task) ending post = ended ending (index_of task) post
 why_ended (FollowsHead head tail) ending post = stands post 0 ≡ Some head
-why_ended (Fills task) ending post = Unit {0}
-why_ended (ClearsNext next) ending post = Unit {0}
-why_ended (Clears task next) ending post = Unit {0}
-why_ended (Finishes task next) ending post = Unit {0}
-why_ended (GivesUp answer) ending post = Unit {0}
-why_ended (Retires answer) ending post = Unit {0}
-why_ended (Tidies later) ending post = Unit {0}
-why_ended Advances ending post = Unit {0}
-why_ended (Releases key) ending post = Unit {0}
+why_ended why ending post = Unit {0}
 
 abbrev pub OutcomeStands : Why → Outcome → Post → Type 0
 OutcomeStands why (Goes base) post = why_stands why base post

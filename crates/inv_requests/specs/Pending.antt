@@ -54,9 +54,7 @@ seat_in seats (CheckEra era seat tag index root link) = seat
 seat_in seats (AnswerAsked era seat tag index root link) = seat
 seat_in seats (LoadReserved era seat tag index root link) = seat
 seat_in seats (HandOver era seat tag index root link old) = seat
-seat_in seats (HideEra era) = seats
-seat_in seats (HideLate seen) = seats
-seat_in seats (ExchangeClock era) = seats
+seat_in seats at = seats
 
 -- while the request of seat k is pending in its own turns the clock is at most one above the first value that it loaded,
 -- and no mover from the value one above has passed the request

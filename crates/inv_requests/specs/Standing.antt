@@ -85,9 +85,7 @@ asked_there layout (CheckEra e k t j r link) = has layout (link_place r)
 asked_there layout (AnswerAsked e k t j r link) = has layout (link_place r)
 asked_there layout (LoadReserved e k t j r link) = has layout (link_place r)
 asked_there layout (HandOver e k t j r link old) = has layout (link_place r)
-asked_there layout (HideEra e) = true
-asked_there layout (HideLate seen) = true
-asked_there layout (ExchangeClock e) = true
+asked_there layout at = true
 
 abbrev pub base_there : Layout → Base → Bool
 base_there layout (Begin at) = true

@@ -16,7 +16,7 @@ use Rattle.wfe_core.specs.Desks.{Desk, noting}
 use Rattle.wfe_core.specs.Posts.{counted, stands}
 use Rattle.wfe_core.specs.Rounds.{scheme_of}
 use Rattle.wfe_core.specs.Steps.{first_phase, holding}
-use Rattle.wfe_core.specs.Calls.{Phase, Idle, Runs, Scans, Works, CallTurn, CallOutcome, GoesOn, Answers, Gets, Changes, Holds, Enqueues, Dequeues}
+use Rattle.wfe_core.specs.Calls.{Phase, Idle, CallTurn, CallOutcome, GoesOn, Answers, Gets, Changes, Holds, Enqueues, Dequeues}
 use Rattle.wfe_core.specs.Locals.{Local, busy_in, turn, settled, settled_by, told_by, rounds_told, begun, begun_post}
 use Rattle.wfe_core.specs.World.{start, step, finds}
 use Rattle.inv_rows.specs.Rows.{View, Good, RowMove, made, has_life, retire_in}
@@ -125,9 +125,7 @@ first_right names.Scan post list = refl
 
 pub idle_hand : (phase : Phase) → busy_in phase ≡ false → hand_in phase ≡ Empty
 idle_hand Idle h = refl
-idle_hand (Runs why base) h = cc
-idle_hand (Scans later at) h = cc
-idle_hand (Works work) h = cc
+idle_hand phase h = cc
 
 begun_plays : (i : ℕ) (v : View) (l : Local) (call : Call) → busy_in l.phase ≡ false → PlaysAs i l v → PlaysAs i (begun l call) v
 begun_plays i v l call h p = record {

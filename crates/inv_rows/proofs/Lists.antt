@@ -1,9 +1,10 @@
 -- Retire lists: one entry more at the end, and one less.
-use Rattle.std.proofs.Common.{ℕ, zero, suc, ◌≡◌, true, false, arith, refl, List, [], ◌∷◌, ◌++◌}
+use Rattle.std.proofs.Common.{ℕ, zero, suc, ◌≡◌, Bool, true, false, arith, refl, ap, List, [], ◌∷◌, ◌++◌}
 use Rattle.std.proofs.lemmas.Bool.Decides.{nat_tests}
 use Rattle.std.specs.Prelude.{◌==◌}
 use Rattle.std.specs.List.{remove}
 use Rattle.wfe_core.specs.defs.declared.lifetime.Lifetime.{Lifetime}
+use Rattle.wfe_core.proofs.Facts.{number_is}
 use Rattle.inv_rows.specs.Rows.{with, without}
 use Rattle.inv_rows.specs.Hands.{in_list, no_entry, each_once, stands_at}
 
@@ -89,3 +90,8 @@ stands_entered [] zero slot e = absurd (cc)
 stands_entered [] (suc place) slot e = absurd (cc)
 stands_entered (x ∷ xs) zero slot e = record { birth = x.birth; retire = x.retire; listed = grind (arith, nat_tests) }
 stands_entered (x ∷ xs) (suc place) slot e = more_entered x xs slot (stands_entered xs place slot e)
+
+-- where a test tells two numbers apart, they are not the same
+pub apart_by : (f : ℕ → Bool) (s slot : ℕ) (same : Bool) → (s == slot) ≡ same → f s ≡ true → f slot ≡ false → same ≡ false
+apart_by f s slot true e y z = let is : f s ≡ f slot = ap f (number_is s slot e) in absurd (cc)
+apart_by f s slot false e y z = refl

@@ -12,14 +12,13 @@ use Rattle.wfe_core.specs.Desks.{Desk}
 use Rattle.wfe_core.specs.Phases.{Ending, Ending as endings, Outcome, Goes, Ends}
 use Rattle.wfe_core.specs.Phases.Ending.{Done, Protected, Followed, Allocated, Clocked}
 use Rattle.wfe_core.specs.Rounds as rounds
-use Rattle.wfe_core.specs.Rounds.{scheme_of, taken_of, round, round_by, begin_base, begin_span, finish_base, finish_span, clear_base, clear_post, clear_told, index_of, closed, given_up, finishing, finishing_by, clearing, clearing_by, clearing_next, clearing_next_by}
 use Rattle.wfe_core.specs.Get as gets
 use Rattle.wfe_core.specs.Change as alters
 use Rattle.wfe_core.specs.Enqueue as enqueues
 use Rattle.wfe_core.specs.Dequeue as dequeues
 use Rattle.wfe_core.specs.Steps as steps
 use Rattle.wfe_core.specs.Calls.{EnqueueKept, Task, Gets, Changes, Holds, Enqueues, Dequeues, Again, Answering, Retiring, Why, Opens, FollowsHead, Fills, ClearsNext, Clears, Finishes, GivesUp, Retires, Tidies, Advances, Releases, LoadNumber, LoadNext, PassTail, ExchangeNext, ExchangeTail, LoadTail, SwingTail, TakeNumber, TakeValue, ExchangeHead, Work, Getting, Changing, Enqueuing, Dequeuing, CallTurn}
-use Rattle.wfe_core.specs.Steps.{run_turn, phase_move, phase_turn, work_move, work_turn, first_phase}
+use Rattle.wfe_core.specs.Steps.{work_turn}
 use Rattle.wfe_core.specs.defs.declared.event.Root.TheVariants as roots
 use Rattle.inv_rows.specs.Queue.{Line}
 use Rattle.inv_rows.specs.Tries.{is_tail, is_head, FromTail, FromHead, PhaseTries}
@@ -34,16 +33,7 @@ WhyOut (Opens (Changes kept)) outcome clock upto q l head = Unit {0}
 WhyOut (Opens (Holds key)) outcome clock upto q l head = Unit {0}
 WhyOut (Opens (Enqueues kept)) outcome clock upto q l head = TryOut is_tail clock upto (λ s. FromTail q l head s) outcome
 WhyOut (Opens Dequeues) outcome clock upto q l head = TryOut is_head clock upto (λ s. FromHead q l head s) outcome
-WhyOut (FollowsHead parent last) outcome clock upto q l head = Unit {0}
-WhyOut (Fills task) outcome clock upto q l head = Unit {0}
-WhyOut (ClearsNext after) outcome clock upto q l head = Unit {0}
-WhyOut (Clears task after) outcome clock upto q l head = Unit {0}
-WhyOut (Finishes task after) outcome clock upto q l head = Unit {0}
-WhyOut (GivesUp answer) outcome clock upto q l head = Unit {0}
-WhyOut (Retires answer) outcome clock upto q l head = Unit {0}
-WhyOut (Tidies later) outcome clock upto q l head = Unit {0}
-WhyOut Advances outcome clock upto q l head = Unit {0}
-WhyOut (Releases key) outcome clock upto q l head = Unit {0}
+WhyOut why outcome clock upto q l head = Unit {0}
 
 abbrev pub NewTries : CallTurn → ℕ → ℕ → (ℕ → Bool) → Line → ℕ → Type 0
 NewTries t clock upto q l head = PhaseTries (phase_of t.outcome) clock upto q l head

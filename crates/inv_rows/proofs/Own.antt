@@ -21,7 +21,7 @@ use Rattle.inv_rows.specs.Hands.{holds_slot, task_fills}
 use Rattle.wfe_core.specs.words.Place.{Place, same}
 use Rattle.wfe_core.specs.words.Place.Place.{Clock, Bucket, Head, Tail, Claim, Life, Row, Helper, Index, Interval, Request, PlaceOf}
 use Rattle.wfe_core.specs.Memory as memory
-use Rattle.wfe_core.specs.Memory.{place_in, written, upd, Load, Store, Cas, Or, And, put, change}
+use Rattle.wfe_core.specs.Memory.{written, Load, Store, Cas, Or, And, change}
 use Rattle.wfe_core.specs.Phases.AllocateAt.{LoadBirth, ClaimSlot, StoreLife}
 use Rattle.wfe_core.specs.Phases.RetireAt.{LoadLife, LoadRetire, StoreRetired}
 use Rattle.wfe_core.specs.Phases.Base.{Begin, Protect, Reload, Clear, Finish, Release, Allocate, Write, GiveUp, Retire, Move}
@@ -29,7 +29,7 @@ use Rattle.wfe_core.specs.Machine as machine
 use Rattle.wfe_core.specs.Machine.{base_move}
 use Rattle.wfe_core.specs.Allocate.{is_claimed, walking, walk_past, walk_from, next_slot}
 use Rattle.wfe_core.specs.WriteRow.{row_word}
-use Rattle.wfe_core.specs.Steps.{run_turn, phase_move, phase_turn, work_move, work_turn}
+use Rattle.wfe_core.specs.Steps.{run_turn}
 use Rattle.wfe_core.specs.defs.declared.event.Root.{Root}
 use Rattle.wfe_core.specs.Phases.BeginAt.{LoadLower, PublishSpan}
 use Rattle.wfe_core.specs.Phases.ProtectAt.{LoadClock, PublishEra, LoadLink, CheckClock, PublishRequest, LoadOwnClock, PublishHelper, LoadOwnLink, CheckOwnClock, AnswerOwn, LoadAnswer, TakeAnswer, WithdrawRequest, WithdrawHelper, LoadWithin, CheckUpper, RaiseUpper}
@@ -114,9 +114,7 @@ is_write Finish = false
 is_write Release = false
 is_write (Allocate at) = false
 is_write (Write slot row place) = true
-is_write (GiveUp slot) = false
-is_write (Retire at) = false
-is_write (Move at) = false
+is_write base = false
 
 protect_links : (index : ℕ) (root : Root) (at : ProtectAt) (post : Post) → is_linking (machine.protect_move index root at post) ≡ false
 protect_links index root (LoadClock tries) post = refl
@@ -267,14 +265,7 @@ abbrev pub fills_none : Why → Bool
 fills_none (Opens task) = true
 fills_none (FollowsHead parent last) = true
 fills_none (Fills task) = false
-fills_none (ClearsNext after) = true
-fills_none (Clears task after) = true
-fills_none (Finishes task after) = true
-fills_none (GivesUp answer) = true
-fills_none (Retires answer) = true
-fills_none (Tidies later) = true
-fills_none Advances = true
-fills_none (Releases key) = true
+fills_none why = true
 
 pub resumed_walks : (why : Why) (base : Base) (desk : Desk) (post : Post) (told : List Event) (outcome : Outcome) (q : ℕ → Bool) (l : Line) (next : ℕ → ℕ) (head tail : ℕ) → fills_none why ≡ true → Walks (Runs why base) q l next head tail → Gives why outcome q l next head → Left (steps.resumed why desk post told outcome) q l next head tail
 resumed_walks (Opens (Gets key)) base desk post told (Goes more) q l next head tail h w g = quiet_walks (Runs (Opens (Gets key)) more) q l next head tail refl

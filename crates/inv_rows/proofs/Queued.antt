@@ -21,7 +21,7 @@ use Rattle.inv_rows.specs.Hands.{hand_base, is_plain, runs_right, is_giving_up, 
 use Rattle.wfe_core.specs.words.Place.{Place, claim_word}
 use Rattle.wfe_core.specs.words.Place.Place.{Clock, Head, Tail, Claim, Row}
 use Rattle.wfe_core.specs.Memory as memory
-use Rattle.wfe_core.specs.Memory.{place_in, written, upd, Load, Store, Cas, Or, And, put, change}
+use Rattle.wfe_core.specs.Memory.{place_in, written}
 use Rattle.wfe_core.specs.Phases.AllocateAt.{LoadBirth, ClaimSlot, StoreLife}
 use Rattle.wfe_core.specs.Phases.RetireAt.{LoadLife, LoadRetire, StoreRetired}
 use Rattle.wfe_core.specs.Phases.Base.{Begin, Protect, Reload, Clear, Finish, Release, Allocate, Write, GiveUp, Retire, Move}
@@ -108,9 +108,7 @@ plain_write Finish h = refl
 plain_write Release h = refl
 plain_write (Allocate at) h = refl
 plain_write (Write slot row place) h = absurd (no_truth h)
-plain_write (GiveUp slot) h = refl
-plain_write (Retire at) h = refl
-plain_write (Move at) h = refl
+plain_write base h = refl
 
 give_write : (base : Base) → is_giving_up base ≡ true → is_write base ≡ false
 give_write (Begin at) h = refl
@@ -121,9 +119,7 @@ give_write Finish h = refl
 give_write Release h = refl
 give_write (Allocate at) h = refl
 give_write (Write slot row place) h = absurd (no_truth h)
-give_write (GiveUp slot) h = refl
-give_write (Retire at) h = refl
-give_write (Move at) h = refl
+give_write base h = refl
 
 retire_write : (base : Base) → is_retiring base ≡ true → is_write base ≡ false
 retire_write (Begin at) h = refl
@@ -134,9 +130,7 @@ retire_write Finish h = refl
 retire_write Release h = refl
 retire_write (Allocate at) h = refl
 retire_write (Write slot row place) h = absurd (no_truth h)
-retire_write (GiveUp slot) h = refl
-retire_write (Retire at) h = refl
-retire_write (Move at) h = refl
+retire_write base h = refl
 
 why_write : (why : Why) (base : Base) → fills_none why ≡ true → runs_right why base ≡ true → is_write base ≡ false
 why_write (Opens task) base h r = plain_write base r

@@ -6,7 +6,7 @@ use Rattle.wfe_core.specs.defs.declared.event.Root.{Root}
 use Rattle.wfe_core.specs.Phases.{BeginAt, ProtectAt, Base, Ending, Ending as endings}
 use Rattle.wfe_core.specs.Phases.BeginAt.{LoadLower}
 use Rattle.wfe_core.specs.Phases.ProtectAt.{LoadClock, PublishEra, LoadLink, CheckClock, PublishRequest, LoadOwnClock, PublishHelper, LoadOwnLink, CheckOwnClock, AnswerOwn, LoadAnswer, TakeAnswer, WithdrawRequest, WithdrawHelper, LoadWithin, CheckUpper, RaiseUpper}
-use Rattle.wfe_core.specs.Phases.Base.{Begin, Protect, Reload, Clear, Finish, Release, Allocate, Write, GiveUp, Retire, Move}
+use Rattle.wfe_core.specs.Phases.Base.{Begin, Protect}
 use Rattle.inv_rows.specs.Tries.{is_alone, is_tail, is_head}
 use Rattle.std.specs.Prelude.{◌==◌, nat_lt, Option, Some, None}
 use Rattle.wfe_core.specs.defs.declared.call.Answer.{Answer}
@@ -20,16 +20,17 @@ use Rattle.wfe_core.specs.declared.post.Post.{Post}
 use Rattle.wfe_core.specs.Desks.{Desk, with_life}
 use Rattle.wfe_core.specs.Phases.Ending.{Done, Protected, Followed, Allocated, Clocked}
 use Rattle.wfe_core.specs.Rounds as rounds
-use Rattle.wfe_core.specs.Rounds.{scheme_of, taken_of, round, round_by, begin_base, begin_span, finish_base, finish_span, clear_base, clear_post, clear_told, index_of, closed, given_up, finishing, finishing_by, clearing, clearing_by, clearing_next, clearing_next_by}
+use Rattle.wfe_core.specs.Rounds.{scheme_of, taken_of, round, round_by, begin_base, begin_span, finish_base, clear_base, clear_post, clear_told, index_of, closed, given_up, finishing, finishing_by, clearing, clearing_by, clearing_next, clearing_next_by}
 use Rattle.wfe_core.specs.Get as gets
 use Rattle.wfe_core.specs.Change as alters
 use Rattle.wfe_core.specs.Scan as scan
 use Rattle.wfe_core.specs.Steps as steps
-use Rattle.wfe_core.specs.Calls.{ChangeKept, EnqueueKept, Task, Gets, Changes, Holds, Enqueues, Dequeues, Next, Again, MakeRoom, Answering, Retiring, AfterScan, Answered, Repeated, Counted, Why, Opens, FollowsHead, Fills, ClearsNext, Clears, Finishes, GivesUp, Retires, Tidies, Advances, Releases, ScanAt, ReadGuard, GiveBack, GetAt, FindVersion, FindCount, FindKey, FindValue, ChangeAt, LoadVersion, LoadCount, LoadKey, LoadValue, ExchangeRoot, EnqueueAt, LoadNumber, LoadNext, PassTail, ExchangeNext, ExchangeTail, DequeueAt, LoadTail, SwingTail, TakeNumber, TakeValue, ExchangeHead, Work, Getting, Changing, Enqueuing, Dequeuing, Phase, Idle, Runs, Scans, Works, CallTurn, CallOutcome, GoesOn}
+use Rattle.wfe_core.specs.Calls.{ChangeKept, Task, Gets, Changes, Holds, Enqueues, Dequeues, Next, Again, MakeRoom, Answering, Retiring, AfterScan, Answered, Repeated, Counted, Why, Opens, FollowsHead, Fills, ClearsNext, Clears, Finishes, GivesUp, Retires, Tidies, Advances, Releases, ScanAt, ReadGuard, GiveBack, GetAt, FindVersion, FindCount, FindKey, FindValue, ChangeAt, LoadVersion, LoadCount, LoadKey, LoadValue, ExchangeRoot, Work, Getting, Changing, Enqueuing, Dequeuing, Phase, Idle, Runs, Scans, Works, CallTurn, CallOutcome, GoesOn}
 use Rattle.wfe_core.specs.defs.declared.event.Guard.{Guard}
 use Rattle.wfe_core.specs.Guards as the_guards
 use Rattle.wfe_core.specs.Calls as calls
 use Rattle.inv_rows.specs.Queue.{Line, Walks}
+use Rattle.wfe_core.proofs.Schemes.{each_begin}
 
 abbrev pub quiet_task : Task → Bool
 quiet_task (Gets key) = true
@@ -61,15 +62,7 @@ at_starts (RaiseUpper era) = false
 abbrev pub starts_by : (Root → Bool) → Base → Bool
 starts_by wanted (Begin at) = true
 starts_by wanted (Protect aim index root steps at) = is_alone aim && (wanted root && at_starts at)
-starts_by wanted (Reload parent index slot era steps) = false
-starts_by wanted (Clear index) = false
-starts_by wanted Finish = false
-starts_by wanted Release = false
-starts_by wanted (Allocate at) = false
-starts_by wanted (Write slot row place) = false
-starts_by wanted (GiveUp slot) = false
-starts_by wanted (Retire at) = false
-starts_by wanted (Move at) = false
+starts_by wanted base = false
 
 abbrev pub task_starts : Task → Base → Bool
 task_starts (Gets key) base = true
@@ -82,14 +75,7 @@ abbrev pub quiet_why : Why → Base → Bool
 quiet_why (Opens task) base = task_starts task base
 quiet_why (FollowsHead head tail) base = false
 quiet_why (Fills task) base = quiet_task task
-quiet_why (ClearsNext next) base = true
-quiet_why (Clears task next) base = true
-quiet_why (Finishes task next) base = true
-quiet_why (GivesUp answer) base = true
-quiet_why (Retires answer) base = true
-quiet_why (Tidies later) base = true
-quiet_why Advances base = true
-quiet_why (Releases key) base = true
+quiet_why why base = true
 
 abbrev pub quiet_work : Work → Bool
 quiet_work (Getting key at) = true
@@ -159,9 +145,7 @@ span_round task post None = begins_quiet task LoadLower
 span_round task post (Some span) = opening_quiet task post
 
 scheme_round : (task : Task) (post : Post) (scheme : SchemeKind) → is_quiet (round_by task post (begin_base scheme post)) ≡ true
-scheme_round task post He = opening_quiet task post
-scheme_round task post Ibr = span_round task post post.span
-scheme_round task post Wfe = opening_quiet task post
+scheme_round task post scheme = each_begin scheme post (λ (base : Option Base). is_quiet (round_by task post base) ≡ true) (opening_quiet task post) (span_round task post post.span)
 
 pub round_quiet : (task : Task) (post : Post) → is_quiet (round task post) ≡ true
 round_quiet task post = scheme_round task post (scheme_of post)

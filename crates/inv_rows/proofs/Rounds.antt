@@ -1,9 +1,7 @@
 -- Where a round ends and where the call goes on, what was in hand is in hand, and the list stays.
-use Rattle.std.proofs.Common.{ℕ, ◌+◌, ◌≡◌, Bool, true, false, arith, refl, ◌∙◌, List, [], ◌∷◌, ◌++◌}
-use Rattle.std.proofs.lemmas.Bool.Decides.{nat_tests}
+use Rattle.std.proofs.Common.{ℕ, ◌+◌, ◌≡◌, Bool, true, false, refl, ◌∙◌, List, [], ◌∷◌, ◌++◌}
 use Rattle.std.specs.Prelude.{◌==◌, nat_lt, Option, Some, None}
 use Rattle.wfe_core.specs.words.declared.config.SchemeKind.{SchemeKind}
-use Rattle.wfe_core.specs.words.declared.config.SchemeKind.TheVariants.{He, Ibr, Wfe}
 use Rattle.wfe_core.specs.defs.declared.call.Answer.{Answer}
 use Rattle.wfe_core.specs.defs.declared.call.Answer.TheVariants as the_answers
 use Rattle.wfe_core.specs.defs.declared.event.Event.TheVariants as events
@@ -27,6 +25,7 @@ use Rattle.inv_rows.specs.Rows.{Hand}
 use Rattle.inv_rows.specs.Rows.Hand.{Empty}
 use Rattle.inv_rows.specs.Hands.{hand_of, hand_task, hand_next, hand_base, hand_in, is_plain, is_right, fills_right, Leaves}
 use Rattle.wfe_core.proofs.Facts.{same_number}
+use Rattle.wfe_core.proofs.Schemes.{each_begin, each_clear, each_finish, each_release}
 
 -- a scheme's machine, where it takes a step, handles no row
 abbrev plain_some : Option Base → Bool
@@ -38,28 +37,20 @@ span_plain None = refl
 span_plain (Some span) = refl
 
 begin_plain : (scheme : SchemeKind) (post : Post) → plain_some (begin_base scheme post) ≡ true
-begin_plain He post = refl
-begin_plain Ibr post = span_plain post.span
-begin_plain Wfe post = refl
+begin_plain scheme post = each_begin scheme post (λ (base : Option Base). plain_some base ≡ true) refl (span_plain post.span)
 
 stands_plain : (x : Option ℕ) → plain_some (finish_span x) ≡ true
 stands_plain None = refl
 stands_plain (Some slot) = refl
 
 finish_plain : (scheme : SchemeKind) (post : Post) → plain_some (finish_base scheme post) ≡ true
-finish_plain He post = refl
-finish_plain Ibr post = stands_plain (stands post 2)
-finish_plain Wfe post = refl
+finish_plain scheme post = each_finish scheme post (λ (base : Option Base). plain_some base ≡ true) refl (stands_plain (stands post 2))
 
 clear_plain : (scheme : SchemeKind) (index : ℕ) → plain_some (clear_base scheme index) ≡ true
-clear_plain He index = refl
-clear_plain Ibr index = refl
-clear_plain Wfe index = refl
+clear_plain scheme index = each_clear scheme index (λ (base : Option Base). plain_some base ≡ true) refl refl
 
 pub release_plain : (scheme : SchemeKind) → is_plain (rounds.release_base scheme) ≡ true
-release_plain He = refl
-release_plain Ibr = refl
-release_plain Wfe = refl
+release_plain scheme = each_release scheme (λ (base : Base). is_plain base ≡ true) refl refl
 
 round_by_hand : (task : Task) (post : Post) (x : Option Base) → hand_in (round_by task post x) ≡ hand_task task
 round_by_hand task post None = refl

@@ -161,9 +161,7 @@ is_plain_why (Clears task next) = true
 is_plain_why (Finishes task next) = true
 is_plain_why (GivesUp answer) = false
 is_plain_why (Retires answer) = false
-is_plain_why (Tidies later) = true
-is_plain_why Advances = true
-is_plain_why (Releases key) = true
+is_plain_why why = true
 
 pub plain_leaves : (why : Why) (base : Base) (desk : Desk) (post : Post) (told : List Event) (outcome : Outcome) → is_plain_why why ≡ true → goes_plain outcome ≡ true → Leaves (hand_why why base) desk.list (steps.resumed why desk post told outcome)
 plain_leaves (Opens task) base desk post told (Goes next_base) h g = record { hand = refl; right = g; list = refl }
@@ -182,9 +180,7 @@ plain_leaves Advances base desk post told (Goes next_base) h g = record { hand =
 plain_leaves Advances base desk post told (Ends ending) h g = advanced_leaves ending post desk told
 plain_leaves (Releases key) base desk post told (Goes next_base) h g = record { hand = refl; right = g; list = refl }
 plain_leaves (Releases key) base desk post told (Ends ending) h g = released_leaves key post desk told
-plain_leaves (Fills task) base desk post told outcome h g = cc
-plain_leaves (GivesUp answer) base desk post told outcome h g = cc
-plain_leaves (Retires answer) base desk post told outcome h g = cc
+plain_leaves why base desk post told outcome h g = cc
 
 -- a row is filled: the task's row, or one that is taken now
 room_hand : (task : Task) (walked : Bool) → hand_next task (alters.no_room walked) ≡ hand_task task
@@ -267,9 +263,7 @@ is_filling Finish = false
 is_filling Release = false
 is_filling (Allocate at) = true
 is_filling (Write slot row place) = true
-is_filling (GiveUp slot) = false
-is_filling (Retire at) = false
-is_filling (Move at) = false
+is_filling base = false
 
 right_fills : (base : Base) (x : Option ℕ) → fills_right base x ≡ true → is_filling base ≡ true
 right_fills (Begin at) x h = h
@@ -280,9 +274,7 @@ right_fills Finish x h = h
 right_fills Release x h = h
 right_fills (Allocate at) x h = refl
 right_fills (Write slot row place) x h = refl
-right_fills (GiveUp slot) x h = h
-right_fills (Retire at) x h = h
-right_fills (Move at) x h = h
+right_fills base x h = h
 
 pub only_fills : (task : Task) (base : Base) → task_fills task base ≡ true → is_filling base ≡ true
 only_fills (Gets key) base h = absurd (cc)

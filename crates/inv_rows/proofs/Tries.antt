@@ -10,7 +10,7 @@ use Rattle.wfe_core.specs.Calls.{Task, Gets, Changes, Holds, Enqueues, Dequeues,
 use Rattle.wfe_core.specs.words.Place.{Place}
 use Rattle.wfe_core.specs.words.Place.Place.{Clock}
 use Rattle.wfe_core.specs.Memory as memory
-use Rattle.wfe_core.specs.Memory.{place_in, written, upd, bump}
+use Rattle.wfe_core.specs.Memory.{place_in, bump}
 use Rattle.wfe_core.specs.Phases.Base.{Begin, Protect, Reload, Clear, Finish, Release, Allocate, Write, GiveUp, Retire, Move}
 use Rattle.wfe_core.specs.Machine as machine
 use Rattle.wfe_core.specs.Machine.{base_move}
@@ -288,16 +288,7 @@ at_back (RaiseUpper era) clock now upto s e f h = h
 
 base_back : (base : Base) (clock now upto s : ℕ) → base_era upto base ≤ clock → clock ≤ now → base_tries now upto base s ≡ true → base_tries clock upto base s ≡ true
 base_back (Protect aim index root steps at) clock now upto s e f h = at_back at clock now upto s e f h
-base_back (Begin at) clock now upto s e f h = h
-base_back (Reload parent index slot era steps) clock now upto s e f h = h
-base_back (Clear index) clock now upto s e f h = h
-base_back Finish clock now upto s e f h = h
-base_back Release clock now upto s e f h = h
-base_back (Allocate at) clock now upto s e f h = h
-base_back (Write slot row place) clock now upto s e f h = h
-base_back (GiveUp slot) clock now upto s e f h = h
-base_back (Retire at) clock now upto s e f h = h
-base_back (Move at) clock now upto s e f h = h
+base_back base clock now upto s e f h = h
 
 -- what a step keeps of such a row
 pub record Keeps (q q2 : ℕ → Bool) (l l2 : Line) (head h2 s : ℕ) : Type 0 where

@@ -6,8 +6,8 @@ use Rattle.wfe_core.specs.defs.declared.event.Root.{Root}
 use Rattle.wfe_core.specs.defs.declared.event.Root.TheVariants as roots
 use Rattle.wfe_core.specs.Phases.{Aim, Alone, Follows, ProtectAt, Base}
 use Rattle.wfe_core.specs.Phases.ProtectAt.{LoadClock, PublishEra, LoadLink, CheckClock, PublishRequest, LoadOwnClock, PublishHelper, LoadOwnLink, CheckOwnClock, AnswerOwn, LoadAnswer, TakeAnswer, WithdrawRequest, WithdrawHelper, LoadWithin, CheckUpper, RaiseUpper}
-use Rattle.wfe_core.specs.Phases.Base.{Begin, Protect, Reload, Clear, Finish, Release, Allocate, Write, GiveUp, Retire, Move}
-use Rattle.wfe_core.specs.Calls.{Why, Opens, FollowsHead, Fills, ClearsNext, Clears, Finishes, GivesUp, Retires, Tidies, Advances, Releases, Phase, Idle, Runs, Scans, Works}
+use Rattle.wfe_core.specs.Phases.Base.{Begin, Protect, Reload}
+use Rattle.wfe_core.specs.Calls.{Why, Opens, FollowsHead, Phase, Idle, Runs, Scans, Works}
 
 -- the protection has loaded this link, and it is not null
 abbrev pub at_loaded : ProtectAt → ℕ → Bool
@@ -42,25 +42,13 @@ at_asks (LoadOwnLink first era last) = false
 at_asks (CheckOwnClock first era last link) = false
 at_asks (AnswerOwn first era link) = true
 at_asks (LoadAnswer first) = true
-at_asks (TakeAnswer link era) = false
-at_asks (WithdrawRequest link era) = false
-at_asks (WithdrawHelper link era) = false
-at_asks LoadWithin = false
-at_asks (CheckUpper link) = false
-at_asks (RaiseUpper era) = false
+at_asks at = false
 
 abbrev pub base_loaded : Base → ℕ → Bool
 base_loaded (Begin at) x = false
 base_loaded (Protect aim index root steps at) x = at_loaded at x
 base_loaded (Reload parent index slot era steps) x = slot + 1 == x
-base_loaded (Clear index) x = false
-base_loaded Finish x = false
-base_loaded Release x = false
-base_loaded (Allocate at) x = false
-base_loaded (Write slot row place) x = false
-base_loaded (GiveUp slot) x = false
-base_loaded (Retire at) x = false
-base_loaded (Move at) x = false
+base_loaded base x = false
 
 abbrev pub is_follows : Aim → Bool
 is_follows Alone = false
@@ -77,14 +65,7 @@ abbrev pub follows_base : Base → ℕ → Bool
 follows_base (Begin at) h = false
 follows_base (Protect aim index root steps at) h = is_follows aim && is_next root h
 follows_base (Reload parent index slot era steps) h = parent == h
-follows_base (Clear index) h = false
-follows_base Finish h = false
-follows_base Release h = false
-follows_base (Allocate at) h = false
-follows_base (Write slot row place) h = false
-follows_base (GiveUp slot) h = false
-follows_base (Retire at) h = false
-follows_base (Move at) h = false
+follows_base base h = false
 
 -- of the machine that follows the next link of row h
 pub record LoadsBase (h : ℕ) (base : Base) (next : ℕ) : Type 0 where
@@ -94,15 +75,7 @@ pub record LoadsBase (h : ℕ) (base : Base) (next : ℕ) : Type 0 where
 abbrev pub WhyLoads : Why → Base → (ℕ → ℕ) → Type 0
 WhyLoads (Opens task) base next = Unit {0}
 WhyLoads (FollowsHead head tail) base next = LoadsBase head base (next head)
-WhyLoads (Fills task) base next = Unit {0}
-WhyLoads (ClearsNext after) base next = Unit {0}
-WhyLoads (Clears task after) base next = Unit {0}
-WhyLoads (Finishes task after) base next = Unit {0}
-WhyLoads (GivesUp answer) base next = Unit {0}
-WhyLoads (Retires answer) base next = Unit {0}
-WhyLoads (Tidies later) base next = Unit {0}
-WhyLoads Advances base next = Unit {0}
-WhyLoads (Releases key) base next = Unit {0}
+WhyLoads why base next = Unit {0}
 
 -- the link that a seat has loaded is the head's row's next link
 abbrev pub Loads : Phase → (ℕ → ℕ) → Type 0

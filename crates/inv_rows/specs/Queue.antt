@@ -3,8 +3,8 @@
 use Rattle.std.specs.Prelude.{ℕ, ◌≡◌, ◌≤◌, ◌<◌, ◌+◌, ◌==◌, ◌&&◌, not, Bool, true, false, if◌then◌else◌}
 use Rattle.wfe_core.specs.Memory.{upd}
 use Rattle.wfe_core.specs.Phases.{RowOf, MapRow, QueueRow, Base}
-use Rattle.wfe_core.specs.Phases.Base.{Begin, Protect, Reload, Clear, Finish, Release, Allocate, Write, GiveUp, Retire, Move}
-use Rattle.wfe_core.specs.Calls.{EnqueueKept, Task, Gets, Changes, Holds, Enqueues, Dequeues, Why, Opens, FollowsHead, Fills, ClearsNext, Clears, Finishes, GivesUp, Retires, Tidies, Advances, Releases, ScanAt, ReadGuard, GiveBack, EnqueueAt, LoadNumber, LoadNext, PassTail, ExchangeNext, ExchangeTail, DequeueAt, LoadTail, SwingTail, TakeNumber, TakeValue, ExchangeHead, Work, Getting, Changing, Enqueuing, Dequeuing, Phase, Idle, Runs, Scans, Works}
+use Rattle.wfe_core.specs.Phases.Base.{Begin, Protect, Reload, Clear, Finish, Release, Allocate, Write}
+use Rattle.wfe_core.specs.Calls.{EnqueueKept, Task, Gets, Changes, Holds, Enqueues, Dequeues, Why, Opens, FollowsHead, Fills, ScanAt, ReadGuard, GiveBack, EnqueueAt, LoadNumber, LoadNext, PassTail, ExchangeNext, ExchangeTail, DequeueAt, LoadTail, SwingTail, TakeNumber, TakeValue, ExchangeHead, Work, Getting, Changing, Enqueuing, Dequeuing, Phase, Idle, Runs, Scans, Works}
 use Rattle.inv_rows.specs.Follow.{Loads}
 use Rattle.inv_rows.specs.Rows.{Status}
 use Rattle.inv_rows.specs.Rows.Status.{Free, Claimed, Born, Linked, InQueue, Cut, Sealed, Listed}
@@ -70,14 +70,7 @@ abbrev pub why_stands : Why → ℕ → Bool
 why_stands (Opens task) h = false
 why_stands (FollowsHead head tail) h = head == h
 why_stands (Fills task) h = task_stands task h
-why_stands (ClearsNext next) h = false
-why_stands (Clears task next) h = false
-why_stands (Finishes task next) h = false
-why_stands (GivesUp answer) h = false
-why_stands (Retires answer) h = false
-why_stands (Tidies later) h = false
-why_stands Advances h = false
-why_stands (Releases key) h = false
+why_stands why h = false
 
 abbrev pub work_stands : Work → ℕ → Bool
 work_stands (Getting key at) h = false
@@ -95,15 +88,7 @@ stands_on (Works work) h = work_stands work h
 abbrev pub why_heads : Why → ℕ → Bool
 why_heads (Opens task) h = false
 why_heads (FollowsHead head tail) h = head == h
-why_heads (Fills task) h = false
-why_heads (ClearsNext next) h = false
-why_heads (Clears task next) h = false
-why_heads (Finishes task next) h = false
-why_heads (GivesUp answer) h = false
-why_heads (Retires answer) h = false
-why_heads (Tidies later) h = false
-why_heads Advances h = false
-why_heads (Releases key) h = false
+why_heads why h = false
 
 abbrev pub work_heads : Work → ℕ → Bool
 work_heads (Getting key at) h = false
@@ -148,15 +133,7 @@ follows_in (Works work) h link = work_follows work h link
 abbrev pub why_lags : Why → ℕ → Bool
 why_lags (Opens task) h = false
 why_lags (FollowsHead head tail) h = head == h && not (tail == head + 1)
-why_lags (Fills task) h = false
-why_lags (ClearsNext next) h = false
-why_lags (Clears task next) h = false
-why_lags (Finishes task next) h = false
-why_lags (GivesUp answer) h = false
-why_lags (Retires answer) h = false
-why_lags (Tidies later) h = false
-why_lags Advances h = false
-why_lags (Releases key) h = false
+why_lags why h = false
 
 abbrev pub dequeue_leads : DequeueAt → ℕ → Bool
 dequeue_leads (LoadTail head) h = false
@@ -187,9 +164,7 @@ base_blanks Finish s = false
 base_blanks Release s = false
 base_blanks (Allocate at) s = false
 base_blanks (Write slot row place) s = slot == s && not (place == 0)
-base_blanks (GiveUp slot) s = false
-base_blanks (Retire at) s = false
-base_blanks (Move at) s = false
+base_blanks base s = false
 
 abbrev pub task_blanks : Task → Base → ℕ → Bool
 task_blanks (Gets key) base s = false
@@ -202,14 +177,7 @@ abbrev pub why_blanks : Why → Base → ℕ → Bool
 why_blanks (Opens task) base s = false
 why_blanks (FollowsHead head tail) base s = false
 why_blanks (Fills task) base s = task_blanks task base s
-why_blanks (ClearsNext next) base s = false
-why_blanks (Clears task next) base s = false
-why_blanks (Finishes task next) base s = false
-why_blanks (GivesUp answer) base s = false
-why_blanks (Retires answer) base s = false
-why_blanks (Tidies later) base s = false
-why_blanks Advances base s = false
-why_blanks (Releases key) base s = false
+why_blanks why base s = false
 
 abbrev pub enqueue_blanks : EnqueueAt → ℕ → Bool
 enqueue_blanks LoadNumber s = false
@@ -244,9 +212,7 @@ base_items Finish = true
 base_items Release = true
 base_items (Allocate at) = true
 base_items (Write slot row place) = is_item row
-base_items (GiveUp slot) = true
-base_items (Retire at) = true
-base_items (Move at) = true
+base_items base = true
 
 abbrev pub task_items : Task → Base → Bool
 task_items (Gets key) base = true
@@ -259,14 +225,7 @@ abbrev pub why_items : Why → Base → Bool
 why_items (Opens task) base = true
 why_items (FollowsHead head tail) base = true
 why_items (Fills task) base = task_items task base
-why_items (ClearsNext next) base = true
-why_items (Clears task next) base = true
-why_items (Finishes task next) base = true
-why_items (GivesUp answer) base = true
-why_items (Retires answer) base = true
-why_items (Tidies later) base = true
-why_items Advances base = true
-why_items (Releases key) base = true
+why_items why base = true
 
 -- an enqueue writes rows of the queue
 abbrev pub items_in : Phase → Bool

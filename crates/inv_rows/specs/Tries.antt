@@ -14,7 +14,7 @@ use Rattle.wfe_core.specs.Phases.{Aim, Alone, Follows, ProtectAt, Base, Walk}
 use Rattle.wfe_core.specs.Phases.ProtectAt.{LoadClock, PublishEra, LoadLink, CheckClock, PublishRequest, LoadOwnClock, PublishHelper, LoadOwnLink, CheckOwnClock, AnswerOwn, LoadAnswer, TakeAnswer, WithdrawRequest, WithdrawHelper, LoadWithin, CheckUpper, RaiseUpper}
 use Rattle.wfe_core.specs.Phases.AllocateAt.{ClaimSlot, StoreLife}
 use Rattle.wfe_core.specs.Phases.Base.{Begin, Protect, Reload, Clear, Finish, Release, Allocate, Write, GiveUp, Retire, Move}
-use Rattle.wfe_core.specs.Calls.{Task, Gets, Changes, Holds, Enqueues, Dequeues, Why, Opens, FollowsHead, Fills, ClearsNext, Clears, Finishes, GivesUp, Retires, Tidies, Advances, Releases, AfterScan, GiveBack, Phase, Idle, Runs, Scans, Works}
+use Rattle.wfe_core.specs.Calls.{Task, Gets, Changes, Holds, Enqueues, Dequeues, Why, Opens, FollowsHead, AfterScan, GiveBack, Phase, Idle, Runs, Scans, Works}
 use Rattle.wfe_core.specs.World.{World, start, step, begin, is_busy, finds}
 use Rattle.inv_rows.specs.Rows.{View}
 use Rattle.inv_rows.specs.Agree.{rows_after, first_rows}
@@ -45,15 +45,7 @@ at_tries clock upto (RaiseUpper era) s = false
 abbrev pub base_tries : ℕ → ℕ → Base → ℕ → Bool
 base_tries clock upto (Begin at) s = false
 base_tries clock upto (Protect aim index root steps at) s = at_tries clock upto at s
-base_tries clock upto (Reload parent index slot era steps) s = false
-base_tries clock upto (Clear index) s = false
-base_tries clock upto Finish s = false
-base_tries clock upto Release s = false
-base_tries clock upto (Allocate at) s = false
-base_tries clock upto (Write slot row place) s = false
-base_tries clock upto (GiveUp slot) s = false
-base_tries clock upto (Retire at) s = false
-base_tries clock upto (Move at) s = false
+base_tries clock upto base s = false
 
 -- the era that the try compares with the clock
 abbrev pub at_era : ℕ → ProtectAt → ℕ
@@ -104,19 +96,17 @@ is_head roots.Head = true
 is_head roots.Tail = false
 is_head (roots.Next parent) = false
 
+-- an end of the queue
+abbrev pub is_end : Root → Bool
+is_end roots.Head = true
+is_end roots.Tail = true
+is_end root = false
+
 -- the machine protects a root of the wanted kind, after it began an interval under 2GE
 abbrev pub opens_by : (Root → Bool) → Base → Bool
 opens_by wanted (Begin at) = true
 opens_by wanted (Protect aim index root steps at) = is_alone aim && wanted root
-opens_by wanted (Reload parent index slot era steps) = false
-opens_by wanted (Clear index) = false
-opens_by wanted Finish = false
-opens_by wanted Release = false
-opens_by wanted (Allocate at) = false
-opens_by wanted (Write slot row place) = false
-opens_by wanted (GiveUp slot) = false
-opens_by wanted (Retire at) = false
-opens_by wanted (Move at) = false
+opens_by wanted base = false
 
 -- what is known of a row from the tail, or from the head
 abbrev pub FromTail : (ℕ → Bool) → Line → ℕ → ℕ → Type 0
@@ -139,16 +129,7 @@ TaskTries Dequeues clock upto base q l head = TriesBase is_head clock upto base 
 
 abbrev pub WhyTries : Why → ℕ → ℕ → Base → (ℕ → Bool) → Line → ℕ → Type 0
 WhyTries (Opens task) clock upto base q l head = TaskTries task clock upto base q l head
-WhyTries (FollowsHead parent tail) clock upto base q l head = Unit {0}
-WhyTries (Fills task) clock upto base q l head = Unit {0}
-WhyTries (ClearsNext next) clock upto base q l head = Unit {0}
-WhyTries (Clears task next) clock upto base q l head = Unit {0}
-WhyTries (Finishes task next) clock upto base q l head = Unit {0}
-WhyTries (GivesUp answer) clock upto base q l head = Unit {0}
-WhyTries (Retires answer) clock upto base q l head = Unit {0}
-WhyTries (Tidies later) clock upto base q l head = Unit {0}
-WhyTries Advances clock upto base q l head = Unit {0}
-WhyTries (Releases key) clock upto base q l head = Unit {0}
+WhyTries why clock upto base q l head = Unit {0}
 
 abbrev pub PhaseTries : Phase → ℕ → ℕ → (ℕ → Bool) → Line → ℕ → Type 0
 PhaseTries Idle clock upto q l head = Unit {0}

@@ -3,7 +3,6 @@ use Rattle.std.proofs.Common.{ℕ, ◌≡◌, ◌≤◌, ◌+◌, ◌-◌, Bool,
 use Rattle.std.proofs.lemmas.List.Edits.{length-remove}
 use Rattle.std.specs.Prelude.{◌==◌, ◌%◌, nat_lt, if◌then◌else◌}
 use Rattle.wfe_core.specs.words.declared.config.SchemeKind.{SchemeKind}
-use Rattle.wfe_core.specs.words.declared.config.SchemeKind.TheVariants.{He, Ibr, Wfe}
 use Rattle.wfe_core.specs.defs.declared.fold.Change.{Change}
 use Rattle.wfe_core.specs.defs.declared.fold.Change.TheVariants as changes
 use Rattle.wfe_core.specs.defs.declared.call.Answer.{Answer}
@@ -35,6 +34,7 @@ use Rattle.wfe_core.specs.Calls.{Task, Gets, Changes, Holds, Enqueues, Dequeues,
 use Rattle.wfe_core.specs.defs.declared.event.Root.{Root}
 use Rattle.inv_shapes.specs.Frame.{phase_left}
 use Rattle.inv_shapes.specs.Noted.{backs, size, later_more, why_more, more}
+use Rattle.wfe_core.proofs.Schemes.{each_clear_told}
 
 -- what a turn tells to have gone back, with what it leaves on the list and what had gone back before
 abbrev pub Counts : ℕ → CallTurn → Type 0
@@ -52,9 +52,7 @@ quiet_cleared index None = refl
 quiet_cleared index (Some slot) = refl
 
 quiet_clear : (s : SchemeKind) (post : Post) (index : ℕ) → backs (clear_told s post index) ≡ 0
-quiet_clear He post index = refl
-quiet_clear Ibr post index = quiet_cleared index (stands post index)
-quiet_clear Wfe post index = refl
+quiet_clear s post index = each_clear_told s post index (λ (events : List Event). backs events ≡ 0) refl (quiet_cleared index (stands post index))
 
 given_up_counts : (b : ℕ) (answer : Answer) (post : Post) (desk : Desk) (told : List Event) (x : Option ℕ) → backs told + size desk ≤ b → Counts b (given_up answer post desk told x)
 given_up_counts b answer post desk told None h = omega arith

@@ -37,6 +37,7 @@ use Rattle.inv_shapes.proofs.Written.{words_written, phase_in, phase_clock, noth
 use Rattle.inv_shapes.proofs.Spans.{work_span, scan_span, phase_span}
 use Rattle.inv_shapes.proofs.Steps.{Told, era_steps, withdrawn_keeps}
 use Rattle.wfe_core.proofs.Facts.{zero_either}
+use Rattle.wfe_core.proofs.Schemes.{each_release}
 
 -- first phases hold no eras
 protect_at_eras : (s : SchemeKind) (c : ℕ) (post : Post) → protect_eras c post (protect_at s)
@@ -45,9 +46,7 @@ protect_at_eras Ibr c post = tt
 protect_at_eras Wfe c post = tt
 
 release_eras : (s : SchemeKind) (layout : Layout) (c : ℕ) (post : Post) → base_eras layout c post (release_base s)
-release_eras He layout c post = tt
-release_eras Ibr layout c post = tt
-release_eras Wfe layout c post = tt
+release_eras s layout c post = each_release s (λ (base : Base). base_eras layout c post base) tt tt
 
 era_grows : (layout : Layout) (k c word : ℕ) → is_valid layout ≡ true → Grows (PostEras layout k c word) (PhaseEras layout c)
 era_grows layout k c word v = record {

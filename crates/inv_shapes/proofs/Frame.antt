@@ -2,13 +2,18 @@
 -- is one of a few: so a property of one seat is carried over a step by what it says inside the machines, and of those.
 use Rattle.std.proofs.Common.{ℕ, ◌≡◌, true, false, List, refl, arith, ap}
 use Rattle.std.proofs.lemmas.Bool.Decides.{nat_tests}
-use Rattle.std.specs.Prelude.{◌==◌}
+use Rattle.std.specs.Prelude.{◌==◌, ◌-◌}
 use Rattle.wfe_core.specs.words.Place.{Place, same}
 use Rattle.wfe_core.proofs.words.Places.{same_self}
 use Rattle.wfe_core.specs.Memory.{Move, Load, Store, Cas, Or, And, place_in, change, found, written}
 use Rattle.wfe_core.specs.declared.post.Post.{Post}
 use Rattle.wfe_core.specs.Desks.{Desk, noting}
-use Rattle.wfe_core.specs.Phases.{Outcome, Goes, Ends, Turn, BeginAt, ProtectAt, MoveAt, Base}
+use Rattle.wfe_core.specs.Phases.{Aim, Alone, Follows, Outcome, Goes, Ends, Turn, BeginAt, ProtectAt, MoveAt, Base, goes, ends}
+use Rattle.wfe_core.specs.Phases.Ending.{Followed}
+use Rattle.wfe_core.specs.declared.ends.FollowEnd.TheVariants as follow_ends
+use Rattle.wfe_core.specs.Protect.{concluded}
+use Rattle.wfe_core.specs.Links.{parent_of}
+use Rattle.wfe_core.proofs.Facts.{if_by}
 use Rattle.wfe_core.specs.Phases.BeginAt.{LoadLower, PublishSpan}
 use Rattle.wfe_core.specs.Phases.ProtectAt.{LoadClock}
 use Rattle.wfe_core.specs.Phases.MoveAt.{LoadEra}
@@ -35,6 +40,25 @@ seat_stays w i k e = rw e refl
 -- the seat that steps
 pub seat_steps : (w : World) (i : ℕ) → (step w i).seat i ≡ after (w.seat i) (finds w i)
 seat_steps w i = let e : (i == i) ≡ true = grind (arith, nat_tests) in rw e refl
+
+-- what a seat finds, by its phase
+pub finds_at : (w : World) (i : ℕ) (phase : Phase) → (w.seat i).phase ≡ phase → finds w i ≡ found (phase_move phase (w.seat i).post) (w.mem (place_in (phase_move phase (w.seat i).post)))
+finds_at w i phase e = ap (λ (p : Phase). found (phase_move p (w.seat i).post) (w.mem (place_in (phase_move p (w.seat i).post)))) e
+
+pub settled_phase : (l : Local) (post : Post) (desk : Desk) (rounds : ℕ) (outcome : CallOutcome) → (settled_by l post desk rounds outcome).phase ≡ phase_left outcome
+settled_phase l post desk rounds (GoesOn phase) = refl
+settled_phase l post desk rounds (Answers answer) = refl
+
+-- a conclusion goes on or ends with the post and the events that it is given
+pub concluded_post : (aim : Aim) (index : ℕ) (root : Root) (n link era : ℕ) (post : Post) (told : List Event) → (concluded aim index root n link era post told).post ≡ post
+concluded_post Alone index root n link era post told = refl
+concluded_post Follows index root n link era post told =
+    if_by (link == 0) (ends post told (Followed follow_ends.NoNext)) (goes post told (Reload (parent_of root) index (link - 1) era n)) (λ (t : Turn). t.post ≡ post) (λ e. refl) (λ e. refl)
+
+pub concluded_told : (aim : Aim) (index : ℕ) (root : Root) (n link era : ℕ) (post : Post) (told : List Event) → (concluded aim index root n link era post told).told ≡ told
+concluded_told Alone index root n link era post told = refl
+concluded_told Follows index root n link era post told =
+    if_by (link == 0) (ends post told (Followed follow_ends.NoNext)) (goes post told (Reload (parent_of root) index (link - 1) era n)) (λ (t : Turn). t.told ≡ told) (λ e. refl) (λ e. refl)
 
 -- another place keeps its word
 pub written_other : (mem : Place → ℕ) (m : Move) (p : Place) → same p (place_in m) ≡ false → written mem m p ≡ mem p

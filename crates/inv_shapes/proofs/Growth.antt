@@ -1,36 +1,35 @@
 -- What comes after a machine, and after a step of a call's own, is a phase of those few from which a property grows.
-use Rattle.std.proofs.Common.{ℕ, ◌≡◌, true, false, List, ◌++◌, Option, Some, None, refl, ap, sym, subst}
+use Rattle.std.proofs.Common.{ℕ, ◌≡◌, Bool, true, false, List, ◌++◌, Option, Some, None, refl, ap, sym, subst}
 use Rattle.std.specs.Prelude.{is_some}
 use Rattle.wfe_core.specs.words.declared.config.SchemeKind.{SchemeKind}
-use Rattle.wfe_core.specs.words.declared.config.SchemeKind.TheVariants.{He, Ibr, Wfe}
 use Rattle.wfe_core.specs.defs.declared.call.Answer.{Answer}
 use Rattle.wfe_core.specs.defs.declared.event.Event.{Event}
 use Rattle.wfe_core.specs.defs.declared.lifetime.Interval.{Interval}
 use Rattle.wfe_core.specs.declared.post.Post.{Post}
 use Rattle.wfe_core.specs.Desks.{Desk}
-use Rattle.wfe_core.specs.Posts.{stands}
+use Rattle.wfe_core.specs.Posts.{stands, withdrawn}
+use Rattle.wfe_core.proofs.Facts.{if_by}
 use Rattle.wfe_core.specs.Phases.{Base}
 use Rattle.wfe_core.specs.Phases.Base.{Clear, Finish}
-use Rattle.wfe_core.specs.Rounds.{scheme_of, index_of, taken_of, begin_span, begin_base, clear_base, clear_post, clear_told, finish_span, finish_base, round_by, round, given_up, closed, finishing_by, finishing, clearing_by, clearing, clearing_next_by, clearing_next}
+use Rattle.wfe_core.specs.Rounds.{scheme_of, index_of, taken_of, begin_span, begin_where, clear_base, clear_post, clear_told, finish_span, finish_base, round_by, round, given_up, closed, finishing_by, finishing, clearing_by, clearing, clearing_next_by, clearing_next}
 use Rattle.wfe_core.specs.Calls.{Task, Dequeues, Next, Again, MakeRoom, Answering, Retiring, Repeated, Phase, Runs, ClearsNext, Clears, Finishes}
-use Rattle.wfe_core.specs.words.Schemes.{is_ibr}
+use Rattle.wfe_core.specs.words.Schemes.{has_one_interval}
 use Rattle.inv_shapes.specs.Frame.{Left, SpanStands, Grows}
 
-no_span : (post : Post) → is_ibr (scheme_of post) ≡ false → SpanStands post
+no_span : (post : Post) → has_one_interval (scheme_of post) ≡ false → SpanStands post
 no_span post e h = absurd (cc)
 
-begun_by : {Q : Post → Type 0} {P : Post → Phase → Type 0} (g : Grows Q P) (task : Task) (post : Post) (x : Option Interval) → is_ibr (scheme_of post) ≡ true → post.span ≡ x → Q post → P post (round_by task post (begin_span x))
+begun_by : {Q : Post → Type 0} {P : Post → Phase → Type 0} (g : Grows Q P) (task : Task) (post : Post) (x : Option Interval) → has_one_interval (scheme_of post) ≡ true → post.span ≡ x → Q post → P post (round_by task post (begin_span x))
 begun_by g task post None i e q = g.begins post task i e q
 begun_by g task post (Some span) i e q = g.opens post task (λ h. ap is_some e) q
 
-round_at : {Q : Post → Type 0} {P : Post → Phase → Type 0} (g : Grows Q P) (task : Task) (post : Post) (s : SchemeKind) → scheme_of post ≡ s → Q post → P post (round_by task post (begin_base s post))
-round_at g task post He e q = g.opens post task (no_span post (ap is_ibr e)) q
-round_at g task post Ibr e q = begun_by g task post post.span (ap is_ibr e) refl q
-round_at g task post Wfe e q = g.opens post task (no_span post (ap is_ibr e)) q
+round_at : {Q : Post → Type 0} {P : Post → Phase → Type 0} (g : Grows Q P) (task : Task) (post : Post) (interval : Bool) → has_one_interval (scheme_of post) ≡ interval → Q post → P post (round_by task post (begin_where interval post))
+round_at g task post false e q = g.opens post task (no_span post e) q
+round_at g task post true e q = begun_by g task post post.span e refl q
 
 -- a round begins
 pub round_grows : {Q : Post → Type 0} {P : Post → Phase → Type 0} (g : Grows Q P) (task : Task) (post : Post) → Q post → P post (round task post)
-round_grows g task post q = round_at g task post (scheme_of post) refl q
+round_grows g task post q = round_at g task post (has_one_interval (scheme_of post)) refl q
 
 given_up_left : {Q : Post → Type 0} {P : Post → Phase → Type 0} (g : Grows Q P) (answer : Answer) (post : Post) (desk : Desk) (told : List Event) (x : Option ℕ) → Q post → Left Q P (given_up answer post desk told x)
 given_up_left g answer post desk told None q = record { post = q; phase = g.idle post q }
@@ -43,23 +42,25 @@ closed_left g task (Answering answer) post desk told q = given_up_left g answer 
 closed_left g task (Retiring slot answer) post desk told q = record { post = q; phase = g.retires post answer slot q }
 
 pub record IsFinish (scheme : SchemeKind) (post : Post) (base : Base) : Type 0 where
-  pub ibr : is_ibr scheme ≡ true
+  pub interval : has_one_interval scheme ≡ true
   pub free : stands post 2 ≡ None
   pub is : base ≡ Finish
 
-finish_when : (post : Post) (x : Option ℕ) (base : Base) → stands post 2 ≡ x → finish_span x ≡ Some base → IsFinish Ibr post base
-finish_when post None base e h = record { ibr = refl; free = e; is = cc }
-finish_when post (Some slot) base e h = absurd (cc)
+finish_when : (s : SchemeKind) (post : Post) (x : Option ℕ) (base : Base) → has_one_interval s ≡ true → stands post 2 ≡ x → finish_span x ≡ Some base → IsFinish s post base
+finish_when s post None base i e h = record { interval = i; free = e; is = cc }
+finish_when s post (Some slot) base i e h = absurd (cc)
 
 pub finish_is : (s : SchemeKind) (post : Post) (base : Base) → finish_base s post ≡ Some base → IsFinish s post base
-finish_is He post base h = absurd (cc)
-finish_is Ibr post base h = finish_when post (stands post 2) base refl h
-finish_is Wfe post base h = absurd (cc)
+finish_is s post base h =
+    if_by (has_one_interval s) (finish_span (stands post 2)) None (λ (x : Option Base). x ≡ Some base → IsFinish s post base)
+    (λ i e. finish_when s post (stands post 2) base i refl e)
+    (λ i e. absurd (cc))
+    h
 
 finishing_by_left : {Q : Post → Type 0} {P : Post → Phase → Type 0} (g : Grows Q P) (task : Task) (next : Next) (post : Post) (desk : Desk) (told : List Event) (x : Option Base) → finish_base (scheme_of post) post ≡ x → Q post → Left Q P (finishing_by task next post desk told x)
 finishing_by_left g task next post desk told None e q = closed_left g task next post desk told q
 finishing_by_left {P = P} g task next post desk told (Some base) e q = let f = finish_is (scheme_of post) post base e in
-    record { post = q; phase = subst (λ (b : Base). P post (Runs (Finishes task next) b)) (sym f.is) (g.finishes post task next f.ibr f.free q) }
+    record { post = q; phase = subst (λ (b : Base). P post (Runs (Finishes task next) b)) (sym f.is) (g.finishes post task next f.interval f.free q) }
 
 pub finishing_left : {Q : Post → Type 0} {P : Post → Phase → Type 0} (g : Grows Q P) (task : Task) (next : Next) (post : Post) (desk : Desk) (told : List Event) → Q post → Left Q P (finishing task next post desk told)
 finishing_left g task Again post desk told q = closed_left g task Again post desk told q
@@ -67,23 +68,23 @@ finishing_left g task MakeRoom post desk told q = finishing_by_left g task MakeR
 finishing_left g task (Answering answer) post desk told q = finishing_by_left g task (Answering answer) post desk told (finish_base (scheme_of post) post) refl q
 finishing_left g task (Retiring slot answer) post desk told q = finishing_by_left g task (Retiring slot answer) post desk told (finish_base (scheme_of post) post) refl q
 
-clear_post_keeps : {Q : Post → Type 0} {P : Post → Phase → Type 0} (g : Grows Q P) (post : Post) (index : ℕ) (s : SchemeKind) → scheme_of post ≡ s → Q post → Q (clear_post s post index)
-clear_post_keeps g post index He e q = q
-clear_post_keeps g post index Ibr e q = g.withdraws post index (ap is_ibr e) q
-clear_post_keeps g post index Wfe e q = q
+clear_post_keeps : {Q : Post → Type 0} {P : Post → Phase → Type 0} (g : Grows Q P) (post : Post) (index : ℕ) → Q post → Q (clear_post (scheme_of post) post index)
+clear_post_keeps {Q} g post index q = if_by (has_one_interval (scheme_of post)) (withdrawn post index) post Q (λ i. g.withdraws post index i q) (λ i. q)
 
 pub record IsClear (scheme : SchemeKind) (index : ℕ) (base : Base) : Type 0 where
-  pub plain : is_ibr scheme ≡ false
+  pub plain : has_one_interval scheme ≡ false
   pub is : base ≡ Clear index
 
 pub clear_is : (s : SchemeKind) (index : ℕ) (base : Base) → clear_base s index ≡ Some base → IsClear s index base
-clear_is He index base h = record { plain = refl; is = cc }
-clear_is Ibr index base h = absurd (cc)
-clear_is Wfe index base h = record { plain = refl; is = cc }
+clear_is s index base h =
+    if_by (has_one_interval s) None (Some (Clear index)) (λ (x : Option Base). x ≡ Some base → IsClear s index base)
+    (λ i e. absurd (cc))
+    (λ i e. record { plain = i; is = cc })
+    h
 
 clearing_by_left : {Q : Post → Type 0} {P : Post → Phase → Type 0} (g : Grows Q P) (task : Task) (next : Next) (post : Post) (desk : Desk) (told : List Event) (x : Option Base) → clear_base (scheme_of post) (index_of task) ≡ x → Q post → Left Q P (clearing_by task next post desk told x)
 clearing_by_left g task next post desk told None e q =
-    finishing_left g task next (clear_post (scheme_of post) post (index_of task)) desk (told ++ clear_told (scheme_of post) post (index_of task)) (clear_post_keeps g post (index_of task) (scheme_of post) refl q)
+    finishing_left g task next (clear_post (scheme_of post) post (index_of task)) desk (told ++ clear_told (scheme_of post) post (index_of task)) (clear_post_keeps g post (index_of task) q)
 clearing_by_left {P = P} g task next post desk told (Some base) e q = let f = clear_is (scheme_of post) (index_of task) base e in
     record { post = q; phase = subst (λ (b : Base). P post (Runs (Clears task next) b)) (sym f.is) (g.clears post task next f.plain q) }
 
@@ -92,7 +93,7 @@ clearing_left g task next post desk told q = clearing_by_left g task next post d
 
 clearing_next_by_left : {Q : Post → Type 0} {P : Post → Phase → Type 0} (g : Grows Q P) (next : Next) (post : Post) (desk : Desk) (told : List Event) (x : Option Base) → clear_base (scheme_of post) 1 ≡ x → Q post → Left Q P (clearing_next_by next post desk told x)
 clearing_next_by_left g next post desk told None e q =
-    clearing_left g Dequeues next (clear_post (scheme_of post) post 1) desk (told ++ clear_told (scheme_of post) post 1) (clear_post_keeps g post 1 (scheme_of post) refl q)
+    clearing_left g Dequeues next (clear_post (scheme_of post) post 1) desk (told ++ clear_told (scheme_of post) post 1) (clear_post_keeps g post 1 q)
 clearing_next_by_left {P = P} g next post desk told (Some base) e q = let f = clear_is (scheme_of post) 1 base e in
     record { post = q; phase = subst (λ (b : Base). P post (Runs (ClearsNext next) b)) (sym f.is) (g.clears_next post next f.plain q) }
 

@@ -33,8 +33,8 @@ use Rattle.wfe_core.specs.Allocate.{is_claimed, next_slot, walk_from, walk_at, w
 use Rattle.wfe_core.specs.WriteRow.{first_written, last_written, after_write}
 use Rattle.wfe_core.specs.MoveClock.{after_hand_over, all_met, next_request, helping, met, moving}
 use Rattle.wfe_core.specs.Machine.{after, begin_turn, protect_turn, allocate_turn, retire_turn, move_turn}
-use Rattle.wfe_core.specs.Calls.{Runs, Why, Opens, FollowsHead, Fills, ClearsNext, Clears, Finishes, GivesUp, Retires, Tidies, Advances, Releases}
-use Rattle.wfe_core.specs.words.Schemes.{is_ibr, is_wfe}
+use Rattle.wfe_core.specs.Calls.{Runs, Why, Opens, FollowsHead, Fills}
+use Rattle.wfe_core.specs.words.Schemes.{has_one_interval, helps}
 use Rattle.inv_shapes.specs.Frame.{SpanStands, Resumes, Moves}
 use Rattle.inv_shapes.specs.Seats.{agree, Kind, ToOpen, ToFollow, ToFill, kind_of, finishes, releases, gives_up, retires, moves, reloads, aim_by, tries_fit, try_fits, protect_fits, move_fits, Run, PhaseFits, PostFits}
 use Rattle.inv_shapes.proofs.Machines.{moves_if, held_post_keeps, concluded_moves}
@@ -44,14 +44,7 @@ pub resumes_from : (why : Why) (post : Post) → SpanStands post → Resumes why
 resumes_from (Opens task) post s = s
 resumes_from (FollowsHead head tail) post s = s
 resumes_from (Fills task) post s = s
-resumes_from (ClearsNext next) post s = tt
-resumes_from (Clears task next) post s = tt
-resumes_from (Finishes task next) post s = tt
-resumes_from (GivesUp answer) post s = tt
-resumes_from (Retires answer) post s = tt
-resumes_from (Tidies later) post s = tt
-resumes_from Advances post s = tt
-resumes_from (Releases key) post s = tt
+resumes_from why post s = tt
 
 -- what is run within a round
 abbrev pub in_round : Kind → Bool
@@ -64,14 +57,7 @@ pub resumes_out : (why : Why) (post : Post) → in_round (kind_of why) ≡ false
 resumes_out (Opens task) post h = absurd (cc)
 resumes_out (FollowsHead head tail) post h = absurd (cc)
 resumes_out (Fills task) post h = absurd (cc)
-resumes_out (ClearsNext next) post h = tt
-resumes_out (Clears task next) post h = tt
-resumes_out (Finishes task next) post h = tt
-resumes_out (GivesUp answer) post h = tt
-resumes_out (Retires answer) post h = tt
-resumes_out (Tidies later) post h = tt
-resumes_out Advances post h = tt
-resumes_out (Releases key) post h = tt
+resumes_out why post h = tt
 
 pub finishes_out : (k : Kind) → finishes k ≡ true → in_round k ≡ false
 finishes_out ToOpen h = cc
@@ -96,17 +82,9 @@ moves_out k h = cc
 follows_reloads : (why : Why) → aim_by why ≡ Follows → reloads (kind_of why) ≡ true
 follows_reloads (Opens task) e = absurd (cc)
 follows_reloads (FollowsHead head tail) e = refl
-follows_reloads (Fills task) e = absurd (cc)
-follows_reloads (ClearsNext next) e = absurd (cc)
-follows_reloads (Clears task next) e = absurd (cc)
-follows_reloads (Finishes task next) e = absurd (cc)
-follows_reloads (GivesUp answer) e = absurd (cc)
-follows_reloads (Retires answer) e = absurd (cc)
-follows_reloads (Tidies later) e = absurd (cc)
-follows_reloads Advances e = absurd (cc)
-follows_reloads (Releases key) e = absurd (cc)
+follows_reloads why e = absurd (cc)
 
-plain_span : (post : Post) → not (is_ibr (scheme_of post)) ≡ true → SpanStands post
+plain_span : (post : Post) → not (has_one_interval (scheme_of post)) ≡ true → SpanStands post
 plain_span post h e = absurd (let k : not true ≡ true = subst (λ (b : Bool). not b ≡ true) e h in cc)
 
 failed_fits : (s : SchemeKind) (most : ℕ) (tries : Tries) → try_fits s most tries ≡ true → tries_fit s most (failed_once tries) ≡ true
@@ -121,13 +99,13 @@ trying_fits config era (Failed count) h = by (nat_le config.tries count) refl
     by true e = grind (arith, nat_tests)
     by false e = grind (arith, nat_tests)
 
-answer_fits : (s : SchemeKind) (most : ℕ) (x : Option Request) → is_wfe s ≡ true → protect_fits s most (answer_in x) ≡ true
+answer_fits : (s : SchemeKind) (most : ℕ) (x : Option Request) → helps s ≡ true → protect_fits s most (answer_in x) ≡ true
 answer_fits s most None h = h
 answer_fits s most (Some requests.Idle) h = h
 answer_fits s most (Some (requests.Pending tag index word)) h = h
 answer_fits s most (Some (requests.Answered link era)) h = h
 
-lost_fits : (s : SchemeKind) (most first found : ℕ) (last : Bool) → is_wfe s ≡ true → protect_fits s most (lost_turn first last found) ≡ true
+lost_fits : (s : SchemeKind) (most first found : ℕ) (last : Bool) → helps s ≡ true → protect_fits s most (lost_turn first last found) ≡ true
 lost_fits s most first found true h = h
 lost_fits s most first found false h = h
 
@@ -265,35 +243,35 @@ retire_moves layout k why (StoreRetired slot birth retire) post found q r =
     record { post = record { seat = q.seat; layout = q.layout; cursor = q.cursor; tags = q.tags; standing = q.standing }; phase = resumes_out why _ (retires_out (kind_of why) r.suited) }
 
 -- a mover's next phase
-all_met_fits : (s : SchemeKind) (seats era : ℕ) (shows : Bool) → is_wfe s ≡ true → move_fits s seats (all_met era shows) ≡ true
+all_met_fits : (s : SchemeKind) (seats era : ℕ) (shows : Bool) → helps s ≡ true → move_fits s seats (all_met era shows) ≡ true
 all_met_fits s seats era true h = h
 all_met_fits s seats era false h = refl
 
-next_fits : (layout : Layout) (post : Post) (era seat : ℕ) (shows : Bool) → post.layout ≡ layout → is_wfe layout.config.scheme ≡ true → move_fits layout.config.scheme layout.config.seats (next_request post era seat shows) ≡ true
+next_fits : (layout : Layout) (post : Post) (era seat : ℕ) (shows : Bool) → post.layout ≡ layout → helps layout.config.scheme ≡ true → move_fits layout.config.scheme layout.config.seats (next_request post era seat shows) ≡ true
 next_fits layout post era seat shows l h = subst (λ (t : Layout). move_fits t.config.scheme t.config.seats (next_request post era seat shows) ≡ true) l
-    (at (nat_lt (seat + 1) post.layout.config.seats) refl (subst (λ (t : Layout). is_wfe t.config.scheme ≡ true) (sym l) h))
+    (at (nat_lt (seat + 1) post.layout.config.seats) refl (subst (λ (t : Layout). helps t.config.scheme ≡ true) (sym l) h))
   where
-    at : (b : Bool) → nat_lt (seat + 1) post.layout.config.seats ≡ b → is_wfe post.layout.config.scheme ≡ true → move_fits post.layout.config.scheme post.layout.config.seats (if b then LoadRequest era (seat + 1) shows else all_met era shows) ≡ true
+    at : (b : Bool) → nat_lt (seat + 1) post.layout.config.seats ≡ b → helps post.layout.config.scheme ≡ true → move_fits post.layout.config.scheme post.layout.config.seats (if b then LoadRequest era (seat + 1) shows else all_met era shows) ≡ true
     at true e g = grind (arith, nat_tests)
     at false e g = all_met_fits post.layout.config.scheme post.layout.config.seats era shows g
 
-helping_fits : (s : SchemeKind) (seats era seat tag index : ℕ) (root : Root) (shows : Bool) → (is_wfe s && nat_lt seat seats) ≡ true → move_fits s seats (helping era seat tag index root shows) ≡ true
+helping_fits : (s : SchemeKind) (seats era seat tag index : ℕ) (root : Root) (shows : Bool) → (helps s && nat_lt seat seats) ≡ true → move_fits s seats (helping era seat tag index root shows) ≡ true
 helping_fits s seats era seat tag index root true h = h
 helping_fits s seats era seat tag index root false h = h
 
-met_fits : (layout : Layout) (post : Post) (era seat : ℕ) (shows : Bool) (x : Option Request) → post.layout ≡ layout → (is_wfe layout.config.scheme && nat_lt seat layout.config.seats) ≡ true
+met_fits : (layout : Layout) (post : Post) (era seat : ℕ) (shows : Bool) (x : Option Request) → post.layout ≡ layout → (helps layout.config.scheme && nat_lt seat layout.config.seats) ≡ true
     → move_fits layout.config.scheme layout.config.seats (met post era seat shows x) ≡ true
 met_fits layout post era seat shows (Some (requests.Pending tag index word)) l h = helping_fits layout.config.scheme layout.config.seats era seat tag index (root_at post.layout word) shows h
 met_fits layout post era seat shows (Some (requests.Answered link answered)) l h = next_fits layout post era seat shows l (grind (arith, nat_tests))
 met_fits layout post era seat shows (Some requests.Idle) l h = next_fits layout post era seat shows l (grind (arith, nat_tests))
 met_fits layout post era seat shows None l h = next_fits layout post era seat shows l (grind (arith, nat_tests))
 
-moving_fits : (s : SchemeKind) (seats era : ℕ) (helps : Bool) → 0 < seats → agree helps (is_wfe s) ≡ true → move_fits s seats (moving helps era) ≡ true
+moving_fits : (s : SchemeKind) (seats era : ℕ) (helping : Bool) → 0 < seats → agree helping (helps s) ≡ true → move_fits s seats (moving helping era) ≡ true
 moving_fits s seats era true b h = grind (arith, nat_tests)
 moving_fits s seats era false b h = refl
 
-wfe_of : (layout : Layout) (seat : ℕ) → (is_wfe layout.config.scheme && nat_lt seat layout.config.seats) ≡ true → is_wfe layout.config.scheme ≡ true
-wfe_of layout seat h = grind (arith, nat_tests)
+helps_of : (layout : Layout) (seat : ℕ) → (helps layout.config.scheme && nat_lt seat layout.config.seats) ≡ true → helps layout.config.scheme ≡ true
+helps_of layout seat h = grind (arith, nat_tests)
 
 -- the move goes on
 moves_on : {layout : Layout} {why : Why} {at : MoveAt} {post : Post} → Run layout why (Move at) post → (next : MoveAt) (left : Post) → move_fits layout.config.scheme layout.config.seats next ≡ true → Run layout why (Move next) left
@@ -317,17 +295,17 @@ move_moves layout k why (LoadAsked era seat tag index root) post found b q l r =
 move_moves layout k why (CheckEra era seat tag index root link) post found b q l r =
     moves_if why (found == era) _ _
     (λ e. record { post = q; phase = moves_on r (AnswerAsked era seat tag index root link) post r.fits })
-    (λ e. record { post = q; phase = moves_on r (HideLate found) post (wfe_of layout seat r.fits) })
+    (λ e. record { post = q; phase = moves_on r (HideLate found) post (helps_of layout seat r.fits) })
 move_moves layout k why (AnswerAsked era seat tag index root link) post found b q l r =
     moves_if why (found == asking post.layout tag index root) _ _
     (λ e. record { post = q; phase = moves_on r (LoadReserved era seat tag index root link) post r.fits })
-    (λ e. record { post = q; phase = moves_on r (next_request post era seat true) post (next_fits layout post era seat true l (wfe_of layout seat r.fits)) })
+    (λ e. record { post = q; phase = moves_on r (next_request post era seat true) post (next_fits layout post era seat true l (helps_of layout seat r.fits)) })
 move_moves layout k why (LoadReserved era seat tag index root link) post found b q l r =
     moves_if why ((read_reservation found).tag == tag) _ _
     (λ e. record { post = q; phase = moves_on r (HandOver era seat tag index root link (read_reservation found).era) post r.fits })
-    (λ e. record { post = q; phase = moves_on r (next_request post era seat true) post (next_fits layout post era seat true l (wfe_of layout seat r.fits)) })
+    (λ e. record { post = q; phase = moves_on r (next_request post era seat true) post (next_fits layout post era seat true l (helps_of layout seat r.fits)) })
 move_moves layout k why (HandOver era seat tag index root link old) post found b q l r =
-    handed layout k why era seat tag index old post (found == reservation_word (record { era = old; tag = tag })) q (moves_on r (next_request post era seat true) post (next_fits layout post era seat true l (wfe_of layout seat r.fits)))
+    handed layout k why era seat tag index old post (found == reservation_word (record { era = old; tag = tag })) q (moves_on r (next_request post era seat true) post (next_fits layout post era seat true l (helps_of layout seat r.fits)))
 move_moves layout k why (HideEra era) post found b q l r = record { post = q; phase = moves_on r (ExchangeClock era) post refl }
 move_moves layout k why (HideLate seen) post found b q l r = record { post = q; phase = resumes_out why post (moves_out (kind_of why) r.suited) }
 move_moves layout k why (ExchangeClock era) post found b q l r =
@@ -352,7 +330,7 @@ shape_moves layout k v why (Reload parent index slot era steps) post found q r =
     (λ e. record { post = row_fits layout k post index slot q; phase = resumes_from why (with_row post index slot) r.posted })
     (λ e. record { post = q; phase = resumes_from why post r.posted })
 shape_moves layout k v why (Clear index) post found q r =
-    record { post = withdrawn_fits layout k post index q; phase = resumes_from why (withdrawn post index) (plain_span post (subst (λ (t : Layout). not (is_ibr t.config.scheme) ≡ true) (sym q.layout) r.fits)) }
+    record { post = withdrawn_fits layout k post index q; phase = resumes_from why (withdrawn post index) (plain_span post (subst (λ (t : Layout). not (has_one_interval t.config.scheme) ≡ true) (sym q.layout) r.fits)) }
 shape_moves layout k v why Finish post found q r = record { post = span_fits layout k post None q; phase = resumes_out why (with_span post None) (finishes_out (kind_of why) r.suited) }
 shape_moves layout k v why Release post found q r =
     record { post = span_fits layout k (withdrawn post 2) None (withdrawn_fits layout k post 2 q); phase = resumes_out why (with_span (withdrawn post 2) None) (releases_out (kind_of why) r.suited) }

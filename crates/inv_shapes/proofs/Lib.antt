@@ -21,5 +21,6 @@ pub mod Spans
 pub mod Steps
 pub mod Takes
 pub mod There
+pub mod Tries
 pub mod Works
 pub mod Written

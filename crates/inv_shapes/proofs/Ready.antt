@@ -1,9 +1,8 @@
 -- Each machine is ready at its step, and what it finds is plausible.
 use Rattle.std.proofs.Common.{refl, ℕ, ◌≡◌, ◌≤◌, ◌<◌, true, Option, Some, None, ap, sym, subst, ◌∙◌, arith}
 use Rattle.std.proofs.lemmas.Bool.Decides.{nat_tests}
-use Rattle.std.proofs.lemmas.Grind.{common_steps}
 use Rattle.std.proofs.lemmas.Option.{slice_get_within}
-use Rattle.std.specs.Prelude.{◌&&◌, nat_lt, nat_le, is_some, List, length, slice_get}
+use Rattle.std.specs.Prelude.{◌&&◌, nat_lt, nat_le, is_some, slice_get}
 use Rattle.wfe_core.specs.words.Place.{Place, is_valid}
 use Rattle.wfe_core.specs.words.Place.Place.{Clock, Tail, Row, Request as RequestOf}
 use Rattle.wfe_core.specs.words.Packed.{read_request}
@@ -13,7 +12,6 @@ use Rattle.wfe_core.specs.words.declared.packed.Request.{Request}
 use Rattle.wfe_core.specs.words.declared.packed.Request.TheVariants as requests
 use Rattle.wfe_core.specs.defs.declared.event.Root.{Root}
 use Rattle.wfe_core.specs.defs.declared.lifetime.Interval.{Interval as Span}
-use Rattle.wfe_core.specs.defs.declared.lifetime.Lifetime.{Lifetime}
 use Rattle.wfe_core.specs.declared.post.Post.{Post}
 use Rattle.wfe_core.specs.Memory.{place_in, found}
 use Rattle.wfe_core.specs.Links.{link_place, link_number, root_at}
@@ -39,7 +37,7 @@ use Rattle.wfe_core.specs.Enqueue.{enqueue_move}
 use Rattle.wfe_core.specs.Dequeue.{dequeue_move}
 use Rattle.wfe_core.specs.World.{World}
 use Rattle.inv_shapes.specs.Frame.{SpanStands}
-use Rattle.wfe_core.specs.words.Schemes.{is_wfe}
+use Rattle.wfe_core.specs.words.Schemes.{helps}
 use Rattle.inv_shapes.specs.Seats.{tries_fit, try_fits, protect_fits, allocate_fits, move_fits, Run, PostFits, PhaseFits, Seats, scan_fits}
 use Rattle.inv_shapes.specs.Eras.{SpanIn, AskIn, AskingIn, begin_eras, protect_eras, allocate_eras, retire_eras, move_eras, base_eras, PhaseEras, Eras}
 use Rattle.inv_shapes.specs.Slots.{ProtectIn, RetireIn, MovesIn, BaseIn, StandsIn, PostIn, PhaseIn, Slots, RowIn, TakenIn, TaskIn, FillIn, LaterIn, WhyIn, GetIn, ChangeAtIn, EnqueueAtIn, DequeueIn, WorkIn, ScanIn, get_finds, change_finds, enqueue_finds, dequeue_finds, work_finds, phase_finds, BackIn}
@@ -101,7 +99,7 @@ retire_is_ready post clock (LoadLife slot) h e = h
 retire_is_ready post clock (LoadRetire slot birth) h e = h
 retire_is_ready post clock (StoreRetired slot birth retire) h e = (h, e.born, e.later)
 
-ask_ready : (post : Post) (seat tag index : ℕ) (root : Root) → (is_wfe post.layout.config.scheme && nat_lt seat post.layout.config.seats) ≡ true → AskIn post.layout tag index root → AskFits post seat tag index root
+ask_ready : (post : Post) (seat tag index : ℕ) (root : Root) → (helps post.layout.config.scheme && nat_lt seat post.layout.config.seats) ≡ true → AskIn post.layout tag index root → AskFits post seat tag index root
 ask_ready post seat tag index root f a = record { seat_in = asked_seat post.layout.config.scheme seat post.layout.config.seats f; tag_in = a.few; index_in = a.at; root_in = a.there }
 
 move_is_ready : (post : Post) (clock : ℕ) (at : MoveAt) → move_fits post.layout.config.scheme post.layout.config.seats at ≡ true → move_eras post.layout clock at → MovesIn post.layout.config.slots at → move_ready at post

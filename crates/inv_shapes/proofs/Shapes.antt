@@ -1,5 +1,5 @@
 -- Each step keeps the static shape of the seat that makes it.
-use Rattle.std.proofs.Common.{ℕ, ◌≡◌, ◌≤◌, ◌<◌, Bool, true, false, not, Option, None, refl, ap, sym, subst, ◌∙◌, arith}
+use Rattle.std.proofs.Common.{ℕ, ◌≡◌, ◌≤◌, ◌<◌, Bool, true, false, Option, None, refl, sym, subst, ◌∙◌, arith}
 use Rattle.std.proofs.lemmas.Bool.Decides.{nat_tests}
 use Rattle.std.proofs.lemmas.List.{length-set}
 use Rattle.std.specs.Prelude.{◌&&◌, nat_lt, nat_le}
@@ -12,18 +12,18 @@ use Rattle.wfe_core.proofs.words.Numbers.{row_below}
 use Rattle.wfe_core.specs.declared.post.Post.{Post}
 use Rattle.wfe_core.specs.Guards.{guards_by, guards}
 use Rattle.wfe_core.proofs.Ranges.{bounds_of}
-use Rattle.wfe_core.specs.Rounds.{scheme_of, root_of, index_of, opening, protect_at, helps, move_base, release_base}
+use Rattle.wfe_core.specs.Rounds.{scheme_of, root_of, index_of, opening, protect_at, move_base, release_base}
 use Rattle.wfe_core.specs.Dequeue.{follow_base}
 use Rattle.wfe_core.specs.WriteRow.{first_written, last_written}
-use Rattle.wfe_core.specs.Phases.{RowOf, MapRow, QueueRow}
+use Rattle.wfe_core.specs.Phases.{RowOf, MapRow, QueueRow, Base}
 use Rattle.wfe_core.specs.Phases.BeginAt.{LoadLower}
-use Rattle.wfe_core.specs.Phases.MoveAt.{LoadEra}
-use Rattle.wfe_core.specs.Phases.Base.{Begin, Clear, Finish}
+use Rattle.wfe_core.specs.Phases.Base.{Begin, Clear, Finish, Release}
 use Rattle.wfe_core.specs.Calls.{Task, Gets, Changes, Holds, Enqueues, Dequeues, Opens, FollowsHead, ClearsNext, Clears, Finishes, Tidies, Advances, Releases}
-use Rattle.wfe_core.specs.words.Schemes.{is_ibr}
+use Rattle.wfe_core.specs.words.Schemes.{has_one_interval, helps}
 use Rattle.inv_shapes.specs.Frame.{Grows}
-use Rattle.inv_shapes.specs.Seats.{kind_of, task_root, protect_fits, base_fits, move_fits, suits, Shaped, Posted, Run, PhaseFits, PostFits}
-use Rattle.wfe_core.proofs.Facts.{not_of_false}
+use Rattle.inv_shapes.specs.Seats.{kind_of, task_root, protect_fits, base_fits, suits, Shaped, Posted, Run, PhaseFits, PostFits, agree}
+use Rattle.wfe_core.proofs.Facts.{not_of_false, if_by}
+use Rattle.wfe_core.proofs.Schemes.{each_release}
 
 some_guards : (s : SchemeKind) (config : Config) → 1 ≤ config.seats → 1 ≤ config.indexes → 0 < guards_by s config
 some_guards He config a b = omega (arith, row_below 0 0 config.seats config.indexes a b)
@@ -45,33 +45,21 @@ protect_at_fits He most = refl
 protect_at_fits Ibr most = refl
 protect_at_fits Wfe most = grind (arith, nat_tests)
 
-helps_fit : (s : SchemeKind) (seats : ℕ) → move_fits s seats (LoadEra (helps s)) ≡ true
-helps_fit He seats = refl
-helps_fit Ibr seats = refl
-helps_fit Wfe seats = refl
+agree_self : (b : Bool) → agree b b ≡ true
+agree_self true = refl
+agree_self false = refl
 
 release_suits : (s : SchemeKind) (key : Option ℕ) → suits (release_base s) (kind_of (Releases key)) ≡ true
-release_suits He key = refl
-release_suits Ibr key = refl
-release_suits Wfe key = refl
+release_suits s key = each_release s (λ (base : Base). suits base (kind_of (Releases key)) ≡ true) refl refl
 
 release_fits : (config : Config) → base_fits config (release_base config.scheme) ≡ true
-release_fits config = at config.scheme refl
-  where
-    at : (s : SchemeKind) → config.scheme ≡ s → base_fits config (release_base s) ≡ true
-    at He e = ap (λ s. not (is_ibr s)) e
-    at Ibr e = ap is_ibr e
-    at Wfe e = ap (λ s. not (is_ibr s)) e
+release_fits config = if_by (has_one_interval config.scheme) Release (Clear 2) (λ (base : Base). base_fits config base ≡ true) (λ i. i) (λ i. not_of_false (has_one_interval config.scheme) i)
 
 release_shape : (s : SchemeKind) (buckets : ℕ) (key : Option ℕ) → Shaped buckets (Releases key) (release_base s)
-release_shape He buckets key = refl
-release_shape Ibr buckets key = tt
-release_shape Wfe buckets key = refl
+release_shape s buckets key = each_release s (λ (base : Base). Shaped buckets (Releases key) base) refl tt
 
 release_posted : (s : SchemeKind) (post : Post) → Posted (release_base s) post
-release_posted He post = tt
-release_posted Ibr post = tt
-release_posted Wfe post = tt
+release_posted s post = each_release s (λ (base : Base). Posted base post) tt tt
 
 written_last : (row : RowOf) → (nat_le (first_written row) (first_written row) && nat_le (first_written row) (last_written row)) ≡ true
 written_last (MapRow version pairs) = grind (arith, nat_tests)
@@ -88,13 +76,13 @@ shape_grows layout k v = record {
   follows = λ post head tail s q. subst (λ (l : Layout). Run l (FollowsHead head tail) (follow_base (scheme_of post) head) post) q.layout (record { suited = refl; fits = protect_at_fits (scheme_of post) post.layout.config.tries; shape = record { aimed = refl; at = refl; of = refl }; posted = s });
   allocates = λ post task s q. record { suited = refl; fits = refl; shape = tt; posted = s };
   writes = λ post task slot row s q. record { suited = refl; fits = written_last row; shape = tt; posted = s };
-  clears = λ post task next i q. subst (λ (l : Layout). Run l (Clears task next) (Clear (index_of task)) post) q.layout (record { suited = refl; fits = not_of_false (is_ibr (scheme_of post)) i; shape = refl; posted = tt });
-  clears_next = λ post next i q. subst (λ (l : Layout). Run l (ClearsNext next) (Clear 1) post) q.layout (record { suited = refl; fits = not_of_false (is_ibr (scheme_of post)) i; shape = refl; posted = tt });
+  clears = λ post task next i q. subst (λ (l : Layout). Run l (Clears task next) (Clear (index_of task)) post) q.layout (record { suited = refl; fits = not_of_false (has_one_interval (scheme_of post)) i; shape = refl; posted = tt });
+  clears_next = λ post next i q. subst (λ (l : Layout). Run l (ClearsNext next) (Clear 1) post) q.layout (record { suited = refl; fits = not_of_false (has_one_interval (scheme_of post)) i; shape = refl; posted = tt });
   finishes = λ post task next i e q. subst (λ (l : Layout). Run l (Finishes task next) Finish post) q.layout (record { suited = refl; fits = i; shape = tt; posted = e });
   gives_up = λ post answer slot q. record { suited = refl; fits = refl; shape = tt; posted = tt };
   retires = λ post answer slot q. record { suited = refl; fits = refl; shape = tt; posted = tt };
-  tidies = λ post later q. subst (λ (l : Layout). Run l (Tidies later) (move_base (scheme_of post)) post) q.layout (record { suited = refl; fits = helps_fit (scheme_of post) post.layout.config.seats; shape = tt; posted = tt });
-  advances = λ post q. subst (λ (l : Layout). Run l Advances (move_base (scheme_of post)) post) q.layout (record { suited = refl; fits = helps_fit (scheme_of post) post.layout.config.seats; shape = tt; posted = tt });
+  tidies = λ post later q. subst (λ (l : Layout). Run l (Tidies later) (move_base (scheme_of post)) post) q.layout (record { suited = refl; fits = agree_self (helps (scheme_of post)); shape = tt; posted = tt });
+  advances = λ post q. subst (λ (l : Layout). Run l Advances (move_base (scheme_of post)) post) q.layout (record { suited = refl; fits = agree_self (helps (scheme_of post)); shape = tt; posted = tt });
   releases = λ post key q. subst (λ (l : Layout). Run l (Releases key) (release_base (scheme_of post)) post) q.layout (record { suited = release_suits (scheme_of post) key; fits = release_fits post.layout.config; shape = release_shape (scheme_of post) post.layout.config.buckets key; posted = release_posted (scheme_of post) post });
   scans = λ post later number b q. subst (λ (l : Layout). nat_lt number (guards l.config) ≡ true) q.layout (grind (arith, nat_tests));
   gives_back = λ post later place slot q. refl;

@@ -6,7 +6,6 @@ use Rattle.std.proofs.lemmas.List.Elements.{All-append, All-push, All-head, All-
 use Rattle.std.specs.Prelude.{◌==◌, ◌%◌, nat_lt, if◌then◌else◌, ◌&&◌, not, is_some}
 use Rattle.std.specs.List.{remove}
 use Rattle.wfe_core.specs.words.declared.config.SchemeKind.{SchemeKind}
-use Rattle.wfe_core.specs.words.declared.config.SchemeKind.TheVariants.{He, Ibr, Wfe}
 use Rattle.wfe_core.specs.words.declared.config.Config.{Config}
 use Rattle.wfe_core.specs.words.declared.layout.Layout.{Layout}
 use Rattle.wfe_core.specs.defs.declared.fold.Change.{Change}
@@ -31,7 +30,7 @@ use Rattle.wfe_core.specs.declared.post.Post.{Post}
 use Rattle.wfe_core.specs.Desks.{Desk, Report, Seen, with_life}
 use Rattle.wfe_core.specs.Guards.{guards, guard_at, published}
 use Rattle.wfe_core.specs.Posts.{stands}
-use Rattle.wfe_core.specs.Phases.{Ending}
+use Rattle.wfe_core.specs.Phases.{Ending, Base}
 use Rattle.wfe_core.specs.Phases.Ending.{Done, Protected, Followed, Allocated, Retired, Clocked}
 use Rattle.wfe_core.specs.Rounds.{scheme_of, bucket_of, release_base}
 use Rattle.wfe_core.specs.Get as gets
@@ -43,6 +42,7 @@ use Rattle.wfe_core.specs.Steps as steps
 use Rattle.wfe_core.specs.Calls.{Task, Gets, Changes, Holds, Enqueues, Dequeues, Again, Answering, Retiring, AfterScan, Answered, Repeated, Counted, ChangeKept, EnqueueKept, GetAt, FindVersion, FindCount, FindKey, FindValue, ChangeAt, LoadVersion, LoadCount, LoadKey, LoadValue, ExchangeRoot, EnqueueAt, LoadNumber, LoadNext, PassTail, ExchangeNext, ExchangeTail, DequeueAt, LoadTail, SwingTail, TakeNumber, TakeValue, ExchangeHead, Work, Getting, Changing, Enqueuing, Dequeuing, ScanAt, ReadGuard, GiveBack, Why, Opens, FollowsHead, Fills, ClearsNext, Clears, Finishes, GivesUp, Retires, Tidies, Advances, Releases, Runs}
 use Rattle.inv_shapes.specs.Slots.{AllocateEndIn, BaseIn, ChangeIn, EndIn, EnqueueIn, FillIn, FollowEndIn, GetIn, LaterIn, ListIn, NextIn, PhaseIn, PostIn, TakenIn, TaskIn, TurnSlots, WhyIn, WorkIn, change_finds, enqueue_finds, get_finds, work_finds, ScanIn, scan_lists}
 use Rattle.inv_shapes.proofs.SlotRounds.{at_first, opening_slots, round_slots, closed_slots, finishing_slots, clearing_slots, clearing_next_slots}
+use Rattle.wfe_core.proofs.Schemes.{each_release}
 
 -- what an enqueue finds of a link
 abbrev pub link_finds : ℕ → EnqueueAt → ℕ → Type 0
@@ -413,9 +413,7 @@ resume_slots layout (Releases key) ending post desk told y e p q l = released_sl
 
 -- a call's first phase
 release_slots : (layout : Layout) (s : SchemeKind) → BaseIn layout (release_base s)
-release_slots layout He = tt
-release_slots layout Ibr = tt
-release_slots layout Wfe = tt
+release_slots layout s = each_release s (λ (base : Base). BaseIn layout base) tt tt
 
 holding_slots : (layout : Layout) (key : ℕ) (post : Post) (desk : Desk) (x : Option ℕ) → PhaseIn layout desk (steps.holding key post x)
 holding_slots layout key post desk None = round_slots layout (Holds key) post desk tt

@@ -12,12 +12,13 @@ use Rattle.wfe_core.specs.defs.declared.event.Event.{Event}
 use Rattle.wfe_core.specs.defs.declared.lifetime.Interval.{Interval}
 use Rattle.wfe_core.specs.declared.post.Post.{Post}
 use Rattle.wfe_core.specs.Desks.{Desk}
-use Rattle.wfe_core.specs.Posts.{stands, withdrawn}
+use Rattle.wfe_core.specs.Posts.{withdrawn}
 use Rattle.wfe_core.specs.Phases.{Base}
 use Rattle.wfe_core.specs.Rounds.{scheme_of, index_of, taken_of, begin_span, begin_base, protect_at, clear_base, clear_post, finish_base, opening, round_by, round, given_up, closed, finishing_by, finishing, clearing_by, clearing, clearing_next_by, clearing_next}
 use Rattle.wfe_core.specs.Calls.{Task, Gets, Changes, Holds, Enqueues, Dequeues, Next, Again, MakeRoom, Answering, Retiring}
 use Rattle.inv_shapes.specs.Slots.{TakenIn, TaskIn, NextIn, ProtectIn, BaseIn, PhaseIn, StandsIn, PostIn, ListIn, TurnSlots}
 use Rattle.inv_shapes.proofs.Growth.{finish_is, clear_is}
+use Rattle.wfe_core.proofs.Schemes.{each_begin, each_clear_post}
 
 -- what stands after a change at one index
 stands_set : (R : Option ℕ → ℕ → Type 0) (xs : List (Option ℕ)) (i j : ℕ) (x : Option ℕ) → (i ≡ j → R x j) → R (get_or xs j None) j → R (get_or (set xs i x) j None) j
@@ -53,9 +54,10 @@ begun_by layout task post desk None t = (t, tt)
 begun_by layout task post desk (Some span) t = opening_slots layout task post desk t
 
 round_at : (layout : Layout) (task : Task) (post : Post) (desk : Desk) (s : SchemeKind) → TaskIn layout.config task → PhaseIn layout desk (round_by task post (begin_base s post))
-round_at layout task post desk He t = opening_slots layout task post desk t
-round_at layout task post desk Ibr t = begun_by layout task post desk post.span t
-round_at layout task post desk Wfe t = opening_slots layout task post desk t
+round_at layout task post desk s t =
+    each_begin s post (λ (base : Option Base). PhaseIn layout desk (round_by task post base))
+    (opening_slots layout task post desk t)
+    (begun_by layout task post desk post.span t)
 
 pub round_slots : (layout : Layout) (task : Task) (post : Post) (desk : Desk) → TaskIn layout.config task → PhaseIn layout desk (round task post)
 round_slots layout task post desk t = round_at layout task post desk (scheme_of post) t
@@ -89,9 +91,7 @@ finishing_slots layout task (Answering answer) post desk told t n q l = finishin
 finishing_slots layout task (Retiring slot answer) post desk told t n q l = finishing_by_slots layout task (Retiring slot answer) post desk told (finish_base (scheme_of post) post) refl t n q l
 
 clear_post_slots : (layout : Layout) (s : SchemeKind) (post : Post) (index : ℕ) → PostIn layout post → PostIn layout (clear_post s post index)
-clear_post_slots layout He post index q = q
-clear_post_slots layout Ibr post index q = withdrawn_slots layout post index q
-clear_post_slots layout Wfe post index q = q
+clear_post_slots layout s post index q = each_clear_post s post index (λ (p : Post). PostIn layout p) q (withdrawn_slots layout post index q)
 
 clearing_by_slots : (layout : Layout) (task : Task) (next : Next) (post : Post) (desk : Desk) (told : List Event) (x : Option Base) → clear_base (scheme_of post) (index_of task) ≡ x → TaskIn layout.config task → NextIn layout.config.slots next → PostIn layout post → ListIn layout.config.slots desk.list → TurnSlots layout (clearing_by task next post desk told x)
 clearing_by_slots layout task next post desk told None e t n q l = finishing_slots layout task next (clear_post (scheme_of post) post (index_of task)) desk _ t n (clear_post_slots layout (scheme_of post) post (index_of task) q) l

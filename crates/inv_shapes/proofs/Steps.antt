@@ -35,7 +35,7 @@ use Rattle.wfe_core.specs.WriteRow.{last_written, after_write}
 use Rattle.wfe_core.specs.MoveClock.{after_hand_over, all_met, next_request, helping, met, moving}
 use Rattle.wfe_core.specs.Machine.{begin_move, protect_move, allocate_move, retire_move, move_move, base_move, after, begin_turn, protect_turn, allocate_turn, retire_turn, move_turn}
 use Rattle.wfe_core.specs.Calls.{Why}
-use Rattle.wfe_core.specs.words.Schemes.{is_ibr}
+use Rattle.wfe_core.specs.words.Schemes.{has_one_interval}
 use Rattle.inv_shapes.specs.Frame.{StepsOn}
 use Rattle.inv_shapes.specs.Seats.{Run}
 use Rattle.inv_shapes.specs.Eras.{EraIn, SpanIn, AskIn, AskedIn, AskingIn, RequestIn, WordIn, TurnIn, MoverIn, HelpsIn, protect_eras, begin_eras, allocate_eras, retire_eras, retire_needs, move_eras, base_eras, base_needs, PhaseEras, PostEras}
@@ -130,7 +130,7 @@ protect_steps layout k mem w why aim index root n m (CheckUpper link) post q r e
     (λ t. concluded_steps why aim index root m link (mem Clock) (held_post post index root link) (told_held index root link m) (held_keeps layout k (mem Clock) (mem (Interval k)) post index root link q) (λ u. let a = now_in w in a.most))
     (λ t. record { post = q; phase = record { rises = upper_in (mem Clock) post.span q.span; most = let a = now_in w in a.most } })
 protect_steps layout k mem w why aim index root n m (RaiseUpper era) post q r e =
-    let i : is_ibr (scheme_of post) ≡ true = subst (λ (t : Layout). is_ibr t.config.scheme ≡ true) (sym q.fits.layout) r.fits in
+    let i : has_one_interval (scheme_of post) ≡ true = subst (λ (t : Layout). has_one_interval t.config.scheme ≡ true) (sym q.fits.layout) r.fits in
     record {
       post = record {
         fits = span_fits layout k post (from_to (lower post.span) era) q.fits;

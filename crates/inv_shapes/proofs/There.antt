@@ -36,7 +36,7 @@ use Rattle.wfe_core.specs.Locals.{move}
 use Rattle.wfe_core.specs.World.{World}
 use Rattle.wfe_core.specs.Calls.{ChangeKept, EnqueueKept, GetAt, FindVersion, FindCount, FindKey, FindValue, ChangeAt, LoadVersion, LoadCount, LoadKey, LoadValue, ExchangeRoot, EnqueueAt, LoadNumber, LoadNext, PassTail, ExchangeNext, ExchangeTail, DequeueAt, LoadTail, SwingTail, TakeNumber, TakeValue, ExchangeHead, Work, Getting, Changing, Enqueuing, Dequeuing, ScanAt, ReadGuard, GiveBack, Why, Phase, Idle, Runs, Scans, Works}
 use Rattle.inv_shapes.specs.Seats.{index_by, allocate_fits, move_fits, scan_fits, Run, PhaseFits, Seats}
-use Rattle.wfe_core.specs.words.Schemes.{is_wfe}
+use Rattle.wfe_core.specs.words.Schemes.{helps}
 use Rattle.inv_shapes.specs.Eras.{RootNeeds, move_eras, base_eras, PhaseEras, Eras}
 use Rattle.inv_shapes.specs.Slots.{RowIn, RetireIn, BaseIn, GetIn, WorkIn, ScanIn, PhaseIn, Slots}
 use Rattle.inv_shapes.proofs.Written.{index_few, root_there}
@@ -109,7 +109,7 @@ retire_there layout (LoadLife slot) h = life_there layout slot h
 retire_there layout (LoadRetire slot birth) h = refl
 retire_there layout (StoreRetired slot birth retire) h = life_there layout slot h
 
-pub asked_seat : (s : SchemeKind) (seat seats : ℕ) → (is_wfe s && nat_lt seat seats) ≡ true → seat < seats
+pub asked_seat : (s : SchemeKind) (seat seats : ℕ) → (helps s && nat_lt seat seats) ≡ true → seat < seats
 asked_seat s seat seats h = grind (arith, nat_tests)
 
 move_there : (layout : Layout) (clock : ℕ) (at : MoveAt) (post : Post) → Seated layout post → move_fits layout.config.scheme layout.config.seats at ≡ true → move_eras layout clock at → has layout (place_in (move_move at post)) ≡ true

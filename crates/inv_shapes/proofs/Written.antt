@@ -17,7 +17,7 @@ use Rattle.wfe_core.specs.Posts.{helper_word, tag_of}
 use Rattle.wfe_core.specs.Rounds.{key_of}
 use Rattle.wfe_core.specs.Phases.{Aim, BeginAt, ProtectAt, AllocateAt, RetireAt, MoveAt, Base}
 use Rattle.wfe_core.specs.Phases.BeginAt.{LoadLower, PublishSpan}
-use Rattle.wfe_core.specs.Phases.ProtectAt.{LoadClock, PublishEra, LoadLink, CheckClock, PublishRequest, LoadOwnClock, PublishHelper, LoadOwnLink, CheckOwnClock, AnswerOwn, LoadAnswer, TakeAnswer, WithdrawRequest, WithdrawHelper, LoadWithin, CheckUpper, RaiseUpper}
+use Rattle.wfe_core.specs.Phases.ProtectAt.{LoadClock, PublishEra, LoadLink, CheckClock, PublishRequest, LoadOwnClock, PublishHelper, LoadOwnLink, CheckOwnClock, AnswerOwn, LoadAnswer, TakeAnswer, WithdrawRequest, WithdrawHelper}
 use Rattle.wfe_core.specs.Phases.AllocateAt.{LoadBirth, ClaimSlot, StoreLife}
 use Rattle.wfe_core.specs.Phases.RetireAt.{LoadLife, LoadRetire, StoreRetired}
 use Rattle.wfe_core.specs.Phases.MoveAt.{LoadEra, LoadRequest, ShowEra, LoadAsked, CheckEra, AnswerAsked, LoadReserved, HandOver, HideEra, HideLate, ExchangeClock}
@@ -108,15 +108,7 @@ next_there layout slot h = grind (arith, nat_tests)
 root_by_there : (layout : Layout) (why : Why) → 1 ≤ layout.config.buckets → RootNeeds layout (root_by layout.config.buckets why) → has layout (link_place (root_by layout.config.buckets why)) ≡ true
 root_by_there layout (Opens task) b n = task_there layout task b
 root_by_there layout (FollowsHead head tail) b n = next_there layout head n
-root_by_there layout (Fills task) b n = refl
-root_by_there layout (ClearsNext next) b n = refl
-root_by_there layout (Clears task next) b n = refl
-root_by_there layout (Finishes task next) b n = refl
-root_by_there layout (GivesUp answer) b n = refl
-root_by_there layout (Retires answer) b n = refl
-root_by_there layout (Tidies later) b n = refl
-root_by_there layout Advances b n = refl
-root_by_there layout (Releases key) b n = refl
+root_by_there layout why b n = refl
 
 -- the root of a protection is a word of the table
 pub root_there : (layout : Layout) (why : Why) (root : Root) → 1 ≤ layout.config.buckets → root ≡ root_by layout.config.buckets why → RootNeeds layout root → has layout (link_place root) ≡ true
@@ -145,9 +137,7 @@ protect_in layout clock v why aim index root n (LoadAnswer first) post l t r e d
 protect_in layout clock v why aim index root n (TakeAnswer link era) post l t r e d = index_in clock era (tag_of post index + 1) _ refl e (omega arith)
 protect_in layout clock v why aim index root n (WithdrawRequest link era) post l t r e d = nothing_asked layout clock
 protect_in layout clock v why aim index root n (WithdrawHelper link era) post l t r e d = nothing_shown clock
-protect_in layout clock v why aim index root n LoadWithin post l t r e d = tt
-protect_in layout clock v why aim index root n (CheckUpper link) post l t r e d = tt
-protect_in layout clock v why aim index root n (RaiseUpper era) post l t r e d = tt
+protect_in layout clock v why aim index root n at post l t r e d = tt
 
 move_in : (layout : Layout) (clock : ℕ) (at : MoveAt) (post : Post) → move_eras layout clock at → move_needs at layout → MoveIn layout clock (move_move at post)
 move_in layout clock (LoadEra helps) post e d = tt

@@ -3,7 +3,7 @@ use Rattle.wfe_core.specs.Calls.{Answers, CallOutcome, GoesOn, Idle, Phase, Call
 use Rattle.wfe_core.specs.declared.post.Post.{Post}
 use Rattle.std.specs.Prelude.{is_some, true, ◌≡◌, None, Option, false, ℕ, ◌<◌}
 use Rattle.wfe_core.specs.Rounds.{scheme_of, index_of, move_base, opening, release_base}
-use Rattle.wfe_core.specs.words.Schemes.{is_ibr}
+use Rattle.wfe_core.specs.words.Schemes.{has_one_interval}
 use Rattle.wfe_core.specs.Phases.Base.{Allocate, Begin, Clear, Finish, GiveUp, Retire}
 use Rattle.wfe_core.specs.defs.declared.call.Answer.{Answer}
 use Rattle.wfe_core.specs.Phases.AllocateAt.{LoadBirth}
@@ -27,38 +27,31 @@ pub record Left (Q : Post → Type 0) (P : Post → Phase → Type 0) (t : CallT
   pub post : Q t.post
   pub phase : P t.post (phase_left t.outcome)
 
--- under 2GE an interval stands
+-- where the scheme has one interval, it stands
 abbrev pub SpanStands : Post → Type 0
-SpanStands post = is_ibr (scheme_of post) ≡ true → is_some post.span ≡ true
+SpanStands post = has_one_interval (scheme_of post) ≡ true → is_some post.span ≡ true
 
 -- what has to hold where a machine has ended, by what comes after it: within a round an interval stands
 abbrev pub Resumes : Why → Post → Type 0
 Resumes (Opens task) post = SpanStands post
 Resumes (FollowsHead head tail) post = SpanStands post
 Resumes (Fills task) post = SpanStands post
-Resumes (ClearsNext next) post = Unit {0}
-Resumes (Clears task next) post = Unit {0}
-Resumes (Finishes task next) post = Unit {0}
-Resumes (GivesUp answer) post = Unit {0}
-Resumes (Retires answer) post = Unit {0}
-Resumes (Tidies later) post = Unit {0}
-Resumes Advances post = Unit {0}
-Resumes (Releases key) post = Unit {0}
+Resumes why post = Unit {0}
 
 -- P holds of each phase that a call can come to by anything but a step inside a machine, where Q holds of the post: the
 -- first phases of the machines, the steps of a scan, and the call's own steps
 pub record Grows (Q : Post → Type 0) (P : Post → Phase → Type 0) : Type 0 where
   pub guarded : (post : Post) → Q post → 0 < guards post.layout.config
-  pub withdraws : (post : Post) (index : ℕ) → is_ibr (scheme_of post) ≡ true → Q post → Q (withdrawn post index)
+  pub withdraws : (post : Post) (index : ℕ) → has_one_interval (scheme_of post) ≡ true → Q post → Q (withdrawn post index)
   pub idle : (post : Post) → Q post → P post Idle
-  pub begins : (post : Post) (task : Task) → is_ibr (scheme_of post) ≡ true → post.span ≡ None → Q post → P post (Runs (Opens task) (Begin LoadLower))
+  pub begins : (post : Post) (task : Task) → has_one_interval (scheme_of post) ≡ true → post.span ≡ None → Q post → P post (Runs (Opens task) (Begin LoadLower))
   pub opens : (post : Post) (task : Task) → SpanStands post → Q post → P post (opening task post)
   pub follows : (post : Post) (head tail : ℕ) → SpanStands post → Q post → P post (Runs (FollowsHead head tail) (follow_base (scheme_of post) head))
   pub allocates : (post : Post) (task : Task) → SpanStands post → Q post → P post (Runs (Fills task) (Allocate LoadBirth))
   pub writes : (post : Post) (task : Task) (slot : ℕ) (row : RowOf) → SpanStands post → Q post → P post (Runs (Fills task) (writing slot row))
-  pub clears : (post : Post) (task : Task) (next : Next) → is_ibr (scheme_of post) ≡ false → Q post → P post (Runs (Clears task next) (Clear (index_of task)))
-  pub clears_next : (post : Post) (next : Next) → is_ibr (scheme_of post) ≡ false → Q post → P post (Runs (ClearsNext next) (Clear 1))
-  pub finishes : (post : Post) (task : Task) (next : Next) → is_ibr (scheme_of post) ≡ true → stands post 2 ≡ None → Q post → P post (Runs (Finishes task next) Finish)
+  pub clears : (post : Post) (task : Task) (next : Next) → has_one_interval (scheme_of post) ≡ false → Q post → P post (Runs (Clears task next) (Clear (index_of task)))
+  pub clears_next : (post : Post) (next : Next) → has_one_interval (scheme_of post) ≡ false → Q post → P post (Runs (ClearsNext next) (Clear 1))
+  pub finishes : (post : Post) (task : Task) (next : Next) → has_one_interval (scheme_of post) ≡ true → stands post 2 ≡ None → Q post → P post (Runs (Finishes task next) Finish)
   pub gives_up : (post : Post) (answer : Answer) (slot : ℕ) → Q post → P post (Runs (GivesUp answer) (GiveUp slot))
   pub retires : (post : Post) (answer : Answer) (slot : ℕ) → Q post → P post (Runs (Retires answer) (Retire (LoadLife slot)))
   pub tidies : (post : Post) (later : AfterScan) → Q post → P post (Runs (Tidies later) (move_base (scheme_of post)))

@@ -7,7 +7,7 @@ use Rattle.wfe_core.specs.defs.declared.event.Root.{Root}
 use Rattle.wfe_core.specs.defs.declared.event.Root.TheVariants as roots
 use Rattle.wfe_core.specs.Phases.Base.{Allocate, Begin, Clear, Finish, GiveUp, Move, Protect, Release, Reload, Retire, Write}
 use Rattle.wfe_core.specs.words.declared.config.SchemeKind.{SchemeKind}
-use Rattle.wfe_core.specs.words.Schemes.{is_he, is_wfe, is_ibr}
+use Rattle.wfe_core.specs.words.Schemes.{counts_tries, has_one_interval, helps, tries_by_clock}
 use Rattle.wfe_core.specs.Phases.ProtectAt.{AnswerOwn, CheckClock, CheckOwnClock, CheckUpper, LoadAnswer, LoadClock, LoadLink, LoadOwnClock, LoadOwnLink, LoadWithin, PublishEra, PublishHelper, PublishRequest, RaiseUpper, TakeAnswer, WithdrawHelper, WithdrawRequest}
 use Rattle.wfe_core.specs.Phases.MoveAt.{AnswerAsked, CheckEra, ExchangeClock, HandOver, HideEra, HideLate, LoadAsked, LoadEra, LoadRequest, LoadReserved, ShowEra}
 use Rattle.wfe_core.specs.Phases.AllocateAt.{ClaimSlot, LoadBirth, StoreLife}
@@ -151,15 +151,15 @@ suits (GiveUp slot) kind = gives_up kind
 suits (Retire at) kind = retires kind
 suits (Move at) kind = moves kind
 
--- Hazard Eras count no tries; Wait-Free Eras count up to so many
+-- where tries are counted, so many are made at most
 abbrev pub tries_fit : SchemeKind → ℕ → Tries → Bool
-tries_fit scheme most Endless = is_he scheme
-tries_fit scheme most (Failed count) = is_wfe scheme && nat_le count most
+tries_fit scheme most Endless = tries_by_clock scheme
+tries_fit scheme most (Failed count) = counts_tries scheme && nat_le count most
 
 -- a try is left
 abbrev pub try_fits : SchemeKind → ℕ → Tries → Bool
-try_fits scheme most Endless = is_he scheme
-try_fits scheme most (Failed count) = is_wfe scheme && nat_lt count most
+try_fits scheme most Endless = tries_by_clock scheme
+try_fits scheme most (Failed count) = counts_tries scheme && nat_lt count most
 
 -- a protection's phase is one of the scheme
 abbrev pub protect_fits : SchemeKind → ℕ → ProtectAt → Bool
@@ -167,37 +167,37 @@ protect_fits scheme most (LoadClock tries) = tries_fit scheme most tries
 protect_fits scheme most (PublishEra era tries) = tries_fit scheme most tries
 protect_fits scheme most (LoadLink era tries) = try_fits scheme most tries
 protect_fits scheme most (CheckClock era tries link) = try_fits scheme most tries
-protect_fits scheme most PublishRequest = is_wfe scheme
-protect_fits scheme most LoadOwnClock = is_wfe scheme
-protect_fits scheme most (PublishHelper first era last) = is_wfe scheme
-protect_fits scheme most (LoadOwnLink first era last) = is_wfe scheme
-protect_fits scheme most (CheckOwnClock first era last link) = is_wfe scheme
-protect_fits scheme most (AnswerOwn first era link) = is_wfe scheme
-protect_fits scheme most (LoadAnswer first) = is_wfe scheme
-protect_fits scheme most (TakeAnswer link era) = is_wfe scheme
-protect_fits scheme most (WithdrawRequest link era) = is_wfe scheme
-protect_fits scheme most (WithdrawHelper link era) = is_wfe scheme
-protect_fits scheme most LoadWithin = is_ibr scheme
-protect_fits scheme most (CheckUpper link) = is_ibr scheme
-protect_fits scheme most (RaiseUpper era) = is_ibr scheme
+protect_fits scheme most PublishRequest = helps scheme
+protect_fits scheme most LoadOwnClock = helps scheme
+protect_fits scheme most (PublishHelper first era last) = helps scheme
+protect_fits scheme most (LoadOwnLink first era last) = helps scheme
+protect_fits scheme most (CheckOwnClock first era last link) = helps scheme
+protect_fits scheme most (AnswerOwn first era link) = helps scheme
+protect_fits scheme most (LoadAnswer first) = helps scheme
+protect_fits scheme most (TakeAnswer link era) = helps scheme
+protect_fits scheme most (WithdrawRequest link era) = helps scheme
+protect_fits scheme most (WithdrawHelper link era) = helps scheme
+protect_fits scheme most LoadWithin = has_one_interval scheme
+protect_fits scheme most (CheckUpper link) = has_one_interval scheme
+protect_fits scheme most (RaiseUpper era) = has_one_interval scheme
 
--- a mover helps exactly under Wait-Free Eras
+-- a mover helps exactly where the scheme does
 abbrev pub agree : Bool → Bool → Bool
 agree true b = b
 agree false b = not b
 
 -- a mover's phase is one of the scheme, and the seat that it helps is there
 abbrev pub move_fits : SchemeKind → ℕ → MoveAt → Bool
-move_fits scheme seats (LoadEra helps) = agree helps (is_wfe scheme)
-move_fits scheme seats (LoadRequest era seat shows) = is_wfe scheme && nat_lt seat seats
-move_fits scheme seats (ShowEra era seat tag index root) = is_wfe scheme && nat_lt seat seats
-move_fits scheme seats (LoadAsked era seat tag index root) = is_wfe scheme && nat_lt seat seats
-move_fits scheme seats (CheckEra era seat tag index root link) = is_wfe scheme && nat_lt seat seats
-move_fits scheme seats (AnswerAsked era seat tag index root link) = is_wfe scheme && nat_lt seat seats
-move_fits scheme seats (LoadReserved era seat tag index root link) = is_wfe scheme && nat_lt seat seats
-move_fits scheme seats (HandOver era seat tag index root link old) = is_wfe scheme && nat_lt seat seats
-move_fits scheme seats (HideEra era) = is_wfe scheme
-move_fits scheme seats (HideLate seen) = is_wfe scheme
+move_fits scheme seats (LoadEra helping) = agree helping (helps scheme)
+move_fits scheme seats (LoadRequest era seat shows) = helps scheme && nat_lt seat seats
+move_fits scheme seats (ShowEra era seat tag index root) = helps scheme && nat_lt seat seats
+move_fits scheme seats (LoadAsked era seat tag index root) = helps scheme && nat_lt seat seats
+move_fits scheme seats (CheckEra era seat tag index root link) = helps scheme && nat_lt seat seats
+move_fits scheme seats (AnswerAsked era seat tag index root link) = helps scheme && nat_lt seat seats
+move_fits scheme seats (LoadReserved era seat tag index root link) = helps scheme && nat_lt seat seats
+move_fits scheme seats (HandOver era seat tag index root link old) = helps scheme && nat_lt seat seats
+move_fits scheme seats (HideEra era) = helps scheme
+move_fits scheme seats (HideLate seen) = helps scheme
 move_fits scheme seats (ExchangeClock era) = true
 
 -- a walk stays in the table
@@ -208,12 +208,12 @@ allocate_fits slots (StoreLife birth slot) = nat_le slot slots
 
 -- a machine's phase is one of the scheme
 abbrev pub base_fits : Config → Base → Bool
-base_fits config (Begin at) = is_ibr config.scheme
+base_fits config (Begin at) = has_one_interval config.scheme
 base_fits config (Protect aim index root steps at) = protect_fits config.scheme config.tries at
 base_fits config (Reload parent index slot era steps) = true
-base_fits config (Clear index) = not (is_ibr config.scheme)
-base_fits config Finish = is_ibr config.scheme
-base_fits config Release = is_ibr config.scheme
+base_fits config (Clear index) = not (has_one_interval config.scheme)
+base_fits config Finish = has_one_interval config.scheme
+base_fits config Release = has_one_interval config.scheme
 base_fits config (Allocate at) = allocate_fits config.slots at
 base_fits config (Write slot row place) = nat_le (first_written row) place && nat_le place (last_written row)
 base_fits config (GiveUp slot) = true
@@ -236,13 +236,7 @@ Shaped buckets why (Begin at) = Unit {0}
 Shaped buckets why (Protect aim index root steps at) = Aimed buckets why aim index root
 Shaped buckets why (Reload parent index slot era steps) = Reloads buckets why parent index
 Shaped buckets why (Clear index) = index ≡ index_by why
-Shaped buckets why Finish = Unit {0}
-Shaped buckets why Release = Unit {0}
-Shaped buckets why (Allocate at) = Unit {0}
-Shaped buckets why (Write slot row place) = Unit {0}
-Shaped buckets why (GiveUp slot) = Unit {0}
-Shaped buckets why (Retire at) = Unit {0}
-Shaped buckets why (Move at) = Unit {0}
+Shaped buckets why base = Unit {0}
 
 -- what a machine's phase says of the post: where an interval begins none stands, within a round one does, and where it
 -- is finished no row is held
@@ -255,9 +249,7 @@ Posted Finish post = stands post 2 ≡ None
 Posted Release post = Unit {0}
 Posted (Allocate at) post = SpanStands post
 Posted (Write slot row place) post = SpanStands post
-Posted (GiveUp slot) post = Unit {0}
-Posted (Retire at) post = Unit {0}
-Posted (Move at) post = Unit {0}
+Posted base post = Unit {0}
 
 -- a machine's phase
 pub record Run (layout : Layout) (why : Why) (base : Base) (post : Post) : Type 0 where

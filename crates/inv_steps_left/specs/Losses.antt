@@ -10,7 +10,7 @@ use Rattle.inv_contents.specs.model.Phases.AllocateAt.{ClaimSlot}
 use Rattle.inv_contents.specs.model.Phases.Base.{Allocate, Reload}
 use Rattle.inv_contents.specs.model.Calls.{ChangeKept, EnqueueKept, Task, Gets, Changes, Holds, Enqueues, Dequeues, Next, Again, MakeRoom, Answering, Retiring, AfterScan, Answered, Repeated, Counted, Why, Opens, FollowsHead, Fills, ClearsNext, Clears, Finishes, GivesUp, Retires, Tidies, Advances, Releases, ExchangeRoot, PassTail, ExchangeNext, SwingTail, ExchangeHead, Work, Getting, Changing, Enqueuing, Dequeuing, Phase, Idle, Runs, Scans, Works}
 use Rattle.inv_contents.specs.model.World.{World, finds}
-use Rattle.inv_contents.specs.words.Schemes.{is_ibr}
+use Rattle.inv_contents.specs.words.Schemes.{has_one_interval}
 
 -- a round has found its root, and those before it are no more than may be lost
 pub record InRound (most rounds : ℕ) : Type 0 where
@@ -121,4 +121,4 @@ pub record LossNeeds (w : World) (i : ℕ) : Type 0 where
 -- no seat loses more rounds than its task may; and only under 2GE an interval stands
 pub record Losses (w : World) : Type 0 where
   pub few : (k : ℕ) → phase_fit w.layout.config (w.seat k).rounds (w.seat k).phase
-  pub spans : (k : ℕ) → is_ibr w.layout.config.scheme ≡ false → (w.seat k).post.span ≡ None
+  pub spans : (k : ℕ) → has_one_interval w.layout.config.scheme ≡ false → (w.seat k).post.span ≡ None

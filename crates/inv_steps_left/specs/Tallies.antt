@@ -143,9 +143,7 @@ since_test same lost most = same || nat_le (lost + 1) most
 abbrev pub bucket_good : Tally → Task → ℕ → ℕ → Bool
 bucket_good t (Gets key) lost x = true
 bucket_good t (Changes kept) lost x = since_test (t.root (key_of kept.change % t.buckets) == x) lost (changes_so_far t kept)
-bucket_good t (Holds key) lost x = true
-bucket_good t (Enqueues kept) lost x = true
-bucket_good t Dequeues lost x = true
+bucket_good t task lost x = true
 
 abbrev pub tail_good : Tally → Task → ℕ → ℕ → Bool
 tail_good t (Gets key) lost x = true
@@ -169,16 +167,7 @@ task_good t task lost (roots.Next parent) x = true
 
 abbrev pub why_good : Tally → ℕ → Base → Why → Root → ℕ → Bool
 why_good t rounds base (Opens task) root x = task_good t task (lost_by rounds (is_told base)) root x
-why_good t rounds base (FollowsHead head tail) root x = true
-why_good t rounds base (Fills task) root x = true
-why_good t rounds base (ClearsNext next) root x = true
-why_good t rounds base (Clears task next) root x = true
-why_good t rounds base (Finishes task next) root x = true
-why_good t rounds base (GivesUp answer) root x = true
-why_good t rounds base (Retires answer) root x = true
-why_good t rounds base (Tidies later) root x = true
-why_good t rounds base Advances root x = true
-why_good t rounds base (Releases key) root x = true
+why_good t rounds base why root x = true
 
 abbrev pub phase_good : Tally → ℕ → Phase → Root → ℕ → Bool
 phase_good t rounds Idle root x = true

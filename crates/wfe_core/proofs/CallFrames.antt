@@ -2,7 +2,6 @@
 use Rattle.std.proofs.Common.{ℕ, ◌≡◌, Bool, true, false, List, [], ◌∷◌, ◌++◌, refl, ap, ◌∙◌}
 use Rattle.std.specs.Prelude.{◌==◌, ◌+◌, ◌-◌, nat_lt, length, Option, Some, None}
 use Rattle.wfe_words.specs.declared.config.SchemeKind.{SchemeKind}
-use Rattle.wfe_words.specs.declared.config.SchemeKind.TheVariants.{He, Ibr, Wfe}
 use Rattle.wfe_defs.specs.declared.call.Answer.{Answer}
 use Rattle.wfe_defs.specs.declared.call.Answer.TheVariants as answers
 use Rattle.wfe_defs.specs.declared.call.ClockMove.TheVariants as moves
@@ -35,12 +34,11 @@ use Rattle.wfe_core.specs.Scan.{Entry, scanned, giving_back, scan_turn}
 use Rattle.wfe_core.specs.Scan as scan
 use Rattle.wfe_core.specs.Steps.{opened_row, opened_null, opened, filled_by, written_row, filled, followed_by, tidying, retired_by, tidied, advanced, released, resume, resumed, work_turn, phase_turn}
 use Rattle.wfe_core.specs.Locals.{Local, settled_by, turn, told_by}
+use Rattle.wfe_core.proofs.Schemes.{each_clear_post}
 use Rattle.wfe_core.proofs.Frames.{same, same_along, after_same}
 
 clear_same : (kind : SchemeKind) (post : Post) (index : ℕ) → SamePlace post (clear_post kind post index)
-clear_same He post index = same post
-clear_same Ibr post index = record { layout = refl; seat = refl }
-clear_same Wfe post index = same post
+clear_same kind post index = each_clear_post kind post index (λ (p : Post). SamePlace post p) (same post) (record { layout = refl; seat = refl })
 
 given_up_same : (answer : Answer) (post : Post) (desk : Desk) (told : List Event) (o : Option ℕ) → SamePlace post (given_up answer post desk told o).post
 given_up_same answer post desk told None = same post

@@ -7,4 +7,5 @@ pub mod Lists
 pub mod Noting
 pub mod Ranges
 pub mod Roots
+pub mod Schemes
 pub mod Standing

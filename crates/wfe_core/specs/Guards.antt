@@ -2,6 +2,7 @@
 use Rattle.std.specs.Prelude.{ℕ, ◌+◌, ◌-◌, ◌*◌, ◌/◌, ◌%◌, ◌==◌, if◌then◌else◌, nat_lt, Option, Some, None}
 use Rattle.wfe_words.specs.Place.{Place, Place as places}
 use Rattle.wfe_words.specs.Packed.{read_reservation, read_span}
+use Rattle.wfe_words.specs.Schemes.{has_one_interval}
 use Rattle.wfe_words.specs.declared.config.Config.{Config}
 use Rattle.wfe_words.specs.declared.config.SchemeKind.{SchemeKind}
 use Rattle.wfe_words.specs.declared.config.SchemeKind.TheVariants.{He, Ibr, Wfe}
@@ -59,8 +60,6 @@ published (Helper seat) word = one_era (read_reservation word).era
 published (Index seat index) word = one_era (read_reservation word).era
 published (Whole seat) word = interval_in (read_span word)
 
--- the guard of a seat's index: its own word, or under 2GE the seat's interval word
+-- the guard of a seat's index: its own word, or where the scheme has one interval the seat's interval word
 abbrev pub own_guard : SchemeKind → ℕ → ℕ → Guard
-own_guard He seat index = Index seat index
-own_guard Ibr seat index = Whole seat
-own_guard Wfe seat index = Index seat index
+own_guard scheme seat index = if has_one_interval scheme then Whole seat else Index seat index

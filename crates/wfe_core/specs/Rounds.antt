@@ -1,5 +1,7 @@
 -- How a round of a call begins and ends under each scheme.
-use Rattle.std.specs.Prelude.{ℕ, ◌%◌, Bool, true, false, List, [], ◌++◌, Option, Some, None}
+use Rattle.std.specs.Prelude.{ℕ, ◌%◌, Bool, true, false, List, [], ◌++◌, Option, Some, None, if◌then◌else◌}
+pub use Rattle.wfe_words.specs.Schemes.{helps}
+use Rattle.wfe_words.specs.Schemes.{has_one_interval}
 use Rattle.wfe_words.specs.declared.config.SchemeKind.{SchemeKind}
 use Rattle.wfe_words.specs.declared.config.SchemeKind.TheVariants.{He, Ibr, Wfe}
 use Rattle.wfe_defs.specs.declared.call.Answer.{Answer}
@@ -62,15 +64,17 @@ taken_of Dequeues = None
 
 -- a scheme's machines; None where it takes no step
 
--- an interval begins under 2GE where none stands
+-- an interval begins where the scheme has one and none stands
 abbrev pub begin_span : Option Interval → Option Base
 begin_span None = Some (Begin LoadLower)
 begin_span (Some span) = None
 
+abbrev pub begin_where : (interval : Bool) → Post → Option Base
+begin_where false post = None
+begin_where true post = begin_span post.span
+
 abbrev pub begin_base : SchemeKind → Post → Option Base
-begin_base He post = None
-begin_base Ibr post = begin_span post.span
-begin_base Wfe post = None
+begin_base scheme post = begin_where (has_one_interval scheme) post
 
 abbrev pub protect_at : SchemeKind → ProtectAt
 protect_at He = LoadClock Endless
@@ -80,21 +84,16 @@ protect_at Wfe = LoadClock (Failed 0)
 abbrev pub protect_base : SchemeKind → ℕ → Root → Base
 protect_base scheme index root = Protect Alone index root 0 (protect_at scheme)
 
+-- an index is cleared by a step where it publishes by itself
 abbrev pub clear_base : SchemeKind → ℕ → Option Base
-clear_base He index = Some (Clear index)
-clear_base Ibr index = None
-clear_base Wfe index = Some (Clear index)
+clear_base scheme index = if has_one_interval scheme then None else Some (Clear index)
 
 -- what clearing leaves and tells where it takes no step
 abbrev pub clear_post : SchemeKind → Post → ℕ → Post
-clear_post He post index = post
-clear_post Ibr post index = withdrawn post index
-clear_post Wfe post index = post
+clear_post scheme post index = if has_one_interval scheme then withdrawn post index else post
 
 abbrev pub clear_told : SchemeKind → Post → ℕ → List Event
-clear_told He post index = []
-clear_told Ibr post index = cleared index (stands post index)
-clear_told Wfe post index = []
+clear_told scheme post index = if has_one_interval scheme then cleared index (stands post index) else []
 
 -- the interval stays while a row is held
 abbrev pub finish_span : Option ℕ → Option Base
@@ -102,21 +101,11 @@ finish_span None = Some Finish
 finish_span (Some slot) = None
 
 abbrev pub finish_base : SchemeKind → Post → Option Base
-finish_base He post = None
-finish_base Ibr post = finish_span (stands post 2)
-finish_base Wfe post = None
+finish_base scheme post = if has_one_interval scheme then finish_span (stands post 2) else None
 
--- what is held is let go
+-- what is held is let go, and an interval with it
 abbrev pub release_base : SchemeKind → Base
-release_base He = Clear 2
-release_base Ibr = Release
-release_base Wfe = Clear 2
-
--- movers help under Wait-Free Eras
-abbrev pub helps : SchemeKind → Bool
-helps He = false
-helps Ibr = false
-helps Wfe = true
+release_base scheme = if has_one_interval scheme then Release else Clear 2
 
 abbrev pub move_base : SchemeKind → Base
 move_base scheme = Move (LoadEra (helps scheme))

@@ -4,5 +4,6 @@ pub mod Codecs
 pub mod Numbers
 pub mod Parts
 pub mod Places
+pub mod Schemes
 pub mod Starts
 pub mod Trips

@@ -1,4 +1,5 @@
--- Which scheme a setting names.
+-- Which scheme a setting names, and what the schemes can do: rules ask for what a scheme does, so that a further scheme
+-- says of each whether it does it.
 use Rattle.std.specs.Prelude.{Bool, false, true}
 use Rattle.wfe_words.specs.declared.config.SchemeKind.{SchemeKind}
 use Rattle.wfe_words.specs.declared.config.SchemeKind.TheVariants.{He, Ibr, Wfe}
@@ -18,3 +19,39 @@ abbrev pub is_wfe : SchemeKind → Bool
 is_wfe He = false
 is_wfe Ibr = false
 is_wfe Wfe = true
+
+-- each index word, and each helper word, publishes one era
+abbrev pub publishes_eras : SchemeKind → Bool
+publishes_eras He = true
+publishes_eras Ibr = false
+publishes_eras Wfe = true
+
+-- one interval of eras stands for a seat, whatever index protects
+abbrev pub has_one_interval : SchemeKind → Bool
+has_one_interval He = false
+has_one_interval Ibr = true
+has_one_interval Wfe = false
+
+-- a protection that fails asks for help, and movers answer it before they move the clock
+abbrev pub helps : SchemeKind → Bool
+helps He = false
+helps Ibr = false
+helps Wfe = true
+
+-- a protection counts its failed tries, and gives up trying at a limit
+abbrev pub counts_tries : SchemeKind → Bool
+counts_tries He = false
+counts_tries Ibr = false
+counts_tries Wfe = true
+
+-- a protection tries again as often as it finds the clock moved
+abbrev pub tries_by_clock : SchemeKind → Bool
+tries_by_clock He = true
+tries_by_clock Ibr = false
+tries_by_clock Wfe = false
+
+-- retirements move the clock
+abbrev pub moves : SchemeKind → Bool
+moves He = true
+moves Ibr = true
+moves Wfe = true

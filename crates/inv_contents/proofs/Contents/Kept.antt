@@ -16,7 +16,7 @@ use Rattle.inv_rows.specs.model.Machine as machine
 use Rattle.inv_rows.specs.model.Memory.{place_in, found, written}
 use Rattle.inv_rows.specs.model.Posts.{counted}
 use Rattle.inv_rows.specs.model.Steps.{phase_move, phase_turn}
-use Rattle.inv_rows.specs.model.Locals.{Local, turn, settled, settled_by, told_by, told_end, rounds_told}
+use Rattle.inv_rows.specs.model.Locals.{Local, turn, settled, told_by, told_end, rounds_told}
 use Rattle.inv_rows.specs.model.World.{World, step, finds, told_in}
 use Rattle.inv_rows.specs.model.Calls.{ChangeKept, EnqueueKept, Changes, ChangeAt, LoadVersion, LoadCount, LoadKey, LoadValue, ExchangeRoot, EnqueueAt, LoadNumber, LoadNext, PassTail, ExchangeNext, ExchangeTail, Getting, Changing, Enqueuing, Dequeuing, Phase, Idle, Runs, Scans, Works, CallTurn, CallOutcome, GoesOn, Answers}
 use Rattle.inv_rows.proofs.model.Facts.{number_is}
@@ -43,6 +43,7 @@ use Rattle.inv_contents.proofs.Contents.Shelves.{WordsStay, calm_shelved, keeps_
 use Rattle.inv_contents.proofs.Contents.Turns.{GetOwes, Shown}
 use Rattle.inv_contents.proofs.Contents.Views.{Keeps, keeps_made, unlinks, settled_stays, owned_stays}
 use Rattle.inv_rows.proofs.Runs.{taken_slot}
+use Rattle.inv_requests.proofs.shapes.Frame.{settled_phase}
 
 -- what a step leaves: what rows show, what the seat itself knows, and that rows that stood show the same
 pub record Did (n : ℕ) (a b : Book) (v u : View) (after : Place → ℕ) (left : Phase) (told : List Event) : Type 0 where
@@ -199,10 +200,6 @@ phase_did n slots a v mem i phase post desk false y last needs g x p r o shown h
     c
 
 -- the seat that steps, and the others
-settled_phase : (l : Local) (post : Post) (desk : Desk) (rounds : ℕ) (outcome : CallOutcome) → (settled_by l post desk rounds outcome).phase ≡ phase_left outcome
-settled_phase l post desk rounds (GoesOn phase) = refl
-settled_phase l post desk rounds (Answers answer) = refl
-
 knows_at : (g : Ground) (i k : ℕ) (old new : Local) (same : Bool) → (k == i) ≡ same → ((k == i) ≡ false → Knows g old.phase) → Knows g new.phase → Knows g (if same then new else old).phase
 knows_at g i k old new true e p q = q
 knows_at g i k old new false e p q = p e

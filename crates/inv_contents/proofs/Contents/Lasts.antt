@@ -1,6 +1,5 @@
 -- What a seat knows lasts while the rows that it reads show the same, and the words of its own row stay.
-use Rattle.std.proofs.Common.{ℕ, ◌+◌, ◌≤◌, ◌≡◌, Bool, true, arith, ◌∙◌, sym}
-use Rattle.std.proofs.lemmas.Bool.Decides.{nat_tests}
+use Rattle.std.proofs.Common.{ℕ, ◌+◌, ◌≤◌, ◌≡◌, Bool, true, ◌∙◌, sym}
 use Rattle.std.specs.Prelude.{◌==◌}
 use Rattle.inv_rows.specs.words.Place.{Place}
 use Rattle.inv_rows.specs.words.Place.Place.{Row}
@@ -85,9 +84,7 @@ item_lasts n a b m k kept Finish o h = tt
 item_lasts n a b m k kept Release o h = tt
 item_lasts n a b m k kept (Allocate at) o h = tt
 item_lasts n a b m k kept (Write slot row place) o h = record { same = h.same; words = λ q x y. o slot q (same_number slot) x ∙ h.words q x y }
-item_lasts n a b m k kept (GiveUp slot) o h = tt
-item_lasts n a b m k kept (Retire at) o h = tt
-item_lasts n a b m k kept (Move at) o h = tt
+item_lasts n a b m k kept base o h = tt
 
 enqueue_lasts : (n : ℕ) (a b : Shelf) (m k : Place → ℕ) (kept : EnqueueKept) (at : EnqueueAt) → OwnStays (enqueue_owns at) m k → EnqueueKnows (on n a m) kept at → EnqueueKnows (on n b k) kept at
 enqueue_lasts n a b m k kept LoadNumber o h = tt

@@ -9,10 +9,9 @@ use Rattle.inv_rows.specs.defs.declared.event.Event.{Event}
 use Rattle.inv_rows.specs.defs.declared.event.Guard.{Guard}
 use Rattle.inv_rows.specs.defs.declared.lifetime.Interval.{Interval}
 use Rattle.inv_rows.specs.words.declared.config.SchemeKind.{SchemeKind}
-use Rattle.inv_rows.specs.words.declared.config.SchemeKind.TheVariants.{He, Ibr, Wfe}
 use Rattle.inv_rows.specs.model.declared.post.Post.{Post}
 use Rattle.inv_rows.specs.model.Desks.{Desk}
-use Rattle.inv_rows.specs.model.Posts.{stands, cleared}
+use Rattle.inv_rows.specs.model.Posts.{stands}
 use Rattle.inv_rows.specs.model.Phases.{Base}
 use Rattle.inv_rows.specs.model.Guards as the_guards
 use Rattle.inv_rows.specs.model.Rounds as rounds
@@ -25,6 +24,7 @@ use Rattle.inv_requests.specs.shapes.Frame.{phase_left}
 use Rattle.inv_contents.specs.Knows.{Ground, Knows}
 use Rattle.inv_contents.proofs.Contents.Told.{all_calm, calm_append, Claimed, GotFrom, calm_claimed, claimed_append}
 use Rattle.inv_contents.proofs.Contents.Machines.{cleared_calm}
+use Rattle.inv_rows.proofs.model.Schemes.{each_clear_told}
 
 abbrev pub task_plain : Task → Bool
 task_plain (Gets key) = true
@@ -37,14 +37,7 @@ abbrev pub why_plain : Why → Bool
 why_plain (Opens task) = true
 why_plain (FollowsHead head tail) = true
 why_plain (Fills task) = task_plain task
-why_plain (ClearsNext next) = true
-why_plain (Clears task next) = true
-why_plain (Finishes task next) = true
-why_plain (GivesUp answer) = true
-why_plain (Retires answer) = true
-why_plain (Tidies later) = true
-why_plain Advances = true
-why_plain (Releases key) = true
+why_plain why = true
 
 abbrev pub enqueue_plain : EnqueueAt → Bool
 enqueue_plain LoadNumber = true
@@ -156,9 +149,7 @@ finishing_adds task (Answering answer) post desk told = finishing_by_adds task (
 finishing_adds task (Retiring slot answer) post desk told = finishing_by_adds task (Retiring slot answer) post desk told (finish_base (scheme_of post) post)
 
 clear_told_calm : (scheme : SchemeKind) (post : Post) (index : ℕ) → all_calm (clear_told scheme post index) ≡ true
-clear_told_calm He post index = refl
-clear_told_calm Ibr post index = cleared_calm index (stands post index)
-clear_told_calm Wfe post index = refl
+clear_told_calm scheme post index = each_clear_told scheme post index (λ (events : List Event). all_calm events ≡ true) refl (cleared_calm index (stands post index))
 
 clearing_by_adds : (task : Task) (next : Next) (post : Post) (desk : Desk) (told : List Event) (x : Option Base) → Adds told (clearing_by task next post desk told x)
 clearing_by_adds task next post desk told None =

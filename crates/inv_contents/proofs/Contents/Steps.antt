@@ -115,9 +115,7 @@ followed_by_adds head tail (Clocked clock) post desk told = closed_adds Dequeues
 abbrev pub opens_plain : Task → Bool
 opens_plain (Gets key) = false
 opens_plain (Changes kept) = false
-opens_plain (Holds key) = true
-opens_plain (Enqueues kept) = true
-opens_plain Dequeues = true
+opens_plain task = true
 
 opened_row_adds : (task : Task) (slot : ℕ) (post : Post) (desk : Desk) (told : List Event) → opens_plain task ≡ true → Adds told (steps.opened_row task slot post desk told)
 opened_row_adds (Gets key) slot post desk told h = absurd (cc)
@@ -200,14 +198,7 @@ abbrev pub resumes_plain : Why → Bool
 resumes_plain (Opens task) = opens_plain task
 resumes_plain (FollowsHead head tail) = true
 resumes_plain (Fills task) = task_plain task
-resumes_plain (ClearsNext next) = true
-resumes_plain (Clears task next) = true
-resumes_plain (Finishes task next) = true
-resumes_plain (GivesUp answer) = true
-resumes_plain (Retires answer) = true
-resumes_plain (Tidies later) = true
-resumes_plain Advances = true
-resumes_plain (Releases key) = true
+resumes_plain why = true
 
 resume_adds : (why : Why) (ending : Ending) (post : Post) (desk : Desk) (told : List Event) → resumes_plain why ≡ true → Adds told (steps.resume why ending post desk told)
 resume_adds (Opens task) ending post desk told h = opened_adds task ending post desk told h

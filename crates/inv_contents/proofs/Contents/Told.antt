@@ -11,12 +11,7 @@ use Rattle.inv_rows.specs.model.Book.{Book, RowBook, booked, booked_all, with_ro
 use Rattle.inv_rows.specs.model.Memory.{upd}
 use Rattle.inv_contents.specs.Shelf.{Shelf, shelf_of, pairs_by}
 use Rattle.inv_rows.proofs.model.Facts.{first_of, rest_of, both}
-
-abbrev pub is_end : Root → Bool
-is_end (roots.Bucket bucket) = false
-is_end (roots.Next parent) = false
-is_end roots.Head = true
-is_end roots.Tail = true
+use Rattle.inv_rows.specs.Tries.{is_end}
 
 -- the event leaves changes and rows of the map, and tells nothing of a bucket's pairs
 abbrev pub is_calm : Event → Bool

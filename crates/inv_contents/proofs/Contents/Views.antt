@@ -36,9 +36,7 @@ base_taken Finish s h = absurd (cc)
 base_taken Release s h = absurd (cc)
 base_taken (Allocate at) s h = absurd (cc)
 base_taken (Write slot row place) s h = ap Taken (number_is slot s h)
-base_taken (GiveUp slot) s h = absurd (cc)
-base_taken (Retire at) s h = absurd (cc)
-base_taken (Move at) s h = absurd (cc)
+base_taken base s h = absurd (cc)
 
 plain_owns : (base : Base) (s : ℕ) → is_plain base ≡ true → base_owns base s ≡ true → ⊥
 plain_owns (Begin at) s p h = cc
@@ -77,14 +75,7 @@ why_owned : (v : View) (i : ℕ) (why : Why) (base : Base) (list : List Lifetime
 why_owned v i (Opens task) base list s p h = absurd (cc)
 why_owned v i (FollowsHead head tail) base list s p h = absurd (cc)
 why_owned v i (Fills task) base list s p h = p.hand ∙ base_taken base s h
-why_owned v i (ClearsNext next) base list s p h = absurd (cc)
-why_owned v i (Clears task next) base list s p h = absurd (cc)
-why_owned v i (Finishes task next) base list s p h = absurd (cc)
-why_owned v i (GivesUp answer) base list s p h = absurd (cc)
-why_owned v i (Retires answer) base list s p h = absurd (cc)
-why_owned v i (Tidies later) base list s p h = absurd (cc)
-why_owned v i Advances base list s p h = absurd (cc)
-why_owned v i (Releases key) base list s p h = absurd (cc)
+why_owned v i why base list s p h = absurd (cc)
 
 change_owned : (v : View) (i : ℕ) (kept : ChangeKept) (at : ChangeAt) (list : List Lifetime) (s : ℕ) → Plays i (Works (Changing kept at)) list v → owns_in (Works (Changing kept at)) s ≡ true → v.hand i ≡ Taken s
 change_owned v i kept (LoadVersion slot) list s p h = absurd (cc)

@@ -1,8 +1,8 @@
 -- What a step finds of the queue's rows, and a row to which a dequeue has followed the head's next link.
-use Rattle.std.proofs.Common.{ℕ, ◌≡◌, ◌+◌, Bool, true, false, arith, refl, ap, sym, ◌∙◌, [], ◌∷◌}
+use Rattle.std.proofs.Common.{ℕ, ◌≡◌, ◌+◌, true, false, arith, ap, sym, ◌∙◌, [], ◌∷◌}
 use Rattle.std.specs.Prelude.{◌==◌, if◌then◌else◌}
 use Rattle.inv_rows.specs.words.Place.{Place}
-use Rattle.inv_rows.specs.words.Place.Place.{Head, Tail, Row}
+use Rattle.inv_rows.specs.words.Place.Place.{Head, Row}
 use Rattle.inv_rows.specs.defs.declared.event.Event.TheVariants as events
 use Rattle.inv_rows.specs.defs.declared.event.Root.{Root}
 use Rattle.inv_rows.specs.model.declared.ends.FollowEnd.{FollowEnd}
@@ -17,12 +17,12 @@ use Rattle.inv_rows.specs.model.Steps.{phase_move}
 use Rattle.inv_rows.specs.model.Phases.{Aim, Alone, Follows, ProtectAt, Base, Outcome, Goes, Ends, Turn, ends}
 use Rattle.inv_rows.specs.model.Phases.Ending.{Done, Protected, Followed, Allocated, Retired, Clocked}
 use Rattle.inv_rows.specs.model.Phases.Base.{Begin, Protect, Reload, Clear, Finish, Release, Allocate, Write, GiveUp, Retire, Move}
-use Rattle.inv_rows.specs.model.Calls.{EnqueueKept, Why, Opens, FollowsHead, Fills, ClearsNext, Clears, Finishes, GivesUp, Retires, Tidies, Advances, Releases, EnqueueAt, LoadNumber, LoadNext, PassTail, ExchangeNext, ExchangeTail, DequeueAt, LoadTail, SwingTail, TakeNumber, TakeValue, ExchangeHead, Work, Getting, Changing, Enqueuing, Dequeuing, Phase, Idle, Runs, Scans, Works}
+use Rattle.inv_rows.specs.model.Calls.{EnqueueKept, Why, FollowsHead, EnqueueAt, LoadNumber, LoadNext, PassTail, ExchangeNext, ExchangeTail, DequeueAt, LoadTail, SwingTail, TakeNumber, TakeValue, ExchangeHead, Work, Getting, Changing, Enqueuing, Dequeuing, Phase, Idle, Runs, Scans, Works}
 use Rattle.inv_rows.proofs.model.Facts.{same_number, number_is, if_by}
 use Rattle.inv_rows.specs.Rows.{View}
 use Rattle.inv_rows.specs.Follow.{LoadsBase}
-use Rattle.inv_rows.specs.Queue.{Line, InLine, Walks}
-use Rattle.inv_rows.specs.Chain.{queue_of, past_of, next_of}
+use Rattle.inv_rows.specs.Queue.{Line}
+use Rattle.inv_rows.specs.Chain.{queue_of}
 use Rattle.inv_contents.proofs.Stands.Machines.{follow_lands, lands, protect_lands}
 use Rattle.inv_contents.specs.Reads.{Reads}
 use Rattle.inv_contents.specs.Items.{Shown}
@@ -82,16 +82,7 @@ follow_ends_right v l mem h (Move at) post next c g o = absurd (let x = o.right 
 
 run_right : (v : View) (l : Line) (mem : Place → ℕ) (why : Why) (base : Base) (post next : Post) → mem Head ≡ v.head → LineIn v l mem → WalksIn (Runs why base) v l mem → why_right l why (machine.after base next (found (base_move base post) (mem (place_in (base_move base post))))).outcome
 run_right v l mem (FollowsHead head tail) base post next c g w = follow_ends_right v l mem head base post next c g w.loads
-run_right v l mem (Opens task) base post next c g w = tt
-run_right v l mem (Fills task) base post next c g w = tt
-run_right v l mem (ClearsNext later) base post next c g w = tt
-run_right v l mem (Clears task later) base post next c g w = tt
-run_right v l mem (Finishes task later) base post next c g w = tt
-run_right v l mem (GivesUp answer) base post next c g w = tt
-run_right v l mem (Retires answer) base post next c g w = tt
-run_right v l mem (Tidies later) base post next c g w = tt
-run_right v l mem Advances base post next c g w = tt
-run_right v l mem (Releases key) base post next c g w = tt
+run_right v l mem why base post next c g w = tt
 
 enqueue_finds : (most : ℕ) (a : Book) (v : View) (l : Line) (mem : Place → ℕ) (kept : EnqueueKept) (at : EnqueueAt) (post : Post) → WalksIn (Works (Enqueuing kept at)) v l mem → Shown most mem a v l → enqueue_right l kept at (finds_phase mem (Works (Enqueuing kept at)) post)
 enqueue_finds most a v l mem kept LoadNumber post w h = h.numbers kept.tail (w.stood kept.tail (same_number kept.tail))

@@ -1,5 +1,5 @@
 -- Each step keeps the contents of the queue.
-use Rattle.std.proofs.Common.{ℕ, ◌≡◌, ◌<◌, Bool, true, false, arith, refl, ap, sym, subst}
+use Rattle.std.proofs.Common.{ℕ, ◌≡◌, ◌<◌, Bool, true, false, arith, refl, sym, subst}
 use Rattle.std.proofs.lemmas.Bool.Decides.{nat_tests}
 use Rattle.std.specs.Prelude.{◌==◌}
 use Rattle.inv_rows.specs.words.Place.Place.{Row}
@@ -35,6 +35,7 @@ use Rattle.inv_contents.proofs.Items.Rows.{returned_queue}
 use Rattle.inv_contents.proofs.Items.Shown.{Kept, reads_grown}
 use Rattle.inv_contents.proofs.Items.Steps.{Did, Rests, phase_did}
 use Rattle.inv_requests.proofs.Paces.{Any}
+use Rattle.inv_rows.proofs.Lists.{apart_by}
 
 past_unborn : (x : Status) (i : ℕ) → is_past x ≡ true → is_born_by i x ≡ false
 past_unborn Free i h = absurd (cc)
@@ -79,10 +80,6 @@ rows_kept w i v l n b = record {
 }
 
 -- a row that a seat has followed is not given back
-apart_by : (f : ℕ → Bool) (s slot : ℕ) (same : Bool) → (s == slot) ≡ same → f s ≡ true → f slot ≡ false → same ≡ false
-apart_by f s slot true e y z = let is : f s ≡ f slot = ap f (number_is s slot e) in absurd (cc)
-apart_by f s slot false e y z = refl
-
 next_stays : (w : World) (i k : ℕ) (v : View) (l : Line) (t : ℕ) → ItemsNeeds w i v l → Both w v l → nexts_in (w.seat k).phase t ≡ true → l.lined t ≡ true → (line_after w i l).lined t ≡ true
 next_stays w i k v l t n b e y =
     let stays : RowStays w i v l t = lined_stays w i v l t n.queue b (λ later place slot p. apart_by (λ (s : ℕ). nexts_in (w.seat k).phase s) t slot (t == slot) refl e (n.backs later place slot k p)) y in

@@ -8,7 +8,7 @@ use Rattle.inv_rows.specs.words.Place.{Place}
 use Rattle.inv_rows.specs.words.Place.Place.{Row}
 use Rattle.inv_rows.specs.model.Book.{Book}
 use Rattle.inv_rows.specs.model.Phases.{Base}
-use Rattle.inv_rows.specs.model.Calls.{EnqueueKept, Task, Gets, Changes, Holds, Enqueues, Dequeues, Why, Opens, FollowsHead, Fills, ClearsNext, Clears, Finishes, GivesUp, Retires, Tidies, Advances, Releases, EnqueueAt, LoadNumber, LoadNext, PassTail, ExchangeNext, ExchangeTail, DequeueAt, LoadTail, SwingTail, TakeNumber, TakeValue, ExchangeHead, Work, Getting, Changing, Enqueuing, Dequeuing, Phase, Idle, Runs, Scans, Works}
+use Rattle.inv_rows.specs.model.Calls.{EnqueueKept, Task, Gets, Changes, Holds, Enqueues, Dequeues, Why, Opens, FollowsHead, Fills, EnqueueAt, LoadNumber, LoadNext, PassTail, ExchangeNext, ExchangeTail, DequeueAt, LoadTail, SwingTail, TakeNumber, TakeValue, ExchangeHead, Work, Getting, Changing, Enqueuing, Dequeuing, Phase, Idle, Runs, Scans, Works}
 use Rattle.inv_rows.proofs.model.Facts.{number_is, or_left_true}
 use Rattle.inv_rows.specs.Rows.{View}
 use Rattle.inv_rows.specs.Queue.{Line, moved_line, stands_on}
@@ -170,14 +170,7 @@ run_row : (why : Why) (base : Base) (t n : ℕ) → numbers_in (Runs why base) t
 run_row (Opens task) base t n e = cc
 run_row (FollowsHead head tail) base t n e = absurd (cc)
 run_row (Fills task) base t n e = task_row task base t n e
-run_row (ClearsNext next) base t n e = cc
-run_row (Clears task next) base t n e = cc
-run_row (Finishes task next) base t n e = cc
-run_row (GivesUp answer) base t n e = cc
-run_row (Retires answer) base t n e = cc
-run_row (Tidies later) base t n e = cc
-run_row Advances base t n e = cc
-run_row (Releases key) base t n e = cc
+run_row why base t n e = cc
 
 numbers_row : (phase : Phase) (t n : ℕ) → numbers_in phase t n ≡ true → (stands_on phase t || nexts_in phase t) ≡ true
 numbers_row Idle t n e = cc

@@ -43,14 +43,7 @@ abbrev pub why_bare : Why → Bool
 why_bare (Opens task) = true
 why_bare (FollowsHead head tail) = true
 why_bare (Fills task) = quiet_task task
-why_bare (ClearsNext next) = true
-why_bare (Clears task next) = true
-why_bare (Finishes task next) = true
-why_bare (GivesUp answer) = true
-why_bare (Retires answer) = true
-why_bare (Tidies later) = true
-why_bare Advances = true
-why_bare (Releases key) = true
+why_bare why = true
 
 abbrev pub enqueue_bare : EnqueueAt → Bool
 enqueue_bare LoadNumber = true
@@ -134,14 +127,7 @@ free_why : (why : Why) → why_free why ≡ true → why_bare why ≡ true
 free_why (Opens task) h = refl
 free_why (FollowsHead head tail) h = refl
 free_why (Fills task) h = free_task task h
-free_why (ClearsNext next) h = refl
-free_why (Clears task next) h = refl
-free_why (Finishes task next) h = refl
-free_why (GivesUp answer) h = refl
-free_why (Retires answer) h = refl
-free_why (Tidies later) h = refl
-free_why Advances h = refl
-free_why (Releases key) h = refl
+free_why why h = refl
 
 pub free_bare : (phase : Phase) → is_free phase ≡ true → is_bare phase ≡ true
 free_bare Idle h = refl

@@ -10,7 +10,6 @@ use Rattle.inv_rows.specs.defs.declared.event.Event.{Event}
 use Rattle.inv_rows.specs.defs.declared.event.Guard.{Guard}
 use Rattle.inv_rows.specs.defs.declared.lifetime.Interval.{Interval}
 use Rattle.inv_rows.specs.words.declared.config.SchemeKind.{SchemeKind}
-use Rattle.inv_rows.specs.words.declared.config.SchemeKind.TheVariants.{He, Ibr, Wfe}
 use Rattle.inv_rows.specs.model.declared.post.Post.{Post}
 use Rattle.inv_rows.specs.model.Desks.{Desk, with_life}
 use Rattle.inv_rows.specs.model.Posts.{stands, cleared}
@@ -25,19 +24,13 @@ use Rattle.inv_requests.specs.shapes.Frame.{phase_left}
 use Rattle.inv_contents.specs.Stands.{Stood}
 use Rattle.inv_contents.proofs.Contents.Rounds.{task_plain}
 use Rattle.inv_rows.proofs.model.Facts.{first_of, rest_of, both}
+use Rattle.inv_rows.proofs.model.Schemes.{each_clear_told}
 
 abbrev pub why_free : Why → Bool
 why_free (Opens task) = true
 why_free (FollowsHead head tail) = false
 why_free (Fills task) = task_plain task
-why_free (ClearsNext next) = true
-why_free (Clears task next) = true
-why_free (Finishes task next) = true
-why_free (GivesUp answer) = true
-why_free (Retires answer) = true
-why_free (Tidies later) = true
-why_free Advances = true
-why_free (Releases key) = true
+why_free why = true
 
 -- the call works on no row
 abbrev pub is_free : Phase → Bool
@@ -139,9 +132,7 @@ cleared_clear index None = refl
 cleared_clear index (Some slot) = refl
 
 clear_told_clear : (scheme : SchemeKind) (post : Post) (index : ℕ) → all_clear (clear_told scheme post index) ≡ true
-clear_told_clear He post index = refl
-clear_told_clear Ibr post index = cleared_clear index (stands post index)
-clear_told_clear Wfe post index = refl
+clear_told_clear scheme post index = each_clear_told scheme post index (λ (events : List Event). all_clear events ≡ true) refl (cleared_clear index (stands post index))
 
 clearing_by_adds : (task : Task) (next : Next) (post : Post) (desk : Desk) (told : List Event) (x : Option Base) → Adds told (clearing_by task next post desk told x)
 clearing_by_adds task next post desk told None =
@@ -229,27 +220,13 @@ abbrev pub why_ends : Why → Bool
 why_ends (Opens task) = false
 why_ends (FollowsHead head tail) = false
 why_ends (Fills task) = false
-why_ends (ClearsNext next) = true
-why_ends (Clears task next) = true
-why_ends (Finishes task next) = true
-why_ends (GivesUp answer) = true
-why_ends (Retires answer) = true
-why_ends (Tidies later) = true
-why_ends Advances = true
-why_ends (Releases key) = true
+why_ends why = true
 
 pub ends_free : (why : Why) → why_ends why ≡ true → why_free why ≡ true
 ends_free (Opens task) h = absurd (cc)
 ends_free (FollowsHead head tail) h = absurd (cc)
 ends_free (Fills task) h = absurd (cc)
-ends_free (ClearsNext next) h = refl
-ends_free (Clears task next) h = refl
-ends_free (Finishes task next) h = refl
-ends_free (GivesUp answer) h = refl
-ends_free (Retires answer) h = refl
-ends_free (Tidies later) h = refl
-ends_free Advances h = refl
-ends_free (Releases key) h = refl
+ends_free why h = refl
 
 pub resume_adds : (why : Why) (ending : Ending) (post : Post) (desk : Desk) (told : List Event) → why_ends why ≡ true → Adds told (steps.resume why ending post desk told)
 resume_adds (Opens task) ending post desk told h = absurd (cc)

@@ -114,11 +114,7 @@ base_null (Reload parent index slot era steps) post found j = and_false (found =
 base_null (Clear index) post found j = cleared_null index j (stands post index)
 base_null Finish post found j = refl
 base_null Release post found j = cleared_null 2 j (stands post 2)
-base_null (Allocate at) post found j = refl
-base_null (Write slot row place) post found j = refl
-base_null (GiveUp slot) post found j = refl
-base_null (Retire at) post found j = refl
-base_null (Move at) post found j = refl
+base_null base post found j = refl
 
 phase_null : (phase : Phase) (post : Post) (found j : ℕ) → phase_shows (is_null j) post phase found ≡ null_in post phase found j
 phase_null Idle post found j = refl

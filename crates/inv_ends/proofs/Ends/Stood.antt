@@ -9,10 +9,9 @@ use Rattle.inv_covers.specs.defs.declared.event.Root.TheVariants as roots
 use Rattle.inv_covers.specs.defs.declared.call.ClockMove.TheVariants as moves
 use Rattle.inv_covers.specs.model.Allocate.{after_claim_slot, is_claimed, walk_past, walking}
 use Rattle.inv_covers.specs.defs.declared.event.Guard.TheVariants as guards
-use Rattle.inv_covers.specs.model.Calls.{CallTurn, Phase, Task, Why}
+use Rattle.inv_covers.specs.model.Calls.{CallTurn, Phase, Why}
 use Rattle.inv_covers.specs.model.Calls.Phase.{Idle, Runs, Scans, Works}
 use Rattle.inv_covers.specs.model.Calls.ScanAt.{GiveBack, ReadGuard}
-use Rattle.inv_covers.specs.model.Calls.Task.{Changes, Dequeues, Enqueues, Gets, Holds}
 use Rattle.inv_covers.specs.model.Calls.Why.{Advances, Clears, ClearsNext, Fills, Finishes, FollowsHead, GivesUp, Opens, Releases, Retires, Tidies}
 use Rattle.inv_covers.specs.model.Guards.{one_era}
 use Rattle.inv_covers.specs.model.Locals.{Local, turn}
@@ -28,7 +27,6 @@ use Rattle.inv_covers.specs.model.Phases.ProtectAt.{AnswerOwn, CheckClock, Check
 use Rattle.inv_covers.specs.model.Phases.RetireAt.{LoadLife, LoadRetire, StoreRetired}
 use Rattle.inv_covers.specs.model.Posts.{cleared, counted, reserves_helper, stands, tag_of, upper, with_row, with_tag, withdrawn}
 use Rattle.inv_covers.specs.model.Protect.{held_post, protected, told_held}
-use Rattle.inv_covers.specs.model.Rounds.{index_of}
 use Rattle.inv_covers.specs.model.SlowPath.{asking, own_request}
 use Rattle.inv_covers.specs.model.World.{finds, step}
 use Rattle.inv_covers.specs.model.WriteRow.{last_written}
@@ -45,7 +43,7 @@ use Rattle.inv_ends.proofs.Told.Turns.{Adds, is_later, stood_append, withdrawn_s
 use Rattle.inv_ends.specs.Standing.{HeldTold, StandingTold, holds_base, holds_in, is_end}
 use Rattle.inv_covers.specs.defs.Events.{is_held}
 use Rattle.inv_ends.specs.Stands.{is_clear, stood, stood_by}
-use Rattle.inv_covers.specs.shapes.Seats.{PhaseFits, Posted, Run, index_by}
+use Rattle.inv_covers.specs.shapes.Seats.{PhaseFits, Run, index_by}
 use Rattle.inv_covers.specs.words.Packed.{read_reservation}
 use Rattle.inv_covers.specs.words.declared.layout.Layout.{Layout}
 use Rattle.inv_requests.proofs.Standings.{index_small}
@@ -125,11 +123,7 @@ base_held (Reload parent index slot era steps) post found j s = under_test (foun
 base_held (Clear index) post found j s = cleared_held index j s (stands post index)
 base_held Finish post found j s = refl
 base_held Release post found j s = cleared_held 2 j s (stands post 2)
-base_held (Allocate at) post found j s = refl
-base_held (Write slot row place) post found j s = refl
-base_held (GiveUp slot) post found j s = refl
-base_held (Retire at) post found j s = refl
-base_held (Move at) post found j s = refl
+base_held base post found j s = refl
 
 phase_held : (phase : Phase) (post : Post) (found j s : ℕ) → phase_shows (is_held j s) post phase found ≡ holds_in post phase found j s
 phase_held Idle post found j s = refl
@@ -288,11 +282,7 @@ still_shows p (Reload parent index slot era steps) post found k = no_truth_2 k
 still_shows p (Clear index) post found k = no_truth_2 k
 still_shows p Finish post found k = refl
 still_shows p Release post found k = no_truth_2 k
-still_shows p (Allocate at) post found k = refl
-still_shows p (Write slot row place) post found k = refl
-still_shows p (GiveUp slot) post found k = refl
-still_shows p (Retire at) post found k = refl
-still_shows p (Move at) post found k = refl
+still_shows p base post found k = refl
 
 -- a row comes to stand
 row_by : (post : Post) (index slot j : ℕ) (same : Bool) → (index == j) ≡ same → index < length post.standing → stands (with_row post index slot) j ≡ (if index == j then Some slot else stands post j)
@@ -391,15 +381,7 @@ at_below why index n e l = let b : index_by why < 8 = index_below why in omega a
 pub run_index : (layout : Layout) (why : Why) (base : Base) (post : Post) → length post.standing ≡ 8 → Run layout why base post → fits_index base post
 run_index layout why (Protect aim index root steps at) post l r = at_below why index (length post.standing) r.shape.at l
 run_index layout why (Reload parent index slot era steps) post l r = at_below why index (length post.standing) r.shape.at l
-run_index layout why (Begin at) post l r = tt
-run_index layout why (Clear index) post l r = tt
-run_index layout why Finish post l r = tt
-run_index layout why Release post l r = tt
-run_index layout why (Allocate at) post l r = tt
-run_index layout why (Write slot row place) post l r = tt
-run_index layout why (GiveUp slot) post l r = tt
-run_index layout why (Retire at) post l r = tt
-run_index layout why (Move at) post l r = tt
+run_index layout why base post l r = tt
 
 phase_turned : (layout : Layout) (phase : Phase) (post : Post) (found j : ℕ) → length post.standing ≡ 8 → PhaseFits layout post phase → stands (own_post phase post found) j ≡ stood (own_told phase post found) (stands post j) j
 phase_turned layout Idle post found j l r = refl

@@ -49,10 +49,10 @@ use Rattle.inv_covers.specs.defs.Events.{is_of_rows}
 use Rattle.inv_covers.specs.words.Place.{is_valid}
 use Rattle.inv_covers.specs.words.Place.Place.{Clock}
 use Rattle.inv_covers.specs.words.declared.config.SchemeKind.{SchemeKind}
-use Rattle.inv_covers.specs.words.declared.config.SchemeKind.TheVariants.{He, Ibr, Wfe}
 use Rattle.inv_covers.specs.words.declared.layout.Layout.{Layout}
 use Rattle.std.specs.Prelude.{List, [], ◌∷◌, Option, Some, None, if◌then◌else◌, ◌==◌}
 use Rattle.inv_covers.proofs.model.Facts.{no_truth_2}
+use Rattle.inv_covers.proofs.model.Schemes.{each_release}
 
 -- only events of rows give one
 event_given : (e : Event) (given : ℕ → ℕ) → is_of_rows e ≡ false → given_by e given ≡ given
@@ -206,10 +206,7 @@ base_given slots k v given now why Release list g p f h = tt
 base_given slots k v given now why (Allocate LoadBirth) list g p f h = tt
 base_given slots k v given now why (Allocate (ClaimSlot birth walk)) list g p f h = tt
 base_given slots k v given now why (Allocate (StoreLife birth slot)) list g p f h = f slot (of_new slots v k slot g (p.hand ∙ store_hand why birth slot p.right)) ∙ h
-base_given slots k v given now why (Write slot row place) list g p f h = tt
-base_given slots k v given now why (GiveUp slot) list g p f h = tt
-base_given slots k v given now why (Retire at) list g p f h = tt
-base_given slots k v given now why (Move at) list g p f h = tt
+base_given slots k v given now why base list g p f h = tt
 
 phase_given : (slots k : ℕ) (v : View) (given now : ℕ → ℕ) (phase : Phase) (list : List Lifetime) → Good slots v → Plays k phase list v → ((s : ℕ) → v.status s ≡ Claimed k → now s ≡ given s) → GivenPhase given phase → GivenPhase now phase
 phase_given slots k v given now Idle list g p f h = tt
@@ -219,9 +216,7 @@ phase_given slots k v given now (Works work) list g p f h = tt
 
 -- where a call comes to by no step of a machine no birth era is to be stored
 release_given : (given : ℕ → ℕ) (key : Option ℕ) (scheme : SchemeKind) → GivenPhase given (Runs (Releases key) (release_base scheme))
-release_given given key He = tt
-release_given given key Ibr = tt
-release_given given key Wfe = tt
+release_given given key scheme = each_release scheme (λ (base : Base). GivenPhase given (Runs (Releases key) base)) tt tt
 
 given_grows : (layout : Layout) (k : ℕ) (given : ℕ → ℕ) → is_valid layout ≡ true → Grows (PostFits layout k) (λ post phase. GivenPhase given phase)
 given_grows layout k given v = let g = shape_grows layout k v in record {
@@ -255,10 +250,7 @@ other_base layout why (Clear index) post given f r = tt
 other_base layout why Finish post given f r = tt
 other_base layout why Release post given f r = tt
 other_base layout why (Allocate at) post given f r = no_truth_2 (sym f ∙ r.suited)
-other_base layout why (Write slot row place) post given f r = tt
-other_base layout why (GiveUp slot) post given f r = tt
-other_base layout why (Retire at) post given f r = tt
-other_base layout why (Move at) post given f r = tt
+other_base layout why base post given f r = tt
 
 abbrev pub Onto : (ℕ → ℕ) → Why → Post → Outcome → Type 0
 Onto given why post outcome = Onward (λ p phase. GivenPhase given phase) why post outcome
@@ -347,10 +339,7 @@ claims_base given now why Release post found f = tt
 claims_base given now why (Allocate LoadBirth) post found f = tt
 claims_base given now why (Allocate (ClaimSlot birth walk)) post found f = claim_given given now birth walk.slot (is_claimed found walk.slot) f
 claims_base given now why (Allocate (StoreLife birth slot)) post found f = tt
-claims_base given now why (Write slot row place) post found f = tt
-claims_base given now why (GiveUp slot) post found f = tt
-claims_base given now why (Retire at) post found f = tt
-claims_base given now why (Move at) post found f = tt
+claims_base given now why base post found f = tt
 
 claims_in : (given now : ℕ → ℕ) (phase : Phase) (post : Post) (found : ℕ) → ((s : ℕ) → now s ≡ given_all (row_events (birth_in phase) (row_move phase post found)) given s) → ClaimingIn now phase found
 claims_in given now Idle post found f = tt

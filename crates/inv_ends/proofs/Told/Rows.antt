@@ -25,7 +25,6 @@ use Rattle.inv_covers.specs.model.Machine.{after, allocate_turn, base_move, begi
 use Rattle.inv_covers.specs.model.Memory.{place_in}
 use Rattle.inv_covers.specs.model.MoveClock.{after_hand_over}
 use Rattle.inv_covers.specs.model.Phases.{Aim, AllocateAt, Base, BeginAt, Ending, MoveAt, Outcome, ProtectAt, RetireAt, Walk, ends, goes}
-use Rattle.inv_covers.specs.model.Phases.Aim.{Alone, Follows}
 use Rattle.inv_covers.specs.model.Phases.AllocateAt.{ClaimSlot, LoadBirth, StoreLife}
 use Rattle.inv_covers.specs.model.Phases.Base.{Allocate, Begin, Clear, Finish, GiveUp, Move, Protect, Release, Reload, Retire, Write}
 use Rattle.inv_covers.specs.model.Phases.BeginAt.{LoadLower, PublishSpan}
@@ -35,7 +34,7 @@ use Rattle.inv_covers.specs.model.Phases.Outcome.{Ends, Goes}
 use Rattle.inv_covers.specs.model.Phases.ProtectAt.{AnswerOwn, CheckClock, CheckOwnClock, CheckUpper, LoadAnswer, LoadClock, LoadLink, LoadOwnClock, LoadOwnLink, LoadWithin, PublishEra, PublishHelper, PublishRequest, RaiseUpper, TakeAnswer, WithdrawHelper, WithdrawRequest}
 use Rattle.inv_covers.specs.model.Phases.RetireAt.{LoadLife, LoadRetire, StoreRetired}
 use Rattle.inv_covers.specs.model.Posts.{cleared, counted, reserves_helper, stands, upper}
-use Rattle.inv_covers.specs.model.Protect.{concluded, held_post, protected, told_held}
+use Rattle.inv_covers.specs.model.Protect.{held_post, protected, told_held}
 use Rattle.inv_covers.specs.model.Scan.{Entry, giving_back, scanned, unmet_from, with_back, with_kept}
 use Rattle.inv_covers.specs.model.SlowPath.{asking, own_request}
 use Rattle.inv_covers.specs.model.Steps.{phase_move, phase_turn, resumed}
@@ -63,6 +62,7 @@ use Rattle.inv_covers.specs.words.Place.Place.{Claim, Clock}
 use Rattle.inv_covers.specs.words.declared.layout.Layout.{Layout}
 use Rattle.std.specs.Prelude.{List, [], ◌∷◌, ◌++◌, Option, Some, None, nat_lt, if◌then◌else◌, ◌==◌}
 use Rattle.inv_covers.proofs.model.Facts.{no_truth_2}
+pub use Rattle.inv_covers.proofs.shapes.Frame.{concluded_told}
 
 -- what a machine or a scan tells itself, and the post that it leaves
 abbrev pub own_told : Phase → Post → ℕ → List Event
@@ -143,14 +143,6 @@ held_told index roots.Tail link n true e = rw e refl
 held_told index roots.Tail link n false e = rw e refl
 held_told index (roots.Next parent) link n true e = rw e refl
 held_told index (roots.Next parent) link n false e = rw e refl
-
-concluded_by : (index : ℕ) (root : Root) (n link era : ℕ) (post : Post) (told : List Event) (null : Bool) → (link == 0) ≡ null → (concluded Follows index root n link era post told).told ≡ told
-concluded_by index root n link era post told true e = rw e refl
-concluded_by index root n link era post told false e = rw e refl
-
-pub concluded_told : (aim : Aim) (index : ℕ) (root : Root) (n link era : ℕ) (post : Post) (told : List Event) → (concluded aim index root n link era post told).told ≡ told
-concluded_told Alone index root n link era post told = refl
-concluded_told Follows index root n link era post told = concluded_by index root n link era post told (link == 0) refl
 
 protected_rows : (aim : Aim) (index : ℕ) (root : Root) (n link era : ℕ) (post : Post) → of_rows (protected aim index root n link era post).told ≡ []
 protected_rows aim index root n link era post = rw (concluded_told aim index root n link era (held_post post index root link) (told_held index root link n)) (held_told index root link n (link == 0) refl)

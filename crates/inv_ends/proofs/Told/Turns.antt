@@ -31,7 +31,7 @@ use Rattle.inv_covers.specs.model.Calls.Why.{Advances, Clears, ClearsNext, Fills
 use Rattle.inv_covers.specs.model.Calls.Work.{Changing, Dequeuing, Enqueuing, Getting}
 use Rattle.inv_covers.specs.model.Desks.{Desk, with_life}
 use Rattle.inv_covers.specs.model.Locals.{told_by}
-use Rattle.inv_covers.specs.model.Phases.{Ending}
+use Rattle.inv_covers.specs.model.Phases.{Ending, Base}
 use Rattle.inv_covers.specs.model.Phases.Ending.{Allocated, Clocked, Done, Followed, Protected, Retired}
 use Rattle.inv_covers.specs.model.Posts.{cleared, stands, withdrawn}
 use Rattle.inv_covers.specs.model.Rounds.{bucket_of, clear_base, clear_post, clear_told, clearing, clearing_by, clearing_next, clearing_next_by, closed, finish_base, finish_span, finishing, finishing_by, given_up, index_of, scheme_of, taken_of}
@@ -46,10 +46,11 @@ use Rattle.inv_covers.specs.defs.declared.event.Event.{Event}
 use Rattle.inv_covers.specs.defs.declared.event.Root.{Root}
 use Rattle.inv_covers.specs.defs.declared.fold.Change.{Change}
 use Rattle.inv_covers.specs.words.declared.config.SchemeKind.{SchemeKind}
-use Rattle.inv_covers.specs.words.declared.config.SchemeKind.TheVariants.{He, Ibr, Wfe}
 use Rattle.std.specs.Prelude.{List, [], ◌∷◌, ◌++◌, length, Option, Some, None, nat_lt, if◌then◌else◌, ◌==◌, ◌||◌, ◌%◌}
 use Rattle.inv_covers.proofs.model.Standing.{stands-withdrawn_same, stands-withdrawn_other}
 use Rattle.inv_covers.proofs.model.Facts.{either_true, no_truth_2}
+use Rattle.inv_covers.proofs.model.Schemes.{each_clear, each_finish}
+use Rattle.inv_covers.specs.words.Schemes.{has_one_interval}
 
 -- an event that a machine does not tell
 abbrev pub is_later : Event → Bool
@@ -137,11 +138,10 @@ withdrawn_by post index j (Some slot) e = some_stood post index j (j == index) r
 pub withdrawn_stood : (post : Post) (index j : ℕ) → stands (withdrawn post index) j ≡ stood (cleared index (stands post index)) (stands post j) j
 withdrawn_stood post index j = withdrawn_by post index j (stands post index) refl
 
-cleared_adds : (post : Post) (index : ℕ) (told : List Event) (t : CallTurn) (scheme : SchemeKind) → Adds (clear_post scheme post index) (told ++ clear_told scheme post index) t → Adds post told t
-cleared_adds post index told t He x = plain_adds post told [] t (record { later = refl; clears = λ j s. refl; stands = λ x j. refl }) x
-cleared_adds post index told t Ibr x =
+cleared_adds : (post : Post) (index : ℕ) (told : List Event) (t : CallTurn) (interval : Bool) → Adds (if interval then withdrawn post index else post) (told ++ (if interval then cleared index (stands post index) else [])) t → Adds post told t
+cleared_adds post index told t false x = plain_adds post told [] t (record { later = refl; clears = λ j s. refl; stands = λ x j. refl }) x
+cleared_adds post index told t true x =
     then_adds post (withdrawn post index) told (cleared index (stands post index)) t (cleared_later index (stands post index)) (λ j s h. at_index post index j s (cleared_stood index (stands post index) j s h)) (withdrawn_stood post index) (withdrawn_shrinks post index) x
-cleared_adds post index told t Wfe x = plain_adds post told [] t (record { later = refl; clears = λ j s. refl; stands = λ x j. refl }) x
 
 link_plain : (root : Root) (slot : ℕ) (same : Bool) → Plain (enqueues.told_link root slot same)
 link_plain root slot true = record { later = refl; clears = λ j s. refl; stands = λ x j. refl }
@@ -175,9 +175,10 @@ finish_adds task next post desk told None = out_adds _ _ _ _
 finish_adds task next post desk told (Some slot) = closed_adds task next post desk told
 
 finishing_by_adds : (task : Task) (next : Next) (post : Post) (desk : Desk) (told : List Event) (scheme : SchemeKind) → Adds post told (finishing_by task next post desk told (finish_base scheme post))
-finishing_by_adds task next post desk told He = closed_adds task next post desk told
-finishing_by_adds task next post desk told Ibr = finish_adds task next post desk told (stands post 2)
-finishing_by_adds task next post desk told Wfe = closed_adds task next post desk told
+finishing_by_adds task next post desk told scheme =
+    each_finish scheme post (λ (base : Option Base). Adds post told (finishing_by task next post desk told base))
+    (closed_adds task next post desk told)
+    (finish_adds task next post desk told (stands post 2))
 
 finishing_adds : (task : Task) (next : Next) (post : Post) (desk : Desk) (told : List Event) → Adds post told (finishing task next post desk told)
 finishing_adds task Again post desk told = closed_adds task Again post desk told
@@ -186,23 +187,23 @@ finishing_adds task (Answering answer) post desk told = finishing_by_adds task (
 finishing_adds task (Retiring slot answer) post desk told = finishing_by_adds task (Retiring slot answer) post desk told (scheme_of post)
 
 clearing_by_adds : (task : Task) (next : Next) (post : Post) (desk : Desk) (told : List Event) (scheme : SchemeKind) → Adds post told (clearing_by task next post desk told (clear_base scheme (index_of task)))
-clearing_by_adds task next post desk told He = out_adds _ _ _ _
-clearing_by_adds task next post desk told Ibr =
-    let p : Post = clear_post (scheme_of post) post (index_of task) in
+clearing_by_adds task next post desk told scheme =
+    each_clear scheme (index_of task) (λ (base : Option Base). Adds post told (clearing_by task next post desk told base))
+    (out_adds _ _ _ _)
+    (let p : Post = clear_post (scheme_of post) post (index_of task) in
     let t : List Event = told ++ clear_told (scheme_of post) post (index_of task) in
-    cleared_adds post (index_of task) told (finishing task next p desk t) (scheme_of post) (finishing_adds task next p desk t)
-clearing_by_adds task next post desk told Wfe = out_adds _ _ _ _
+    cleared_adds post (index_of task) told (finishing task next p desk t) (has_one_interval (scheme_of post)) (finishing_adds task next p desk t))
 
 clearing_adds : (task : Task) (next : Next) (post : Post) (desk : Desk) (told : List Event) → Adds post told (clearing task next post desk told)
 clearing_adds task next post desk told = clearing_by_adds task next post desk told (scheme_of post)
 
 clearing_next_by_adds : (next : Next) (post : Post) (desk : Desk) (told : List Event) (scheme : SchemeKind) → Adds post told (clearing_next_by next post desk told (clear_base scheme 1))
-clearing_next_by_adds next post desk told He = out_adds _ _ _ _
-clearing_next_by_adds next post desk told Ibr =
-    let p : Post = clear_post (scheme_of post) post 1 in
+clearing_next_by_adds next post desk told scheme =
+    each_clear scheme 1 (λ (base : Option Base). Adds post told (clearing_next_by next post desk told base))
+    (out_adds _ _ _ _)
+    (let p : Post = clear_post (scheme_of post) post 1 in
     let t : List Event = told ++ clear_told (scheme_of post) post 1 in
-    cleared_adds post 1 told (clearing Dequeues next p desk t) (scheme_of post) (clearing_adds Dequeues next p desk t)
-clearing_next_by_adds next post desk told Wfe = out_adds _ _ _ _
+    cleared_adds post 1 told (clearing Dequeues next p desk t) (has_one_interval (scheme_of post)) (clearing_adds Dequeues next p desk t))
 
 clearing_next_adds : (next : Next) (post : Post) (desk : Desk) (told : List Event) → Adds post told (clearing_next next post desk told)
 clearing_next_adds next post desk told = clearing_next_by_adds next post desk told (scheme_of post)

@@ -24,23 +24,20 @@ use Rattle.inv_covers.proofs.shapes.Inside.{shape_moves}
 use Rattle.inv_covers.proofs.shapes.Kept.{begun_fits, counted_fits, one_moves, run_counted}
 use Rattle.inv_covers.proofs.shapes.Shapes.{shape_grows}
 use Rattle.inv_covers.specs.shapes.Frame.{Grows, Moves, Onward, Owes, Passed, Seated}
-use Rattle.inv_covers.specs.shapes.Seats.{Kind, PhaseFits, PostFits, Run, fills, kind_of, suits}
-use Rattle.inv_covers.specs.shapes.Seats.Kind.{ToClear, ToFill, ToFinish, ToFollow, ToGiveUp, ToMove, ToOpen, ToRelease, ToRetire}
+use Rattle.inv_covers.specs.shapes.Seats.{PhaseFits, PostFits, Run, fills, kind_of}
 use Rattle.inv_ends.proofs.Walks.Seen.{OnSeen, begins_seen, more_seen, past_seen}
 use Rattle.inv_ends.specs.Walks.{FullSeen, WalkBase, WalkPhase, WalkSeen, WalkingBegin, WalkingKept, WalkingStart, seen_after, seen_base, seen_in}
 use Rattle.inv_covers.specs.words.declared.config.SchemeKind.{SchemeKind}
-use Rattle.inv_covers.specs.words.declared.config.SchemeKind.TheVariants.{He, Ibr, Wfe}
 use Rattle.inv_covers.specs.words.Place.{is_valid}
 use Rattle.inv_covers.specs.words.declared.layout.Layout.{Layout}
 use Rattle.std.specs.Prelude.{[], Option, Some, None, if◌then◌else◌, ◌==◌}
-use Rattle.inv_ends.proofs.Told.Births.{is_filling, apart}
+use Rattle.inv_ends.proofs.Told.Births.{apart}
 use Rattle.inv_covers.proofs.model.Facts.{no_truth_2}
+use Rattle.inv_covers.proofs.model.Schemes.{each_release}
 
 -- where a call comes to by no step of a machine there is no walk that has begun
 release_walks : (slots : ℕ) (seen : ℕ → Bool) (key : Option ℕ) (scheme : SchemeKind) → WalkPhase slots seen (Runs (Releases key) (release_base scheme))
-release_walks slots seen key He = tt
-release_walks slots seen key Ibr = tt
-release_walks slots seen key Wfe = tt
+release_walks slots seen key scheme = each_release scheme (λ (base : Base). WalkPhase slots seen (Runs (Releases key) base)) tt tt
 
 walk_grows : (layout : Layout) (k : ℕ) (seen : ℕ → Bool) → is_valid layout ≡ true → Grows (PostFits layout k) (λ post phase. WalkPhase layout.config.slots seen phase)
 walk_grows layout k seen v = let g = shape_grows layout k v in record {
@@ -74,10 +71,7 @@ other_base layout why (Clear index) post seen f r = tt
 other_base layout why Finish post seen f r = tt
 other_base layout why Release post seen f r = tt
 other_base layout why (Allocate at) post seen f r = no_truth_2 (sym f ∙ r.suited)
-other_base layout why (Write slot row place) post seen f r = tt
-other_base layout why (GiveUp slot) post seen f r = tt
-other_base layout why (Retire at) post seen f r = tt
-other_base layout why (Move at) post seen f r = tt
+other_base layout why base post seen f r = tt
 
 other_on : (layout : Layout) (why : Why) (post : Post) (outcome : Outcome) (seen : ℕ → Bool) → fills (kind_of why) ≡ false → Passed (PhaseFits layout) why post outcome → Onward (λ p phase. WalkPhase layout.config.slots seen phase) why post outcome
 other_on layout why post (Goes base) seen f r = other_base layout why base post seen f r

@@ -36,7 +36,7 @@ use Rattle.inv_covers.proofs.shapes.Inside.{shape_moves}
 use Rattle.inv_covers.proofs.shapes.Kept.{begun_fits, counted_fits, one_moves, run_counted}
 use Rattle.inv_covers.proofs.shapes.Shapes.{shape_grows}
 use Rattle.inv_covers.specs.shapes.Frame.{Grows, Moves, Onward, Owes, Passed, Seated}
-use Rattle.inv_covers.specs.shapes.Seats.{Kind, PhaseFits, PostFits, Run, Seats, kind_of, suits}
+use Rattle.inv_covers.specs.shapes.Seats.{Kind, PhaseFits, PostFits, Run, kind_of, suits}
 use Rattle.inv_covers.specs.shapes.Seats.Kind.{ToClear, ToFill, ToFinish, ToFollow, ToGiveUp, ToMove, ToOpen, ToRelease, ToRetire}
 use Rattle.inv_requests.proofs.Going.{link_few}
 use Rattle.inv_requests.proofs.Helping.{asker_of}
@@ -53,11 +53,11 @@ use Rattle.inv_covers.proofs.words.Parts.{read_request-pending, read_request-ans
 use Rattle.inv_covers.specs.words.Place.{Place, is_valid}
 use Rattle.inv_covers.specs.words.Place.Place.{Clock, Head, Index, Request}
 use Rattle.inv_covers.specs.words.declared.config.SchemeKind.{SchemeKind}
-use Rattle.inv_covers.specs.words.declared.config.SchemeKind.TheVariants.{He, Ibr, Wfe}
 use Rattle.inv_covers.specs.words.declared.layout.Layout.{Layout}
 use Rattle.std.specs.Prelude.{[], ◌∷◌, Option, Some, None, nat_lt, nat_le, if◌then◌else◌, ◌==◌, ◌&&◌, ◌||◌}
 use Rattle.inv_requests.proofs.Serving.{read_idle}
 use Rattle.inv_covers.proofs.model.Facts.{no_truth_2}
+use Rattle.inv_covers.proofs.model.Schemes.{each_release}
 
 abbrev pub Known : Type 0
 Known = ℕ → ℕ → ℕ → Bool
@@ -103,9 +103,7 @@ phase_more over next met seats (Works work) f p = tt
 
 -- where a call comes to by no step of a machine no mover has loaded its era
 release_met : (over met : Known) (seats : ℕ) (key : Option ℕ) (scheme : SchemeKind) → PhaseMet over met seats (Runs (Releases key) (release_base scheme))
-release_met over met seats key He = tt
-release_met over met seats key Ibr = tt
-release_met over met seats key Wfe = tt
+release_met over met seats key scheme = each_release scheme (λ (base : Base). PhaseMet over met seats (Runs (Releases key) base)) tt tt
 
 met_grows : (layout : Layout) (i : ℕ) (over met : Known) → is_valid layout ≡ true → Grows (PostFits layout i) (λ post phase. PhaseMet over met layout.config.seats phase)
 met_grows layout i over met v = let g = shape_grows layout i v in record {

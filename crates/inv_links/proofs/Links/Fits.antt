@@ -11,10 +11,10 @@ use Rattle.inv_covers.specs.model.declared.post.Post.{Post}
 use Rattle.inv_covers.specs.model.Book.{Book}
 use Rattle.inv_covers.specs.model.Links.{link_place}
 use Rattle.inv_covers.specs.model.Phases.{Base}
-use Rattle.inv_covers.specs.model.Phases.Base.{Begin, Protect, Reload, Clear, Finish, Release, Allocate, Write, GiveUp, Retire, Move}
-use Rattle.inv_covers.specs.model.Calls.{Task, Gets, Changes, Holds, Enqueues, Dequeues, Why, Opens, FollowsHead, Fills, ClearsNext, Clears, Finishes, GivesUp, Retires, Tidies, Advances, Releases, AfterScan, GiveBack, Phase, Idle, Runs, Scans, Works}
+use Rattle.inv_covers.specs.model.Phases.Base.{Begin, Protect, Reload}
+use Rattle.inv_covers.specs.model.Calls.{Task, Gets, Changes, Holds, Enqueues, Dequeues, Why, Opens, FollowsHead, AfterScan, GiveBack, Phase, Idle, Runs, Scans, Works}
 use Rattle.inv_covers.specs.model.World.{World, step, finds}
-use Rattle.inv_covers.proofs.model.Facts.{same_number, first_of, rest_of, true_not_false, one_less_one_more, number_is, same_test}
+use Rattle.inv_covers.proofs.model.Facts.{same_number, first_of, rest_of, one_less_one_more, number_is, same_test}
 use Rattle.inv_covers.specs.shapes.Seats.{Reloads, PhaseFits, task_root, root_by, kind_of, suits}
 use Rattle.inv_covers.specs.Covers.{takes_or_frees}
 use Rattle.inv_covers.specs.Held.{under}
@@ -32,6 +32,7 @@ use Rattle.inv_links.specs.Origins.{Stays}
 use Rattle.inv_links.specs.Links.{is_bucket, links_to, LinksNeeds}
 use Rattle.inv_links.proofs.Links.Booked.{root_stays}
 use Rattle.inv_links.proofs.Links.Still.{Still, still}
+use Rattle.inv_covers.proofs.rows.Lists.{apart_by}
 
 or_else : (x : ℕ) (b : Bool) (null : Bool) → (x == 0) ≡ null → ((x == 0) ≡ false → b ≡ true) → (null || b) ≡ true
 or_else x b true e g = refl
@@ -75,41 +76,18 @@ next_root buckets Dequeues p e = absurd (cc)
 next_why : (buckets : ℕ) (why : Why) (base : Base) (p : ℕ) → root_by buckets why ≡ roots.Next p → stands_on (Runs why base) p ≡ true
 next_why buckets (Opens task) base p e = next_root buckets task p e
 next_why buckets (FollowsHead head tail) base p e = let q : head ≡ p = cc in same_test head p q
-next_why buckets (Fills task) base p e = absurd (cc)
-next_why buckets (ClearsNext next) base p e = absurd (cc)
-next_why buckets (Clears task next) base p e = absurd (cc)
-next_why buckets (Finishes task next) base p e = absurd (cc)
-next_why buckets (GivesUp answer) base p e = absurd (cc)
-next_why buckets (Retires answer) base p e = absurd (cc)
-next_why buckets (Tidies later) base p e = absurd (cc)
-next_why buckets Advances base p e = absurd (cc)
-next_why buckets (Releases key) base p e = absurd (cc)
+next_why buckets why base p e = absurd (cc)
 
 reload_why : (buckets : ℕ) (why : Why) (base : Base) (parent index slot era steps p : ℕ) → suits (Reload parent index slot era steps) (kind_of why) ≡ true → Reloads buckets why parent index → parent ≡ p → stands_on (Runs why base) p ≡ true
 reload_why buckets (Opens task) base parent index slot era steps p u s e = absurd (cc)
 reload_why buckets (FollowsHead head tail) base parent index slot era steps p u s e = same_test head p (sym s.of ∙ e)
-reload_why buckets (Fills task) base parent index slot era steps p u s e = absurd (cc)
-reload_why buckets (ClearsNext next) base parent index slot era steps p u s e = absurd (cc)
-reload_why buckets (Clears task next) base parent index slot era steps p u s e = absurd (cc)
-reload_why buckets (Finishes task next) base parent index slot era steps p u s e = absurd (cc)
-reload_why buckets (GivesUp answer) base parent index slot era steps p u s e = absurd (cc)
-reload_why buckets (Retires answer) base parent index slot era steps p u s e = absurd (cc)
-reload_why buckets (Tidies later) base parent index slot era steps p u s e = absurd (cc)
-reload_why buckets Advances base parent index slot era steps p u s e = absurd (cc)
-reload_why buckets (Releases key) base parent index slot era steps p u s e = absurd (cc)
+reload_why buckets why base parent index slot era steps p u s e = absurd (cc)
 
 next_base : (layout : Layout) (post : Post) (why : Why) (base : Base) (p : ℕ) → PhaseFits layout post (Runs why base) → root_base base ≡ roots.Next p → stands_on (Runs why base) p ≡ true
 next_base layout post why (Begin at) p f e = absurd (cc)
 next_base layout post why (Protect aim index root steps at) p f e = next_why layout.config.buckets why (Protect aim index root steps at) p (sym f.shape.of ∙ e)
 next_base layout post why (Reload parent index slot era steps) p f e = reload_why layout.config.buckets why (Reload parent index slot era steps) parent index slot era steps p f.suited f.shape (cc)
-next_base layout post why (Clear index) p f e = absurd (cc)
-next_base layout post why Finish p f e = absurd (cc)
-next_base layout post why Release p f e = absurd (cc)
-next_base layout post why (Allocate at) p f e = absurd (cc)
-next_base layout post why (Write slot row place) p f e = absurd (cc)
-next_base layout post why (GiveUp slot) p f e = absurd (cc)
-next_base layout post why (Retire at) p f e = absurd (cc)
-next_base layout post why (Move at) p f e = absurd (cc)
+next_base layout post why base p f e = absurd (cc)
 
 pub next_stands : (layout : Layout) (post : Post) (phase : Phase) (p : ℕ) → PhaseFits layout post phase → root_for phase ≡ roots.Next p → stands_on phase p ≡ true
 next_stands layout post Idle p f e = absurd (cc)
@@ -122,10 +100,6 @@ far_back : (w : World) (i s : ℕ) (v : View) → takes_or_frees (row_move (w.se
 far_back w i s v h later place slot q = subst (λ (p : Phase). takes_or_frees (row_move p (w.seat i).post (finds w i)) s ≡ false) q h
 
 -- nor is one on which a seat works
-far_stands : (f : ℕ → Bool) (p slot : ℕ) (same : Bool) → (p == slot) ≡ same → f p ≡ true → f slot ≡ false → same ≡ false
-far_stands f p slot true e h g = let q : p ≡ slot = grind (arith, nat_tests) in absurd (true_not_false (f slot) (subst (λ (x : ℕ). f x ≡ true) q h) g)
-far_stands f p slot false e h g = refl
-
 -- a tracked link stays good
 stays_here : (w : World) (i : ℕ) (v : View) (l : Line) (z : Asking) (k x : ℕ) → LinksNeeds w i v l z → Tracked w z k x → under v.status (root_in w k) ≡ true → (x == 0) ≡ false → takes_or_frees (row_move (w.seat i).phase (w.seat i).post (finds w i)) (x - 1) ≡ false
 stays_here w i v l z k x n t u e = n.stays k (x - 1) (subst (λ (y : ℕ). Tracked w z k y) (one_less_one_more x e) t) u
@@ -164,7 +138,7 @@ stays_link w i v l z k x roots.Tail q n t h =
 stays_link w i v l z k x (roots.Next p) q n t h =
     or_next x (w.mem (Row p 0) == x) ((step w i).mem (Row p 0) == x) (x == 0) refl h (λ e g.
     let s = next_stands w.layout (w.seat k).post (w.seat k).phase p (n.origins.seats.fits k).phase q in
-    let r = lined_stays w i v l p n.queue n.both (λ later place slot c. far_stands (stands_on (w.seat k).phase) p slot (p == slot) refl s (n.queue.backs later place slot k c)) ((n.both.queue.walks k).stood p s) in
+    let r = lined_stays w i v l p n.queue n.both (λ later place slot c. apart_by (stands_on (w.seat k).phase) p slot (p == slot) refl s (n.queue.backs later place slot k c)) ((n.both.queue.walks k).stood p s) in
     let some : 0 < x = grind (arith, nat_tests) in
     same_test ((step w i).mem (Row p 0)) x (r.next x (number_is (w.mem (Row p 0)) x g) some))
 

@@ -8,7 +8,7 @@ use Rattle.inv_covers.specs.model.Locals.{told_by}
 use Rattle.inv_covers.specs.model.Memory.{written}
 use Rattle.inv_covers.specs.model.Phases.{Aim, ProtectAt, MoveAt, Base}
 use Rattle.inv_covers.specs.model.Phases.ProtectAt.{LoadClock, PublishEra, LoadLink, CheckClock, PublishRequest, LoadOwnClock, PublishHelper, LoadOwnLink, CheckOwnClock, AnswerOwn, LoadAnswer, TakeAnswer, WithdrawRequest, WithdrawHelper, LoadWithin, CheckUpper, RaiseUpper}
-use Rattle.inv_covers.specs.model.Phases.MoveAt.{LoadEra, LoadRequest, ShowEra, LoadAsked, CheckEra, AnswerAsked, LoadReserved, HandOver, HideEra, HideLate, ExchangeClock}
+use Rattle.inv_covers.specs.model.Phases.MoveAt.{LoadEra, LoadRequest, ShowEra, LoadAsked}
 use Rattle.inv_covers.specs.model.Phases.Base.{Begin, Protect, Reload, Clear, Finish, Release, Allocate, Write, GiveUp, Retire, Move}
 use Rattle.inv_covers.specs.model.Posts.{counted}
 use Rattle.inv_covers.specs.model.Steps.{phase_move, phase_turn}
@@ -62,13 +62,7 @@ still_move w i v l why (LoadEra helps) q h = absurd (cc)
 still_move w i v l why (LoadRequest e s shown) q h = absurd (cc)
 still_move w i v l why (ShowEra e s t j r) q h = absurd (cc)
 still_move w i v l why (LoadAsked e s t j r) q h = record { book = ap (book_after w i) q; mem = ap (mem_after w i) q; rows = ap (rows_by w i v) q; line = ap (line_by w i l) q }
-still_move w i v l why (CheckEra e s t j r link) q h = absurd (cc)
-still_move w i v l why (AnswerAsked e s t j r link) q h = absurd (cc)
-still_move w i v l why (LoadReserved e s t j r link) q h = absurd (cc)
-still_move w i v l why (HandOver e s t j r link old) q h = absurd (cc)
-still_move w i v l why (HideEra e) q h = absurd (cc)
-still_move w i v l why (HideLate seen) q h = absurd (cc)
-still_move w i v l why (ExchangeClock e) q h = absurd (cc)
+still_move w i v l why at q h = absurd (cc)
 
 still_base : (w : World) (i : ℕ) (v : View) (l : Line) (why : Why) (base : Base) → (w.seat i).phase ≡ Runs why base → loads_base base ≡ true → Still w i v l
 still_base w i v l why (Begin at) q h = absurd (cc)

@@ -4,7 +4,6 @@ use Rattle.std.proofs.Common.{ℕ, ◌+◌, ◌≡◌, Bool, true, false, List, 
 use Rattle.std.specs.Prelude.{◌==◌, ◌%◌, ◌-◌, ◌&&◌, ◌||◌, nat_lt, if◌then◌else◌}
 use Rattle.inv_covers.specs.words.Packed.{reservation_word}
 use Rattle.inv_covers.specs.words.declared.config.SchemeKind.{SchemeKind}
-use Rattle.inv_covers.specs.words.declared.config.SchemeKind.TheVariants.{He, Ibr, Wfe}
 use Rattle.inv_covers.specs.defs.declared.call.Answer.{Answer}
 use Rattle.inv_covers.specs.defs.declared.call.Answer.TheVariants as the_answers
 use Rattle.inv_covers.specs.defs.declared.call.ClockMove.TheVariants as moves
@@ -45,14 +44,10 @@ use Rattle.inv_covers.specs.model.Phases.Ending.{Done, Protected, Followed, Allo
 use Rattle.inv_covers.specs.model.Rounds.{bucket_of, scheme_of, index_of, taken_of, clear_base, clear_post, clear_told, finish_base, finish_span, given_up, closed, finishing_by, finishing, clearing_by, clearing, clearing_next_by, clearing_next}
 use Rattle.inv_covers.specs.model.Calls.{Task, Gets, Changes, Holds, Enqueues, Dequeues, Next, Again, MakeRoom, Answering, Retiring, AfterScan, Answered, Repeated, Counted, ScanAt, ReadGuard, GiveBack, Why, Phase, Idle, Runs, Scans, Works, Work, Getting, Changing, Enqueuing, Dequeuing, ChangeKept, EnqueueKept, GetAt, FindVersion, FindCount, FindKey, FindValue, ChangeAt, LoadVersion, LoadCount, LoadKey, LoadValue, ExchangeRoot, EnqueueAt, LoadNumber, LoadNext, PassTail, ExchangeNext, ExchangeTail, DequeueAt, LoadTail, SwingTail, TakeNumber, TakeValue, ExchangeHead, Opens, FollowsHead, Fills, ClearsNext, Clears, Finishes, GivesUp, Retires, Tidies, Advances, Releases}
 use Rattle.inv_covers.proofs.model.Facts.{first_of, rest_of, both}
+use Rattle.inv_covers.proofs.model.Schemes.{each_clear, each_clear_told, each_finish}
+use Rattle.inv_covers.specs.rows.Tries.{is_end}
 
 -- the ends of the queue move to rows that were linked before
-abbrev pub is_end : Root → Bool
-is_end (roots.Bucket bucket) = false
-is_end (roots.Next parent) = false
-is_end roots.Head = true
-is_end roots.Tail = true
-
 -- the events link no rows but those of f
 abbrev pub links_one : (ℕ → Bool) → Event → Bool
 links_one f (events.Link root slot) = is_end root || f slot
@@ -178,9 +173,10 @@ finish_in f task next post desk told None h = h
 finish_in f task next post desk told (Some slot) h = closed_in f task next post desk told h
 
 finishing_by_in : (f : ℕ → Bool) (task : Task) (next : Next) (post : Post) (desk : Desk) (told : List Event) (scheme : SchemeKind) → links_in f told ≡ true → links_in f (finishing_by task next post desk told (finish_base scheme post)).told ≡ true
-finishing_by_in f task next post desk told He h = closed_in f task next post desk told h
-finishing_by_in f task next post desk told Ibr h = finish_in f task next post desk told (stands post 2) h
-finishing_by_in f task next post desk told Wfe h = closed_in f task next post desk told h
+finishing_by_in f task next post desk told scheme h =
+    each_finish scheme post (λ (base : Option Base). links_in f (finishing_by task next post desk told base).told ≡ true)
+    (closed_in f task next post desk told h)
+    (finish_in f task next post desk told (stands post 2) h)
 
 finishing_in : (f : ℕ → Bool) (task : Task) (next : Next) (post : Post) (desk : Desk) (told : List Event) → links_in f told ≡ true → links_in f (finishing task next post desk told).told ≡ true
 finishing_in f task Again post desk told h = closed_in f task Again post desk told h
@@ -189,24 +185,22 @@ finishing_in f task (Answering answer) post desk told h = finishing_by_in f task
 finishing_in f task (Retiring slot answer) post desk told h = finishing_by_in f task (Retiring slot answer) post desk told (scheme_of post) h
 
 clear_in : (f : ℕ → Bool) (scheme : SchemeKind) (post : Post) (index : ℕ) → links_in f (clear_told scheme post index) ≡ true
-clear_in f He post index = refl
-clear_in f Ibr post index = cleared_in f index (stands post index)
-clear_in f Wfe post index = refl
+clear_in f scheme post index = each_clear_told scheme post index (λ (events : List Event). links_in f events ≡ true) refl (cleared_in f index (stands post index))
 
 clearing_by_in : (f : ℕ → Bool) (task : Task) (next : Next) (post : Post) (desk : Desk) (told : List Event) (scheme : SchemeKind) → links_in f told ≡ true → links_in f (clearing_by task next post desk told (clear_base scheme (index_of task))).told ≡ true
-clearing_by_in f task next post desk told He h = h
-clearing_by_in f task next post desk told Ibr h =
-    finishing_in f task next (clear_post (scheme_of post) post (index_of task)) desk (told ++ clear_told (scheme_of post) post (index_of task)) (append_in f told (clear_told (scheme_of post) post (index_of task)) h (clear_in f (scheme_of post) post (index_of task)))
-clearing_by_in f task next post desk told Wfe h = h
+clearing_by_in f task next post desk told scheme h =
+    each_clear scheme (index_of task) (λ (base : Option Base). links_in f (clearing_by task next post desk told base).told ≡ true)
+    h
+    (finishing_in f task next (clear_post (scheme_of post) post (index_of task)) desk (told ++ clear_told (scheme_of post) post (index_of task)) (append_in f told (clear_told (scheme_of post) post (index_of task)) h (clear_in f (scheme_of post) post (index_of task))))
 
 clearing_in : (f : ℕ → Bool) (task : Task) (next : Next) (post : Post) (desk : Desk) (told : List Event) → links_in f told ≡ true → links_in f (clearing task next post desk told).told ≡ true
 clearing_in f task next post desk told h = clearing_by_in f task next post desk told (scheme_of post) h
 
 clearing_next_by_in : (f : ℕ → Bool) (next : Next) (post : Post) (desk : Desk) (told : List Event) (scheme : SchemeKind) → links_in f told ≡ true → links_in f (clearing_next_by next post desk told (clear_base scheme 1)).told ≡ true
-clearing_next_by_in f next post desk told He h = h
-clearing_next_by_in f next post desk told Ibr h =
-    clearing_in f Dequeues next (clear_post (scheme_of post) post 1) desk (told ++ clear_told (scheme_of post) post 1) (append_in f told (clear_told (scheme_of post) post 1) h (clear_in f (scheme_of post) post 1))
-clearing_next_by_in f next post desk told Wfe h = h
+clearing_next_by_in f next post desk told scheme h =
+    each_clear scheme 1 (λ (base : Option Base). links_in f (clearing_next_by next post desk told base).told ≡ true)
+    h
+    (clearing_in f Dequeues next (clear_post (scheme_of post) post 1) desk (told ++ clear_told (scheme_of post) post 1) (append_in f told (clear_told (scheme_of post) post 1) h (clear_in f (scheme_of post) post 1)))
 
 clearing_next_in : (f : ℕ → Bool) (next : Next) (post : Post) (desk : Desk) (told : List Event) → links_in f told ≡ true → links_in f (clearing_next next post desk told).told ≡ true
 clearing_next_in f next post desk told h = clearing_next_by_in f next post desk told (scheme_of post) h

@@ -1,11 +1,10 @@
 -- What a seat that does not step carries, or has loaded for a request, it had before the step: the clock only rises.
-use Rattle.std.proofs.Common.{ℕ, ◌≡◌, ◌≤◌, true, Option, Some, None, arith, refl, subst}
+use Rattle.std.proofs.Common.{ℕ, ◌≡◌, ◌≤◌, true, arith, refl, subst}
 use Rattle.std.proofs.lemmas.Bool.Decides.{nat_tests}
 use Rattle.std.specs.Prelude.{◌==◌, ◌&&◌}
 use Rattle.inv_covers.specs.words.Place.Place.{Clock}
 use Rattle.inv_covers.specs.words.declared.layout.Layout.{Layout}
 use Rattle.inv_covers.specs.defs.declared.event.Root.{Root}
-use Rattle.inv_covers.specs.defs.declared.lifetime.Interval.{Interval}
 use Rattle.inv_covers.specs.model.declared.post.Post.{Post}
 use Rattle.inv_covers.specs.model.Links.{link_number}
 use Rattle.inv_covers.specs.model.Posts.{upper}
@@ -16,7 +15,7 @@ use Rattle.inv_covers.specs.model.Phases.Base.{Begin, Protect, Reload, Clear, Fi
 use Rattle.inv_covers.specs.model.Calls.{Why, Phase, Idle, Runs, Scans, Works}
 use Rattle.inv_covers.specs.model.World.{World, step}
 use Rattle.inv_covers.proofs.shapes.Decode.{clock_next}
-use Rattle.inv_covers.specs.shapes.Eras.{SpanIn, protect_eras, base_eras, PhaseEras}
+use Rattle.inv_covers.specs.shapes.Eras.{protect_eras, base_eras, PhaseEras}
 use Rattle.inv_requests.specs.NextDeals.{next_deals}
 use Rattle.inv_requests.specs.Roles.{knows}
 use Rattle.inv_requests.specs.Views.{View, Deal, Role}
@@ -51,15 +50,7 @@ at_back clock later upto post (RaiseUpper era) x r u e h = h
 base_back : (layout : Layout) (clock later upto : ℕ) (post : Post) (base : Base) (x : ℕ) → clock ≤ later → upto ≤ clock → base_eras layout clock post base → carries_base later upto base x ≡ true → carries_base clock upto base x ≡ true
 base_back layout clock later upto post (Begin at) x r u e h = h
 base_back layout clock later upto post (Protect aim index root steps at) x r u e h = at_back clock later upto post at x r u e h
-base_back layout clock later upto post (Reload parent index slot era steps) x r u e h = h
-base_back layout clock later upto post (Clear index) x r u e h = h
-base_back layout clock later upto post Finish x r u e h = h
-base_back layout clock later upto post Release x r u e h = h
-base_back layout clock later upto post (Allocate at) x r u e h = h
-base_back layout clock later upto post (Write slot row place) x r u e h = h
-base_back layout clock later upto post (GiveUp slot) x r u e h = h
-base_back layout clock later upto post (Retire at) x r u e h = h
-base_back layout clock later upto post (Move at) x r u e h = h
+base_back layout clock later upto post base x r u e h = h
 
 phase_back : (layout : Layout) (clock later upto : ℕ) (post : Post) (phase : Phase) (x : ℕ) → clock ≤ later → upto ≤ clock → PhaseEras layout clock post phase → carries_in later upto phase x ≡ true → carries_in clock upto phase x ≡ true
 phase_back layout clock later upto post Idle x r u e h = h

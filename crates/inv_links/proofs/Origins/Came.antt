@@ -14,7 +14,7 @@ use Rattle.inv_covers.specs.model.Machine.{protect_move, protect_turn, after}
 use Rattle.inv_covers.specs.model.Memory.{found, place_in, bump}
 use Rattle.inv_covers.specs.model.Posts.{counted, upper}
 use Rattle.inv_covers.specs.model.Phases.{Aim, Follows, ProtectAt, MoveAt, Base, Turn, Outcome, Goes, Ends}
-use Rattle.inv_covers.specs.model.Phases.MoveAt.{LoadEra, LoadRequest, ShowEra, LoadAsked, CheckEra, AnswerAsked, LoadReserved, HandOver, HideEra, HideLate, ExchangeClock}
+use Rattle.inv_covers.specs.model.Phases.MoveAt.{LoadEra, LoadRequest, ShowEra, LoadAsked, CheckEra, AnswerAsked}
 use Rattle.inv_covers.specs.model.Phases.Base.{Begin, Protect, Reload, Clear, Finish, Release, Allocate, Write, GiveUp, Retire, Move}
 use Rattle.inv_covers.specs.model.Calls.{Why, Opens, FollowsHead, Fills, ClearsNext, Clears, Finishes, GivesUp, Retires, Tidies, Advances, Releases, Phase, Idle, Runs, Scans, Works}
 use Rattle.inv_covers.specs.model.Locals.{Local}
@@ -203,11 +203,7 @@ helps_busy_at layout clock k (ShowEra e s t j r) x h = h
 helps_busy_at layout clock k (LoadAsked e s t j r) x h = h
 helps_busy_at layout clock k (CheckEra e s t j r link) x h = grind (arith, nat_tests)
 helps_busy_at layout clock k (AnswerAsked e s t j r link) x h = grind (arith, nat_tests)
-helps_busy_at layout clock k (LoadReserved e s t j r link) x h = h
-helps_busy_at layout clock k (HandOver e s t j r link old) x h = h
-helps_busy_at layout clock k (HideEra e) x h = h
-helps_busy_at layout clock k (HideLate seen) x h = h
-helps_busy_at layout clock k (ExchangeClock e) x h = h
+helps_busy_at layout clock k at x h = h
 
 helps_busy_base : (layout : Layout) (clock k : ℕ) (base : Base) (x : ℕ) → helps_base layout clock k base Quiet x ≡ true → false ≡ true
 helps_busy_base layout clock k (Begin at) x h = h

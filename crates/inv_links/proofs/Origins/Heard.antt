@@ -4,7 +4,6 @@ use Rattle.std.proofs.Common.{ℕ, ◌≡◌, ◌<◌, ◌+◌, ◌^◌, Bool, t
 use Rattle.std.proofs.lemmas.Bool.Decides.{nat_tests}
 use Rattle.std.specs.Prelude.{◌==◌, ◌&&◌, not, nat_lt, Some}
 use Rattle.inv_covers.specs.words.Place.{Place, has, is_valid}
-use Rattle.inv_covers.specs.words.Place.Place.{Request}
 use Rattle.inv_covers.specs.words.Packed.{read_request}
 use Rattle.inv_covers.specs.words.declared.layout.Layout.{Layout}
 use Rattle.inv_covers.specs.words.declared.packed.Request.TheVariants as requests
@@ -154,12 +153,7 @@ answer_heard w i z why aim index root steps (LoadOwnLink first last end) link er
 answer_heard w i z why aim index root steps (CheckOwnClock first last end own) link era n q s r = absurd (cc)
 answer_heard w i z why aim index root steps (AnswerOwn first last own) link era n q s r = own_heard w i z why aim index root steps first last own link era n q r
 answer_heard w i z why aim index root steps (LoadAnswer first) link era n q s r = heard_link (z.deal i) (finds w i) link era (hears_at w i z why aim index root steps (LoadAnswer first) n q) r
-answer_heard w i z why aim index root steps (TakeAnswer own last) link era n q s r = absurd (cc)
-answer_heard w i z why aim index root steps (WithdrawRequest own last) link era n q s r = absurd (cc)
-answer_heard w i z why aim index root steps (WithdrawHelper own last) link era n q s r = absurd (cc)
-answer_heard w i z why aim index root steps LoadWithin link era n q s r = absurd (cc)
-answer_heard w i z why aim index root steps (CheckUpper own) link era n q s r = absurd (cc)
-answer_heard w i z why aim index root steps (RaiseUpper last) link era n q s r = absurd (cc)
+answer_heard w i z why aim index root steps at link era n q s r = absurd (cc)
 
 -- an open request is for the root that its seat protects
 pub record AsksFor (layout : Layout) (word : ℕ) (root : Root) : Type 0 where
@@ -181,12 +175,7 @@ asks_at layout aim index root steps (LoadOwnLink first era last) why t j w h f =
 asks_at layout aim index root steps (CheckOwnClock first era last link) why t j w h f = asks_here layout index root t j w h f
 asks_at layout aim index root steps (AnswerOwn first era link) why t j w h f = asks_here layout index root t j w h f
 asks_at layout aim index root steps (LoadAnswer first) why t j w h f = absurd (grind (arith, nat_tests))
-asks_at layout aim index root steps (TakeAnswer link era) why t j w h f = absurd (cc)
-asks_at layout aim index root steps (WithdrawRequest link era) why t j w h f = absurd (cc)
-asks_at layout aim index root steps (WithdrawHelper link era) why t j w h f = absurd (cc)
-asks_at layout aim index root steps LoadWithin why t j w h f = absurd (cc)
-asks_at layout aim index root steps (CheckUpper link) why t j w h f = absurd (cc)
-asks_at layout aim index root steps (RaiseUpper era) why t j w h f = absurd (cc)
+asks_at layout aim index root steps at why t j w h f = absurd (cc)
 
 asks_move : (layout : Layout) (at : MoveAt) (why : Why) (root : Root) (t j w : ℕ) → fits (role_of layout (Runs why (Move at))) (Open t j w) ≡ true → AsksFor layout w root
 asks_move layout (LoadEra helps) why root t j w f = absurd (cc)

@@ -22,21 +22,16 @@ use Rattle.inv_covers.specs.model.Calls.{Why, Phase, Idle, Runs, Scans, Works, C
 use Rattle.inv_covers.specs.model.Steps.{resumed, phase_turn}
 use Rattle.inv_covers.specs.model.World.{World, step, finds}
 use Rattle.inv_covers.specs.shapes.Frame.{phase_left}
-use Rattle.inv_requests.specs.Deals.{is_quiet, asked_by, fits}
+use Rattle.inv_requests.specs.Deals.{is_quiet, asked_by}
 use Rattle.inv_requests.specs.NextDeals.{protect_deals, move_deals, base_deals, phase_deals, next_deals}
-use Rattle.inv_requests.specs.Standing.{role_of, Requests}
-use Rattle.inv_requests.specs.Views.{View, Deal, Role}
+use Rattle.inv_requests.specs.Views.{View, Deal}
 use Rattle.inv_requests.specs.Views.Deal.{Quiet, Open, Answered, Passed, Taken}
 use Rattle.inv_requests.proofs.Kept.{at_of}
 use Rattle.inv_links.specs.Tracked.{opened_by, root_base, root_for, root_in}
 use Rattle.inv_links.specs.Origins.{OriginsNeeds}
 use Rattle.inv_links.proofs.Origins.Deals.{answered_is, passed_is, other_deal}
 use Rattle.inv_covers.proofs.Held.{stepped_phase}
-use Rattle.inv_requests.proofs.Known.{stands_as}
-
--- the deal of a seat fits its phase
-pub fit_of : (w : World) (z : View) (k : ℕ) (phase : Phase) → Requests w z → (w.seat k).phase ≡ phase → fits (role_of w.layout phase) (z.deal k) ≡ true
-fit_of w z k phase f q = subst (λ (r : Role). fits r (z.deal k) ≡ true) (stands_as w z k phase f q) (f.parts.fit k)
+pub use Rattle.inv_requests.proofs.Known.{fits_at as fit_of}
 
 quiet_asked : (t j u : ℕ) (d : Deal) → is_quiet d ≡ true → asked_by t j u d ≡ false
 quiet_asked t j u Quiet h = refl
@@ -99,10 +94,7 @@ open_protect w i z why aim index root steps (LoadAnswer first) k t j u n q known
 open_protect w i z why aim index root steps (TakeAnswer link era) k t j u n q known h =
     open_made z i k t j u (Taken (tag_of (w.seat i).post index) index (link_number (w.seat i).post.layout root) link era) (λ e o. not_open z k t j u o) h
 open_protect w i z why aim index root steps (WithdrawRequest link era) k t j u n q known h = open_made z i k t j u Quiet (λ e o. not_open z k t j u o) h
-open_protect w i z why aim index root steps (WithdrawHelper link era) k t j u n q known h = h
-open_protect w i z why aim index root steps LoadWithin k t j u n q known h = h
-open_protect w i z why aim index root steps (CheckUpper link) k t j u n q known h = h
-open_protect w i z why aim index root steps (RaiseUpper era) k t j u n q known h = h
+open_protect w i z why aim index root steps at k t j u n q known h = h
 
 open_move : (w : World) (i : ℕ) (z : View) (why : Why) (at : MoveAt) (k t j u : ℕ) → (w.seat i).phase ≡ Runs why (Move at) → opened_by t j u (move_deals w.mem i (w.seat i).post at z.deal k) ≡ true → opened_by t j u (z.deal k) ≡ true
 open_move w i z why (LoadEra helps) k t j u q h = h

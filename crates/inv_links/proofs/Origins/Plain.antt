@@ -137,14 +137,7 @@ abbrev pub protects_base : Base → Bool
 protects_base (Begin at) = false
 protects_base (Protect aim index root steps at) = true
 protects_base (Reload parent index slot era steps) = true
-protects_base (Clear index) = false
-protects_base Finish = false
-protects_base Release = false
-protects_base (Allocate at) = false
-protects_base (Write slot row place) = false
-protects_base (GiveUp slot) = false
-protects_base (Retire at) = false
-protects_base (Move at) = false
+protects_base base = false
 
 abbrev pub out_protects : Outcome → Bool
 out_protects (Goes base) = protects_base base
@@ -201,14 +194,7 @@ pub start_carries_base : (clock upto : ℕ) (base : Base) (x : ℕ) → starts_b
 start_carries_base clock upto (Begin at) x h = refl
 start_carries_base clock upto (Protect aim index root steps at) x h = start_carries_at clock upto at x h
 start_carries_base clock upto (Reload parent index slot era steps) x h = absurd (cc)
-start_carries_base clock upto (Clear index) x h = refl
-start_carries_base clock upto Finish x h = refl
-start_carries_base clock upto Release x h = refl
-start_carries_base clock upto (Allocate at) x h = refl
-start_carries_base clock upto (Write slot row place) x h = refl
-start_carries_base clock upto (GiveUp slot) x h = refl
-start_carries_base clock upto (Retire at) x h = refl
-start_carries_base clock upto (Move at) x h = refl
+start_carries_base clock upto base x h = refl
 
 pub start_carries : (clock upto : ℕ) (phase : Phase) (x : ℕ) → is_start phase ≡ true → carries_in clock upto phase x ≡ false
 start_carries clock upto Idle x h = refl
@@ -224,11 +210,7 @@ start_helps_at layout clock k why (ShowEra era seat tag index root) d x h = refl
 start_helps_at layout clock k why (LoadAsked era seat tag index root) d x h = refl
 start_helps_at layout clock k why (CheckEra era seat tag index root link) d x h = absurd (cc)
 start_helps_at layout clock k why (AnswerAsked era seat tag index root link) d x h = absurd (cc)
-start_helps_at layout clock k why (LoadReserved era seat tag index root link) d x h = refl
-start_helps_at layout clock k why (HandOver era seat tag index root link old) d x h = refl
-start_helps_at layout clock k why (HideEra era) d x h = refl
-start_helps_at layout clock k why (HideLate seen) d x h = refl
-start_helps_at layout clock k why (ExchangeClock era) d x h = refl
+start_helps_at layout clock k why at d x h = refl
 
 pub start_helps_base : (layout : Layout) (clock k : ℕ) (why : Why) (base : Base) (d : Deal) (x : ℕ) → is_start (Runs why base) ≡ true → helps_base layout clock k base d x ≡ false
 start_helps_base layout clock k why (Begin at) d x h = refl

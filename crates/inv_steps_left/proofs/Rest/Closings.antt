@@ -19,6 +19,8 @@ use Rattle.inv_contents.specs.words.declared.config.Config.{Config}
 use Rattle.inv_contents.specs.words.declared.config.SchemeKind.{SchemeKind}
 use Rattle.inv_contents.specs.words.declared.config.SchemeKind.TheVariants.{He, Ibr, Wfe}
 use Rattle.std.specs.Prelude.{List, ◌++◌, length, Option, Some, None}
+use Rattle.inv_contents.proofs.model.Schemes.{each_begin, each_clear, each_clear_told, each_finish}
+use Rattle.inv_contents.specs.model.Phases.{Base}
 
 -- what a turn leaves
 abbrev pub outcome_left : Config → ℕ → List Lifetime → CallOutcome → ℕ
@@ -49,9 +51,10 @@ span_left c rounds lives task post None = omega arith
 span_left c rounds lives task post (Some span) = let h = opening_left c rounds lives task post in omega (arith, h)
 
 began_left : (c : Config) (rounds : ℕ) (lives : List Lifetime) (task : Task) (post : Post) (scheme : SchemeKind) → phase_left c rounds lives (round_by task post (begin_base scheme post)) ≤ open_left c task + task_left c (length lives) task rounds
-began_left c rounds lives task post He = let h = opening_left c rounds lives task post in omega (arith, h)
-began_left c rounds lives task post Ibr = span_left c rounds lives task post post.span
-began_left c rounds lives task post Wfe = let h = opening_left c rounds lives task post in omega (arith, h)
+began_left c rounds lives task post scheme =
+    each_begin scheme post (λ (base : Option Base). phase_left c rounds lives (round_by task post base) ≤ open_left c task + task_left c (length lives) task rounds)
+    (let h = opening_left c rounds lives task post in omega (arith, h))
+    (span_left c rounds lives task post post.span)
 
 -- a round from its beginning
 pub round_begins : (c : Config) (rounds : ℕ) (lives : List Lifetime) (task : Task) (post : Post) → phase_left c rounds lives (round task post) ≤ open_left c task + task_left c (length lives) task rounds
@@ -84,9 +87,10 @@ span_finishes c rounds task next post desk told None = omega arith
 span_finishes c rounds task next post desk told (Some slot) = let h = closed_left c rounds task next post desk told in omega (arith, h)
 
 scheme_finishes : (c : Config) (rounds : ℕ) (task : Task) (next : Next) (post : Post) (desk : Desk) (told : List Event) (scheme : SchemeKind) → turn_left c rounds (finishing_by task next post desk told (finish_base scheme post)) ≤ closing_left c (length desk.list) (rounds_told rounds told) task next
-scheme_finishes c rounds task next post desk told He = let h = closed_left c rounds task next post desk told in omega (arith, h)
-scheme_finishes c rounds task next post desk told Ibr = span_finishes c rounds task next post desk told (stands post 2)
-scheme_finishes c rounds task next post desk told Wfe = let h = closed_left c rounds task next post desk told in omega (arith, h)
+scheme_finishes c rounds task next post desk told scheme =
+    each_finish scheme post (λ (base : Option Base). turn_left c rounds (finishing_by task next post desk told base) ≤ closing_left c (length desk.list) (rounds_told rounds told) task next)
+    (let h = closed_left c rounds task next post desk told in omega (arith, h))
+    (span_finishes c rounds task next post desk told (stands post 2))
 
 pub finishing_left : (c : Config) (rounds : ℕ) (task : Task) (next : Next) (post : Post) (desk : Desk) (told : List Event) → turn_left c rounds (finishing task next post desk told) ≤ closing_left c (length desk.list) (rounds_told rounds told) task next
 finishing_left c rounds task Again post desk told = let h = closed_left c rounds task Again post desk told in omega (arith, h)
@@ -100,9 +104,10 @@ cleared_rounds rounds index None = refl
 cleared_rounds rounds index (Some slot) = refl
 
 clears_rounds : (rounds index : ℕ) (scheme : SchemeKind) (post : Post) → rounds_told rounds (clear_told scheme post index) ≡ rounds
-clears_rounds rounds index He post = refl
-clears_rounds rounds index Ibr post = cleared_rounds rounds index (stands post index)
-clears_rounds rounds index Wfe post = refl
+clears_rounds rounds index scheme post =
+    each_clear_told scheme post index (λ (events : List Event). rounds_told rounds events ≡ rounds)
+    refl
+    (cleared_rounds rounds index (stands post index))
 
 pub rounds_join : (rounds : ℕ) (told more : List Event) → rounds_told rounds (told ++ more) ≡ rounds_told (rounds_told rounds told) more
 rounds_join rounds [] more = refl
@@ -117,9 +122,10 @@ cleared_finishes c rounds task next post left index desk told =
     subst (λ (r : ℕ). turn_left c rounds (finishing task next left desk (told ++ clear_told (scheme_of post) post index)) ≤ closing_left c (length desk.list) r task next) (cleared_told rounds index told post) h
 
 clearing_by_left : (c : Config) (rounds : ℕ) (task : Task) (next : Next) (post : Post) (desk : Desk) (told : List Event) (scheme : SchemeKind) → turn_left c rounds (clearing_by task next post desk told (clear_base scheme (index_of task))) ≤ 1 + closing_left c (length desk.list) (rounds_told rounds told) task next
-clearing_by_left c rounds task next post desk told He = omega arith
-clearing_by_left c rounds task next post desk told Ibr = let h = cleared_finishes c rounds task next post (clear_post (scheme_of post) post (index_of task)) (index_of task) desk told in omega (arith, h)
-clearing_by_left c rounds task next post desk told Wfe = omega arith
+clearing_by_left c rounds task next post desk told scheme =
+    each_clear scheme (index_of task) (λ (base : Option Base). turn_left c rounds (clearing_by task next post desk told base) ≤ 1 + closing_left c (length desk.list) (rounds_told rounds told) task next)
+    (omega arith)
+    (let h = cleared_finishes c rounds task next post (clear_post (scheme_of post) post (index_of task)) (index_of task) desk told in omega (arith, h))
 
 pub clearing_left : (c : Config) (rounds : ℕ) (task : Task) (next : Next) (post : Post) (desk : Desk) (told : List Event) → turn_left c rounds (clearing task next post desk told) ≤ 1 + closing_left c (length desk.list) (rounds_told rounds told) task next
 clearing_left c rounds task next post desk told = clearing_by_left c rounds task next post desk told (scheme_of post)
@@ -130,9 +136,10 @@ cleared_clears c rounds next post left desk told =
     subst (λ (r : ℕ). turn_left c rounds (clearing Dequeues next left desk (told ++ clear_told (scheme_of post) post 1)) ≤ 1 + closing_left c (length desk.list) r Dequeues next) (cleared_told rounds 1 told post) h
 
 clearing_next_by_left : (c : Config) (rounds : ℕ) (next : Next) (post : Post) (desk : Desk) (told : List Event) (scheme : SchemeKind) → turn_left c rounds (clearing_next_by next post desk told (clear_base scheme 1)) ≤ 2 + closing_left c (length desk.list) (rounds_told rounds told) Dequeues next
-clearing_next_by_left c rounds next post desk told He = omega arith
-clearing_next_by_left c rounds next post desk told Ibr = let h = cleared_clears c rounds next post (clear_post (scheme_of post) post 1) desk told in omega (arith, h)
-clearing_next_by_left c rounds next post desk told Wfe = omega arith
+clearing_next_by_left c rounds next post desk told scheme =
+    each_clear scheme 1 (λ (base : Option Base). turn_left c rounds (clearing_next_by next post desk told base) ≤ 2 + closing_left c (length desk.list) (rounds_told rounds told) Dequeues next)
+    (omega arith)
+    (let h = cleared_clears c rounds next post (clear_post (scheme_of post) post 1) desk told in omega (arith, h))
 
 pub clearing_next_left : (c : Config) (rounds : ℕ) (next : Next) (post : Post) (desk : Desk) (told : List Event) → turn_left c rounds (clearing_next next post desk told) ≤ 2 + closing_left c (length desk.list) (rounds_told rounds told) Dequeues next
 clearing_next_left c rounds next post desk told = clearing_next_by_left c rounds next post desk told (scheme_of post)

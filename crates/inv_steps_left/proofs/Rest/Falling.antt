@@ -4,8 +4,7 @@ use Rattle.std.proofs.lemmas.Bool.Decides.{nat_tests}
 use Rattle.inv_links.specs.shapes.Frame.{phase_left as stands_at, Passed}
 use Rattle.inv_contents.specs.words.Place.{is_valid}
 use Rattle.inv_contents.specs.words.Place.Place.{Clock}
-use Rattle.inv_contents.specs.model.Memory.{found, place_in}
-use Rattle.inv_contents.specs.model.Calls.{Phase, Why}
+use Rattle.inv_contents.specs.model.Calls.{Why}
 use Rattle.inv_contents.specs.model.Calls.Phase.{Runs}
 use Rattle.inv_contents.specs.model.Desks.{Desk}
 use Rattle.inv_contents.specs.model.Machine.{after}
@@ -16,7 +15,7 @@ use Rattle.inv_contents.specs.model.Phases.ProtectAt.{AnswerOwn, CheckClock, Che
 use Rattle.inv_contents.specs.model.Phases.Tries.{Endless, Failed}
 use Rattle.inv_contents.specs.model.Posts.{counted}
 use Rattle.inv_contents.specs.model.Rest.{span_seen}
-use Rattle.inv_contents.specs.model.Steps.{phase_move, resumed, run_turn}
+use Rattle.inv_contents.specs.model.Steps.{resumed, run_turn}
 use Rattle.inv_contents.specs.model.World.{World, finds, step}
 use Rattle.inv_contents.specs.model.declared.post.Post.{Post}
 use Rattle.inv_contents.specs.defs.declared.event.Event.{Event}
@@ -25,7 +24,10 @@ use Rattle.inv_contents.specs.defs.declared.lifetime.Interval.{Interval}
 use Rattle.inv_links.proofs.shapes.Inside.{shape_moves}
 use Rattle.inv_links.proofs.shapes.Works.{resume_left}
 use Rattle.inv_links.specs.shapes.Eras.{SpanIn, base_eras, protect_eras}
-use Rattle.inv_contents.specs.words.Schemes.{is_ibr, is_wfe}
+use Rattle.inv_contents.specs.words.Schemes.{has_one_interval, counts_tries}
+use Rattle.inv_links.proofs.shapes.words.Schemes.{eras_not_interval, helps_not_interval}
+pub use Rattle.inv_links.proofs.shapes.words.Schemes.{helps_not_interval as wfe_plain}
+use Rattle.inv_links.proofs.shapes.Tries.{tries_eras, try_eras}
 use Rattle.inv_links.specs.shapes.Seats.{PhaseFits, PostFits, Run, protect_fits, tries_fit, try_fits}
 use Rattle.inv_links.specs.requests.Paces.{MovesOn}
 use Rattle.inv_steps_left.proofs.Rest.Amounts.{PhaseKnown}
@@ -35,55 +37,42 @@ use Rattle.inv_steps_left.proofs.Rest.Seen.{seen_grows}
 use Rattle.inv_steps_left.specs.Losses.{why_fit}
 use Rattle.inv_contents.specs.words.declared.config.Config.{Config}
 use Rattle.inv_contents.specs.words.declared.config.SchemeKind.{SchemeKind}
-use Rattle.inv_contents.specs.words.declared.config.SchemeKind.TheVariants.{He, Ibr, Wfe}
 use Rattle.inv_contents.specs.words.declared.layout.Layout.{Layout}
 use Rattle.std.specs.Prelude.{List, Option, Some, None, is_some, nat_lt}
 use Rattle.inv_links.proofs.covers.Held.{finds_at}
+use Rattle.inv_contents.proofs.model.Facts.{rest_of}
 
 -- the scheme of tries
 
-pub tries_plain : (scheme : SchemeKind) (most : ℕ) (tries : Tries) → tries_fit scheme most tries ≡ true → is_ibr scheme ≡ false
-tries_plain He most tries h = refl
-tries_plain Ibr most Endless h = absurd (cc)
-tries_plain Ibr most (Failed count) h = absurd (cc)
-tries_plain Wfe most tries h = refl
+pub tries_plain : (scheme : SchemeKind) (most : ℕ) (tries : Tries) → tries_fit scheme most tries ≡ true → has_one_interval scheme ≡ false
+tries_plain scheme most tries h = eras_not_interval scheme (tries_eras scheme most tries h)
 
-try_plain : (scheme : SchemeKind) (most : ℕ) (tries : Tries) → try_fits scheme most tries ≡ true → is_ibr scheme ≡ false
-try_plain He most tries h = refl
-try_plain Ibr most Endless h = absurd (cc)
-try_plain Ibr most (Failed count) h = absurd (cc)
-try_plain Wfe most tries h = refl
-
-pub wfe_plain : (scheme : SchemeKind) → is_wfe scheme ≡ true → is_ibr scheme ≡ false
-wfe_plain He h = absurd (cc)
-wfe_plain Ibr h = absurd (cc)
-wfe_plain Wfe h = refl
+try_plain : (scheme : SchemeKind) (most : ℕ) (tries : Tries) → try_fits scheme most tries ≡ true → has_one_interval scheme ≡ false
+try_plain scheme most tries h = eras_not_interval scheme (try_eras scheme most tries h)
 
 below : (count most : ℕ) → nat_lt count most ≡ true → count < most
 below count most h = grind (arith, nat_tests)
 
 try_left : (c : Config) (scheme : SchemeKind) (tries : Tries) → try_fits scheme c.tries tries ≡ true → TryLeft c tries
 try_left c scheme Endless h = tt
-try_left c He (Failed count) h = absurd (cc)
-try_left c Ibr (Failed count) h = absurd (cc)
-try_left c Wfe (Failed count) h = below count c.tries h
+try_left c scheme (Failed count) h = below count c.tries (rest_of (counts_tries scheme) (nat_lt count c.tries) h)
 
 -- under 2GE an interval stands, else none does
-fit_span : (scheme : SchemeKind) (most : ℕ) (at : ProtectAt) (span : Option Interval) → protect_fits scheme most at ≡ true → (is_ibr scheme ≡ false → span ≡ None) → (is_ibr scheme ≡ true → is_some span ≡ true) → at_span at span
+fit_span : (scheme : SchemeKind) (most : ℕ) (at : ProtectAt) (span : Option Interval) → protect_fits scheme most at ≡ true → (has_one_interval scheme ≡ false → span ≡ None) → (has_one_interval scheme ≡ true → is_some span ≡ true) → at_span at span
 fit_span scheme most (LoadClock tries) span f n s = n (tries_plain scheme most tries f)
 fit_span scheme most (PublishEra era tries) span f n s = n (tries_plain scheme most tries f)
 fit_span scheme most (LoadLink era tries) span f n s = n (try_plain scheme most tries f)
 fit_span scheme most (CheckClock era tries link) span f n s = n (try_plain scheme most tries f)
-fit_span scheme most PublishRequest span f n s = n (wfe_plain scheme f)
-fit_span scheme most LoadOwnClock span f n s = n (wfe_plain scheme f)
-fit_span scheme most (PublishHelper first era last) span f n s = n (wfe_plain scheme f)
-fit_span scheme most (LoadOwnLink first era last) span f n s = n (wfe_plain scheme f)
-fit_span scheme most (CheckOwnClock first era last link) span f n s = n (wfe_plain scheme f)
-fit_span scheme most (AnswerOwn first era link) span f n s = n (wfe_plain scheme f)
-fit_span scheme most (LoadAnswer first) span f n s = n (wfe_plain scheme f)
-fit_span scheme most (TakeAnswer link era) span f n s = n (wfe_plain scheme f)
-fit_span scheme most (WithdrawRequest link era) span f n s = n (wfe_plain scheme f)
-fit_span scheme most (WithdrawHelper link era) span f n s = n (wfe_plain scheme f)
+fit_span scheme most PublishRequest span f n s = n (helps_not_interval scheme f)
+fit_span scheme most LoadOwnClock span f n s = n (helps_not_interval scheme f)
+fit_span scheme most (PublishHelper first era last) span f n s = n (helps_not_interval scheme f)
+fit_span scheme most (LoadOwnLink first era last) span f n s = n (helps_not_interval scheme f)
+fit_span scheme most (CheckOwnClock first era last link) span f n s = n (helps_not_interval scheme f)
+fit_span scheme most (AnswerOwn first era link) span f n s = n (helps_not_interval scheme f)
+fit_span scheme most (LoadAnswer first) span f n s = n (helps_not_interval scheme f)
+fit_span scheme most (TakeAnswer link era) span f n s = n (helps_not_interval scheme f)
+fit_span scheme most (WithdrawRequest link era) span f n s = n (helps_not_interval scheme f)
+fit_span scheme most (WithdrawHelper link era) span f n s = n (helps_not_interval scheme f)
 fit_span scheme most LoadWithin span f n s = s f
 fit_span scheme most (CheckUpper link) span f n s = s f
 fit_span scheme most (RaiseUpper era) span f n s = s f
@@ -112,19 +101,7 @@ fit_try c (LoadClock tries) f = tt
 fit_try c (PublishEra era tries) f = tt
 fit_try c (LoadLink era tries) f = tt
 fit_try c (CheckClock era tries link) f = try_left c c.scheme tries f
-fit_try c PublishRequest f = tt
-fit_try c LoadOwnClock f = tt
-fit_try c (PublishHelper first era last) f = tt
-fit_try c (LoadOwnLink first era last) f = tt
-fit_try c (CheckOwnClock first era last link) f = tt
-fit_try c (AnswerOwn first era link) f = tt
-fit_try c (LoadAnswer first) f = tt
-fit_try c (TakeAnswer link era) f = tt
-fit_try c (WithdrawRequest link era) f = tt
-fit_try c (WithdrawHelper link era) f = tt
-fit_try c LoadWithin f = tt
-fit_try c (CheckUpper link) f = tt
-fit_try c (RaiseUpper era) f = tt
+fit_try c at f = tt
 
 pub fit_clock : (w : World) (i : ℕ) (why : Why) (aim : Aim) (index : ℕ) (root : Root) (n : ℕ) (at : ProtectAt) → (w.seat i).phase ≡ Runs why (Protect aim index root n at) → at_clock at (finds w i) (w.mem Clock)
 fit_clock w i why aim index root n (LoadClock tries) e = finds_at w i (Runs why (Protect aim index root n (LoadClock tries))) e
@@ -156,14 +133,14 @@ pub record Seat (w : World) (i : ℕ) (why : Why) (base : Base) : Type 0 where
   pub run : Run w.layout why base (counted (w.seat i).post)
   pub eras : base_eras w.layout (w.mem Clock) (w.seat i).post base
   pub span : SpanIn (w.mem Clock) (w.seat i).post.span
-  pub none : is_ibr w.layout.config.scheme ≡ false → (w.seat i).post.span ≡ None
+  pub none : has_one_interval w.layout.config.scheme ≡ false → (w.seat i).post.span ≡ None
   pub lost : why_fit w.layout.config (w.seat i).rounds base why
   pub rises : w.mem Clock ≤ (step w i).mem Clock
   pub most : (step w i).mem Clock ≤ w.layout.config.last_era
   pub moves : MovesOn w i
 
-seat_span : (w : World) (i : ℕ) (why : Why) (base : Base) (aim : Aim) (index : ℕ) (root : Root) (n : ℕ) (at : ProtectAt) → Run w.layout why (Protect aim index root n at) (counted (w.seat i).post) → PostFits w.layout i (counted (w.seat i).post) → is_ibr w.layout.config.scheme ≡ true → is_some (w.seat i).post.span ≡ true
-seat_span w i why base aim index root n at r f h = r.posted (ap (λ (l : Layout). is_ibr l.config.scheme) f.layout ∙ h)
+seat_span : (w : World) (i : ℕ) (why : Why) (base : Base) (aim : Aim) (index : ℕ) (root : Root) (n : ℕ) (at : ProtectAt) → Run w.layout why (Protect aim index root n at) (counted (w.seat i).post) → PostFits w.layout i (counted (w.seat i).post) → has_one_interval w.layout.config.scheme ≡ true → is_some (w.seat i).post.span ≡ true
+seat_span w i why base aim index root n at r f h = r.posted (ap (λ (l : Layout). has_one_interval l.config.scheme) f.layout ∙ h)
 
 pub seat_protects : (w : World) (i : ℕ) (why : Why) (aim : Aim) (index : ℕ) (root : Root) (n : ℕ) (at : ProtectAt) → Seat w i why (Protect aim index root n at) → Protects w.layout.config (w.mem Clock) ((step w i).mem Clock) at (counted (w.seat i).post) (finds w i)
 seat_protects w i why aim index root n at s = record {

@@ -18,7 +18,7 @@ use Rattle.inv_contents.specs.model.Calls.Task.{Changes, Dequeues, Enqueues, Get
 use Rattle.inv_contents.specs.model.Desks.{Desk, with_life}
 use Rattle.inv_contents.specs.model.Guards.{guard_at, guards, published}
 use Rattle.inv_contents.specs.model.Locals.{rounds_told}
-use Rattle.inv_contents.specs.model.Phases.{Ending}
+use Rattle.inv_contents.specs.model.Phases.{Ending, Base}
 use Rattle.inv_contents.specs.model.Phases.Ending.{Allocated, Clocked, Done, Followed, Protected, Retired}
 use Rattle.inv_contents.specs.model.Posts.{stands}
 use Rattle.inv_contents.specs.model.Rest.{has_walked, rounds_most}
@@ -35,8 +35,8 @@ use Rattle.inv_steps_left.proofs.Rest.Closings.{cleared_told, opened_untold, spa
 use Rattle.inv_steps_left.specs.Losses.{InRound, fills_fit, finish_fit, is_queue, later_fit, lost_fit, next_fit, opens_fit, phase_fit}
 use Rattle.inv_contents.specs.words.declared.config.Config.{Config}
 use Rattle.inv_contents.specs.words.declared.config.SchemeKind.{SchemeKind}
-use Rattle.inv_contents.specs.words.declared.config.SchemeKind.TheVariants.{He, Ibr, Wfe}
 use Rattle.std.specs.Prelude.{List, ◌++◌, Option, Some, None, nat_lt, ◌==◌, ◌%◌}
+use Rattle.inv_contents.proofs.model.Schemes.{each_begin, each_clear, each_finish}
 
 abbrev pub outcome_fit : Config → ℕ → CallOutcome → Type 0
 outcome_fit c rounds (GoesOn phase) = phase_fit c rounds phase
@@ -61,9 +61,10 @@ span_round c rounds task post None o = o
 span_round c rounds task post (Some span) o = opening_fit c rounds task post o
 
 scheme_round : (c : Config) (rounds : ℕ) (task : Task) (post : Post) (scheme : SchemeKind) → opens_fit c rounds task false → phase_fit c rounds (round_by task post (begin_base scheme post))
-scheme_round c rounds task post He o = opening_fit c rounds task post o
-scheme_round c rounds task post Ibr o = span_round c rounds task post post.span o
-scheme_round c rounds task post Wfe o = opening_fit c rounds task post o
+scheme_round c rounds task post scheme o =
+    each_begin scheme post (λ (base : Option Base). phase_fit c rounds (round_by task post base))
+    (opening_fit c rounds task post o)
+    (span_round c rounds task post post.span o)
 
 pub round_fit : (c : Config) (rounds : ℕ) (task : Task) (post : Post) → opens_fit c rounds task false → phase_fit c rounds (round task post)
 round_fit c rounds task post o = scheme_round c rounds task post (scheme_of post) o
@@ -90,9 +91,10 @@ span_finish c rounds task next post desk told None e n = finish_of c (rounds_tol
 span_finish c rounds task next post desk told (Some slot) e n = closed_fit c rounds task next post desk told n
 
 scheme_finish : (c : Config) (rounds : ℕ) (task : Task) (next : Next) (post : Post) (desk : Desk) (told : List Event) (scheme : SchemeKind) → spare next ≡ 1 → next_fit c (rounds_told rounds told) task next → TurnFit c rounds (finishing_by task next post desk told (finish_base scheme post))
-scheme_finish c rounds task next post desk told He e n = closed_fit c rounds task next post desk told n
-scheme_finish c rounds task next post desk told Ibr e n = span_finish c rounds task next post desk told (stands post 2) e n
-scheme_finish c rounds task next post desk told Wfe e n = closed_fit c rounds task next post desk told n
+scheme_finish c rounds task next post desk told scheme e n =
+    each_finish scheme post (λ (base : Option Base). TurnFit c rounds (finishing_by task next post desk told base))
+    (closed_fit c rounds task next post desk told n)
+    (span_finish c rounds task next post desk told (stands post 2) e n)
 
 pub finishing_fit : (c : Config) (rounds : ℕ) (task : Task) (next : Next) (post : Post) (desk : Desk) (told : List Event) → next_fit c (rounds_told rounds told) task next → TurnFit c rounds (finishing task next post desk told)
 finishing_fit c rounds task Again post desk told n = closed_fit c rounds task Again post desk told n
@@ -105,9 +107,10 @@ cleared_finish c rounds task next post left index desk told n =
     finishing_fit c rounds task next left desk (told ++ clear_told (scheme_of post) post index) (subst (λ (r : ℕ). next_fit c r task next) (sym (cleared_told rounds index told post)) n)
 
 clearing_by_fit : (c : Config) (rounds : ℕ) (task : Task) (next : Next) (post : Post) (desk : Desk) (told : List Event) (scheme : SchemeKind) → next_fit c (rounds_told rounds told) task next → TurnFit c rounds (clearing_by task next post desk told (clear_base scheme (index_of task)))
-clearing_by_fit c rounds task next post desk told He n = n
-clearing_by_fit c rounds task next post desk told Ibr n = cleared_finish c rounds task next post (clear_post (scheme_of post) post (index_of task)) (index_of task) desk told n
-clearing_by_fit c rounds task next post desk told Wfe n = n
+clearing_by_fit c rounds task next post desk told scheme n =
+    each_clear scheme (index_of task) (λ (base : Option Base). TurnFit c rounds (clearing_by task next post desk told base))
+    n
+    (cleared_finish c rounds task next post (clear_post (scheme_of post) post (index_of task)) (index_of task) desk told n)
 
 pub clearing_fit : (c : Config) (rounds : ℕ) (task : Task) (next : Next) (post : Post) (desk : Desk) (told : List Event) → next_fit c (rounds_told rounds told) task next → TurnFit c rounds (clearing task next post desk told)
 clearing_fit c rounds task next post desk told n = clearing_by_fit c rounds task next post desk told (scheme_of post) n
@@ -117,9 +120,10 @@ cleared_clear c rounds next post left desk told n =
     clearing_fit c rounds Dequeues next left desk (told ++ clear_told (scheme_of post) post 1) (subst (λ (r : ℕ). next_fit c r Dequeues next) (sym (cleared_told rounds 1 told post)) n)
 
 clearing_next_by_fit : (c : Config) (rounds : ℕ) (next : Next) (post : Post) (desk : Desk) (told : List Event) (scheme : SchemeKind) → next_fit c (rounds_told rounds told) Dequeues next → TurnFit c rounds (clearing_next_by next post desk told (clear_base scheme 1))
-clearing_next_by_fit c rounds next post desk told He n = n
-clearing_next_by_fit c rounds next post desk told Ibr n = cleared_clear c rounds next post (clear_post (scheme_of post) post 1) desk told n
-clearing_next_by_fit c rounds next post desk told Wfe n = n
+clearing_next_by_fit c rounds next post desk told scheme n =
+    each_clear scheme 1 (λ (base : Option Base). TurnFit c rounds (clearing_next_by next post desk told base))
+    n
+    (cleared_clear c rounds next post (clear_post (scheme_of post) post 1) desk told n)
 
 pub clearing_next_fit : (c : Config) (rounds : ℕ) (next : Next) (post : Post) (desk : Desk) (told : List Event) → next_fit c (rounds_told rounds told) Dequeues next → TurnFit c rounds (clearing_next next post desk told)
 clearing_next_fit c rounds next post desk told n = clearing_next_by_fit c rounds next post desk told (scheme_of post) n

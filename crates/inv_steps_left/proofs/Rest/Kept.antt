@@ -1,5 +1,5 @@
 -- The steps that a call has left fall at its own steps, and rise at no other.
-use Rattle.std.proofs.Common.{ℕ, ◌∙◌, ◌≡◌, ◌≤◌, ◌+◌, true, [], arith, refl, sym, ap, subst}
+use Rattle.std.proofs.Common.{ℕ, ◌∙◌, ◌≡◌, ◌≤◌, ◌+◌, true, [], arith, refl, sym, subst}
 use Rattle.inv_links.specs.shapes.Frame.{phase_left as stands_at, Left, SpanStands}
 use Rattle.inv_contents.specs.model.Steps as steps
 use Rattle.inv_contents.specs.model.Scan as scan
@@ -101,9 +101,7 @@ lowers_at w i v n (Works work) e p b =
 -- a seat between calls stays so
 idle_stays : (w : World) (i : ℕ) (phase : Phase) → (w.seat i).phase ≡ phase → busy_in (stands_at (steps.phase_turn phase (counted (w.seat i).post) (w.seat i).desk (finds w i)).outcome) ≡ true → busy_in phase ≡ true
 idle_stays w i Idle e b = b
-idle_stays w i (Runs why base) e b = refl
-idle_stays w i (Scans later at) e b = refl
-idle_stays w i (Works work) e b = refl
+idle_stays w i phase e b = refl
 
 pub rest_falls : RestFalls
 rest_falls w i v n b =

@@ -44,7 +44,7 @@ use Rattle.inv_links.proofs.shapes.Frame.{begin_begins, begin_stays, seat_stays,
 use Rattle.inv_links.proofs.shapes.Inside.{shape_moves}
 use Rattle.inv_links.proofs.shapes.Kept.{counted_fits, run_counted, one_moves}
 use Rattle.inv_links.specs.shapes.Frame.{Passed, SpanStands}
-use Rattle.inv_contents.specs.words.Schemes.{is_ibr}
+use Rattle.inv_contents.specs.words.Schemes.{has_one_interval}
 use Rattle.inv_links.specs.shapes.Seats.{PhaseFits, PostFits, Run, Seats, base_fits, protect_fits}
 use Rattle.inv_steps_left.proofs.Rest.Closings.{rounds_join}
 use Rattle.inv_steps_left.proofs.Rest.Fits.{TurnFit, round_fit, scan_fit}
@@ -61,7 +61,7 @@ use Rattle.inv_contents.specs.words.declared.config.Config.{Config}
 use Rattle.inv_contents.specs.words.declared.config.SchemeKind.{SchemeKind}
 use Rattle.inv_contents.specs.words.declared.layout.Layout.{Layout}
 use Rattle.std.specs.Prelude.{List, Option, Some, None, ◌==◌}
-use Rattle.inv_contents.proofs.model.Facts.{if_by}
+use Rattle.inv_contents.proofs.model.Facts.{if_by, no_truth}
 
 -- a step but of 2GE keeps the seat's interval
 
@@ -72,10 +72,7 @@ concluded_span Follows index root n link era post told = if_by (link == 0) (ends
 protected_span : (aim : Aim) (index : ℕ) (root : Root) (n link era : ℕ) (post : Post) → (protected aim index root n link era post).post.span ≡ post.span
 protected_span aim index root n link era post = concluded_span aim index root n link era (held_post post index root link) (told_held index root link n) ∙ held_span post index root link
 
-plain_not : (scheme : SchemeKind) → is_ibr scheme ≡ true → is_ibr scheme ≡ false → false ≡ true
-plain_not scheme a b = absurd (cc)
-
-protect_span : (scheme : SchemeKind) (most : ℕ) (aim : Aim) (index : ℕ) (root : Root) (n : ℕ) (at : ProtectAt) (post : Post) (found : ℕ) → is_ibr scheme ≡ false → protect_fits scheme most at ≡ true → (protect_turn aim index root n at post found).post.span ≡ post.span
+protect_span : (scheme : SchemeKind) (most : ℕ) (aim : Aim) (index : ℕ) (root : Root) (n : ℕ) (at : ProtectAt) (post : Post) (found : ℕ) → has_one_interval scheme ≡ false → protect_fits scheme most at ≡ true → (protect_turn aim index root n at post found).post.span ≡ post.span
 protect_span scheme most aim index root n (LoadClock tries) post found b f = refl
 protect_span scheme most aim index root n (PublishEra era tries) post found b f = refl
 protect_span scheme most aim index root n (LoadLink era tries) post found b f = refl
@@ -94,21 +91,21 @@ protect_span scheme most aim index root n (TakeAnswer link era) post found b f =
 protect_span scheme most aim index root n (WithdrawRequest link era) post found b f = refl
 protect_span scheme most aim index root n (WithdrawHelper link era) post found b f = concluded_span aim index root n link era post (reserves_helper post 0)
 protect_span scheme most aim index root n LoadWithin post found b f = refl
-protect_span scheme most aim index root n (CheckUpper link) post found b f = absurd (let x = plain_not scheme f b in cc)
-protect_span scheme most aim index root n (RaiseUpper era) post found b f = absurd (let x = plain_not scheme f b in cc)
+protect_span scheme most aim index root n (CheckUpper link) post found b f = absurd (no_truth (sym b ∙ f))
+protect_span scheme most aim index root n (RaiseUpper era) post found b f = absurd (no_truth (sym b ∙ f))
 
 walking_span : (birth : ℕ) (post : Post) (walk : Option Walk) → (walking birth post walk).post.span ≡ post.span
 walking_span birth post None = refl
 walking_span birth post (Some walk) = refl
 
-base_span : (c : Config) (base : Base) (post : Post) (found : ℕ) → is_ibr c.scheme ≡ false → base_fits c base ≡ true → (machine.after base post found).post.span ≡ post.span
-base_span c (Begin at) post found b f = absurd (let x = plain_not c.scheme f b in cc)
+base_span : (c : Config) (base : Base) (post : Post) (found : ℕ) → has_one_interval c.scheme ≡ false → base_fits c base ≡ true → (machine.after base post found).post.span ≡ post.span
+base_span c (Begin at) post found b f = absurd (no_truth (sym b ∙ f))
 base_span c (Protect aim index root steps at) post found b f = protect_span c.scheme c.tries aim index root (bump steps) at post found b f
 base_span c (Reload parent index slot era steps) post found b f =
     if_by (found == parent + 1) (ends (with_row post index slot) (events.Held index slot (bump steps) ∷ []) (Followed (follow_ends.Followed slot))) (ends post [] (Followed (follow_ends.RootMoved found))) (λ (t : Turn). t.post.span ≡ post.span) (λ e. refl) (λ e. refl)
 base_span c (Clear index) post found b f = refl
-base_span c Finish post found b f = absurd (let x = plain_not c.scheme f b in cc)
-base_span c Release post found b f = absurd (let x = plain_not c.scheme f b in cc)
+base_span c Finish post found b f = absurd (no_truth (sym b ∙ f))
+base_span c Release post found b f = absurd (no_truth (sym b ∙ f))
 base_span c (Allocate LoadBirth) post found b f = refl
 base_span c (Allocate (ClaimSlot birth walk)) post found b f =
     if_by (is_claimed found walk.slot) (walking birth post (walk_past post.layout.config.slots walk found)) (goes (record post { cursor = next_slot post.layout.config.slots walk.slot }) (events.Give walk.slot birth ∷ []) (Allocate (StoreLife birth walk.slot)))
@@ -125,7 +122,7 @@ resumed_span : (layout : Layout) (k : ℕ) → is_valid layout ≡ true → (why
 resumed_span layout k v why desk post told (Goes base) q p = refl
 resumed_span layout k v why desk post told (Ends ending) q p = (resume_left (seen_grows layout k post.span v) why ending post desk told p (record { fits = q; same = refl })).post.same
 
-turn_span : (w : World) (i : ℕ) → is_valid w.layout ≡ true → Seats w → is_ibr w.layout.config.scheme ≡ false → (phase : Phase) → (w.seat i).phase ≡ phase → (steps.phase_turn phase (counted (w.seat i).post) (w.seat i).desk (finds w i)).post.span ≡ (w.seat i).post.span
+turn_span : (w : World) (i : ℕ) → is_valid w.layout ≡ true → Seats w → has_one_interval w.layout.config.scheme ≡ false → (phase : Phase) → (w.seat i).phase ≡ phase → (steps.phase_turn phase (counted (w.seat i).post) (w.seat i).desk (finds w i)).post.span ≡ (w.seat i).post.span
 turn_span w i v s b Idle e = refl
 turn_span w i v s b (Runs why base) e =
     let f = s.fits i in
@@ -178,7 +175,7 @@ own_few w i v n l =
     let f = settled_fit w.layout.config (w.seat i) t.post t.desk t.told t.outcome (turn_fits w i v n l (w.seat i).phase refl) in
     subst (λ (s : Local). phase_fit w.layout.config s.rounds s.phase) (sym (seat_steps w i)) f
 
-own_span : (w : World) (i : ℕ) → is_valid w.layout ≡ true → Seats w → Losses w → is_ibr w.layout.config.scheme ≡ false → ((step w i).seat i).post.span ≡ None
+own_span : (w : World) (i : ℕ) → is_valid w.layout ≡ true → Seats w → Losses w → has_one_interval w.layout.config.scheme ≡ false → ((step w i).seat i).post.span ≡ None
 own_span w i v s l b =
     let t : CallTurn = turn (w.seat i) (finds w i) in
     ap (λ (s : Local). s.post.span) (seat_steps w i) ∙ settled_span (w.seat i) t.post t.desk t.told t.outcome ∙ turn_span w i v s b (w.seat i).phase refl ∙ l.spans i b

@@ -17,7 +17,6 @@ use Rattle.inv_contents.specs.model.Phases.Outcome.{Ends, Goes}
 use Rattle.inv_contents.specs.model.Phases.RetireAt.{LoadLife, LoadRetire, StoreRetired}
 use Rattle.inv_contents.specs.model.Posts.{with_row}
 use Rattle.inv_contents.specs.model.Rest.{eras_left, move_left, span_seen}
-use Rattle.inv_contents.specs.model.Rounds.{helps}
 use Rattle.inv_contents.specs.model.SlowPath.{asking}
 use Rattle.inv_contents.specs.model.WriteRow.{last_written}
 use Rattle.inv_contents.specs.model.declared.post.Post.{Post}

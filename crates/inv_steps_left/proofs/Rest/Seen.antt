@@ -13,6 +13,8 @@ use Rattle.inv_contents.specs.words.declared.config.SchemeKind.{SchemeKind}
 use Rattle.inv_contents.specs.words.declared.config.SchemeKind.TheVariants.{He, Ibr, Wfe}
 use Rattle.inv_contents.specs.words.declared.layout.Layout.{Layout}
 use Rattle.std.specs.Prelude.{Option}
+use Rattle.inv_contents.proofs.model.Schemes.{each_release}
+use Rattle.inv_contents.specs.model.Phases.{Base}
 
 -- a post of the seat with this interval
 pub record PostIs (layout : Layout) (k : ℕ) (span : Option Interval) (post : Post) : Type 0 where
@@ -29,9 +31,7 @@ protect_same Ibr seen = refl
 protect_same Wfe seen = refl
 
 release_same : (scheme : SchemeKind) (seen : ℕ) → base_seen (release_base scheme) seen ≡ seen
-release_same He seen = refl
-release_same Ibr seen = refl
-release_same Wfe seen = refl
+release_same scheme seen = each_release scheme (λ (base : Base). base_seen base seen ≡ seen) refl refl
 
 pub seen_grows : (layout : Layout) (k : ℕ) (span : Option Interval) → is_valid layout ≡ true → Grows (PostIs layout k span) ShowsSame
 seen_grows layout k span v =

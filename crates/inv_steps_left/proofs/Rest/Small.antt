@@ -30,7 +30,7 @@ use Rattle.inv_contents.specs.model.Phases.RetireAt.{LoadLife, LoadRetire, Store
 use Rattle.inv_contents.specs.model.Phases.RowOf.{MapRow, QueueRow}
 use Rattle.inv_contents.specs.model.Phases.Tries.{Endless, Failed}
 use Rattle.inv_contents.specs.model.Rest.{aim_left, allocate_left, base_left, base_seen, begin_left, change_left, closing_left, dequeue_left, enqueue_left, fill_left, filling_left, get_left, has_walked, is_told, later_left, lost_by, move_left, phase_left, phase_seen, protect_left, protect_seen, rest, rest_of, retire_left, room_most, round_left, round_worth, rounds_left, rounds_most, scan_left, span_seen, task_left, tries_left, walks_after, walks_by, why_left, work_left}
-use Rattle.inv_contents.specs.model.Rounds.{helps, taken_of}
+use Rattle.inv_contents.specs.model.Rounds.{taken_of}
 use Rattle.inv_contents.specs.model.World.{step}
 use Rattle.inv_contents.specs.model.WriteRow.{last_written}
 use Rattle.inv_contents.specs.model.declared.post.Post.{Post}
@@ -325,15 +325,7 @@ base_later : (base : Base) (old new : ℕ) → old ≤ new → base_seen base ol
 base_later (Begin LoadLower) old new h = h
 base_later (Begin (PublishSpan era)) old new h = omega arith
 base_later (Protect aim index root steps at) old new h = protect_later at old new h
-base_later (Reload parent index slot era steps) old new h = h
-base_later (Clear index) old new h = h
-base_later Finish old new h = h
-base_later Release old new h = h
-base_later (Allocate at) old new h = h
-base_later (Write slot row place) old new h = h
-base_later (GiveUp slot) old new h = h
-base_later (Retire at) old new h = h
-base_later (Move at) old new h = h
+base_later base old new h = h
 
 phase_later : (phase : Phase) (old new : ℕ) → old ≤ new → phase_seen phase old ≤ phase_seen phase new
 phase_later Idle old new h = h

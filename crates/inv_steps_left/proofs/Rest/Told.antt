@@ -8,11 +8,10 @@ use Rattle.inv_contents.specs.defs.declared.call.ClockMove.TheVariants as moves
 use Rattle.inv_contents.specs.model.declared.ends.FollowEnd.TheVariants as follow_ends
 use Rattle.inv_contents.specs.words.declared.packed.Request.TheVariants as requests
 use Rattle.inv_contents.specs.model.Allocate.{is_claimed, next_slot, walk_past, walking}
-use Rattle.inv_contents.specs.model.Links.{parent_of}
 use Rattle.inv_contents.specs.model.Locals.{rounds_told}
 use Rattle.inv_contents.specs.model.MoveClock.{after_hand_over, moving, next_request}
 use Rattle.inv_contents.specs.model.Phases.{Aim, Base, MoveAt, Outcome, ProtectAt, Tries, Turn, Walk, ends, goes}
-use Rattle.inv_contents.specs.model.Phases.Aim.{Alone, Follows}
+use Rattle.inv_contents.specs.model.Phases.Aim.{Alone}
 use Rattle.inv_contents.specs.model.Phases.AllocateAt.{ClaimSlot, LoadBirth, StoreLife}
 use Rattle.inv_contents.specs.model.Phases.Base.{Allocate, Begin, Clear, Finish, GiveUp, Move, Protect, Release, Reload, Retire, Write}
 use Rattle.inv_contents.specs.model.Phases.BeginAt.{LoadLower, PublishSpan}
@@ -23,9 +22,8 @@ use Rattle.inv_contents.specs.model.Phases.ProtectAt.{AnswerOwn, CheckClock, Che
 use Rattle.inv_contents.specs.model.Phases.RetireAt.{LoadLife, LoadRetire, StoreRetired}
 use Rattle.inv_contents.specs.model.Phases.Tries.{Endless, Failed}
 use Rattle.inv_contents.specs.model.Posts.{cleared, reserves_helper, reserves_index, reserves_span, stands, upper, with_row}
-use Rattle.inv_contents.specs.model.Protect.{concluded, failed_once, held_post, protected, told_held, trying}
+use Rattle.inv_contents.specs.model.Protect.{failed_once, held_post, protected, told_held, trying}
 use Rattle.inv_contents.specs.model.Rest.{is_told, lost_by}
-use Rattle.inv_contents.specs.model.Rounds.{helps}
 use Rattle.inv_contents.specs.model.SlowPath.{answer_in, asking, lost_turn, own_request}
 use Rattle.inv_contents.specs.model.WriteRow.{last_written}
 use Rattle.inv_contents.specs.model.declared.post.Post.{Post}
@@ -38,6 +36,7 @@ use Rattle.inv_contents.specs.words.declared.packed.Request.{Request}
 use Rattle.std.specs.Prelude.{List, ◌++◌, Option, Some, None, nat_le, not, if◌then◌else◌, ◌==◌}
 use Rattle.inv_links.proofs.requests.Standings.{is_root}
 use Rattle.inv_contents.proofs.model.Facts.{false_of_not, if_by}
+use Rattle.inv_links.proofs.shapes.Frame.{concluded_told}
 
 some_told : (rounds index link n : ℕ) → (index == 0) ≡ true → rounds_told rounds (if link == 0 then events.Null index n ∷ [] else events.Held index (link - 1) n ∷ []) ≡ rounds + 1
 some_told rounds index link n z = if_by (link == 0) (events.Null index n ∷ []) (events.Held index (link - 1) n ∷ []) (λ (told : List Event). rounds_told rounds told ≡ rounds + 1) (λ e. rw z refl) (λ e. rw z refl)
@@ -61,11 +60,6 @@ other_told rounds index (roots.Bucket bucket) link n h = none_told rounds index 
 other_told rounds index roots.Head link n h = none_told rounds index link n h
 other_told rounds index roots.Tail link n h = none_told rounds index link n h
 other_told rounds index (roots.Next parent) link n h = next_told rounds index link n h
-
-concluded_told : (aim : Aim) (index : ℕ) (root : Root) (n link era : ℕ) (post : Post) (told : List Event) → (concluded aim index root n link era post told).told ≡ told
-concluded_told Alone index root n link era post told = refl
-concluded_told Follows index root n link era post told =
-    if_by (link == 0) (ends post told (Followed follow_ends.NoNext)) (goes post told (Reload (parent_of root) index (link - 1) era n)) (λ (t : Turn). t.told ≡ told) (λ e. refl) (λ e. refl)
 
 -- a protection at another index than 0 tells no round
 pub protect_steady : (rounds : ℕ) (aim : Aim) (index : ℕ) (root : Root) (n : ℕ) (at : ProtectAt) (post : Post) (found : ℕ) → (index == 0) ≡ false → rounds_told rounds (protect_turn aim index root n at post found).told ≡ rounds
@@ -154,14 +148,7 @@ abbrev pub is_still : Base → Bool
 is_still (Begin at) = true
 is_still (Protect aim index root steps at) = false
 is_still (Reload parent index slot era steps) = not (index == 0)
-is_still (Clear index) = true
-is_still Finish = true
-is_still Release = true
-is_still (Allocate at) = true
-is_still (Write slot row place) = true
-is_still (GiveUp slot) = true
-is_still (Retire at) = true
-is_still (Move at) = true
+is_still base = true
 
 walking_still : (rounds birth : ℕ) (post : Post) (walk : Option Walk) → rounds_told rounds (walking birth post walk).told ≡ rounds
 walking_still rounds birth post None = refl

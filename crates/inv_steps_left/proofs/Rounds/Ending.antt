@@ -23,7 +23,7 @@ use Rattle.inv_contents.specs.model.Locals.{Local, busy_in, rounds_told, turn, b
 use Rattle.inv_contents.specs.model.Phases.{Aim, Base, MoveAt, ProtectAt, Outcome}
 use Rattle.inv_contents.specs.model.Phases.MoveAt.{AnswerAsked, CheckEra, ExchangeClock, HandOver, HideEra, HideLate, LoadAsked, LoadEra, LoadRequest, LoadReserved, ShowEra}
 use Rattle.inv_contents.specs.model.Posts.{counted, stands, upper}
-use Rattle.inv_contents.specs.model.Rounds.{helps, key_of}
+use Rattle.inv_contents.specs.model.Rounds.{key_of}
 use Rattle.inv_contents.specs.model.World.{World, finds, is_busy, step, begin, start}
 use Rattle.inv_contents.specs.model.declared.post.Post.{Post}
 use Rattle.inv_contents.specs.defs.declared.call.Call.{Call}

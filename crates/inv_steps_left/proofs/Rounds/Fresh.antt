@@ -1,5 +1,5 @@
 -- What a step loads is good, so each step keeps all; and what follows for the rounds that a call may lose.
-use Rattle.std.proofs.Common.{ℕ, ◌∙◌, ◌≡◌, ◌<◌, ◌+◌, Bool, true, false, arith, refl, sym, ap, subst}
+use Rattle.std.proofs.Common.{ℕ, ◌∙◌, ◌≡◌, ◌<◌, ◌+◌, true, false, arith, refl, sym, ap, subst}
 use Rattle.std.proofs.lemmas.Bool.Decides.{nat_tests}
 use Rattle.inv_contents.specs.words.Place.{Place}
 use Rattle.inv_contents.specs.words.Place.Place.{Bucket, Head, Tail}
@@ -18,10 +18,10 @@ use Rattle.inv_contents.specs.model.Calls.Why.{Advances, Clears, ClearsNext, Fil
 use Rattle.inv_contents.specs.model.Desks.{Desk}
 use Rattle.inv_contents.specs.model.Links.{link_place}
 use Rattle.inv_contents.specs.model.Phases.{Aim, Base, MoveAt, ProtectAt}
-use Rattle.inv_contents.specs.model.Phases.MoveAt.{AnswerAsked, CheckEra, ExchangeClock, HandOver, HideEra, HideLate, LoadAsked, LoadEra, LoadRequest, LoadReserved, ShowEra}
+use Rattle.inv_contents.specs.model.Phases.MoveAt.{LoadAsked, LoadEra, LoadRequest, ShowEra}
 use Rattle.inv_contents.specs.model.Phases.ProtectAt.{AnswerOwn, CheckClock, CheckOwnClock, CheckUpper, LoadAnswer, LoadClock, LoadLink, LoadOwnClock, LoadOwnLink, LoadWithin, PublishEra, PublishHelper, PublishRequest, RaiseUpper, TakeAnswer, WithdrawHelper, WithdrawRequest}
 use Rattle.inv_contents.specs.model.Rest.{is_told, lost_by}
-use Rattle.inv_contents.specs.model.Rounds.{helps, key_of}
+use Rattle.inv_contents.specs.model.Rounds.{key_of}
 use Rattle.inv_contents.specs.model.World.{World, step}
 use Rattle.inv_contents.specs.model.declared.post.Post.{Post}
 use Rattle.inv_contents.proofs.model.Facts.{same_number, or_left_true, both}
@@ -114,13 +114,7 @@ move_loads mem (LoadEra helps) post place h = absurd (cc)
 move_loads mem (LoadRequest era seat shows) post place h = absurd (cc)
 move_loads mem (ShowEra era seat tag index root) post place h = absurd (cc)
 move_loads mem (LoadAsked era seat tag index root) post place h = refl
-move_loads mem (CheckEra era seat tag index root link) post place h = absurd (cc)
-move_loads mem (AnswerAsked era seat tag index root link) post place h = absurd (cc)
-move_loads mem (LoadReserved era seat tag index root link) post place h = absurd (cc)
-move_loads mem (HandOver era seat tag index root link old) post place h = absurd (cc)
-move_loads mem (HideEra era) post place h = absurd (cc)
-move_loads mem (HideLate seen) post place h = absurd (cc)
-move_loads mem (ExchangeClock era) post place h = absurd (cc)
+move_loads mem at post place h = absurd (cc)
 
 loads_stay : (mem : Place → ℕ) (phase : Phase) (post : Post) (place : Place) → loads_link phase ≡ true → written mem (steps.phase_move phase post) place ≡ mem place
 loads_stay mem Idle post place h = refl
@@ -165,15 +159,7 @@ goes_loaded why aim index root n (RaiseUpper era) post desk found h = absurd (cc
 shape_own : (w : World) (k : ℕ) (base : Base) (kept : ChangeKept) (b : ℕ) → Run w.layout (Opens (Changes kept)) base (w.seat k).post → root_base base ≡ roots.Bucket b → b ≡ key_of kept.change % w.layout.config.buckets
 shape_own w k (Begin at) kept b r e = absurd (cc)
 shape_own w k (Protect aim index root n at) kept b r e = let h : roots.Bucket (key_of kept.change % w.layout.config.buckets) ≡ roots.Bucket b = sym r.shape.of ∙ e in cc
-shape_own w k (Reload parent index slot era n) kept b r e = absurd (cc)
-shape_own w k (Clear index) kept b r e = absurd (cc)
-shape_own w k Finish kept b r e = absurd (cc)
-shape_own w k Release kept b r e = absurd (cc)
-shape_own w k (Allocate at) kept b r e = absurd (cc)
-shape_own w k (Write slot row place) kept b r e = absurd (cc)
-shape_own w k (GiveUp slot) kept b r e = absurd (cc)
-shape_own w k (Retire at) kept b r e = absurd (cc)
-shape_own w k (Move at) kept b r e = absurd (cc)
+shape_own w k base kept b r e = absurd (cc)
 
 pub seat_own : (w : World) (k : ℕ) (kept : ChangeKept) (base : Base) (b : ℕ) → Seats w → (w.seat k).phase ≡ Runs (Opens (Changes kept)) base → root_in w k ≡ roots.Bucket b → b ≡ key_of kept.change % w.layout.config.buckets
 seat_own w k kept base b s e r =

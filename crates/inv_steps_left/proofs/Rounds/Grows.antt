@@ -192,16 +192,7 @@ task_stays t u task lost (roots.Next parent) x g l h = refl
 
 why_stays : (t u : Tally) (rounds : ℕ) (base : Base) (why : Why) (root : Root) (x : ℕ) → Grows t u → why_paced t rounds base why → why_good t rounds base why root x ≡ true → why_good u rounds base why root x ≡ true
 why_stays t u rounds base (Opens task) root x g l h = task_stays t u task (lost_by rounds (is_told base)) root x g l h
-why_stays t u rounds base (FollowsHead head tail) root x g l h = refl
-why_stays t u rounds base (Fills task) root x g l h = refl
-why_stays t u rounds base (ClearsNext next) root x g l h = refl
-why_stays t u rounds base (Clears task next) root x g l h = refl
-why_stays t u rounds base (Finishes task next) root x g l h = refl
-why_stays t u rounds base (GivesUp answer) root x g l h = refl
-why_stays t u rounds base (Retires answer) root x g l h = refl
-why_stays t u rounds base (Tidies later) root x g l h = refl
-why_stays t u rounds base Advances root x g l h = refl
-why_stays t u rounds base (Releases key) root x g l h = refl
+why_stays t u rounds base why root x g l h = refl
 
 pub phase_stays : (t u : Tally) (rounds : ℕ) (phase : Phase) (root : Root) (x : ℕ) → Grows t u → phase_paced t rounds phase → phase_good t rounds phase root x ≡ true → phase_good u rounds phase root x ≡ true
 phase_stays t u rounds Idle root x g l h = refl

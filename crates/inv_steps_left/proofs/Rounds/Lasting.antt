@@ -50,7 +50,6 @@ use Rattle.inv_steps_left.specs.Tallies.{Tally, later_paced, phase_good, phase_p
 use Rattle.inv_contents.specs.rows.Chain.{line_after}
 use Rattle.inv_contents.specs.rows.Queue.{Line}
 use Rattle.inv_contents.specs.words.declared.config.SchemeKind.{SchemeKind}
-use Rattle.inv_contents.specs.words.declared.config.SchemeKind.TheVariants.{He, Ibr, Wfe}
 use Rattle.std.specs.Prelude.{List, ◌++◌, Option, Some, None, ◌==◌}
 use Rattle.inv_contents.specs.model.Phases.Aim.{Alone, Follows}
 use Rattle.inv_contents.specs.model.Rest.{is_told, lost_by}
@@ -59,6 +58,7 @@ use Rattle.inv_steps_left.proofs.Rest.Falling.{fit_clock}
 use Rattle.inv_steps_left.proofs.Rest.Seats.{follows_alone, own_root}
 use Rattle.inv_steps_left.proofs.Rounds.Protects.{is_protecting, none_tracked}
 use Rattle.inv_steps_left.proofs.Rest.Loses.{is_hold}
+use Rattle.inv_contents.proofs.model.Schemes.{each_clear, each_finish}
 
 -- the seat that steps
 
@@ -166,14 +166,16 @@ span_none task answer post desk told None = refl
 span_none task answer post desk told (Some slot) = given_none answer post desk told (taken_of task)
 
 scheme_none : (task : Task) (answer : Answer) (post : Post) (desk : Desk) (told : List Event) (scheme : SchemeKind) → opens_none (stands_at (finishing_by task (Answering answer) post desk told (finish_base scheme post)).outcome) ≡ true
-scheme_none task answer post desk told He = given_none answer post desk told (taken_of task)
-scheme_none task answer post desk told Ibr = span_none task answer post desk told (stands post 2)
-scheme_none task answer post desk told Wfe = given_none answer post desk told (taken_of task)
+scheme_none task answer post desk told scheme =
+    each_finish scheme post (λ (base : Option Base). opens_none (stands_at (finishing_by task (Answering answer) post desk told base).outcome) ≡ true)
+    (given_none answer post desk told (taken_of task))
+    (span_none task answer post desk told (stands post 2))
 
 clear_none : (task : Task) (answer : Answer) (post : Post) (desk : Desk) (told : List Event) (scheme : SchemeKind) → opens_none (stands_at (clearing_by task (Answering answer) post desk told (clear_base scheme (index_of task))).outcome) ≡ true
-clear_none task answer post desk told He = refl
-clear_none task answer post desk told Ibr = scheme_none task answer (clear_post (scheme_of post) post (index_of task)) desk (told ++ clear_told (scheme_of post) post (index_of task)) (scheme_of (clear_post (scheme_of post) post (index_of task)))
-clear_none task answer post desk told Wfe = refl
+clear_none task answer post desk told scheme =
+    each_clear scheme (index_of task) (λ (base : Option Base). opens_none (stands_at (clearing_by task (Answering answer) post desk told base).outcome) ≡ true)
+    refl
+    (scheme_none task answer (clear_post (scheme_of post) post (index_of task)) desk (told ++ clear_told (scheme_of post) post (index_of task)) (scheme_of (clear_post (scheme_of post) post (index_of task))))
 
 answering_none : (task : Task) (answer : Answer) (post : Post) (desk : Desk) (told : List Event) → opens_none (stands_at (clearing task (Answering answer) post desk told).outcome) ≡ true
 answering_none task answer post desk told = clear_none task answer post desk told (scheme_of post)

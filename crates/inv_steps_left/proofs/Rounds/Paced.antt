@@ -26,7 +26,7 @@ use Rattle.inv_contents.specs.model.Calls.Work.{Changing, Dequeuing, Enqueuing, 
 use Rattle.inv_contents.specs.model.Desks.{Desk, with_life}
 use Rattle.inv_contents.specs.model.Guards.{guard_at, guards, published}
 use Rattle.inv_contents.specs.model.Locals.{rounds_told}
-use Rattle.inv_contents.specs.model.Phases.{Ending}
+use Rattle.inv_contents.specs.model.Phases.{Ending, Base}
 use Rattle.inv_contents.specs.model.Phases.Ending.{Allocated, Clocked, Done, Followed, Protected, Retired}
 use Rattle.inv_contents.specs.model.Posts.{stands}
 use Rattle.inv_contents.specs.model.Rounds.{begin_base, begin_span, bucket_of, clear_base, clear_post, clear_told, clearing, clearing_by, clearing_next, clearing_next_by, closed, finish_base, finish_span, finishing, finishing_by, given_up, index_of, key_of, opening, root_of, round, round_by, scheme_of, taken_of}
@@ -43,9 +43,9 @@ use Rattle.inv_steps_left.proofs.Rest.Works.{link_told}
 use Rattle.inv_steps_left.specs.Losses.{is_queue}
 use Rattle.inv_steps_left.specs.Tallies.{Since, Tally, changes_so_far, dequeue_paced, enqueue_paced, fills_paced, head_since, lag_since, later_paced, next_paced, next_since, once, passes_so_far, phase_paced, root_since, tail_since, task_paced, work_paced}
 use Rattle.inv_contents.specs.words.declared.config.SchemeKind.{SchemeKind}
-use Rattle.inv_contents.specs.words.declared.config.SchemeKind.TheVariants.{He, Ibr, Wfe}
 use Rattle.std.specs.Prelude.{List, ◌++◌, length, Option, Some, None, nat_lt, nat_le, ◌==◌, ◌||◌, ◌%◌}
 use Rattle.inv_contents.proofs.model.Facts.{or_left_true, one_before, if_by}
+use Rattle.inv_contents.proofs.model.Schemes.{each_begin, each_clear, each_finish}
 
 abbrev pub outcome_paced : Tally → ℕ → CallOutcome → Type 0
 outcome_paced u rounds (GoesOn phase) = phase_paced u rounds phase
@@ -63,9 +63,10 @@ span_round u rounds task post None o = o
 span_round u rounds task post (Some span) o = opening_paced u rounds task post o
 
 scheme_round : (u : Tally) (rounds : ℕ) (task : Task) (post : Post) (scheme : SchemeKind) → task_paced u task rounds → phase_paced u rounds (round_by task post (begin_base scheme post))
-scheme_round u rounds task post He o = opening_paced u rounds task post o
-scheme_round u rounds task post Ibr o = span_round u rounds task post post.span o
-scheme_round u rounds task post Wfe o = opening_paced u rounds task post o
+scheme_round u rounds task post scheme o =
+    each_begin scheme post (λ (base : Option Base). phase_paced u rounds (round_by task post base))
+    (opening_paced u rounds task post o)
+    (span_round u rounds task post post.span o)
 
 pub round_paced : (u : Tally) (rounds : ℕ) (task : Task) (post : Post) → task_paced u task rounds → phase_paced u rounds (round task post)
 round_paced u rounds task post o = scheme_round u rounds task post (scheme_of post) o
@@ -85,9 +86,10 @@ span_finish u rounds task next post desk told None n = n
 span_finish u rounds task next post desk told (Some slot) n = closed_paced u rounds task next post desk told n
 
 scheme_finish : (u : Tally) (rounds : ℕ) (task : Task) (next : Next) (post : Post) (desk : Desk) (told : List Event) (scheme : SchemeKind) → next_paced u task next (rounds_told rounds told) → TurnPaced u rounds (finishing_by task next post desk told (finish_base scheme post))
-scheme_finish u rounds task next post desk told He n = closed_paced u rounds task next post desk told n
-scheme_finish u rounds task next post desk told Ibr n = span_finish u rounds task next post desk told (stands post 2) n
-scheme_finish u rounds task next post desk told Wfe n = closed_paced u rounds task next post desk told n
+scheme_finish u rounds task next post desk told scheme n =
+    each_finish scheme post (λ (base : Option Base). TurnPaced u rounds (finishing_by task next post desk told base))
+    (closed_paced u rounds task next post desk told n)
+    (span_finish u rounds task next post desk told (stands post 2) n)
 
 pub finishing_paced : (u : Tally) (rounds : ℕ) (task : Task) (next : Next) (post : Post) (desk : Desk) (told : List Event) → next_paced u task next (rounds_told rounds told) → TurnPaced u rounds (finishing task next post desk told)
 finishing_paced u rounds task Again post desk told n = closed_paced u rounds task Again post desk told n
@@ -100,9 +102,10 @@ cleared_finish u rounds task next post left index desk told n =
     finishing_paced u rounds task next left desk (told ++ clear_told (scheme_of post) post index) (subst (λ (r : ℕ). next_paced u task next r) (sym (cleared_told rounds index told post)) n)
 
 clearing_by_paced : (u : Tally) (rounds : ℕ) (task : Task) (next : Next) (post : Post) (desk : Desk) (told : List Event) (scheme : SchemeKind) → next_paced u task next (rounds_told rounds told) → TurnPaced u rounds (clearing_by task next post desk told (clear_base scheme (index_of task)))
-clearing_by_paced u rounds task next post desk told He n = n
-clearing_by_paced u rounds task next post desk told Ibr n = cleared_finish u rounds task next post (clear_post (scheme_of post) post (index_of task)) (index_of task) desk told n
-clearing_by_paced u rounds task next post desk told Wfe n = n
+clearing_by_paced u rounds task next post desk told scheme n =
+    each_clear scheme (index_of task) (λ (base : Option Base). TurnPaced u rounds (clearing_by task next post desk told base))
+    n
+    (cleared_finish u rounds task next post (clear_post (scheme_of post) post (index_of task)) (index_of task) desk told n)
 
 pub clearing_paced : (u : Tally) (rounds : ℕ) (task : Task) (next : Next) (post : Post) (desk : Desk) (told : List Event) → next_paced u task next (rounds_told rounds told) → TurnPaced u rounds (clearing task next post desk told)
 clearing_paced u rounds task next post desk told n = clearing_by_paced u rounds task next post desk told (scheme_of post) n
@@ -112,9 +115,10 @@ cleared_clear u rounds next post left desk told n =
     clearing_paced u rounds Dequeues next left desk (told ++ clear_told (scheme_of post) post 1) (subst (λ (r : ℕ). next_paced u Dequeues next r) (sym (cleared_told rounds 1 told post)) n)
 
 clearing_next_by_paced : (u : Tally) (rounds : ℕ) (next : Next) (post : Post) (desk : Desk) (told : List Event) (scheme : SchemeKind) → next_paced u Dequeues next (rounds_told rounds told) → TurnPaced u rounds (clearing_next_by next post desk told (clear_base scheme 1))
-clearing_next_by_paced u rounds next post desk told He n = n
-clearing_next_by_paced u rounds next post desk told Ibr n = cleared_clear u rounds next post (clear_post (scheme_of post) post 1) desk told n
-clearing_next_by_paced u rounds next post desk told Wfe n = n
+clearing_next_by_paced u rounds next post desk told scheme n =
+    each_clear scheme 1 (λ (base : Option Base). TurnPaced u rounds (clearing_next_by next post desk told base))
+    n
+    (cleared_clear u rounds next post (clear_post (scheme_of post) post 1) desk told n)
 
 pub clearing_next_paced : (u : Tally) (rounds : ℕ) (next : Next) (post : Post) (desk : Desk) (told : List Event) → next_paced u Dequeues next (rounds_told rounds told) → TurnPaced u rounds (clearing_next next post desk told)
 clearing_next_paced u rounds next post desk told n = clearing_next_by_paced u rounds next post desk told (scheme_of post) n

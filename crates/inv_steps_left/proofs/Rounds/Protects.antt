@@ -13,7 +13,6 @@ use Rattle.inv_contents.specs.model.Links.{link_number}
 use Rattle.inv_contents.specs.model.Phases.{MoveAt}
 use Rattle.inv_contents.specs.model.Phases.MoveAt.{AnswerAsked, CheckEra, ExchangeClock, HandOver, HideEra, HideLate, LoadAsked, LoadEra, LoadRequest, LoadReserved, ShowEra}
 use Rattle.inv_contents.specs.model.Posts.{upper}
-use Rattle.inv_contents.specs.model.Rounds.{helps}
 use Rattle.inv_contents.specs.model.World.{World}
 use Rattle.inv_links.specs.Tracked.{Tracked, carries_in, has_link, helps_at, helps_in, opened_by}
 use Rattle.inv_links.specs.Tracked.Tracked.{Carried, Given, Helped}
@@ -25,9 +24,7 @@ abbrev pub is_protecting : Phase → Bool
 is_protecting Idle = false
 is_protecting (Runs why (Protect aim index root n at)) = true
 is_protecting (Runs why (Reload parent index slot era n)) = true
-is_protecting (Runs why base) = false
-is_protecting (Scans later at) = false
-is_protecting (Works work) = false
+is_protecting phase = false
 
 abbrev asks_role : Role → Bool
 asks_role Away = false

@@ -34,7 +34,6 @@ use Rattle.inv_contents.specs.model.Phases.MoveAt.{AnswerAsked, CheckEra, Exchan
 use Rattle.inv_contents.specs.model.Phases.ProtectAt.{AnswerOwn, CheckClock, CheckOwnClock, CheckUpper, LoadAnswer, LoadClock, LoadLink, LoadOwnClock, LoadOwnLink, LoadWithin, PublishEra, PublishHelper, PublishRequest, RaiseUpper, TakeAnswer, WithdrawHelper, WithdrawRequest}
 use Rattle.inv_contents.specs.model.Phases.RetireAt.{LoadLife, LoadRetire, StoreRetired}
 use Rattle.inv_contents.specs.model.Posts.{counted}
-use Rattle.inv_contents.specs.model.Rounds.{helps}
 use Rattle.inv_contents.specs.model.WriteRow.{row_word}
 use Rattle.inv_contents.specs.model.declared.post.Post.{Post}
 use Rattle.inv_contents.specs.defs.declared.event.Event.{Event}
@@ -96,9 +95,7 @@ move_calm (ExchangeClock era) post = refl
 abbrev pub write_right : Phase → Type 0
 write_right Idle = Unit {0}
 write_right (Runs why (Write slot row place)) = (place == 0) ≡ true → row_word row place ≡ 0
-write_right (Runs why base) = Unit {0}
-write_right (Scans later at) = Unit {0}
-write_right (Works work) = Unit {0}
+write_right phase = Unit {0}
 
 run_grows : (c : ℕ) (mem : Place → ℕ) (book : Book) (told : List Event) (l : Line) (why : Why) (base : Base) (post : Post) → write_right (Runs why base) → Grows (tally_of c mem book l) (tally_of c (written mem (machine.base_move base post)) (booked_all book told) l)
 run_grows c mem book told l why (Begin LoadLower) post h = calm_grows c mem (machine.base_move (Begin LoadLower) post) book told l l refl (λ s. refl)
