@@ -1,7 +1,7 @@
 pub use Rattle.inv_steps_left.proofs.contents as contents
 pub use Rattle.inv_ends.proofs.covers as covers
 pub use Rattle.inv_ends.proofs as ends
-pub use Rattle.inv_handover.proofs as handover
+pub use Rattle.inv_ends.proofs.handover as handover
 pub use Rattle.inv_steps_left.proofs.links as links
 pub use Rattle.inv_ends.proofs.requests as requests
 pub use Rattle.inv_steps_left.proofs.rows as rows

@@ -17,7 +17,7 @@ use Rattle.inv_steps_left.specs.rows.Tries.{Whole}
 use Rattle.inv_ends.specs.covers.Covers.{Scanning}
 use Rattle.inv_ends.specs.covers.Held.{Held}
 use Rattle.inv_ends.specs.covers.Rests.{Rests}
-use Rattle.inv_handover.specs.Helped.{Helped}
+use Rattle.inv_ends.specs.handover.Helped.{Helped}
 use Rattle.inv_steps_left.specs.links.Links.{Links}
 use Rattle.inv_steps_left.specs.contents.Contents.{Contents}
 use Rattle.inv_steps_left.specs.contents.Stands.{Stands}

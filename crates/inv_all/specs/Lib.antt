@@ -1,7 +1,7 @@
 pub use Rattle.inv_steps_left.specs.contents as contents
 pub use Rattle.inv_ends.specs.covers as covers
 pub use Rattle.inv_ends.specs as ends
-pub use Rattle.inv_handover.specs as handover
+pub use Rattle.inv_ends.specs.handover as handover
 pub use Rattle.inv_steps_left.specs.links as links
 pub use Rattle.inv_ends.specs.requests as requests
 pub use Rattle.inv_steps_left.specs.rows as rows

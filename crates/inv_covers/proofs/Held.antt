@@ -184,9 +184,6 @@ whole_widens w i j f h = subst (λ (g : Guard). Widens (shown w g) (shown (step 
 pub turned_post : (w : World) (i : ℕ) (phase : Phase) → (w.seat i).phase ≡ phase → ((step w i).seat i).post ≡ (phase_turn phase (counted (w.seat i).post) (w.seat i).desk (finds w i)).post
 turned_post w i phase e = stepped_post w i ∙ ap (λ (p : Phase). (phase_turn p (counted (w.seat i).post) (w.seat i).desk (finds w i)).post) e
 
-pub turned_phase : (w : World) (i : ℕ) (phase : Phase) → (w.seat i).phase ≡ phase → ((step w i).seat i).phase ≡ phase_left (phase_turn phase (counted (w.seat i).post) (w.seat i).desk (finds w i)).outcome
-turned_phase w i phase e = stepped_phase w i ∙ ap (λ (p : Phase). phase_left (phase_turn p (counted (w.seat i).post) (w.seat i).desk (finds w i)).outcome) e
-
 span_raised : (w : World) (i : ℕ) (v : View) (why : Why) (aim : Aim) (index : ℕ) (root : Root) (steps era : ℕ) → (w.seat i).phase ≡ Runs why (Protect aim index root steps (RaiseUpper era)) → has_one_interval w.layout.config.scheme ≡ true → HeldNeeds w i v → upper (w.seat i).post.span ≤ era → Widens (shown w (Whole i)) (shown (step w i) (Whole i))
 span_raised w i v why aim index root steps era e f n u =
     let old : shown w (Whole i) ≡ (w.seat i).post.span = n.spans f in

@@ -47,13 +47,6 @@ spare_bare (Holds key) j h = refl
 spare_bare (Enqueues kept) j h = h
 spare_bare Dequeues j h = h
 
-within_beside : (task : Task) (j : ℕ) → within j ≡ true → beside task j ≡ true
-within_beside (Gets key) j h = h
-within_beside (Changes kept) j h = h
-within_beside (Holds key) j h = grind (arith, nat_tests)
-within_beside (Enqueues kept) j h = h
-within_beside Dequeues j h = h
-
 opening_at : (task : Task) (post : Post) (index : ℕ) (root : Root) (scheme : SchemeKind) → Vacant (bare task) post → Vacant (vacant (Phase.Runs (Opens task) (protect_base scheme index root))) post
 opening_at task post index root He h = h
 opening_at task post index root Ibr h = h
@@ -119,9 +112,6 @@ bare_beside task j n h = grind (arith, nat_tests)
 
 cleared_vacant : (task : Task) (next : Next) (post : Post) (desk : Desk) (told : List Event) → Vacant (beside task) post → Turned (finishing task next (withdrawn post (index_of task)) desk told)
 cleared_vacant task next post desk told h = finishing_vacant task next (withdrawn post (index_of task)) desk told (withdrawn_vacant (beside task) (bare task) post (index_of task) (λ j n k. bare_beside task j n k) h)
-
-same_turn : (one two : CallTurn) → one ≡ two → Turned one → Turned two
-same_turn one two e h = subst Turned e h
 
 clearing_by_vacant : (task : Task) (next : Next) (post : Post) (desk : Desk) (told : List Event) (interval : Bool) → has_one_interval (scheme_of post) ≡ interval → Vacant (beside task) post → Turned (clearing_by task next post desk told (if interval then None else Some (Clear (index_of task))))
 clearing_by_vacant task next post desk told false e h = h

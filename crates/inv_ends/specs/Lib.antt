@@ -1,6 +1,7 @@
-pub use Rattle.inv_covers.specs as covers
-pub use Rattle.inv_requests.specs as requests
-pub use Rattle.inv_covers.specs.shapes as shapes
+pub use Rattle.inv_handover.specs as handover
+pub use Rattle.inv_handover.specs.covers as covers
+pub use Rattle.inv_handover.specs.covers.shapes as shapes
+pub use Rattle.inv_handover.specs.requests as requests
 pub mod Births
 pub mod Moves
 pub mod Nulls

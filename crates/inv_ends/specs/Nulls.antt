@@ -1,18 +1,18 @@
 -- A protection that ends with nothing found a null link: the link that its last try or its answer has.
 use Rattle.std.specs.Prelude.{Bool, false, ℕ, ◌==◌, ◌&&◌, ◌≡◌, true}
-use Rattle.inv_covers.specs.model.Phases.ProtectAt.{CheckClock, CheckUpper, TakeAnswer, WithdrawHelper}
-use Rattle.inv_covers.specs.model.declared.post.Post.{Post}
-use Rattle.inv_covers.specs.model.Phases.{ProtectAt, Base, Ends}
-use Rattle.inv_covers.specs.model.Posts.{upper}
-use Rattle.inv_covers.specs.model.Phases.Base.{Protect}
-use Rattle.inv_covers.specs.model.Calls.{Phase, Runs}
-use Rattle.inv_covers.specs.model.World.{World, finds, told_in}
+use Rattle.inv_handover.specs.covers.model.Phases.ProtectAt.{CheckClock, CheckUpper, TakeAnswer, WithdrawHelper}
+use Rattle.inv_handover.specs.covers.model.declared.post.Post.{Post}
+use Rattle.inv_handover.specs.covers.model.Phases.{ProtectAt, Base, Ends}
+use Rattle.inv_handover.specs.covers.model.Posts.{upper}
+use Rattle.inv_handover.specs.covers.model.Phases.Base.{Protect}
+use Rattle.inv_handover.specs.covers.model.Calls.{Phase, Runs}
+use Rattle.inv_handover.specs.covers.model.World.{World, finds, told_in}
 use Rattle.std.specs.List.{list_any}
-use Rattle.inv_covers.specs.defs.Events.{is_null}
-use Rattle.inv_covers.specs.model.Phases.Ending.{Followed, Protected}
-use Rattle.inv_covers.specs.model.Machine.{after}
-use Rattle.inv_covers.specs.model.declared.ends.FollowEnd.TheVariants as follow_ends
-use Rattle.inv_covers.specs.model.declared.ends.ProtectEnd.TheVariants as protect_ends
+use Rattle.inv_handover.specs.covers.defs.Events.{is_null}
+use Rattle.inv_handover.specs.covers.model.Phases.Ending.{Followed, Protected}
+use Rattle.inv_handover.specs.covers.model.Machine.{after}
+use Rattle.inv_handover.specs.covers.model.declared.ends.FollowEnd.TheVariants as follow_ends
+use Rattle.inv_handover.specs.covers.model.declared.ends.ProtectEnd.TheVariants as protect_ends
 
 -- the link of a try whose era is the clock, or of the answer, is null
 abbrev pub null_at : Post → ProtectAt → ℕ → Bool

@@ -1,3 +1,5 @@
+pub use Rattle.inv_covers.proofs as covers
+pub use Rattle.inv_requests.proofs as requests
 pub mod Asks
 pub mod Back
 pub mod Begun

@@ -82,10 +82,6 @@ tried_stays w i v z k why base s phase f n d e o q y = by (index_stays w i k (in
 pub own_stores : (i : ℕ) (b : Bool) → b ≡ false → (i == i && b) ≡ false
 own_stores i b h = rw h (grind (arith, nat_tests))
 
-own_apart : (i : ℕ) (b : Bool) → (i == i && b) ≡ true → b ≡ true
-own_apart i true h = refl
-own_apart i false h = grind (arith, nat_tests)
-
 -- where an era is published or an answer taken nothing stood
 protect_left : (w : World) (i : ℕ) (v : View) (z : Asked) (why : Why) (aim : Aim) (index : ℕ) (root : Root) (steps : ℕ) (at : ProtectAt) (j s : ℕ) (own : Bool) → helps w.layout.config.scheme ≡ true → HandoverNeeds w i v z → Held w v → (w.seat i).phase ≡ Runs why (Protect aim index root steps at) → stores_protect index at j ≡ own → stands (w.seat i).post j ≡ Some s → Holds (step w i) (rows_after w i v) (Index i j) s
 protect_left w i v z why aim index root steps at j s false f n d e o y = stood_stays w i v z i j s (Runs why (Protect aim index root steps at)) f n d e (own_stores i (stores_protect index at j) o) y

@@ -1,7 +1,7 @@
 -- Each step of each seat keeps what holds of requests.
 use Rattle.std.proofs.Common.{ℕ, ◌≡◌, ◌≤◌, ◌<◌, ◌+◌, true, false, arith, refl, sym, ap, subst, ◌∙◌}
 use Rattle.std.proofs.lemmas.Bool.Decides.{nat_tests}
-use Rattle.std.specs.Prelude.{◌&&◌, nat_lt, if◌then◌else◌, ◌%◌}
+use Rattle.std.specs.Prelude.{◌&&◌, nat_lt, ◌%◌}
 use Rattle.inv_shapes.specs.words.Place.{Place, has, is_valid}
 use Rattle.inv_shapes.specs.words.Place.Place.{Clock, Helper, Index, Request}
 use Rattle.inv_shapes.specs.defs.declared.event.Root.{Root}
@@ -10,7 +10,7 @@ use Rattle.inv_shapes.specs.model.Links.{link_place}
 use Rattle.inv_shapes.specs.model.Memory.{upd, Move, place_in, found, bump}
 use Rattle.inv_shapes.specs.model.Posts.{counted, tag_of, new_post}
 use Rattle.inv_shapes.specs.model.Phases.{Aim, Tries, Endless, Failed, ProtectAt, MoveAt, Base, Base as bases}
-use Rattle.inv_shapes.specs.model.Calls.{Why, Phase, Idle, Runs, Task, Gets, Changes, Holds, Enqueues, Dequeues, Opens, FollowsHead, Scans, Works}
+use Rattle.inv_shapes.specs.model.Calls.{Why, Phase, Idle, Runs, Opens, FollowsHead, Scans, Works}
 use Rattle.inv_shapes.specs.model.Steps.{run_turn, phase_move, phase_turn}
 use Rattle.inv_shapes.specs.model.Locals.{Local, busy_in, begun}
 use Rattle.inv_shapes.specs.model.Machine.{protect_move, protect_turn, move_move, move_turn, base_move, after}
@@ -19,7 +19,6 @@ use Rattle.inv_shapes.specs.words.declared.layout.Layout.{Layout}
 use Rattle.inv_shapes.specs.defs.declared.call.Call.{Call}
 use Rattle.inv_shapes.specs.model.Phases.ProtectAt.{LoadClock, PublishEra, LoadLink, CheckClock, PublishRequest, LoadOwnClock, PublishHelper, LoadOwnLink, CheckOwnClock, AnswerOwn, LoadAnswer, TakeAnswer, WithdrawRequest, WithdrawHelper, LoadWithin, CheckUpper, RaiseUpper}
 use Rattle.inv_shapes.specs.model.Phases.MoveAt.{LoadEra, LoadRequest, ShowEra, LoadAsked, CheckEra, AnswerAsked, LoadReserved, HandOver, HideEra, HideLate, ExchangeClock}
-use Rattle.inv_shapes.specs.model.Rounds.{index_of}
 use Rattle.inv_shapes.specs.model.World.{World, step, begin, start, is_busy}
 use Rattle.inv_shapes.proofs.model.Ranges.{bounds_of}
 use Rattle.inv_shapes.specs.words.Schemes.{helps}
@@ -119,18 +118,6 @@ phase_made mem seat i v layout (Runs why base) y t s f p a q =
     (shape_moves layout i y why base (counted (seat i).post) (found_by mem (base_move base (seat i).post)) (counted_fits layout i (seat i).post s) (run_counted layout why base (seat i).post f))
 phase_made mem seat i v layout (Scans later at) y t s f p a q = scan_made mem seat i v later at (found_by mem (phase_move (Scans later at) (seat i).post)) a q
 phase_made mem seat i v layout (Works work) y t s f p a q = work_made mem seat i v work (found_by mem (phase_move (Works work) (seat i).post)) a q f
-
--- the shape of a protection gives its index and root
-
-index_small : (task : Task) → index_of task ≤ 2
-index_small (Gets key) = omega arith
-index_small (Changes kept) = omega arith
-index_small (Holds key) = omega arith
-index_small (Enqueues kept) = omega arith
-index_small Dequeues = omega arith
-
-below_buckets : (key buckets : ℕ) → 1 ≤ buckets → nat_lt (key % buckets) buckets ≡ true
-below_buckets key buckets h = let b : key % buckets < buckets = omega arith in grind (arith, nat_tests)
 
 root_by_there : (layout : Layout) (why : Why) → 1 ≤ layout.config.buckets → head_fits layout.config why ≡ true → has layout (link_place (root_by layout.config.buckets why)) ≡ true
 root_by_there layout (Opens task) b h = task_there layout task b

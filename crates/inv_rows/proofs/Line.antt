@@ -8,22 +8,6 @@ use Rattle.inv_rows.proofs.Follow.{loads_stay}
 use Rattle.inv_rows.specs.Queue.{Line, InLine, Walks, stands_on, heads_on, follows_in, leads_in, blanks_in, moved_line}
 use Rattle.inv_rows.specs.Queue.LineMove.{Joins, Leaves}
 
--- rows of the queue stay, and no row that was in it is free
-pub calm_line : (q past p q2 : ℕ → Bool) (l : Line) (next : ℕ → ℕ) (head tail : ℕ) → InLine q past l next head tail → ((s : ℕ) → q2 s ≡ q s) → ((s : ℕ) → l.lined s ≡ true → p s ≡ true) → InLine q2 p l next head tail
-calm_line q past p q2 l next head tail g e f = record {
-  lined = λ s h. grind (arith, nat_tests, g.lined s, e s);
-  passed = λ s h. grind (arith, nat_tests, g.passed s, e s, f s);
-  last = λ s h k. grind (arith, nat_tests, g.last s, e s);
-  links = λ s t h k. grind (arith, nat_tests, g.links s t, e s, e t);
-  rises = λ s t h k. grind (arith, nat_tests, g.rises s t, e s, e t);
-  one = λ s t u1 u2 u3. grind (arith, nat_tests, g.one s t, e s, e t);
-  first = λ s h. grind (arith, nat_tests, g.first s, e s);
-  least = λ s x h k. grind (arith, nat_tests, g.least s x, e s);
-  most = λ s t u1 u2 u3. grind (arith, nat_tests, g.most s t, e s, e t);
-  reached = λ s h. grind (arith, nat_tests, g.reached s, e s);
-  some = grind (arith, nat_tests, g.some);
-}
-
 -- a row that was in the queue is free
 pub free_line : (q past p q2 : ℕ → Bool) (l : Line) (next : ℕ → ℕ) (head tail slot : ℕ) → InLine q past l next head tail → ((s : ℕ) → q2 s ≡ q s) → ((s : ℕ) → (s == slot) ≡ false → l.lined s ≡ true → p s ≡ true) → q slot ≡ false → InLine q2 p (moved_line l (Leaves slot)) next head tail
 free_line q past p q2 l next head tail slot g e f n = record {
@@ -169,18 +153,6 @@ upd_lined next lined slot word h n e = grind (arith, nat_tests, n, e)
 
 upd_other : (next : ℕ → ℕ) (last word h : ℕ) → next last ≡ 0 → (next h == 0) ≡ false → upd next last word h ≡ next h
 upd_other next last word h n e = grind (arith, nat_tests, n, e)
-
-pub calm_walks : (phase : Phase) (q q2 : ℕ → Bool) (l : Line) (next : ℕ → ℕ) (head tail : ℕ) → Walks phase q l next head tail → ((s : ℕ) → q2 s ≡ q s) → Walks phase q2 l next head tail
-calm_walks phase q q2 l next head tail w f = record {
-  stood = λ h u1. grind (arith, nat_tests, w.stood h);
-  heads = λ h u1 u2. grind (arith, nat_tests, w.heads h, f h);
-  follows = λ h link u1. grind (arith, nat_tests, w.follows h link);
-  some = λ h link u1. grind (arith, nat_tests, w.some h link);
-  leads = λ h u1 u2. grind (arith, nat_tests, w.leads h);
-  blank = λ s u1. grind (arith, nat_tests, w.blank s);
-  items = w.items;
-  loads = w.loads;
-}
 
 pub free_walks : (phase : Phase) (q q2 : ℕ → Bool) (l : Line) (next : ℕ → ℕ) (head tail slot : ℕ) → Walks phase q l next head tail → ((s : ℕ) → q2 s ≡ q s) → stands_on phase slot ≡ false → Walks phase q2 (moved_line l (Leaves slot)) next head tail
 free_walks phase q q2 l next head tail slot w f n = record {

@@ -49,9 +49,6 @@ pub record InLine (q past : ℕ → Bool) (l : Line) (next : ℕ → ℕ) (head 
   pub reached : (s : ℕ) → tail ≡ s + 1 → q s ≡ true
   pub some : 0 < tail
 
-abbrev pub stands_enqueue : EnqueueKept → ℕ → Bool
-stands_enqueue kept h = kept.tail == h
-
 abbrev pub head_of : DequeueAt → ℕ
 head_of (LoadTail head) = head
 head_of (SwingTail head next) = head

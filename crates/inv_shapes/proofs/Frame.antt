@@ -76,9 +76,6 @@ written_own mem (Cas place old new) = rw (same_self place) refl
 written_own mem (Or place bits) = rw (same_self place) refl
 written_own mem (And place bits) = rw (same_self place) refl
 
-pub word_stays : (w : World) (i : ℕ) (p : Place) → same p (place_in (move (w.seat i))) ≡ false → (step w i).mem p ≡ w.mem p
-word_stays w i p e = written_other w.mem (move (w.seat i)) p e
-
 pub word_steps : (w : World) (i : ℕ) → (step w i).mem (place_in (move (w.seat i))) ≡ change (move (w.seat i)) (w.mem (place_in (move (w.seat i))))
 word_steps w i = written_own w.mem (move (w.seat i))
 

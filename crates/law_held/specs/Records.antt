@@ -2,7 +2,7 @@
 use Rattle.std.specs.Prelude.{List, true, ◌≡◌}
 use Rattle.wfe_core.specs.words.Place.{is_valid}
 use Rattle.wfe_core.specs.words.declared.layout.Layout.{Layout}
-use Rattle.inv_all.specs.history.History.{Item, record_of}
+use Rattle.law_places.specs.inv.history.History.{Item, record_of}
 use Rattle.laws.specs.HoldLaw.{HeldThroughout, SourceLaw, FindLaw, GotLaw, LinkLaw, FollowLaw, BehindLaw, RestLaw}
 use Rattle.laws.specs.NoReuse.{ClearLaw, IndexLaw}
 

@@ -1,5 +1,5 @@
 -- The law on what a call answers of the clock, over records.
-use Rattle.inv_all.specs.history.Record.{Past, Test, EachEntry}
+use Rattle.law_places.specs.inv.history.Record.{Past, Test, EachEntry}
 use Rattle.laws.specs.StateAt.{seen}
 use Rattle.std.specs.Prelude.{ℕ}
 use Rattle.laws.specs.AnswerLaw.{ClockTally, clock_by, no_clock, clock_right}

@@ -1,7 +1,7 @@
 -- The laws on which calls scan, which move the clock and what they answer of it, by the plain numbers of retirements, over records.
 use Rattle.wfe_core.specs.defs.Entry.{Entry}
 use Rattle.std.specs.Prelude.{List, ℕ, ◌≡◌}
-use Rattle.inv_all.specs.history.Record.{Past, tells}
+use Rattle.law_places.specs.inv.history.Record.{Past, tells}
 use Rattle.law_scans.specs.Outcomes.{clock_tally}
 use Rattle.law_scans.specs.Scans.{tally_of}
 use Rattle.laws.specs.AnswerLaw.{plain_clock}

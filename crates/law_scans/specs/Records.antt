@@ -2,7 +2,7 @@
 use Rattle.std.specs.Prelude.{List, true, ◌≡◌}
 use Rattle.wfe_core.specs.words.Place.{is_valid}
 use Rattle.wfe_core.specs.words.declared.layout.Layout.{Layout}
-use Rattle.inv_all.specs.history.History.{Item, record_of}
+use Rattle.law_places.specs.inv.history.History.{Item, record_of}
 use Rattle.laws.specs.AnswerLaw.{PlainOutcomes, ClockTimes}
 use Rattle.laws.specs.EraLaw.{PlainMoves}
 use Rattle.laws.specs.ScanLaw.{FewRetired, PlainScans}

@@ -1,5 +1,5 @@
 -- The laws on which calls scan and which move the clock, over records.
-use Rattle.inv_all.specs.history.Record.{Past, Test, EachEntry}
+use Rattle.law_places.specs.inv.history.Record.{Past, Test, EachEntry}
 use Rattle.laws.specs.StateAt.{seen}
 use Rattle.std.specs.Prelude.{ℕ}
 use Rattle.laws.specs.ScanLaw.{Tally, no_tally, tally_by, scan_right}

@@ -9,7 +9,7 @@ use Rattle.inv_ends.specs.requests.Views.{Deal, View as Asked}
 use Rattle.inv_ends.specs.requests.Views.Deal.{Quiet}
 use Rattle.inv_steps_left.specs.rows.Queue.{Line}
 use Rattle.inv_steps_left.specs.rows.Rows.{View}
-use Rattle.inv_handover.specs.Helped.{Helped}
+use Rattle.inv_ends.specs.handover.Helped.{Helped}
 use Rattle.inv_ends.proofs.shapes.Decode.{eras_start, eras_begin}
 use Rattle.inv_ends.proofs.shapes.Kept.{seats_start, seats_begin}
 use Rattle.inv_ends.proofs.shapes.Quiet.{noted_start, noted_begin}
@@ -27,7 +27,7 @@ use Rattle.inv_steps_left.proofs.contents.Contents.Begun.{contents_start, conten
 use Rattle.inv_steps_left.proofs.contents.Stands.Kept.{stands_start, stands_begin}
 use Rattle.inv_steps_left.proofs.contents.Items.Begun.{items_start, items_begin}
 use Rattle.inv_steps_left.proofs.contents.Items.Bounds.{bounded_start, bounded_begin}
-use Rattle.inv_handover.proofs.Begun.{handover_start, handover_begin}
+use Rattle.inv_ends.proofs.handover.Begun.{handover_start, handover_begin}
 use Rattle.inv_steps_left.proofs.links.Links.Kept.{links_start, links_begin}
 use Rattle.inv_steps_left.proofs.Rest.Lasting.{losses_start, losses_begin}
 use Rattle.inv_steps_left.proofs.Rounds.Ending.{rounds_start, rounds_begin}

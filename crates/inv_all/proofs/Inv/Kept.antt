@@ -27,11 +27,11 @@ use Rattle.inv_ends.proofs.covers.Held.{held_kept}
 use Rattle.inv_ends.proofs.covers.Kept.{scans_kept}
 use Rattle.inv_ends.proofs.covers.Resting.{rests_kept}
 use Rattle.inv_steps_left.proofs.contents.Contents.Kept.{contents_kept}
-use Rattle.inv_handover.specs.Helped.{Helped}
+use Rattle.inv_ends.specs.handover.Helped.{Helped}
 use Rattle.inv_steps_left.proofs.contents.Stands.Kept.{stands_kept}
 use Rattle.inv_steps_left.proofs.contents.Items.Kept.{items_kept}
 use Rattle.inv_steps_left.proofs.contents.Items.Bounds.{bounded_kept}
-use Rattle.inv_handover.proofs.Kept.{handover_kept}
+use Rattle.inv_ends.proofs.handover.Kept.{handover_kept}
 use Rattle.inv_steps_left.proofs.links.Links.Kept.{links_kept}
 use Rattle.inv_steps_left.specs.Falls.{RestNeeds}
 use Rattle.inv_steps_left.proofs.Rest.Lasting.{losses_kept}

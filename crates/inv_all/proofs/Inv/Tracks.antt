@@ -28,8 +28,8 @@ use Rattle.inv_ends.specs.requests.Views.Deal.{Quiet, Open, Answered, Passed, Ta
 use Rattle.inv_steps_left.specs.rows.Queue.{in_queue}
 use Rattle.inv_steps_left.specs.rows.Rows.{Status, View}
 use Rattle.inv_ends.specs.covers.Held.{under, tries_base}
-use Rattle.inv_handover.specs.Helped.{open_by, helper_holds, answered_from, passed_to}
-use Rattle.inv_handover.specs.Handover.{IsLeft, RowsLeft}
+use Rattle.inv_ends.specs.handover.Helped.{open_by, helper_holds, answered_from, passed_to}
+use Rattle.inv_ends.specs.handover.Handover.{IsLeft, RowsLeft}
 use Rattle.inv_steps_left.specs.links.Tracked.{carries_at, carries_in, has_link, opened_by, helps_at, helps_in, root_for, root_in, Tracked, Carried, Given, Helped}
 use Rattle.inv_all.proofs.Inv.Shapes.{eras_of}
 
@@ -113,9 +113,6 @@ asked_root : (w : World) (k : ℕ) (z : Asked) (x : ℕ) → is_valid w.layout �
 asked_root w k z x d s t q a =
     asked_phase (root_at w.layout x ≡ root_in w k) w.layout (w.seat k).phase (z.deal k) x (fits_at w k z q) a
     (λ why aim index root steps at e n. let g = gives_guards w d s t k why aim index root steps at e in ap (root_at w.layout) (sym n) ∙ root_at_link w.layout root g.there ∙ sym (ap root_for e))
-
-linked : (l x : ℕ) (d : Bool) → (l == x && d) ≡ true → (l == x) ≡ true
-linked l x d h = grind (arith, nat_tests)
 
 taken_link : (index word link era t j w l e x : ℕ) → taken_with index word link era (Taken t j w l e) ≡ true → (l == x) ≡ true → (link == x) ≡ true
 taken_link index word link era t j w l e x h k = grind (arith, nat_tests)

@@ -20,7 +20,7 @@ use Rattle.inv_steps_left.proofs.rows.Whole.{whole_needs}
 use Rattle.inv_ends.specs.covers.Covers.{takes_or_frees, CoversNeeds}
 use Rattle.inv_ends.specs.covers.Held.{under}
 use Rattle.inv_steps_left.specs.contents.Contents.{ContentsNeeds}
-use Rattle.inv_handover.specs.Handover.{HandoverNeeds, IsLeft, RowsLeft}
+use Rattle.inv_ends.specs.handover.Handover.{HandoverNeeds, IsLeft, RowsLeft}
 use Rattle.inv_steps_left.specs.links.Origins.{OriginsNeeds}
 use Rattle.inv_steps_left.specs.links.Tracked.{carries_in, root_for, root_in, Tracked, Carried}
 use Rattle.inv_steps_left.specs.links.Links.{LinksNeeds, LinksShow}
@@ -28,7 +28,7 @@ use Rattle.inv_steps_left.specs.contents.Stands.{nexts_in}
 use Rattle.inv_steps_left.specs.contents.Items.{ItemsNeeds}
 use Rattle.inv_steps_left.proofs.contents.Items.Gives.{last_number}
 use Rattle.inv_steps_left.proofs.contents.Items.Finds.{work_finds_fit}
-use Rattle.inv_handover.proofs.Kept.{rows_stay}
+use Rattle.inv_ends.proofs.handover.Kept.{rows_stay}
 use Rattle.inv_steps_left.proofs.links.Links.Given.{links_give}
 use Rattle.inv_steps_left.proofs.links.Links.Tried.{held_links_stay}
 use Rattle.inv_all.specs.Known.{Known}
@@ -36,7 +36,7 @@ use Rattle.inv_all.proofs.Inv.Frees.{back_frees, back_apart, stands_settled, tri
 use Rattle.inv_all.proofs.Inv.Rows.{covers_need, roots_need}
 use Rattle.inv_all.proofs.Inv.Shapes.{phase_tried}
 use Rattle.inv_all.proofs.Inv.Tracks.{tracked_left}
-use Rattle.inv_handover.proofs.Asks.{run_of}
+use Rattle.inv_ends.proofs.handover.Asks.{run_of}
 use Rattle.wfe_core.proofs.Facts.{false_by, true_not_false}
 
 pub covers_of : (w : World) (i : ℕ) (v : View) (l : Line) (z : Asked) → Known w v l z → CoversNeeds w i v

@@ -231,9 +231,6 @@ pub record Latest (l : List Change) (kept : ChangeKept) : Type 0 where
   pub version : kept.version ≡ length l
   pub pairs : kept.pairs ≡ changed (pairs_after l) kept.change
 
-linked_is : (x y : Status) (b c : ℕ) → x ≡ y → x ≡ Linked b → y ≡ Linked c → b ≡ c
-linked_is x y b c e h k = cc
-
 new_shows : (after : Place → ℕ) (l : List Change) (kept : ChangeKept) (slot : ℕ) (k : Shelf) → k.version slot ≡ length l + 1 → k.pairs slot ≡ changed (pairs_after l) kept.change → Latest l kept → Filled after slot (new_row kept) (3 + 2 * length kept.pairs) → Shows after slot (k.version slot) (k.pairs slot)
 new_shows after l kept slot k v p t h =
     let version : kept.version + 1 ≡ k.version slot = ap (λ (x : ℕ). x + 1) t.version ∙ sym v in

@@ -1,42 +1,42 @@
 -- A protection that ends with nothing found a null link.
 use Rattle.std.proofs.Common.{ℕ, ◌+◌, Bool, true, false, ◌≡◌, ◌∙◌, sym, refl, ap}
 use Rattle.std.specs.List.{list_any}
-use Rattle.inv_covers.specs.model.Phases.Ending.{Done, Protected, Followed, Clocked}
-use Rattle.inv_covers.specs.defs.declared.event.Event.TheVariants as events
-use Rattle.inv_covers.specs.defs.declared.event.Root.TheVariants as roots
-use Rattle.inv_covers.specs.defs.declared.call.ClockMove.TheVariants as moves
-use Rattle.inv_covers.specs.model.declared.ends.ProtectEnd.TheVariants as protect_ends
-use Rattle.inv_covers.specs.model.declared.ends.FollowEnd.TheVariants as follow_ends
-use Rattle.inv_covers.specs.model.Allocate.{after_claim_slot, is_claimed, walk_past, walking}
-use Rattle.inv_covers.specs.model.Calls.{Phase}
-use Rattle.inv_covers.specs.model.Calls.Phase.{Idle, Runs, Scans, Works}
-use Rattle.inv_covers.specs.model.Machine.{after, move_turn}
-use Rattle.inv_covers.specs.model.Memory.{bump}
-use Rattle.inv_covers.specs.model.MoveClock.{after_hand_over}
-use Rattle.inv_covers.specs.model.Phases.{Aim, Base, MoveAt, Outcome, Walk, ends, goes}
-use Rattle.inv_covers.specs.model.Phases.Aim.{Alone, Follows}
-use Rattle.inv_covers.specs.model.Phases.AllocateAt.{ClaimSlot, LoadBirth, StoreLife}
-use Rattle.inv_covers.specs.model.Phases.Base.{Allocate, Begin, Clear, Finish, GiveUp, Move, Protect, Release, Reload, Retire, Write}
-use Rattle.inv_covers.specs.model.Phases.BeginAt.{LoadLower, PublishSpan}
-use Rattle.inv_covers.specs.model.Phases.MoveAt.{AnswerAsked, CheckEra, ExchangeClock, HandOver, HideEra, HideLate, LoadAsked, LoadEra, LoadRequest, LoadReserved, ShowEra}
-use Rattle.inv_covers.specs.model.Phases.Outcome.{Ends}
-use Rattle.inv_covers.specs.model.Phases.ProtectAt.{AnswerOwn, CheckClock, CheckOwnClock, CheckUpper, LoadAnswer, LoadClock, LoadLink, LoadOwnClock, LoadOwnLink, LoadWithin, PublishEra, PublishHelper, PublishRequest, RaiseUpper, TakeAnswer, WithdrawHelper, WithdrawRequest}
-use Rattle.inv_covers.specs.model.Phases.RetireAt.{LoadLife, LoadRetire, StoreRetired}
-use Rattle.inv_covers.specs.model.Posts.{cleared, counted, reserves_helper, stands, upper}
-use Rattle.inv_covers.specs.model.Protect.{concluded, held_post, protect_end, protected, told_held}
-use Rattle.inv_covers.specs.model.SlowPath.{asking, own_request}
-use Rattle.inv_covers.specs.model.World.{finds}
-use Rattle.inv_covers.specs.model.WriteRow.{last_written}
-use Rattle.inv_covers.specs.model.declared.post.Post.{Post}
-use Rattle.inv_covers.specs.defs.declared.event.Event.{Event}
-use Rattle.inv_covers.specs.defs.declared.event.Root.{Root}
+use Rattle.inv_handover.specs.covers.model.Phases.Ending.{Done, Protected, Followed, Clocked}
+use Rattle.inv_handover.specs.covers.defs.declared.event.Event.TheVariants as events
+use Rattle.inv_handover.specs.covers.defs.declared.event.Root.TheVariants as roots
+use Rattle.inv_handover.specs.covers.defs.declared.call.ClockMove.TheVariants as moves
+use Rattle.inv_handover.specs.covers.model.declared.ends.ProtectEnd.TheVariants as protect_ends
+use Rattle.inv_handover.specs.covers.model.declared.ends.FollowEnd.TheVariants as follow_ends
+use Rattle.inv_handover.specs.covers.model.Allocate.{after_claim_slot, is_claimed, walk_past, walking}
+use Rattle.inv_handover.specs.covers.model.Calls.{Phase}
+use Rattle.inv_handover.specs.covers.model.Calls.Phase.{Idle, Runs, Scans, Works}
+use Rattle.inv_handover.specs.covers.model.Machine.{after, move_turn}
+use Rattle.inv_handover.specs.covers.model.Memory.{bump}
+use Rattle.inv_handover.specs.covers.model.MoveClock.{after_hand_over}
+use Rattle.inv_handover.specs.covers.model.Phases.{Aim, Base, MoveAt, Outcome, Walk, ends, goes}
+use Rattle.inv_handover.specs.covers.model.Phases.Aim.{Alone, Follows}
+use Rattle.inv_handover.specs.covers.model.Phases.AllocateAt.{ClaimSlot, LoadBirth, StoreLife}
+use Rattle.inv_handover.specs.covers.model.Phases.Base.{Allocate, Begin, Clear, Finish, GiveUp, Move, Protect, Release, Reload, Retire, Write}
+use Rattle.inv_handover.specs.covers.model.Phases.BeginAt.{LoadLower, PublishSpan}
+use Rattle.inv_handover.specs.covers.model.Phases.MoveAt.{AnswerAsked, CheckEra, ExchangeClock, HandOver, HideEra, HideLate, LoadAsked, LoadEra, LoadRequest, LoadReserved, ShowEra}
+use Rattle.inv_handover.specs.covers.model.Phases.Outcome.{Ends}
+use Rattle.inv_handover.specs.covers.model.Phases.ProtectAt.{AnswerOwn, CheckClock, CheckOwnClock, CheckUpper, LoadAnswer, LoadClock, LoadLink, LoadOwnClock, LoadOwnLink, LoadWithin, PublishEra, PublishHelper, PublishRequest, RaiseUpper, TakeAnswer, WithdrawHelper, WithdrawRequest}
+use Rattle.inv_handover.specs.covers.model.Phases.RetireAt.{LoadLife, LoadRetire, StoreRetired}
+use Rattle.inv_handover.specs.covers.model.Posts.{cleared, counted, reserves_helper, stands, upper}
+use Rattle.inv_handover.specs.covers.model.Protect.{concluded, held_post, protect_end, protected, told_held}
+use Rattle.inv_handover.specs.covers.model.SlowPath.{asking, own_request}
+use Rattle.inv_handover.specs.covers.model.World.{finds}
+use Rattle.inv_handover.specs.covers.model.WriteRow.{last_written}
+use Rattle.inv_handover.specs.covers.model.declared.post.Post.{Post}
+use Rattle.inv_handover.specs.covers.defs.declared.event.Event.{Event}
+use Rattle.inv_handover.specs.covers.defs.declared.event.Root.{Root}
 use Rattle.inv_ends.proofs.Ends.Tests.{Calm, base_shows, phase_shows, step_any}
 use Rattle.inv_ends.proofs.Told.Turns.{is_later}
 use Rattle.inv_ends.specs.Nulls.{NullTold, NullsEnd, ended_base, null_base, null_in}
-use Rattle.inv_covers.specs.defs.Events.{is_null}
-use Rattle.inv_covers.specs.words.Packed.{read_reservation}
+use Rattle.inv_handover.specs.covers.defs.Events.{is_null}
+use Rattle.inv_handover.specs.covers.words.Packed.{read_reservation}
 use Rattle.std.specs.Prelude.{List, [], ◌∷◌, Option, Some, None, if◌then◌else◌, ◌==◌, ◌&&◌, ◌||◌}
-use Rattle.inv_covers.proofs.model.Facts.{and_false, no_truth_2}
+use Rattle.inv_handover.proofs.covers.model.Facts.{and_false, no_truth_2}
 
 null_calm : (j : ℕ) → Calm (is_null j)
 null_calm j = record { reserve = λ g s. refl; read = λ g s. refl; era = λ e. refl; give = λ s b. refl; unused = λ s. refl; retire = λ s b r. refl; back = λ s. refl }

@@ -47,10 +47,6 @@ settled_rest : (c : Config) (next : ℕ) (l : Local) (post : Post) (desk : Desk)
 settled_rest c next l post desk told (GoesOn phase) b = rw (rounds_join l.rounds told []) refl
 settled_rest c next l post desk told (Answers answer) b = absurd (cc)
 
-settled_phase : (l : Local) (post : Post) (desk : Desk) (told : List Event) (outcome : CallOutcome) → (settled l (record { post = post; desk = desk; told = told; outcome = outcome })).phase ≡ stands_at outcome
-settled_phase l post desk told (GoesOn phase) = refl
-settled_phase l post desk told (Answers answer) = refl
-
 -- a scan's step and a call's own step
 still_total : (c : Config) (layout : Layout) (k clock next rounds : ℕ) (span : Option Interval) (t : CallTurn) (most : ℕ) → clock ≤ next → Left (PostIs layout k span) ShowsSame t → turn_left c rounds t + 1 ≤ most → turn_total c next rounds t + 1 ≤ most + eras_left c (span_seen clock span)
 still_total c layout k clock next rounds span t most r l h =

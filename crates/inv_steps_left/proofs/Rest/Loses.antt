@@ -43,7 +43,7 @@ use Rattle.inv_steps_left.proofs.Rest.Fits.{TurnFit, advanced_fit, clearing_fit,
 use Rattle.inv_steps_left.proofs.Rest.Runs.{EndsWell, ends_well}
 use Rattle.inv_steps_left.proofs.Rest.Seats.{follows_alone, lost_few, once_told, own_root}
 use Rattle.inv_steps_left.proofs.Rest.Told.{Tells, answer_untold, base_steady, held_told, lost_untold, protect_steady, protect_tells, trying_untold}
-use Rattle.inv_steps_left.specs.Losses.{InRound, LossNeeds, fills_fit, finish_fit, is_queue, later_fit, next_fit, opens_fit, tells_fit, why_fit}
+use Rattle.inv_steps_left.specs.Losses.{InRound, LossNeeds, fills_fit, finish_fit, is_queue, later_fit, next_fit, opens_fit, tells_fit}
 use Rattle.inv_contents.specs.words.Packed.{read_request}
 use Rattle.inv_contents.specs.words.declared.config.Config.{Config}
 use Rattle.std.specs.Prelude.{List, Option, Some, None, ◌==◌}
@@ -159,9 +159,6 @@ opens_fits w i (Holds key) index root n at s l =
     hold_opens w.layout.config (w.seat i).rounds key (w.seat i).desk t.post t.told t.outcome (protect_steady (w.seat i).rounds Alone index root (bump n) at (counted (w.seat i).post) (finds w i) z ∙ s.lost) (ends_well index root (bump n) at (counted (w.seat i).post) (finds w i))
 opens_fits w i (Enqueues kept) index root n at s l = own_fits w i (Enqueues kept) index root n at s l refl (let e : index ≡ 0 = s.run.shape.at in rw e refl) s.lost
 opens_fits w i Dequeues index root n at s l = own_fits w i Dequeues index root n at s l refl (let e : index ≡ 0 = s.run.shape.at in rw e refl) s.lost
-
-untold_fit : (c : Config) (rounds : ℕ) (task : Task) → why_fit c rounds (Begin LoadLower) (Opens task) → opens_fit c rounds task false
-untold_fit c rounds task h = h
 
 opens_fit_after : (w : World) (i : ℕ) (task : Task) (base : Base) → Seat w i (Opens task) base → LossNeeds w i → FitAfter w i (Opens task) base
 opens_fit_after w i task (Begin LoadLower) s l = s.lost

@@ -168,14 +168,6 @@ some_seen : (clock : ℕ) (span : Option Interval) → is_some span ≡ true →
 some_seen clock None h = absurd (cc)
 some_seen clock (Some span) h = refl
 
-lost_left : (c : Config) (aim : Aim) (index : ℕ) (root : Root) (n first found : ℕ) (last : Bool) → base_left c (Protect aim index root n (lost_turn first last found)) + 1 ≤ base_left c (Protect aim index root n (CheckOwnClock first found last 0))
-lost_left c aim index root n first found false = omega arith
-lost_left c aim index root n first found true = omega arith
-
-lost_seen : (first found seen : ℕ) (last : Bool) → protect_seen (lost_turn first last found) seen ≡ seen
-lost_seen first found seen false = refl
-lost_seen first found seen true = refl
-
 checks_left : (c : Config) (first era link : ℕ) (last : Bool) → (protect_left c (CheckOwnClock first era last link) ≡ protect_left c (CheckOwnClock first 0 last 0)) × (5 ≤ protect_left c (CheckOwnClock first era last link))
 checks_left c first era link false = (refl, omega arith)
 checks_left c first era link true = (refl, omega arith)

@@ -12,13 +12,10 @@ use Rattle.inv_contents.specs.model.Calls.Task.{Changes, Dequeues, Enqueues, Get
 use Rattle.inv_contents.specs.model.Calls.Why.{Fills}
 use Rattle.inv_contents.specs.model.Desks.{Desk}
 use Rattle.inv_contents.specs.model.Locals.{rounds_told}
-use Rattle.inv_contents.specs.model.Phases.RowOf.{MapRow, QueueRow}
-use Rattle.inv_contents.specs.model.Rest.{base_left, closing_left, ending_most, round_left, rounds_left, rounds_most, task_left, walk_most, walks_after, walks_by, why_left}
+use Rattle.inv_contents.specs.model.Rest.{closing_left, ending_most, round_left, rounds_left, rounds_most, task_left, walk_most, walks_after, walks_by, why_left}
 use Rattle.inv_contents.specs.model.Rounds.{bucket_of}
 use Rattle.inv_contents.specs.model.Steps.{opened_null, opened_row}
-use Rattle.inv_contents.specs.model.WriteRow.{writing}
 use Rattle.inv_contents.specs.model.declared.post.Post.{Post}
-use Rattle.inv_contents.specs.defs.Pairs.{Pair}
 use Rattle.inv_contents.specs.defs.declared.call.Answer.{Answer}
 use Rattle.inv_contents.specs.defs.declared.event.Event.{Event}
 use Rattle.inv_steps_left.proofs.Rest.Closings.{clearing_left, turn_left}
@@ -40,13 +37,6 @@ opened_row_left c rounds (Changes kept) slot post desk told lost e = let b = one
 opened_row_left c rounds (Holds key) slot post desk told lost e = omega arith
 opened_row_left c rounds (Enqueues kept) slot post desk told lost e = let b = one_before (rounds_told rounds told) lost e in rw b (omega arith)
 opened_row_left c rounds Dequeues slot post desk told lost e = let b = one_before (rounds_told rounds told) lost e in rw b (omega arith)
-
--- a row is written: its words, the exchange and the way out
-write_left : (slot version : ℕ) (pairs : List Pair) (c : Config) → base_left c (writing slot (MapRow version pairs)) ≡ 2 * length pairs + 2
-write_left slot version pairs c = omega arith
-
-item_left : (slot number value : ℕ) (c : Config) → base_left c (writing slot (QueueRow number value)) ≡ 3
-item_left slot number value c = refl
 
 -- a row is taken and written, or only written
 change_fills : (c : Config) (rounds lives : ℕ) (kept : ChangeKept) (taken : Option ℕ) → kept.taken ≡ taken → length kept.pairs ≤ c.pairs → why_left c lives rounds (change_filling kept taken) (Fills (Changes kept)) ≤ 2 * c.pairs + 7 + task_left c lives (Changes kept) (rounds - 1)

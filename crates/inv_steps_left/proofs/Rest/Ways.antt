@@ -2,15 +2,13 @@
 use Rattle.std.proofs.Common.{ℕ, ◌∙◌, ◌≡◌, ◌≤◌, ◌+◌, ◌-◌, Bool, true, false, [], ◌∷◌, arith, refl, subst}
 use Rattle.inv_steps_left.proofs.Rest.Amounts.{PhaseKnown}
 use Rattle.inv_links.specs.shapes.Frame.{phase_left as stands_at}
-use Rattle.inv_contents.specs.model.Change.{filling_by as change_filling}
-use Rattle.inv_contents.specs.model.Enqueue.{filling_by as item_filling}
 use Rattle.inv_contents.specs.model.Change as alters
 use Rattle.inv_contents.specs.model.Enqueue as enqueues
 use Rattle.inv_contents.specs.model.Dequeue as dequeues
 use Rattle.inv_contents.specs.model.Steps as steps
 use Rattle.inv_contents.specs.defs.declared.call.Answer.TheVariants as answers
 use Rattle.inv_contents.specs.model.declared.ends.FollowEnd.TheVariants as follow_ends
-use Rattle.inv_contents.specs.model.Calls.{ChangeKept, Task, AfterScan, Next}
+use Rattle.inv_contents.specs.model.Calls.{Task, AfterScan, Next}
 use Rattle.inv_contents.specs.model.Calls.Next.{Again, Answering, MakeRoom}
 use Rattle.inv_contents.specs.model.Calls.Task.{Changes, Dequeues, Enqueues, Gets, Holds}
 use Rattle.inv_contents.specs.model.Desks.{Desk, with_life}
@@ -35,10 +33,6 @@ use Rattle.inv_contents.specs.defs.declared.call.Answer.{Answer}
 use Rattle.inv_contents.specs.defs.declared.call.ClockMove.{ClockMove}
 use Rattle.inv_contents.specs.defs.declared.lifetime.Lifetime.{Lifetime}
 use Rattle.inv_contents.specs.words.declared.layout.Layout.{Layout}
-
--- a round that has found its root, and the rounds lost before it
-abbrev pub lost_of : ℕ → ℕ
-lost_of rounds = rounds - 1
 
 lost_is : (most rounds : ℕ) → InRound most rounds → (rounds ≡ rounds - 1 + 1) × (rounds - 1 ≤ most)
 lost_is most rounds i = let a = i.told in let b = i.few in (omega (arith, a), omega (arith, a, b))
@@ -82,9 +76,6 @@ no_room_left : (c : Config) (rounds : ℕ) (task : Task) (walked : Bool) (post :
 no_room_left c rounds task true post desk told w e = let h = clears_at c rounds task (Answering answers.Full) post desk told e in omega (arith, h)
 no_room_left c rounds task false post desk told w e =
     let h = clears_at c rounds task MakeRoom post desk told e in let k = walks_once c (length desk.list) (has_walked task) (taken_of task) w in omega (arith, h, k)
-
-walked_same : (c : Config) (lives : ℕ) (kept : ChangeKept) (lost : ℕ) → rounds_left c (Changes (alters.with_walked kept)) lost ≡ rounds_left c (Changes kept) lost
-walked_same c lives kept lost = refl
 
 -- a row was given, and is written; or none was
 pub filled_by_left : (c : Config) (layout : Layout) (rounds : ℕ) (task : Task) (ending : AllocateEnd) (post : Post) (desk : Desk) (told : List Event) → layout.config ≡ c → fills_fit c rounds task → rounds_told rounds told ≡ rounds

@@ -200,11 +200,6 @@ rounds_begin w i call l z next b r d h = record {
 pub rounds_start : RoundsStart
 rounds_start layout z v q = record { paced = λ k. tt; links = origins_start (good_link (start layout) (first_line layout)) layout z q }
 
--- how many rounds a call may lose
-
-count_few : (w : World) (v : View) (l : Line) (z : Asking) (i b : ℕ) → RoundsNeeds w i v l z → (tally w l).count b ≤ w.layout.config.last_version
-count_few w v l z i b n = n.bounded.versions b
-
 record Few (t : Tally) (most : ℕ) : Type 0 where
   passes : t.passes ≤ 2 * most
   takes : t.takes ≤ 2 * most

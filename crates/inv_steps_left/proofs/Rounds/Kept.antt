@@ -16,7 +16,6 @@ use Rattle.inv_contents.specs.model.Calls.EnqueueAt.{ExchangeNext, ExchangeTail,
 use Rattle.inv_contents.specs.model.Calls.Phase.{Idle, Runs, Scans, Works}
 use Rattle.inv_contents.specs.model.Calls.Why.{FollowsHead}
 use Rattle.inv_contents.specs.model.Calls.Work.{Changing, Dequeuing, Enqueuing, Getting}
-use Rattle.inv_contents.specs.model.Locals.{move}
 use Rattle.inv_contents.specs.model.Phases.{Base, RowOf}
 use Rattle.inv_contents.specs.model.Phases.RowOf.{MapRow, QueueRow}
 use Rattle.inv_contents.specs.model.Rounds.{key_of}
@@ -82,11 +81,6 @@ step_counts w i v l z n =
       writes = writes_fit w.layout (w.seat i).post (w.seat i).phase (n.origins.seats.fits i).phase;
       joins = joins_fit w i v l n.both;
     })
-
--- what a step of a call's own has found and lost
-
-move_is : (w : World) (i : ℕ) (phase : Phase) → (w.seat i).phase ≡ phase → move (w.seat i) ≡ steps.phase_move phase (w.seat i).post
-move_is w i phase e = ap (λ (p : Phase). steps.phase_move p (w.seat i).post) e
 
 mem_after : (w : World) (i : ℕ) (phase : Phase) (place : Place) → (w.seat i).phase ≡ phase → (step w i).mem place ≡ written w.mem (steps.phase_move phase (w.seat i).post) place
 mem_after w i phase place e = ap (λ (p : Phase). written w.mem (steps.phase_move p (w.seat i).post) place) e

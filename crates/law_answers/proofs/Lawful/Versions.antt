@@ -5,19 +5,16 @@ use Rattle.std.specs.Prelude.{◌==◌, ◌-◌, if◌then◌else◌}
 use Rattle.wfe_core.specs.defs.declared.event.Event.{Event}
 use Rattle.wfe_core.specs.defs.declared.event.Event.TheVariants as events
 use Rattle.wfe_core.specs.defs.declared.event.Root.TheVariants as roots
-use Rattle.wfe_core.specs.declared.post.Post.{Post}
 use Rattle.wfe_core.specs.Book.{Book, RowBook, booked, booked_all}
-use Rattle.wfe_core.specs.Calls.{Phase, CallTurn, CallOutcome, GoesOn, Answers}
+use Rattle.wfe_core.specs.Calls.{CallTurn}
 use Rattle.wfe_core.specs.Locals.{turn, told_end, told_by}
 use Rattle.wfe_core.specs.Posts.{counted}
 use Rattle.wfe_core.specs.World.{World, step, finds}
-use Rattle.wfe_core.proofs.Facts.{same_number, first_of, rest_of}
+use Rattle.wfe_core.proofs.Facts.{first_of, rest_of}
 use Rattle.inv_all.specs.covers.Covers.{takes_or_frees}
-use Rattle.inv_all.specs.rows.Hands.{row_move, linked_row}
-use Rattle.inv_all.specs.rows.Rows.{RowMove}
-use Rattle.inv_all.specs.rows.Rows.RowMove.{Stays, Appends}
-use Rattle.inv_all.proofs.links.Links.Told.{links_one, links_in, append_in, phase_in, LinksOf}
-use Rattle.inv_all.proofs.links.Links.Booked.{links_of, ended_in, change_taking}
+use Rattle.inv_all.specs.rows.Hands.{row_move}
+use Rattle.inv_all.proofs.links.Links.Told.{links_one, links_in, append_in, phase_in}
+use Rattle.inv_all.proofs.links.Links.Booked.{links_of, ended_in}
 
 row_same : (a : Book) (slot : ℕ) (row : RowBook) (s : ℕ) (same : Bool) → (s == slot) ≡ same → row.version ≡ (a.row slot).version → (if same then row else a.row s).version ≡ (a.row s).version
 row_same a slot row s true e h = let q : s ≡ slot = grind (arith, nat_tests) in h ∙ ap (λ (n : ℕ). (a.row n).version) (sym q)
@@ -42,10 +39,6 @@ one_version f s a event n h = refl
 all_version : (f : ℕ → Bool) (s : ℕ) (told : List Event) (a : Book) → f s ≡ false → links_in f told ≡ true → ((booked_all a told).row s).version ≡ (a.row s).version
 all_version f s [] a n h = refl
 all_version f s (event ∷ told) a n h = all_version f s told (booked a event) n (rest_of (links_one f event) (links_in f told) h) ∙ one_version f s a event n (first_of (links_one f event) (links_in f told) h)
-
--- a step links the rows that it takes
-abbrev Taking : World → ℕ → ℕ → Bool
-Taking w i s = takes_or_frees (row_move (w.seat i).phase (w.seat i).post (finds w i)) s
 
 pub version_stays : (w : World) (i s : ℕ) → takes_or_frees (row_move (w.seat i).phase (w.seat i).post (finds w i)) s ≡ false → ((step w i).book.row s).version ≡ (w.book.row s).version
 version_stays w i s h =

@@ -45,10 +45,6 @@ one_along : (xs ys : List Event) → one_atomic xs ≡ true → none_atomic ys �
 one_along [] ys h k = none_one ys k
 one_along (x ∷ xs) ys h k = if_implies (is_atomic x) (none_atomic xs) (one_atomic xs) (none_atomic (xs ++ ys)) (one_atomic (xs ++ ys)) (λ e. none_along xs ys e k) (λ e. one_along xs ys e k) h
 
-none_before : (xs ys : List Event) → none_atomic xs ≡ true → one_atomic ys ≡ true → one_atomic (xs ++ ys) ≡ true
-none_before [] ys h k = k
-none_before (x ∷ xs) ys h k = not_by (is_atomic x) (none_atomic (xs ++ ys)) (one_atomic (xs ++ ys)) (first_of (not (is_atomic x)) (none_atomic xs) h) (none_before xs ys (rest_of (not (is_atomic x)) (none_atomic xs) h) k)
-
 abbrev One : List Event → Type 0
 One told = one_atomic told ≡ true
 

@@ -28,32 +28,32 @@ use Rattle.wfe_core.specs.Phases.Ending.{Done, Protected, Followed, Allocated, R
 use Rattle.wfe_core.specs.Calls.{Task, Gets, Changes, Holds, Enqueues, Dequeues, Why, Opens, GetAt, FindVersion, FindCount, FindKey, FindValue, Work, Getting, Changing, Enqueuing, Dequeuing, ReadGuard, GiveBack, Phase, Idle, Runs, Scans, Works, CallOutcome, GoesOn, Answers}
 use Rattle.wfe_core.proofs.Frames.{after_same}
 use Rattle.wfe_core.proofs.Facts.{same_number, first_of, rest_of, zero_test}
-use Rattle.inv_all.specs.contents.Contents.{ground_of}
-use Rattle.inv_all.specs.contents.Knows.{Knows, GetKnows, FoundRow, get_reads, reads_in}
+use Rattle.law_places.specs.inv.contents.Contents.{ground_of}
+use Rattle.law_places.specs.inv.contents.Knows.{Knows, GetKnows, FoundRow, get_reads, reads_in}
 use Rattle.law_places.proofs.answers.OneStep.Along.{Kept, history_keeps}
-use Rattle.inv_all.proofs.ends.Ends.Nulls.{nulls_end}
-use Rattle.inv_all.specs.ends.Nulls.{ended_base}
-use Rattle.inv_all.specs.shapes.Seats.{Seats}
-use Rattle.inv_all.specs.history.History.{Item, Made, made_of, record_of, world_of}
-use Rattle.inv_all.specs.Inv.{Inv}
-use Rattle.inv_all.proofs.Inv.Reached.{inv_reached}
-use Rattle.inv_all.specs.history.Record.{Past, Each, tells_of}
-use Rattle.inv_all.specs.history.Record.Past.{Start, Then}
-use Rattle.inv_all.specs.history.Turns as schedule
+use Rattle.law_places.proofs.inv.ends.Ends.Nulls.{nulls_end}
+use Rattle.law_places.specs.inv.ends.Nulls.{ended_base}
+use Rattle.law_places.specs.inv.shapes.Seats.{Seats}
+use Rattle.law_places.specs.inv.history.History.{Item, Made, made_of, record_of, world_of}
+use Rattle.law_places.specs.inv.Inv.{Inv}
+use Rattle.law_places.proofs.inv.Inv.Reached.{inv_reached}
+use Rattle.law_places.specs.inv.history.Record.{Past, Each, tells_of}
+use Rattle.law_places.specs.inv.history.Record.Past.{Start, Then}
+use Rattle.law_places.specs.inv.history.Turns as schedule
 use Rattle.laws.specs.StateAt.{count_of, bucket_at, stood_at, row_at, null_by, null_of}
-use Rattle.inv_all.proofs.history.AllOf.{all_of, of_weaker}
-use Rattle.inv_all.proofs.Machines.{is_machine, base_machine, clear_machine}
+use Rattle.law_places.proofs.inv.history.AllOf.{all_of, of_weaker}
+use Rattle.law_places.proofs.inv.Machines.{is_machine, base_machine, clear_machine}
 use Rattle.laws.proofs.Tells.{seen_tells, tells_both}
 use Rattle.law_places.proofs.reuse.Reuse.Keeps.{record_stands}
-use Rattle.inv_all.proofs.history.Passes.{Closing, First, get_allows, ending_allows, why_allows, outcome_allows, work_allows, phase_allows, step_closes}
+use Rattle.law_places.proofs.inv.history.Passes.{Closing, First, get_allows, ending_allows, why_allows, outcome_allows, work_allows, phase_allows, step_closes}
 use Rattle.law_held.proofs.Roots.Ways.{record_each}
-use Rattle.inv_all.proofs.ends.Told.Rows.{own_told}
-use Rattle.inv_all.specs.history.Heard.{heard_of}
+use Rattle.law_places.proofs.inv.ends.Told.Rows.{own_told}
+use Rattle.law_places.specs.inv.history.Heard.{heard_of}
 use Rattle.laws.specs.HoldLaw.{stands_as, got_right, gots_ok}
 use Rattle.law_held.specs.Records.{RecordsTellRows}
 use Rattle.law_held.proofs.GotRows.Nulled.{nulled, nulled_at, NulledIn, step_nulled, begin_nulled, ended_null}
 use Rattle.law_held.proofs.GotRows.Rowed.{Rowed, step_rowed, begin_rowed, first_book_rowed}
-use Rattle.inv_all.proofs.handover.Asks.{run_of}
+use Rattle.law_places.proofs.inv.handover.Asks.{run_of}
 use Rattle.law_places.proofs.answers.Lawful.Gots.{cleared_table}
 
 -- what is told but what a get tells

@@ -34,21 +34,21 @@ use Rattle.wfe_core.specs.Phases.Base.{Begin, Protect, Reload, Allocate, Write, 
 use Rattle.wfe_core.specs.Phases.Ending.{Followed}
 use Rattle.wfe_core.specs.Calls.{Why, Phase, Idle, Runs, Scans, Works}
 use Rattle.wfe_core.proofs.Facts.{first_of, rest_of, then_of}
-use Rattle.inv_all.proofs.history.MayTell.{concluded_told}
-use Rattle.inv_all.specs.ends.Nulls.{ended_at}
-use Rattle.inv_all.specs.shapes.Frame.{Onward, Grows, Owes, Moves, Passed}
-use Rattle.inv_all.specs.shapes.Seats.{PostFits, PhaseFits, Run, Seats, Kind, ToOpen, ToFollow, kind_of, suits, protects, fills, retires, moves}
-use Rattle.inv_all.proofs.shapes.Frame.{seat_stays, seat_steps, begin_stays, begin_begins, after_seated, begun_seated, moves_with}
-use Rattle.inv_all.proofs.shapes.Shapes.{shape_grows}
-use Rattle.inv_all.proofs.shapes.Inside.{shape_moves}
-use Rattle.inv_all.proofs.shapes.Kept.{counted_fits, run_counted, begun_fits}
-use Rattle.inv_all.specs.history.Record.{Past, tells_of}
-use Rattle.inv_all.specs.history.Record.Past.{Then}
+use Rattle.law_places.proofs.inv.history.MayTell.{concluded_told}
+use Rattle.law_places.specs.inv.ends.Nulls.{ended_at}
+use Rattle.law_places.specs.inv.shapes.Frame.{Onward, Grows, Owes, Moves, Passed}
+use Rattle.law_places.specs.inv.shapes.Seats.{PostFits, PhaseFits, Run, Seats, Kind, ToOpen, ToFollow, kind_of, suits, protects, fills, retires, moves}
+use Rattle.law_places.proofs.inv.shapes.Frame.{seat_stays, seat_steps, begin_stays, begin_begins, after_seated, begun_seated, moves_with}
+use Rattle.law_places.proofs.inv.shapes.Shapes.{shape_grows}
+use Rattle.law_places.proofs.inv.shapes.Inside.{shape_moves}
+use Rattle.law_places.proofs.inv.shapes.Kept.{counted_fits, run_counted, begun_fits}
+use Rattle.law_places.specs.inv.history.Record.{Past, tells_of}
+use Rattle.law_places.specs.inv.history.Record.Past.{Then}
 use Rattle.laws.proofs.Along.{along}
 use Rattle.law_places.proofs.Placing.Sums.{along_both}
 use Rattle.laws.proofs.Tells.{seen_tells, seen_stays, seen_other}
-use Rattle.inv_all.proofs.ends.Told.Rows.{own_told, own_post, step_adds}
-use Rattle.inv_all.proofs.ends.Told.Turns.{Adds, is_later}
+use Rattle.law_places.proofs.inv.ends.Told.Rows.{own_told, own_post, step_adds}
+use Rattle.law_places.proofs.inv.ends.Told.Turns.{Adds, is_later}
 use Rattle.laws.specs.StateAt.{null_by, null_of}
 use Rattle.wfe_core.proofs.Lists.{or_more}
 

@@ -19,16 +19,16 @@ use Rattle.wfe_core.specs.Posts.{counted}
 use Rattle.wfe_core.specs.World.{World, finds, step, told_in}
 use Rattle.wfe_core.specs.Calls.{ChangeKept, EnqueueKept, LoadVersion, LoadCount, LoadKey, LoadValue, ExchangeRoot, LoadNumber, LoadNext, PassTail, ExchangeNext, ExchangeTail, LoadTail, SwingTail, TakeNumber, TakeValue, ExchangeHead, Getting, Changing, Enqueuing, Dequeuing, Phase, Idle, Runs, Scans, Works, CallTurn, CallOutcome, GoesOn, Answers}
 use Rattle.wfe_core.proofs.Facts.{same_number, first_of, rest_of}
-use Rattle.inv_all.proofs.contents.Contents.Told.{booked_append}
-use Rattle.inv_all.specs.history.Record.{Past, tells_of}
-use Rattle.inv_all.specs.history.Record.Past.{Start, Then}
+use Rattle.law_places.proofs.inv.contents.Contents.Told.{booked_append}
+use Rattle.law_places.specs.inv.history.Record.{Past, tells_of}
+use Rattle.law_places.specs.inv.history.Record.Past.{Start, Then}
 use Rattle.laws.specs.StateAt.{changes_of, count_of, bucket_at, row_at}
-use Rattle.inv_all.proofs.history.AllOf.{all_of, of_weaker}
+use Rattle.law_places.proofs.inv.history.AllOf.{all_of, of_weaker}
 use Rattle.law_places.proofs.answers.Lawful.Maps.{told_changes}
 use Rattle.law_places.proofs.Placing.Fronts.{linked_front, queued_front, taken_front}
 use Rattle.law_places.proofs.Placing.Marks.{is_common, ordered, InOrder, step_order}
 use Rattle.laws.proofs.Tells.{tells_both}
-use Rattle.inv_all.proofs.contents.Contents.Shelves.{same_bucket}
+use Rattle.law_places.proofs.inv.contents.Contents.Shelves.{same_bucket}
 
 -- row s is that of this version of bucket b
 abbrev pub RowOf : (version b s : ℕ) → Past → Type 0

@@ -9,15 +9,15 @@ use Rattle.wfe_core.specs.defs.declared.event.Event.TheVariants as events
 use Rattle.wfe_core.specs.defs.declared.event.Guard.{Guard}
 use Rattle.wfe_core.specs.defs.declared.lifetime.Interval.{Interval}
 use Rattle.wfe_core.proofs.Facts.{first_of, rest_of, implies_or, or_left_true}
-use Rattle.inv_all.specs.ends.Standing as told
+use Rattle.law_places.specs.inv.ends.Standing as told
 use Rattle.laws.specs.HoldLaw.{is_held}
-use Rattle.inv_all.specs.history.Record.{Past, Test, Each, tells_of}
-use Rattle.inv_all.specs.history.Record.Past.{Then}
-use Rattle.inv_all.proofs.history.AllOf.{all_of}
+use Rattle.law_places.specs.inv.history.Record.{Past, Test, Each, tells_of}
+use Rattle.law_places.specs.inv.history.Record.Past.{Then}
+use Rattle.law_places.proofs.inv.history.AllOf.{all_of}
 use Rattle.laws.proofs.Tells.{tells_both}
 use Rattle.laws.specs.StateAt.{stood_at, is_row}
 use Rattle.wfe_core.specs.defs.Events.{is_held as event_is_held}
-use Rattle.inv_all.proofs.contents.Stands.Rounds.{is_clear}
+use Rattle.law_places.proofs.inv.contents.Stands.Rounds.{is_clear}
 use Rattle.wfe_core.proofs.Lists.{or_more}
 
 -- an event that changes nothing of guards, lives and taken rows

@@ -30,16 +30,16 @@ use Rattle.wfe_core.specs.Phases.Base.{Begin, Protect, Reload, Clear, Allocate, 
 use Rattle.wfe_core.specs.Phases.Ending.{Done, Protected, Followed, Allocated, Retired, Clocked}
 use Rattle.wfe_core.specs.Calls.{Task, Next, Again, MakeRoom, Answering, Retiring, AfterScan, Answered, Repeated, Counted, Why, Opens, FollowsHead, Fills, ClearsNext, Clears, Finishes, GivesUp, Retires, Tidies, Advances, Releases, GiveBack, Runs, Scans, CallTurn, CallOutcome, GoesOn, Answers}
 use Rattle.wfe_core.proofs.Facts.{first_of, rest_of, false_not_true}
-use Rattle.inv_all.proofs.history.MayTell as may
-use Rattle.inv_all.proofs.history.MayTell.{concluded_told, Silent, Single, Takes, takes, shape_of, held_any}
+use Rattle.law_places.proofs.inv.history.MayTell as may
+use Rattle.law_places.proofs.inv.history.MayTell.{concluded_told, Silent, Single, Takes, takes, shape_of, held_any}
 use Rattle.wfe_core.specs.words.Schemes.{is_ibr}
-use Rattle.inv_all.specs.shapes.Seats.{Run, ToClear, suits, protect_fits}
-use Rattle.inv_all.proofs.history.AllOf.{all_of, of_along}
-use Rattle.inv_all.proofs.history.Passes.{is_quiet, all_quiet, Closed, step_goes}
+use Rattle.law_places.specs.inv.shapes.Seats.{Run, ToClear, suits, protect_fits}
+use Rattle.law_places.proofs.inv.history.AllOf.{all_of, of_along}
+use Rattle.law_places.proofs.inv.history.Passes.{is_quiet, all_quiet, Closed, step_goes}
 use Rattle.law_held.proofs.Held.Flat.{is_flat, is_settled}
-use Rattle.inv_all.proofs.contents.Stands.Rounds.{is_clear}
+use Rattle.law_places.proofs.inv.contents.Stands.Rounds.{is_clear}
 use Rattle.law_places.proofs.answers.Lawful.Gots.{cleared_table}
-use Rattle.inv_all.proofs.requests.Paced.{wfe_not_ibr}
+use Rattle.law_places.proofs.inv.requests.Paced.{wfe_not_ibr}
 
 -- rows are cleared, and last comes one event
 pub record Last (own : List Event) : Type 0 where

@@ -25,33 +25,33 @@ use Rattle.wfe_core.specs.Phases.ProtectAt.{TakeAnswer}
 use Rattle.wfe_core.specs.Phases.Base.{Protect}
 use Rattle.wfe_core.specs.Calls.{ReadGuard, GiveBack, Why, Phase, Idle, Runs, Scans, Works}
 use Rattle.wfe_core.proofs.Facts.{same_number, rest_of, implies_or, then_of}
-use Rattle.inv_all.proofs.covers.Resting.{rests_give}
-use Rattle.inv_all.proofs.ends.Ends.Held.{held_stands}
-use Rattle.inv_all.specs.shapes.Seats.{Seats}
-use Rattle.inv_all.specs.history.History.{Item, Begins, Steps, Made, fits, done, done_if, made_of, record_of, world_of}
-use Rattle.inv_all.proofs.history.Along.{low_seat, paths_keep}
+use Rattle.law_places.proofs.inv.covers.Resting.{rests_give}
+use Rattle.law_places.proofs.inv.ends.Ends.Held.{held_stands}
+use Rattle.law_places.specs.inv.shapes.Seats.{Seats}
+use Rattle.law_places.specs.inv.history.History.{Item, Begins, Steps, Made, fits, done, done_if, made_of, record_of, world_of}
+use Rattle.law_places.proofs.inv.history.Along.{low_seat, paths_keep}
 use Rattle.laws.specs.HoldLaw.{is_held}
 use Rattle.law_places.proofs.reuse.Holding.Holds.{records_hold}
-use Rattle.inv_all.specs.Inv.{Inv}
-use Rattle.inv_all.proofs.Inv.Guards.{rests_need}
-use Rattle.inv_all.proofs.Inv.Reached.{inv_reached}
-use Rattle.inv_all.specs.history.Record.{Past, Each, EachEntry, tells_of}
-use Rattle.inv_all.proofs.history.Entries.{entries_of_each}
-use Rattle.inv_all.proofs.history.AllOf.{all_of, of_along}
+use Rattle.law_places.specs.inv.Inv.{Inv}
+use Rattle.law_places.proofs.inv.Inv.Guards.{rests_need}
+use Rattle.law_places.proofs.inv.Inv.Reached.{inv_reached}
+use Rattle.law_places.specs.inv.history.Record.{Past, Each, EachEntry, tells_of}
+use Rattle.law_places.proofs.inv.history.Entries.{entries_of_each}
+use Rattle.law_places.proofs.inv.history.AllOf.{all_of, of_along}
 use Rattle.laws.specs.StateAt.{stood_at, is_row}
 use Rattle.law_places.proofs.reuse.Reuse.Keeps.{record_stands, row_of}
 use Rattle.law_held.proofs.Roots.Ways.{Turning}
-use Rattle.inv_all.proofs.ends.Told.Rows.{own_told, own_post, step_adds}
-use Rattle.inv_all.proofs.ends.Told.Turns.{Adds, is_later}
+use Rattle.law_places.proofs.inv.ends.Told.Rows.{own_told, own_post, step_adds}
+use Rattle.law_places.proofs.inv.ends.Told.Turns.{Adds, is_later}
 use Rattle.law_held.specs.Records.{RecordsHoldThroughout}
 use Rattle.law_held.proofs.Held.Flat.{is_flat, is_at, holds_ok, Good, late_each, take_each, plain_each}
 use Rattle.law_held.proofs.Held.Forms.{Shape, Even, Late, run_shape, back_shape}
 use Rattle.law_held.proofs.Resting.Resting.{next_made}
 use Rattle.wfe_core.specs.defs.Events.{is_held as event_is_held}
-use Rattle.inv_all.proofs.handover.Asks.{run_of}
+use Rattle.law_places.proofs.inv.handover.Asks.{run_of}
 use Rattle.law_places.proofs.answers.AnswersTold.Owed.{append_none}
 use Rattle.law_places.proofs.answers.AnswersTold.Answering.{append_one}
-use Rattle.inv_all.proofs.history.MayTell.{takes}
+use Rattle.law_places.proofs.inv.history.MayTell.{takes}
 
 -- the ends of a step
 good_at : (layout : Layout) (path : List Item) (k j s : ℕ) → is_valid layout ≡ true → Good layout.config k j s (record_of layout path)

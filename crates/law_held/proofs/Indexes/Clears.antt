@@ -24,23 +24,23 @@ use Rattle.wfe_core.specs.Protect.{told_held}
 use Rattle.wfe_core.specs.Rounds.{scheme_of, clear_told}
 use Rattle.wfe_core.specs.World.{World, finds, told_in}
 use Rattle.wfe_core.proofs.Facts.{same_number, first_of, rest_of, and_right_false}
-use Rattle.inv_all.specs.covers.Held.{index_base}
-use Rattle.inv_all.proofs.ends.Ends.Stood.{clear_calm}
-use Rattle.inv_all.proofs.ends.Ends.Tests.{at_shows, base_shows, base_any}
-use Rattle.inv_all.specs.shapes.Seats.{Seats}
-use Rattle.inv_all.specs.history.History.{record_of, world_of}
-use Rattle.inv_all.proofs.Inv.Shapes.{index_in}
-use Rattle.inv_all.specs.history.Record.{Past, Each, tells_of}
-use Rattle.inv_all.specs.history.Record.Past.{Then}
+use Rattle.law_places.specs.inv.covers.Held.{index_base}
+use Rattle.law_places.proofs.inv.ends.Ends.Stood.{clear_calm}
+use Rattle.law_places.proofs.inv.ends.Ends.Tests.{at_shows, base_shows, base_any}
+use Rattle.law_places.specs.inv.shapes.Seats.{Seats}
+use Rattle.law_places.specs.inv.history.History.{record_of, world_of}
+use Rattle.law_places.proofs.inv.Inv.Shapes.{index_in}
+use Rattle.law_places.specs.inv.history.Record.{Past, Each, tells_of}
+use Rattle.law_places.specs.inv.history.Record.Past.{Then}
 use Rattle.laws.proofs.Tells.{AllRight}
 use Rattle.laws.specs.StateAt.{stood_by, stood_at, is_row}
 use Rattle.law_places.proofs.reuse.Reuse.Follows.{stood, Follow, follow_closed, base_follows}
 use Rattle.law_places.proofs.reuse.Reuse.Keeps.{record_stands, room_of}
-use Rattle.inv_all.proofs.history.Passes.{is_quiet, all_quiet, Closed, First, scan_told, step_goes}
-use Rattle.inv_all.specs.ends.Stands.{is_clear}
+use Rattle.law_places.proofs.inv.history.Passes.{is_quiet, all_quiet, Closed, First, scan_told, step_goes}
+use Rattle.law_places.specs.inv.ends.Stands.{is_clear}
 use Rattle.law_held.specs.Records.{RecordsClearRows}
 use Rattle.law_held.proofs.Roots.Ways.{Along, record_each, answers_of}
-use Rattle.inv_all.proofs.handover.Asks.{run_of}
+use Rattle.law_places.proofs.inv.handover.Asks.{run_of}
 use Rattle.wfe_core.proofs.Lists.{or_left, or_right}
 
 -- at one index: what is cleared there stood there

@@ -26,13 +26,13 @@ use Rattle.wfe_core.specs.Scan as scan
 use Rattle.wfe_core.specs.Steps as steps
 use Rattle.wfe_core.specs.World.{World, finds, told_in}
 use Rattle.wfe_core.proofs.Facts.{both, first_of, rest_of, and_right_false}
-use Rattle.inv_all.proofs.ends.Ends.Tests.{Calm, at_shows, base_shows, base_any}
-use Rattle.inv_all.specs.shapes.Seats.{Seats, Shaped, suits, kind_of, protects, reloads, clears, releases, index_by}
-use Rattle.inv_all.specs.history.History.{record_of, world_of}
-use Rattle.inv_all.specs.history.Record.{Past, Each, tells_of}
-use Rattle.inv_all.specs.history.Record.Past.{Then}
-use Rattle.inv_all.proofs.history.AllOf.{all_of, of_along}
-use Rattle.inv_all.proofs.Machines.{is_within, within_of}
+use Rattle.law_places.proofs.inv.ends.Ends.Tests.{Calm, at_shows, base_shows, base_any}
+use Rattle.law_places.specs.inv.shapes.Seats.{Seats, Shaped, suits, kind_of, protects, reloads, clears, releases, index_by}
+use Rattle.law_places.specs.inv.history.History.{record_of, world_of}
+use Rattle.law_places.specs.inv.history.Record.{Past, Each, tells_of}
+use Rattle.law_places.specs.inv.history.Record.Past.{Then}
+use Rattle.law_places.proofs.inv.history.AllOf.{all_of, of_along}
+use Rattle.law_places.proofs.inv.Machines.{is_within, within_of}
 use Rattle.laws.specs.StateAt.{began_of}
 use Rattle.law_places.proofs.answers.AnswersTold.Answering.{one_began, own_began}
 use Rattle.law_places.proofs.answers.AnswersTold.Owed.{call_for, TaskServes, FreeServes, WhyServes, Serves}
@@ -40,7 +40,7 @@ use Rattle.laws.specs.NoReuse.{protects_at, clears_at, indexes_ok}
 use Rattle.law_held.specs.Records.{RecordsUseIndexes}
 use Rattle.law_held.proofs.Indexes.Fitting.{fits, Fit, May, task_may, dequeue_may, work_fit, resumed_fit}
 use Rattle.law_held.proofs.Roots.Ways.{record_each, answers_of}
-use Rattle.inv_all.proofs.handover.Asks.{run_of}
+use Rattle.law_places.proofs.inv.handover.Asks.{run_of}
 
 -- an event that does not fit the call
 abbrev is_odd : Call → Event → Bool

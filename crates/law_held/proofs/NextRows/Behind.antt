@@ -18,36 +18,36 @@ use Rattle.wfe_core.specs.Phases.Base.{Protect, Reload}
 use Rattle.wfe_core.specs.Calls.{Gets, Changes, Holds, Enqueues, Dequeues, Why, Opens, FollowsHead, Phase, Idle, Runs, Scans, Works}
 use Rattle.wfe_core.specs.World.{World, finds, is_busy, told_in}
 use Rattle.wfe_core.proofs.Facts.{same_number, first_of, rest_of}
-use Rattle.inv_all.specs.shapes.Seats.{Seats, Run, root_by}
-use Rattle.inv_all.specs.history.History.{Item, Begins, Steps, Made, fits, done_if, made_of, first_made}
-use Rattle.inv_all.proofs.history.Along.{begins_right, low_seat, paths_keep}
-use Rattle.inv_all.specs.Known.{Known}
-use Rattle.inv_all.proofs.Inv.Begun.{known_start, known_begin}
-use Rattle.inv_all.proofs.Inv.Kept.{known_kept, asked_next}
-use Rattle.inv_all.proofs.Inv.Whole.{origins_need}
-use Rattle.inv_all.specs.history.Record.{Past, tells_of, begins, held_since}
-use Rattle.inv_all.specs.history.Record.Past.{Start, Then}
+use Rattle.law_places.specs.inv.shapes.Seats.{Seats, Run, root_by}
+use Rattle.law_places.specs.inv.history.History.{Item, Begins, Steps, Made, fits, done_if, made_of, first_made}
+use Rattle.law_places.proofs.inv.history.Along.{begins_right, low_seat, paths_keep}
+use Rattle.law_places.specs.inv.Known.{Known}
+use Rattle.law_places.proofs.inv.Inv.Begun.{known_start, known_begin}
+use Rattle.law_places.proofs.inv.Inv.Kept.{known_kept, asked_next}
+use Rattle.law_places.proofs.inv.Inv.Whole.{origins_need}
+use Rattle.law_places.specs.inv.history.Record.{Past, tells_of, begins, held_since}
+use Rattle.law_places.specs.inv.history.Record.Past.{Start, Then}
 use Rattle.law_places.proofs.answers.Lawful.Current.{idle_untracked}
-use Rattle.inv_all.proofs.history.AllOf.{all_of}
-use Rattle.inv_all.proofs.Machines.{is_within, within_of, within_begins}
-use Rattle.inv_all.specs.links.Origins.{Origins}
-use Rattle.inv_all.specs.links.Tracked.{carries_at, carries_in, root_for, root_in, Tracked, Carried}
-use Rattle.inv_all.proofs.links.Origins.Kept.{origins_kept, origins_start, origins_begin}
+use Rattle.law_places.proofs.inv.history.AllOf.{all_of}
+use Rattle.law_places.proofs.inv.Machines.{is_within, within_of, within_begins}
+use Rattle.law_places.specs.inv.links.Origins.{Origins}
+use Rattle.law_places.specs.inv.links.Tracked.{carries_at, carries_in, root_for, root_in, Tracked, Carried}
+use Rattle.law_places.proofs.inv.links.Origins.Kept.{origins_kept, origins_start, origins_begin}
 use Rattle.laws.specs.StateAt.{next_at, head_at}
 use Rattle.law_places.proofs.Ordering.Ordered.{no_row, one_row}
-use Rattle.inv_all.specs.requests.Standing.{Requests}
-use Rattle.inv_all.specs.requests.Views.{Deal, View as Asked}
-use Rattle.inv_all.proofs.requests.Kept.{requests_begin, requests_start}
-use Rattle.inv_all.specs.rows.Agree.{first_rows, rows_after}
-use Rattle.inv_all.specs.rows.Chain.{first_line, line_after, queue_of}
-use Rattle.inv_all.specs.rows.Queue.{Line, heads_on, stands_on}
-use Rattle.inv_all.specs.rows.Rows.{View}
-use Rattle.inv_all.specs.links.Links.{links_to}
+use Rattle.law_places.specs.inv.requests.Standing.{Requests}
+use Rattle.law_places.specs.inv.requests.Views.{Deal, View as Asked}
+use Rattle.law_places.proofs.inv.requests.Kept.{requests_begin, requests_start}
+use Rattle.law_places.specs.inv.rows.Agree.{first_rows, rows_after}
+use Rattle.law_places.specs.inv.rows.Chain.{first_line, line_after, queue_of}
+use Rattle.law_places.specs.inv.rows.Queue.{Line, heads_on, stands_on}
+use Rattle.law_places.specs.inv.rows.Rows.{View}
+use Rattle.law_places.specs.inv.links.Links.{links_to}
 use Rattle.law_held.proofs.Roots.Leads.{Leads, leads_of}
 use Rattle.laws.specs.HoldLaw.{is_last}
 use Rattle.law_held.proofs.NextRows.Nexts.{Nexts, nexts_step, nexts_first}
-use Rattle.inv_all.proofs.links.Origins.Ends.{found_clock}
-use Rattle.inv_all.proofs.handover.Asks.{run_of}
+use Rattle.law_places.proofs.inv.links.Origins.Ends.{found_clock}
+use Rattle.law_places.proofs.inv.handover.Asks.{run_of}
 use Rattle.wfe_core.proofs.Lists.{or_more}
 
 -- where a next link is null, the head had its row and no row was next to it, at a position of the seat's call

@@ -27,26 +27,26 @@ use Rattle.wfe_core.specs.Phases.ProtectAt.{PublishEra, CheckClock, PublishHelpe
 use Rattle.wfe_core.specs.Phases.Base.{Protect, Reload, Clear, Release}
 use Rattle.wfe_core.specs.Calls.{Task, Gets, Changes, Holds, Enqueues, Dequeues, ReadGuard, GiveBack, Why, Opens, FollowsHead, Phase, Idle, Runs, Scans, Works}
 use Rattle.wfe_core.proofs.Facts.{same_number, both, and_right_false, number_is}
-use Rattle.inv_all.proofs.history.MayTell.{concluded_told}
-use Rattle.inv_all.proofs.covers.Held.{finds_at}
-use Rattle.inv_all.proofs.ends.Ends.Tests.{Calm, at_shows, base_shows, base_any}
-use Rattle.inv_all.specs.shapes.Seats.{ToFollow, Run, suits, kind_of, protects, reloads, index_by}
-use Rattle.inv_all.specs.history.History.{record_of, world_of}
-use Rattle.inv_all.specs.Known.{Known}
-use Rattle.inv_all.specs.history.Record.{Past, Each, tells_of, begins, held_since}
-use Rattle.inv_all.specs.history.Record.Past.{Then}
-use Rattle.inv_all.specs.links.Origins.{Origins}
-use Rattle.inv_all.specs.links.Tracked.{carries_at}
+use Rattle.law_places.proofs.inv.history.MayTell.{concluded_told}
+use Rattle.law_places.proofs.inv.covers.Held.{finds_at}
+use Rattle.law_places.proofs.inv.ends.Ends.Tests.{Calm, at_shows, base_shows, base_any}
+use Rattle.law_places.specs.inv.shapes.Seats.{ToFollow, Run, suits, kind_of, protects, reloads, index_by}
+use Rattle.law_places.specs.inv.history.History.{record_of, world_of}
+use Rattle.law_places.specs.inv.Known.{Known}
+use Rattle.law_places.specs.inv.history.Record.{Past, Each, tells_of, begins, held_since}
+use Rattle.law_places.specs.inv.history.Record.Past.{Then}
+use Rattle.law_places.specs.inv.links.Origins.{Origins}
+use Rattle.law_places.specs.inv.links.Tracked.{carries_at}
 use Rattle.laws.specs.Once.{is_slot}
 use Rattle.laws.specs.StateAt.{next_at, head_at, stood_at}
 use Rattle.law_places.proofs.Ordering.Ordered.{head_is}
 use Rattle.laws.proofs.Tells.{tells_both}
-use Rattle.inv_all.specs.requests.Views.{View as Asked}
+use Rattle.law_places.specs.inv.requests.Views.{View as Asked}
 use Rattle.law_places.proofs.reuse.Reuse.Keeps.{record_stands}
-use Rattle.inv_all.specs.rows.Queue.{Line, stands_on}
-use Rattle.inv_all.specs.rows.Rows.{View}
-use Rattle.inv_all.proofs.ends.Told.Rows.{own_told, own_post, step_adds}
-use Rattle.inv_all.proofs.ends.Told.Turns.{Adds, is_later}
+use Rattle.law_places.specs.inv.rows.Queue.{Line, stands_on}
+use Rattle.law_places.specs.inv.rows.Rows.{View}
+use Rattle.law_places.proofs.inv.ends.Told.Rows.{own_told, own_post, step_adds}
+use Rattle.law_places.proofs.inv.ends.Told.Turns.{Adds, is_later}
 use Rattle.law_held.proofs.Roots.Leads.{Leads, leads_of}
 use Rattle.law_held.proofs.Roots.Ways.{record_each}
 use Rattle.laws.specs.HoldLaw.{is_last, was_last, behind_ok}
@@ -54,7 +54,7 @@ use Rattle.law_held.specs.Records.{RecordsFollowNexts}
 use Rattle.law_held.proofs.NextRows.Behind.{had_none, within_none, carried_none, reloaded_next, behind_of}
 use Rattle.law_held.proofs.NextRows.Nexts.{Nexts}
 use Rattle.law_turns.proofs.TurnCounts.Tried.{is_follow}
-use Rattle.inv_all.proofs.handover.Asks.{run_of}
+use Rattle.law_places.proofs.inv.handover.Asks.{run_of}
 use Rattle.law_places.proofs.Ordering.Linked.{row_is}
 use Rattle.wfe_core.proofs.Lists.{or_left, or_right, or_more}
 

@@ -20,25 +20,25 @@ use Rattle.wfe_core.specs.Locals.{busy_in, told_by, told_end, turn}
 use Rattle.wfe_core.specs.Posts.{stands}
 use Rattle.wfe_core.specs.World.{World, finds, is_busy, told_in}
 use Rattle.wfe_core.proofs.Facts.{first_of, rest_of}
-use Rattle.inv_all.specs.covers.Covers.{shown, spans}
-use Rattle.inv_all.proofs.covers.Held.{stepped_phase}
+use Rattle.law_places.specs.inv.covers.Covers.{shown, spans}
+use Rattle.law_places.proofs.inv.covers.Held.{stepped_phase}
 use Rattle.wfe_core.specs.words.Schemes.{is_ibr}
-use Rattle.inv_all.specs.shapes.Frame.{phase_left}
-use Rattle.inv_all.specs.requests.Roles.{shows}
-use Rattle.inv_all.specs.requests.Standing.{Requests, role_of}
-use Rattle.inv_all.specs.requests.Views.{Role}
-use Rattle.inv_all.proofs.requests.Kept.{idle_of}
-use Rattle.inv_all.specs.Inv.{Inv}
-use Rattle.inv_all.proofs.Inv.Reached.{inv_reached}
-use Rattle.inv_all.proofs.Inv.Shown.{word_era, shown_span}
-use Rattle.inv_all.specs.history.Record.{Past, Each, tells_of}
-use Rattle.inv_all.specs.history.Record.Past.{Then}
-use Rattle.inv_all.specs.history.Turns as schedule
-use Rattle.inv_all.specs.history.History.{Item, Steps, Made, fits, done, done_if, made_of, first_made, record_of, world_of}
-use Rattle.inv_all.proofs.history.Along.{made_snoc}
+use Rattle.law_places.specs.inv.shapes.Frame.{phase_left}
+use Rattle.law_places.specs.inv.requests.Roles.{shows}
+use Rattle.law_places.specs.inv.requests.Standing.{Requests, role_of}
+use Rattle.law_places.specs.inv.requests.Views.{Role}
+use Rattle.law_places.proofs.inv.requests.Kept.{idle_of}
+use Rattle.law_places.specs.inv.Inv.{Inv}
+use Rattle.law_places.proofs.inv.Inv.Reached.{inv_reached}
+use Rattle.law_places.proofs.inv.Inv.Shown.{word_era, shown_span}
+use Rattle.law_places.specs.inv.history.Record.{Past, Each, tells_of}
+use Rattle.law_places.specs.inv.history.Record.Past.{Then}
+use Rattle.law_places.specs.inv.history.Turns as schedule
+use Rattle.law_places.specs.inv.history.History.{Item, Steps, Made, fits, done, done_if, made_of, first_made, record_of, world_of}
+use Rattle.law_places.proofs.inv.history.Along.{made_snoc}
 use Rattle.laws.specs.StateAt.{stood_at, reserves_of, value_of}
 use Rattle.law_places.proofs.reuse.Reuse.Keeps.{record_stands}
-use Rattle.inv_all.proofs.history.AllOf.{all_of}
+use Rattle.law_places.proofs.inv.history.AllOf.{all_of}
 use Rattle.law_places.proofs.answers.AnswersTold.Owed.{is_open, Owes, owed}
 use Rattle.law_places.proofs.answers.AnswersTold.Answering.{owes_of}
 use Rattle.law_places.proofs.BareEnds.{end_stood}
@@ -47,9 +47,9 @@ use Rattle.law_turns.proofs.Counting.Counting.{Keeps, begin_kept, step_kept, fir
 use Rattle.law_turns.proofs.Counting.Fits.{Clean, free, holds}
 use Rattle.law_turns.proofs.Handovers.{handovers_meet}
 use Rattle.law_places.proofs.reuse.Holding.Holds.{record_values, history_held}
-use Rattle.inv_all.specs.rows.Rows.{Status}
+use Rattle.law_places.specs.inv.rows.Rows.{Status}
 use Rattle.law_held.proofs.Roots.Ways.{Turning, record_each, answers_of}
-use Rattle.inv_all.specs.history.Heard.{heard_of}
+use Rattle.law_places.specs.inv.history.Heard.{heard_of}
 use Rattle.law_places.specs.answers.Heard.{IsCounted}
 use Rattle.law_places.proofs.answers.Turns.Counted.{histories_count}
 use Rattle.laws.specs.HoldLaw.{is_alike, words_rest, guards_rest, rests_ok}

@@ -31,21 +31,21 @@ use Rattle.wfe_core.specs.Phases.RetireAt.{LoadLife, LoadRetire, StoreRetired}
 use Rattle.wfe_core.specs.Phases.Base.{Begin, Protect, Reload, Clear, Finish, Release, GiveUp, Retire, Move}
 use Rattle.wfe_core.specs.Phases.Ending.{Protected, Followed}
 use Rattle.wfe_core.specs.Calls.{Task, Gets, Changes, Holds, Enqueues, Dequeues, AfterScan, Next, Why, Opens, FollowsHead, Fills, ClearsNext, Clears, Finishes, GivesUp, Retires, Tidies, Advances, Releases, Phase, Idle, Runs, Scans, Works, CallTurn}
-use Rattle.inv_all.proofs.covers.Held.{stepped_post, stepped_phase}
+use Rattle.law_places.proofs.inv.covers.Held.{stepped_post, stepped_phase}
 use Rattle.wfe_core.specs.words.Schemes.{is_ibr}
-use Rattle.inv_all.specs.shapes.Frame.{phase_left}
-use Rattle.inv_all.specs.shapes.Seats.{Seats, ToFinish, ToGiveUp, ToRetire, ToMove, ToRelease, Run, suits, base_fits, protect_fits, task_root}
-use Rattle.inv_all.proofs.shapes.Frame.{seat_stays, begin_stays, begin_begins}
-use Rattle.inv_all.specs.history.History.{Item, Made, made_of, world_of}
-use Rattle.inv_all.specs.history.Turns as schedule
+use Rattle.law_places.specs.inv.shapes.Frame.{phase_left}
+use Rattle.law_places.specs.inv.shapes.Seats.{Seats, ToFinish, ToGiveUp, ToRetire, ToMove, ToRelease, Run, suits, base_fits, protect_fits, task_root}
+use Rattle.law_places.proofs.inv.shapes.Frame.{seat_stays, begin_stays, begin_begins}
+use Rattle.law_places.specs.inv.history.History.{Item, Made, made_of, world_of}
+use Rattle.law_places.specs.inv.history.Turns as schedule
 use Rattle.law_places.proofs.answers.OneStep.Along.{Kept, history_keeps}
-use Rattle.inv_all.proofs.steps_left.Rest.Moves.{move_post}
-use Rattle.inv_all.specs.history.Heard.{heard_of}
+use Rattle.law_places.proofs.inv.steps_left.Rest.Moves.{move_post}
+use Rattle.law_places.specs.inv.history.Heard.{heard_of}
 use Rattle.law_held.proofs.Resting.Spent.{Ended, over_why, Spent, Opened, Resumes, Out, resumed_spent, work_spent, scan_spent, first_spent, plain_ended}
 use Rattle.law_turns.proofs.Counting.Fits.{is_hold}
-use Rattle.inv_all.proofs.handover.Asks.{run_of}
+use Rattle.law_places.proofs.inv.handover.Asks.{run_of}
 use Rattle.wfe_core.proofs.Standing.{stands-with_row_same}
-use Rattle.inv_all.proofs.steps_left.Rest.Falling.{wfe_plain}
+use Rattle.law_places.proofs.inv.steps_left.Rest.Falling.{wfe_plain}
 use Rattle.wfe_core.proofs.Facts.{false_of_not}
 
 -- what a row that was found leaves

@@ -10,11 +10,11 @@ use Rattle.wfe_core.specs.defs.declared.lifetime.Interval.{Interval}
 use Rattle.wfe_core.proofs.Facts.{first_of, rest_of}
 use Rattle.laws.specs.StateAt.{is_index_word, one_more, reserves_by, reserves_of, value_of, reserved_by}
 use Rattle.laws.specs.Schedule.{event_handed, events_handed, handed_right}
-use Rattle.inv_all.specs.history.Turns.{EachTurn, record_of}
-use Rattle.inv_all.specs.history.Record.{Past, tells_of}
-use Rattle.inv_all.specs.history.Record.Past.{Then}
-use Rattle.inv_all.specs.history.Turns as schedule
-use Rattle.inv_all.specs.history.Turns.History.{Blank, Starts, Turns}
+use Rattle.law_places.specs.inv.history.Turns.{EachTurn, record_of}
+use Rattle.law_places.specs.inv.history.Record.{Past, tells_of}
+use Rattle.law_places.specs.inv.history.Record.Past.{Then}
+use Rattle.law_places.specs.inv.history.Turns as schedule
+use Rattle.law_places.specs.inv.history.Turns.History.{Blank, Starts, Turns}
 use Rattle.laws.proofs.Along.{index_guard}
 
 -- where its seat has published nothing, it publishes nothing

@@ -28,15 +28,15 @@ use Rattle.wfe_core.specs.Rest.{is_told}
 use Rattle.wfe_core.specs.Rounds.{scheme_of, index_of, root_of, protect_at, begin_base, begin_span, opening, round_by}
 use Rattle.wfe_core.specs.SlowPath.{own_request, answer_in, lost_turn}
 use Rattle.wfe_core.specs.Steps as steps
-use Rattle.inv_all.specs.ends.Standing.{is_end}
-use Rattle.inv_all.proofs.ends.Ends.Tests.{base_shows, phase_shows}
-use Rattle.inv_all.specs.shapes.Frame.{phase_left}
-use Rattle.inv_all.specs.shapes.Seats.{ToOpen, suits, kind_of, Shaped}
+use Rattle.law_places.specs.inv.ends.Standing.{is_end}
+use Rattle.law_places.proofs.inv.ends.Ends.Tests.{base_shows, phase_shows}
+use Rattle.law_places.specs.inv.shapes.Frame.{phase_left}
+use Rattle.law_places.specs.inv.shapes.Seats.{ToOpen, suits, kind_of, Shaped}
 use Rattle.law_places.proofs.answers.AnswersTold.Owed.{TaskServes, Serves}
 use Rattle.laws.specs.StateAt.{has_root}
-use Rattle.inv_all.proofs.steps_left.Rest.Told.{answer_untold}
+use Rattle.law_places.proofs.inv.steps_left.Rest.Told.{answer_untold}
 use Rattle.wfe_core.proofs.Facts.{false_of_not}
-use Rattle.inv_all.proofs.Inv.Ends.{task_end}
+use Rattle.law_places.proofs.inv.Inv.Ends.{task_end}
 
 -- a call looks for its root, and has not told that it found it
 abbrev pub is_early : Phase → Bool

@@ -15,29 +15,29 @@ use Rattle.wfe_core.specs.Locals.{Local, busy_in, settled_by, begun, begun_post,
 use Rattle.wfe_core.specs.Posts.{counted}
 use Rattle.wfe_core.specs.World.{World, begin, step, finds, is_busy, told_in}
 use Rattle.wfe_core.proofs.Facts.{first_of, rest_of, or_left_true}
-use Rattle.inv_all.proofs.ends.Ends.Tests.{Calm, step_any}
-use Rattle.inv_all.specs.shapes.Frame.{phase_left}
-use Rattle.inv_all.specs.shapes.Seats.{Seats}
-use Rattle.inv_all.proofs.shapes.Frame.{seat_stays, seat_steps, begin_stays, begin_begins}
-use Rattle.inv_all.specs.history.History.{Item, Made, first_made, record_of, world_of}
-use Rattle.inv_all.proofs.history.Along.{Steady, items_keep}
-use Rattle.inv_all.specs.history.Record.{Past, Each, tells_of}
-use Rattle.inv_all.specs.history.Record.Past.{Then}
+use Rattle.law_places.proofs.inv.ends.Ends.Tests.{Calm, step_any}
+use Rattle.law_places.specs.inv.shapes.Frame.{phase_left}
+use Rattle.law_places.specs.inv.shapes.Seats.{Seats}
+use Rattle.law_places.proofs.inv.shapes.Frame.{seat_stays, seat_steps, begin_stays, begin_begins}
+use Rattle.law_places.specs.inv.history.History.{Item, Made, first_made, record_of, world_of}
+use Rattle.law_places.proofs.inv.history.Along.{Steady, items_keep}
+use Rattle.law_places.specs.inv.history.Record.{Past, Each, tells_of}
+use Rattle.law_places.specs.inv.history.Record.Past.{Then}
 use Rattle.laws.proofs.Along.{along}
-use Rattle.inv_all.proofs.history.AllOf.{all_of}
-use Rattle.inv_all.proofs.Machines.{is_within, within_of}
+use Rattle.law_places.proofs.inv.history.AllOf.{all_of}
+use Rattle.law_places.proofs.inv.Machines.{is_within, within_of}
 use Rattle.laws.specs.StateAt.{began_of, has_root, rooted_by, rooted_of}
 use Rattle.law_places.proofs.answers.AnswersTold.Answering as answering
 use Rattle.law_places.proofs.answers.AnswersTold.Answering.{first_all, owes_of, began_along}
 use Rattle.law_places.proofs.answers.AnswersTold.Owed.{is_open, Serves, Owes, owed}
 use Rattle.law_places.proofs.Placing.Sums.{along_both}
 use Rattle.laws.proofs.Tells.{seen_other, seen_tells, seen_stays, tells_both}
-use Rattle.inv_all.proofs.ends.Told.Turns.{is_later}
+use Rattle.law_places.proofs.inv.ends.Told.Turns.{is_later}
 use Rattle.laws.specs.HoldLaw.{finds_ok}
 use Rattle.law_held.specs.Records.{RecordsFindRoots}
 use Rattle.law_held.proofs.Roots.Early.{is_early, is_rooting, Fate, RunFits, phase_fate, first_early}
 use Rattle.law_held.proofs.Roots.Ways.{record_each, answers_of}
-use Rattle.inv_all.proofs.handover.Asks.{run_of}
+use Rattle.law_places.proofs.inv.handover.Asks.{run_of}
 use Rattle.wfe_core.proofs.Lists.{or_more}
 
 rooted_stays : (event : Event) (x : Bool) → is_within event ≡ true → x ≡ true → rooted_by event x ≡ true

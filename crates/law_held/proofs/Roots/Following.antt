@@ -22,27 +22,27 @@ use Rattle.wfe_core.specs.Posts.{stands, counted, upper}
 use Rattle.wfe_core.specs.Protect.{told_held}
 use Rattle.wfe_core.specs.World.{World, finds, told_in}
 use Rattle.wfe_core.proofs.Facts.{same_number, and_right_false, number_is}
-use Rattle.inv_all.proofs.ends.Ends.Tests.{at_shows, base_shows, base_any}
-use Rattle.inv_all.specs.shapes.Seats.{ToFollow, Shaped, suits, kind_of}
-use Rattle.inv_all.specs.history.History.{record_of, world_of}
-use Rattle.inv_all.specs.history.Record.{Past, Each, tells_of}
-use Rattle.inv_all.specs.history.Record.Past.{Then}
+use Rattle.law_places.proofs.inv.ends.Ends.Tests.{at_shows, base_shows, base_any}
+use Rattle.law_places.specs.inv.shapes.Seats.{ToFollow, Shaped, suits, kind_of}
+use Rattle.law_places.specs.inv.history.History.{record_of, world_of}
+use Rattle.law_places.specs.inv.history.Record.{Past, Each, tells_of}
+use Rattle.law_places.specs.inv.history.Record.Past.{Then}
 use Rattle.laws.specs.StateAt.{head_at, stood_at, is_row}
 use Rattle.law_places.proofs.Ordering.Ordered.{head_is}
 use Rattle.laws.proofs.Tells.{tells_both}
 use Rattle.law_places.proofs.reuse.Reuse.Keeps.{record_stands}
-use Rattle.inv_all.specs.rows.Queue.{stands_on}
-use Rattle.inv_all.proofs.ends.Told.Rows.{own_told, own_post, step_adds}
-use Rattle.inv_all.proofs.ends.Told.Turns.{Adds, is_later}
+use Rattle.law_places.specs.inv.rows.Queue.{stands_on}
+use Rattle.law_places.proofs.inv.ends.Told.Rows.{own_told, own_post, step_adds}
+use Rattle.law_places.proofs.inv.ends.Told.Turns.{Adds, is_later}
 use Rattle.laws.specs.HoldLaw.{follows_ok}
 use Rattle.law_held.specs.Records.{RecordsFollowHead}
 use Rattle.law_held.proofs.Roots.Early.{RunFits}
 use Rattle.law_held.proofs.Roots.Finding.{fits_by}
 use Rattle.law_held.proofs.Roots.Leads.{leads_of}
 use Rattle.law_held.proofs.Roots.Ways.{record_each, answers_of}
-use Rattle.inv_all.proofs.rows.Queued.{finds_phase}
+use Rattle.law_places.proofs.inv.rows.Queued.{finds_phase}
 use Rattle.law_turns.proofs.TurnCounts.Tried.{is_follow}
-use Rattle.inv_all.proofs.ends.Ends.Stood.{is_standing, standing_calm}
+use Rattle.law_places.proofs.inv.ends.Ends.Stood.{is_standing, standing_calm}
 use Rattle.law_held.proofs.NextRows.Following.{is_one, no_reload, why_one, later_one, at_one, cleared_one, one_calm}
 use Rattle.law_held.proofs.Indexes.Clears.{row_there}
 use Rattle.wfe_core.proofs.Lists.{or_left, or_right, or_more}

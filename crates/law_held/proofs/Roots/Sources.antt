@@ -26,33 +26,33 @@ use Rattle.wfe_core.specs.Posts.{counted, cleared, stands, upper}
 use Rattle.wfe_core.specs.Protect.{told_held}
 use Rattle.wfe_core.specs.World.{World, finds, is_busy, told_in}
 use Rattle.wfe_core.proofs.Facts.{same_number, both, first_of, rest_of, true_of_not}
-use Rattle.inv_all.proofs.ends.Ends.Tests.{Calm, at_shows, base_shows, phase_shows, step_any}
-use Rattle.inv_all.specs.shapes.Seats.{Seats, protects, kind_of, task_root}
-use Rattle.inv_all.specs.history.History.{Item, Begins, Steps, Made, fits, done_if, made_of, first_made, record_of, world_of}
-use Rattle.inv_all.proofs.history.Along.{begins_right, low_seat, paths_keep}
-use Rattle.inv_all.specs.Known.{Known}
-use Rattle.inv_all.proofs.Inv.Begun.{known_start, known_begin}
-use Rattle.inv_all.proofs.Inv.Kept.{known_kept, asked_next}
-use Rattle.inv_all.proofs.Inv.Whole.{origins_need}
+use Rattle.law_places.proofs.inv.ends.Ends.Tests.{Calm, at_shows, base_shows, phase_shows, step_any}
+use Rattle.law_places.specs.inv.shapes.Seats.{Seats, protects, kind_of, task_root}
+use Rattle.law_places.specs.inv.history.History.{Item, Begins, Steps, Made, fits, done_if, made_of, first_made, record_of, world_of}
+use Rattle.law_places.proofs.inv.history.Along.{begins_right, low_seat, paths_keep}
+use Rattle.law_places.specs.inv.Known.{Known}
+use Rattle.law_places.proofs.inv.Inv.Begun.{known_start, known_begin}
+use Rattle.law_places.proofs.inv.Inv.Kept.{known_kept, asked_next}
+use Rattle.law_places.proofs.inv.Inv.Whole.{origins_need}
 use Rattle.laws.specs.StateAt.{same_value, tail_at, bucket_at, head_at, began_of}
-use Rattle.inv_all.specs.history.Record.{Past, Each, tells_of, begins, held_since}
-use Rattle.inv_all.specs.history.Record.Past.{Start, Then}
-use Rattle.inv_all.proofs.history.AllOf.{all_of}
-use Rattle.inv_all.proofs.Machines.{is_within, within_of, within_begins}
-use Rattle.inv_all.specs.links.Origins.{Origins}
-use Rattle.inv_all.specs.links.Tracked.{carries_at, carries_in, root_for, root_in, Tracked, Carried, Given, Helped}
-use Rattle.inv_all.proofs.links.Origins.Came.{aimed_at, link_busy, helps_busy}
-use Rattle.inv_all.proofs.links.Origins.Kept.{origins_kept, origins_start, origins_begin, idle_deal}
+use Rattle.law_places.specs.inv.history.Record.{Past, Each, tells_of, begins, held_since}
+use Rattle.law_places.specs.inv.history.Record.Past.{Start, Then}
+use Rattle.law_places.proofs.inv.history.AllOf.{all_of}
+use Rattle.law_places.proofs.inv.Machines.{is_within, within_of, within_begins}
+use Rattle.law_places.specs.inv.links.Origins.{Origins}
+use Rattle.law_places.specs.inv.links.Tracked.{carries_at, carries_in, root_for, root_in, Tracked, Carried, Given, Helped}
+use Rattle.law_places.proofs.inv.links.Origins.Came.{aimed_at, link_busy, helps_busy}
+use Rattle.law_places.proofs.inv.links.Origins.Kept.{origins_kept, origins_start, origins_begin, idle_deal}
 use Rattle.law_places.proofs.Ordering.Ordered.{word_of}
-use Rattle.inv_all.specs.requests.Deals.{is_quiet}
-use Rattle.inv_all.specs.requests.Standing.{Requests}
-use Rattle.inv_all.specs.requests.Views.{Deal, View as Asked}
-use Rattle.inv_all.proofs.requests.Kept.{idle_of, requests_begin, requests_start}
-use Rattle.inv_all.specs.rows.Agree.{first_rows, rows_after}
-use Rattle.inv_all.specs.rows.Chain.{first_line, line_after}
-use Rattle.inv_all.specs.rows.Queue.{Line}
-use Rattle.inv_all.specs.rows.Rows.{View}
-use Rattle.inv_all.proofs.ends.Told.Turns.{is_later}
+use Rattle.law_places.specs.inv.requests.Deals.{is_quiet}
+use Rattle.law_places.specs.inv.requests.Standing.{Requests}
+use Rattle.law_places.specs.inv.requests.Views.{Deal, View as Asked}
+use Rattle.law_places.proofs.inv.requests.Kept.{idle_of, requests_begin, requests_start}
+use Rattle.law_places.specs.inv.rows.Agree.{first_rows, rows_after}
+use Rattle.law_places.specs.inv.rows.Chain.{first_line, line_after}
+use Rattle.law_places.specs.inv.rows.Queue.{Line}
+use Rattle.law_places.specs.inv.rows.Rows.{View}
+use Rattle.law_places.proofs.inv.ends.Told.Turns.{is_later}
 use Rattle.law_places.proofs.answers.AnswersTold.Answering.{one_began, own_began}
 use Rattle.law_places.proofs.answers.AnswersTold.Owed.{call_for, TaskServes, Serves}
 use Rattle.laws.specs.HoldLaw.{has_had, sources_ok}
@@ -60,8 +60,8 @@ use Rattle.law_held.specs.Records.{RecordsFindSources}
 use Rattle.law_held.proofs.Roots.Leads.{Leads, leads_of}
 use Rattle.law_held.proofs.Roots.Ways.{record_each, answers_of}
 use Rattle.law_places.proofs.answers.Lawful.Counts.{reload_index}
-use Rattle.inv_all.proofs.links.Origins.Ends.{found_clock}
-use Rattle.inv_all.proofs.handover.Asks.{run_of}
+use Rattle.law_places.proofs.inv.links.Origins.Ends.{found_clock}
+use Rattle.law_places.proofs.inv.handover.Asks.{run_of}
 use Rattle.law_held.proofs.NextRows.Behind.{now_held, one_held}
 use Rattle.wfe_core.proofs.Lists.{or_left, or_right as none_rest}
 

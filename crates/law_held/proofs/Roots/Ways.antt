@@ -8,10 +8,10 @@ use Rattle.wfe_core.specs.defs.declared.call.Call.{Call}
 use Rattle.wfe_core.specs.defs.declared.event.Event.TheVariants as events
 use Rattle.wfe_core.specs.World.{World, is_busy, told_in}
 use Rattle.wfe_core.proofs.Facts.{rest_of}
-use Rattle.inv_all.specs.history.Record.{Past, Test, Each, EachEntry, tells_of}
-use Rattle.inv_all.proofs.history.Entries.{entries_of_each}
-use Rattle.inv_all.specs.history.History.{Item, Begins, Steps, Made, fits, done_if, made_of, first_made, record_of, world_of}
-use Rattle.inv_all.proofs.history.Along.{Steady, items_keep, low_seat, paths_keep}
+use Rattle.law_places.specs.inv.history.Record.{Past, Test, Each, EachEntry, tells_of}
+use Rattle.law_places.proofs.inv.history.Entries.{entries_of_each}
+use Rattle.law_places.specs.inv.history.History.{Item, Begins, Steps, Made, fits, done_if, made_of, first_made, record_of, world_of}
+use Rattle.law_places.proofs.inv.history.Along.{Steady, items_keep, low_seat, paths_keep}
 use Rattle.law_places.proofs.answers.AnswersTold.Answering as answering
 
 -- a seat that makes a step where a history has come to

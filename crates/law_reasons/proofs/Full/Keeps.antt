@@ -20,30 +20,30 @@ use Rattle.wfe_core.specs.Locals.{Local, begun, begun_post, told_end, turn}
 use Rattle.wfe_core.specs.Posts.{counted}
 use Rattle.wfe_core.specs.World.{World, begin, step, finds, is_busy, told_in}
 use Rattle.wfe_core.proofs.Facts.{both, first_of, rest_of, or_left_true, same_test}
-use Rattle.inv_all.proofs.covers.Held.{stepped_phase}
-use Rattle.inv_all.specs.shapes.Frame.{phase_left}
-use Rattle.inv_all.proofs.shapes.Frame.{seat_stays, begin_stays, begin_begins}
-use Rattle.inv_all.specs.rows.Rows.{is_taken}
-use Rattle.inv_all.specs.history.Record.{Past, Each, begins, own, held_since, tells_of}
-use Rattle.inv_all.specs.history.Record.Past.{Start, Then}
-use Rattle.inv_all.proofs.history.Entries.{entries_of_each}
-use Rattle.inv_all.specs.history.History.{Item, Begins, Steps, Made, fits, done, made_of, first_made, record_of}
-use Rattle.inv_all.proofs.history.Along.{Steady, items_keep}
+use Rattle.law_scans.proofs.inv.covers.Held.{stepped_phase}
+use Rattle.law_scans.specs.inv.shapes.Frame.{phase_left}
+use Rattle.law_scans.proofs.inv.shapes.Frame.{seat_stays, begin_stays, begin_begins}
+use Rattle.law_scans.specs.inv.rows.Rows.{is_taken}
+use Rattle.law_scans.specs.inv.history.Record.{Past, Each, begins, own, held_since, tells_of}
+use Rattle.law_scans.specs.inv.history.Record.Past.{Start, Then}
+use Rattle.law_scans.proofs.inv.history.Entries.{entries_of_each}
+use Rattle.law_scans.specs.inv.history.History.{Item, Begins, Steps, Made, fits, done, made_of, first_made, record_of}
+use Rattle.law_scans.proofs.inv.history.Along.{Steady, items_keep}
 use Rattle.laws.specs.StateAt.{taken_at, began_of, is_mark, taken_since, was_taken}
 use Rattle.laws.proofs.Along.{along}
 use Rattle.law_scans.proofs.reuse.Once.Calm.{is_unread}
 use Rattle.law_scans.proofs.reuse.Once.Keeps as once
-use Rattle.inv_all.proofs.history.Passes.{scan_told}
-use Rattle.inv_all.proofs.history.AllOf.{all_of}
-use Rattle.inv_all.proofs.Machines.{is_within, within_of}
+use Rattle.law_scans.proofs.inv.history.Passes.{scan_told}
+use Rattle.law_scans.proofs.inv.history.AllOf.{all_of}
+use Rattle.law_scans.proofs.inv.Machines.{is_within, within_of}
 use Rattle.law_scans.proofs.answers.AnswersTold.Answering as answering
 use Rattle.law_scans.proofs.answers.AnswersTold.Answering.{began_along, first_all, owes_of, others_began}
 use Rattle.law_reasons.proofs.Reasons.Later.{Later, later_all, later_same, later_then}
 use Rattle.law_scans.proofs.answers.AnswersTold.Owed.{is_open, owed, Owes}
 use Rattle.law_scans.proofs.places.Placing.Sums.{along_both}
 use Rattle.laws.proofs.Tells.{seen_own, seen_tells, seen_stays, tells_both}
-use Rattle.inv_all.specs.ends.Walks.{Walking, WalkPhase, seen_after}
-use Rattle.inv_all.proofs.ends.Walks.Kept.{full_seen, walking_start, walking_kept}
+use Rattle.law_scans.specs.inv.ends.Walks.{Walking, WalkPhase, seen_after}
+use Rattle.law_scans.proofs.inv.ends.Walks.Kept.{full_seen, walking_start, walking_kept}
 use Rattle.law_scans.proofs.DueScans.Keeps.{phase_right, told_starts}
 use Rattle.law_scans.proofs.DueScans.Lands.{PhaseRight}
 use Rattle.law_scans.proofs.DueScans.Still.{is_still, front}
@@ -57,7 +57,7 @@ use Rattle.law_reasons.proofs.Full.Since.{first_walks, held_now, held_others, he
 use Rattle.law_reasons.proofs.Full.Ties.{AnswerFits, FullFits, LaterFits, Now, OutFits, PhaseFits, reads_at}
 use Rattle.law_scans.proofs.ClockAnswers.Kept.{fronts}
 use Rattle.wfe_core.proofs.Lists.{or_more}
-use Rattle.inv_all.proofs.Outcomes.Ended.{seen_taken}
+use Rattle.law_scans.proofs.inv.Outcomes.Ended.{seen_taken}
 
 -- what a record says of a call
 abbrev pub now_of : Config → ℕ → Past → Now

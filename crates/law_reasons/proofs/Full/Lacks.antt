@@ -24,13 +24,13 @@ use Rattle.wfe_core.specs.Calls.{Task, Gets, Changes, Holds, Enqueues, Dequeues,
 use Rattle.wfe_core.specs.World.{World, finds}
 use Rattle.wfe_core.proofs.Facts.{same_number, both, first_of, rest_of, below_unless, true_of_not, or_left_true, same_both, lt_test_2}
 use Rattle.law_scans.proofs.answers.AnswersTold.Owed.{Serves, call_for}
-use Rattle.inv_all.proofs.covers.Held.{finds_at}
+use Rattle.law_scans.proofs.inv.covers.Held.{finds_at}
 use Rattle.laws.specs.StateAt.{was_current, bucket_of, changes_of, count_of, queued_of, begun_at, had_version, is_there, pairs_at}
-use Rattle.inv_all.specs.history.Record.{Past, begins, held_since}
-use Rattle.inv_all.specs.contents.Reads.{numbers_in}
-use Rattle.inv_all.specs.requests.Views.{View as Asked}
-use Rattle.inv_all.specs.rows.Queue.{Line, stands_on}
-use Rattle.inv_all.specs.rows.Rows.{View}
+use Rattle.law_scans.specs.inv.history.Record.{Past, begins, held_since}
+use Rattle.law_scans.specs.inv.contents.Reads.{numbers_in}
+use Rattle.law_scans.specs.inv.requests.Views.{View as Asked}
+use Rattle.law_scans.specs.inv.rows.Queue.{Line, stands_on}
+use Rattle.law_scans.specs.inv.rows.Rows.{View}
 use Rattle.law_reasons.proofs.Reasons.Later.{Later, more_count, current_lasts}
 use Rattle.law_reasons.proofs.Reasons.Reading.{Shown, count_read, value_read, null_read}
 use Rattle.law_reasons.proofs.Reasons.Refusing.{ReadAt, current_of}

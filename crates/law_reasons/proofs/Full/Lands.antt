@@ -30,10 +30,10 @@ use Rattle.wfe_core.specs.Phases.RetireAt.{LoadLife, LoadRetire, StoreRetired}
 use Rattle.wfe_core.specs.Phases.Base.{Allocate, Write, Retire, Move}
 use Rattle.wfe_core.specs.Phases.Ending.{Done, Protected, Followed, Allocated, Retired, Clocked}
 use Rattle.wfe_core.specs.Calls.{Task, Gets, Changes, Holds, Enqueues, Dequeues, Next, Again, MakeRoom, Answering, Retiring, AfterScan, Answered, Repeated, Counted, LoadNumber, LoadNext, PassTail, ExchangeNext, ExchangeTail, Work, Getting, Changing, Enqueuing, Dequeuing, ScanAt, ReadGuard, GiveBack, Why, Opens, FollowsHead, Fills, ClearsNext, Clears, Finishes, GivesUp, Retires, Tidies, Advances, Releases, Phase, Idle, Runs, Scans, Works, CallOutcome, GoesOn, Answers}
-use Rattle.inv_all.specs.shapes.Seats.{Kind, ToOpen, ToFollow, ToClear, ToFinish, ToRelease, ToGiveUp, ToFill, ToRetire, ToMove, kind_of, suits, fills, retires, scan_fits}
-use Rattle.inv_all.specs.rows.Hands.{task_fills, runs_right}
+use Rattle.law_scans.specs.inv.shapes.Seats.{Kind, ToOpen, ToFollow, ToClear, ToFinish, ToRelease, ToGiveUp, ToFill, ToRetire, ToMove, kind_of, suits, fills, retires, scan_fits}
+use Rattle.law_scans.specs.inv.rows.Hands.{task_fills, runs_right}
 use Rattle.laws.proofs.Along.{along}
-use Rattle.inv_all.proofs.history.Passes.{scan_told}
+use Rattle.law_scans.proofs.inv.history.Passes.{scan_told}
 use Rattle.law_scans.proofs.DueScans.Lands.{PhaseRight}
 use Rattle.law_scans.proofs.DueScans.Still.{claim_front, tick_front, base_front, front}
 use Rattle.laws.specs.ScanLaw.{Search, search_by, seeks_row}

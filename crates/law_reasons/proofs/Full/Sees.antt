@@ -6,22 +6,22 @@ use Rattle.wfe_core.specs.defs.declared.call.Call.{Call}
 use Rattle.wfe_core.specs.defs.declared.event.Event.TheVariants as events
 use Rattle.wfe_core.specs.Book.{booked_all}
 use Rattle.wfe_core.specs.World.{World, start, begin, step, is_busy, told_in}
-use Rattle.inv_all.proofs.requests.Kept.{requests_start, requests_begin}
-use Rattle.inv_all.specs.requests.Views.{Deal, View as Asked}
-use Rattle.inv_all.specs.requests.Views.Deal.{Quiet}
-use Rattle.inv_all.specs.rows.Agree.{first_rows, rows_after}
-use Rattle.inv_all.specs.rows.Chain.{first_line, line_after}
-use Rattle.inv_all.specs.rows.Queue.{Line}
-use Rattle.inv_all.specs.rows.Rows.{View}
-use Rattle.inv_all.specs.history.Record.{Past, tells_of}
-use Rattle.inv_all.specs.history.Record.Past.{Start, Then}
-use Rattle.inv_all.specs.history.History.{Begins, Steps, Made, done, first_made}
-use Rattle.inv_all.proofs.Inv.Begun.{known_start, known_begin}
-use Rattle.inv_all.proofs.Inv.Kept.{known_kept, asked_next}
+use Rattle.law_scans.proofs.inv.requests.Kept.{requests_start, requests_begin}
+use Rattle.law_scans.specs.inv.requests.Views.{Deal, View as Asked}
+use Rattle.law_scans.specs.inv.requests.Views.Deal.{Quiet}
+use Rattle.law_scans.specs.inv.rows.Agree.{first_rows, rows_after}
+use Rattle.law_scans.specs.inv.rows.Chain.{first_line, line_after}
+use Rattle.law_scans.specs.inv.rows.Queue.{Line}
+use Rattle.law_scans.specs.inv.rows.Rows.{View}
+use Rattle.law_scans.specs.inv.history.Record.{Past, tells_of}
+use Rattle.law_scans.specs.inv.history.Record.Past.{Start, Then}
+use Rattle.law_scans.specs.inv.history.History.{Begins, Steps, Made, done, first_made}
+use Rattle.law_scans.proofs.inv.Inv.Begun.{known_start, known_begin}
+use Rattle.law_scans.proofs.inv.Inv.Kept.{known_kept, asked_next}
 use Rattle.law_scans.proofs.answers.Lawful.Current.{base_begun, current_start, current_begin, current_kept, current_same}
 use Rattle.law_scans.proofs.answers.Lawful.Maps.{base_of, begin_base, told_base, told_changes}
 use Rattle.law_scans.proofs.answers.Lawful.Queues.{Agrees, told_agrees}
-use Rattle.inv_all.proofs.Machines.{within_of}
+use Rattle.law_scans.proofs.inv.Machines.{within_of}
 use Rattle.law_reasons.proofs.Reasons.Reading.{Shown}
 
 pub record Sees (made : Made) : Type 0 where

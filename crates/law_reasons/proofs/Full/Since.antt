@@ -18,13 +18,13 @@ use Rattle.wfe_core.specs.Rounds.{begin_base, begin_span, release_base, round, r
 use Rattle.wfe_core.specs.Scan as scan
 use Rattle.wfe_core.specs.Steps as steps
 use Rattle.wfe_core.proofs.Facts.{both, first_of, rest_of, or_left_true}
-use Rattle.inv_all.specs.shapes.Frame.{phase_left}
-use Rattle.inv_all.specs.history.Record.{Past, Test, begins, own, held_since, tells_of}
-use Rattle.inv_all.specs.history.Record.Past.{Start, Then}
-use Rattle.inv_all.proofs.history.AllOf.{all_of}
+use Rattle.law_scans.specs.inv.shapes.Frame.{phase_left}
+use Rattle.law_scans.specs.inv.history.Record.{Past, Test, begins, own, held_since, tells_of}
+use Rattle.law_scans.specs.inv.history.Record.Past.{Start, Then}
+use Rattle.law_scans.proofs.inv.history.AllOf.{all_of}
 use Rattle.law_scans.proofs.reuse.Once.Calm as calm
 use Rattle.law_scans.proofs.reuse.Once.Calm.{is_unread, run_unread, work_unread}
-use Rattle.inv_all.specs.ends.Walks.{WalkPhase}
+use Rattle.law_scans.specs.inv.ends.Walks.{WalkPhase}
 use Rattle.wfe_core.specs.words.declared.config.SchemeKind.{SchemeKind}
 use Rattle.wfe_core.specs.words.declared.config.SchemeKind.TheVariants.{He, Ibr, Wfe}
 use Rattle.laws.specs.StateAt.{is_mark}

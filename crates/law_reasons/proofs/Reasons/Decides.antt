@@ -32,15 +32,15 @@ use Rattle.wfe_core.specs.World.{World, finds}
 use Rattle.wfe_core.proofs.Facts.{both, none_by}
 use Rattle.law_scans.proofs.answers.AnswersTold.Owed.{Serves, WhyServes, WorkServes, call_for}
 use Rattle.wfe_core.specs.defs.Events.{is_null, is_held}
-use Rattle.inv_all.proofs.shapes.Kept.{counted_fits, run_counted}
-use Rattle.inv_all.specs.shapes.Seats.{Run, Seats}
-use Rattle.inv_all.specs.history.Record.{Past}
+use Rattle.law_scans.proofs.inv.shapes.Kept.{counted_fits, run_counted}
+use Rattle.law_scans.specs.inv.shapes.Seats.{Run, Seats}
+use Rattle.law_scans.specs.inv.history.Record.{Past}
 use Rattle.laws.specs.StateAt.{queued_of, stood_at, is_row, begun_at, has_told, was_empty}
-use Rattle.inv_all.proofs.requests.Standings.{machine_stands}
-use Rattle.inv_all.specs.requests.Parents.{OutcomeStands, base_stands, phase_stands}
-use Rattle.inv_all.specs.requests.Views.{View as Asked}
-use Rattle.inv_all.specs.rows.Queue.{Line}
-use Rattle.inv_all.specs.rows.Rows.{View}
+use Rattle.law_scans.proofs.inv.requests.Standings.{machine_stands}
+use Rattle.law_scans.specs.inv.requests.Parents.{OutcomeStands, base_stands, phase_stands}
+use Rattle.law_scans.specs.inv.requests.Views.{View as Asked}
+use Rattle.law_scans.specs.inv.rows.Queue.{Line}
+use Rattle.law_scans.specs.inv.rows.Rows.{View}
 use Rattle.laws.specs.AnswerLaw.{put_reason, remove_reason, enqueue_reason, dequeue_reason, hold_reason, release_reason, reason}
 use Rattle.law_reasons.proofs.Reasons.Later.{Later, Bounds, is_last, reason_lasts}
 use Rattle.law_reasons.proofs.Reasons.Deciding.{Sound, is_plain, ChangeDecides, EnqueueDecides, TaskDecides, FollowDecides, FreeDecides, WhyDecides, OutcomeDecides, AlterDecides, AppendDecides, WorkDecides, PhaseDecides, PhaseKeeps, OutKeeps, keeps_on, turn_keeps}
@@ -48,8 +48,8 @@ use Rattle.law_reasons.proofs.Reasons.Emptied.{Emptied, no_next_seen}
 use Rattle.law_reasons.proofs.Reasons.Reading.{Shown, NumberAt, count_read, value_read, null_base, null_read, number_read}
 use Rattle.law_reasons.proofs.Reasons.Refusing.{ReadAt, some_is, change_refused, change_fits}
 use Rattle.law_reasons.proofs.Reasons.Saying.{RunSays}
-use Rattle.inv_all.proofs.requests.Parents.{base_counted}
-use Rattle.inv_all.proofs.handover.Asks.{run_of}
+use Rattle.law_scans.proofs.inv.requests.Parents.{base_counted}
+use Rattle.law_scans.proofs.inv.handover.Asks.{run_of}
 
 -- an answer that is decided has its reason, which lasts
 pub record Kept (c : Config) (i : ℕ) (p : Past) (call : Call) (answer : Answer) : Type 0 where

@@ -19,26 +19,26 @@ use Rattle.wfe_core.specs.Phases.Base.{Protect, Reload}
 use Rattle.wfe_core.specs.Calls.{Gets, Why, Opens, FollowsHead, Phase, Idle, Runs, Scans, Works}
 use Rattle.wfe_core.specs.World.{World, start, begin, step, is_busy, finds}
 use Rattle.wfe_core.proofs.Facts.{same_number, both, first_of, rest_of}
-use Rattle.inv_all.proofs.ends.Ends.Nulls.{nulls_end}
-use Rattle.inv_all.specs.ends.Nulls.{ended_at, ended_base}
-use Rattle.inv_all.specs.shapes.Seats.{Seats, Run, root_by}
-use Rattle.inv_all.proofs.Inv.Whole.{origins_need}
-use Rattle.inv_all.specs.Known.{Known}
-use Rattle.inv_all.proofs.contents.Items.Gives.{empty_right}
+use Rattle.law_scans.proofs.inv.ends.Ends.Nulls.{nulls_end}
+use Rattle.law_scans.specs.inv.ends.Nulls.{ended_at, ended_base}
+use Rattle.law_scans.specs.inv.shapes.Seats.{Seats, Run, root_by}
+use Rattle.law_scans.proofs.inv.Inv.Whole.{origins_need}
+use Rattle.law_scans.specs.inv.Known.{Known}
+use Rattle.law_scans.proofs.inv.contents.Items.Gives.{empty_right}
 use Rattle.law_scans.proofs.answers.Lawful.Current.{idle_untracked}
-use Rattle.inv_all.proofs.links.Origins.Came.{aimed_at}
-use Rattle.inv_all.proofs.links.Origins.Kept.{origins_kept, origins_start, origins_begin}
-use Rattle.inv_all.specs.links.Origins.{Origins}
-use Rattle.inv_all.specs.links.Tracked.{carries_at, carries_in, root_for, root_in, Tracked, Carried}
-use Rattle.inv_all.specs.requests.NextDeals.{next_deals}
-use Rattle.inv_all.specs.requests.Standing.{Requests}
-use Rattle.inv_all.specs.requests.Views.{View as Asked}
-use Rattle.inv_all.specs.requests.Views.Deal.{Quiet}
-use Rattle.inv_all.specs.rows.Chain.{queue_of}
-use Rattle.inv_all.specs.rows.Queue.{Line, heads_on, stands_on}
-use Rattle.inv_all.specs.rows.Rows.{View}
-use Rattle.inv_all.proofs.links.Origins.Ends.{found_clock}
-use Rattle.inv_all.proofs.handover.Asks.{run_of}
+use Rattle.law_scans.proofs.inv.links.Origins.Came.{aimed_at}
+use Rattle.law_scans.proofs.inv.links.Origins.Kept.{origins_kept, origins_start, origins_begin}
+use Rattle.law_scans.specs.inv.links.Origins.{Origins}
+use Rattle.law_scans.specs.inv.links.Tracked.{carries_at, carries_in, root_for, root_in, Tracked, Carried}
+use Rattle.law_scans.specs.inv.requests.NextDeals.{next_deals}
+use Rattle.law_scans.specs.inv.requests.Standing.{Requests}
+use Rattle.law_scans.specs.inv.requests.Views.{View as Asked}
+use Rattle.law_scans.specs.inv.requests.Views.Deal.{Quiet}
+use Rattle.law_scans.specs.inv.rows.Chain.{queue_of}
+use Rattle.law_scans.specs.inv.rows.Queue.{Line, heads_on, stands_on}
+use Rattle.law_scans.specs.inv.rows.Rows.{View}
+use Rattle.law_scans.proofs.inv.links.Origins.Ends.{found_clock}
+use Rattle.law_scans.proofs.inv.handover.Asks.{run_of}
 
 -- a null next link shows a queue of which all was taken
 abbrev null_seen : Bool → Root → ℕ → Bool

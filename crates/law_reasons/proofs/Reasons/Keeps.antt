@@ -17,32 +17,32 @@ use Rattle.wfe_core.specs.Posts.{stands}
 use Rattle.wfe_core.specs.Steps.{first_phase}
 use Rattle.wfe_core.specs.World.{World, start, begin, step, finds, is_busy, told_in}
 use Rattle.wfe_core.proofs.Facts.{first_of, rest_of}
-use Rattle.inv_all.proofs.covers.Begun.{first_begins}
-use Rattle.inv_all.proofs.covers.Held.{stepped_post}
-use Rattle.inv_all.proofs.shapes.Frame.{begin_begins, begin_stays, seat_stays, seat_steps}
-use Rattle.inv_all.specs.shapes.Frame.{phase_left}
-use Rattle.inv_all.proofs.contents.Items.Gives.{items_count}
-use Rattle.inv_all.proofs.requests.Kept.{requests_start, requests_begin}
-use Rattle.inv_all.specs.requests.NextDeals.{next_deals}
-use Rattle.inv_all.specs.requests.Standing.{Requests}
-use Rattle.inv_all.specs.requests.Views.{Deal, View as Asked}
-use Rattle.inv_all.specs.requests.Views.Deal.{Quiet}
-use Rattle.inv_all.specs.rows.Agree.{first_rows, rows_after}
-use Rattle.inv_all.specs.rows.Chain.{first_line, line_after}
-use Rattle.inv_all.specs.rows.Queue.{Line}
-use Rattle.inv_all.specs.rows.Rows.{View}
-use Rattle.inv_all.proofs.history.Entries.{entries_of_each}
-use Rattle.inv_all.specs.history.Record.{Past, Each, tells_of}
-use Rattle.inv_all.specs.history.Record.Past.{Start, Then}
-use Rattle.inv_all.specs.history.History.{Item, Begins, Steps, Made, fits, done_if, did, done, first_made, made_from, made_of, record_of}
-use Rattle.inv_all.proofs.history.Along.{begins_right, low_seat, made_snoc}
-use Rattle.inv_all.proofs.Inv.Begun.{known_start, known_begin}
-use Rattle.inv_all.proofs.Inv.Kept.{known_kept, asked_next}
+use Rattle.law_scans.proofs.inv.covers.Begun.{first_begins}
+use Rattle.law_scans.proofs.inv.covers.Held.{stepped_post}
+use Rattle.law_scans.proofs.inv.shapes.Frame.{begin_begins, begin_stays, seat_stays, seat_steps}
+use Rattle.law_scans.specs.inv.shapes.Frame.{phase_left}
+use Rattle.law_scans.proofs.inv.contents.Items.Gives.{items_count}
+use Rattle.law_scans.proofs.inv.requests.Kept.{requests_start, requests_begin}
+use Rattle.law_scans.specs.inv.requests.NextDeals.{next_deals}
+use Rattle.law_scans.specs.inv.requests.Standing.{Requests}
+use Rattle.law_scans.specs.inv.requests.Views.{Deal, View as Asked}
+use Rattle.law_scans.specs.inv.requests.Views.Deal.{Quiet}
+use Rattle.law_scans.specs.inv.rows.Agree.{first_rows, rows_after}
+use Rattle.law_scans.specs.inv.rows.Chain.{first_line, line_after}
+use Rattle.law_scans.specs.inv.rows.Queue.{Line}
+use Rattle.law_scans.specs.inv.rows.Rows.{View}
+use Rattle.law_scans.proofs.inv.history.Entries.{entries_of_each}
+use Rattle.law_scans.specs.inv.history.Record.{Past, Each, tells_of}
+use Rattle.law_scans.specs.inv.history.Record.Past.{Start, Then}
+use Rattle.law_scans.specs.inv.history.History.{Item, Begins, Steps, Made, fits, done_if, did, done, first_made, made_from, made_of, record_of}
+use Rattle.law_scans.proofs.inv.history.Along.{begins_right, low_seat, made_snoc}
+use Rattle.law_scans.proofs.inv.Inv.Begun.{known_start, known_begin}
+use Rattle.law_scans.proofs.inv.Inv.Kept.{known_kept, asked_next}
 use Rattle.law_scans.proofs.reuse.Reuse.Keeps.{record_stands}
 use Rattle.laws.specs.StateAt.{stood_at, queued_of, taken_of, began_of, told_of, all_taken, was_empty}
 use Rattle.law_scans.proofs.answers.Lawful.Current.{base_begun, current_start, current_begin, current_kept, current_same}
-use Rattle.inv_all.proofs.history.AllOf.{all_of}
-use Rattle.inv_all.proofs.Machines.{is_within, within_of}
+use Rattle.law_scans.proofs.inv.history.AllOf.{all_of}
+use Rattle.law_scans.proofs.inv.Machines.{is_within, within_of}
 use Rattle.law_scans.proofs.answers.Lawful.Maps.{base_of, begin_base, told_base, told_changes}
 use Rattle.law_scans.proofs.answers.Lawful.Queues.{Agrees, told_agrees}
 use Rattle.law_scans.proofs.answers.AnswersTold.Answering as answering

@@ -15,10 +15,10 @@ use Rattle.wfe_core.specs.defs.declared.fold.Change.{Change}
 use Rattle.wfe_core.specs.defs.declared.fold.Change.TheVariants as the_changes
 use Rattle.wfe_core.proofs.Facts.{both, first_of, rest_of}
 use Rattle.laws.specs.StateAt.{was_current, bucket_of, changes_of, count_of, with_change, queued_of, all_taken, begun_at, had_version, has_told, is_there, pairs_at, was_empty}
-use Rattle.inv_all.specs.history.Record.{Past, begins, own, told_since, tells_of}
-use Rattle.inv_all.specs.history.Record.Past.{Then}
-use Rattle.inv_all.proofs.history.AllOf.{all_of}
-use Rattle.inv_all.proofs.Machines.{is_within, within_begins}
+use Rattle.law_scans.specs.inv.history.Record.{Past, begins, own, told_since, tells_of}
+use Rattle.law_scans.specs.inv.history.Record.Past.{Then}
+use Rattle.law_scans.proofs.inv.history.AllOf.{all_of}
+use Rattle.law_scans.proofs.inv.Machines.{is_within, within_begins}
 use Rattle.wfe_core.specs.defs.Events.{is_null}
 use Rattle.laws.specs.AnswerLaw.{put_reason, remove_reason, enqueue_reason, dequeue_reason, hold_reason, release_reason, reason}
 

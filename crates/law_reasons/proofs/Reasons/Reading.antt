@@ -20,29 +20,29 @@ use Rattle.wfe_core.specs.Phases.Ending.{Protected}
 use Rattle.wfe_core.specs.Calls.{ChangeKept, EnqueueKept, LoadCount, LoadValue, LoadNext, Task, Changes, Opens, Changing, Enqueuing, Phase, Runs, Works}
 use Rattle.wfe_core.specs.World.{World, finds}
 use Rattle.wfe_core.proofs.Facts.{same_number, same_both}
-use Rattle.inv_all.proofs.contents.Contents.Lasts.{on}
-use Rattle.inv_all.proofs.contents.Contents.Lists.{take_next}
-use Rattle.inv_all.proofs.contents.Contents.Reading.{count_shown, value_shown}
-use Rattle.inv_all.specs.contents.Knows.{AtCount, AtValue, Knows, pair_at, reads_in}
-use Rattle.inv_all.specs.contents.Shelf.{pairs_by, shelf_of}
-use Rattle.inv_all.proofs.covers.Held.{finds_at}
-use Rattle.inv_all.specs.shapes.Seats.{root_by}
-use Rattle.inv_all.proofs.Inv.Whole.{contents_need}
-use Rattle.inv_all.specs.Known.{Known}
-use Rattle.inv_all.proofs.contents.Items.Gives.{items_count}
+use Rattle.law_scans.proofs.inv.contents.Contents.Lasts.{on}
+use Rattle.law_scans.proofs.inv.contents.Contents.Lists.{take_next}
+use Rattle.law_scans.proofs.inv.contents.Contents.Reading.{count_shown, value_shown}
+use Rattle.law_scans.specs.inv.contents.Knows.{AtCount, AtValue, Knows, pair_at, reads_in}
+use Rattle.law_scans.specs.inv.contents.Shelf.{pairs_by, shelf_of}
+use Rattle.law_scans.proofs.inv.covers.Held.{finds_at}
+use Rattle.law_scans.specs.inv.shapes.Seats.{root_by}
+use Rattle.law_scans.proofs.inv.Inv.Whole.{contents_need}
+use Rattle.law_scans.specs.inv.Known.{Known}
+use Rattle.law_scans.proofs.inv.contents.Items.Gives.{items_count}
 use Rattle.law_scans.proofs.answers.Lawful.Current.{Current, shelf_since, since, since_is}
 use Rattle.law_scans.proofs.answers.Lawful.Gots.{null_at}
 use Rattle.law_scans.proofs.answers.Lawful.Maps.{base_of}
 use Rattle.law_scans.proofs.answers.Lawful.Nulls.{null_tracked, null_root}
 use Rattle.laws.specs.StateAt.{queued_of, changes_of, count_of, begun_at, pairs_at}
-use Rattle.inv_all.specs.history.Record.{Past}
-use Rattle.inv_all.specs.links.Tracked.{root_in}
-use Rattle.inv_all.specs.requests.Views.{View as Asked}
-use Rattle.inv_all.specs.rows.Queue.{Line, stands_on}
-use Rattle.inv_all.specs.rows.Rows.{View, is_settled}
-use Rattle.inv_all.specs.contents.Reads.{numbers_in}
+use Rattle.law_scans.specs.inv.history.Record.{Past}
+use Rattle.law_scans.specs.inv.links.Tracked.{root_in}
+use Rattle.law_scans.specs.inv.requests.Views.{View as Asked}
+use Rattle.law_scans.specs.inv.rows.Queue.{Line, stands_on}
+use Rattle.law_scans.specs.inv.rows.Rows.{View, is_settled}
+use Rattle.law_scans.specs.inv.contents.Reads.{numbers_in}
 use Rattle.law_reasons.proofs.Reasons.Refusing.{ReadAt}
-use Rattle.inv_all.proofs.contents.Contents.Turns.{empty_list}
+use Rattle.law_scans.proofs.inv.contents.Contents.Turns.{empty_list}
 
 -- a position of a history's record, and the World there
 pub record Shown (w : World) (v : View) (l : Line) (z : Asked) (p : Past) : Type 0 where

@@ -15,7 +15,7 @@ use Rattle.wfe_core.specs.Rounds.{key_of}
 use Rattle.wfe_core.proofs.Facts.{both, first_of, rest_of, below_unless, true_of_not, one_more_less, lt_test_2}
 use Rattle.law_scans.proofs.answers.AnswersTold.Owed.{call_for}
 use Rattle.laws.specs.StateAt.{was_current, count_of, begun_at, had_version, is_there, pairs_at}
-use Rattle.inv_all.specs.history.Record.{Past}
+use Rattle.law_scans.specs.inv.history.Record.{Past}
 use Rattle.laws.specs.AnswerLaw.{put_reason, remove_reason, reason}
 
 -- a call of seat i has read these pairs at this version of bucket b

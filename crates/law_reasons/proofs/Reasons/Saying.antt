@@ -31,25 +31,25 @@ use Rattle.wfe_core.specs.Phases.Base.{Begin, Protect, Reload, Clear, Finish, Re
 use Rattle.wfe_core.specs.Calls.{Task, Why, Opens, FollowsHead, Phase, Idle, Runs, Scans, Works, CallTurn, CallOutcome, GoesOn, Answers}
 use Rattle.wfe_core.specs.World.{World, finds, told_in}
 use Rattle.wfe_core.proofs.Facts.{same_number, both, first_of, rest_of, is_one_more}
-use Rattle.inv_all.specs.shapes.Frame.{phase_left}
-use Rattle.inv_all.specs.shapes.Seats.{Aimed, Run, Seats, task_root}
-use Rattle.inv_all.proofs.covers.Fresh.{resume_fresh, work_fresh}
-use Rattle.inv_all.proofs.covers.Scans.{scan_starts}
-use Rattle.inv_all.specs.covers.Tries.{is_start, starts_base}
-use Rattle.inv_all.proofs.ends.Ends.Stood.{held_told}
-use Rattle.inv_all.proofs.ends.Ends.Nulls.{null_told, nulls_end}
-use Rattle.inv_all.specs.ends.Nulls.{ended_base, null_base, null_in}
+use Rattle.law_scans.specs.inv.shapes.Frame.{phase_left}
+use Rattle.law_scans.specs.inv.shapes.Seats.{Aimed, Run, Seats, task_root}
+use Rattle.law_scans.proofs.inv.covers.Fresh.{resume_fresh, work_fresh}
+use Rattle.law_scans.proofs.inv.covers.Scans.{scan_starts}
+use Rattle.law_scans.specs.inv.covers.Tries.{is_start, starts_base}
+use Rattle.law_scans.proofs.inv.ends.Ends.Stood.{held_told}
+use Rattle.law_scans.proofs.inv.ends.Ends.Nulls.{null_told, nulls_end}
+use Rattle.law_scans.specs.inv.ends.Nulls.{ended_base, null_base, null_in}
 use Rattle.wfe_core.specs.defs.Events.{is_null, is_held}
-use Rattle.inv_all.specs.ends.Standing.{is_end, holds_base, holds_in}
-use Rattle.inv_all.specs.history.Record.{Past, begins, own, told_since, tells_of}
-use Rattle.inv_all.specs.history.Record.Past.{Then}
-use Rattle.inv_all.proofs.links.Origins.Plain.{is_move, ends_plain, out_moves, out_plain, moves_on, plain_after}
-use Rattle.inv_all.proofs.history.AllOf.{all_of}
-use Rattle.inv_all.proofs.Machines.{is_within, within_begins}
+use Rattle.law_scans.specs.inv.ends.Standing.{is_end, holds_base, holds_in}
+use Rattle.law_scans.specs.inv.history.Record.{Past, begins, own, told_since, tells_of}
+use Rattle.law_scans.specs.inv.history.Record.Past.{Then}
+use Rattle.law_scans.proofs.inv.links.Origins.Plain.{is_move, ends_plain, out_moves, out_plain, moves_on, plain_after}
+use Rattle.law_scans.proofs.inv.history.AllOf.{all_of}
+use Rattle.law_scans.proofs.inv.Machines.{is_within, within_begins}
 use Rattle.laws.specs.StateAt.{has_told}
 use Rattle.law_reasons.proofs.Reasons.Later.{Later, later_same, later_all}
-use Rattle.inv_all.proofs.handover.Asks.{run_of}
-use Rattle.inv_all.proofs.Inv.Ends.{task_end}
+use Rattle.law_scans.proofs.inv.handover.Asks.{run_of}
+use Rattle.law_scans.proofs.inv.Inv.Ends.{task_end}
 
 -- an event that a step tells was told in the call
 counts_now : (n : ℕ) (begins kind own : Bool) → begins ≡ false → kind ≡ true → own ≡ true → nat_lt 0 (if begins then 0 else if kind && own then n + 1 else n) ≡ true

@@ -19,12 +19,12 @@ use Rattle.wfe_core.specs.Phases.ProtectAt.{CheckClock, TakeAnswer, CheckUpper}
 use Rattle.wfe_core.specs.Phases.Base.{Begin, Protect, Reload, Clear, Finish, Release, Allocate, Write, GiveUp, Retire, Move}
 use Rattle.wfe_core.specs.Calls.{Why, Opens, FollowsHead, Fills, ClearsNext, Clears, Finishes, GivesUp, Retires, Tidies, Advances, Releases, Phase, Idle, Runs, Scans, Works, ReadGuard, GiveBack, ScanAt}
 use Rattle.wfe_core.proofs.Facts.{first_of, rest_of, number_is}
-use Rattle.inv_all.specs.shapes.Seats.{Run}
-use Rattle.inv_all.proofs.history.AllOf.{all_of, of_weaker}
-use Rattle.inv_all.proofs.steps_left.Rest.Closings.{rounds_join}
-use Rattle.inv_all.proofs.history.Passes.{is_quiet, Closed, First, scan_told, step_goes}
+use Rattle.law_scans.specs.inv.shapes.Seats.{Run}
+use Rattle.law_scans.proofs.inv.history.AllOf.{all_of, of_weaker}
+use Rattle.law_scans.proofs.inv.steps_left.Rest.Closings.{rounds_join}
+use Rattle.law_scans.proofs.inv.history.Passes.{is_quiet, Closed, First, scan_told, step_goes}
 use Rattle.law_reasons.proofs.Repeats.Shift.{more_told}
-use Rattle.inv_all.proofs.history.MayTell.{Tells, Shape, Silent, Single, Takes, at_finds, shape_of, clear_all}
+use Rattle.law_scans.proofs.inv.history.MayTell.{Tells, Shape, Silent, Single, Takes, at_finds, shape_of, clear_all}
 
 abbrev pub finds_in : List Event → ℕ
 finds_in told = rounds_told 0 told

@@ -13,20 +13,20 @@ use Rattle.wfe_core.specs.Calls.{Task, Gets, Changes, Holds, Enqueues, Dequeues,
 use Rattle.wfe_core.specs.Locals.{Local, begun_post}
 use Rattle.wfe_core.specs.Steps as steps
 use Rattle.wfe_core.specs.World.{World, start, begin, step}
-use Rattle.inv_all.proofs.shapes.Frame.{begin_stays, begin_begins}
-use Rattle.inv_all.specs.shapes.Eras.{Eras}
-use Rattle.inv_all.specs.shapes.Slots.{Slots}
-use Rattle.inv_all.proofs.Inv.Kept.{rest_need, rounds_need}
-use Rattle.inv_all.specs.Known.{Known}
+use Rattle.law_scans.proofs.inv.shapes.Frame.{begin_stays, begin_begins}
+use Rattle.law_scans.specs.inv.shapes.Eras.{Eras}
+use Rattle.law_scans.specs.inv.shapes.Slots.{Slots}
+use Rattle.law_scans.proofs.inv.Inv.Kept.{rest_need, rounds_need}
+use Rattle.law_scans.specs.inv.Known.{Known}
 use Rattle.law_scans.proofs.answers.AnswersTold.Owed.{Serves, TaskServes, call_for}
-use Rattle.inv_all.specs.requests.Views.{View as Asked}
-use Rattle.inv_all.proofs.steps_left.Rest.Fits.{round_fit}
-use Rattle.inv_all.proofs.steps_left.Rest.Lasting.{losses_begin, losses_kept}
-use Rattle.inv_all.specs.steps_left.Falls.{RestNeeds}
-use Rattle.inv_all.specs.steps_left.Losses.{Losses, LossNeeds, fills_fit, phase_fit}
-use Rattle.inv_all.proofs.steps_left.Rounds.Ending.{rounds_give}
-use Rattle.inv_all.specs.rows.Queue.{Line}
-use Rattle.inv_all.specs.rows.Rows.{View}
+use Rattle.law_scans.specs.inv.requests.Views.{View as Asked}
+use Rattle.law_scans.proofs.inv.steps_left.Rest.Fits.{round_fit}
+use Rattle.law_scans.proofs.inv.steps_left.Rest.Lasting.{losses_begin, losses_kept}
+use Rattle.law_scans.specs.inv.steps_left.Falls.{RestNeeds}
+use Rattle.law_scans.specs.inv.steps_left.Losses.{Losses, LossNeeds, fills_fit, phase_fit}
+use Rattle.law_scans.proofs.inv.steps_left.Rounds.Ending.{rounds_give}
+use Rattle.law_scans.specs.inv.rows.Queue.{Line}
+use Rattle.law_scans.specs.inv.rows.Rows.{View}
 use Rattle.law_reasons.proofs.Repeats.Shift.{Alike, shifted, shifted_seats, shifted_eras, step_alike, with_seats}
 
 -- a get is counted once more

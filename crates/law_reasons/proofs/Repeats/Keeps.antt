@@ -23,30 +23,30 @@ use Rattle.wfe_core.specs.Desks.{noting}
 use Rattle.wfe_core.specs.Locals.{Local, rounds_told, settled_by, told_by, told_end, turn}
 use Rattle.wfe_core.specs.World.{World, start, begin, step, finds, is_busy, told_in}
 use Rattle.wfe_core.proofs.Facts.{same_number, first_of, rest_of}
-use Rattle.inv_all.specs.shapes.Seats.{Run}
-use Rattle.inv_all.proofs.shapes.Frame.{seat_stays, seat_steps, begin_stays, begin_begins}
-use Rattle.inv_all.proofs.Inv.Begun.{known_start, known_begin}
-use Rattle.inv_all.proofs.Inv.Kept.{known_kept, asked_next}
-use Rattle.inv_all.specs.Known.{Known}
-use Rattle.inv_all.proofs.requests.Kept.{requests_start, requests_begin}
-use Rattle.inv_all.specs.requests.Views.{View as Asked}
-use Rattle.inv_all.specs.rows.Agree.{first_rows, rows_after}
-use Rattle.inv_all.specs.rows.Chain.{first_line, line_after}
-use Rattle.inv_all.specs.rows.Queue.{Line}
-use Rattle.inv_all.specs.rows.Rows.{View}
-use Rattle.inv_all.specs.history.Record.{Past, Each, begins, tells_of, value_since}
-use Rattle.inv_all.specs.history.Record.Past.{Start, Then}
-use Rattle.laws.specs.StateAt.{count_of, began_of, finds_of, tails_of}
-use Rattle.inv_all.proofs.history.Entries.{entries_of_each}
-use Rattle.inv_all.specs.history.History.{Begins, Steps, Made, fits, done, first_made, record_of}
-use Rattle.inv_all.proofs.history.Along.{Steady, items_keep}
-use Rattle.inv_all.proofs.history.AllOf.{all_of}
-use Rattle.inv_all.proofs.Machines.{is_within, within_of}
+use Rattle.law_scans.specs.inv.shapes.Seats.{Run}
+use Rattle.law_scans.proofs.inv.shapes.Frame.{seat_stays, seat_steps, begin_stays, begin_begins}
+use Rattle.law_scans.proofs.inv.Inv.Begun.{known_start, known_begin}
+use Rattle.law_scans.proofs.inv.Inv.Kept.{known_kept, asked_next}
+use Rattle.law_scans.specs.inv.Known.{Known}
+use Rattle.law_scans.proofs.inv.requests.Kept.{requests_start, requests_begin}
+use Rattle.law_scans.specs.inv.requests.Views.{View as Asked}
+use Rattle.law_scans.specs.inv.rows.Agree.{first_rows, rows_after}
+use Rattle.law_scans.specs.inv.rows.Chain.{first_line, line_after}
+use Rattle.law_scans.specs.inv.rows.Queue.{Line}
+use Rattle.law_scans.specs.inv.rows.Rows.{View}
+use Rattle.law_scans.specs.inv.history.Record.{Past, Each, begins, tells_of, value_since}
+use Rattle.law_scans.specs.inv.history.Record.Past.{Start, Then}
+use Rattle.laws.specs.StateAt.{began_of, finds_of, tails_of}
+use Rattle.law_scans.proofs.inv.history.Entries.{entries_of_each}
+use Rattle.law_scans.specs.inv.history.History.{Begins, Steps, Made, fits, done, first_made, record_of}
+use Rattle.law_scans.proofs.inv.history.Along.{Steady, items_keep}
+use Rattle.law_scans.proofs.inv.history.AllOf.{all_of}
+use Rattle.law_scans.proofs.inv.Machines.{is_within, within_of}
 use Rattle.law_scans.proofs.answers.AnswersTold.Answering.{first_all, owes_of}
 use Rattle.law_scans.proofs.answers.AnswersTold.Owed.{Owes, Serves, TaskServes, call_for, is_open, owed}
 use Rattle.laws.proofs.Tells.{seen_stays, tells_both}
-use Rattle.inv_all.specs.steps_left.Rounds.{Rounds}
-use Rattle.inv_all.specs.steps_left.Tallies.{Tally, once, tally, phase_paced, task_paced, why_paced}
+use Rattle.law_scans.specs.inv.steps_left.Rounds.{Rounds}
+use Rattle.law_scans.specs.inv.steps_left.Tallies.{Tally, once, tally, phase_paced, task_paced, why_paced}
 use Rattle.law_reasons.proofs.Full.Keeps as full
 use Rattle.law_reasons.proofs.Full.Keeps.{now_of}
 use Rattle.law_reasons.proofs.Full.Ties as ties
@@ -55,13 +55,13 @@ use Rattle.laws.specs.AnswerLaw.{moves_before, moves_of, repeats_ok, whole_scan}
 use Rattle.law_reasons.specs.Records.{RecordsKeepRepeats}
 use Rattle.law_reasons.proofs.Repeats.Finds.{both_finds, finds_in, opens_now, phase_top, run_opens, step_finds, told_finds, top_of}
 use Rattle.law_reasons.proofs.Repeats.Gets.{gets_begin, gets_start, gets_step, once_more}
-use Rattle.inv_all.specs.steps_left.Losses.{Losses, opens_fit, phase_fit}
+use Rattle.law_scans.specs.inv.steps_left.Losses.{Losses, opens_fit, phase_fit}
 use Rattle.law_reasons.proofs.Repeats.Losing.{Few}
 use Rattle.law_reasons.proofs.Repeats.Paces.{Paced, counted_for, few_of, paced_begin, paced_step}
 use Rattle.law_reasons.proofs.Repeats.Records.{is_counted, began_stays, before_stays, before_zero, finds_others, finds_tells, moves_grow, whole_grows, whole_once}
 use Rattle.law_reasons.proofs.Repeats.Shift.{rounds_alike, shifted}
 use Rattle.law_reasons.proofs.Repeats.Tails.{tails_step}
-use Rattle.inv_all.proofs.handover.Asks.{run_of}
+use Rattle.law_scans.proofs.inv.handover.Asks.{run_of}
 
 -- the call has found its root no more often than it may
 abbrev pub MayFind : Config → ℕ → Past → Type 0
@@ -86,11 +86,6 @@ record Keeps (layout : Layout) (made : Made) : Type 0 where
   found : (k : ℕ) → finds_of k made.past ≡ (made.world.seat k).rounds
   may : (k : ℕ) → MayFind made.world.layout.config k made.past
   law : Each (repeats_ok made.world.layout.config) made.past
-
--- what the record counts is what the World does
-changed_moves : (c : Config) (change : Change) (p : Past) → moves_of c (Some (call_for change)) p ≡ count_of (key_of change % c.buckets) p
-changed_moves c (changes.Put key value) p = refl
-changed_moves c (changes.Removed key) p = refl
 
 -- what is counted for a call, by the World
 abbrev world_moves : Tally → Call → ℕ
@@ -436,9 +431,6 @@ begin_keeps layout made i call f k =
       may = λ m. begin_may c i m call made.past (m == i) refl k.may;
       law = (refl, k.law);
     }
-
-none_more : (n : ℕ) → n + 0 ≡ n
-none_more n = omega arith
 
 first_keeps : (layout : Layout) → is_valid layout ≡ true → Keeps layout (first_made layout)
 first_keeps layout d =

@@ -12,30 +12,30 @@ use Rattle.wfe_core.specs.Locals.{Local, begun_post, busy_in}
 use Rattle.wfe_core.specs.Posts.{stands}
 use Rattle.wfe_core.specs.Steps as steps
 use Rattle.wfe_core.specs.World.{World, begin, step, is_busy}
-use Rattle.inv_all.proofs.shapes.Frame.{begin_stays, begin_begins}
-use Rattle.inv_all.proofs.Inv.Whole.{origins_need}
-use Rattle.inv_all.specs.Known.{Known}
-use Rattle.inv_all.proofs.contents.Items.Gives.{items_count}
+use Rattle.law_scans.proofs.inv.shapes.Frame.{begin_stays, begin_begins}
+use Rattle.law_scans.proofs.inv.Inv.Whole.{origins_need}
+use Rattle.law_scans.specs.inv.Known.{Known}
+use Rattle.law_scans.proofs.inv.contents.Items.Gives.{items_count}
 use Rattle.law_scans.proofs.answers.AnswersTold.Owed.{Serves}
 use Rattle.law_scans.proofs.answers.Lawful.Current.{idle_untracked}
-use Rattle.inv_all.proofs.links.Origins.Kept.{origins_begin}
-use Rattle.inv_all.specs.links.Origins.{Origins}
-use Rattle.inv_all.specs.links.Tracked.{Tracked, root_in}
-use Rattle.inv_all.specs.requests.NextDeals.{next_deals}
-use Rattle.inv_all.specs.requests.Standing.{Requests}
-use Rattle.inv_all.specs.requests.Views.{View as Asked}
-use Rattle.inv_all.specs.steps_left.Losses.{Losses}
-use Rattle.inv_all.proofs.steps_left.Rounds.Paced.{round_paced}
-use Rattle.inv_all.specs.steps_left.Rounds.{Rounds, RoundsNeeds}
-use Rattle.inv_all.specs.steps_left.Tallies.{Tally, tally, phase_paced, phase_good}
-use Rattle.inv_all.specs.rows.Chain.{line_after, queue_of}
-use Rattle.inv_all.specs.rows.Queue.{Line}
-use Rattle.inv_all.specs.rows.Rows.{View}
+use Rattle.law_scans.proofs.inv.links.Origins.Kept.{origins_begin}
+use Rattle.law_scans.specs.inv.links.Origins.{Origins}
+use Rattle.law_scans.specs.inv.links.Tracked.{Tracked, root_in}
+use Rattle.law_scans.specs.inv.requests.NextDeals.{next_deals}
+use Rattle.law_scans.specs.inv.requests.Standing.{Requests}
+use Rattle.law_scans.specs.inv.requests.Views.{View as Asked}
+use Rattle.law_scans.specs.inv.steps_left.Losses.{Losses}
+use Rattle.law_scans.proofs.inv.steps_left.Rounds.Paced.{round_paced}
+use Rattle.law_scans.specs.inv.steps_left.Rounds.{Rounds, RoundsNeeds}
+use Rattle.law_scans.specs.inv.steps_left.Tallies.{Tally, tally, phase_paced, phase_good}
+use Rattle.law_scans.specs.inv.rows.Chain.{line_after, queue_of}
+use Rattle.law_scans.specs.inv.rows.Queue.{Line}
+use Rattle.law_scans.specs.inv.rows.Rows.{View}
 use Rattle.wfe_core.specs.defs.declared.event.Root.{Root}
 use Rattle.law_reasons.proofs.Repeats.Losing.{Few, phase_more}
 use Rattle.law_reasons.proofs.Repeats.Records.{is_counted}
 use Rattle.law_reasons.proofs.Repeats.Shift.{rounds_alike, shifted, shifted_step, tracked_alike}
-use Rattle.inv_all.proofs.Inv.Kept.{rounds_need}
+use Rattle.law_scans.proofs.inv.Inv.Kept.{rounds_need}
 
 -- no more was changed, queued and taken than the setting allows
 pub few_of : (w : World) (v : View) (l : Line) (z : Asked) → Known w v l z → Few (tally w l) w.layout.config.last_version

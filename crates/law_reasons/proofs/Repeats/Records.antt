@@ -10,11 +10,11 @@ use Rattle.wfe_core.specs.defs.declared.event.Event.TheVariants as events
 use Rattle.wfe_core.specs.defs.declared.event.Root.TheVariants as roots
 use Rattle.wfe_core.specs.Locals.{round_told, rounds_told}
 use Rattle.wfe_core.proofs.Facts.{same_number, first_of, rest_of}
-use Rattle.inv_all.specs.history.Record.{Past, begins, value_since, tells_of}
-use Rattle.inv_all.specs.history.Record.Past.{Start, Then}
+use Rattle.law_scans.specs.inv.history.Record.{Past, begins, value_since, tells_of}
+use Rattle.law_scans.specs.inv.history.Record.Past.{Start, Then}
 use Rattle.laws.specs.StateAt.{bucket_of, taken_of, began_by, began_of, finds_root, finds_of, tails_by, tails_of}
-use Rattle.inv_all.proofs.history.AllOf.{all_of}
-use Rattle.inv_all.proofs.Machines.{is_within, within_begins}
+use Rattle.law_scans.proofs.inv.history.AllOf.{all_of}
+use Rattle.law_scans.proofs.inv.Machines.{is_within, within_begins}
 use Rattle.laws.proofs.Tells.{seen_own}
 use Rattle.law_reasons.proofs.Reasons.Later.{later_all, later_same, more_queued, more_count}
 use Rattle.law_reasons.proofs.Full.Since.{others_begin, others_own}

@@ -11,21 +11,21 @@ use Rattle.wfe_core.specs.words.Place.Place.{Clock}
 use Rattle.wfe_core.specs.Locals.{Local, round_told, rounds_told, settled, settled_by, told_by, turn}
 use Rattle.wfe_core.specs.declared.post.Post.{Post}
 use Rattle.wfe_core.specs.World.{World, step, finds}
-use Rattle.inv_all.specs.shapes.Eras.{Eras}
-use Rattle.inv_all.specs.shapes.Seats.{Seats}
-use Rattle.inv_all.proofs.shapes.Frame.{seat_stays, seat_steps}
-use Rattle.inv_all.specs.requests.Standing.{Requests}
-use Rattle.inv_all.specs.requests.Views.{View as Asked}
-use Rattle.inv_all.specs.rows.Chain.{Both, line_after}
-use Rattle.inv_all.specs.rows.Queue.{Line}
-use Rattle.inv_all.specs.rows.Rows.{View}
-use Rattle.inv_all.specs.links.Tracked.{Tracked, carries_in, helps_in, root_for}
-use Rattle.inv_all.specs.links.Tracked.Tracked.{Carried, Given, Helped}
-use Rattle.inv_all.specs.steps_left.Losses.{Losses}
-use Rattle.inv_all.specs.steps_left.Rounds.{Rounds, RoundsNeeds}
-use Rattle.inv_all.specs.steps_left.Tallies.{Tally, tally, phase_paced, phase_good}
-use Rattle.inv_all.proofs.steps_left.Rounds.Ending.{rounds_kept}
-use Rattle.inv_all.specs.requests.NextDeals.{next_deals}
+use Rattle.law_scans.specs.inv.shapes.Eras.{Eras}
+use Rattle.law_scans.specs.inv.shapes.Seats.{Seats}
+use Rattle.law_scans.proofs.inv.shapes.Frame.{seat_stays, seat_steps}
+use Rattle.law_scans.specs.inv.requests.Standing.{Requests}
+use Rattle.law_scans.specs.inv.requests.Views.{View as Asked}
+use Rattle.law_scans.specs.inv.rows.Chain.{Both, line_after}
+use Rattle.law_scans.specs.inv.rows.Queue.{Line}
+use Rattle.law_scans.specs.inv.rows.Rows.{View}
+use Rattle.law_scans.specs.inv.links.Tracked.{Tracked, carries_in, helps_in, root_for}
+use Rattle.law_scans.specs.inv.links.Tracked.Tracked.{Carried, Given, Helped}
+use Rattle.law_scans.specs.inv.steps_left.Losses.{Losses}
+use Rattle.law_scans.specs.inv.steps_left.Rounds.{Rounds, RoundsNeeds}
+use Rattle.law_scans.specs.inv.steps_left.Tallies.{Tally, tally, phase_paced, phase_good}
+use Rattle.law_scans.proofs.inv.steps_left.Rounds.Ending.{rounds_kept}
+use Rattle.law_scans.specs.inv.requests.NextDeals.{next_deals}
 
 -- a seat that has found its root n times more
 abbrev pub more_rounds : Local → ℕ → Local

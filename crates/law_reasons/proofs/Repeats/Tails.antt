@@ -22,14 +22,14 @@ use Rattle.wfe_core.specs.Posts.{counted}
 use Rattle.wfe_core.specs.Steps.{phase_move}
 use Rattle.wfe_core.specs.WriteRow.{row_word}
 use Rattle.wfe_core.specs.Calls.{ChangeKept, EnqueueKept, LoadVersion, LoadCount, LoadKey, LoadValue, ExchangeRoot, LoadNumber, LoadNext, PassTail, ExchangeNext, ExchangeTail, LoadTail, SwingTail, TakeNumber, TakeValue, ExchangeHead, Getting, Changing, Enqueuing, Dequeuing, GetAt, FindVersion, FindCount, FindKey, FindValue, ReadGuard, GiveBack, Why, Phase, Idle, Runs, Scans, Works, CallOutcome, GoesOn, Answers}
-use Rattle.inv_all.specs.rows.Hands.{row_move, hand_in, is_right}
-use Rattle.inv_all.specs.rows.Queue.{Line, line_move, moved_line}
-use Rattle.inv_all.specs.rows.Rows.{View, RowMove}
-use Rattle.inv_all.specs.rows.Rows.RowMove.{Stays, Claims, Bears, Drops, Links, Replaces, Appends, Pops, Reads, Seals, Lists, Returns}
-use Rattle.inv_all.proofs.rows.Own.{unlinked_tail, base_links}
-use Rattle.inv_all.proofs.rows.Went.{LineIn, born_unlined}
-use Rattle.inv_all.proofs.rows.Words.{put_other, missed}
-use Rattle.inv_all.specs.ends.Told.{row_events, birth_in}
+use Rattle.law_scans.specs.inv.rows.Hands.{row_move, hand_in, is_right}
+use Rattle.law_scans.specs.inv.rows.Queue.{Line, line_move, moved_line}
+use Rattle.law_scans.specs.inv.rows.Rows.{View, RowMove}
+use Rattle.law_scans.specs.inv.rows.Rows.RowMove.{Stays, Claims, Bears, Drops, Links, Replaces, Appends, Pops, Reads, Seals, Lists, Returns}
+use Rattle.law_scans.proofs.inv.rows.Own.{unlinked_tail, base_links}
+use Rattle.law_scans.proofs.inv.rows.Went.{LineIn, born_unlined}
+use Rattle.law_scans.proofs.inv.rows.Words.{put_other, missed}
+use Rattle.law_scans.specs.inv.ends.Told.{row_events, birth_in}
 use Rattle.laws.proofs.Along.{along}
 use Rattle.laws.specs.StateAt.{tails_by, tails_of}
 use Rattle.law_scans.proofs.places.Placing.Fronts.{linked_front, queued_front, taken_front}
@@ -37,19 +37,19 @@ use Rattle.law_scans.proofs.places.Placing.Marks.{is_marked, marks}
 use Rattle.law_scans.proofs.places.Ordering.Ordered.{whole_comes}
 use Rattle.wfe_core.specs.Locals.{told_end}
 use Rattle.wfe_core.specs.World.{World, step, told_in}
-use Rattle.inv_all.specs.Known.{Known}
-use Rattle.inv_all.proofs.covers.Kept.{before_at}
-use Rattle.inv_all.specs.requests.Views.{View as Asked}
-use Rattle.inv_all.proofs.rows.Steps.{of_taken}
-use Rattle.inv_all.specs.rows.Chain.{line_after, queue_of}
-use Rattle.inv_all.specs.history.Record.{Past, tells_of}
+use Rattle.law_scans.specs.inv.Known.{Known}
+use Rattle.law_scans.proofs.inv.covers.Kept.{before_at}
+use Rattle.law_scans.specs.inv.requests.Views.{View as Asked}
+use Rattle.law_scans.proofs.inv.rows.Steps.{of_taken}
+use Rattle.law_scans.specs.inv.rows.Chain.{line_after, queue_of}
+use Rattle.law_scans.specs.inv.history.Record.{Past, tells_of}
 use Rattle.law_scans.proofs.places.Ordering.Nexts.{Here, run_tail, get_tail, cas_other, swung}
-use Rattle.inv_all.proofs.steps_left.Rounds.Worlds.{next_number, other_number, tail_apart}
-use Rattle.inv_all.specs.rows.Queue.LineMove.{Joins, Keeps}
-use Rattle.inv_all.proofs.rows.Queued.{finds_phase}
-use Rattle.inv_all.proofs.Inv.Whole.{covers_of}
+use Rattle.law_scans.proofs.inv.steps_left.Rounds.Worlds.{next_number, other_number, tail_apart}
+use Rattle.law_scans.specs.inv.rows.Queue.LineMove.{Joins, Keeps}
+use Rattle.law_scans.proofs.inv.rows.Queued.{finds_phase}
+use Rattle.law_scans.proofs.inv.Inv.Whole.{covers_of}
 use Rattle.law_scans.proofs.places.Ordering.Linked.{here_of}
-use Rattle.inv_all.proofs.rows.Runs.{taken_slot}
+use Rattle.law_scans.proofs.inv.rows.Runs.{taken_slot}
 use Rattle.wfe_core.proofs.Facts.{same_both, number_is}
 
 rows_tail : (b : ℕ) (m : RowMove) (x : ℕ) → along tails_by (row_events b m) x ≡ x

@@ -38,9 +38,9 @@ use Rattle.wfe_core.specs.Phases.MoveAt.{LoadEra, CheckEra, AnswerAsked, LoadRes
 use Rattle.wfe_core.specs.Phases.Base.{Allocate, Retire, Move}
 use Rattle.wfe_core.specs.Phases.Ending.{Done, Protected, Followed, Allocated, Retired, Clocked}
 use Rattle.wfe_core.specs.Calls.{Task, Gets, Changes, Holds, Enqueues, Dequeues, Next, Again, MakeRoom, Answering, Retiring, AfterScan, Answered, Repeated, Counted, ChangeKept, EnqueueKept, GetAt, FindVersion, FindCount, FindKey, FindValue, ChangeAt, LoadVersion, LoadCount, LoadKey, LoadValue, ExchangeRoot, EnqueueAt, LoadNumber, LoadNext, PassTail, ExchangeNext, ExchangeTail, DequeueAt, SwingTail, ExchangeHead, Work, Getting, Changing, Enqueuing, Dequeuing, ScanAt, ReadGuard, GiveBack, Why, Opens, FollowsHead, Fills, ClearsNext, Clears, Finishes, GivesUp, Retires, Tidies, Advances, Releases, Phase, Idle, Runs, Scans, Works, CallOutcome, GoesOn, Answers}
-use Rattle.inv_all.specs.shapes.Seats.{Kind, ToRetire, ToMove, kind_of, suits, retires, moves as moves_kind}
+use Rattle.law_places.specs.inv.shapes.Seats.{Kind, ToRetire, ToMove, kind_of, suits, retires, moves as moves_kind}
 use Rattle.laws.proofs.Along.{along}
-use Rattle.inv_all.proofs.history.Passes.{scan_told}
+use Rattle.law_places.proofs.inv.history.Passes.{scan_told}
 use Rattle.wfe_core.specs.words.declared.config.Config.{Config}
 use Rattle.wfe_core.specs.defs.Pairs.{Pair}
 use Rattle.wfe_core.specs.defs.declared.fold.Change.{Change}
@@ -449,10 +449,6 @@ none_moved x d = ap (λ (m : Option ℕ). is_none m) d.none
 
 other_out : (last seen : ℕ) (x : ClockTally) → MoveDue x → outcome_fits last x (moves.Other seen) ≡ true
 other_out last seen x d = both x.due (is_none x.moved) d.due (none_moved x d)
-
-move_if : (b : Bool) (last : ℕ) (y : ClockTally) (t u : Outcome) → MoveOut last y t → MoveOut last y u → MoveOut last y (if b then t else u)
-move_if true last y t u h k = h
-move_if false last y t u h k = k
 
 load_out : (helps : Bool) (post : Post) (found : ℕ) (x : ClockTally) (same : Bool) → (found == post.layout.config.last_era) ≡ same → MoveDue x → MoveOut post.layout.config.last_era x (machine.move_turn (LoadEra helps) post found).outcome
 load_out helps post found x true e d = rw e (both x.due (is_none x.moved && found == post.layout.config.last_era) d.due (both (is_none x.moved) (found == post.layout.config.last_era) (none_moved x d) e))

@@ -12,21 +12,21 @@ use Rattle.wfe_core.specs.Calls.{Phase, CallTurn, CallOutcome, Answers, GoesOn}
 use Rattle.wfe_core.specs.Locals.{Local, begun, begun_post, told_end, turn}
 use Rattle.wfe_core.specs.Posts.{counted}
 use Rattle.wfe_core.specs.World.{World, begin, step, finds, is_busy, told_in}
-use Rattle.inv_all.specs.shapes.Frame.{phase_left}
-use Rattle.inv_all.proofs.shapes.Frame.{seat_stays, begin_stays, begin_begins}
-use Rattle.inv_all.specs.history.Record.{Past, Each, tells_of}
-use Rattle.inv_all.specs.history.Record.Past.{Then}
-use Rattle.inv_all.proofs.history.Entries.{entries_of_each}
-use Rattle.inv_all.specs.history.History.{Made, fits, first_made, record_of}
-use Rattle.inv_all.proofs.history.Along.{Steady, items_keep}
+use Rattle.law_places.specs.inv.shapes.Frame.{phase_left}
+use Rattle.law_places.proofs.inv.shapes.Frame.{seat_stays, begin_stays, begin_begins}
+use Rattle.law_places.specs.inv.history.Record.{Past, Each, tells_of}
+use Rattle.law_places.specs.inv.history.Record.Past.{Then}
+use Rattle.law_places.proofs.inv.history.Entries.{entries_of_each}
+use Rattle.law_places.specs.inv.history.History.{Made, fits, first_made, record_of}
+use Rattle.law_places.proofs.inv.history.Along.{Steady, items_keep}
 use Rattle.laws.proofs.Along.{along}
-use Rattle.inv_all.proofs.history.AllOf.{all_of}
+use Rattle.law_places.proofs.inv.history.AllOf.{all_of}
 use Rattle.law_places.proofs.answers.AnswersTold.Answering.{owes_of}
 use Rattle.law_places.proofs.answers.AnswersTold.Owed.{is_open, owed, Owes}
 use Rattle.law_places.proofs.Placing.Sums.{along_both}
 use Rattle.laws.proofs.Tells.{AllRight, each_tells, seen_own, seen_other, seen_tells, seen_stays, tells_both}
 use Rattle.wfe_core.proofs.Facts.{first_of, rest_of}
-use Rattle.inv_all.proofs.covers.Held.{stepped_phase, stepped_post}
+use Rattle.law_places.proofs.inv.covers.Held.{stepped_phase, stepped_post}
 use Rattle.laws.specs.AnswerLaw.{ClockTally, is_advance, clock_by, no_clock, clock_right}
 use Rattle.law_scans.specs.Outcomes.{clock_tally, clocks_ok}
 use Rattle.law_scans.specs.Records.{RecordsKeepOutcomes}

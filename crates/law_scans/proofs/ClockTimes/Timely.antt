@@ -13,15 +13,15 @@ use Rattle.wfe_core.specs.Calls.{Phase, Idle, Runs, Scans, Works, CallTurn, Call
 use Rattle.wfe_core.specs.Locals.{Local, begun_post, told_end, turn}
 use Rattle.wfe_core.specs.Posts.{counted}
 use Rattle.wfe_core.specs.World.{World, begin, step, finds, is_busy, told_in}
-use Rattle.inv_all.specs.shapes.Frame.{phase_left}
-use Rattle.inv_all.specs.shapes.Seats.{kind_of, suits}
-use Rattle.inv_all.proofs.shapes.Frame.{seat_stays, begin_stays, begin_begins}
-use Rattle.inv_all.specs.history.Record.{Past, Each, tells_of}
-use Rattle.inv_all.specs.history.Record.Past.{Then}
-use Rattle.inv_all.proofs.history.Entries.{entries_of_each}
-use Rattle.inv_all.specs.history.History.{Item, Begins, Steps, Made, fits, done, done_if, did, made_from, made_of, first_made, record_of}
-use Rattle.inv_all.proofs.history.Along.{item_keeps, made_snoc}
-use Rattle.inv_all.proofs.history.AllOf.{all_of, of_along}
+use Rattle.law_places.specs.inv.shapes.Frame.{phase_left}
+use Rattle.law_places.specs.inv.shapes.Seats.{kind_of, suits}
+use Rattle.law_places.proofs.inv.shapes.Frame.{seat_stays, begin_stays, begin_begins}
+use Rattle.law_places.specs.inv.history.Record.{Past, Each, tells_of}
+use Rattle.law_places.specs.inv.history.Record.Past.{Then}
+use Rattle.law_places.proofs.inv.history.Entries.{entries_of_each}
+use Rattle.law_places.specs.inv.history.History.{Item, Begins, Steps, Made, fits, done, done_if, did, made_from, made_of, first_made, record_of}
+use Rattle.law_places.proofs.inv.history.Along.{item_keeps, made_snoc}
+use Rattle.law_places.proofs.inv.history.AllOf.{all_of, of_along}
 use Rattle.law_places.proofs.answers.AnswersTold.Answering.{owes_of}
 use Rattle.law_places.proofs.answers.AnswersTold.Owed.{is_open, owed, Owes}
 use Rattle.wfe_core.specs.words.Place.Place.{Clock}
@@ -38,7 +38,7 @@ use Rattle.wfe_core.specs.Phases.Base.{Allocate, Retire, Move}
 use Rattle.wfe_core.specs.Steps.{phase_move}
 use Rattle.wfe_core.specs.Allocate as allocates
 use Rattle.wfe_core.proofs.Facts.{both, first_of, rest_of, both_below}
-use Rattle.inv_all.proofs.covers.Held.{stepped_phase}
+use Rattle.law_places.proofs.inv.covers.Held.{stepped_phase}
 use Rattle.laws.proofs.Tells.{tells_both}
 use Rattle.laws.specs.StateAt.{ticked_by, clock_of}
 use Rattle.law_eras.proofs.EraLaw.Keeps.{record_clock}

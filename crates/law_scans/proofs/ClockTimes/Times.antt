@@ -27,9 +27,9 @@ use Rattle.wfe_core.specs.Phases.MoveAt.{LoadEra, LoadRequest, ShowEra, LoadAske
 use Rattle.wfe_core.specs.Phases.Base.{Allocate, Retire, Move}
 use Rattle.wfe_core.specs.Phases.Ending.{Done, Protected, Followed, Allocated, Retired, Clocked}
 use Rattle.wfe_core.specs.Calls.{Task, Gets, Holds, Dequeues, Next, Again, MakeRoom, Answering, Retiring, AfterScan, Answered, Repeated, Counted, ScanAt, ReadGuard, GiveBack, Why, Opens, FollowsHead, Fills, ClearsNext, Clears, Finishes, GivesUp, Retires, Tidies, Advances, Releases, Phase, Idle, Runs, Scans, Works, CallOutcome, GoesOn, Answers}
-use Rattle.inv_all.specs.shapes.Seats.{Kind, ToRetire, kind_of, suits, retires}
+use Rattle.law_places.specs.inv.shapes.Seats.{Kind, ToRetire, kind_of, suits, retires}
 use Rattle.laws.proofs.Along.{along}
-use Rattle.inv_all.proofs.history.Passes.{scan_told}
+use Rattle.law_places.proofs.inv.history.Passes.{scan_told}
 use Rattle.wfe_core.specs.SlowPath.{asking}
 use Rattle.wfe_core.specs.MoveClock as movers
 use Rattle.wfe_core.specs.words.declared.packed.Request.{Request}

@@ -23,8 +23,8 @@ use Rattle.wfe_core.specs.Phases.AllocateAt.{StoreLife}
 use Rattle.wfe_core.specs.Phases.Base.{Allocate, Retire, Move}
 use Rattle.wfe_core.specs.Phases.Ending.{Done, Protected, Followed, Allocated, Retired, Clocked}
 use Rattle.wfe_core.specs.Calls.{Task, Gets, Changes, Holds, Enqueues, Dequeues, Next, Again, MakeRoom, Answering, Retiring, AfterScan, Answered, Repeated, Counted, ChangeKept, EnqueueKept, GetAt, FindVersion, FindCount, FindKey, FindValue, ChangeAt, LoadVersion, LoadCount, LoadKey, LoadValue, ExchangeRoot, EnqueueAt, LoadNumber, LoadNext, PassTail, ExchangeNext, ExchangeTail, DequeueAt, SwingTail, ExchangeHead, Work, Getting, Changing, Enqueuing, Dequeuing, ScanAt, ReadGuard, GiveBack, Why, Opens, FollowsHead, Fills, ClearsNext, Clears, Finishes, GivesUp, Retires, Tidies, Advances, Releases, Phase, Idle, Runs, Scans, Works, CallOutcome, GoesOn, Answers}
-use Rattle.inv_all.specs.shapes.Seats.{Kind, ToFill, ToRetire, ToMove, kind_of, suits, fills, retires, moves as moves_kind}
-use Rattle.inv_all.specs.rows.Hands.{holds_none}
+use Rattle.law_places.specs.inv.shapes.Seats.{Kind, ToFill, ToRetire, ToMove, kind_of, suits, fills, retires, moves as moves_kind}
+use Rattle.law_places.specs.inv.rows.Hands.{holds_none}
 use Rattle.laws.proofs.Along.{along}
 use Rattle.laws.proofs.Tells.{AllRight}
 use Rattle.laws.specs.ScanLaw.{Course, Advancing, MayScan, MustScan, Reading, Tally, tally_by, is_settled, scan_right}
@@ -129,9 +129,6 @@ pub record Lands (every all : ℕ) (x : Tally) (phase : Phase) (first : List Eve
   pub right : AllRight (tally_by every) (course_right all) first x
   pub fits : OutFits all outcome (along (tally_by every) first x).course
   pub count : (along (tally_by every) first x).retired ≡ counts phase x.retired
-
-settled_next : (all : ℕ) (c : Course) → c ≡ MayScan → is_settled all c ≡ true
-settled_next all c e = ap (is_settled all) e
 
 pub other_task : (all : ℕ) (task : Task) (c : Course) → is_fresh task ≡ false → is_settled all c ≡ true → TaskFits all task c
 other_task all task c f s = record { settled = s; fresh = λ h. absurd (cc) }

@@ -15,27 +15,27 @@ use Rattle.wfe_core.specs.Locals.{Local, begun, begun_post, told_end, turn}
 use Rattle.wfe_core.specs.Posts.{counted}
 use Rattle.wfe_core.specs.World.{World, begin, step, finds, is_busy, told_in}
 use Rattle.wfe_core.proofs.Facts.{both, first_of, rest_of}
-use Rattle.inv_all.proofs.covers.Held.{stepped_phase, stepped_post}
-use Rattle.inv_all.specs.shapes.Frame.{phase_left}
-use Rattle.inv_all.specs.shapes.Seats.{scan_fits, PhaseFits as Shapes}
-use Rattle.inv_all.proofs.shapes.Frame.{seat_stays, begin_stays, begin_begins}
-use Rattle.inv_all.specs.requests.Views.{View as Asked}
-use Rattle.inv_all.proofs.requests.Kept.{requests_begin, requests_start}
-use Rattle.inv_all.specs.rows.Agree.{first_rows, rows_after}
-use Rattle.inv_all.specs.rows.Chain.{first_line, line_after}
-use Rattle.inv_all.specs.rows.Hands.{is_right}
-use Rattle.inv_all.specs.rows.Queue.{Line}
-use Rattle.inv_all.specs.rows.Rows.{View}
-use Rattle.inv_all.specs.history.Record.{Past, Each, EachEntry, tells_of}
-use Rattle.inv_all.specs.history.Record.Past.{Then}
-use Rattle.inv_all.proofs.history.Entries.{entries_of_each}
-use Rattle.inv_all.specs.history.History.{Item, Begins, Steps, Made, fits, done, made_of, first_made, record_of}
-use Rattle.inv_all.proofs.history.Along.{Steady, items_keep}
-use Rattle.inv_all.specs.Known.{Known}
-use Rattle.inv_all.proofs.Inv.Begun.{known_start, known_begin}
-use Rattle.inv_all.proofs.Inv.Kept.{known_kept, asked_next}
+use Rattle.law_places.proofs.inv.covers.Held.{stepped_phase, stepped_post}
+use Rattle.law_places.specs.inv.shapes.Frame.{phase_left}
+use Rattle.law_places.specs.inv.shapes.Seats.{scan_fits, PhaseFits as Shapes}
+use Rattle.law_places.proofs.inv.shapes.Frame.{seat_stays, begin_stays, begin_begins}
+use Rattle.law_places.specs.inv.requests.Views.{View as Asked}
+use Rattle.law_places.proofs.inv.requests.Kept.{requests_begin, requests_start}
+use Rattle.law_places.specs.inv.rows.Agree.{first_rows, rows_after}
+use Rattle.law_places.specs.inv.rows.Chain.{first_line, line_after}
+use Rattle.law_places.specs.inv.rows.Hands.{is_right}
+use Rattle.law_places.specs.inv.rows.Queue.{Line}
+use Rattle.law_places.specs.inv.rows.Rows.{View}
+use Rattle.law_places.specs.inv.history.Record.{Past, Each, EachEntry, tells_of}
+use Rattle.law_places.specs.inv.history.Record.Past.{Then}
+use Rattle.law_places.proofs.inv.history.Entries.{entries_of_each}
+use Rattle.law_places.specs.inv.history.History.{Item, Begins, Steps, Made, fits, done, made_of, first_made, record_of}
+use Rattle.law_places.proofs.inv.history.Along.{Steady, items_keep}
+use Rattle.law_places.specs.inv.Known.{Known}
+use Rattle.law_places.proofs.inv.Inv.Begun.{known_start, known_begin}
+use Rattle.law_places.proofs.inv.Inv.Kept.{known_kept, asked_next}
 use Rattle.laws.proofs.Along.{along}
-use Rattle.inv_all.proofs.history.AllOf.{all_of}
+use Rattle.law_places.proofs.inv.history.AllOf.{all_of}
 use Rattle.law_places.proofs.answers.AnswersTold.Answering as answering
 use Rattle.law_places.proofs.answers.AnswersTold.Answering.{owes_of}
 use Rattle.law_places.proofs.answers.AnswersTold.Owed.{is_open, owed, Owes, append_none}

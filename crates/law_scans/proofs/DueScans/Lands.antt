@@ -30,9 +30,9 @@ use Rattle.wfe_core.specs.Phases.Base.{Allocate, Write, Retire, Move}
 use Rattle.wfe_core.specs.Phases.Ending.{Done, Protected, Followed, Allocated, Retired, Clocked}
 use Rattle.wfe_core.specs.Calls.{Task, Gets, Changes, Holds, Enqueues, Dequeues, Again, AfterScan, Answered, Repeated, Counted, ScanAt, ReadGuard, GiveBack, Why, Opens, FollowsHead, Fills, ClearsNext, Clears, Finishes, GivesUp, Retires, Tidies, Advances, Releases, Phase, Idle, Runs, Scans, Works}
 use Rattle.wfe_core.proofs.Facts.{both, rest_of}
-use Rattle.inv_all.specs.shapes.Seats.{ToFill, ToRetire, ToMove, kind_of, suits, scan_fits}
-use Rattle.inv_all.specs.rows.Hands.{holds_none, task_fills, runs_right}
-use Rattle.inv_all.proofs.history.Passes.{scan_told}
+use Rattle.law_places.specs.inv.shapes.Seats.{ToFill, ToRetire, ToMove, kind_of, suits, scan_fits}
+use Rattle.law_places.specs.inv.rows.Hands.{holds_none, task_fills, runs_right}
+use Rattle.law_places.proofs.inv.history.Passes.{scan_told}
 use Rattle.laws.specs.ScanLaw.{Course, Plain, Advancing, MayScan, MustScan, Reading, Tally, first_course, moved_course, read_course, retired_course, may_read, is_settled}
 use Rattle.laws.specs.EraLaw.{may_move}
 use Rattle.law_scans.proofs.DueScans.Still.{claim_front, tick_front, base_front, front}

@@ -31,9 +31,9 @@ use Rattle.wfe_core.specs.Phases.RetireAt.{LoadLife, LoadRetire, StoreRetired}
 use Rattle.wfe_core.specs.Phases.MoveAt.{LoadEra, CheckEra, AnswerAsked, LoadReserved, HandOver, ExchangeClock}
 use Rattle.wfe_core.specs.Phases.Base.{Begin, Protect, Reload, Allocate, Write, Retire, Move}
 use Rattle.wfe_core.specs.Calls.{Phase, Idle, Runs, Scans, Works}
-use Rattle.inv_all.proofs.history.Passes.{is_quiet, Closed, First, scan_told, step_goes}
-use Rattle.inv_all.proofs.history.AllOf.{all_of, of_along, of_weaker}
-use Rattle.inv_all.proofs.history.MayTell.{Tells, base_all, clear_all}
+use Rattle.law_places.proofs.inv.history.Passes.{is_quiet, Closed, First, scan_told, step_goes}
+use Rattle.law_places.proofs.inv.history.AllOf.{all_of, of_along, of_weaker}
+use Rattle.law_places.proofs.inv.history.MayTell.{Tells, base_all, clear_all}
 
 -- an event that leaves a tally as it is
 abbrev pub is_still : Event → Bool
@@ -169,10 +169,6 @@ begins_all first post = record { rest = []; is = append_one first; still = refl;
     append_one : (first : List Event) → first ≡ first ++ []
     append_one [] = refl
     append_one (event ∷ first) = ap (λ (rest : List Event). event ∷ rest) (append_one first)
-
-if_turn : (b : Bool) (first : List Event) (n : ℕ) (t u : Turn) → (b ≡ true → Begins first n t.post t.told) → (b ≡ false → Begins first n u.post u.told) → Begins first n (if b then t else u).post (if b then t else u).told
-if_turn true first n t u h k = h refl
-if_turn false first n t u h k = k refl
 
 tick_begins : (era : ℕ) (post : Post) (found : ℕ) → Begins (move_front (ExchangeClock era) found) post.retired (machine.move_turn (ExchangeClock era) post found).post (machine.move_turn (ExchangeClock era) post found).told
 tick_begins era post found = ticked (found == era) refl

@@ -8,8 +8,8 @@ use Rattle.wfe_core.specs.defs.declared.fold.Change.{Change}
 use Rattle.wfe_core.specs.defs.declared.fold.Change.TheVariants as changes
 use Rattle.wfe_core.proofs.Facts.{rest_of}
 use Rattle.laws.specs.MapLaw.{map_ok}
-use Rattle.inv_all.specs.history.Record.{Past, Test, Each}
-use Rattle.inv_all.specs.history.Record.Past.{Start, Then}
+use Rattle.law_places.specs.inv.history.Record.{Past, Test, Each}
+use Rattle.law_places.specs.inv.history.Record.Past.{Start, Then}
 use Rattle.laws.specs.StateAt.{changes_of, count_of, with_change, taken_of, one, count, told, takes_out}
 use Rattle.law_scans.proofs.FewRetired.Counting.{count_sum, count_where, order_next, none_low}
 

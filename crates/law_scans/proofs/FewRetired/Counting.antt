@@ -4,8 +4,8 @@ use Rattle.std.proofs.lemmas.Bool.Decides.{nat_tests}
 use Rattle.std.specs.Prelude.{◌==◌, ◌&&◌, nat_lt}
 use Rattle.wfe_core.specs.defs.Entry.{Entry}
 use Rattle.wfe_core.specs.defs.declared.event.Event.{Event}
-use Rattle.inv_all.specs.history.Record.{Past, Test, Each, tells}
-use Rattle.inv_all.specs.history.Record.Past.{Start, Then}
+use Rattle.law_places.specs.inv.history.Record.{Past, Test, Each, tells}
+use Rattle.law_places.specs.inv.history.Record.Past.{Start, Then}
 use Rattle.laws.specs.StateAt.{one, count, told}
 
 -- a test that is the sum of two

@@ -5,11 +5,11 @@ use Rattle.wfe_core.specs.words.Place.{is_valid}
 use Rattle.wfe_core.specs.words.declared.layout.Layout.{Layout}
 use Rattle.wfe_core.proofs.Ranges.{bounds_of}
 use Rattle.wfe_core.specs.Valid as ranges
-use Rattle.inv_all.proofs.history.Entries.{each_of_entries, each_before}
+use Rattle.law_places.proofs.inv.history.Entries.{each_of_entries, each_before}
 use Rattle.laws.specs.MapLaw.{map_ok}
 use Rattle.wfe_core.specs.defs.Entry.{Entry}
-use Rattle.inv_all.specs.history.Record.{Past, Each, tells}
-use Rattle.inv_all.specs.history.History.{Item, record_of}
+use Rattle.law_places.specs.inv.history.Record.{Past, Each, tells}
+use Rattle.law_places.specs.inv.history.History.{Item, record_of}
 use Rattle.law_places.proofs.answers.Lawful.Maps.{records_keep_map}
 use Rattle.laws.specs.Once.{OrderLaw, order_ok, retiring_ok}
 use Rattle.law_places.proofs.Placing.Keeps.{records_retire_cuts}

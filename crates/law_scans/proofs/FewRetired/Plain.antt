@@ -9,9 +9,9 @@ use Rattle.wfe_core.specs.defs.declared.event.Event.{Event}
 use Rattle.wfe_core.specs.defs.declared.event.Event.TheVariants as events
 use Rattle.wfe_core.specs.Guards.{guards}
 use Rattle.wfe_core.specs.Memory.{bump}
-use Rattle.inv_all.specs.history.Record.{Past, tells}
-use Rattle.inv_all.specs.history.Record.Past.{Start, Then}
-use Rattle.inv_all.specs.history.History.{Item, record_of}
+use Rattle.law_places.specs.inv.history.Record.{Past, tells}
+use Rattle.law_places.specs.inv.history.Record.Past.{Start, Then}
+use Rattle.law_places.specs.inv.history.History.{Item, record_of}
 use Rattle.laws.specs.ScanLaw.{Tally, tally_by, retired_course, scan_right, plain_by, plain_tally}
 use Rattle.law_scans.specs.Scans.{tally_of}
 use Rattle.laws.specs.EraLaw.{move_right}

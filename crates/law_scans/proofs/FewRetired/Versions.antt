@@ -6,15 +6,15 @@ use Rattle.wfe_core.specs.words.declared.layout.Layout.{Layout}
 use Rattle.wfe_core.specs.defs.declared.call.Call.{Call}
 use Rattle.wfe_core.specs.defs.declared.fold.Change.{Change}
 use Rattle.wfe_core.specs.World.{World, is_busy, told_in}
-use Rattle.inv_all.specs.contents.Gives.{QueueCounts}
-use Rattle.inv_all.proofs.contents.Items.Gives.{items_count}
-use Rattle.inv_all.specs.history.Record.{Past}
+use Rattle.law_places.specs.inv.contents.Gives.{QueueCounts}
+use Rattle.law_places.proofs.inv.contents.Items.Gives.{items_count}
+use Rattle.law_places.specs.inv.history.Record.{Past}
 use Rattle.laws.specs.StateAt.{changes_of, count_of, taken_of}
-use Rattle.inv_all.specs.history.History.{Item, Begins, Steps, Made, done, made_of, first_made}
-use Rattle.inv_all.proofs.history.Along.{Steady, items_keep}
-use Rattle.inv_all.specs.Inv.{Inv}
-use Rattle.inv_all.proofs.Inv.Begun.{inv_start, inv_begin}
-use Rattle.inv_all.proofs.Inv.Kept.{inv_kept}
+use Rattle.law_places.specs.inv.history.History.{Item, Begins, Steps, Made, done, made_of, first_made}
+use Rattle.law_places.proofs.inv.history.Along.{Steady, items_keep}
+use Rattle.law_places.specs.inv.Inv.{Inv}
+use Rattle.law_places.proofs.inv.Inv.Begun.{inv_start, inv_begin}
+use Rattle.law_places.proofs.inv.Inv.Kept.{inv_kept}
 use Rattle.law_places.proofs.answers.Lawful.Maps.{told_changes}
 use Rattle.law_places.proofs.answers.Lawful.Queues.{Agrees, told_agrees}
 

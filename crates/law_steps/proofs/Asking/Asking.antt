@@ -24,13 +24,13 @@ use Rattle.wfe_core.specs.Phases.MoveAt.{ShowEra, HandOver, HideEra, HideLate}
 use Rattle.wfe_core.specs.Phases.Base.{Begin, Protect, Clear, Finish, Release, Move}
 use Rattle.wfe_core.specs.Calls.{Task, Gets, Changes, Holds, Enqueues, Dequeues, AfterScan, Answered, Repeated, Counted, Why, Opens, FollowsHead, Fills, ClearsNext, Clears, Finishes, GivesUp, Retires, Tidies, Advances, Releases}
 use Rattle.wfe_core.proofs.Facts.{same_number, both, first_of, rest_of}
-use Rattle.inv_all.specs.shapes.Seats.{Shaped, kind_of, suits, index_by}
-use Rattle.inv_all.specs.history.Record.{Past, Test, Each, tells_of}
-use Rattle.inv_all.specs.history.Record.Past.{Then}
-use Rattle.inv_all.proofs.history.AllOf.{all_of, of_weaker}
-use Rattle.inv_all.proofs.history.Passes.{Closed}
+use Rattle.law_turns.specs.inv.shapes.Seats.{Shaped, kind_of, suits, index_by}
+use Rattle.law_turns.specs.inv.history.Record.{Past, Test, Each, tells_of}
+use Rattle.law_turns.specs.inv.history.Record.Past.{Then}
+use Rattle.law_turns.proofs.inv.history.AllOf.{all_of, of_weaker}
+use Rattle.law_turns.proofs.inv.history.Passes.{Closed}
 use Rattle.law_turns.proofs.Counting.Passing.{Apart}
-use Rattle.inv_all.proofs.history.MayTell.{concluded_told, publishes, is_reserve, no_reserve, held_any}
+use Rattle.law_turns.proofs.inv.history.MayTell.{concluded_told, publishes, is_reserve, no_reserve, held_any}
 use Rattle.laws.specs.ScanLaw.{Course}
 use Rattle.laws.specs.EraLaw.{may_move}
 use Rattle.law_scans.specs.Scans.{tally_of}

@@ -22,17 +22,17 @@ use Rattle.wfe_core.specs.Phases.Base.{Protect, Clear, Move}
 use Rattle.wfe_core.specs.Calls.{Why, Opens, FollowsHead, Fills, ClearsNext, Clears, Finishes, GivesUp, Retires, Tidies, Advances, Releases, ReadGuard, GiveBack, Phase, Idle, Runs, Scans, Works}
 use Rattle.wfe_core.proofs.Facts.{same_number, both, first_of, rest_of}
 use Rattle.wfe_core.specs.words.Schemes.{is_wfe}
-use Rattle.inv_all.specs.shapes.Seats.{PhaseFits, kind_of, suits}
-use Rattle.inv_all.specs.history.Record.{Past, Each, tells_of}
-use Rattle.inv_all.specs.history.Record.Past.{Then}
-use Rattle.inv_all.proofs.history.Entries.{entries_of_each}
-use Rattle.inv_all.specs.history.Turns as schedule
-use Rattle.inv_all.specs.history.Turns.{record_of}
-use Rattle.inv_all.specs.history.History.{Made}
-use Rattle.inv_all.specs.history.History as histories
+use Rattle.law_turns.specs.inv.shapes.Seats.{PhaseFits, kind_of, suits}
+use Rattle.law_turns.specs.inv.history.Record.{Past, Each, tells_of}
+use Rattle.law_turns.specs.inv.history.Record.Past.{Then}
+use Rattle.law_turns.proofs.inv.history.Entries.{entries_of_each}
+use Rattle.law_turns.specs.inv.history.Turns as schedule
+use Rattle.law_turns.specs.inv.history.Turns.{record_of}
+use Rattle.law_turns.specs.inv.history.History.{Made}
+use Rattle.law_turns.specs.inv.history.History as histories
 use Rattle.law_turns.specs.answers.Heard.{IsCounted}
 use Rattle.law_turns.proofs.answers.Turns.Counted.{histories_count}
-use Rattle.inv_all.proofs.history.Passes.{Closed, First, step_goes}
+use Rattle.law_turns.proofs.inv.history.Passes.{Closed, First, step_goes}
 use Rattle.law_turns.proofs.answers.OneStep.Along.{Around, Kept, history_keeps}
 use Rattle.laws.specs.Schedule.{turns_since}
 use Rattle.laws.specs.StateAt.{tried_by, tried_of, last_of}

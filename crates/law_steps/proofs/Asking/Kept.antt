@@ -15,17 +15,17 @@ use Rattle.wfe_core.specs.Phases.Base.{Protect}
 use Rattle.wfe_core.specs.Posts.{counted}
 use Rattle.wfe_core.specs.World.{World, finds, told_in}
 use Rattle.wfe_core.specs.words.Schemes.{is_wfe}
-use Rattle.inv_all.specs.shapes.Seats.{kind_of, suits}
-use Rattle.inv_all.specs.shapes.Seats as seats
-use Rattle.inv_all.specs.history.Record.{Past, Each, EachEntry}
-use Rattle.inv_all.proofs.history.Entries.{entries_of_each}
-use Rattle.inv_all.specs.history.Turns as schedule
-use Rattle.inv_all.specs.history.Turns.{record_of}
-use Rattle.inv_all.specs.history.History.{Item, Made}
-use Rattle.inv_all.specs.history.History as histories
+use Rattle.law_turns.specs.inv.shapes.Seats.{kind_of, suits}
+use Rattle.law_turns.specs.inv.shapes.Seats as seats
+use Rattle.law_turns.specs.inv.history.Record.{Past, Each, EachEntry}
+use Rattle.law_turns.proofs.inv.history.Entries.{entries_of_each}
+use Rattle.law_turns.specs.inv.history.Turns as schedule
+use Rattle.law_turns.specs.inv.history.Turns.{record_of}
+use Rattle.law_turns.specs.inv.history.History.{Item, Made}
+use Rattle.law_turns.specs.inv.history.History as histories
 use Rattle.law_turns.specs.answers.Heard.{IsCounted}
 use Rattle.law_turns.proofs.answers.Turns.Counted.{histories_count}
-use Rattle.inv_all.proofs.history.Passes.{First, step_goes}
+use Rattle.law_turns.proofs.inv.history.Passes.{First, step_goes}
 use Rattle.law_turns.proofs.answers.OneStep.Along.{Around, Kept, history_keeps}
 use Rattle.law_turns.proofs.Counting.Passing.{Apart}
 use Rattle.laws.specs.Schedule.{turns_since}

@@ -20,7 +20,7 @@ use Rattle.wfe_core.specs.Phases.Base.{Protect, Clear, Release, Move}
 use Rattle.wfe_core.specs.Calls.{Gets, Holds, Answering, Counted, Opens, Clears, Advances, Releases, ScanAt, ReadGuard, GiveBack, GetAt, FindVersion, FindCount, FindKey, FindValue, Getting, Phase, Runs, Scans, Works, CallOutcome, GoesOn, Answers}
 use Rattle.wfe_core.proofs.Facts.{both}
 use Rattle.wfe_core.specs.words.Schemes.{is_wfe}
-use Rattle.inv_all.specs.shapes.Seats.{Kind, suits}
+use Rattle.law_turns.specs.inv.shapes.Seats.{Kind, suits}
 use Rattle.laws.specs.StepLaw.{steps_right}
 
 -- the only phase of a release

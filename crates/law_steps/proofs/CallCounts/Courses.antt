@@ -29,9 +29,9 @@ use Rattle.wfe_core.specs.Phases.Base.{Protect, Clear, Release, Move}
 use Rattle.wfe_core.specs.Phases.Ending.{Protected, Clocked}
 use Rattle.wfe_core.specs.Calls.{Task, Gets, Holds, Next, Answering, Why, Opens, Clears, Advances, Releases, GetAt, FindVersion, FindCount, FindKey, FindValue, Getting, Phase, Runs, Works, CallOutcome, GoesOn, Answers}
 use Rattle.wfe_core.specs.words.Schemes.{is_wfe}
-use Rattle.inv_all.specs.shapes.Seats.{Kind, kind_of, suits, move_fits}
-use Rattle.inv_all.specs.shapes.Slots.{GetIn}
-use Rattle.inv_all.specs.requests.Paces.{Falls}
+use Rattle.law_turns.specs.inv.shapes.Seats.{Kind, kind_of, suits, move_fits}
+use Rattle.law_turns.specs.inv.shapes.Slots.{GetIn}
+use Rattle.law_turns.specs.inv.requests.Paces.{Falls}
 use Rattle.law_turns.proofs.answers.AnswersTold.Owed.{out_clocked}
 use Rattle.law_steps.proofs.CallCounts.Counting.{short_move, at_advance, alone_steps, at_hold, getting_steps, at_get, Out}
 use Rattle.wfe_core.proofs.Facts.{le_of_test, le_test}
@@ -107,9 +107,6 @@ get_answers key answer post desk told h = rw h refl
 
 round_next : (task : Task) (post : Post) → scheme_of post ≡ Wfe → round task post ≡ Runs (Opens task) (Protect Alone (index_of task) (root_of task post) 0 (LoadClock (Failed 0)))
 round_next task post h = rw h refl
-
-in_time : (m made most more : ℕ) → m ≤ made + more → made + 1 ≤ most → nat_le m (most + more) ≡ true
-in_time m made most more h k = grind (arith, nat_tests)
 
 -- a hold
 hold_open : (c : Config) (k key : ℕ) (desk : Desk) (post : Post) (told : List Event) (outcome : Outcome) (backs made m : ℕ) → is_wfe c.scheme ≡ true → scheme_of post ≡ Wfe → OutAlone (bump made) outcome → m ≤ bump made + 1 → m ≤ made + 2 → made + 1 ≤ 3 * c.tries + 14 → Out c (calls.Hold k) backs m (steps.resumed (Opens (Holds key)) desk post told outcome).outcome

@@ -27,28 +27,28 @@ use Rattle.wfe_core.specs.World.{World, begin, step, finds, is_busy, told_in}
 use Rattle.wfe_core.proofs.Frames.{after_same}
 use Rattle.wfe_core.proofs.Facts.{same_number, both, first_of, rest_of}
 use Rattle.wfe_core.specs.words.Schemes.{is_wfe}
-use Rattle.inv_all.specs.shapes.Seats.{PhaseFits, Run}
-use Rattle.inv_all.specs.shapes.Slots.{PhaseIn}
-use Rattle.inv_all.proofs.shapes.Frame.{seat_stays, seat_steps, begin_stays, begin_begins}
-use Rattle.inv_all.specs.history.Record.{Past, Each, tells_of}
-use Rattle.inv_all.specs.history.Record.Past.{Then}
-use Rattle.inv_all.proofs.history.Entries.{entries_of_each}
-use Rattle.inv_all.specs.history.Turns as schedule
-use Rattle.inv_all.specs.history.Turns.History.{Starts, Turns}
-use Rattle.inv_all.specs.history.History.{Begins, Steps, Made, done}
-use Rattle.inv_all.specs.history.History as histories
-use Rattle.inv_all.proofs.requests.Paced.{in_time}
-use Rattle.inv_all.proofs.requests.Falling.{moves_on}
-use Rattle.inv_all.proofs.covers.Held.{stepped_post}
-use Rattle.inv_all.specs.Inv.{Inv}
+use Rattle.law_turns.specs.inv.shapes.Seats.{PhaseFits, Run}
+use Rattle.law_turns.specs.inv.shapes.Slots.{PhaseIn}
+use Rattle.law_turns.proofs.inv.shapes.Frame.{seat_stays, seat_steps, begin_stays, begin_begins}
+use Rattle.law_turns.specs.inv.history.Record.{Past, Each, tells_of}
+use Rattle.law_turns.specs.inv.history.Record.Past.{Then}
+use Rattle.law_turns.proofs.inv.history.Entries.{entries_of_each}
+use Rattle.law_turns.specs.inv.history.Turns as schedule
+use Rattle.law_turns.specs.inv.history.Turns.History.{Starts, Turns}
+use Rattle.law_turns.specs.inv.history.History.{Begins, Steps, Made, done}
+use Rattle.law_turns.specs.inv.history.History as histories
+use Rattle.law_turns.proofs.inv.requests.Paced.{in_time}
+use Rattle.law_turns.proofs.inv.requests.Falling.{moves_on}
+use Rattle.law_turns.proofs.inv.covers.Held.{stepped_post}
+use Rattle.law_turns.specs.inv.Inv.{Inv}
 use Rattle.laws.specs.StateAt.{began_of, backs_by, backs_of}
 use Rattle.law_turns.proofs.answers.AnswersTold.Answering as answering
-use Rattle.inv_all.proofs.Machines.{within_of}
+use Rattle.law_turns.proofs.inv.Machines.{within_of}
 use Rattle.law_turns.proofs.answers.AnswersTold.Answering.{began_along, first_all, owes_of}
 use Rattle.law_turns.proofs.answers.AnswersTold.Moves.{phase_ends}
 use Rattle.law_turns.proofs.answers.AnswersTold.Owed.{is_open}
 use Rattle.law_turns.proofs.answers.AnswersTold.Owing.{PhaseEnds}
-use Rattle.inv_all.proofs.history.AllOf.{all_of}
+use Rattle.law_turns.proofs.inv.history.AllOf.{all_of}
 use Rattle.law_turns.proofs.answers.OneStep.Along.{Around, Kept, history_keeps}
 use Rattle.laws.specs.StepLaw.{steps_right, end_ok}
 use Rattle.law_steps.specs.Records.{RecordsKeepEnds}

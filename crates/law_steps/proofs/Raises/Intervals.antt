@@ -29,15 +29,15 @@ use Rattle.wfe_core.specs.Phases.Ending.{Done, Protected, Followed, Allocated, R
 use Rattle.wfe_core.specs.Calls.{Task, Gets, Changes, Holds, Enqueues, Dequeues, Why, Opens, FollowsHead, Fills, ClearsNext, Clears, Finishes, GivesUp, Retires, Tidies, Advances, Releases}
 use Rattle.wfe_core.proofs.Facts.{both, first_of, rest_of, and_true, zero_of_test, le_of_test, le_one_more, no_truth}
 use Rattle.wfe_core.specs.words.Schemes.{is_ibr}
-use Rattle.inv_all.specs.shapes.Frame.{Moves, Passed}
-use Rattle.inv_all.specs.shapes.Seats.{PostFits, PhaseFits, Run, protect_fits, kind_of, protects as protecting, index_by, root_by, aim_by}
+use Rattle.law_turns.specs.inv.shapes.Frame.{Moves, Passed}
+use Rattle.law_turns.specs.inv.shapes.Seats.{PostFits, PhaseFits, Run, protect_fits, kind_of, protects as protecting, index_by, root_by, aim_by}
 use Rattle.laws.specs.StateAt.{is_whole, spanned_by, raised_by}
 use Rattle.laws.specs.StepLaw.{number_raised}
 use Rattle.law_steps.proofs.Raises.Raising.{spanned_along, raised_along, counts_along, still_spans, still_raises, still_counts, at_raised, base_raised, Out, Made, made_if, calm_still, calm_span}
 use Rattle.law_turns.proofs.TurnCounts.Tried.{is_follow, other_kind, is_other, calm_other, other_of_kind}
 use Rattle.law_turns.proofs.Withdrawals.Withdrawing.{tells_link}
 use Rattle.law_turns.proofs.TryCounts.{task_index}
-use Rattle.inv_all.proofs.history.MayTell.{concluded_told}
+use Rattle.law_turns.proofs.inv.history.MayTell.{concluded_told}
 
 -- what is known of a machine that makes a step; `count` are the steps of its call before it
 pub record Stage (i : ℕ) (s : Bool) (r : ℕ) (layout : Layout) (why : Why) (base : Base) (post : Post) (found count : ℕ) : Type 0 where

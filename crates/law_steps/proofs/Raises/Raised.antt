@@ -25,24 +25,24 @@ use Rattle.wfe_core.specs.Phases.Ending.{Done, Protected, Followed, Allocated, R
 use Rattle.wfe_core.specs.Calls.{Again, Why, Opens, FollowsHead, Fills, ClearsNext, Clears, Finishes, GivesUp, Retires, Tidies, Advances, Releases, ReadGuard, GiveBack, Phase, Idle, Runs, Scans, Works, CallTurn}
 use Rattle.wfe_core.proofs.Facts.{same_number, first_of, rest_of, zero_of_test}
 use Rattle.wfe_core.specs.words.Schemes.{is_ibr}
-use Rattle.inv_all.specs.shapes.Frame.{Moves, phase_left}
-use Rattle.inv_all.specs.shapes.Seats.{PostFits, PhaseFits, Run}
-use Rattle.inv_all.proofs.shapes.Frame.{seat_stays, begin_stays, begin_begins}
-use Rattle.inv_all.proofs.shapes.Inside.{shape_moves}
-use Rattle.inv_all.proofs.shapes.Kept.{begun_fits, counted_fits, run_counted}
-use Rattle.inv_all.specs.history.Record.{Past, Each, tells_of}
-use Rattle.inv_all.specs.history.Record.Past.{Then}
-use Rattle.inv_all.proofs.history.Entries.{entries_of_each}
-use Rattle.inv_all.specs.history.Turns as schedule
-use Rattle.inv_all.specs.history.Turns.{record_of}
-use Rattle.inv_all.specs.history.Turns.History.{Starts, Turns}
-use Rattle.inv_all.specs.history.History.{Begins, Steps, Made, done}
-use Rattle.inv_all.specs.history.History as histories
-use Rattle.inv_all.specs.requests.Parents.{OutcomeStands, protect_stands, base_stands, why_stands, phase_stands}
-use Rattle.inv_all.proofs.requests.Standings.{machine_stands}
-use Rattle.inv_all.proofs.covers.Held.{stepped_post, stepped_phase}
-use Rattle.inv_all.specs.Inv.{Inv}
-use Rattle.inv_all.proofs.history.Passes.{First, step_goes}
+use Rattle.law_turns.specs.inv.shapes.Frame.{Moves, phase_left}
+use Rattle.law_turns.specs.inv.shapes.Seats.{PostFits, PhaseFits, Run}
+use Rattle.law_turns.proofs.inv.shapes.Frame.{seat_stays, begin_stays, begin_begins}
+use Rattle.law_turns.proofs.inv.shapes.Inside.{shape_moves}
+use Rattle.law_turns.proofs.inv.shapes.Kept.{begun_fits, counted_fits, run_counted}
+use Rattle.law_turns.specs.inv.history.Record.{Past, Each, tells_of}
+use Rattle.law_turns.specs.inv.history.Record.Past.{Then}
+use Rattle.law_turns.proofs.inv.history.Entries.{entries_of_each}
+use Rattle.law_turns.specs.inv.history.Turns as schedule
+use Rattle.law_turns.specs.inv.history.Turns.{record_of}
+use Rattle.law_turns.specs.inv.history.Turns.History.{Starts, Turns}
+use Rattle.law_turns.specs.inv.history.History.{Begins, Steps, Made, done}
+use Rattle.law_turns.specs.inv.history.History as histories
+use Rattle.law_turns.specs.inv.requests.Parents.{OutcomeStands, protect_stands, base_stands, why_stands, phase_stands}
+use Rattle.law_turns.proofs.inv.requests.Standings.{machine_stands}
+use Rattle.law_turns.proofs.inv.covers.Held.{stepped_post, stepped_phase}
+use Rattle.law_turns.specs.inv.Inv.{Inv}
+use Rattle.law_turns.proofs.inv.history.Passes.{First, step_goes}
 use Rattle.law_turns.specs.answers.Heard.{IsCounted}
 use Rattle.law_turns.proofs.answers.Turns.Counted.{histories_count}
 use Rattle.law_turns.proofs.answers.OneStep.Along.{Around, Kept, history_keeps}
@@ -54,7 +54,7 @@ use Rattle.law_turns.proofs.Withdrawals.Leaving.{protects_at, is_first, is_new, 
 use Rattle.law_steps.proofs.Raises.Raising.{spanned_along, raised_along, counts_along, raised_both, spans_closed, counts_closed, none_closed, at_raised, base_raised, Out}
 use Rattle.law_steps.proofs.Raises.Intervals.{Stage, run_made}
 use Rattle.law_turns.proofs.TurnCounts.Tried.{is_follow}
-use Rattle.inv_all.proofs.requests.Parents.{why_counted}
+use Rattle.law_turns.proofs.inv.requests.Parents.{why_counted}
 use Rattle.wfe_core.proofs.Standing.{stands-withdrawn_other}
 
 abbrev pub phase_raised : Phase → (most raised : ℕ) → Bool

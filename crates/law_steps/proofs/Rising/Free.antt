@@ -16,17 +16,17 @@ use Rattle.wfe_core.specs.Phases.ProtectAt.{LoadClock}
 use Rattle.wfe_core.specs.Phases.Base.{Protect}
 use Rattle.wfe_core.proofs.Facts.{first_of, rest_of}
 use Rattle.wfe_core.specs.words.Schemes.{is_ibr}
-use Rattle.inv_all.specs.history.Record.{Past, tells_of}
-use Rattle.inv_all.specs.history.Record.Past.{Then}
-use Rattle.inv_all.specs.history.Turns as schedule
-use Rattle.inv_all.specs.history.Turns.History.{Blank, Starts, Turns}
-use Rattle.inv_all.specs.history.History.{Item, world_of, record_of}
+use Rattle.law_turns.specs.inv.history.Record.{Past, tells_of}
+use Rattle.law_turns.specs.inv.history.Record.Past.{Then}
+use Rattle.law_turns.specs.inv.history.Turns as schedule
+use Rattle.law_turns.specs.inv.history.Turns.History.{Blank, Starts, Turns}
+use Rattle.law_turns.specs.inv.history.History.{Item, world_of, record_of}
 use Rattle.laws.specs.StateAt.{same_guard, value_of, is_index_word, one_more, reserves_of}
 use Rattle.law_turns.specs.answers.Heard.{IsCounted}
-use Rattle.inv_all.specs.history.Heard.{heard_of}
+use Rattle.law_turns.specs.inv.history.Heard.{heard_of}
 use Rattle.law_turns.proofs.answers.Turns.Counted.{histories_count}
 use Rattle.laws.specs.Schedule.{turns_since, event_handed, events_handed, handed_right}
-use Rattle.inv_all.specs.history.Turns.{EachTurn}
+use Rattle.law_turns.specs.inv.history.Turns.{EachTurn}
 use Rattle.law_turns.proofs.answers.OneStep.Along.{history_keeps}
 use Rattle.law_turns.proofs.Counting.Counting.{Keeps, first_kept, kept}
 use Rattle.law_turns.proofs.Counting.Fits.{own}
@@ -63,10 +63,6 @@ other_told k j i (Index a b) span value before x true e o r h m =
 other_told k j i (Helper seat) span value before x same e o r h m = m
 other_told k j i (Whole seat) span value before x same e o r h m = m
 other_told k j i (Index a b) span value before x false e o r h m = rw (index_guard k j (Index a b), e) m
-
-if_true : (same : Bool) (a b : ℕ) → same ≡ true → (if same then a else b) ≡ a
-if_true true a b h = refl
-if_true false a b h = absurd (cc)
 
 if_false : (same : Bool) (a b : ℕ) → same ≡ false → (if same then a else b) ≡ b
 if_false true a b h = absurd (cc)

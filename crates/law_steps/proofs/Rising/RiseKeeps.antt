@@ -23,32 +23,32 @@ use Rattle.wfe_core.specs.Phases.MoveAt.{HandOver}
 use Rattle.wfe_core.specs.Phases.Base.{Begin, Protect, Move}
 use Rattle.wfe_core.specs.Posts.{counted}
 use Rattle.wfe_core.specs.World.{World, begin, step, finds, is_busy, told_in}
-use Rattle.inv_all.specs.shapes.Eras.{PhaseEras}
-use Rattle.inv_all.proofs.shapes.Frame.{after_seated, begun_seated, seat_stays, seat_steps, begin_stays, begin_begins}
-use Rattle.inv_all.proofs.shapes.Kept.{begun_fits}
+use Rattle.law_turns.specs.inv.shapes.Eras.{PhaseEras}
+use Rattle.law_turns.proofs.inv.shapes.Frame.{after_seated, begun_seated, seat_stays, seat_steps, begin_stays, begin_begins}
+use Rattle.law_turns.proofs.inv.shapes.Kept.{begun_fits}
 use Rattle.wfe_core.specs.words.Schemes.{is_ibr}
-use Rattle.inv_all.specs.shapes.Frame.{Seated}
-use Rattle.inv_all.specs.shapes.Seats.{tries_fit, PostFits, PhaseFits}
-use Rattle.inv_all.specs.requests.Roles.{shows}
-use Rattle.inv_all.specs.requests.Views.{Role, View as Asked}
-use Rattle.inv_all.proofs.requests.Kept.{requests_begin, requests_start}
-use Rattle.inv_all.specs.rows.Agree.{first_rows, rows_after}
-use Rattle.inv_all.specs.rows.Chain.{first_line, line_after}
-use Rattle.inv_all.specs.rows.Queue.{Line}
-use Rattle.inv_all.specs.rows.Rows.{View}
-use Rattle.inv_all.specs.covers.Covers.{shown}
-use Rattle.inv_all.proofs.handover.Shown.{helper_shows}
-use Rattle.inv_all.specs.links.Origins.{OriginsNeeds}
-use Rattle.inv_all.specs.history.Record.{Past, Each, EachEntry}
-use Rattle.inv_all.proofs.history.Entries.{entries_of_each}
-use Rattle.inv_all.specs.history.History.{Item, Begins, Steps, Made, fits, done, done_if, did, made_from, first_made, record_of}
-use Rattle.inv_all.proofs.history.Along.{begins_right, low_seat}
-use Rattle.inv_all.specs.Known.{Known}
-use Rattle.inv_all.proofs.Inv.Begun.{known_start, known_begin}
-use Rattle.inv_all.proofs.Inv.Kept.{known_kept, asked_next}
-use Rattle.inv_all.proofs.Inv.Shown.{shown_span}
-use Rattle.inv_all.proofs.Inv.Whole.{origins_need, handover_need}
-use Rattle.inv_all.proofs.history.Passes.{First, step_goes}
+use Rattle.law_turns.specs.inv.shapes.Frame.{Seated}
+use Rattle.law_turns.specs.inv.shapes.Seats.{tries_fit, PostFits, PhaseFits}
+use Rattle.law_turns.specs.inv.requests.Roles.{shows}
+use Rattle.law_turns.specs.inv.requests.Views.{Role, View as Asked}
+use Rattle.law_turns.proofs.inv.requests.Kept.{requests_begin, requests_start}
+use Rattle.law_turns.specs.inv.rows.Agree.{first_rows, rows_after}
+use Rattle.law_turns.specs.inv.rows.Chain.{first_line, line_after}
+use Rattle.law_turns.specs.inv.rows.Queue.{Line}
+use Rattle.law_turns.specs.inv.rows.Rows.{View}
+use Rattle.law_turns.specs.inv.covers.Covers.{shown}
+use Rattle.law_turns.proofs.inv.handover.Shown.{helper_shows}
+use Rattle.law_turns.specs.inv.links.Origins.{OriginsNeeds}
+use Rattle.law_turns.specs.inv.history.Record.{Past, Each, EachEntry}
+use Rattle.law_turns.proofs.inv.history.Entries.{entries_of_each}
+use Rattle.law_turns.specs.inv.history.History.{Item, Begins, Steps, Made, fits, done, done_if, did, made_from, first_made, record_of}
+use Rattle.law_turns.proofs.inv.history.Along.{begins_right, low_seat}
+use Rattle.law_turns.specs.inv.Known.{Known}
+use Rattle.law_turns.proofs.inv.Inv.Begun.{known_start, known_begin}
+use Rattle.law_turns.proofs.inv.Inv.Kept.{known_kept, asked_next}
+use Rattle.law_turns.proofs.inv.Inv.Shown.{shown_span}
+use Rattle.law_turns.proofs.inv.Inv.Whole.{origins_need, handover_need}
+use Rattle.law_turns.proofs.inv.history.Passes.{First, step_goes}
 use Rattle.laws.specs.StateAt.{value_of}
 use Rattle.law_scans.proofs.reuse.Holding.Holds.{record_values}
 use Rattle.laws.specs.EraLaw.{span_rises}
@@ -59,8 +59,8 @@ use Rattle.law_scans.proofs.eras.Current.Keeps.{OfItems, next_items}
 use Rattle.law_steps.proofs.Rising.Rises.{era_under, protect_risen, PhaseRisen, PhaseRaises, risen_grows, risen_owed}
 use Rattle.law_steps.proofs.Rising.RiseTells.{growth_ok, Leads, leads_each, leads_closed, protect_stands, move_shows, base_stands, base_leads}
 use Rattle.law_steps.proofs.Rising.RiseSteps.{some_era, SeatRisen, other_phase, own_protect}
-use Rattle.inv_all.proofs.requests.Known.{stands_as}
-use Rattle.inv_all.proofs.steps_left.Rest.Falling.{tries_plain}
+use Rattle.law_turns.proofs.inv.requests.Known.{stands_as}
+use Rattle.law_turns.proofs.inv.steps_left.Rest.Falling.{tries_plain}
 
 -- what a history keeps
 record Growing (layout : Layout) (made : Made) : Type 0 where

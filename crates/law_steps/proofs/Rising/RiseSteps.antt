@@ -13,23 +13,23 @@ use Rattle.wfe_core.specs.Phases.ProtectAt.{LoadClock, PublishEra, CheckClock, C
 use Rattle.wfe_core.specs.Phases.Base.{Protect}
 use Rattle.wfe_core.specs.Posts.{counted, upper}
 use Rattle.wfe_core.specs.World.{World, step, finds}
-use Rattle.inv_all.specs.shapes.Eras.{SpanIn, PhaseEras}
-use Rattle.inv_all.specs.requests.Deals.{is_quiet}
-use Rattle.inv_all.specs.requests.Roles.{shows, publishes}
-use Rattle.inv_all.specs.requests.Standing.{Requests}
-use Rattle.inv_all.specs.requests.Views.{View as Asked, Deal, Role}
-use Rattle.inv_all.specs.requests.Views.Deal.{Answered}
-use Rattle.inv_all.specs.rows.Rows.{View}
-use Rattle.inv_all.specs.covers.Covers.{shown}
-use Rattle.inv_all.proofs.covers.Held.{finds_at}
-use Rattle.inv_all.proofs.handover.Deals.{handed_deal}
-use Rattle.inv_all.proofs.handover.Others.{other_index, other_helper}
-use Rattle.inv_all.proofs.handover.Shown.{helper_shows, index_shows}
-use Rattle.inv_all.proofs.handover.Words.{Handed, index_stays, helper_stays}
-use Rattle.inv_all.specs.handover.Handover.{HandoverNeeds}
-use Rattle.inv_all.proofs.links.Origins.Opened.{fit_of}
+use Rattle.law_turns.specs.inv.shapes.Eras.{SpanIn, PhaseEras}
+use Rattle.law_turns.specs.inv.requests.Deals.{is_quiet}
+use Rattle.law_turns.specs.inv.requests.Roles.{shows, publishes}
+use Rattle.law_turns.specs.inv.requests.Standing.{Requests}
+use Rattle.law_turns.specs.inv.requests.Views.{View as Asked, Deal, Role}
+use Rattle.law_turns.specs.inv.requests.Views.Deal.{Answered}
+use Rattle.law_turns.specs.inv.rows.Rows.{View}
+use Rattle.law_turns.specs.inv.covers.Covers.{shown}
+use Rattle.law_turns.proofs.inv.covers.Held.{finds_at}
+use Rattle.law_turns.proofs.inv.handover.Deals.{handed_deal}
+use Rattle.law_turns.proofs.inv.handover.Others.{other_index, other_helper}
+use Rattle.law_turns.proofs.inv.handover.Shown.{helper_shows, index_shows}
+use Rattle.law_turns.proofs.inv.handover.Words.{Handed, index_stays, helper_stays}
+use Rattle.law_turns.specs.inv.handover.Handover.{HandoverNeeds}
+use Rattle.law_turns.proofs.inv.links.Origins.Opened.{fit_of}
 use Rattle.law_steps.proofs.Rising.Rises.{era_under, protect_risen, PhaseRisen, protect_raises}
-use Rattle.inv_all.proofs.requests.Known.{stands_as}
+use Rattle.law_turns.proofs.inv.requests.Known.{stands_as}
 
 -- what the words of a seat publish
 abbrev pub SeatRisen : World → ℕ → Type 0

@@ -23,15 +23,15 @@ use Rattle.wfe_core.specs.Posts.{stands, cleared, lower, upper, reserves_helper}
 use Rattle.wfe_core.specs.Protect as protects
 use Rattle.wfe_core.specs.Rounds.{scheme_of, clear_told}
 use Rattle.wfe_core.proofs.Facts.{both, first_of, rest_of}
-use Rattle.inv_all.specs.history.Record.{Past, Test, Each, tells_of}
-use Rattle.inv_all.specs.history.Record.Past.{Then}
-use Rattle.inv_all.proofs.history.Passes.{is_quiet, Closed}
+use Rattle.law_turns.specs.inv.history.Record.{Past, Test, Each, tells_of}
+use Rattle.law_turns.specs.inv.history.Record.Past.{Then}
+use Rattle.law_turns.proofs.inv.history.Passes.{is_quiet, Closed}
 use Rattle.laws.specs.StateAt.{value_of}
-use Rattle.inv_all.proofs.history.AllOf.{all_of, of_along, of_weaker}
+use Rattle.law_turns.proofs.inv.history.AllOf.{all_of, of_along, of_weaker}
 use Rattle.laws.specs.EraLaw.{span_grows}
 use Rattle.laws.specs.StepLaw.{era_grows}
 use Rattle.law_steps.proofs.Rising.Rises.{era_under, protect_risen}
-use Rattle.inv_all.proofs.history.MayTell.{publishes, is_reserve, no_reserve, held_any, cleared_all, clear_all, concluded_told}
+use Rattle.law_turns.proofs.inv.history.MayTell.{publishes, is_reserve, no_reserve, held_any, cleared_all, clear_all, concluded_told}
 
 -- both laws in one, by what each guard publishes
 abbrev pub grows_right : (teller : ℕ) → (value : Guard → Option Interval) → Event → Bool

@@ -28,13 +28,13 @@ use Rattle.wfe_core.specs.Protect as protects
 use Rattle.wfe_core.specs.Rounds.{protect_at, release_base, scheme_of}
 use Rattle.wfe_core.specs.SlowPath.{own_request, answer_in, lost_turn}
 use Rattle.wfe_core.specs.WriteRow.{last_written}
-use Rattle.inv_all.specs.shapes.Frame.{Grows, Moves, Onward, Owes}
-use Rattle.inv_all.specs.shapes.Seats.{PhaseFits, PostFits}
-use Rattle.inv_all.proofs.shapes.Frame.{moves_with}
-use Rattle.inv_all.proofs.shapes.Inside.{shape_moves}
-use Rattle.inv_all.proofs.shapes.Kept.{counted_fits, run_counted}
-use Rattle.inv_all.proofs.shapes.Shapes.{shape_grows}
-use Rattle.inv_all.proofs.links.Origins.Plain.{out_moves, moves_on}
+use Rattle.law_turns.specs.inv.shapes.Frame.{Grows, Moves, Onward, Owes}
+use Rattle.law_turns.specs.inv.shapes.Seats.{PhaseFits, PostFits}
+use Rattle.law_turns.proofs.inv.shapes.Frame.{moves_with}
+use Rattle.law_turns.proofs.inv.shapes.Inside.{shape_moves}
+use Rattle.law_turns.proofs.inv.shapes.Kept.{counted_fits, run_counted}
+use Rattle.law_turns.proofs.inv.shapes.Shapes.{shape_grows}
+use Rattle.law_turns.proofs.inv.links.Origins.Plain.{out_moves, moves_on}
 
 -- what an index word publishes ends before this era
 abbrev pub era_under : Option Interval → ℕ → Bool

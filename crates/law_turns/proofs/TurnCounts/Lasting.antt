@@ -1,5 +1,5 @@
 -- Along a history it is known how often each protection under way has published, and how long it has been under way.
-use Rattle.std.proofs.Common.{ℕ, ◌≡◌, ◌≤◌, ◌<◌, ◌+◌, Bool, true, false, List, [], ◌∷◌, refl, sym, ap, ◌∙◌, subst, arith, Option, Some, None}
+use Rattle.std.proofs.Common.{ℕ, ◌≡◌, ◌≤◌, ◌<◌, ◌+◌, Bool, true, false, List, [], ◌∷◌, refl, sym, ap, ◌∙◌, subst, arith}
 use Rattle.std.proofs.lemmas.Bool.Decides.{nat_tests}
 use Rattle.std.specs.Prelude.{◌==◌, ◌&&◌, ◌||◌, ◌*◌, not, nat_le, nat_lt, if◌then◌else◌}
 use Rattle.wfe_core.specs.words.declared.config.Config.{Config}
@@ -8,7 +8,6 @@ use Rattle.wfe_core.specs.words.declared.layout.Layout.{Layout}
 use Rattle.wfe_core.specs.defs.declared.event.Event.{Event}
 use Rattle.wfe_core.specs.defs.declared.event.Event.TheVariants as events
 use Rattle.wfe_core.specs.defs.declared.event.Root.{Root}
-use Rattle.wfe_core.specs.defs.declared.lifetime.Interval.{Interval}
 use Rattle.wfe_core.specs.declared.ends.FollowEnd.{FollowEnd}
 use Rattle.wfe_core.specs.declared.ends.FollowEnd.TheVariants as follow_ends
 use Rattle.wfe_core.specs.declared.post.Post.{Post}
@@ -27,12 +26,12 @@ use Rattle.wfe_core.specs.words.Schemes.{is_ibr, is_wfe}
 use Rattle.inv_all.specs.shapes.Frame.{Passed}
 use Rattle.inv_all.specs.shapes.Seats.{PhaseFits, Run, protect_fits, Kind, kind_of, suits, protects, reloads}
 use Rattle.inv_all.specs.history.Record.{Past, tells_of}
-use Rattle.inv_all.specs.history.Record.Past.{Start, Then}
+use Rattle.inv_all.specs.history.Record.Past.{Then}
 use Rattle.inv_all.proofs.requests.Paced.{in_time}
 use Rattle.inv_all.specs.Inv.{Inv}
 use Rattle.inv_all.proofs.Inv.Shapes.{eras_of}
 use Rattle.inv_all.proofs.history.Passes.{First, step_goes}
-use Rattle.laws.specs.StateAt.{is_index_word, one_more, reserves_by, reserves_of, tried_by, tried_of, last_by, last_of}
+use Rattle.laws.specs.StateAt.{tried_by, tried_of, last_by, last_of}
 use Rattle.law_turns.proofs.Counting.Fits.{own, base_own, paced, taken, since}
 use Rattle.law_turns.proofs.Counting.Passing.{Apart, turned}
 use Rattle.law_turns.proofs.Withdrawals.Due as due
@@ -85,34 +84,6 @@ tried_stays k i j (event ∷ told) p e = tried_stays k i j told (Then p i event)
 pub last_stays : (k i : ℕ) (told : List Event) (p : Past) → (k == i) ≡ false → last_of k (tells_of p i told) ≡ last_of k p
 last_stays k i [] p e = refl
 last_stays k i (event ∷ told) p e = last_stays k i told (Then p i event) e ∙ rw e refl
-
--- no more than the index word has published
-fewer_by : (i j : ℕ) (event : Event) (n m : ℕ) → n ≤ m → tried_by i j event n ≤ reserves_by i j event m
-fewer_by i j (events.Reserve guard span) n m h = by (is_index_word i j guard) span
-  where
-    by : (own : Bool) (span : Option Interval) → (if own then one_more span n else n) ≤ (if own then one_more span m else m)
-    by true None = omega arith
-    by true (Some x) = omega (h, arith)
-    by false s = h
-fewer_by i j (events.Held index slot steps) n m h = by (index == j)
-  where
-    by : (own : Bool) → (if own then 0 else n) ≤ m
-    by true = omega arith
-    by false = h
-fewer_by i j (events.Null index steps) n m h = by (index == j)
-  where
-    by : (own : Bool) → (if own then 0 else n) ≤ m
-    by true = omega arith
-    by false = h
-fewer_by i j event n m h = h
-
-pub fewer : (i j : ℕ) (p : Past) → tried_of i j p ≤ reserves_of i j p
-fewer i j Start = omega arith
-fewer i j (Then p k event) = by (i == k) (fewer i j p)
-  where
-    by : (own : Bool) → tried_of i j p ≤ reserves_of i j p → (if own then tried_by i j event (tried_of i j p) else tried_of i j p) ≤ (if own then reserves_by i j event (reserves_of i j p) else reserves_of i j p)
-    by true h = fewer_by i j event (tried_of i j p) (reserves_of i j p) h
-    by false h = h
 
 pub base_apart : (w : World) (i : ℕ) (a : Inv w) (why : Why) (base : Base) → i < w.layout.config.seats → (w.seat i).phase ≡ Runs why base → Apart i (finds w i) base
 base_apart w i a why (Move (HandOver era seat tag index root link old)) b e = λ h. hands_apart w i a why era seat tag index root link old b e h
