@@ -114,9 +114,6 @@ asked_root w k z x d s t q a =
     asked_phase (root_at w.layout x ≡ root_in w k) w.layout (w.seat k).phase (z.deal k) x (fits_at w k z q) a
     (λ why aim index root steps at e n. let g = gives_guards w d s t k why aim index root steps at e in ap (root_at w.layout) (sym n) ∙ root_at_link w.layout root g.there ∙ sym (ap root_for e))
 
-linked : (l x : ℕ) (d : Bool) → (l == x && d) ≡ true → (l == x) ≡ true
-linked l x d h = grind (arith, nat_tests)
-
 taken_link : (index word link era t j w l e x : ℕ) → taken_with index word link era (Taken t j w l e) ≡ true → (l == x) ≡ true → (link == x) ≡ true
 taken_link index word link era t j w l e x h k = grind (arith, nat_tests)
 

@@ -37,9 +37,6 @@ hand_after (Returns slot) h = h
 upd_here : (f : ℕ → Hand) (i : ℕ) (x : Hand) → upd f i x i ≡ x
 upd_here f i x = let e : (i == i) ≡ true = same_number i in rw e refl
 
-upd_there : (f : ℕ → Hand) (i k : ℕ) (x : Hand) → (k == i) ≡ false → upd f i x k ≡ f k
-upd_there f i k x e = rw e refl
-
 pub hand_made : (i : ℕ) (v : View) (m : RowMove) → (made i v m).hand i ≡ hand_after m (v.hand i)
 hand_made i v Stays = refl
 hand_made i v (Claims slot) = upd_here v.hand i (New slot)
@@ -182,9 +179,6 @@ at_list h busy told other given changed loud cuts retires said e a = subst (λ (
 -- of the list the sum alone
 sum_of : (h x : Hand) (retires said : ℕ) → h ≡ x → retires + length (old_of h) ≡ said → retires + length (old_of x) ≡ said
 sum_of h x retires said e s = ap (λ (y : Hand). retires + length (old_of y)) (sym e) ∙ s
-
-plus_none : (n m : ℕ) → n + 0 ≡ m → n ≡ m
-plus_none n m h = omega (h, arith)
 
 cut_sum : (retires more said : ℕ) → retires + 0 ≡ said → more ≡ retires → more + 1 ≡ said + 1
 cut_sum retires more said h e = omega (h, e, arith)

@@ -36,7 +36,7 @@ use Rattle.inv_all.specs.rows.Queue.{Line}
 use Rattle.inv_all.specs.rows.Rows.{View}
 use Rattle.inv_all.specs.history.Record.{Past, Each, begins, tells_of, value_since}
 use Rattle.inv_all.specs.history.Record.Past.{Start, Then}
-use Rattle.laws.specs.StateAt.{count_of, began_of, finds_of, tails_of}
+use Rattle.laws.specs.StateAt.{began_of, finds_of, tails_of}
 use Rattle.inv_all.proofs.history.Entries.{entries_of_each}
 use Rattle.inv_all.specs.history.History.{Begins, Steps, Made, fits, done, first_made, record_of}
 use Rattle.inv_all.proofs.history.Along.{Steady, items_keep}
@@ -86,11 +86,6 @@ record Keeps (layout : Layout) (made : Made) : Type 0 where
   found : (k : ℕ) → finds_of k made.past ≡ (made.world.seat k).rounds
   may : (k : ℕ) → MayFind made.world.layout.config k made.past
   law : Each (repeats_ok made.world.layout.config) made.past
-
--- what the record counts is what the World does
-changed_moves : (c : Config) (change : Change) (p : Past) → moves_of c (Some (call_for change)) p ≡ count_of (key_of change % c.buckets) p
-changed_moves c (changes.Put key value) p = refl
-changed_moves c (changes.Removed key) p = refl
 
 -- what is counted for a call, by the World
 abbrev world_moves : Tally → Call → ℕ
@@ -436,9 +431,6 @@ begin_keeps layout made i call f k =
       may = λ m. begin_may c i m call made.past (m == i) refl k.may;
       law = (refl, k.law);
     }
-
-none_more : (n : ℕ) → n + 0 ≡ n
-none_more n = omega arith
 
 first_keeps : (layout : Layout) → is_valid layout ≡ true → Keeps layout (first_made layout)
 first_keeps layout d =

@@ -29,7 +29,7 @@ use Rattle.inv_all.specs.history.Record.{Past, Each, begins, own, tells_of}
 use Rattle.inv_all.specs.history.Record.Past.{Then}
 use Rattle.laws.specs.StateAt.{call_of, list_of, without, is_read, is_back, times}
 use Rattle.inv_all.proofs.history.Entries.{entries_of_each}
-use Rattle.inv_all.specs.history.History.{Begins, Steps, Made, fits, done, first_made, record_of}
+use Rattle.inv_all.specs.history.History.{Begins, Steps, Made, done, first_made, record_of}
 use Rattle.inv_all.proofs.history.Along.{Steady, items_keep}
 use Rattle.inv_all.specs.rows.Hands.{each_once, is_right, scans_right}
 use Rattle.laws.proofs.Along.{list_own}
@@ -173,10 +173,6 @@ other_counts : (config : Config) (i : ℕ) (t : CallTurn) (p : Past) → all_of 
 other_counts config i t p w h =
     let n : is_scan_call (call_of i (tells_of p i (told_by t))) ≡ false = calls_within i (told_by t) p w h in
     record { later = λ y. absurd (cc); each = other_each config i (told_by t) p w h }
-
-event_call : (at : ScanAt) (post : Post) (found i : ℕ) (p : Past) → call_of i (Then p i (scan_event at post found)) ≡ call_of i p
-event_call (ReadGuard n) post found i p = refl
-event_call (GiveBack place slot) post found i p = refl
 
 event_counts : (config : Config) (at : ScanAt) (post : Post) (found i : ℕ) (p : Past) → count_ok config p i (scan_event at post found) ≡ true
 event_counts config (ReadGuard n) post found i p = refl

@@ -2,12 +2,10 @@
 -- that guard alone.
 use Rattle.std.proofs.Common.{ℕ, ◌≡◌, ◌≤◌, ◌<◌, Bool, true, false, List, [], ◌∷◌, Option, None, refl, sym, ap, ◌∙◌, arith}
 use Rattle.std.specs.Prelude.{◌==◌, ◌&&◌, if◌then◌else◌}
-use Rattle.wfe_core.specs.words.Packed.{halves, reservation_word, read_reservation, read_span}
+use Rattle.wfe_core.specs.words.Packed.{reservation_word, read_reservation, read_span}
 use Rattle.wfe_core.specs.words.Place as places
 use Rattle.wfe_core.specs.words.Place.{Place}
-use Rattle.wfe_core.specs.words.Place.Place.{Clock, Request, Bucket, Head, Tail, Claim, Life, Row, PlaceOf}
 use Rattle.wfe_core.specs.words.declared.packed.Reservation.{Reservation}
-use Rattle.wfe_core.proofs.words.Places.{same_one}
 use Rattle.wfe_core.proofs.words.Parts.{read_reservation-halves, read_span-halves}
 use Rattle.wfe_core.specs.defs.declared.event.Event.{Event}
 use Rattle.wfe_core.specs.defs.declared.event.Event.TheVariants as events
@@ -104,7 +102,3 @@ unfolding read_span
 nothing_shown (Helper seat) = ap (λ (word : ℕ). one_era (read_reservation word).era) no_index ∙ era_shown 0 0 (omega arith)
 nothing_shown (Index seat index) = ap (λ (word : ℕ). one_era (read_reservation word).era) no_index ∙ era_shown 0 0 (omega arith)
 nothing_shown (Whole seat) = refl
-
-put_by : (mem : Place → ℕ) (place other : Place) (one : Bool) → places.same other place ≡ one → (if one then mem place else mem other) ≡ mem other
-put_by mem place other true e = ap mem (sym (same_one other place e))
-put_by mem place other false e = refl

@@ -1,27 +1,26 @@
 -- The record of each history keeps the law on reuse.
-use Rattle.std.proofs.Common.{ℕ, zero, suc, ◌≡◌, ◌<◌, ◌≤◌, Bool, true, false, List, [], ◌∷◌, length, Option, Some, None, refl, sym, ap, ◌∙◌, subst, arith}
+use Rattle.std.proofs.Common.{ℕ, zero, suc, ◌≡◌, ◌<◌, Bool, true, false, List, [], ◌∷◌, length, Option, Some, None, refl, sym, ap, ◌∙◌, subst, arith}
 use Rattle.std.proofs.lemmas.Bool.Decides.{nat_tests}
-use Rattle.std.specs.Prelude.{◌==◌, ◌&&◌, ◌||◌, not, if◌then◌else◌}
+use Rattle.std.specs.Prelude.{◌==◌, ◌&&◌, not, if◌then◌else◌}
 use Rattle.wfe_core.specs.words.Place.{is_valid}
 use Rattle.wfe_core.specs.words.declared.layout.Layout.{Layout}
 use Rattle.wfe_core.specs.defs.declared.call.Call.{Call}
 use Rattle.wfe_core.specs.defs.declared.event.Event.{Event}
 use Rattle.wfe_core.specs.defs.declared.event.Event.TheVariants as events
 use Rattle.wfe_core.specs.declared.post.Post.{Post}
-use Rattle.wfe_core.specs.Desks.{Desk, noting}
-use Rattle.wfe_core.specs.Locals.{Local, settled_by, turn, told_by, rounds_told}
+use Rattle.wfe_core.specs.Locals.{Local}
 use Rattle.wfe_core.specs.Posts.{stands, counted}
 use Rattle.wfe_core.specs.Phases.{Base}
 use Rattle.wfe_core.specs.Phases.Base.{Begin, Protect, Reload, Clear, Finish, Release, Allocate, Write, GiveUp, Retire, Move}
-use Rattle.wfe_core.specs.Calls.{Why, CallTurn, CallOutcome, GoesOn, Answers, ScanAt, ReadGuard, GiveBack, Phase, Idle, Runs, Scans, Works}
+use Rattle.wfe_core.specs.Calls.{Why, ScanAt, ReadGuard, GiveBack, Phase, Idle, Runs, Scans, Works}
 use Rattle.wfe_core.proofs.Ranges.{bounds_of}
 use Rattle.wfe_core.specs.World.{World, start, begin, step, finds, told_in, is_busy}
 use Rattle.wfe_core.proofs.Facts.{first_of, rest_of, and_false, not_of_false, below_length}
 use Rattle.inv_all.specs.shapes.Seats.{Seats}
-use Rattle.inv_all.proofs.shapes.Frame.{seat_stays, seat_steps, begin_stays, begin_begins}
+use Rattle.inv_all.proofs.shapes.Frame.{seat_stays, begin_stays, begin_begins}
 use Rattle.inv_all.specs.history.Record.{Past, Each, tells_of}
 use Rattle.inv_all.specs.history.Record.Past.{Then}
-use Rattle.inv_all.specs.history.History.{Item, Begins, Steps, Made, fits, done, first_made, made_of, record_of}
+use Rattle.inv_all.specs.history.History.{Item, Begins, Steps, Made, done, first_made, made_of, record_of}
 use Rattle.inv_all.proofs.history.Along.{Steady, items_keep}
 use Rattle.inv_all.proofs.history.Entries.{entries_of_each}
 use Rattle.inv_all.specs.rows.Hands.{row_move}
@@ -59,10 +58,6 @@ pub room_of : (w : World) (i : ℕ) (why : Why) (base : Base) → is_valid w.lay
 room_of w i why base d s e =
     let m = (bounds_of w.layout d).indexes in
     below_length (index_base base) w.layout.config.indexes (length (w.seat i).post.standing) (index_in w.layout why base (w.seat i).post d (run_of w i why base s e)) m.1 (s.fits i).post.standing
-
-settled_post : (l : Local) (t : CallTurn) (outcome : CallOutcome) (count : ℕ) (desk : Desk) → (settled_by l t.post desk count outcome).post ≡ t.post
-settled_post l t (GoesOn phase) count desk = refl
-settled_post l t (Answers answer) count desk = refl
 
 -- what stands in a seat's post after its step is what it told
 own_follows : (w : World) (i j : ℕ) → is_valid w.layout ≡ true → Seats w → stood j (told_in w i) (stands (w.seat i).post j) ≡ stands ((step w i).seat i).post j

@@ -450,10 +450,6 @@ none_moved x d = ap (λ (m : Option ℕ). is_none m) d.none
 other_out : (last seen : ℕ) (x : ClockTally) → MoveDue x → outcome_fits last x (moves.Other seen) ≡ true
 other_out last seen x d = both x.due (is_none x.moved) d.due (none_moved x d)
 
-move_if : (b : Bool) (last : ℕ) (y : ClockTally) (t u : Outcome) → MoveOut last y t → MoveOut last y u → MoveOut last y (if b then t else u)
-move_if true last y t u h k = h
-move_if false last y t u h k = k
-
 load_out : (helps : Bool) (post : Post) (found : ℕ) (x : ClockTally) (same : Bool) → (found == post.layout.config.last_era) ≡ same → MoveDue x → MoveOut post.layout.config.last_era x (machine.move_turn (LoadEra helps) post found).outcome
 load_out helps post found x true e d = rw e (both x.due (is_none x.moved && found == post.layout.config.last_era) d.due (both (is_none x.moved) (found == post.layout.config.last_era) (none_moved x d) e))
 load_out helps post found x false e d = rw e d

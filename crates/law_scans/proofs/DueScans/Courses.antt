@@ -130,9 +130,6 @@ pub record Lands (every all : ℕ) (x : Tally) (phase : Phase) (first : List Eve
   pub fits : OutFits all outcome (along (tally_by every) first x).course
   pub count : (along (tally_by every) first x).retired ≡ counts phase x.retired
 
-settled_next : (all : ℕ) (c : Course) → c ≡ MayScan → is_settled all c ≡ true
-settled_next all c e = ap (is_settled all) e
-
 pub other_task : (all : ℕ) (task : Task) (c : Course) → is_fresh task ≡ false → is_settled all c ≡ true → TaskFits all task c
 other_task all task c f s = record { settled = s; fresh = λ h. absurd (cc) }
 

@@ -170,10 +170,6 @@ begins_all first post = record { rest = []; is = append_one first; still = refl;
     append_one [] = refl
     append_one (event ∷ first) = ap (λ (rest : List Event). event ∷ rest) (append_one first)
 
-if_turn : (b : Bool) (first : List Event) (n : ℕ) (t u : Turn) → (b ≡ true → Begins first n t.post t.told) → (b ≡ false → Begins first n u.post u.told) → Begins first n (if b then t else u).post (if b then t else u).told
-if_turn true first n t u h k = h refl
-if_turn false first n t u h k = k refl
-
 tick_begins : (era : ℕ) (post : Post) (found : ℕ) → Begins (move_front (ExchangeClock era) found) post.retired (machine.move_turn (ExchangeClock era) post found).post (machine.move_turn (ExchangeClock era) post found).told
 tick_begins era post found = ticked (found == era) refl
   where

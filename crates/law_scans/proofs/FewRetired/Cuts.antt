@@ -1,5 +1,5 @@
 -- No more rows are retired than cut, and no more cut than changes were made and values taken.
-use Rattle.std.proofs.Common.{ℕ, ◌≡◌, ◌≤◌, ◌+◌, Bool, true, false, List, [], ◌∷◌, length, Option, Some, None, refl, ap, subst, arith}
+use Rattle.std.proofs.Common.{ℕ, ◌≡◌, ◌≤◌, ◌+◌, Bool, true, false, List, [], ◌∷◌, length, refl, ap, subst, arith}
 use Rattle.std.proofs.lemmas.Bool.Decides.{nat_tests}
 use Rattle.std.specs.Prelude.{◌==◌, ◌||◌}
 use Rattle.wfe_core.specs.defs.declared.event.Event.{Event}
@@ -7,7 +7,7 @@ use Rattle.wfe_core.specs.defs.declared.event.Event.TheVariants as events
 use Rattle.wfe_core.specs.defs.declared.event.Root.TheVariants as roots
 use Rattle.inv_all.specs.history.Record.{Past, Each}
 use Rattle.inv_all.specs.history.Record.Past.{Start, Then}
-use Rattle.laws.specs.Once.{Due, due_at, due_cut, due_linked, meets_due, order_ok, retires_right, retiring_ok}
+use Rattle.laws.specs.Once.{Due, due_at, due_cut, meets_due, order_ok, retires_right, retiring_ok}
 use Rattle.laws.specs.Once.Due.{NoneDue, CutDue, ChangeDue, QueuedDue, TakenDue}
 use Rattle.laws.specs.StateAt.{without_one, is_among, cuts_by, cuts_of, one, count, told, is_retire, takes_out}
 use Rattle.law_scans.proofs.FewRetired.Counting.{by_seat, other_part, own_part, told_less}
@@ -77,10 +77,6 @@ paid (TakenDue seat) i (events.Taken number value) h = omega arith
 paid (TakenDue seat) i event h = absurd (cc)
 
 -- a cut comes right after a link that makes a change or takes a value
-linked_owes : (seat bucket : ℕ) (x : Option ℕ) (i slot : ℕ) → meets_due (due_linked seat bucket x) i (events.Cut slot) ≡ true → owed (due_linked seat bucket x) ≡ 0
-linked_owes seat bucket None i slot h = absurd (cc)
-linked_owes seat bucket (Some old) i slot h = refl
-
 cut_none : (seat : ℕ) (p : Past) (i slot : ℕ) → meets_due (due_cut seat p) i (events.Cut slot) ≡ false
 cut_none seat Start i slot = refl
 cut_none seat (Then p k (events.Link (roots.Bucket bucket) other)) i slot = refl

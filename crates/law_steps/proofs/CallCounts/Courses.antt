@@ -108,9 +108,6 @@ get_answers key answer post desk told h = rw h refl
 round_next : (task : Task) (post : Post) → scheme_of post ≡ Wfe → round task post ≡ Runs (Opens task) (Protect Alone (index_of task) (root_of task post) 0 (LoadClock (Failed 0)))
 round_next task post h = rw h refl
 
-in_time : (m made most more : ℕ) → m ≤ made + more → made + 1 ≤ most → nat_le m (most + more) ≡ true
-in_time m made most more h k = grind (arith, nat_tests)
-
 -- a hold
 hold_open : (c : Config) (k key : ℕ) (desk : Desk) (post : Post) (told : List Event) (outcome : Outcome) (backs made m : ℕ) → is_wfe c.scheme ≡ true → scheme_of post ≡ Wfe → OutAlone (bump made) outcome → m ≤ bump made + 1 → m ≤ made + 2 → made + 1 ≤ 3 * c.tries + 14 → Out c (calls.Hold k) backs m (steps.resumed (Opens (Holds key)) desk post told outcome).outcome
 hold_open c k key desk post told (Goes (Protect Alone index root made' at)) backs made m f s o b l t = rw f (subst (λ (x : ℕ). nat_le m (x + 1) ≡ true) (sym o) (le_test m (bump made + 1) b))

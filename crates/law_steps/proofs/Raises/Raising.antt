@@ -13,7 +13,6 @@ use Rattle.wfe_core.specs.declared.post.Post.{Post}
 use Rattle.wfe_core.specs.Allocate as allocates
 use Rattle.wfe_core.specs.Machine as machine
 use Rattle.wfe_core.specs.MoveClock as movers
-use Rattle.wfe_core.specs.Posts.{cleared}
 use Rattle.wfe_core.specs.Rounds.{scheme_of, clear_told, clear_post}
 use Rattle.wfe_core.specs.SlowPath as slow
 use Rattle.wfe_core.specs.WriteRow.{last_written}
@@ -29,7 +28,7 @@ use Rattle.inv_all.proofs.history.Passes.{is_quiet, all_quiet, Closed}
 use Rattle.laws.specs.StateAt.{spanned_by, raised_by}
 use Rattle.laws.specs.StepLaw.{number_raised}
 use Rattle.law_turns.proofs.Counting.Runs.{is_calm}
-use Rattle.inv_all.proofs.history.MayTell.{Tells, base_all, cleared_all, clear_all}
+use Rattle.inv_all.proofs.history.MayTell.{Tells, base_all, clear_all}
 use Rattle.inv_all.proofs.history.AllOf.{all_of, of_weaker}
 
 -- along what a step tells
@@ -108,9 +107,6 @@ quiet_one event h = refl
 
 pub quiet_still : (told : List Event) → all_quiet told ≡ true → all_still told ≡ true
 quiet_still told h = of_weaker is_quiet is_still told quiet_one h
-
-pub cleared_still : (index : ℕ) (o : Option ℕ) → all_still (cleared index o) ≡ true
-cleared_still index o = cleared_all is_still index o (λ index slot. refl)
 
 pub clear_still : (scheme : SchemeKind) (post : Post) (index : ℕ) → all_still (clear_told scheme post index) ≡ true
 clear_still scheme post index = clear_all is_still scheme post index (λ index slot. refl)

@@ -64,10 +64,6 @@ other_told k j i (Helper seat) span value before x same e o r h m = m
 other_told k j i (Whole seat) span value before x same e o r h m = m
 other_told k j i (Index a b) span value before x false e o r h m = rw (index_guard k j (Index a b), e) m
 
-if_true : (same : Bool) (a b : ℕ) → same ≡ true → (if same then a else b) ≡ a
-if_true true a b h = refl
-if_true false a b h = absurd (cc)
-
 if_false : (same : Bool) (a b : ℕ) → same ≡ false → (if same then a else b) ≡ b
 if_false true a b h = absurd (cc)
 if_false false a b h = refl
