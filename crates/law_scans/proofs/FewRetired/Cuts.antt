@@ -76,6 +76,7 @@ paid (ChangeDue seat bucket) i event h = absurd (cc)
 paid (TakenDue seat) i (events.Taken number value) h = omega arith
 paid (TakenDue seat) i event h = absurd (cc)
 
+-- a cut comes right after a link that makes a change or takes a value
 cut_none : (seat : ℕ) (p : Past) (i slot : ℕ) → meets_due (due_cut seat p) i (events.Cut slot) ≡ false
 cut_none seat Start i slot = refl
 cut_none seat (Then p k (events.Link (roots.Bucket bucket) other)) i slot = refl
