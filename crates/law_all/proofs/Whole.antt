@@ -28,7 +28,7 @@ use Rattle.law_held.proofs.Indexes.Indexing as indexes
 use Rattle.law_held.proofs.Roots.Following as follows
 use Rattle.law_held.proofs.Roots.Linking as links
 use Rattle.law_held.proofs.Roots.Sources as sources
-use Rattle.law_steps.proofs.all.Finish as finishes
+use Rattle.law_steps.proofs.inv.Finish as finishes
 use Rattle.law_steps.proofs.eras.Current.Keeps as current
 use Rattle.law_steps.proofs.Rising.RiseKeeps as rising
 use Rattle.law_held.proofs.NextRows.Following as behind

@@ -7,7 +7,7 @@ use Rattle.law_steps.specs.answers.Heard.{IsCounted}
 use Rattle.laws.specs.history.Heard.{heard_of}
 use Rattle.laws.specs.Schedule.{handed_right, one_step, numbers_right, OpenLaw}
 use Rattle.laws.specs.history.Turns.{EachTurn}
-use Rattle.law_steps.specs.all.Finish.{CallFinishes}
+use Rattle.law_steps.specs.inv.Finish.{CallFinishes}
 
 -- A history is starts of calls and turns of seats.
 pub record Schedule (layout : Layout) (items : List Item) : Type 0 where

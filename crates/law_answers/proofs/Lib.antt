@@ -1,4 +1,4 @@
-pub use Rattle.inv_all.proofs as all
+pub use Rattle.inv_all.proofs as inv
 pub use Rattle.inv_all.proofs.shapes as shapes
 pub use Rattle.inv_all.proofs.history as history
 pub mod AnswersTold

@@ -1,4 +1,4 @@
-pub use Rattle.inv_all.specs as all
+pub use Rattle.inv_all.specs as inv
 pub use Rattle.inv_all.specs.history as history
 pub mod Heard
 pub mod MapKept

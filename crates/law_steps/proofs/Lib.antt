@@ -1,4 +1,4 @@
-pub use Rattle.law_turns.proofs.inv as all
+pub use Rattle.law_turns.proofs.inv as inv
 pub use Rattle.law_turns.proofs.answers as answers
 pub use Rattle.law_scans.proofs.eras as eras
 pub use Rattle.law_scans.proofs as scans

@@ -27,9 +27,9 @@ use Rattle.wfe_drive_cells.specs.Unit.{IsStep, IsUnit, MayUnit, SeatView, Shows,
 use Rattle.wfe_drive_cells.proofs.Units.{busy-shown, first-start, may_unit, start-begin, unit-step, unit_turn-turn, made}
 use Rattle.law_answers.specs.history.History.{Begins, Item, Made, Steps, did, done, done_if, first_made, fits, made_of, world_of}
 use Rattle.law_answers.proofs.history.Along.{made_snoc}
-use Rattle.law_answers.specs.all.Inv.{Inv}
-use Rattle.law_answers.proofs.all.Inv.Kept.{inv_ready}
-use Rattle.law_answers.proofs.all.Inv.Reached.{inv_reached}
+use Rattle.law_answers.specs.inv.Inv.{Inv}
+use Rattle.law_answers.proofs.inv.Inv.Kept.{inv_ready}
+use Rattle.law_answers.proofs.inv.Inv.Reached.{inv_reached}
 use Rattle.law_answers.specs.Heard.{IsCounted}
 use Rattle.law_answers.proofs.Turns.Counted.{histories_count}
 use Rattle.wfe_drive.specs.Reached.{IsReached, first_table, units_left}

@@ -1,4 +1,4 @@
-pub use Rattle.law_answers.specs.all as all
+pub use Rattle.law_answers.specs.inv as inv
 pub use Rattle.law_answers.specs.history as history
 pub use Rattle.wfe_drive_cells.specs as drive_cells
 pub mod Reached

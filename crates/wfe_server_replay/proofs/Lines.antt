@@ -21,7 +21,7 @@ use Rattle.wfe_server_replay.specs.Trace.{is_refused}
 use Rattle.wfe_server_replay.proofs.Entries.{heard_of-table_pieces, made_entries}
 use Rattle.wfe_server_replay.proofs.Items.{pieces_fit}
 use Rattle.wfe_server_replay.proofs.Plays.{Agrees, Plays, begin_fit, begin_plays, opened_plays, playing_busy, seats_play, units_play}
-use Rattle.wfe_drive.proofs.all.Finish.{made_along}
+use Rattle.wfe_drive.proofs.inv.Finish.{made_along}
 
 -- the table after lines, in order
 abbrev pub played_all : List Command → Played → Played

@@ -19,8 +19,8 @@ use Rattle.wfe_drive.specs.drive_cells.Unit.{IsStep, Shows, after_start, after_u
 use Rattle.wfe_drive.proofs.drive_cells.Units.{busy-shown, first-start, start-begin, unit-step}
 use Rattle.wfe_drive.specs.Reached.{first_table}
 use Rattle.wfe_drive.specs.history.History.{Begins, Item, Made, Steps, did, done, first_made, fits, made_from, times}
-use Rattle.wfe_drive.specs.all.Inv.{Inv}
-use Rattle.wfe_drive.proofs.all.Inv.Kept.{inv_ready}
+use Rattle.wfe_drive.specs.inv.Inv.{Inv}
+use Rattle.wfe_drive.proofs.inv.Inv.Kept.{inv_ready}
 use Rattle.wfe_outside.specs.declared.watcher.WatchRow.{WatchRow}
 use Rattle.wfe_server_out.specs.Pieces.{Piece, told_pieces}
 use Rattle.wfe_watch.specs.Garbage.{garbage_rows}
@@ -30,7 +30,7 @@ use Rattle.wfe_server_replay.specs.Playing.{Played, call_most, is_playing, opene
 use Rattle.wfe_server_replay.proofs.Entries.{counted_told, rows_begun}
 use Rattle.wfe_server_replay.proofs.Items.{begin_fits, did_fit, made_pieces-append, pieces_fit, pieces_idle, step_fits, times_idle}
 use Rattle.wfe_drive.proofs.history.Along.{items_keep}
-use Rattle.wfe_drive.proofs.all.Finish.{Goes, steady, made_along, in_table, first_goes}
+use Rattle.wfe_drive.proofs.inv.Finish.{Goes, steady, made_along, in_table, first_goes}
 
 -- the table shows the World that the items come to, and the counts are those of its record
 pub record Plays (layout : Layout) (made : Made) (s : Played) : Type 0 where

@@ -6,15 +6,15 @@ use Rattle.wfe_core.specs.Rest.{rest}
 use Rattle.wfe_core.specs.World.{World, is_busy, step}
 use Rattle.wfe_drive.specs.history.History.{Made, Steps, did, first_made, made_from, made_of, times}
 use Rattle.wfe_drive.proofs.history.Along.{Steady, items_keep}
-use Rattle.wfe_drive.specs.all.Ends.{CallsEnd}
-use Rattle.wfe_drive.specs.all.Inv.{Inv}
-use Rattle.wfe_drive.proofs.all.Inv.Begun.{inv_begin, inv_start}
-use Rattle.wfe_drive.proofs.all.Inv.Ends.{inv_ends}
-use Rattle.wfe_drive.proofs.all.Inv.Kept.{inv_kept}
+use Rattle.wfe_drive.specs.inv.Ends.{CallsEnd}
+use Rattle.wfe_drive.specs.inv.Inv.{Inv}
+use Rattle.wfe_drive.proofs.inv.Inv.Begun.{inv_begin, inv_start}
+use Rattle.wfe_drive.proofs.inv.Inv.Ends.{inv_ends}
+use Rattle.wfe_drive.proofs.inv.Inv.Kept.{inv_kept}
 use Rattle.wfe_server_replay.specs.Given.{RunsEnd}
 use Rattle.wfe_server_replay.specs.Playing.{call_most}
 use Rattle.wfe_server_replay.proofs.Items.{did_fit, step_fits, times_idle}
-use Rattle.wfe_drive.proofs.all.Finish.{Goes, steady, made_along, in_table, first_goes}
+use Rattle.wfe_drive.proofs.inv.Finish.{Goes, steady, made_along, in_table, first_goes}
 use Rattle.wfe_core.proofs.Facts.{below_none}
 
 fewer : (after before n : ℕ) → after + 1 ≤ before → before < suc n → after < n
