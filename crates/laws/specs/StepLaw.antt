@@ -12,6 +12,7 @@ use Rattle.model_history.specs.defs.declared.event.Event.{Event}
 use Rattle.model_history.specs.defs.declared.event.Event.TheVariants as events
 use Rattle.model_history.specs.defs.declared.event.Guard.TheVariants.{Helper, Index}
 use Rattle.model_history.specs.defs.declared.lifetime.Interval.{Interval}
+use Rattle.model_history.specs.model.Bounds.{clock_most, get_most, hold_most, next_over_most, next_told_most, over_most, told_most}
 use Rattle.model_history.specs.model.Guards.{guards}
 use Rattle.model_history.specs.words.Schemes.{is_wfe, is_he, is_ibr}
 use Rattle.model_history.specs.words.declared.config.Config.{Config}
@@ -36,8 +37,8 @@ ErasRise r = EachEntry era_rises r
 
 -- with so many tries: three steps more at index 1, whose row stands only after the head was loaded again
 abbrev pub few_steps : ℕ → Event → Bool
-few_steps tries (events.Held index slot steps) = if index == 1 then nat_le steps (3 * tries + 15) else nat_le steps (3 * tries + 12)
-few_steps tries (events.Null index steps) = nat_le steps (3 * tries + 12)
+few_steps tries (events.Held index slot steps) = if index == 1 then nat_le steps (next_told_most tries) else nat_le steps (told_most tries)
+few_steps tries (events.Null index steps) = nat_le steps (told_most tries)
 few_steps tries event = true
 
 abbrev pub steps_ok : ℕ → Test
@@ -49,8 +50,8 @@ NumberLaw tries r = EachEntry (steps_ok tries) r
 -- The turns since the one that published the index word, and the one before it. A row held at index 1 was followed: the head is loaded
 -- again.
 abbrev pub event_bounded : (tries : ℕ) → (turns : ℕ → ℕ) → Event → Bool
-event_bounded tries turns (events.Held index slot steps) = if index == 1 then nat_le (turns index + 1) (3 * tries + 15) else nat_le (turns index + 1) (3 * tries + 12)
-event_bounded tries turns (events.Null index steps) = nat_le (turns index + 1) (3 * tries + 12)
+event_bounded tries turns (events.Held index slot steps) = if index == 1 then nat_le (turns index + 1) (next_told_most tries) else nat_le (turns index + 1) (told_most tries)
+event_bounded tries turns (events.Null index steps) = nat_le (turns index + 1) (told_most tries)
 event_bounded tries turns event = true
 
 abbrev pub events_bounded : (tries : ℕ) → (turns : ℕ → ℕ) → List Event → Bool
@@ -91,7 +92,7 @@ under_way i j h = nat_lt 0 (tried_of i j (record_of h)) || (nat_lt 0 (due_of i h
 abbrev pub lasts_right : (tries index : ℕ) → History → ℕ → List Event → Bool
 lasts_right tries j h i told =
     if under_way i j h
-    then nat_le (turns_since i j (Turns h i told) + 1) (if j == 1 then 3 * tries + 16 else 3 * tries + 14)
+    then nat_le (turns_since i j (Turns h i told) + 1) (if j == 1 then next_over_most tries else over_most tries)
     else true
 
 abbrev pub withdraws_first : (seat : ℕ) → List Event → Bool
@@ -181,9 +182,9 @@ abbrev pub steps_right : Config → Call → (backs : ℕ) → Answer → (steps
 steps_right config calls.Release backs answer steps = steps == 1
 steps_right config calls.Scan backs answer steps = steps == guards config + backs
 steps_right config calls.Advance backs answer steps =
-    if is_wfe config.scheme then nat_le steps (7 * config.seats + 3) else steps == (if is_era_spent answer then 1 else 2)
-steps_right config (calls.Hold key) backs answer steps = not (is_wfe config.scheme) || nat_le steps (3 * config.tries + 16)
-steps_right config (calls.Get key) backs answer steps = not (is_wfe config.scheme) || nat_le steps (3 * config.tries + 18 + config.pairs)
+    if is_wfe config.scheme then nat_le steps (clock_most config.seats) else steps == (if is_era_spent answer then 1 else 2)
+steps_right config (calls.Hold key) backs answer steps = not (is_wfe config.scheme) || nat_le steps (hold_most config.tries)
+steps_right config (calls.Get key) backs answer steps = not (is_wfe config.scheme) || nat_le steps (get_most config.tries config.pairs)
 steps_right config call backs answer steps = true
 
 abbrev pub began_steps : Config → Option Call → (backs : ℕ) → Answer → (steps : ℕ) → Bool

@@ -1,46 +1,53 @@
--- What a get's reads lead to, as turns of the model.
-use Rattle.std.proofs.Common.{ℕ, ◌≡◌, ◌+◌, Bool, true, false, [], Option, Some, None, refl, sym}
-use Rattle.std.specs.Prelude.{◌==◌, nat_lt}
+-- The ends of a call's rounds, as turns of the model.
+use Rattle.std.proofs.Common.{ℕ, ◌≡◌, Bool, List, Option, Some, None, sym, ap, subst, ◌∙◌}
+use Rattle.wfe_slots.specs.words.declared.config.SchemeKind.{SchemeKind}
+use Rattle.wfe_core.specs.defs.declared.call.Answer.{Answer}
+use Rattle.wfe_core.specs.defs.declared.event.Event.{Event}
 use Rattle.wfe_core.specs.declared.post.Post.{Post}
-use Rattle.wfe_core.specs.Calls.{Gets, GetAt, FindVersion, FindCount, FindKey, FindValue}
+use Rattle.wfe_core.specs.Calls.{Task, Next, Why, Phase, Runs, CallTurn}
+use Rattle.wfe_core.specs.Machine.{after}
+use Rattle.wfe_core.specs.Phases.{Base, Ending, Outcome, Ends}
 use Rattle.wfe_core.specs.Desks.{Desk}
-use Rattle.wfe_core.specs.Posts.{counted}
-use Rattle.wfe_core.specs.Get.{got, finding, found_key, get_turn}
-use Rattle.wfe_call_rounds.specs.iface.Schemes.{RoundPhases}
-use Rattle.wfe_call_rounds.proofs.Taken.{round_counted}
-use Rattle.wfe_bucketmap.specs.declared.get_at.GetAt.{GetAt as Where}
-use Rattle.wfe_bucketmap.specs.declared.get_at.GetAt.TheVariants as ats
-use Rattle.wfe_bucketmap.specs.Gets.{get_phase}
-use Rattle.wfe_bucketmap.specs.Finds.{Gives, pair_more, key_by, found_by}
+use Rattle.wfe_core.specs.Rounds.{scheme_of, index_of, clearing, closed}
+use Rattle.wfe_core.specs.Steps.{phase_turn, resume, resumed}
+use Rattle.wfe_call_rounds.specs.Rounds.{CloseAt, CloseTurn, close_from, close_step, close_phase, is_again, then_at, then_close}
+use Rattle.wfe_call_rounds.specs.Steps.{Steps}
+use Rattle.wfe_call_rounds.proofs.Model.{clearing_at}
+use Rattle.wfe_call_rounds.proofs.Taken.{closes_step, closed_step, then_over}
 
-finding_gives : (key slot version count pair last : ℕ) (value : Option ℕ) (post : Post) (desk : Desk) (more : Bool) → pair_more slot version count pair more ≡ Gives last value → finding key slot version count post desk more pair ≡ got key last value post desk []
-finding_gives key slot version count pair last value post desk true e = absurd (cc)
-finding_gives key slot version count pair last value post desk false e =
-    let same : version ≡ last = cc in
-    let none : None ≡ value = cc in
-    rw (← same, ← none) refl
+clearing_with : (task : Task) (next : Next) (kind : SchemeKind) (again : Bool) (post : Post) (desk : Desk) (told : List Event) → scheme_of post ≡ kind → again ≡ is_again next → clearing task next post desk told ≡ then_close task next desk (close_from kind (index_of task) again post told)
+clearing_with task next kind again post desk told s e =
+    clearing_at task next post desk told
+    ∙ (
+    ap (λ (k : SchemeKind). then_close task next desk (close_from k (index_of task) (is_again next) post told)) s
+    ∙ ap (λ (b : Bool). then_close task next desk (close_from kind (index_of task) b post told)) (sym e)
+    )
 
-key_gives : (key slot version count pair last : ℕ) (value : Option ℕ) (post : Post) (desk : Desk) (own : Bool) → key_by slot version count pair own ≡ Gives last value → found_key key slot version count pair post desk own ≡ got key last value post desk []
-key_gives key slot version count pair last value post desk true e = absurd (cc)
-key_gives key slot version count pair last value post desk false e =
-    finding_gives key slot version count (pair + 1) last value post desk (nat_lt (pair + 1) count) e
+-- a round is over at once, and the call goes on from there
+pub clearing_over : (task : Task) (next : Next) (kind : SchemeKind) (again : Bool) (post mid : Post) (desk : Desk) (start early : List Event) (answer : Option Answer) (phase : Phase) → scheme_of post ≡ kind → again ≡ is_again next → mid ≡ (close_from kind (index_of task) again post start).post → early ≡ (close_from kind (index_of task) again post start).told → (close_from kind (index_of task) again post start).at ≡ None → Steps (closed task next mid desk early) mid desk early answer phase → Steps (clearing task next post desk start) mid desk early answer phase
+clearing_over task next kind again post mid desk start early answer phase s e p t o h =
+    subst (λ (turn : CallTurn). Steps turn mid desk early answer phase) (sym (clearing_with task next kind again post desk start s e)) (
+    then_over task next desk mid mid early early answer phase (close_from kind (index_of task) again post start) p t o h
+    )
 
-gives_by : (key : ℕ) (at : GetAt) (post : Post) (desk : Desk) (found last : ℕ) (value : Option ℕ) → found_by key at found ≡ Gives last value → get_turn key at post desk found ≡ got key last value post desk []
-gives_by key (FindVersion slot) post desk found last value e = absurd (cc)
-gives_by key (FindCount slot version) post desk found last value e = finding_gives key slot version found 0 last value post desk (nat_lt 0 found) e
-gives_by key (FindKey slot version count pair) post desk found last value e = key_gives key slot version count pair last value post desk (found == key) e
-gives_by key (FindValue slot version pair) post desk found last value e =
-    let same : version ≡ last = cc in
-    let some : Some found ≡ value = cc in
-    rw (← same, ← some) refl
+-- the round's last machines go on
+pub closes_with : (task : Task) (next : Next) (kind : SchemeKind) (again : Bool) (at stop : CloseAt) (post last : Post) (desk : Desk) (told : List Event) (found : ℕ) → scheme_of post ≡ kind → again ≡ is_again next → last ≡ (close_step kind again at post found).post → told ≡ (close_step kind again at post found).told → (close_step kind again at post found).at ≡ Some stop → Steps (phase_turn (close_phase task next at) post desk found) last desk told None (close_phase task next stop)
+closes_with task next kind again at stop post last desk told found s e p t o =
+    closes_step task next kind at stop post last desk told found s (rw e at p) (rw e at t) (rw e at o)
 
--- a read that gives the value tells it
-pub get_gives : (key : ℕ) (at : GetAt) (post : Post) (desk : Desk) (found last : ℕ) (value : Option ℕ) → Gives last value ≡ found_by key at found → get_turn key at post desk found ≡ got key last value post desk []
-get_gives key at post desk found last value e = gives_by key at post desk found last value (sym e)
+-- they are over, and the call goes on from there
+pub closed_with : (task : Task) (next : Next) (kind : SchemeKind) (again : Bool) (at : CloseAt) (post mid : Post) (desk : Desk) (told : List Event) (found : ℕ) (answer : Option Answer) (phase : Phase) → scheme_of post ≡ kind → again ≡ is_again next → mid ≡ (close_step kind again at post found).post → told ≡ (close_step kind again at post found).told → (close_step kind again at post found).at ≡ None → Steps (closed task next mid desk told) mid desk told answer phase → Steps (phase_turn (close_phase task next at) post desk found) mid desk told answer phase
+closed_with task next kind again at post mid desk told found answer phase s e p t o h =
+    closed_step task next kind at post mid mid desk told told found answer phase s (rw e at p) (rw e at t) (rw e at o) h
 
--- where a get stands does not depend on how many steps it has made
-pub get_phase_counted : {B P C F : Type 0} (phases : RoundPhases B P C F) (key : ℕ) (at : Where B P C F) (post : Post) → get_phase phases key at post ≡ get_phase phases key at (counted post)
-get_phase_counted phases key ats.Starts post = round_counted (Gets key) post
-get_phase_counted phases key (ats.Opens opening) post = refl
-get_phase_counted phases key (ats.Finds find) post = refl
-get_phase_counted phases key (ats.Closes closing version value) post = refl
+-- a machine has ended, and the call goes on from there
+pub runs_end : (why : Why) (base : Base) (ending : Ending) (post mid : Post) (desk : Desk) (told : List Event) (found : ℕ) (answer : Option Answer) (phase : Phase) → mid ≡ (after base post found).post → told ≡ (after base post found).told → (after base post found).outcome ≡ Ends ending → Steps (resume why ending mid desk told) mid desk told answer phase → Steps (phase_turn (Runs why base) post desk found) mid desk told answer phase
+runs_end why base ending post mid desk told found answer phase p t o h =
+    let turn : phase_turn (Runs why base) post desk found ≡ resume why ending mid desk told =
+    ap (λ (outcome : Outcome). resumed why desk (after base post found).post (after base post found).told outcome) o
+    ∙ (
+    ap (λ (x : Post). resume why ending x desk (after base post found).told) (sym p)
+    ∙ ap (λ (events : List Event). resume why ending mid desk events) (sym t)
+    )
+    in
+    subst (λ (t : CallTurn). Steps t mid desk told answer phase) (sym turn) h

@@ -1,3 +1,2 @@
-pub mod Finds
-pub mod Gets
-pub mod Holds
+pub mod ChangeStates
+pub mod Changes

@@ -1,16 +1,13 @@
-//! The calls of the map, each a machine over any scheme.
+//! The calls of the map, over any scheme. Those that change a bucket stand here: a put and a remove are
+//! one machine, with the change that it makes. The others are handed on.
 #![tactic(auto)]
 
-mod advance;
-mod find;
-mod get;
-mod get_at;
-mod hold;
-mod hold_at;
-mod release;
+mod change;
+mod change_at;
+mod change_state;
+mod put;
+mod remove;
 
-pub use advance::Advance;
-pub use get::Get;
-pub use hold::Hold;
-pub use release::Release;
-pub use wfe_call_rounds::{He, Ibr, Scheme, Wfe};
+pub use put::Put;
+pub use remove::Remove;
+pub use wfe_bucketmap_read::{Advance, Get, He, Hold, Ibr, Release, Scheme, Wfe};

@@ -4,8 +4,7 @@ ghost use Rattle.wfe_core.specs.Steps.{first_phase};
 ghost use Rattle.wfe_core.specs.declared.post.Post.{Post};
 
 use crate::Running;
-use wfe_bucketmap::{Advance, Get, Hold, Release, Scheme};
-use wfe_bucketmap_change::{Put, Remove};
+use wfe_bucketmap::{Advance, Get, Hold, Put, Release, Remove, Scheme};
 use wfe_core::{Call, CallMachine, Layout};
 use wfe_msqueue::{Dequeue, Enqueue};
 use wfe_scan::Scan;

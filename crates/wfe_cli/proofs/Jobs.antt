@@ -4,9 +4,9 @@ use Rattle.std.proofs.KnownBytes.{Consumes-nil}
 use Rattle.wfe_cli_job.specs.declared.job.Job.{Job}
 use Rattle.wfe_cli_job.specs.declared.job.Job.TheVariants as jobs
 use Rattle.wfe_defs.specs.Entry.{Entry}
-use Rattle.wfe_server.specs.server_gen.Generated.{Generates}
-use Rattle.wfe_server.specs.server_gen.Turns.{generated, trace_of}
-use Rattle.wfe_server.proofs.server_gen.History.{generated_taken}
+use Rattle.wfe_server.specs.Generated.{Generates}
+use Rattle.wfe_server.specs.Turns.{generated, trace_of}
+use Rattle.wfe_server.proofs.History.{generated_taken}
 use Rattle.wfe_server_out.proofs.Hearing.{hears_some_none}
 use Rattle.wfe_server_out.proofs.Puts.{puts_some_none}
 use Rattle.wfe_trace.specs.declared.reason.Status.{Status}

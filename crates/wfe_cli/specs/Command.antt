@@ -5,7 +5,7 @@ use Rattle.wfe_cli_job.specs.Jobs.{most_turns}
 use Rattle.wfe_cli_job.specs.declared.job.Job.{Job}
 use Rattle.wfe_cli_job.specs.declared.job.Job.TheVariants as jobs
 use Rattle.wfe_defs.specs.Entry.{Entry}
-use Rattle.wfe_server.specs.server_gen.Generated.{Generates}
+use Rattle.wfe_server.specs.Generated.{Generates}
 use Rattle.wfe_outside.specs.Faults.{Rose}
 use Rattle.wfe_trace.specs.declared.reason.Status.{Status}
 use Rattle.wfe_trace.specs.declared.reason.Status.TheVariants as statuses

@@ -2,8 +2,8 @@
 use Rattle.std.specs.Prelude.{List, Ok, Option, Some, ℕ, ◌≡◌}
 use Rattle.std.specs.Io.KnownBytes.{Consumes, IsAtEnd}
 use Rattle.wfe_defs.specs.Entry.{Entry}
-use Rattle.wfe_server.specs.server_gen.Generated.{Generates}
-use Rattle.wfe_server.specs.server_gen.Turns.{generated, trace_of}
+use Rattle.wfe_server.specs.Generated.{Generates}
+use Rattle.wfe_server.specs.Turns.{generated, trace_of}
 use Rattle.wfe_server_out.specs.Pieces.{heard_of}
 use Rattle.wfe_trace.specs.declared.reason.Status.{Status}
 use Rattle.wfe_trace.specs.declared.reason.Status.TheVariants as statuses

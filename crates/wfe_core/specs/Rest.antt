@@ -5,6 +5,7 @@ use Rattle.wfe_words.specs.Place.Place.{Clock}
 use Rattle.wfe_words.specs.declared.config.Config.{Config}
 use Rattle.wfe_defs.specs.declared.lifetime.Interval.{Interval}
 use Rattle.wfe_defs.specs.declared.lifetime.Lifetime.{Lifetime}
+use Rattle.wfe_core.specs.Bounds.{clock_most, over_most}
 use Rattle.wfe_core.specs.Guards.{guards}
 use Rattle.wfe_core.specs.Phases.{Aim, Alone, Follows, Tries, Endless, Failed, BeginAt, ProtectAt, AllocateAt, RetireAt, MoveAt, Base}
 use Rattle.wfe_core.specs.Phases.BeginAt.{LoadLower, PublishSpan}
@@ -23,11 +24,11 @@ use Rattle.wfe_core.specs.World.{World}
 
 -- a protection of Wait-Free Eras; each other one takes no more but for greater eras
 abbrev pub protect_most : Config → ℕ
-protect_most config = 3 * config.tries + 14
+protect_most config = over_most config.tries
 
 -- a move of the clock
 abbrev pub move_most : Config → ℕ
-move_most config = 7 * config.seats + 3
+move_most config = clock_most config.seats
 
 -- a walk, with the load and the store round it
 abbrev pub walk_most : Config → ℕ

@@ -1,2 +1,7 @@
-pub use Rattle.wfe_server_gen.proofs as server_gen
-pub use Rattle.wfe_server_gen.proofs.server_replay as server_replay
+pub use Rattle.wfe_server_replay.proofs as server_replay
+pub mod Bare
+pub mod Counted
+pub mod Going
+pub mod History
+pub mod Turning
+pub mod Written

@@ -1,2 +1,6 @@
-pub use Rattle.wfe_server_gen.specs as server_gen
-pub use Rattle.wfe_server_gen.specs.server_replay as server_replay
+pub use Rattle.wfe_server_replay.specs as server_replay
+pub mod Generated
+pub mod Report
+pub mod Summary
+pub mod Tally
+pub mod Turns

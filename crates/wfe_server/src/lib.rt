@@ -1,4 +1,14 @@
-//! What the program does with traces: it replays one, or makes one from a seed.
+//! What the program does with traces: it replays one, or makes one from a seed, plays it on a table,
+//! and puts out how often each kind of event came.
 #![tactic(auto)]
 
-pub use wfe_server_gen::{PlainCells, Rig, generate, replay};
+mod generator;
+mod report;
+mod summary;
+mod table;
+#[cfg(test)]
+mod tests;
+mod turn;
+
+pub use generator::generate;
+pub use wfe_server_replay::{PlainCells, Rig, replay};

@@ -1,0 +1,278 @@
+// The work of a change on the bucket's row, between the protections of a round.
+ghost use Rattle.std.specs.Prelude.{◌≡◌, ◌<◌, ◌≤◌, ◌+◌, [], length, nat_lt, List, true};
+ghost use Rattle.wfe_core.specs.defs.Pairs.{changed};
+ghost use Rattle.wfe_core.specs.defs.declared.event.Event.{Event as ModelEvent};
+ghost use Rattle.wfe_core.specs.CallReady.{ChangeFits, change_plausible, change_ready};
+ghost use Rattle.wfe_core.specs.Change.{at_link, change_move, change_turn, changed_bucket, deciding, exchanged, reading, refusal, told_change, with_change};
+ghost use Rattle.wfe_core.specs.Desks.{Desk};
+ghost use Rattle.wfe_core.specs.Memory.{numbered};
+ghost use Rattle.wfe_core.specs.Rounds.{key_of};
+ghost use Rattle.wfe_core.specs.Valid.{IsValid};
+ghost use Rattle.wfe_call_rounds.specs.Rounds.{is_again};
+ghost use Rattle.wfe_bucketmap.specs.Changes.{at_of, kept_of, led, next_of};
+
+use wfe_core::{Answer, Change, ClockMove, Event, Op, Post, Root, Told};
+use wfe_slots::Pairs;
+
+// What a change keeps: the row that it has taken and not linked, whether a walk for one has failed,
+// and, from the root loaded last, the link, the version and the pairs.
+#[derive(Drop)]
+pub struct Kept {
+    pub change: Change,
+    pub taken: Option<u32>,
+    pub walked: bool,
+    pub link: u64,
+    pub version: u64,
+    pub pairs: Pairs,
+}
+
+// The step to come. The slot of the exchange is the new row's, and the others the bucket's.
+#[derive(Clone, Copy)]
+pub enum ChangeAt {
+    LoadVersion { slot: u32 },
+    LoadCount { slot: u32 },
+    LoadKey { slot: u32, count: u32 },
+    LoadValue { slot: u32, count: u32, key: u64 },
+    ExchangeRoot { slot: u32 },
+}
+
+// How a round of a change ends: another round, at once or after a scan; the answer; or the row that was
+// cut, with the version that the change has made.
+#[derive(Clone, Copy)]
+pub enum ChangeEnd {
+    Again,
+    MakeRoom,
+    Answers(Answer),
+    Retires { slot: u32, version: u64 },
+}
+
+impl ChangeEnd {
+    // Another round comes at once.
+    pub fn is_again(&self) -> bool
+        ensures { result ≡ is_again (next_of self.now) }
+    {
+        matches!(self, ChangeEnd::Again)
+    }
+}
+
+// What a step leads to: the next one, a row to be filled, or the round's end.
+#[derive(Clone, Copy)]
+pub enum Changed {
+    Goes(ChangeAt),
+    Fills,
+    Ends(ChangeEnd),
+}
+
+impl ChangeAt {
+    // The operation of the step.
+    pub fn next_op(&self, kept: &Kept, post: &Post) -> Op
+        requires valid { IsValid post.now }
+        requires fits { ChangeFits post.now (kept_of kept.now) }
+        requires ready { change_ready (kept_of kept.now) (at_of self.now) post.now }
+        ensures { result ≡ numbered post.now.layout (change_move (kept_of kept.now) (at_of self.now) post.now) }
+    {
+        match *self {
+            ChangeAt::LoadVersion { slot } => Op::Load {
+                word: post.layout.row(slot, 1),
+            },
+            ChangeAt::LoadCount { slot } => Op::Load {
+                word: post.layout.row(slot, 2),
+            },
+            ChangeAt::LoadKey { slot, .. } => Op::Load {
+                word: post.layout.row(slot, 3 + 2 * kept.pairs.len() as u32),
+            },
+            ChangeAt::LoadValue { slot, .. } => Op::Load {
+                word: post.layout.row(slot, 4 + 2 * kept.pairs.len() as u32),
+            },
+            ChangeAt::ExchangeRoot { slot } => Op::Cas {
+                word: post.layout.bucket(kept.bucket(post)),
+                old: kept.link,
+                new: slot as u64 + 1,
+            },
+        }
+    }
+
+    // What the word that was found leads to. An exchange is told.
+    pub fn take(self, kept: &mut Kept, post: &Post, found: u64, told: &mut Told) -> Changed
+        requires valid { IsValid post.now }
+        requires fits { ChangeFits post.now (kept_of kept.old) }
+        requires ready { change_ready (kept_of kept.old) (at_of self) post.now }
+        requires plausible { change_plausible (at_of self) post.now found }
+        requires empty { told.old ≡ [] }
+        ensures turn { (desk : Desk) → change_turn (kept_of kept.old) (at_of self) post.now desk found ≡ led (kept_of kept.new) result post.now desk told.new }
+        ensures fits { ChangeFits post.now (kept_of kept.new) }
+        ensures few { length told.new ≤ 3 }
+    {
+        match self {
+            ChangeAt::LoadVersion { slot } => {
+                kept.version = found;
+                Changed::Goes(ChangeAt::LoadCount { slot })
+            }
+            ChangeAt::LoadCount { slot } => kept.read(slot, found as u32, post),
+            ChangeAt::LoadKey { slot, count } => Changed::Goes(ChangeAt::LoadValue {
+                slot,
+                count,
+                key: found,
+            }),
+            ChangeAt::LoadValue { slot, count, key } => {
+                kept.pairs.push(key, found);
+                kept.read(slot, count, post)
+            }
+            ChangeAt::ExchangeRoot { slot } => {
+                if found != kept.link {
+                    return Changed::Ends(ChangeEnd::Again);
+                }
+                kept.linked(slot, post, told)
+            }
+        }
+    }
+}
+
+impl Kept {
+    // The root was protected with this link: what was read of another row is forgotten.
+    pub fn protected(&mut self, link: u64)
+        ensures { kept_of self.new ≡ at_link (kept_of self.old) link }
+    {
+        self.link = link;
+        self.version = 0;
+        self.pairs.clear();
+    }
+
+    // The bucket that is changed.
+    pub fn bucket(&self, post: &Post) -> u32
+        requires { IsValid post.now }
+        ensures bucket { result ≡ changed_bucket (kept_of self.now) post.now }
+        ensures there { result < post.now.layout.config.buckets }
+    {
+        let key = key_in(&self.change);
+        (key % post.layout.config().buckets as u64) as u32
+    }
+
+    // The next pair is read, if there is one.
+    fn read(&mut self, slot: u32, count: u32, post: &Post) -> Changed
+        requires valid { IsValid post.now }
+        requires fits { ChangeFits post.now (kept_of self.old) }
+        ensures turn { (desk : Desk) → reading (kept_of self.old) slot count post.now desk (nat_lt (length (kept_of self.old).pairs) count) ≡ led (kept_of self.new) result post.now desk [] }
+        ensures fits { ChangeFits post.now (kept_of self.new) }
+    {
+        if (self.pairs.len() as u32) < count {
+            return Changed::Goes(ChangeAt::LoadKey { slot, count });
+        }
+        self.decide(post)
+    }
+
+    // The row is read: the change is refused, or made in the pairs of a new row.
+    pub fn decide(&mut self, post: &Post) -> Changed
+        requires valid { IsValid post.now }
+        requires fits { ChangeFits post.now (kept_of self.old) }
+        ensures turn { (desk : Desk) (told : List ModelEvent) → deciding (kept_of self.old) post.now desk told ≡ led (kept_of self.new) result post.now desk told }
+        ensures fits { ChangeFits post.now (kept_of self.new) }
+    {
+        match self.refusal(post) {
+            Some(answer) => Changed::Ends(ChangeEnd::Answers(answer)),
+            None => {
+                self.change();
+                Changed::Fills
+            }
+        }
+    }
+
+    // Why the change is refused, if it is.
+    fn refusal(&self, post: &Post) -> Option<Answer>
+        requires { IsValid post.now }
+        ensures { result ≡ refusal post.now.layout.config (kept_of self.now).version (kept_of self.now).pairs (kept_of self.now).change }
+    {
+        let version = self.version;
+        let config = post.layout.config();
+        match self.change {
+            Change::Put { key, .. } => {
+                if version == config.last_version {
+                    return Some(Answer::Spent { number: version });
+                }
+                if !self.pairs.has(key) && self.pairs.len() as u32 == config.pairs {
+                    return Some(Answer::BucketFull { version });
+                }
+                None
+            }
+            Change::Removed { key } => {
+                if !self.pairs.has(key) {
+                    return Some(Answer::Absent { version });
+                }
+                if version == config.last_version {
+                    return Some(Answer::Spent { number: version });
+                }
+                None
+            }
+        }
+    }
+
+    // The change is made in the pairs.
+    fn change(&mut self)
+        requires { length (changed (kept_of self.old).pairs (kept_of self.old).change) ≤ 14 }
+        ensures { kept_of self.new ≡ with_change (kept_of self.old) }
+    {
+        match self.change {
+            Change::Put { key, value } => self.pairs.put(key, value),
+            Change::Removed { key } => self.pairs.remove(key),
+        }
+    }
+
+    // The root leads to the new row: that is told, and the row that it led to before is cut.
+    fn linked(&mut self, slot: u32, post: &Post, told: &mut Told) -> Changed
+        requires valid { IsValid post.now }
+        requires fits { ChangeFits post.now (kept_of self.old) }
+        requires left { (kept_of self.old).version < post.now.layout.config.last_version }
+        requires empty { told.old ≡ [] }
+        ensures turn { (desk : Desk) → exchanged (kept_of self.old) slot post.now desk true ≡ led (kept_of self.new) result post.now desk told.new }
+        ensures fits { ChangeFits post.now (kept_of self.new) }
+        ensures few { length told.new ≤ 3 }
+    {
+        let bucket = self.bucket(post);
+        let version = self.version + 1;
+        self.taken = None;
+        told.push(Event::Link {
+            root: Root::Bucket(bucket),
+            slot,
+        });
+        if self.link == 0 {
+            told.push(change_event(&self.change, bucket, version));
+            return Changed::Ends(ChangeEnd::Answers(Answer::Done {
+                version,
+                clock: ClockMove::Still,
+            }));
+        }
+        let cut = (self.link - 1) as u32;
+        told.push(Event::Cut { slot: cut });
+        told.push(change_event(&self.change, bucket, version));
+        Changed::Ends(ChangeEnd::Retires { slot: cut, version })
+    }
+}
+
+// The key of a change.
+fn key_in(change: &Change) -> u64
+    ensures { result ≡ key_of change.now }
+{
+    match *change {
+        Change::Put { key, .. } => key,
+        Change::Removed { key } => key,
+    }
+}
+
+// The event of a change at a version.
+fn change_event(change: &Change, bucket: u32, version: u64) -> Event
+    ensures { result ≡ told_change bucket version change.now }
+{
+    match *change {
+        Change::Put { key, value } => Event::Put {
+            bucket,
+            version,
+            key,
+            value,
+        },
+        Change::Removed { key } => Event::Removed {
+            bucket,
+            version,
+            key,
+        },
+    }
+}

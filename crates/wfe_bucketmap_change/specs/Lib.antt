@@ -1,2 +1,0 @@
-pub mod ChangeStates
-pub mod Changes

@@ -1,0 +1,197 @@
+// The call that gets a key's value.
+ghost use Rattle.std.specs.Prelude.{◌≡◌, ◌≤◌, [], length, ℕ};
+ghost use Rattle.wfe_core.specs.defs.declared.call.Answer.TheVariants.{Got as GotAnswer};
+ghost use Rattle.wfe_core.specs.CallReady.{IsCallPlausible, IsCallReady};
+ghost use Rattle.wfe_core.specs.Calls.{Answering, Gets};
+ghost use Rattle.wfe_core.specs.DeskHeld.{desk_of};
+ghost use Rattle.wfe_core.specs.Get.{got as model_got};
+ghost use Rattle.wfe_core.specs.Phases.Ending.{Protected};
+ghost use Rattle.wfe_core.specs.Ready.{RootFits, protect_within};
+ghost use Rattle.wfe_core.specs.Rounds.{root_of, round};
+ghost use Rattle.wfe_core.specs.Steps.{opened, phase_turn};
+ghost use Rattle.wfe_core.specs.Valid.{IsValid};
+ghost use Rattle.wfe_core.specs.declared.post.Post.{Post};
+ghost use Rattle.wfe_bucketmap_read.specs.Gets.{get_phase};
+ghost use Rattle.wfe_call_rounds.specs.Steps.{Steps};
+
+use crate::find::{Find, Found};
+use crate::get_at::GetAt;
+use wfe_call_rounds::{Rounds, Scheme, close, open, take_close, take_open};
+use wfe_core::{Answer, CallMachine, Desk, Event, Op, Post, ProtectEnd, Root, Told};
+
+/// Gets the value of a key: it protects the row of the key's bucket, and reads the version, the count
+/// and the keys up to its own.
+#[derive(Drop)]
+pub struct Get<S: Scheme> {
+    key: u64,
+    at: GetAt<S::Begin, S::Protect, S::Clear, S::Finish>,
+}
+
+impl<S: Scheme> Get<S> {
+    /// A get of this key that has made no step.
+    pub fn new(key: u64) -> Get<S>
+        ensures { (post : Post) → ⟦<Get<S> as CallMachine>⟧.phase result post ≡ round (Gets key) post }
+    {
+        Get {
+            key,
+            at: GetAt::Starts,
+        }
+    }
+
+    // The root of the key's bucket.
+    fn root(&self, post: &Post) -> Root
+        requires { IsValid post.now }
+        ensures root { result ≡ root_of (Gets self.now.key) post.now }
+        ensures there { RootFits post.now.layout result }
+    {
+        let buckets = post.layout.config().buckets as u64;
+        Root::Bucket((self.key % buckets) as u32)
+    }
+
+    // A step, with its events besides End. The desk is what it was.
+    fn step(&mut self, post: &mut Post, desk: &Desk, found: u64, told: &mut Told) -> Option<Answer>
+        requires valid { IsValid post.old }
+        requires scheme { post.old.layout.config.scheme ≡ S.kind }
+        requires ready { IsCallReady (get_phase ⟦<S as Rounds>⟧.all_phases self.old.key self.old.at post.old) post.old (desk_of desk.now) }
+        requires plausible { IsCallPlausible (get_phase ⟦<S as Rounds>⟧.all_phases self.old.key self.old.at post.old) post.old found }
+        requires empty { told.old ≡ [] }
+        ensures steps { Steps (phase_turn (get_phase ⟦<S as Rounds>⟧.all_phases self.old.key self.old.at post.old) post.old (desk_of desk.now) found) post.new (desk_of desk.now) told.new result (get_phase ⟦<S as Rounds>⟧.all_phases self.new.key self.new.at post.new) }
+        ensures valid { IsValid post.new }
+        ensures layout { post.new.layout ≡ post.old.layout }
+        ensures seat { post.new.seat ≡ post.old.seat }
+        ensures most { length told.new ≤ 4 }
+    {
+        let root = self.root(post);
+        match &mut self.at {
+            GetAt::Starts => {
+                let mut opening = open::<S>(post, 0, root);
+                let end = take_open::<S>(&mut opening, 0, root, post, found, told);
+                self.at = GetAt::Opens(opening);
+                match end {
+                    Some(end) => self.reach(end, post, desk, told),
+                    None => None,
+                }
+            }
+            GetAt::Opens(opening) => {
+                let end = take_open::<S>(opening, 0, root, post, found, told)?;
+                self.reach(end, post, desk, told)
+            }
+            GetAt::Finds(find) => match find.take(post, self.key, found) {
+                Found::Goes(next) => {
+                    *find = next;
+                    None
+                }
+                Found::Got { version, value } => self.got(version, value, post, desk, told),
+            },
+            GetAt::Closes {
+                closing,
+                version,
+                value,
+            } => {
+                if take_close::<S>(closing, false, post, found, told) {
+                    return Some(Answer::Got {
+                        version: *version,
+                        value: *value,
+                    });
+                }
+                None
+            }
+        }
+    }
+
+    // The protection has ended: the row is read, or there is none.
+    fn reach(
+        &mut self,
+        end: ProtectEnd,
+        post: &mut Post,
+        desk: &Desk,
+        told: &mut Told,
+    ) -> Option<Answer>
+        requires valid { IsValid post.old }
+        requires scheme { post.old.layout.config.scheme ≡ S.kind }
+        requires few { length told.old ≤ 2 }
+        ensures steps { Steps (opened (Gets self.old.key) (Protected end) post.old (desk_of desk.now) told.old) post.new (desk_of desk.now) told.new result (get_phase ⟦<S as Rounds>⟧.all_phases self.new.key self.new.at post.new) }
+        ensures valid { IsValid post.new }
+        ensures layout { post.new.layout ≡ post.old.layout }
+        ensures seat { post.new.seat ≡ post.old.seat }
+        ensures most { length told.new ≤ 4 }
+    {
+        match end {
+            ProtectEnd::Held { slot, .. } => {
+                self.at = GetAt::Finds(Find::Version { slot });
+                None
+            }
+            ProtectEnd::Null => self.got(0, None, post, desk, told),
+        }
+    }
+
+    // The value is known: it is told, and the round ends.
+    fn got(
+        &mut self,
+        version: u64,
+        value: Option<u64>,
+        post: &mut Post,
+        desk: &Desk,
+        told: &mut Told,
+    ) -> Option<Answer>
+        requires valid { IsValid post.old }
+        requires scheme { post.old.layout.config.scheme ≡ S.kind }
+        requires few { length told.old ≤ 2 }
+        ensures steps { Steps (model_got self.old.key version value post.old (desk_of desk.now) told.old) post.new (desk_of desk.now) told.new result (get_phase ⟦<S as Rounds>⟧.all_phases self.new.key self.new.at post.new) }
+        ensures key { self.new.key ≡ self.old.key }
+        ensures valid { IsValid post.new }
+        ensures layout { post.new.layout ≡ post.old.layout }
+        ensures seat { post.new.seat ≡ post.old.seat }
+        ensures most { length told.new ≤ 4 }
+    {
+        let key = self.key;
+        let bucket = (key % post.layout.config().buckets as u64) as u32;
+        told.push(Event::Got {
+            bucket,
+            version,
+            key,
+            value,
+        });
+        match close::<S>(post, told, 0, false) {
+            Some(closing) => {
+                self.at = GetAt::Closes {
+                    closing,
+                    version,
+                    value,
+                };
+                None
+            }
+            None => Some(Answer::Got { version, value }),
+        }
+    }
+}
+
+impl<S: Scheme> CallMachine for Get<S> {
+    ghost use Rattle.wfe_bucketmap_read.specs.Gets.{get_phase};
+
+    ghost suits = { λ kind. kind ≡ S.kind };
+
+    ghost phase = { λ m post. get_phase ⟦<S as Rounds>⟧.all_phases m.key m.at post };
+
+    fn next_op(&self, post: &Post, _desk: &Desk) -> Op {
+        match &self.at {
+            GetAt::Starts => open::<S>(post, 0, self.root(post)).next_op(post),
+            GetAt::Opens(opening) => opening.next_op(post),
+            GetAt::Finds(find) => find.next_op(post),
+            GetAt::Closes { closing, .. } => closing.next_op(post),
+        }
+    }
+
+    fn take(
+        &mut self,
+        post: &mut Post,
+        desk: &mut Desk,
+        found: u64,
+        told: &mut Told,
+    ) -> Option<Answer> {
+        post.steps = post.steps.saturating_add(1);
+        let answer = self.step(post, desk, found, told);
+        desk.settle(post, told, answer);
+        answer
+    }
+}

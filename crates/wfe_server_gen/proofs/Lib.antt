@@ -1,7 +1,0 @@
-pub use Rattle.wfe_server_replay.proofs as server_replay
-pub mod Bare
-pub mod Counted
-pub mod Going
-pub mod History
-pub mod Turning
-pub mod Written
