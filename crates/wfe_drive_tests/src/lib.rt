@@ -6,8 +6,6 @@
 #[cfg(test)]
 mod bench;
 #[cfg(test)]
-mod by_hand;
-#[cfg(test)]
 mod each_call;
 #[cfg(test)]
 mod overtaken;

@@ -4,8 +4,8 @@ use std::process::Abort;
 use std::test::Fail;
 use wfe_core::{Answer, Call, ClockMove, Config, Event, Guard, Interval, SchemeKind};
 
-/// Two seats of Wait-Free Eras that try once.
-pub const PAIR: Config = Config {
+// Two seats of Wait-Free Eras that try once.
+const PAIR: Config = Config {
     scheme: SchemeKind::Wfe,
     seats: 2,
     indexes: 3,

@@ -3,18 +3,32 @@ ghost use Rattle.std.specs.Prelude.{◌≡◌, ◌<◌, length, IfNone, IfOk, tr
 ghost use Rattle.wfe_core.specs.words.Place.{is_valid, words};
 ghost use Rattle.wfe_drive_cells.specs.Operations.{word_in};
 ghost use Rattle.wfe_fast.specs.Phases.{protect_phase};
-ghost use Rattle.wfe_drive_tests.specs.ByHand.{IsPoised, IsSeen, LeadsWithin};
+ghost use Rattle.wfe_fast_tests.specs.ByHand.{IsPoised, IsSeen, LeadsWithin};
 
-use crate::overtaken::PAIR;
 use std::alloc::Global;
 use std::process::Abort;
 use std::test::Fail;
 use wfe_core::{
-    Event, Guard, Interval, Layout, Link, Machine, Op, Post, ProtectEnd, Request, Reservation,
-    Root, Told, link_word, link_word_number, read_request, request_word, reservation_word,
+    Config, Event, Guard, Interval, Layout, Link, Machine, Op, Post, ProtectEnd, Request,
+    Reservation, Root, SchemeKind, Told, link_word, link_word_number, read_request, request_word,
+    reservation_word,
 };
 use wfe_drive_cells::{Cells, MakeCells, PlainCells};
 use wfe_fast::WfeProtect;
+
+// Two seats of Wait-Free Eras that try once.
+const PAIR: Config = Config {
+    scheme: SchemeKind::Wfe,
+    seats: 2,
+    indexes: 3,
+    slots: 8,
+    buckets: 1,
+    tries: 1,
+    every: 100,
+    last_era: 100,
+    last_version: 100,
+    pairs: 6,
+};
 
 // A protection of seat 0 at index 2, with the words that it works on, and the number of the word that
 // has the link.

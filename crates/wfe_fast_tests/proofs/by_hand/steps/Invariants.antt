@@ -1,6 +1,6 @@
 use Rattle.wfe_fast.specs.Phases.{protect_phase}
-use Rattle.wfe_drive_tests.specs.ByHand.{IsPoised}
-use Rattle.wfe_drive_tests.proofs.by_hand.steps.Given as goal
+use Rattle.wfe_fast_tests.specs.ByHand.{IsPoised}
+use Rattle.wfe_fast_tests.proofs.by_hand.steps.Given as goal
 
 -- the protection may make its next step
 abbrev pub invariant-loop : goal.invariant-loop

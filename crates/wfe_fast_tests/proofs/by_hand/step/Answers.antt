@@ -1,9 +1,9 @@
 -- The step finds what it may, and leaves the protection at its next one.
 use Rattle.std.proofs.Common.{rules, subst}
 use Rattle.wfe_core.specs.words.declared.config.Config.{Config}
-use Rattle.wfe_drive_tests.specs.ByHand.{IsSeen, LeadsWithin}
-use Rattle.wfe_drive_tests.proofs.ByHand.{if_none, step_plausible, step_poised}
-use Rattle.wfe_drive_tests.proofs.by_hand.step.Goals as goal
+use Rattle.wfe_fast_tests.specs.ByHand.{IsSeen, LeadsWithin}
+use Rattle.wfe_fast_tests.proofs.ByHand.{if_none, step_plausible, step_poised}
+use Rattle.wfe_fast_tests.proofs.by_hand.step.Goals as goal
 
 pub take-requires-clause-plausible : goal.take-requires-clause-plausible
 take-requires-clause-plausible g c =

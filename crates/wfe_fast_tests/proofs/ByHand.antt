@@ -27,7 +27,7 @@ use Rattle.wfe_fast.specs.declared.protect.At.TheVariants as ats
 use Rattle.wfe_fast.specs.declared.protect.WfeProtect.{WfeProtect}
 use Rattle.wfe_fast.specs.declared.own_turn.TurnAt.{TurnAt}
 use Rattle.wfe_fast.specs.declared.own_turn.TurnAt.TheVariants as turns
-use Rattle.wfe_drive_tests.specs.ByHand.{IsAt, IsPoised, IsSeen, LeadsWithin}
+use Rattle.wfe_fast_tests.specs.ByHand.{IsAt, IsPoised, IsSeen, LeadsWithin}
 
 -- a number of these few is an era and a link
 era_fits : (post : Post) (found : ℕ) → IsValid post → (1 ≤ found) × (found ≤ post.layout.config.slots) → EraFits found

@@ -1,0 +1,5 @@
+//! Tests of a protection of Wait-Free Eras in the hands of a test, which makes what other seats would do.
+#![tactic(auto)]
+
+#[cfg(test)]
+mod by_hand;
