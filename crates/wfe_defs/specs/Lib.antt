@@ -2,3 +2,4 @@ pub mod Entry
 pub mod Events
 pub mod Meets
 pub mod Pairs
+pub mod Shown
