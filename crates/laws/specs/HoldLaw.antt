@@ -9,7 +9,7 @@ use Rattle.model_history.specs.defs.declared.event.Guard.TheVariants.{Helper, In
 use Rattle.model_history.specs.defs.declared.event.Root.TheVariants as roots
 use Rattle.model_history.specs.defs.declared.lifetime.Interval.{Interval}
 use Rattle.model_history.specs.model.Guards.{own_guard}
-use Rattle.model_history.specs.model.Scan.{meets_span}
+use Rattle.model_history.specs.defs.Shown.{keeps, shown}
 use Rattle.model_history.specs.words.declared.config.Config.{Config}
 use Rattle.model_history.specs.words.declared.config.SchemeKind.{SchemeKind}
 use Rattle.model_history.specs.words.declared.config.SchemeKind.TheVariants.{He, Ibr, Wfe}
@@ -18,7 +18,7 @@ use Rattle.laws.specs.StateAt.{taken_at, life_at, value_of, stood_at, bucket_at,
 
 -- the row is taken, and the guard of index j of seat k publishes an interval that meets the row's life
 abbrev pub is_held : Config → ℕ → ℕ → ℕ → Past → Bool
-is_held config k j s p = taken_at config.slots s p && meets_span (life_at s p) (value_of (own_guard config.scheme k j) p)
+is_held config k j s p = taken_at config.slots s p && keeps (life_at s p) (shown (value_of (own_guard config.scheme k j) p))
 
 -- wherever the record is cut, a row that stands at an index of a seat is taken, and the guard of that index publishes an interval that
 -- meets the row's life

@@ -9,17 +9,16 @@ use Rattle.model_history.specs.defs.declared.call.Call.TheVariants as calls
 use Rattle.model_history.specs.defs.declared.event.Event.{Event}
 use Rattle.model_history.specs.defs.declared.event.Event.TheVariants as events
 use Rattle.model_history.specs.defs.declared.lifetime.Lifetime.{Lifetime}
-use Rattle.model_history.specs.model.Desks.{Seen}
+use Rattle.model_history.specs.defs.Shown.{Seen, keeps_any}
 use Rattle.model_history.specs.model.Guards.{guard_at, guards}
 use Rattle.model_history.specs.model.Memory.{bump}
-use Rattle.model_history.specs.model.Scan.{meets_any}
 use Rattle.model_history.specs.words.declared.config.Config.{Config}
 use Rattle.laws.specs.StateAt.{same_guard, list_of, read_of, scans_of, is_back, is_read, times, call_of, value_of, same_span, is_retire, takes_out, told, seen, was_taken}
 
 -- the first life of a list that meets nothing read
 abbrev pub next_back : List Seen → List Lifetime → Option Lifetime
 next_back read [] = None
-next_back read (life ∷ lives) = if meets_any life read then next_back read lives else Some life
+next_back read (life ∷ lives) = if keeps_any life read then next_back read lives else Some life
 
 abbrev pub is_row : ℕ → Option Lifetime → Bool
 is_row slot None = false

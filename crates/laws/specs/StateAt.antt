@@ -14,7 +14,7 @@ use Rattle.model_history.specs.defs.declared.fold.Change.{Change}
 use Rattle.model_history.specs.defs.declared.fold.Change.TheVariants as changes
 use Rattle.model_history.specs.defs.declared.lifetime.Interval.{Interval}
 use Rattle.model_history.specs.defs.declared.lifetime.Lifetime.{Lifetime}
-use Rattle.model_history.specs.model.Desks.{Seen}
+use Rattle.model_history.specs.defs.Shown.{Seen, shown}
 
 -- Counts of entries, and what a seat's own entries come to.
 
@@ -527,7 +527,7 @@ scans_of i (Then p k event) = if i == k then is_scan event else scans_of i p
 
 -- what a seat has read of its block: after a whole block, of `all` guards, the next one begins
 abbrev pub read_by : ℕ → Event → List Seen → List Seen
-read_by all (events.Read guard span) read = (if length read == all then [] else read) ++ (guard, span) ∷ []
+read_by all (events.Read guard span) read = (if length read == all then [] else read) ++ (guard, shown span) ∷ []
 read_by all event read = read
 
 abbrev pub read_of : ℕ → ℕ → Past → List Seen

@@ -1,5 +1,5 @@
 -- What a guard publishes, as reclamation needs it: which lives it keeps.
-use Rattle.std.specs.Prelude.{Bool, false, List, [], ◌∷◌, Option, Some, None, ◌||◌}
+use Rattle.std.specs.Prelude.{Bool, false, List, [], ◌∷◌, Option, Some, None, ◌||◌, map}
 use Rattle.wfe_defs.specs.Meets.{meets}
 use Rattle.wfe_defs.specs.declared.event.Event.{Event}
 use Rattle.wfe_defs.specs.declared.event.Event.TheVariants as events
@@ -40,6 +40,10 @@ seen_value event = None
 -- a guard that a scan read, and what it published
 abbrev pub Seen : Type 0
 Seen = Guard × Shown
+
+-- what a scan has read, from intervals
+abbrev pub seen_all : List (Guard × Option Interval) → List Seen
+seen_all read = map (λ (x : Guard × Option Interval). (x.0, shown x.1)) read
 
 -- something that was read keeps the life
 abbrev pub keeps_any : Lifetime → List Seen → Bool

@@ -27,7 +27,7 @@ use Rattle.wfe_core.specs.Desks.{Desk, with_life}
 use Rattle.wfe_core.specs.Dequeue as dequeues
 use Rattle.wfe_core.specs.Enqueue as enqueues
 use Rattle.wfe_core.specs.Get as gets
-use Rattle.wfe_core.specs.Guards.{guards, guard_at, published}
+use Rattle.wfe_core.specs.Guards.{guards, guard_at, eras_in, published}
 use Rattle.wfe_core.specs.Machine as machine
 use Rattle.wfe_core.specs.Posts.{stands}
 use Rattle.wfe_core.specs.Scan as scan
@@ -324,7 +324,7 @@ guard_owes n call later number post desk told false s t = giving_owes n call lat
 
 scan_owes : (n : ℕ) (call : Call) (later : AfterScan) (at : ScanAt) (post : Post) (desk : Desk) (found : ℕ) → LaterServes call later → Owes n call (later_owed n call later) (scan.scan_turn later at post desk found)
 scan_owes n call later (ReadGuard number) post desk found s =
-    guard_owes n call later number post (scan.with_read desk number (guard_at post.layout.config number, published (guard_at post.layout.config number) found)) (events.Read (guard_at post.layout.config number) (published (guard_at post.layout.config number) found) ∷ []) (nat_lt (number + 1) (guards post.layout.config)) s
+    guard_owes n call later number post (scan.with_read desk number (guard_at post.layout.config number, published (guard_at post.layout.config number) found)) (events.Read (guard_at post.layout.config number) (eras_in (guard_at post.layout.config number) found) ∷ []) (nat_lt (number + 1) (guards post.layout.config)) s
     (record { sum = append_none (later_owed n call later); goes = refl })
 scan_owes n call later (GiveBack place slot) post desk found s =
     giving_owes n call later post (scan.with_back desk place) (events.Back slot ∷ []) (scan.unmet_from (scan.with_back desk place) place) s (record { sum = append_none (later_owed n call later); goes = refl })
