@@ -4,7 +4,7 @@ use Rattle.wfe_core.specs.defs.declared.call.Call.{Call}
 use Rattle.wfe_core.specs.Calls.{Advances, Releases, Runs}
 use Rattle.wfe_core.specs.Rounds.{move_base, release_base}
 use Rattle.wfe_core.specs.Steps.{first_phase}
-use Rattle.wfe_call_any.proofs.begin.begin_call.Goals as goal
+use Rattle.wfe_call_any.proofs.running.begin_call.Goals as goal
 
 pub returns-in-Release : goal.returns-in-Release
 returns-in-Release g c post s = c.new-in-Release.ensures post ∙ (ap (λ (kind : SchemeKind). Runs (Releases None) (release_base kind)) (sym s) ∙ ap (λ (call : Call). first_phase call post) (sym c.in-Release.is))

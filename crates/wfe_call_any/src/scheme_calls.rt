@@ -1,10 +1,11 @@
-// The calls of each scheme. Each is a type without parameters, so that types that hold all three stay short.
+// The calls of each scheme: types without parameters, so that types that hold all three stay short.
 ghost use Rattle.std.specs.Prelude.{◌≡◌};
 ghost use Rattle.wfe_core.specs.Steps.{first_phase};
 ghost use Rattle.wfe_core.specs.declared.post.Post.{Post};
-ghost use Rattle.wfe_core.specs.words.declared.config.SchemeKind.TheVariants as kinds;
+ghost use Rattle.wfe_scan.specs.words.declared.config.SchemeKind.TheVariants as kinds;
 
-use wfe_call_any::{CallOf, He, Ibr, Wfe, begin_call};
+use crate::running::{CallOf, begin_call};
+use wfe_bucketmap::{He, Ibr, Wfe};
 use wfe_core::{Answer, Call, CallMachine, Desk, Layout, Op, Post, Told};
 
 /// A call under Hazard Eras.
