@@ -23,11 +23,13 @@ struct Drip {
 }
 
 impl Source for Drip {
-    ghost use Rattle.std.specs.Prelude.{Some};
+    ghost use Rattle.std.specs.Prelude.{Some, false};
 
     ghost left = { λ s. Some s.inner.left };
 
     ghost faults = { λ s. s.inner.faults };
+
+    ghost may_stand = { false };
 
     fn read(&mut self, buf: &mut [u8]) -> Result<usize, Failed> {
         if buf.is_empty() {

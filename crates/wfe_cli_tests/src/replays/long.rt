@@ -33,11 +33,13 @@ impl Repeats {
 }
 
 impl Source for Repeats {
-    ghost use Rattle.std.specs.Prelude.{None};
+    ghost use Rattle.std.specs.Prelude.{None, false};
 
     ghost left = { λ _. None };
 
     ghost faults = { λ _. 0 };
+
+    ghost may_stand = { false };
 
     fn read(&mut self, buf: &mut [u8]) -> Result<usize, Failed> {
         for (i, byte) in buf.iter_mut().enumerate() {
