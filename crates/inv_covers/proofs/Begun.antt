@@ -75,7 +75,8 @@ met_pick all number life old new false a b = a
 
 pub covers_begin : (w : World) (i : ℕ) (call : Call) (v : View) (guard : Guard) (s : ℕ) → Covers w v guard s → Covers (begin w i call) v guard s
 covers_begin w i call v guard s c = record {
-  spans = c.spans;
+  settled = c.settled;
+  kept = c.kept;
   scans = λ k r h. met_pick (guards w.layout.config) (number_of w.layout.config guard) (life_of s (v.birth s) r) (w.seat k) (begun (w.seat i) call) (k == i) (c.scans k r h) (fresh_met (guards w.layout.config) (first_phase call (begun_post (w.seat i).post)) (begun (w.seat i) call).desk.report (number_of w.layout.config guard) (life_of s (v.birth s) r) (first_begins call (begun_post (w.seat i).post)).fresh);
 }
 

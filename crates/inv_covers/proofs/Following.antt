@@ -9,7 +9,7 @@ use Rattle.inv_shapes.specs.defs.declared.event.Root.{Root}
 use Rattle.inv_shapes.specs.defs.declared.event.Root.TheVariants as roots
 use Rattle.inv_shapes.specs.model.declared.post.Post.{Post}
 use Rattle.inv_shapes.specs.model.Desks.{Desk, noting}
-use Rattle.inv_shapes.specs.model.Guards.{guards, guard_at, published}
+use Rattle.inv_shapes.specs.model.Guards.{guards, guard_at, eras_in, published}
 use Rattle.inv_shapes.specs.model.Posts.{stands, upper, with_row, counted}
 use Rattle.inv_shapes.specs.model.Phases.BeginAt.{LoadLower, PublishSpan}
 use Rattle.inv_shapes.specs.model.Phases.{BeginAt, Aim, Alone, Follows, Base, ProtectAt, Ending, Outcome, Goes, Ends, Turn, goes, ends}
@@ -55,7 +55,7 @@ reading_tends later n post desk told false = back_tends later post desk told (un
 
 scan_tends : (later : AfterScan) (at : ScanAt) (post : Post) (desk : Desk) (found : ℕ) → Tended (scan_turn later at post desk found)
 scan_tends later (ReadGuard n) post desk found =
-    reading_tends later n post (with_read desk n (guard_at post.layout.config n, published (guard_at post.layout.config n) found)) (events.Read (guard_at post.layout.config n) (published (guard_at post.layout.config n) found) ∷ []) (nat_lt (n + 1) (guards post.layout.config))
+    reading_tends later n post (with_read desk n (guard_at post.layout.config n, published (guard_at post.layout.config n) found)) (events.Read (guard_at post.layout.config n) (eras_in (guard_at post.layout.config n) found) ∷ []) (nat_lt (n + 1) (guards post.layout.config))
 scan_tends later (GiveBack place slot) post desk found = back_tends later post (with_back desk place) (events.Back slot ∷ []) (unmet_from (with_back desk place) place)
 
 -- what a machine's step leaves

@@ -14,11 +14,11 @@ use Rattle.inv_shapes.specs.model.Guards.{index_at, guards, guards_by, guard_by,
 use Rattle.inv_shapes.specs.model.Desks.{Report}
 use Rattle.inv_shapes.specs.model.Calls.{Phase}
 use Rattle.inv_shapes.specs.words.Schemes.{helps}
-use Rattle.inv_covers.specs.Covers.{has_met, number_by, life_of}
+use Rattle.inv_covers.specs.Covers.{has_met, number_by, number_of, life_of}
 use Rattle.inv_shapes.specs.model.World.{step}
 use Rattle.inv_rows.specs.Agree.{rows_after}
 use Rattle.inv_covers.proofs.Kept.{covers_kept}
-use Rattle.inv_covers.specs.Held.{GuardsFit, HelpersFit, HandedCovers, HandedKept}
+use Rattle.inv_covers.specs.Held.{GuardsFit, HelpersFit, HelpersFirst, HandedCovers, HandedKept}
 
 record Fits (scheme : SchemeKind) (config : Config) (guard : Guard) : Type 0 where
   below : number_by scheme config guard < guards_by scheme config
@@ -60,17 +60,20 @@ helpers_fit config k w h = let f = helper_fits_by config.scheme config k w h in 
 met_later : (all one two : ℕ) (phase : Phase) (report : Report) (life : Lifetime) → one ≤ two → has_met all phase report one life ≡ true → has_met all phase report two life ≡ true
 met_later all one two phase report life l h = grind (arith, nat_tests)
 
-helpers_first : (scheme : SchemeKind) (config : Config) (m k j : ℕ) → helps scheme ≡ true → m < config.seats → number_by scheme config (Helper m) ≤ number_by scheme config (Index k j)
-helpers_first He config m k j w h = absurd (cc)
-helpers_first Ibr config m k j w h = absurd (cc)
-helpers_first Wfe config m k j w h = omega (arith, h)
+first_by : (scheme : SchemeKind) (config : Config) (m k j : ℕ) → helps scheme ≡ true → m < config.seats → number_by scheme config (Helper m) ≤ number_by scheme config (Index k j)
+first_by He config m k j w h = absurd (cc)
+first_by Ibr config m k j w h = absurd (cc)
+first_by Wfe config m k j w h = omega (arith, h)
+
+pub helpers_first : HelpersFirst
+helpers_first config m k j w h = first_by config.scheme config m k j w h
 
 pub handed_covers : HandedCovers
-handed_covers w v m k j slot f b e c = record {
-  spans = rw e c.spans;
-  scans = λ i r h. met_later (guards w.layout.config) (number_by w.layout.config.scheme w.layout.config (Helper m)) (number_by w.layout.config.scheme w.layout.config (Index k j)) (w.seat i).phase (w.seat i).desk.report (life_of slot (v.birth slot) r) (helpers_first w.layout.config.scheme w.layout.config m k j f b) (c.scans i r h);
+handed_covers w v a b slot l e c = record {
+  settled = c.settled;
+  kept = rw e c.kept;
+  scans = λ k r h. met_later (guards w.layout.config) (number_of w.layout.config a) (number_of w.layout.config b) (w.seat k).phase (w.seat k).desk.report (life_of slot (v.birth slot) r) l (c.scans k r h);
 }
 
 pub handed_kept : HandedKept
-handed_kept w i v m k j slot f n u b d e c =
-    handed_covers (step w i) (rows_after w i v) m k j slot f b e (covers_kept w i v (Helper m) slot n u (helpers_fit w.layout.config m f b) d c)
+handed_kept w i v a b slot n u f l d e c = handed_covers (step w i) (rows_after w i v) a b slot l e (covers_kept w i v a slot n u f d c)

@@ -11,6 +11,9 @@ use Rattle.inv_shapes.specs.defs.declared.event.Guard.TheVariants.{Index, Whole}
 use Rattle.inv_shapes.specs.defs.declared.event.Root.{Root}
 use Rattle.inv_shapes.specs.defs.declared.event.Root.TheVariants as roots
 use Rattle.inv_shapes.specs.defs.declared.lifetime.Interval.{Interval}
+use Rattle.inv_shapes.specs.defs.Shown.{Shown}
+use Rattle.inv_shapes.specs.defs.Shown.Shown.{Eras}
+use Rattle.inv_shapes.specs.defs.Shown as values
 use Rattle.inv_shapes.specs.model.declared.post.Post.{Post}
 use Rattle.inv_shapes.specs.model.Desks.{Desk, noting}
 use Rattle.inv_shapes.specs.model.Guards.{guard_place, from_to, own_guard}
@@ -37,12 +40,12 @@ use Rattle.inv_shapes.specs.Frame.{phase_left}
 use Rattle.inv_shapes.specs.words.Schemes.{has_one_interval, helps}
 use Rattle.inv_shapes.specs.Seats.{base_fits}
 use Rattle.inv_shapes.proofs.Frame.{seat_stays, seat_steps}
-use Rattle.inv_covers.specs.Covers.{spans, shown, Covers, Widens}
+use Rattle.inv_covers.specs.Covers.{retired_at, life_of, life_in, eras_shown, shown, Covers, Widens}
 use Rattle.inv_covers.specs.Tries.{is_start, starts_base}
 use Rattle.inv_covers.specs.Held.{under, tries_protect, tries_base, index_base, Holds, Held, Followed, follows_row, rests_base, BaseNeeds, RootsNeeds, LoadsCover, HeldNeeds, HeldKept}
 use Rattle.inv_rows.specs.Queue.{in_queue}
 use Rattle.inv_covers.proofs.Fresh.{work_fresh, resume_fresh}
-use Rattle.inv_covers.proofs.Kept.{covers_kept, before_at, spans_past}
+use Rattle.inv_covers.proofs.Kept.{covers_kept, before_at}
 use Rattle.inv_covers.proofs.Scans.{scan_shrinks, scan_starts}
 use Rattle.inv_covers.proofs.Stands.{withdrawn_apart}
 use Rattle.inv_covers.proofs.Stood.{Was, base_stood}
@@ -66,25 +69,15 @@ is_live (Cut by) = false
 is_live (Sealed by retire) = false
 is_live (Listed by retire) = false
 
-live_spans : (lo hi birth : ℕ) (status : Status) → is_live status ≡ true → birth ≤ hi → spans (from_to lo hi) birth status ≡ true
-live_spans lo hi birth (Linked bucket) h b = grind (arith, nat_tests)
-live_spans lo hi birth InQueue h b = grind (arith, nat_tests)
-live_spans lo hi birth Free h b = absurd (cc)
-live_spans lo hi birth (Claimed by) h b = absurd (cc)
-live_spans lo hi birth (Born by) h b = absurd (cc)
-live_spans lo hi birth (Cut by) h b = absurd (cc)
-live_spans lo hi birth (Sealed by retire) h b = absurd (cc)
-live_spans lo hi birth (Listed by retire) h b = absurd (cc)
+live_kept : (slot birth lo hi : ℕ) (status : Status) → is_live status ≡ true → birth ≤ hi → values.keeps (life_of slot birth (retired_at status)) (Eras (record { lo = lo; hi = hi })) ≡ true
+live_kept slot birth lo hi (Linked bucket) h b = grind (arith, nat_tests)
+live_kept slot birth lo hi InQueue h b = grind (arith, nat_tests)
+live_kept slot birth lo hi status h b = absurd (cc)
 
 live_past : (status : Status) → is_live status ≡ true → is_settled status ≡ true
 live_past (Linked bucket) h = refl
 live_past InQueue h = refl
-live_past Free h = absurd (cc)
-live_past (Claimed by) h = absurd (cc)
-live_past (Born by) h = absurd (cc)
-live_past (Cut by) h = absurd (cc)
-live_past (Sealed by retire) h = absurd (cc)
-live_past (Listed by retire) h = absurd (cc)
+live_past status h = absurd (cc)
 
 -- the row of a link that was loaded
 pub root_live : (w : World) (v : View) (root : Root) (s : ℕ) → RootsNeeds w v → w.mem (link_place root) ≡ s + 1 → under v.status root ≡ true → is_live (v.status s) ≡ true
@@ -97,9 +90,10 @@ not_listed : (status : Status) (k r : ℕ) → is_live status ≡ true → statu
 not_listed status k r h e = absurd (cc)
 
 -- a guard that publishes an interval up to the clock covers the row of a link that is loaded
-pub live_covers : (w : World) (v : View) (guard : Guard) (lo hi s : ℕ) → RootsNeeds w v → shown w guard ≡ from_to lo hi → w.mem Clock ≤ hi → is_live (v.status s) ≡ true → Covers w v guard s
+pub live_covers : (w : World) (v : View) (guard : Guard) (lo hi s : ℕ) → RootsNeeds w v → eras_shown w guard ≡ from_to lo hi → w.mem Clock ≤ hi → is_live (v.status s) ≡ true → Covers w v guard s
 live_covers w v guard lo hi s n e c l = record {
-  spans = rw e (live_spans lo hi (v.birth s) (v.status s) l (let b = n.births s (live_past (v.status s) l) in omega (arith, b, c)));
+  settled = live_past (v.status s) l;
+  kept = subst (λ (x : Option Interval). values.keeps (life_in v s) (values.shown x) ≡ true) (sym e) (live_kept s (v.birth s) lo hi (v.status s) l (let b = n.births s (live_past (v.status s) l) in omega (arith, b, c)));
   scans = λ k r h. absurd (no_truth (not_listed (v.status s) k r l h));
 }
 
@@ -151,18 +145,18 @@ keeps_at w i phase place e h = rw (move_is w i phase e) h
 index_keeps : (scheme : SchemeKind) (i j seat index value : ℕ) → (j == index) ≡ false → keeps (memory.Store (IndexOf seat index) value) (guard_place (own_guard scheme i j)) ≡ true
 index_keeps scheme i j seat index value e = each_guard scheme i j (λ (g : Guard). keeps (memory.Store (IndexOf seat index) value) (guard_place g) ≡ true) (grind (arith, nat_tests)) refl
 
-none_widens : (x y : Option Interval) → x ≡ None → Widens x y
-none_widens x y e = subst (λ (z : Option Interval). Widens z y) (sym e) tt
+none_widens : (x : Option Interval) (y : Shown) → x ≡ None → Widens (values.shown x) y
+none_widens x y e life h = absurd (let k = rw e at h in cc)
 
-raise_widens : (x : Option Interval) (era : ℕ) → upper x ≤ era → Widens x (from_to (lower x) era)
-raise_widens None era h = tt
-raise_widens (Some span) era h = (omega arith, h)
+raise_widens : (x : Option Interval) (era : ℕ) → upper x ≤ era → Widens (values.shown x) (Eras (record { lo = lower x; hi = era }))
+raise_widens None era h life k = absurd (cc)
+raise_widens (Some span) era h life k = grind (arith, nat_tests)
 
 nothing_stands : (post : Post) (j s : ℕ) → stands post j ≡ None → stands post j ≡ Some s → false ≡ true
 nothing_stands post j s a b = absurd (cc)
 
 -- nothing stands where the own guard is taken from
-rest_widens : (w : World) (i : ℕ) (v : View) (base : Base) (j s : ℕ) (old new : Option Interval) → rests_base base j ≡ true → BaseNeeds w i base → tries_base (w.mem Clock) v.status (w.seat i).post base s ≡ false → Was (w.mem Clock) v.status (w.seat i).post base j s → Widens old new
+rest_widens : (w : World) (i : ℕ) (v : View) (base : Base) (j s : ℕ) (old new : Shown) → rests_base base j ≡ true → BaseNeeds w i base → tries_base (w.mem Clock) v.status (w.seat i).post base s ≡ false → Was (w.mem Clock) v.status (w.seat i).post base j s → Widens old new
 rest_widens w i v base j s old new r b t (inl x) = absurd (no_truth (nothing_stands (w.seat i).post j s (b.rests j r) x))
 rest_widens w i v base j s old new r b t (inr x) = absurd (let y = x.1 in cc)
 
@@ -186,10 +180,10 @@ turned_post w i phase e = stepped_post w i ∙ ap (λ (p : Phase). (phase_turn p
 
 span_raised : (w : World) (i : ℕ) (v : View) (why : Why) (aim : Aim) (index : ℕ) (root : Root) (steps era : ℕ) → (w.seat i).phase ≡ Runs why (Protect aim index root steps (RaiseUpper era)) → has_one_interval w.layout.config.scheme ≡ true → HeldNeeds w i v → upper (w.seat i).post.span ≤ era → Widens (shown w (Whole i)) (shown (step w i) (Whole i))
 span_raised w i v why aim index root steps era e f n u =
-    let old : shown w (Whole i) ≡ (w.seat i).post.span = n.spans f in
-    let new : shown (step w i) (Whole i) ≡ from_to (lower (w.seat i).post.span) era = n.spans_next f ∙ ap (λ (p : Post). p.span) (turned_post w i (Runs why (Protect aim index root steps (RaiseUpper era))) e) in
-    let k : Widens (w.seat i).post.span (from_to (lower (w.seat i).post.span) era) = raise_widens (w.seat i).post.span era u in
-    subst (λ (x : Option Interval). Widens x (shown (step w i) (Whole i))) (sym old) (subst (λ (y : Option Interval). Widens (w.seat i).post.span y) (sym new) k)
+    let old : eras_shown w (Whole i) ≡ (w.seat i).post.span = n.spans f in
+    let new : eras_shown (step w i) (Whole i) ≡ from_to (lower (w.seat i).post.span) era = n.spans_next f ∙ ap (λ (p : Post). p.span) (turned_post w i (Runs why (Protect aim index root steps (RaiseUpper era))) e) in
+    let k : Widens (values.shown (w.seat i).post.span) (Eras (record { lo = lower (w.seat i).post.span; hi = era })) = raise_widens (w.seat i).post.span era u in
+    subst (λ (x : Option Interval). Widens (values.shown x) (shown (step w i) (Whole i))) (sym old) (subst (λ (y : Option Interval). Widens (values.shown (w.seat i).post.span) (values.shown y)) (sym new) k)
 
 -- the own guard of an index at which a row stands after a machine's step
 own_widens : (w : World) (i : ℕ) (v : View) (why : Why) (base : Base) (j s : ℕ) → helps w.layout.config.scheme ≡ false → HeldNeeds w i v → (w.seat i).phase ≡ Runs why base → stands (machine.after base (counted (w.seat i).post) (finds w i)).post j ≡ Some s → Was (w.mem Clock) v.status (w.seat i).post base j s
@@ -197,7 +191,7 @@ own_widens : (w : World) (i : ℕ) (v : View) (why : Why) (base : Base) (j s : �
 own_widens w i v why (Begin LoadLower) j s f n e h y = quiet_widens w i why (Begin LoadLower) j f e (n.base why (Begin LoadLower) e).fits refl
 own_widens w i v why (Begin (PublishSpan era)) j s f n e h y =
     let b = n.base why (Begin (PublishSpan era)) e in
-    whole_widens w i j b.fits (none_widens (shown w (Whole i)) (shown (step w i) (Whole i)) (n.spans b.fits ∙ b.grows))
+    whole_widens w i j b.fits (none_widens (eras_shown w (Whole i)) (shown (step w i) (Whole i)) (n.spans b.fits ∙ b.grows))
 own_widens w i v why (Protect aim index root steps (PublishEra era tries)) j s f n e h y =
     era_widens w i v why aim index root steps era tries j s (j == index) refl e (n.base why (Protect aim index root steps (PublishEra era tries)) e) y
 own_widens w i v why (Protect aim index root steps (RaiseUpper era)) j s f n e h y =
@@ -293,7 +287,7 @@ resumed_comes clock status next why desk post told (Ends ending) other base s e 
     absurd (no_truth (out_start clock status next (phase_left (resumed why desk post told (Ends ending)).outcome) other base s (resume_fresh why ending post desk told).starts e h))
 
 -- the interval reaches up to the clock
-whole_covers : (w : World) (i : ℕ) (v : View) (s : ℕ) → HeldNeeds w i v → (x : Option Interval) → shown w (Whole i) ≡ x → 1 ≤ w.mem Clock → w.mem Clock ≡ upper x → is_live (v.status s) ≡ true → Covers w v (Whole i) s
+whole_covers : (w : World) (i : ℕ) (v : View) (s : ℕ) → HeldNeeds w i v → (x : Option Interval) → eras_shown w (Whole i) ≡ x → 1 ≤ w.mem Clock → w.mem Clock ≡ upper x → is_live (v.status s) ≡ true → Covers w v (Whole i) s
 whole_covers w i v s n None e o c l = absurd (omega (arith, o, c))
 whole_covers w i v s n (Some span) e o c l = live_covers w v (Whole i) span.lo span.hi s n.roots e (omega (arith, c)) l
 
@@ -460,7 +454,7 @@ other_holds w i k j v s o f n h = holds_kept w i v (own_guard w.layout.config.sc
 parent_back : (w : World) (i k : ℕ) (v : View) (why : Why) (base : Base) (p : ℕ) → HeldNeeds w i v → Held w v → (w.seat k).phase ≡ Runs why base → follows_row base p ≡ true → in_queue ((rows_after w i v).status p) ≡ true → in_queue (v.status p) ≡ true
 parent_back w i k v why base p n h e r q =
     let c = (h.stood k 0 p (n.parents k why base p e r)).covers in
-    queued_back i v (row_move (w.seat i).phase (w.seat i).post (finds w i)) p (before_at w i v n.covers) (spans_past (shown w (own_guard w.layout.config.scheme k 0)) (v.birth p) (v.status p) c.spans) q
+    queued_back i v (row_move (w.seat i).phase (w.seat i).post (finds w i)) p (before_at w i v n.covers) c.settled q
 
 other_tried : (w : World) (i k : ℕ) (v : View) (why : Why) (base : Base) (s : ℕ) → (k == i) ≡ false → helps w.layout.config.scheme ≡ false → HeldNeeds w i v → Held w v → (w.seat k).phase ≡ Runs why base → tries_base ((step w i).mem Clock) (rows_after w i v).status (w.seat k).post base s ≡ true
     → Holds (step w i) (rows_after w i v) (own_guard w.layout.config.scheme k (index_base base)) s

@@ -7,10 +7,10 @@ use Rattle.inv_shapes.specs.words.Place.{Place, claim_word}
 use Rattle.inv_shapes.specs.words.Place.Place.{Clock, Bucket, Head, Claim, Row}
 use Rattle.inv_shapes.specs.words.declared.config.Config.{Config}
 use Rattle.inv_shapes.specs.defs.declared.event.Guard.{Guard}
-use Rattle.inv_shapes.specs.defs.declared.lifetime.Interval.{Interval}
 use Rattle.inv_shapes.specs.defs.declared.lifetime.Lifetime.{Lifetime}
+use Rattle.inv_shapes.specs.defs.Shown.{Shown, Seen, keeps, keeps_any}
 use Rattle.inv_shapes.specs.model.declared.post.Post.{Post}
-use Rattle.inv_shapes.specs.model.Desks.{Desk, Report, Seen, noting}
+use Rattle.inv_shapes.specs.model.Desks.{Desk, Report, noting}
 use Rattle.inv_shapes.specs.model.Guards.{guards, guard_at, guard_place, published}
 use Rattle.inv_shapes.specs.model.Memory.{found, place_in}
 use Rattle.inv_shapes.specs.model.Posts.{counted, stands}
@@ -22,7 +22,6 @@ use Rattle.inv_shapes.specs.model.Allocate.{is_claimed}
 use Rattle.inv_shapes.specs.model.Change.{changed_bucket}
 use Rattle.inv_shapes.specs.defs.declared.event.Event.{Event}
 use Rattle.inv_shapes.specs.model.Machine as machine
-use Rattle.inv_shapes.specs.model.Scan.{meets_any, meets_span}
 use Rattle.inv_shapes.specs.model.Steps.{phase_turn, phase_move, resumed, run_turn, work_turn, holding, first_phase}
 use Rattle.inv_shapes.specs.defs.declared.call.Call.{Call}
 use Rattle.inv_shapes.specs.defs.declared.call.Call.TheVariants as names
@@ -30,48 +29,26 @@ use Rattle.inv_shapes.specs.model.Rounds.{round}
 use Rattle.inv_shapes.specs.model.Calls.{Gets, Changes, Holds, Enqueues, Dequeues, AfterScan, ScanAt, ReadGuard, GiveBack, Why, LoadVersion, LoadCount, LoadKey, LoadValue, ExchangeRoot, LoadNumber, LoadNext, PassTail, ExchangeNext, ExchangeTail, LoadTail, SwingTail, TakeNumber, TakeValue, ExchangeHead, Work, Getting, Changing, Enqueuing, Dequeuing, Phase, Idle, Runs, Scans, Works, CallTurn, CallOutcome, GoesOn, Answers}
 use Rattle.inv_shapes.specs.model.Locals.{begun, begun_post, Local, turn, after, settled, settled_by, told_by, rounds_told}
 use Rattle.inv_shapes.specs.model.World.{World, step, finds}
-use Rattle.inv_rows.specs.Rows.{Status, View, Good, RowMove, made, is_settled}
-use Rattle.inv_rows.specs.Rows.Status.{Free, Claimed, Born, Linked, InQueue, Cut, Sealed, Listed}
+use Rattle.inv_rows.specs.Rows.{View, Good, RowMove, made, is_settled}
+use Rattle.inv_rows.specs.Rows.Status.{Listed}
 use Rattle.inv_rows.specs.Rows.RowMove.{Stays, Claims, Bears, Drops, Links, Replaces, Appends, Pops, Reads, Seals, Lists, Returns}
 use Rattle.inv_rows.specs.Hands.{in_list, stands_at, base_row, work_row, scan_row, row_move}
 use Rattle.inv_rows.specs.Agree.{Plays, rows_after}
 use Rattle.inv_shapes.specs.Frame.{phase_left}
 use Rattle.inv_shapes.proofs.Frame.{seat_stays, seat_steps}
 use Rattle.inv_rows.proofs.Fits.{MoveFits, phase_fits}
-use Rattle.inv_covers.specs.Covers.{spans, NotBefore, Late, frees, takes_or_frees, has_met, life_of, number_of, shown, Covers, unmet_at, is_unmet, is_fresh, GuardFits, Widens, CoversNeeds, NotReused, CoversKept, ScansStart, ScansBegin, ScansKept}
+use Rattle.inv_covers.specs.Covers.{NotBefore, Late, frees, takes_or_frees, has_met, life_of, life_in, number_of, shown, Covers, unmet_at, is_unmet, is_fresh, GuardFits, CoversNeeds, NotReused, CoversKept, ScansStart, ScansBegin, ScansKept}
 use Rattle.inv_covers.proofs.Fresh.{round_fresh, work_fresh, resume_fresh}
-use Rattle.inv_covers.proofs.Rows.{spans_kept, birth_kept, listed_other}
+use Rattle.inv_covers.proofs.Rows.{past_kept, life_kept, birth_kept, listed_other}
 use Rattle.inv_covers.proofs.Scans.{fresh_met, fresh_unmet, scan_met, scan_unmet_kept}
 use Rattle.inv_shapes.proofs.model.Facts.{no_truth}
-
--- a wider interval
-widens_spans : (old new : Option Interval) (birth : ℕ) (status : Status) → Widens old new → spans old birth status ≡ true → spans new birth status ≡ true
-widens_spans None new birth status w h = absurd (cc)
-widens_spans (Some old) None birth status w h = absurd (cc)
-widens_spans (Some old) (Some new) birth Free w h = absurd (cc)
-widens_spans (Some old) (Some new) birth (Claimed by) w h = absurd (cc)
-widens_spans (Some old) (Some new) birth (Born by) w h = absurd (cc)
-widens_spans (Some old) (Some new) birth (Linked bucket) w h = grind (arith, nat_tests, w.0, w.1)
-widens_spans (Some old) (Some new) birth InQueue w h = grind (arith, nat_tests, w.0, w.1)
-widens_spans (Some old) (Some new) birth (Cut by) w h = grind (arith, nat_tests, w.0, w.1)
-widens_spans (Some old) (Some new) birth (Sealed by retire) w h = grind (arith, nat_tests, w.0, w.1)
-widens_spans (Some old) (Some new) birth (Listed by retire) w h = grind (arith, nat_tests, w.0, w.1)
-
--- an interval that spans a row's life meets it, once the life is over
-spans_meets : (span : Option Interval) (slot birth k r : ℕ) → spans span birth (Listed k r) ≡ true → meets_span (life_of slot birth r) span ≡ true
-spans_meets None slot birth k r h = absurd (cc)
-spans_meets (Some span) slot birth k r h = grind (arith, nat_tests)
-
-pub spans_past : (span : Option Interval) (birth : ℕ) (status : Status) → spans span birth status ≡ true → is_settled status ≡ true
-spans_past None birth status h = absurd (cc)
-spans_past (Some span) birth status h = grind (arith, nat_tests)
 
 -- an entry that goes back: its life meets nothing that was read
 record Goes_back (read : List Seen) (list : List Lifetime) (slot : ℕ) : Type 0 where
   birth : ℕ
   retire : ℕ
   listed : in_list list slot birth retire ≡ true
-  unmet : meets_any (life_of slot birth retire) read ≡ false
+  unmet : keeps_any (life_of slot birth retire) read ≡ false
 
 same_life : (life : Lifetime) (slot : ℕ) → (life.slot == slot) ≡ true → life ≡ life_of slot life.birth life.retire
 same_life life slot h = let e : life.slot ≡ slot = grind (arith, nat_tests) in subst (λ (s : ℕ). life ≡ life_of s life.birth life.retire) e refl
@@ -83,7 +60,7 @@ entry_unmet read (life ∷ lives) zero slot h u = record {
   birth = life.birth;
   retire = life.retire;
   listed = grind (arith, nat_tests);
-  unmet = subst (λ (l : Lifetime). meets_any l read ≡ false) (same_life life slot h) (grind (arith, nat_tests));
+  unmet = subst (λ (l : Lifetime). keeps_any l read ≡ false) (same_life life slot h) (grind (arith, nat_tests));
 }
 entry_unmet read (life ∷ lives) (suc place) slot h u =
     let e = entry_unmet read lives place slot h u in
@@ -103,7 +80,7 @@ back_other slots i v all number later place slot s desk g p u b c = by_same (s =
       let bi : x.birth ≡ v.birth slot = g.dated i slot x.birth x.retire l in
       let st2 : v.status s ≡ Listed i x.retire = rw is st in
       let m = c i x.retire st2 refl in
-      let un : meets_any (life_of s (v.birth s) x.retire) desk.report.read ≡ false = rw (is, sym bi) x.unmet in
+      let un : keeps_any (life_of s (v.birth s) x.retire) desk.report.read ≡ false = rw (is, sym bi) x.unmet in
       grind (arith, nat_tests, m, un)
 
 -- a move that neither takes nor frees the row, by where its row is before
@@ -214,62 +191,62 @@ not_reused w i v guard s n u f c =
     (row_move (w.seat i).phase (w.seat i).post (finds w i))
     s
     (before_at w i v n)
-    (spans_past (shown w guard) (v.birth s) (v.status s) c.spans)
+    c.settled
     (λ slot e. returns_other w.layout.config.slots i v (guards w.layout.config) (number_of w.layout.config guard) (w.seat i).phase (w.seat i).post (finds w i) s slot (w.seat i).desk n.rows.good (n.rows.plays i) (u.unmet i) f.below (own_met w i v guard s c) e)
 
 -- the retire era that is loaded is the clock
-late_claims : (span : Option Interval) (s : ℕ) (shown : Bool) → Late span (if shown then Stays else Claims s)
-late_claims span s true = tt
-late_claims span s false = tt
+late_claims : (shows : Shown) (s : ℕ) (shown : Bool) → Late shows (if shown then Stays else Claims s)
+late_claims shows s true = tt
+late_claims shows s false = tt
 
-late_change : (span : Option Interval) (bucket s link : ℕ) (same null : Bool) → Late span (if same then (if null then Links bucket s else Replaces bucket s (link - 1)) else Stays)
-late_change span bucket s link true true = tt
-late_change span bucket s link true false = tt
-late_change span bucket s link false null = tt
+late_change : (shows : Shown) (bucket s link : ℕ) (same null : Bool) → Late shows (if same then (if null then Links bucket s else Replaces bucket s (link - 1)) else Stays)
+late_change shows bucket s link true true = tt
+late_change shows bucket s link true false = tt
+late_change shows bucket s link false null = tt
 
-late_append : (span : Option Interval) (s : ℕ) (same : Bool) → Late span (if same then Appends s else Stays)
-late_append span s true = tt
-late_append span s false = tt
+late_append : (shows : Shown) (s : ℕ) (same : Bool) → Late shows (if same then Appends s else Stays)
+late_append shows s true = tt
+late_append shows s false = tt
 
-late_pop : (span : Option Interval) (s next : ℕ) (same : Bool) → Late span (if same then Pops s next else Stays)
-late_pop span s next true = tt
-late_pop span s next false = tt
+late_pop : (shows : Shown) (s next : ℕ) (same : Bool) → Late shows (if same then Pops s next else Stays)
+late_pop shows s next true = tt
+late_pop shows s next false = tt
 
-seals_late : (span : Option Interval) (mem : Place → ℕ) (phase : Phase) (post : Post) → NotBefore span (mem Clock) → Late span (row_move phase post (found (phase_move phase post) (mem (place_in (phase_move phase post)))))
-seals_late span mem Idle post h = tt
-seals_late span mem (Runs why (Begin at)) post h = tt
-seals_late span mem (Runs why (Protect aim index root steps at)) post h = tt
-seals_late span mem (Runs why (Reload parent index slot era steps)) post h = tt
-seals_late span mem (Runs why (Clear index)) post h = tt
-seals_late span mem (Runs why Finish) post h = tt
-seals_late span mem (Runs why Release) post h = tt
-seals_late span mem (Runs why (Allocate LoadBirth)) post h = tt
-seals_late span mem (Runs why (Allocate (ClaimSlot birth walk))) post h = late_claims span walk.slot (is_claimed (mem (Claim (claim_word walk.slot))) walk.slot)
-seals_late span mem (Runs why (Allocate (StoreLife birth slot))) post h = tt
-seals_late span mem (Runs why (Write slot row place)) post h = tt
-seals_late span mem (Runs why (GiveUp slot)) post h = tt
-seals_late span mem (Runs why (Retire (LoadLife slot))) post h = tt
-seals_late span mem (Runs why (Retire (LoadRetire slot birth))) post h = h
-seals_late span mem (Runs why (Retire (StoreRetired slot birth retire))) post h = tt
-seals_late span mem (Runs why (Move at)) post h = tt
-seals_late span mem (Scans later (ReadGuard n)) post h = tt
-seals_late span mem (Scans later (GiveBack place slot)) post h = tt
-seals_late span mem (Works (Getting key at)) post h = tt
-seals_late span mem (Works (Changing kept (LoadVersion s))) post h = tt
-seals_late span mem (Works (Changing kept (LoadCount s))) post h = tt
-seals_late span mem (Works (Changing kept (LoadKey s count))) post h = tt
-seals_late span mem (Works (Changing kept (LoadValue s count key))) post h = tt
-seals_late span mem (Works (Changing kept (ExchangeRoot s))) post h = late_change span (changed_bucket kept post) s kept.link (mem (Bucket (changed_bucket kept post)) == kept.link) (kept.link == 0)
-seals_late span mem (Works (Enqueuing kept LoadNumber)) post h = tt
-seals_late span mem (Works (Enqueuing kept LoadNext)) post h = tt
-seals_late span mem (Works (Enqueuing kept (PassTail next))) post h = tt
-seals_late span mem (Works (Enqueuing kept (ExchangeNext s))) post h = late_append span s (mem (Row kept.tail 0) == 0)
-seals_late span mem (Works (Enqueuing kept (ExchangeTail s))) post h = tt
-seals_late span mem (Works (Dequeuing (LoadTail head))) post h = tt
-seals_late span mem (Works (Dequeuing (SwingTail head next))) post h = tt
-seals_late span mem (Works (Dequeuing (TakeNumber head next))) post h = tt
-seals_late span mem (Works (Dequeuing (TakeValue head next number))) post h = tt
-seals_late span mem (Works (Dequeuing (ExchangeHead head next number value))) post h = late_pop span head next (mem Head == head + 1)
+seals_late : (shows : Shown) (mem : Place → ℕ) (phase : Phase) (post : Post) → NotBefore shows (mem Clock) → Late shows (row_move phase post (found (phase_move phase post) (mem (place_in (phase_move phase post)))))
+seals_late shows mem Idle post h = tt
+seals_late shows mem (Runs why (Begin at)) post h = tt
+seals_late shows mem (Runs why (Protect aim index root steps at)) post h = tt
+seals_late shows mem (Runs why (Reload parent index slot era steps)) post h = tt
+seals_late shows mem (Runs why (Clear index)) post h = tt
+seals_late shows mem (Runs why Finish) post h = tt
+seals_late shows mem (Runs why Release) post h = tt
+seals_late shows mem (Runs why (Allocate LoadBirth)) post h = tt
+seals_late shows mem (Runs why (Allocate (ClaimSlot birth walk))) post h = late_claims shows walk.slot (is_claimed (mem (Claim (claim_word walk.slot))) walk.slot)
+seals_late shows mem (Runs why (Allocate (StoreLife birth slot))) post h = tt
+seals_late shows mem (Runs why (Write slot row place)) post h = tt
+seals_late shows mem (Runs why (GiveUp slot)) post h = tt
+seals_late shows mem (Runs why (Retire (LoadLife slot))) post h = tt
+seals_late shows mem (Runs why (Retire (LoadRetire slot birth))) post h = h
+seals_late shows mem (Runs why (Retire (StoreRetired slot birth retire))) post h = tt
+seals_late shows mem (Runs why (Move at)) post h = tt
+seals_late shows mem (Scans later (ReadGuard n)) post h = tt
+seals_late shows mem (Scans later (GiveBack place slot)) post h = tt
+seals_late shows mem (Works (Getting key at)) post h = tt
+seals_late shows mem (Works (Changing kept (LoadVersion s))) post h = tt
+seals_late shows mem (Works (Changing kept (LoadCount s))) post h = tt
+seals_late shows mem (Works (Changing kept (LoadKey s count))) post h = tt
+seals_late shows mem (Works (Changing kept (LoadValue s count key))) post h = tt
+seals_late shows mem (Works (Changing kept (ExchangeRoot s))) post h = late_change shows (changed_bucket kept post) s kept.link (mem (Bucket (changed_bucket kept post)) == kept.link) (kept.link == 0)
+seals_late shows mem (Works (Enqueuing kept LoadNumber)) post h = tt
+seals_late shows mem (Works (Enqueuing kept LoadNext)) post h = tt
+seals_late shows mem (Works (Enqueuing kept (PassTail next))) post h = tt
+seals_late shows mem (Works (Enqueuing kept (ExchangeNext s))) post h = late_append shows s (mem (Row kept.tail 0) == 0)
+seals_late shows mem (Works (Enqueuing kept (ExchangeTail s))) post h = tt
+seals_late shows mem (Works (Dequeuing (LoadTail head))) post h = tt
+seals_late shows mem (Works (Dequeuing (SwingTail head next))) post h = tt
+seals_late shows mem (Works (Dequeuing (TakeNumber head next))) post h = tt
+seals_late shows mem (Works (Dequeuing (TakeValue head next number))) post h = tt
+seals_late shows mem (Works (Dequeuing (ExchangeHead head next number value))) post h = late_pop shows head next (mem Head == head + 1)
 
 pub resumed_fresh : (why : Why) (desk : Desk) (post : Post) (told : List Event) (outcome : Outcome) → is_fresh (phase_left (resumed why desk post told outcome).outcome) ≡ true
 resumed_fresh why desk post told (Goes base) = refl
@@ -281,14 +258,14 @@ run_fresh why desk t = resumed_fresh why desk t.post t.told t.outcome
 -- what a scan knows of the life of a row that is on its list, and of the guard that it reads
 record Knows (phase : Phase) (post : Post) (report : Report) (mem : Place → ℕ) (guard : Guard) (life : Lifetime) : Type 0 where
   met : has_met (guards post.layout.config) phase report (number_of post.layout.config guard) life ≡ true
-  meets : meets_span life (published guard (mem (guard_place guard))) ≡ true
+  meets : keeps life (published guard (mem (guard_place guard))) ≡ true
 
-read_meets : (mem : Place → ℕ) (config : Config) (guard : Guard) (n : ℕ) (life : Lifetime) → GuardFits config guard → number_of config guard ≡ n → meets_span life (published guard (mem (guard_place guard))) ≡ true → meets_span life (published (guard_at config n) (mem (guard_place (guard_at config n)))) ≡ true
+read_meets : (mem : Place → ℕ) (config : Config) (guard : Guard) (n : ℕ) (life : Lifetime) → GuardFits config guard → number_of config guard ≡ n → keeps life (published guard (mem (guard_place guard))) ≡ true → keeps life (published (guard_at config n) (mem (guard_place (guard_at config n)))) ≡ true
 read_meets mem config guard n life f e h =
-    subst (λ (g : Guard). meets_span life (published g (mem (guard_place g))) ≡ true) (sym f.is ∙ ap (guard_at config) e) h
+    subst (λ (g : Guard). keeps life (published g (mem (guard_place g))) ≡ true) (sym f.is ∙ ap (guard_at config) e) h
 
-read_meets_at : (mem : Place → ℕ) (config : Config) (guard : Guard) (n m : ℕ) (life : Lifetime) → GuardFits config guard → n ≡ m → number_of config guard ≡ m → meets_span life (published guard (mem (guard_place guard))) ≡ true → meets_span life (published (guard_at config m) (mem (guard_place (guard_at config n)))) ≡ true
-read_meets_at mem config guard n m life f s e h = subst (λ (k : ℕ). meets_span life (published (guard_at config m) (mem (guard_place (guard_at config k)))) ≡ true) (sym s) (read_meets mem config guard m life f e h)
+read_meets_at : (mem : Place → ℕ) (config : Config) (guard : Guard) (n m : ℕ) (life : Lifetime) → GuardFits config guard → n ≡ m → number_of config guard ≡ m → keeps life (published guard (mem (guard_place guard))) ≡ true → keeps life (published (guard_at config m) (mem (guard_place (guard_at config n)))) ≡ true
+read_meets_at mem config guard n m life f s e h = subst (λ (k : ℕ). keeps life (published (guard_at config m) (mem (guard_place (guard_at config k)))) ≡ true) (sym s) (read_meets mem config guard m life f e h)
 
 -- a step of the seat whose list has the row
 turn_met : (phase : Phase) (post : Post) (desk : Desk) (mem : Place → ℕ) (guard : Guard) (life : Lifetime) → GuardFits post.layout.config guard → ((later : AfterScan) (at : ScanAt) → phase ≡ Scans later at → Knows phase post desk.report mem guard life)
@@ -334,7 +311,7 @@ met_own w i v guard s r n f c h =
     let g : GuardFits l.post.layout.config guard = subst (λ (layout : Layout). GuardFits layout.config guard) (sym e) f in
     let m = turn_met l.phase l.post l.desk w.mem guard life g (λ later at q. let st : v.status s ≡ Listed i r = listed_phase i i r v l.phase l.post (finds w i) s later at q h in record {
       met = subst (λ (layout : Layout). has_met (guards layout.config) l.phase l.desk.report (number_of layout.config guard) life ≡ true) (sym e) (c.scans i r st);
-      meets = spans_meets (shown w guard) s (v.birth s) i r (rw st at c.spans);
+      meets = rw st at c.kept;
     }) in
     let b = settled_met (guards l.post.layout.config) l (turn l (finds w i)) (number_of l.post.layout.config guard) life m in
     rw (seat_steps w i) (subst (λ (layout : Layout). has_met (guards layout.config) (after l (finds w i)).phase (after l (finds w i)).desk.report (number_of layout.config guard) life ≡ true) e b)
@@ -355,12 +332,12 @@ pub covers_kept : CoversKept
 covers_kept w i v guard s n u f wide c =
     let m : RowMove = row_move (w.seat i).phase (w.seat i).post (finds w i) in
     let b : MoveFits i v m = before_at w i v n in
-    let p : is_settled (v.status s) ≡ true = spans_past (shown w guard) (v.birth s) (v.status s) c.spans in
-    let y : (rows_after w i v).birth s ≡ v.birth s = birth_kept i v m s b p in
+    let y : (rows_after w i v).birth s ≡ v.birth s = birth_kept i v m s b c.settled in
     let late : Late (shown w guard) m = seals_late (shown w guard) w.mem (w.seat i).phase (w.seat i).post (n.eras guard) in
-    let stays = spans_kept i v m s (shown w guard) b late (takes_frees m s (not_reused w i v guard s n u f c)) c.spans in
+    let free : frees m s ≡ false = takes_frees m s (not_reused w i v guard s n u f c) in
     record {
-      spans = widens_spans (shown w guard) (shown (step w i) guard) ((rows_after w i v).birth s) ((rows_after w i v).status s) wide stays;
+      settled = past_kept i v m s b free c.settled;
+      kept = wide (life_in (rows_after w i v) s) (life_kept i v m s (shown w guard) b late free c.settled c.kept);
       scans = λ k r h. rw y (met_at w i k v guard s r (k == i) refl n f c h);
     }
 

@@ -5,10 +5,11 @@ use Rattle.std.specs.Prelude.{nat_lt, drop}
 use Rattle.inv_shapes.specs.defs.declared.event.Event.{Event}
 use Rattle.inv_shapes.specs.defs.declared.event.Event.TheVariants as events
 use Rattle.inv_shapes.specs.defs.declared.lifetime.Lifetime.{Lifetime}
+use Rattle.inv_shapes.specs.defs.Shown.{Seen, keeps, keeps_any}
 use Rattle.inv_shapes.specs.model.declared.post.Post.{Post}
-use Rattle.inv_shapes.specs.model.Desks.{Desk, Report, Seen}
-use Rattle.inv_shapes.specs.model.Guards.{guards, guard_at, published}
-use Rattle.inv_shapes.specs.model.Scan.{meets_span, meets_any, read_before, Entry, first_unmet, unmet_from, scanned, giving_back, reading, with_kept, with_read, with_back, scan_turn}
+use Rattle.inv_shapes.specs.model.Desks.{Desk, Report}
+use Rattle.inv_shapes.specs.model.Guards.{guards, guard_at, eras_in, published}
+use Rattle.inv_shapes.specs.model.Scan.{read_before, Entry, first_unmet, unmet_from, scanned, giving_back, reading, with_kept, with_read, with_back, scan_turn}
 use Rattle.inv_shapes.specs.model.Calls.{AfterScan, Answered, Repeated, Counted, ScanAt, ReadGuard, GiveBack, Phase, Idle, Runs, Scans, Works}
 use Rattle.inv_shapes.specs.Frame.{phase_left}
 use Rattle.inv_covers.specs.Covers.{has_met, unmet_at, is_unmet, is_fresh}
@@ -41,24 +42,24 @@ scanned_fresh (Repeated task) post desk told = (round_fresh task post).fresh
 scanned_fresh Counted post desk told = refl
 
 -- one guard more
-meets_more : (life : Lifetime) (read : List Seen) (seen : Seen) → meets_any life (read ++ seen ∷ []) ≡ (meets_any life read || meets_span life seen.1)
+meets_more : (life : Lifetime) (read : List Seen) (seen : Seen) → keeps_any life (read ++ seen ∷ []) ≡ (keeps_any life read || keeps life seen.1)
 meets_more life [] seen = grind (arith, nat_tests)
 meets_more life (x ∷ read) seen = let h = meets_more life read seen in grind (arith, nat_tests, h)
 
 -- what the scan has met once all guards are read, or in the middle
-back_met : (all : ℕ) (later : AfterScan) (post : Post) (desk : Desk) (told : List Event) (x : Option Entry) (number : ℕ) (life : Lifetime) → (nat_lt number all ≡ true → meets_any life desk.report.read ≡ true) → has_met all (phase_left (giving_back later post desk told x).outcome) (giving_back later post desk told x).desk.report number life ≡ true
+back_met : (all : ℕ) (later : AfterScan) (post : Post) (desk : Desk) (told : List Event) (x : Option Entry) (number : ℕ) (life : Lifetime) → (nat_lt number all ≡ true → keeps_any life desk.report.read ≡ true) → has_met all (phase_left (giving_back later post desk told x).outcome) (giving_back later post desk told x).desk.report number life ≡ true
 back_met all later post desk told None number life h = fresh_met all (phase_left (scanned later post (with_kept desk) told).outcome) (scanned later post (with_kept desk) told).desk.report number life (scanned_fresh later post (with_kept desk) told)
 back_met all later post desk told (Some entry) number life h = grind (arith, nat_tests, h)
 
-reading_met : (all : ℕ) (later : AfterScan) (n : ℕ) (post : Post) (desk : Desk) (told : List Event) (more : Bool) (number : ℕ) (life : Lifetime) → (number < n + 1 → meets_any life desk.report.read ≡ true) → (more ≡ false → all ≤ n + 1) → has_met all (phase_left (reading later n post desk told more).outcome) (reading later n post desk told more).desk.report number life ≡ true
+reading_met : (all : ℕ) (later : AfterScan) (n : ℕ) (post : Post) (desk : Desk) (told : List Event) (more : Bool) (number : ℕ) (life : Lifetime) → (number < n + 1 → keeps_any life desk.report.read ≡ true) → (more ≡ false → all ≤ n + 1) → has_met all (phase_left (reading later n post desk told more).outcome) (reading later n post desk told more).desk.report number life ≡ true
 reading_met all later n post desk told true number life h e = rw add-one (grind (arith, nat_tests, h))
 reading_met all later n post desk told false number life h e = back_met all later post desk told (unmet_from desk 0) number life (λ k. h (grind (arith, nat_tests, e refl)))
 
-read_met : (report : Report) (n number : ℕ) (life : Lifetime) (seen : Seen) → (nat_lt number n ≡ true → meets_any life (read_before report n) ≡ true) → (number ≡ n → meets_span life seen.1 ≡ true) → number < n + 1 → meets_any life (read_before report n ++ seen ∷ []) ≡ true
+read_met : (report : Report) (n number : ℕ) (life : Lifetime) (seen : Seen) → (nat_lt number n ≡ true → keeps_any life (read_before report n) ≡ true) → (number ≡ n → keeps life seen.1 ≡ true) → number < n + 1 → keeps_any life (read_before report n ++ seen ∷ []) ≡ true
 read_met report n number life seen h e k = let m = meets_more life (read_before report n) seen in rw m (grind (arith, nat_tests, h, e))
 
 -- what a scan has met it has met after its step; at a guard that it reads it meets the life if the guard does
-pub scan_met : (later : AfterScan) (at : ScanAt) (post : Post) (desk : Desk) (found number : ℕ) (life : Lifetime) → ((n : ℕ) → at ≡ ReadGuard n → number ≡ n → meets_span life (published (guard_at post.layout.config n) found) ≡ true) → has_met (guards post.layout.config) (Scans later at) desk.report number life ≡ true
+pub scan_met : (later : AfterScan) (at : ScanAt) (post : Post) (desk : Desk) (found number : ℕ) (life : Lifetime) → ((n : ℕ) → at ≡ ReadGuard n → number ≡ n → keeps life (published (guard_at post.layout.config n) found) ≡ true) → has_met (guards post.layout.config) (Scans later at) desk.report number life ≡ true
     → has_met (guards post.layout.config) (phase_left (scan_turn later at post desk found).outcome) (scan_turn later at post desk found).desk.report number life ≡ true
 scan_met later (ReadGuard n) post desk found number life e h =
     reading_met
@@ -67,7 +68,7 @@ scan_met later (ReadGuard n) post desk found number life e h =
     n
     post
     (with_read desk n (guard_at post.layout.config n, published (guard_at post.layout.config n) found))
-    (events.Read (guard_at post.layout.config n) (published (guard_at post.layout.config n) found) ∷ [])
+    (events.Read (guard_at post.layout.config n) (eras_in (guard_at post.layout.config n) found) ∷ [])
     (nat_lt (n + 1) (guards post.layout.config))
     number
     life
@@ -94,13 +95,13 @@ unmet_more : (read : List Seen) (life : Lifetime) (lives : List Lifetime) (n : �
 unmet_more read life lives n None h = tt
 unmet_more read life lives n (Some entry) h = (suc h.0, omega (arith, h.1), h.2)
 
-unmet_by : (read : List Seen) (n : ℕ) (life : Lifetime) (lives : List Lifetime) (met : Bool) → meets_any life read ≡ met → UnmetIn read lives (n + 1) (first_unmet read (n + 1) lives) → UnmetIn read (life ∷ lives) n (elim met [ true ↦ first_unmet read (n + 1) lives | false ↦ Some (n, life) ])
+unmet_by : (read : List Seen) (n : ℕ) (life : Lifetime) (lives : List Lifetime) (met : Bool) → keeps_any life read ≡ met → UnmetIn read lives (n + 1) (first_unmet read (n + 1) lives) → UnmetIn read (life ∷ lives) n (elim met [ true ↦ first_unmet read (n + 1) lives | false ↦ Some (n, life) ])
 unmet_by read n life lives true e h = unmet_more read life lives n (first_unmet read (n + 1) lives) h
 unmet_by read n life lives false e h = (0, omega arith, rw e refl)
 
 unmet_first : (read : List Seen) (n : ℕ) (lives : List Lifetime) → UnmetIn read lives n (first_unmet read n lives)
 unmet_first read n [] = tt
-unmet_first read n (life ∷ lives) = unmet_by read n life lives (meets_any life read) refl (unmet_first read (n + 1) lives)
+unmet_first read n (life ∷ lives) = unmet_by read n life lives (keeps_any life read) refl (unmet_first read (n + 1) lives)
 
 unmet_drop : (read : List Seen) (n q : ℕ) (lives : List Lifetime) → unmet_at read (drop n lives) q ≡ unmet_at read lives (n + q)
 unmet_drop read zero q [] = refl
@@ -130,7 +131,7 @@ reading_unmet later n post desk told false = back_unmet later post desk told (un
 -- what a scan gives back next meets nothing that it read
 pub scan_unmet_kept : (later : AfterScan) (at : ScanAt) (post : Post) (desk : Desk) (found : ℕ) → is_unmet (phase_left (scan_turn later at post desk found).outcome) (scan_turn later at post desk found).desk ≡ true
 scan_unmet_kept later (ReadGuard n) post desk found =
-    reading_unmet later n post (with_read desk n (guard_at post.layout.config n, published (guard_at post.layout.config n) found)) (events.Read (guard_at post.layout.config n) (published (guard_at post.layout.config n) found) ∷ []) (nat_lt (n + 1) (guards post.layout.config))
+    reading_unmet later n post (with_read desk n (guard_at post.layout.config n, published (guard_at post.layout.config n) found)) (events.Read (guard_at post.layout.config n) (eras_in (guard_at post.layout.config n) found) ∷ []) (nat_lt (n + 1) (guards post.layout.config))
 scan_unmet_kept later (GiveBack place slot) post desk found =
     back_unmet later post (with_back desk place) (events.Back slot ∷ []) (unmet_from (with_back desk place) place) (unmet_found (with_back desk place) place)
 
@@ -150,7 +151,7 @@ reading_starts later n post desk told false = back_starts later post desk told (
 
 pub scan_starts : (later : AfterScan) (at : ScanAt) (post : Post) (desk : Desk) (found : ℕ) → is_start (phase_left (scan_turn later at post desk found).outcome) ≡ true
 scan_starts later (ReadGuard n) post desk found =
-    reading_starts later n post (with_read desk n (guard_at post.layout.config n, published (guard_at post.layout.config n) found)) (events.Read (guard_at post.layout.config n) (published (guard_at post.layout.config n) found) ∷ []) (nat_lt (n + 1) (guards post.layout.config))
+    reading_starts later n post (with_read desk n (guard_at post.layout.config n, published (guard_at post.layout.config n) found)) (events.Read (guard_at post.layout.config n) (eras_in (guard_at post.layout.config n) found) ∷ []) (nat_lt (n + 1) (guards post.layout.config))
 scan_starts later (GiveBack place slot) post desk found = back_starts later post (with_back desk place) (events.Back slot ∷ []) (unmet_from (with_back desk place) place)
 
 scanned_shrinks : (later : AfterScan) (post : Post) (desk : Desk) (told : List Event) → Shrinks post (scanned later post desk told).post
@@ -168,5 +169,5 @@ reading_shrinks later n post desk told false j s h = back_shrinks later post des
 
 pub scan_shrinks : (later : AfterScan) (at : ScanAt) (post : Post) (desk : Desk) (found : ℕ) → Shrinks post (scan_turn later at post desk found).post
 scan_shrinks later (ReadGuard n) post desk found j s h =
-    reading_shrinks later n post (with_read desk n (guard_at post.layout.config n, published (guard_at post.layout.config n) found)) (events.Read (guard_at post.layout.config n) (published (guard_at post.layout.config n) found) ∷ []) (nat_lt (n + 1) (guards post.layout.config)) j s h
+    reading_shrinks later n post (with_read desk n (guard_at post.layout.config n, published (guard_at post.layout.config n) found)) (events.Read (guard_at post.layout.config n) (eras_in (guard_at post.layout.config n) found) ∷ []) (nat_lt (n + 1) (guards post.layout.config)) j s h
 scan_shrinks later (GiveBack place slot) post desk found j s h = back_shrinks later post (with_back desk place) (events.Back slot ∷ []) (unmet_from (with_back desk place) place) j s h

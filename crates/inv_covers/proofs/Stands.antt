@@ -1,8 +1,7 @@
 -- What stands at an index after a change of the post.
 use Rattle.std.proofs.Common.{ℕ, ◌≡◌, ◌≢◌, ◌<◌, length, arith, sym, subst, ◌∙◌, true, false, Bool, refl}
 use Rattle.std.proofs.lemmas.Bool.Decides.{nat_tests}
-use Rattle.std.proofs.lemmas.Grind.{common_steps}
-use Rattle.std.specs.Prelude.{Some, None, ◌==◌}
+use Rattle.std.specs.Prelude.{Some, ◌==◌}
 use Rattle.inv_shapes.specs.model.declared.post.Post.{Post}
 use Rattle.inv_shapes.specs.model.Posts.{stands, with_row, withdrawn}
 use Rattle.inv_covers.specs.Tries.{Shrinks}

@@ -9,7 +9,7 @@ use Rattle.inv_shapes.specs.defs.declared.event.Root.{Root}
 use Rattle.inv_shapes.specs.defs.declared.event.Root.TheVariants as roots
 use Rattle.inv_shapes.specs.model.declared.post.Post.{Post}
 use Rattle.inv_shapes.specs.model.Desks.{Desk}
-use Rattle.inv_shapes.specs.model.Guards.{guards, guard_at, published}
+use Rattle.inv_shapes.specs.model.Guards.{guards, guard_at, eras_in, published}
 use Rattle.inv_shapes.specs.model.Posts.{stands, upper, with_row, tag_of, with_tag, reserves_helper}
 use Rattle.inv_shapes.specs.model.Phases.{Aim, Alone, Follows, Base, ProtectAt, Ending, Outcome, Goes, Ends, Turn, goes, ends}
 use Rattle.inv_shapes.specs.model.Phases.ProtectAt.{LoadClock, PublishEra, LoadLink, CheckClock, PublishRequest, LoadOwnClock, PublishHelper, LoadOwnLink, CheckOwnClock, AnswerOwn, LoadAnswer, TakeAnswer, WithdrawRequest, WithdrawHelper, LoadWithin, CheckUpper, RaiseUpper}
@@ -51,7 +51,7 @@ reading_vacant later n post desk told false h = back_vacant later post desk told
 
 scan_vacant : (later : AfterScan) (at : ScanAt) (post : Post) (desk : Desk) (found : ℕ) → Vacant (vacant_later later) post → Turned (scan_turn later at post desk found)
 scan_vacant later (ReadGuard n) post desk found h =
-    reading_vacant later n post (with_read desk n (guard_at post.layout.config n, published (guard_at post.layout.config n) found)) (events.Read (guard_at post.layout.config n) (published (guard_at post.layout.config n) found) ∷ []) (nat_lt (n + 1) (guards post.layout.config)) h
+    reading_vacant later n post (with_read desk n (guard_at post.layout.config n, published (guard_at post.layout.config n) found)) (events.Read (guard_at post.layout.config n) (eras_in (guard_at post.layout.config n) found) ∷ []) (nat_lt (n + 1) (guards post.layout.config)) h
 scan_vacant later (GiveBack place slot) post desk found h = back_vacant later post (with_back desk place) (events.Back slot ∷ []) (unmet_from (with_back desk place) place) h
 
 -- what a machine's step leaves

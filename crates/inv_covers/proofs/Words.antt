@@ -1,5 +1,5 @@
 -- Which guards' words a step leaves as they are.
-use Rattle.std.proofs.Common.{ℕ, ◌≡◌, sym, subst, ap, true, false, arith, refl, Bool, Option, Some, None, not}
+use Rattle.std.proofs.Common.{ℕ, ◌≡◌, ap, true, false, arith, refl, Bool, not}
 use Rattle.std.proofs.lemmas.Bool.Decides.{nat_tests}
 use Rattle.std.specs.Prelude.{◌==◌}
 use Rattle.inv_shapes.specs.words.Place.{Place, same}
@@ -8,9 +8,9 @@ use Rattle.inv_shapes.specs.words.declared.config.Config.{Config}
 use Rattle.inv_shapes.specs.words.declared.config.SchemeKind.{SchemeKind}
 use Rattle.inv_shapes.specs.defs.declared.event.Guard.{Guard}
 use Rattle.inv_shapes.specs.defs.declared.event.Root.{Root}
-use Rattle.inv_shapes.specs.defs.declared.lifetime.Interval.{Interval as Span}
+use Rattle.inv_shapes.specs.defs.Shown.{Shown}
 use Rattle.inv_shapes.specs.model.declared.post.Post.{Post}
-use Rattle.inv_shapes.specs.model.Guards.{guard_place, published, own_guard}
+use Rattle.inv_shapes.specs.model.Guards.{guard_place, eras_in, published, own_guard}
 use Rattle.inv_shapes.specs.model.Memory.{Move as Act, Load, Store, Cas, Or, And, written}
 use Rattle.inv_shapes.specs.model.Phases.{BeginAt, ProtectAt, AllocateAt, RetireAt, MoveAt, Base}
 use Rattle.inv_shapes.specs.model.Phases.BeginAt.{LoadLower, PublishSpan}
@@ -31,7 +31,7 @@ use Rattle.inv_shapes.specs.model.Locals.{move}
 use Rattle.inv_shapes.specs.model.World.{World, step}
 use Rattle.inv_shapes.specs.words.Schemes.{helps}
 use Rattle.inv_shapes.specs.Seats.{move_fits, base_fits}
-use Rattle.inv_covers.specs.Covers.{shown, Widens}
+use Rattle.inv_covers.specs.Covers.{eras_shown, shown, Widens}
 use Rattle.inv_shapes.proofs.model.Schemes.{each_guard}
 
 -- the operation leaves the word of the place
@@ -52,12 +52,11 @@ kept_word mem (And place bits) p h = let e : same p place ≡ false = grind (ari
 pub shown_kept : (w : World) (i : ℕ) (guard : Guard) → keeps (move (w.seat i)) (guard_place guard) ≡ true → shown (step w i) guard ≡ shown w guard
 shown_kept w i guard h = ap (published guard) (kept_word w.mem (move (w.seat i)) (guard_place guard) h)
 
-pub widens_refl : (x : Option Span) → Widens x x
-widens_refl None = tt
-widens_refl (Some span) = (omega arith, omega arith)
+pub eras_kept : (w : World) (i : ℕ) (guard : Guard) → keeps (move (w.seat i)) (guard_place guard) ≡ true → eras_shown (step w i) guard ≡ eras_shown w guard
+eras_kept w i guard h = ap (eras_in guard) (kept_word w.mem (move (w.seat i)) (guard_place guard) h)
 
-pub widens_same : (x y : Option Span) → y ≡ x → Widens x y
-widens_same x y e = subst (λ (z : Option Span). Widens x z) (sym e) (widens_refl x)
+pub widens_same : (x y : Shown) → y ≡ x → Widens x y
+widens_same x y e life h = rw e h
 
 -- the step of a machine that changes what an own guard publishes
 abbrev pub stores_protect : ProtectAt → Bool

@@ -1,6 +1,6 @@
--- When a guard covers a row: the row was linked and is not free since, its life meets the guard's interval, and a scan that
--- has the row on its list has met that life, or has not come to the guard.
-use Rattle.std.specs.Prelude.{ℕ, zero, suc, ◌≡◌, ◌≤◌, ◌<◌, ◌==◌, ◌+◌, ◌*◌, ◌&&◌, ◌||◌, nat_le, nat_lt, not, Bool, true, false, List, [], ◌∷◌, Option, Some, None}
+-- When a guard covers a row: the row was linked and is not free since, the guard publishes what keeps its life, and a scan
+-- that has the row on its list has met that life, or has not come to the guard.
+use Rattle.std.specs.Prelude.{ℕ, zero, suc, ◌≡◌, ◌<◌, ◌==◌, ◌+◌, ◌*◌, ◌||◌, nat_lt, not, Bool, true, false, List, [], ◌∷◌, Option}
 use Rattle.inv_shapes.specs.words.declared.config.Config.{Config}
 use Rattle.inv_shapes.specs.words.declared.config.SchemeKind.{SchemeKind}
 use Rattle.inv_shapes.specs.words.declared.config.SchemeKind.TheVariants.{He, Ibr, Wfe}
@@ -8,9 +8,10 @@ use Rattle.inv_shapes.specs.defs.declared.event.Guard.{Guard}
 use Rattle.inv_shapes.specs.defs.declared.event.Guard.TheVariants.{Helper, Index, Whole}
 use Rattle.inv_shapes.specs.defs.declared.lifetime.Interval.{Interval}
 use Rattle.inv_shapes.specs.defs.declared.lifetime.Lifetime.{Lifetime}
-use Rattle.inv_shapes.specs.model.Desks.{Desk, Report, Seen}
-use Rattle.inv_shapes.specs.model.Guards.{guards, guard_at, guard_place, published}
-use Rattle.inv_shapes.specs.model.Scan.{meets_any, read_before}
+use Rattle.inv_shapes.specs.defs.Shown.{Shown, Seen, keeps, keeps_any}
+use Rattle.inv_shapes.specs.model.Desks.{Desk, Report}
+use Rattle.inv_shapes.specs.model.Guards.{guards, guard_at, guard_place, eras_in, published}
+use Rattle.inv_shapes.specs.model.Scan.{read_before}
 use Rattle.inv_shapes.specs.model.Calls.{ScanAt, ReadGuard, GiveBack, Phase, Idle, Runs, Scans, Works}
 use Rattle.inv_shapes.specs.model.World.{World, start, step, begin, finds}
 use Rattle.inv_rows.specs.Hands.{row_move}
@@ -19,24 +20,14 @@ use Rattle.inv_shapes.specs.words.declared.layout.Layout.{Layout}
 use Rattle.inv_shapes.specs.words.Place.Place.{Clock}
 use Rattle.inv_shapes.specs.defs.declared.call.Call.{Call}
 use Rattle.inv_rows.specs.Rows.{Status, View, RowMove, is_settled}
-use Rattle.inv_rows.specs.Rows.Status.{Free, Claimed, Born, Linked, InQueue, Cut, Sealed, Listed}
+use Rattle.inv_rows.specs.Rows.Status.{Sealed, Listed}
 use Rattle.inv_rows.specs.Rows.RowMove.{Stays, Claims, Bears, Drops, Links, Replaces, Appends, Pops, Reads, Seals, Lists, Returns}
 
--- the era is not after the retire era, where one is loaded
-abbrev pub until : Status → ℕ → Bool
-until Free era = true
-until (Claimed by) era = true
-until (Born by) era = true
-until (Linked bucket) era = true
-until InQueue era = true
-until (Cut by) era = true
-until (Sealed by retire) era = nat_le era retire
-until (Listed by retire) era = nat_le era retire
-
--- an interval spans some of the life of a row that was linked
-abbrev pub spans : Option Interval → ℕ → Status → Bool
-spans None birth status = false
-spans (Some span) birth status = is_settled status && (nat_le birth span.hi && until status span.lo)
+-- the retire era of a row, once it is loaded, and 0 before
+abbrev pub retired_at : Status → ℕ
+retired_at (Sealed by retire) = retire
+retired_at (Listed by retire) = retire
+retired_at status = 0
 
 -- how many of the guards a scan has read
 abbrev pub upto_at : ℕ → ScanAt → ℕ
@@ -62,11 +53,15 @@ read_in (Works work) report = []
 
 -- a scan has not come to the guard of this number, or has met the life
 abbrev pub has_met : ℕ → Phase → Report → ℕ → Lifetime → Bool
-has_met all phase report number life = not (nat_lt number (upto all phase)) || meets_any life (read_in phase report)
+has_met all phase report number life = not (nat_lt number (upto all phase)) || keeps_any life (read_in phase report)
 
 -- a row's life, once it has a retire era
 abbrev pub life_of : ℕ → ℕ → ℕ → Lifetime
 life_of slot birth retire = record { slot = slot; birth = birth; retire = retire }
+
+-- its life so far
+abbrev pub life_in : View → ℕ → Lifetime
+life_in v slot = life_of slot (v.birth slot) (retired_at (v.status slot))
 
 -- the number of a guard in the order in which a scan reads them
 abbrev pub number_by : SchemeKind → Config → Guard → ℕ
@@ -79,20 +74,25 @@ number_by scheme config (Whole seat) = seat
 abbrev pub number_of : Config → Guard → ℕ
 number_of config guard = number_by config.scheme config guard
 
+-- the eras that a guard publishes
+abbrev pub eras_shown : World → Guard → Option Interval
+eras_shown w guard = eras_in guard (w.mem (guard_place guard))
+
 -- what a guard publishes
-abbrev pub shown : World → Guard → Option Interval
+abbrev pub shown : World → Guard → Shown
 shown w guard = published guard (w.mem (guard_place guard))
 
 -- the guard covers the row
 pub record Covers (w : World) (v : View) (guard : Guard) (slot : ℕ) : Type 0 where
-  pub spans : spans (shown w guard) (v.birth slot) (v.status slot) ≡ true
+  pub settled : is_settled (v.status slot) ≡ true
+  pub kept : keeps (life_in v slot) (shown w guard) ≡ true
   pub scans : (k r : ℕ) → v.status slot ≡ Listed k r
       → has_met (guards w.layout.config) (w.seat k).phase (w.seat k).desk.report (number_of w.layout.config guard) (life_of slot (v.birth slot) r) ≡ true
 
 -- the entry at a place of the list meets nothing that was read
 abbrev pub unmet_at : List Seen → List Lifetime → ℕ → Bool
 unmet_at read [] place = false
-unmet_at read (life ∷ lives) zero = not (meets_any life read)
+unmet_at read (life ∷ lives) zero = not (keeps_any life read)
 unmet_at read (life ∷ lives) (suc place) = unmet_at read lives place
 
 abbrev pub scan_unmet : ScanAt → Desk → Bool
@@ -121,24 +121,14 @@ is_fresh (Runs why base) = true
 is_fresh (Scans later at) = fresh_at at
 is_fresh (Works work) = true
 
--- what an interval needs so that a row stays covered by it: a retire era that is loaded is not before it
-abbrev pub NotBefore : Option Interval → ℕ → Type 0
-NotBefore None era = Unit {0}
-NotBefore (Some span) era = span.lo ≤ era
+-- what is published keeps a life that is over at the era as it kept it before
+abbrev pub NotBefore : Shown → ℕ → Type 0
+NotBefore value era = (slot birth : ℕ) → keeps (life_of slot birth 0) value ≡ true → keeps (life_of slot birth era) value ≡ true
 
-abbrev pub Late : Option Interval → RowMove → Type 0
-Late span Stays = Unit {0}
-Late span (Claims slot) = Unit {0}
-Late span (Bears slot birth) = Unit {0}
-Late span (Drops slot) = Unit {0}
-Late span (Links bucket slot) = Unit {0}
-Late span (Replaces bucket slot old) = Unit {0}
-Late span (Appends slot) = Unit {0}
-Late span (Pops slot next) = Unit {0}
-Late span (Reads slot birth) = Unit {0}
-Late span (Seals slot birth retire) = NotBefore span retire
-Late span (Lists slot birth retire) = Unit {0}
-Late span (Returns slot) = Unit {0}
+-- so it is at a retire era that is loaded
+abbrev pub Late : Shown → RowMove → Type 0
+Late value (Seals slot birth retire) = NotBefore value retire
+Late value move = Unit {0}
 
 -- the row that a move makes free
 abbrev pub frees : RowMove → ℕ → Bool
@@ -175,21 +165,19 @@ pub record GuardFits (config : Config) (guard : Guard) : Type 0 where
   pub below : number_of config guard < guards config
   pub is : guard_at config (number_of config guard) ≡ guard
 
--- an interval that covers at least what another covers
-abbrev pub Widens : Option Interval → Option Interval → Type 0
-Widens None new = Unit {0}
-Widens (Some old) None = false ≡ true
-Widens (Some old) (Some new) = (new.lo ≤ old.lo) × (old.hi ≤ new.hi)
+-- what keeps at least the lives that the old keeps
+abbrev pub Widens : Shown → Shown → Type 0
+Widens old new = (life : Lifetime) → keeps life old ≡ true → keeps life new ≡ true
 
 -- what a step needs of the other parts of the invariant: what is known of the rows, that each seat's post has the table's
--- layout, and that no interval begins after the clock
+-- layout, and that what is published keeps a life that is over now as it kept it before
 pub record CoversNeeds (w : World) (i : ℕ) (v : View) : Type 0 where
   pub rows : Agree w v
   pub needs : RowsNeeds w i v
   pub layouts : (k : ℕ) → (w.seat k).post.layout ≡ w.layout
   pub eras : (guard : Guard) → NotBefore (shown w guard) (w.mem Clock)
 
--- a row that a guard covers stays covered by it over each step that does not take from the guard's interval
+-- a row that a guard covers stays covered by it over each step that does not take from what the guard publishes
 abbrev pub CoversKept : Type 0
 CoversKept =
     (w : World) (i : ℕ) (v : View) (guard : Guard) (slot : ℕ)

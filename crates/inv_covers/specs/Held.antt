@@ -9,7 +9,7 @@ use Rattle.inv_shapes.specs.model.declared.post.Post.{Post}
 use Rattle.inv_shapes.specs.model.Phases.{ProtectAt, Base, Follows, Aim, Tries}
 use Rattle.inv_shapes.specs.model.Posts.{upper, stands}
 use Rattle.inv_shapes.specs.model.Phases.Base.{Allocate, Begin, Clear, Finish, GiveUp, Move, Protect, Release, Reload, Retire, Write}
-use Rattle.inv_covers.specs.Covers.{Covers, GuardFits, shown, CoversNeeds, Scanning, takes_or_frees, Widens}
+use Rattle.inv_covers.specs.Covers.{Covers, GuardFits, number_of, eras_shown, shown, CoversNeeds, Scanning, takes_or_frees, Widens}
 use Rattle.inv_shapes.specs.defs.declared.event.Guard.{Guard}
 use Rattle.inv_shapes.specs.model.World.{World, step, start, begin, finds}
 use Rattle.inv_shapes.specs.words.Place.Place.{Clock, Row, Tail}
@@ -153,7 +153,7 @@ pub record BaseNeeds (w : World) (i : ℕ) (base : Base) : Type 0 where
   pub rests : (j : ℕ) → rests_base base j ≡ true → stands (w.seat i).post j ≡ None
   -- in a try the index word has the try's era
   pub published : (aim : Aim) (index : ℕ) (root : Root) (steps era : ℕ) (tries : Tries) → base ≡ Protect aim index root steps (LoadLink era tries)
-      → shown w (Index i index) ≡ from_to era era
+      → eras_shown w (Index i index) ≡ from_to era era
 
 -- what is needed of the other parts where a link is loaded: what is known of the rows; births are at most the clock; the
 -- tail's row is in the queue, and so is the row after one that is
@@ -169,7 +169,7 @@ abbrev pub LoadsCover : Type 0
 LoadsCover =
     (w : World) (v : View) (guard : Guard) (root : Root) (lo hi slot : ℕ)
     → RootsNeeds w v
-    → shown w guard ≡ from_to lo hi
+    → eras_shown w guard ≡ from_to lo hi
     → w.mem Clock ≤ hi
     → w.mem (link_place root) ≡ slot + 1
     → under v.status root ≡ true
@@ -183,8 +183,8 @@ pub record HeldNeeds (w : World) (i : ℕ) (v : View) : Type 0 where
   pub base : (why : Why) (base : Base) → (w.seat i).phase ≡ Runs why base → BaseNeeds w i base
   pub roots : RootsNeeds w v
   -- under 2GE an interval word has the seat's interval, before and after the step
-  pub spans : has_one_interval w.layout.config.scheme ≡ true → shown w (Whole i) ≡ (w.seat i).post.span
-  pub spans_next : has_one_interval w.layout.config.scheme ≡ true → shown (step w i) (Whole i) ≡ ((step w i).seat i).post.span
+  pub spans : has_one_interval w.layout.config.scheme ≡ true → eras_shown w (Whole i) ≡ (w.seat i).post.span
+  pub spans_next : has_one_interval w.layout.config.scheme ≡ true → eras_shown (step w i) (Whole i) ≡ ((step w i).seat i).post.span
   -- the era of a try is at most the clock, and the clock is positive and never falls
   pub eras : (k : ℕ) (why : Why) (base : Base) → (w.seat k).phase ≡ Runs why base → era_base (w.seat k).post base ≤ w.mem Clock
   pub some : 1 ≤ w.mem Clock
@@ -227,26 +227,32 @@ GuardsFit = (config : Config) (k j : ℕ) → k < config.seats → j < config.in
 abbrev pub HelpersFit : Type 0
 HelpersFit = (config : Config) (k : ℕ) → helps config.scheme ≡ true → k < config.seats → GuardFits config (Helper k)
 
--- what a helper word covers, any index word covers that publishes the same: a scan reads helper words first
+-- and helper words before index words
+abbrev pub HelpersFirst : Type 0
+HelpersFirst =
+    (config : Config) (m k j : ℕ)
+    → helps config.scheme ≡ true
+    → m < config.seats
+    → number_of config (Helper m) ≤ number_of config (Index k j)
+
+-- what a guard covers, each guard covers that a scan reads later and that publishes the same
 abbrev pub HandedCovers : Type 0
 HandedCovers =
-    (w : World) (v : View) (m k j slot : ℕ)
-    → helps w.layout.config.scheme ≡ true
-    → m < w.layout.config.seats
-    → shown w (Index k j) ≡ shown w (Helper m)
-    → Covers w v (Helper m) slot
-    → Covers w v (Index k j) slot
+    (w : World) (v : View) (a b : Guard) (slot : ℕ)
+    → number_of w.layout.config a ≤ number_of w.layout.config b
+    → shown w b ≡ shown w a
+    → Covers w v a slot
+    → Covers w v b slot
 
--- the same over the step that stores or exchanges the index word: what the helper word of a seat covered before, the index
--- word covers after
+-- the same over the step that writes the later guard: what the earlier covered before, the later covers after
 abbrev pub HandedKept : Type 0
 HandedKept =
-    (w : World) (i : ℕ) (v : View) (m k j slot : ℕ)
-    → helps w.layout.config.scheme ≡ true
+    (w : World) (i : ℕ) (v : View) (a b : Guard) (slot : ℕ)
     → CoversNeeds w i v
     → Scanning w
-    → m < w.layout.config.seats
-    → Widens (shown w (Helper m)) (shown (step w i) (Helper m))
-    → shown (step w i) (Index k j) ≡ shown (step w i) (Helper m)
-    → Covers w v (Helper m) slot
-    → Covers (step w i) (rows_after w i v) (Index k j) slot
+    → GuardFits w.layout.config a
+    → number_of w.layout.config a ≤ number_of w.layout.config b
+    → Widens (shown w a) (shown (step w i) a)
+    → shown (step w i) b ≡ shown (step w i) a
+    → Covers w v a slot
+    → Covers (step w i) (rows_after w i v) b slot

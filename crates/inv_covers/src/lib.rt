@@ -3,7 +3,7 @@
 #![tactic(auto)]
 
 ghost use Rattle.inv_covers.specs.Covers.{CoversKept, NotReused, ScansBegin, ScansKept, ScansStart};
-ghost use Rattle.inv_covers.specs.Held.{GuardsFit, HandedCovers, HandedKept, HeldBegin, HeldKept, HeldStart, HelpersFit, LoadsCover, StandingStays};
+ghost use Rattle.inv_covers.specs.Held.{GuardsFit, HandedCovers, HandedKept, HeldBegin, HeldKept, HeldStart, HelpersFirst, HelpersFit, LoadsCover, StandingStays};
 ghost use Rattle.inv_covers.specs.Parents.{ParentsBegin, ParentsGive, ParentsKept, ParentsStart};
 ghost use Rattle.inv_covers.specs.Rests.{RestsBegin, RestsGive, RestsKept, RestsStart};
 
@@ -42,11 +42,12 @@ pub fn standing_rows_stay()
 {}
 
 /// A scan reads the guard of each index of each seat of the table, under its number, and under
-/// Wait-Free Eras each helper word, before all index words: what a helper word covers an index word
-/// covers that publishes the same.
+/// Wait-Free Eras each helper word, before all index words: what a guard covers each later one covers
+/// that publishes the same.
 pub fn guards_are_read()
     ensures own { GuardsFit }
     ensures helpers { HelpersFit }
+    ensures first { HelpersFirst }
     ensures handed { HandedCovers }
     ensures kept { HandedKept }
 {}

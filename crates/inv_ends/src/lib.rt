@@ -4,7 +4,7 @@
 
 ghost use Rattle.inv_ends.specs.Births.{GivenBegin, GivenKept, GivenStart, RetiresGiven};
 ghost use Rattle.inv_ends.specs.Moves.{MeetingBegin, MeetingKept, MeetingStart, MetAnswered, MetOpen};
-ghost use Rattle.inv_ends.specs.Nulls.{NullTold, NullsEnd};
+ghost use Rattle.inv_ends.specs.Nulls.{NullTold};
 ghost use Rattle.inv_ends.specs.Standing.{ClearStood, HeldCovered, HeldStands, HeldTold, StandingTold};
 ghost use Rattle.inv_ends.specs.Told.{NoReuse, RowsTold, RowsWere};
 ghost use Rattle.inv_ends.specs.Walks.{FullSeen, SeenTaken, WalkingBegin, WalkingKept, WalkingStart};
@@ -33,11 +33,9 @@ pub fn births_are_told()
 {}
 
 /// A step tells Null exactly where the link is null by which it concludes a protection: the link of
-/// a try whose era is the clock, or that of the answer. A protection that ends with Null, and a
-/// follow that ends with no next row, have that link null.
+/// a try whose era is the clock, or that of the answer.
 pub fn nulls_are_told()
-    ensures told { NullTold }
-    ensures ends { NullsEnd }
+    ensures { NullTold }
 {}
 
 /// A step tells that a row stands at an index exactly where it makes it stand, and the row stands

@@ -1,5 +1,5 @@
 -- Who asks: the seat of a request that is not taken stands in the slow path at the request's index, where nothing stands.
-use Rattle.std.proofs.Common.{ℕ, ◌≡◌, ◌∙◌, Bool, true, false, None, refl, ap, sym, subst, arith, ◌&&◌, not}
+use Rattle.std.proofs.Common.{ℕ, ◌≡◌, ◌∙◌, Bool, true, false, None, refl, ap, sym, subst, arith, not}
 use Rattle.std.proofs.lemmas.Bool.Decides.{nat_tests}
 use Rattle.inv_covers.specs.words.Place.Place.{Clock}
 use Rattle.inv_covers.specs.words.declared.layout.Layout.{Layout}
@@ -20,7 +20,6 @@ use Rattle.inv_requests.specs.Standing.{protect_role, move_role, role_of, Reques
 use Rattle.inv_requests.specs.Views.{Deal, View as Asked}
 use Rattle.inv_requests.specs.Views.Deal.{Quiet, Open, Answered, Passed, Taken}
 use Rattle.inv_covers.specs.rows.Rows.{Status, View}
-use Rattle.inv_covers.specs.Covers.{shown}
 use Rattle.inv_covers.specs.Held.{tries_protect, tries_base}
 use Rattle.inv_covers.specs.Rests.{has_taken, vacant_opening, vacant_why, vacant, Vacant, Rests}
 use Rattle.inv_covers.proofs.Held.{same_run}

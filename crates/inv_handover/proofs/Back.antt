@@ -1,7 +1,6 @@
 -- What a helper word holds after a step of another seat it held before: rows whose next link is followed stay in the queue
 -- once they stand, and a request that has no answer yet is the one that it was.
-use Rattle.std.proofs.Common.{ℕ, ◌≡◌, ◌∙◌, Bool, true, false, Some, refl, ap, sym, subst, arith, ◌&&◌}
-use Rattle.std.proofs.lemmas.Bool.Decides.{nat_tests}
+use Rattle.std.proofs.Common.{ℕ, ◌≡◌, ◌∙◌, true, false, Some, refl, ap, sym, subst, ◌&&◌}
 use Rattle.std.specs.Prelude.{◌==◌, nat_lt}
 use Rattle.inv_covers.specs.words.Place.{has}
 use Rattle.inv_covers.specs.words.declared.layout.Layout.{Layout}
@@ -25,11 +24,10 @@ use Rattle.inv_covers.specs.rows.Rows.{View}
 use Rattle.inv_covers.specs.rows.Hands.{row_move}
 use Rattle.inv_covers.specs.rows.Agree.{rows_after}
 use Rattle.inv_covers.specs.rows.Queue.{in_queue}
-use Rattle.inv_covers.specs.Covers.{shown, CoversNeeds}
-use Rattle.inv_covers.specs.model.Guards.{own_guard}
+use Rattle.inv_covers.specs.Covers.{CoversNeeds}
 use Rattle.inv_covers.specs.Held.{under, follows_root, follows_row, Held}
 use Rattle.inv_handover.specs.Handover.{HandoverNeeds, FollowedRowsStand}
-use Rattle.inv_covers.proofs.Kept.{before_at, spans_past}
+use Rattle.inv_covers.proofs.Kept.{before_at}
 use Rattle.inv_covers.proofs.Tried.{under_back, queued_back}
 use Rattle.inv_handover.proofs.Asks.{Asker, asker, run_of}
 use Rattle.inv_covers.proofs.Parents.{same_row}
@@ -82,7 +80,7 @@ followed_rows_stand w k why base row s p e f =
 pub stood_back : (w : World) (i : ℕ) (v : View) (k p : ℕ) → CoversNeeds w i v → Held w v → stands (w.seat k).post 0 ≡ Some p → in_queue ((rows_after w i v).status p) ≡ true → in_queue (v.status p) ≡ true
 stood_back w i v k p n h e q =
     let c = (h.stood k 0 p e).covers in
-    queued_back i v (row_move (w.seat i).phase (w.seat i).post (finds w i)) p (before_at w i v n) (spans_past (shown w (own_guard w.layout.config.scheme k 0)) (v.birth p) (v.status p) c.spans) q
+    queued_back i v (row_move (w.seat i).phase (w.seat i).post (finds w i)) p (before_at w i v n) c.settled q
 
 pub under_stays : (w : World) (i : ℕ) (v : View) (k : ℕ) (root : Root) → CoversNeeds w i v → Held w v → ((p : ℕ) → follows_root root p ≡ true → stands (w.seat k).post 0 ≡ Some p) → under (rows_after w i v).status root ≡ true → under v.status root ≡ true
 under_stays w i v k root n h f u = under_back v.status (rows_after w i v).status root (λ p r q. stood_back w i v k p n h (f p r) q) u

@@ -25,7 +25,6 @@ use Rattle.inv_requests.specs.Standing.{request_of}
 use Rattle.inv_requests.specs.Views.{Deal, View as Asked}
 use Rattle.inv_requests.specs.Views.Deal.{Quiet, Open, Answered, Passed, Taken}
 use Rattle.inv_covers.specs.rows.Rows.{View}
-use Rattle.inv_covers.specs.Covers.{shown}
 use Rattle.inv_handover.specs.Handover.{HandoverNeeds}
 use Rattle.inv_handover.proofs.Asks.{asker}
 use Rattle.inv_handover.proofs.Back.{inside_of}

@@ -34,7 +34,7 @@ use Rattle.inv_requests.specs.Views.Deal.{Quiet, Open, Answered, Passed, Taken}
 use Rattle.inv_covers.specs.rows.Rows.{Status, View, made}
 use Rattle.inv_covers.specs.rows.Hands.{row_move}
 use Rattle.inv_covers.specs.rows.Agree.{rows_after}
-use Rattle.inv_covers.specs.Covers.{shown}
+use Rattle.inv_covers.specs.Covers.{eras_shown}
 use Rattle.inv_covers.specs.Held.{leads, under, Holds, Held}
 use Rattle.inv_handover.specs.Helped.{open_by, helper_holds, answered_from, passed_to, Helped}
 use Rattle.inv_handover.specs.Handover.{HandoverNeeds}
@@ -61,7 +61,7 @@ still_helper w i v z why base s n e o h = holds_stay w i v (Helper i) s n.covers
 helper_load : (w : World) (i : ℕ) (v : View) (z : Asked) (root : Root) (era s : ℕ) → helps w.layout.config.scheme ≡ true → HandoverNeeds w i v z → z.helper i ≡ era → w.mem Clock ≡ era → leads (w.mem (link_place root)) s ≡ true → under v.status root ≡ true → Holds w v (Helper i) s
 helper_load w i v z root era s f n h c l u =
     let m = n.eras.some in
-    let x : shown w (Helper i) ≡ from_to era era = helper_shows w z i n.requests ∙ ap one_era h ∙ one_from era (omega (arith, c, m)) in
+    let x : eras_shown w (Helper i) ≡ from_to era era = helper_shows w z i n.requests ∙ ap one_era h ∙ one_from era (omega (arith, c, m)) in
     record { fits = helpers_fit w.layout.config i f n.below; covers = loads_cover w v (Helper i) root era era s n.roots x (omega (arith, c)) (grind (arith, nat_tests)) u }
 
 -- a mover leaves the rows
@@ -285,7 +285,7 @@ same_passed w i v z k index s (Passed t j word l e) n h g x q a =
     let p : passed_to w.layout v.status j (z.deal k) s ≡ true = rw q (both (j == j) (leads l s && under v.status (root_at w.layout word)) (grind (arith, nat_tests)) (both (leads l s) (under v.status (root_at w.layout word)) (first_of (leads l s) (under (rows_after w i v).status (root_at w.layout word)) b) u)) in
     rw (sym y) (by (g.passed k j s p) (index_stays w i k j (w.seat i).phase (n.seats.fits i).post.seat refl (passed_own w i v z k t j word l e (k == i) refl n x q)))
   where
-    by : Holds w v (Index k j) s → (shown (step w i) (Index k j) ≡ shown w (Index k j)) ⊎ Handed w i k j → Holds (step w i) (rows_after w i v) (Index k j) s
+    by : Holds w v (Index k j) s → (eras_shown (step w i) (Index k j) ≡ eras_shown w (Index k j)) ⊎ Handed w i k j → Holds (step w i) (rows_after w i v) (Index k j) s
     by r (inl f) = holds_stay w i v (Index k j) s n.covers n.scans f r
     by r (inr f) = absurd (no_truth (handed_once w i v z k j t word l e n f q))
 

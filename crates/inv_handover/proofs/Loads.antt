@@ -25,7 +25,6 @@ use Rattle.inv_covers.specs.model.Calls.{Why, Phase, Runs}
 use Rattle.inv_requests.specs.Roles.{shows}
 use Rattle.inv_requests.specs.Views.{Deal}
 use Rattle.inv_covers.specs.rows.Rows.{Status}
-use Rattle.inv_covers.specs.Covers.{shown}
 use Rattle.inv_covers.specs.Held.{leads, under}
 use Rattle.inv_covers.specs.Tries.{starts_protect, starts_move, starts_base, is_start}
 use Rattle.inv_handover.specs.Helped.{open_by, turn_holds, move_holds, helper_holds}

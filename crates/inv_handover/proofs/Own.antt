@@ -31,7 +31,7 @@ use Rattle.inv_requests.specs.Views.{View as Asked}
 use Rattle.inv_covers.specs.rows.Rows.{Status, View}
 use Rattle.inv_covers.specs.rows.Agree.{rows_after}
 use Rattle.inv_covers.specs.rows.Queue.{in_queue}
-use Rattle.inv_covers.specs.Covers.{shown}
+use Rattle.inv_covers.specs.Covers.{eras_shown}
 use Rattle.inv_covers.specs.Held.{under, tries_protect, tries_base, index_base, Holds, Held, rests_protect}
 use Rattle.inv_covers.specs.Rests.{vacant_why, vacant, Vacant}
 use Rattle.inv_handover.specs.Helped.{Helped}
@@ -66,7 +66,7 @@ helped_holds w v k j s f h = subst (λ (g : Guard). Holds w v g s) (helped_guard
 -- a row that stands at an index whose word its own seat leaves
 pub stood_stays : (w : World) (i : ℕ) (v : View) (z : Asked) (k j s : ℕ) (phase : Phase) → helps w.layout.config.scheme ≡ true → HandoverNeeds w i v z → Held w v → (w.seat i).phase ≡ phase → own_index i phase k j ≡ false → stands (w.seat k).post j ≡ Some s → Holds (step w i) (rows_after w i v) (Index k j) s
 stood_stays w i v z k j s phase f n d e o y = by (index_stays w i k j phase (n.seats.fits i).post.seat e o) where
-  by : (shown (step w i) (Index k j) ≡ shown w (Index k j)) ⊎ Handed w i k j → Holds (step w i) (rows_after w i v) (Index k j) s
+  by : (eras_shown (step w i) (Index k j) ≡ eras_shown w (Index k j)) ⊎ Handed w i k j → Holds (step w i) (rows_after w i v) (Index k j) s
   by (inl q) = holds_stay w i v (Index k j) s n.covers n.scans q (helped_holds w v k j s f (d.stood k j s y))
   by (inr h) = absurd (no_truth (no_row (stands (w.seat k).post j) s (asker_rests w k j (link_number w.layout h.root) n.seats n.rests (handed_asker w i v z k j n h)) y))
 
@@ -74,7 +74,7 @@ stood_stays w i v z k j s phase f n d e o y = by (index_stays w i k j phase (n.s
 pub tried_stays : (w : World) (i : ℕ) (v : View) (z : Asked) (k : ℕ) (why : Why) (base : Base) (s : ℕ) (phase : Phase) → helps w.layout.config.scheme ≡ true → HandoverNeeds w i v z → Held w v → (w.seat i).phase ≡ phase → own_index i phase k (index_base base) ≡ false
     → (w.seat k).phase ≡ Runs why base → tries_base (w.mem Clock) v.status (w.seat k).post base s ≡ true → Holds (step w i) (rows_after w i v) (Index k (index_base base)) s
 tried_stays w i v z k why base s phase f n d e o q y = by (index_stays w i k (index_base base) phase (n.seats.fits i).post.seat e o) where
-  by : (shown (step w i) (Index k (index_base base)) ≡ shown w (Index k (index_base base))) ⊎ Handed w i k (index_base base) → Holds (step w i) (rows_after w i v) (Index k (index_base base)) s
+  by : (eras_shown (step w i) (Index k (index_base base)) ≡ eras_shown w (Index k (index_base base))) ⊎ Handed w i k (index_base base) → Holds (step w i) (rows_after w i v) (Index k (index_base base)) s
   by (inl x) = holds_stay w i v (Index k (index_base base)) s n.covers n.scans x (helped_holds w v k (index_base base) s f (d.tried k why base s q y))
   by (inr h) = absurd (no_truth (sym (asker_untried w v k (index_base base) (link_number w.layout h.root) why base s (handed_asker w i v z k (index_base base) n h) q) ∙ y))
 
@@ -121,7 +121,7 @@ load_holds w i v z why aim index root steps (LoadLink era tries) s f n e h =
     let c : w.mem Clock ≡ era = grind (arith, nat_tests) in
     let m = n.eras.some in
     let o = inside_of w i v z i why aim index root steps (LoadLink era tries) n e in
-    let x : shown w (Index i index) ≡ from_to era era = index_shows w i v z i index n ∙ ap one_era q ∙ one_from era (omega (arith, c, m)) in
+    let x : eras_shown w (Index i index) ≡ from_to era era = index_shows w i v z i index n ∙ ap one_era q ∙ one_from era (omega (arith, c, m)) in
     record { fits = index_fits w.layout.config i index f n.below (grind (arith, nat_tests)); covers = loads_cover w v (Index i index) root era era s n.roots x (omega (arith, c)) l u }
 load_holds w i v z why aim index root steps at s f n e h = absurd (cc)
 
@@ -129,9 +129,9 @@ load_holds w i v z why aim index root steps at s f n e h = absurd (cc)
 no_phase : (a b : Why) (era k tag j : ℕ) (root : Root) (link old : ℕ) (aim : Aim) (index : ℕ) (other : Root) (steps : ℕ) (at : ProtectAt) → Runs a (Move (HandOver era k tag j root link old)) ≡ Runs b (Protect aim index other steps at) → ⊥
 no_phase a b era k tag j root link old aim index other steps at q = cc
 
-still_index : (w : World) (i : ℕ) (v : View) (z : Asked) (why : Why) (aim : Aim) (index : ℕ) (root : Root) (steps : ℕ) (at : ProtectAt) (j : ℕ) → HandoverNeeds w i v z → (w.seat i).phase ≡ Runs why (Protect aim index root steps at) → stores_protect index at j ≡ false → shown (step w i) (Index i j) ≡ shown w (Index i j)
+still_index : (w : World) (i : ℕ) (v : View) (z : Asked) (why : Why) (aim : Aim) (index : ℕ) (root : Root) (steps : ℕ) (at : ProtectAt) (j : ℕ) → HandoverNeeds w i v z → (w.seat i).phase ≡ Runs why (Protect aim index root steps at) → stores_protect index at j ≡ false → eras_shown (step w i) (Index i j) ≡ eras_shown w (Index i j)
 still_index w i v z why aim index root steps at j n e o = by (index_stays w i i j (Runs why (Protect aim index root steps at)) (n.seats.fits i).post.seat e (own_stores i (stores_protect index at j) o)) where
-  by : (shown (step w i) (Index i j) ≡ shown w (Index i j)) ⊎ Handed w i i j → shown (step w i) (Index i j) ≡ shown w (Index i j)
+  by : (eras_shown (step w i) (Index i j) ≡ eras_shown w (Index i j)) ⊎ Handed w i i j → eras_shown (step w i) (Index i j) ≡ eras_shown w (Index i j)
   by (inl q) = q
   by (inr h) = absurd (no_phase h.why why h.era i h.tag j h.root h.link h.old aim index root steps at (sym h.is ∙ e))
 

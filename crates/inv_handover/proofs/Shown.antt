@@ -11,6 +11,7 @@ use Rattle.inv_covers.proofs.words.Parts.{read_reservation-halves}
 use Rattle.inv_covers.specs.defs.declared.event.Guard.{Guard}
 use Rattle.inv_covers.specs.defs.declared.event.Guard.TheVariants.{Helper, Index}
 use Rattle.inv_covers.specs.defs.declared.event.Root.{Root}
+use Rattle.inv_covers.specs.defs.Shown as values
 use Rattle.inv_covers.specs.model.Guards.{from_to, one_era, own_guard}
 use Rattle.inv_covers.specs.model.Links.{link_place, link_number, root_at}
 use Rattle.inv_covers.specs.model.Memory.{Move as Act, place_in, change}
@@ -33,14 +34,14 @@ use Rattle.inv_requests.specs.Views.{Deal, Role, View as Asked, Role as role}
 use Rattle.inv_requests.specs.Views.Deal.{Quiet, Open, Answered, Passed, Taken}
 use Rattle.inv_covers.specs.rows.Rows.{View}
 use Rattle.inv_covers.specs.rows.Agree.{rows_after}
-use Rattle.inv_covers.specs.Covers.{shown, CoversNeeds, GuardFits, Scanning}
+use Rattle.inv_covers.specs.Covers.{eras_shown, shown, CoversNeeds, GuardFits, Scanning}
 use Rattle.inv_covers.specs.Held.{leads, under, Holds}
 use Rattle.inv_covers.proofs.Words.{widens_same}
 use Rattle.inv_handover.specs.Helped.{answered_from, passed_to, Helped}
 use Rattle.inv_handover.specs.Handover.{HandoverNeeds}
 use Rattle.inv_covers.proofs.Held.{move_is}
 use Rattle.inv_covers.proofs.Kept.{covers_kept}
-use Rattle.inv_covers.proofs.Guards.{guards_fit, handed_kept}
+use Rattle.inv_covers.proofs.Guards.{guards_fit, helpers_first, handed_kept}
 use Rattle.inv_handover.proofs.Asks.{fits_at}
 use Rattle.inv_handover.proofs.Back.{inside_of}
 use Rattle.inv_handover.proofs.Deals.{mark_few, handed_deal}
@@ -50,12 +51,12 @@ use Rattle.inv_covers.proofs.model.Facts.{rest_of}
 use Rattle.inv_covers.proofs.model.Schemes.{index_guard}
 use Rattle.inv_covers.proofs.words.Schemes.{helps_not_interval}
 
-pub helper_shows : (w : World) (z : Asked) (k : ℕ) → Requests w z → shown w (Helper k) ≡ one_era (z.helper k)
+pub helper_shows : (w : World) (z : Asked) (k : ℕ) → Requests w z → eras_shown w (Helper k) ≡ one_era (z.helper k)
 helper_shows w z k q =
     let e = ap read_reservation (q.words.helpers k) ∙ read_reservation-halves (z.helper k) 0 (omega arith) in
     ap (λ (r : Reservation). one_era r.era) e
 
-pub index_shows : (w : World) (i : ℕ) (v : View) (z : Asked) (k j : ℕ) → HandoverNeeds w i v z → shown w (Index k j) ≡ one_era (z.era k j)
+pub index_shows : (w : World) (i : ℕ) (v : View) (z : Asked) (k j : ℕ) → HandoverNeeds w i v z → eras_shown w (Index k j) ≡ one_era (z.era k j)
 index_shows w i v z k j n =
     let e = ap read_reservation (n.requests.words.indexes k j) ∙ read_reservation-halves (z.era k j) (z.mark k j) (mark_few w i v z k j n) in
     ap (λ (r : Reservation). one_era r.era) e
@@ -70,8 +71,8 @@ pub index_fits : (config : Config) (k j : ℕ) → helps config.scheme ≡ true 
 index_fits config k j f a b = subst (λ (g : Guard). GuardFits config g) (helped_guard config.scheme k j f) (guards_fit config k j a b)
 
 -- what is held stays held while the word is the same
-pub holds_stay : (w : World) (i : ℕ) (v : View) (guard : Guard) (s : ℕ) → CoversNeeds w i v → Scanning w → shown (step w i) guard ≡ shown w guard → Holds w v guard s → Holds (step w i) (rows_after w i v) guard s
-holds_stay w i v guard s n u e h = record { fits = h.fits; covers = covers_kept w i v guard s n u h.fits (widens_same (shown w guard) (shown (step w i) guard) e) h.covers }
+pub holds_stay : (w : World) (i : ℕ) (v : View) (guard : Guard) (s : ℕ) → CoversNeeds w i v → Scanning w → eras_shown (step w i) guard ≡ eras_shown w guard → Holds w v guard s → Holds (step w i) (rows_after w i v) guard s
+holds_stay w i v guard s n u e h = record { fits = h.fits; covers = covers_kept w i v guard s n u h.fits (widens_same (shown w guard) (shown (step w i) guard) (ap values.shown e)) h.covers }
 
 -- the word that the step leaves at its place
 moved_word : (w : World) (i : ℕ) (phase : Phase) → (w.seat i).phase ≡ phase → (step w i).mem (place_in (phase_move phase (w.seat i).post)) ≡ change (phase_move phase (w.seat i).post) (w.mem (place_in (phase_move phase (w.seat i).post)))
@@ -81,7 +82,7 @@ read_era : (word era tag : ℕ) → word ≡ halves era tag → tag < 2 ^ 32 →
 read_era word era tag e f = ap (λ (r : Reservation). one_era r.era) (ap read_reservation e ∙ read_reservation-halves era tag f)
 
 -- after the hand-over
-hand_shown : (w : World) (i : ℕ) (v : View) (z : Asked) (k j : ℕ) → HandoverNeeds w i v z → (h : Handed w i k j) → h.tag + 1 < 2 ^ 32 → shown (step w i) (Index k j) ≡ one_era h.era
+hand_shown : (w : World) (i : ℕ) (v : View) (z : Asked) (k j : ℕ) → HandoverNeeds w i v z → (h : Handed w i k j) → h.tag + 1 < 2 ^ 32 → eras_shown (step w i) (Index k j) ≡ one_era h.era
 hand_shown w i v z k j n h f =
     let e : (step w i).mem (places.Index k j) ≡ (if w.mem (places.Index k j) == halves h.old h.tag then halves h.era (h.tag + 1) else w.mem (places.Index k j)) = moved_word w i (Runs h.why (Move (HandOver h.era k h.tag j h.root h.link h.old))) h.is in
     read_era ((step w i).mem (places.Index k j)) h.era (h.tag + 1) (rw h.same at e) f
@@ -91,11 +92,11 @@ no_store i k = grind (arith, nat_tests)
 
 -- what a helper's word covered, the index word covers
 pub over_holds : (w : World) (i : ℕ) (v : View) (z : Asked) (m k j s era : ℕ) → helps w.layout.config.scheme ≡ true → HandoverNeeds w i v z → m < w.layout.config.seats → k < w.layout.config.seats → j < w.layout.config.indexes
-    → shown (step w i) (Helper m) ≡ shown w (Helper m) → z.helper m ≡ era → shown (step w i) (Index k j) ≡ one_era era → Holds w v (Helper m) s → Holds (step w i) (rows_after w i v) (Index k j) s
+    → eras_shown (step w i) (Helper m) ≡ eras_shown w (Helper m) → z.helper m ≡ era → eras_shown (step w i) (Index k j) ≡ one_era era → Holds w v (Helper m) s → Holds (step w i) (rows_after w i v) (Index k j) s
 over_holds w i v z m k j s era f n b c d e q r h = record {
   fits = index_fits w.layout.config k j f c d;
-  covers = handed_kept w i v m k j s f n.covers n.scans b (widens_same (shown w (Helper m)) (shown (step w i) (Helper m)) e)
-      (r ∙ sym (e ∙ helper_shows w z m n.requests ∙ ap one_era q)) h.covers;
+  covers = handed_kept w i v (Helper m) (Index k j) s n.covers n.scans h.fits (helpers_first w.layout.config m k j f b) (widens_same (shown w (Helper m)) (shown (step w i) (Helper m)) (ap values.shown e))
+      (ap values.shown (r ∙ sym (e ∙ helper_shows w z m n.requests ∙ ap one_era q))) h.covers;
 }
 
 pub handed_holds : (w : World) (i : ℕ) (v : View) (z : Asked) (k j s : ℕ) → helps w.layout.config.scheme ≡ true → HandoverNeeds w i v z → Helped w v z.deal → (h : Handed w i k j) → leads h.link s ≡ true → under v.status (root_at w.layout (link_number w.layout h.root)) ≡ true
@@ -116,7 +117,7 @@ handed_holds w i v z k j s f n d h l u =
     (grind (arith, nat_tests)) (hand_shown w i v z k j n h g) (d.answered k i s a)
 
 -- after the taking
-take_shown : (w : World) (i : ℕ) (v : View) (z : Asked) (why : Why) (aim : Aim) (index : ℕ) (root : Root) (steps link era : ℕ) → HandoverNeeds w i v z → (w.seat i).phase ≡ Runs why (Protect aim index root steps (TakeAnswer link era)) → shown (step w i) (Index i index) ≡ one_era era
+take_shown : (w : World) (i : ℕ) (v : View) (z : Asked) (why : Why) (aim : Aim) (index : ℕ) (root : Root) (steps link era : ℕ) → HandoverNeeds w i v z → (w.seat i).phase ≡ Runs why (Protect aim index root steps (TakeAnswer link era)) → eras_shown (step w i) (Index i index) ≡ one_era era
 take_shown w i v z why aim index root steps link era n e =
     let r = stands_as w z i (Runs why (Protect aim index root steps (TakeAnswer link era))) n.requests e in
     let p : nat_lt (z.tag i index + 1) era ≡ true = rw r at (n.requests.parts.spare i) in

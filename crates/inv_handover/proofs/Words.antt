@@ -8,7 +8,7 @@ use Rattle.inv_covers.specs.defs.declared.event.Guard.{Guard}
 use Rattle.inv_covers.specs.defs.declared.event.Guard.TheVariants.{Helper, Index}
 use Rattle.inv_covers.specs.defs.declared.event.Root.{Root}
 use Rattle.inv_covers.specs.model.declared.post.Post.{Post}
-use Rattle.inv_covers.specs.model.Guards.{guard_place, published}
+use Rattle.inv_covers.specs.model.Guards.{guard_place, eras_in}
 use Rattle.inv_covers.specs.model.Memory.{Move as Act, written}
 use Rattle.inv_covers.specs.model.Phases.{ProtectAt, MoveAt, Base}
 use Rattle.inv_covers.specs.model.Phases.BeginAt.{LoadLower, PublishSpan}
@@ -27,8 +27,8 @@ use Rattle.inv_covers.specs.model.Steps.{work_move}
 use Rattle.inv_covers.specs.model.Calls.{ChangeKept, EnqueueKept, ScanAt, ReadGuard, GiveBack, GetAt, FindVersion, ChangeAt, LoadVersion, EnqueueAt, LoadNumber, DequeueAt, LoadTail, Work, Getting, Changing, Enqueuing, Dequeuing, Why, Phase, Idle, Runs, Scans, Works}
 use Rattle.inv_covers.specs.model.World.{World, step}
 use Rattle.inv_requests.specs.Roles.{shows}
-use Rattle.inv_covers.specs.Covers.{shown}
-use Rattle.inv_covers.proofs.Words.{keeps, shown_kept, allocate_index, retire_index, work_index, scan_index}
+use Rattle.inv_covers.specs.Covers.{eras_shown}
+use Rattle.inv_covers.proofs.Words.{keeps, eras_kept, allocate_index, retire_index, work_index, scan_index}
 use Rattle.inv_covers.proofs.Held.{move_is, keeps_at}
 
 -- the own step stores the index word of this index, or the own helper word
@@ -113,13 +113,13 @@ pub record Handed (w : World) (i k j : ℕ) : Type 0 where
   pub is : (w.seat i).phase ≡ Runs why (Move (HandOver era k tag j root link old))
   pub same : (w.mem (places.Index k j) == halves old tag) ≡ true
 
-same_shown : (w : World) (i : ℕ) (guard : Guard) → (step w i).mem (guard_place guard) ≡ w.mem (guard_place guard) → shown (step w i) guard ≡ shown w guard
-same_shown w i guard h = ap (published guard) h
+same_shown : (w : World) (i : ℕ) (guard : Guard) → (step w i).mem (guard_place guard) ≡ w.mem (guard_place guard) → eras_shown (step w i) guard ≡ eras_shown w guard
+same_shown w i guard h = ap (eras_in guard) h
 
 handed_word : (w : World) (i k j : ℕ) (why : Why) (era m tag l : ℕ) (root : Root) (link old : ℕ) (own same : Bool) → (w.seat i).phase ≡ Runs why (Move (HandOver era m tag l root link old)) → (k == m && j == l) ≡ own → (w.mem (places.Index m l) == halves old tag) ≡ same
-    → (shown (step w i) (Index k j) ≡ shown w (Index k j)) ⊎ Handed w i k j
+    → (eras_shown (step w i) (Index k j) ≡ eras_shown w (Index k j)) ⊎ Handed w i k j
 handed_word w i k j why era m tag l root link old false same e o s =
-    inl (shown_kept w i (Index k j) (keeps_at w i (Runs why (Move (HandOver era m tag l root link old))) (places.Index k j) e (rw o refl)))
+    inl (eras_kept w i (Index k j) (keeps_at w i (Runs why (Move (HandOver era m tag l root link old))) (places.Index k j) e (rw o refl)))
 handed_word w i k j why era m tag l root link old true true e o s =
     let p : k ≡ m = grind (arith, nat_tests) in
     let q : j ≡ l = grind (arith, nat_tests) in
@@ -133,12 +133,12 @@ handed_word w i k j why era m tag l root link old true false e o s =
     stays p q = rw (o, s) (cc)
 
 -- an index word stays unless its own seat stores it, or an answer is handed over to it
-pub index_stays : (w : World) (i k j : ℕ) (phase : Phase) → (w.seat i).post.seat ≡ i → (w.seat i).phase ≡ phase → own_index i phase k j ≡ false → (shown (step w i) (Index k j) ≡ shown w (Index k j)) ⊎ Handed w i k j
-index_stays w i k j Idle n e h = inl (shown_kept w i (Index k j) (keeps_at w i Idle (places.Index k j) e refl))
-index_stays w i k j (Scans later at) n e h = inl (shown_kept w i (Index k j) (keeps_at w i (Scans later at) (places.Index k j) e (scan_index k j at (w.seat i).post)))
-index_stays w i k j (Works work) n e h = inl (shown_kept w i (Index k j) (keeps_at w i (Works work) (places.Index k j) e (work_index k j work (w.seat i).post)))
+pub index_stays : (w : World) (i k j : ℕ) (phase : Phase) → (w.seat i).post.seat ≡ i → (w.seat i).phase ≡ phase → own_index i phase k j ≡ false → (eras_shown (step w i) (Index k j) ≡ eras_shown w (Index k j)) ⊎ Handed w i k j
+index_stays w i k j Idle n e h = inl (eras_kept w i (Index k j) (keeps_at w i Idle (places.Index k j) e refl))
+index_stays w i k j (Scans later at) n e h = inl (eras_kept w i (Index k j) (keeps_at w i (Scans later at) (places.Index k j) e (scan_index k j at (w.seat i).post)))
+index_stays w i k j (Works work) n e h = inl (eras_kept w i (Index k j) (keeps_at w i (Works work) (places.Index k j) e (work_index k j work (w.seat i).post)))
 index_stays w i k j (Runs why (Move (HandOver era m tag l root link old))) n e h = handed_word w i k j why era m tag l root link old (k == m && j == l) (w.mem (places.Index m l) == halves old tag) e refl refl
-index_stays w i k j (Runs why base) n e h = inl (shown_kept w i (Index k j) (keeps_at w i (Runs why base) (places.Index k j) e (base_keeps k j base (w.seat i).post (rw n h) refl)))
+index_stays w i k j (Runs why base) n e h = inl (eras_kept w i (Index k j) (keeps_at w i (Runs why base) (places.Index k j) e (base_keeps k j base (w.seat i).post (rw n h) refl)))
 
 -- helper words
 protect_shows : (k : ℕ) (index : ℕ) (root : Root) (at : ProtectAt) (post : Post) → (k == post.seat && shows_protect at) ≡ false → keeps (protect_move index root at post) (places.Helper k) ≡ true
@@ -195,8 +195,8 @@ scan_shows k (ReadGuard number) post = refl
 scan_shows k (GiveBack place slot) post = refl
 
 -- a helper word stays unless its own seat stores it
-pub helper_stays : (w : World) (i k : ℕ) (phase : Phase) → (w.seat i).post.seat ≡ i → (w.seat i).phase ≡ phase → own_helper i phase k ≡ false → shown (step w i) (Helper k) ≡ shown w (Helper k)
-helper_stays w i k Idle n e h = shown_kept w i (Helper k) (keeps_at w i Idle (places.Helper k) e refl)
-helper_stays w i k (Scans later at) n e h = shown_kept w i (Helper k) (keeps_at w i (Scans later at) (places.Helper k) e (scan_shows k at (w.seat i).post))
-helper_stays w i k (Works work) n e h = shown_kept w i (Helper k) (keeps_at w i (Works work) (places.Helper k) e (work_shows k work (w.seat i).post))
-helper_stays w i k (Runs why base) n e h = shown_kept w i (Helper k) (keeps_at w i (Runs why base) (places.Helper k) e (base_shows k base (w.seat i).post (rw n h)))
+pub helper_stays : (w : World) (i k : ℕ) (phase : Phase) → (w.seat i).post.seat ≡ i → (w.seat i).phase ≡ phase → own_helper i phase k ≡ false → eras_shown (step w i) (Helper k) ≡ eras_shown w (Helper k)
+helper_stays w i k Idle n e h = eras_kept w i (Helper k) (keeps_at w i Idle (places.Helper k) e refl)
+helper_stays w i k (Scans later at) n e h = eras_kept w i (Helper k) (keeps_at w i (Scans later at) (places.Helper k) e (scan_shows k at (w.seat i).post))
+helper_stays w i k (Works work) n e h = eras_kept w i (Helper k) (keeps_at w i (Works work) (places.Helper k) e (work_shows k work (w.seat i).post))
+helper_stays w i k (Runs why base) n e h = eras_kept w i (Helper k) (keeps_at w i (Runs why base) (places.Helper k) e (base_shows k base (w.seat i).post (rw n h)))

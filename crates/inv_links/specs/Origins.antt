@@ -1,16 +1,18 @@
 -- What was true of a root and a link when the link was loaded stays true of them as long as the link is tracked.
-use Rattle.std.specs.Prelude.{ℕ, ◌≡◌, ◌<◌, ◌+◌, Bool, true, false, Some}
+use Rattle.std.specs.Prelude.{ℕ, ◌≡◌, ◌<◌, ◌+◌, ◌==◌, ◌&&◌, Bool, true, false, Option, Some, None}
 use Rattle.inv_covers.specs.words.Place.{is_valid}
 use Rattle.inv_covers.specs.words.Packed.{read_request}
 use Rattle.inv_covers.specs.words.declared.layout.Layout.{Layout}
 use Rattle.inv_covers.specs.words.declared.packed.Request.TheVariants as requests
 use Rattle.inv_covers.specs.defs.declared.call.Call.{Call}
 use Rattle.inv_covers.specs.defs.declared.event.Root.{Root}
+use Rattle.inv_covers.specs.model.declared.ends.FollowEnd.TheVariants as follow_ends
 use Rattle.inv_covers.specs.model.declared.ends.ProtectEnd.TheVariants as protect_ends
 use Rattle.inv_covers.specs.model.Links.{link_place}
 use Rattle.inv_covers.specs.model.Machine.{after}
-use Rattle.inv_covers.specs.model.Posts.{counted}
-use Rattle.inv_covers.specs.model.Phases.{Aim, ProtectAt, MoveAt, Base, Ends, Protected}
+use Rattle.inv_covers.specs.model.declared.post.Post.{Post}
+use Rattle.inv_covers.specs.model.Posts.{counted, upper}
+use Rattle.inv_covers.specs.model.Phases.{Aim, ProtectAt, MoveAt, Base, Ending, Ends, Followed, Protected}
 use Rattle.inv_covers.specs.model.Phases.ProtectAt.{LoadClock, PublishEra, LoadLink, CheckClock, PublishRequest, LoadOwnClock, PublishHelper, LoadOwnLink, CheckOwnClock, AnswerOwn, LoadAnswer, TakeAnswer, WithdrawRequest, WithdrawHelper, LoadWithin, CheckUpper, RaiseUpper}
 use Rattle.inv_covers.specs.model.Phases.MoveAt.{LoadEra, LoadRequest, ShowEra, LoadAsked}
 use Rattle.inv_covers.specs.model.Phases.Base.{Begin, Protect, Reload, Clear, Finish, Release, Allocate, Write, GiveUp, Retire, Move}
@@ -129,21 +131,48 @@ OriginsStart =
     → ((k : ℕ) → z.deal k ≡ Quiet)
     → Origins good (start layout) z
 
--- a protection ends with a link that was tracked
-abbrev pub HeldTracked : Type 0
-HeldTracked =
-    (w : World) (i : ℕ) (z : View) (why : Why) (base : Base) (slot era : ℕ)
+-- the link with which a protection, or a follow that finds no next row, ends; other machines end with none
+abbrev pub link_of : Ending → Option ℕ
+link_of (Protected (protect_ends.Held slot era)) = Some (slot + 1)
+link_of (Protected protect_ends.Null) = Some 0
+link_of (Followed follow_ends.NoNext) = Some 0
+link_of ending = None
+
+-- the step at which it is over, with the link x
+abbrev pub ends_at : Post → ProtectAt → (found x : ℕ) → Bool
+ends_at post (CheckClock era tries link) found x = (found == era) && (link == x)
+ends_at post (WithdrawHelper link era) found x = link == x
+ends_at post (CheckUpper link) found x = (found == upper post.span) && (link == x)
+ends_at post at found x = false
+
+abbrev pub ends_base : Post → Base → (found x : ℕ) → Bool
+ends_base post (Protect aim index root steps at) found x = ends_at post at found x
+ends_base post base found x = false
+
+abbrev pub EndsWith : Type 0
+EndsWith =
+    (base : Base) (post : Post) (found : ℕ) (ending : Ending) (link : ℕ)
+    → (after base post found).outcome ≡ Ends ending
+    → link_of ending ≡ Some link
+    → ends_base post base found link ≡ true
+
+-- that link was tracked
+abbrev pub EndTracked : Type 0
+EndTracked =
+    (w : World) (i : ℕ) (z : View) (why : Why) (base : Base) (ending : Ending) (link : ℕ)
     → (w.seat i).phase ≡ Runs why base
-    → (after base (counted (w.seat i).post) (finds w i)).outcome ≡ Ends (Protected (protect_ends.Held slot era))
-    → Tracked w z i (slot + 1)
+    → (after base (counted (w.seat i).post) (finds w i)).outcome ≡ Ends ending
+    → link_of ending ≡ Some link
+    → Tracked w z i link
 
 -- and it is one of the root that its call is after
-abbrev pub HeldRoot : Type 0
-HeldRoot =
-    (w : World) (i : ℕ) (why : Why) (base : Base) (slot era : ℕ)
+abbrev pub EndRoot : Type 0
+EndRoot =
+    (w : World) (i : ℕ) (why : Why) (base : Base) (ending : Ending) (link : ℕ)
     → Seats w
     → (w.seat i).phase ≡ Runs why base
-    → (after base (counted (w.seat i).post) (finds w i)).outcome ≡ Ends (Protected (protect_ends.Held slot era))
+    → (after base (counted (w.seat i).post) (finds w i)).outcome ≡ Ends ending
+    → link_of ending ≡ Some link
     → root_in w i ≡ root_by w.layout.config.buckets why
 
 -- the link of an answer that a seat finds in its request is tracked too

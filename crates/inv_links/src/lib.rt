@@ -3,7 +3,7 @@
 #![tactic(auto)]
 
 ghost use Rattle.inv_links.specs.Links.{HeldLinksStay, LinksBegin, LinksGive, LinksKept, LinksStart, TrackedTried};
-ghost use Rattle.inv_links.specs.Origins.{AnswerTracked, HeldRoot, HeldTracked, OriginsBegin, OriginsKept, OriginsStart, TrackedCame};
+ghost use Rattle.inv_links.specs.Origins.{AnswerTracked, EndRoot, EndTracked, EndsWith, OriginsBegin, OriginsKept, OriginsStart, TrackedCame};
 
 /// A link that is tracked for a seat after a step was tracked before, for the same root, or the step
 /// loads it from that root. Tracked are the links that the seat's protection carries while their era
@@ -21,11 +21,12 @@ pub fn origins_hold()
     ensures step { OriginsKept }
 {}
 
-/// A protection that holds a row ends with a link that was tracked, for the root that its call is
-/// after, and the answer that a seat finds in its request is a link that was tracked.
+/// A protection ends where it has checked a link, and that link was tracked, for the root that its
+/// call is after: to the row that it holds, or null. And the answer that a seat finds in its request is a link that was tracked.
 pub fn ends_are_tracked()
-    ensures held { HeldTracked }
-    ensures root { HeldRoot }
+    ensures ends { EndsWith }
+    ensures tracked { EndTracked }
+    ensures root { EndRoot }
     ensures answers { AnswerTracked }
 {}
 

@@ -24,7 +24,7 @@ use Rattle.inv_shapes.specs.model.Phases.Base.{Protect}
 use Rattle.inv_shapes.specs.defs.declared.event.Root.TheVariants as root_names
 use Rattle.inv_shapes.specs.words.declared.config.Config.{Config}
 use Rattle.inv_shapes.specs.words.declared.layout.Layout.{Layout}
-use Rattle.std.proofs.lemmas.List.{get_or-set_same, get_or-set_other}
+use Rattle.std.proofs.lemmas.List.{get_or-set_other}
 use Rattle.inv_requests.proofs.Turns.{upd_all, upd_here, upd_there, same_deals}
 use Rattle.inv_requests.specs.Heard.{Heard}
 use Rattle.inv_requests.proofs.Asking.{inside, root_there, concluded_rests}

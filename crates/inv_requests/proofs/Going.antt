@@ -1,7 +1,5 @@
 -- The turns of a seat that is at a step, by the role that it comes to.
-use Rattle.std.proofs.Common.{ℕ, ◌≡◌, ◌<◌, ◌^◌, Bool, true, false, List, arith, refl, sym, ap, subst, ◌∙◌}
-use Rattle.std.proofs.lemmas.Bool.Decides.{nat_tests}
-use Rattle.std.specs.Prelude.{◌==◌, if◌then◌else◌}
+use Rattle.std.proofs.Common.{ℕ, ◌≡◌, ◌<◌, ◌^◌, true, List, arith, refl, sym, ap, subst, ◌∙◌}
 use Rattle.inv_shapes.specs.words.Place.{Place, has}
 use Rattle.inv_shapes.proofs.words.Numbers.{number_below, words_few}
 use Rattle.inv_shapes.specs.words.declared.config.Config.{Config}

@@ -1,7 +1,7 @@
 -- Each step of each seat keeps what holds of requests.
 use Rattle.std.proofs.Common.{ℕ, ◌≡◌, ◌≤◌, ◌<◌, ◌+◌, true, false, arith, refl, sym, ap, subst, ◌∙◌}
 use Rattle.std.proofs.lemmas.Bool.Decides.{nat_tests}
-use Rattle.std.specs.Prelude.{◌&&◌, nat_lt, ◌%◌}
+use Rattle.std.specs.Prelude.{◌&&◌, nat_lt}
 use Rattle.inv_shapes.specs.words.Place.{Place, has, is_valid}
 use Rattle.inv_shapes.specs.words.Place.Place.{Clock, Helper, Index, Request}
 use Rattle.inv_shapes.specs.defs.declared.event.Root.{Root}

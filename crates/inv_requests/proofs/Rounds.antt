@@ -12,6 +12,7 @@ use Rattle.inv_shapes.specs.defs.declared.event.Event.{Event}
 use Rattle.inv_shapes.specs.defs.declared.event.Event.TheVariants as events
 use Rattle.inv_shapes.specs.defs.declared.event.Root.TheVariants as root_names
 use Rattle.inv_shapes.specs.defs.declared.lifetime.Interval.{Interval}
+use Rattle.inv_shapes.specs.defs.Shown.{shown}
 use Rattle.inv_shapes.specs.model.declared.ends.AllocateEnd.{AllocateEnd}
 use Rattle.inv_shapes.specs.model.declared.ends.AllocateEnd.TheVariants as allocate_ends
 use Rattle.inv_shapes.specs.model.declared.ends.FollowEnd.{FollowEnd}
@@ -19,7 +20,7 @@ use Rattle.inv_shapes.specs.model.declared.ends.FollowEnd.TheVariants as follow_
 use Rattle.inv_shapes.specs.model.declared.ends.ProtectEnd.TheVariants as protect_ends
 use Rattle.inv_shapes.specs.model.declared.post.Post.{Post}
 use Rattle.inv_shapes.specs.model.Desks.{Desk, with_life}
-use Rattle.inv_shapes.specs.model.Guards.{guards, guard_at, published}
+use Rattle.inv_shapes.specs.model.Guards.{guards, guard_at, eras_in}
 use Rattle.inv_shapes.specs.model.Posts.{stands}
 use Rattle.inv_shapes.specs.model.Phases.{Base, Ending}
 use Rattle.inv_shapes.specs.model.Phases.Ending.{Done, Protected, Followed, Allocated, Retired, Clocked}
@@ -188,8 +189,8 @@ reading_guard_stands later number post desk told false = giving_back_stands late
 pub scan_turn_stands : (later : AfterScan) (at : ScanAt) (post : Post) (desk : Desk) (found : ℕ) → TurnStands (scan.scan_turn later at post desk found)
 scan_turn_stands later (ReadGuard number) post desk found =
     let guard = guard_at post.layout.config number in
-    let span = published guard found in
-    reading_guard_stands later number post (scan.with_read desk number (guard, span)) (events.Read guard span ∷ []) (nat_lt (number + 1) (guards post.layout.config))
+    let span = eras_in guard found in
+    reading_guard_stands later number post (scan.with_read desk number (guard, shown span)) (events.Read guard span ∷ []) (nat_lt (number + 1) (guards post.layout.config))
 scan_turn_stands later (GiveBack place slot) post desk found =
     giving_back_stands later post (scan.with_back desk place) (events.Back slot ∷ []) (scan.unmet_from (scan.with_back desk place) place)
 

@@ -1,7 +1,7 @@
 -- Inside a machine the parent of a followed link stands on, and what was protected stands.
 use Rattle.std.proofs.Common.{ℕ, ◌≡◌, ◌<◌, ◌+◌, Bool, true, false, [], ◌∷◌, length, arith, refl, sym, ap, subst, ◌∙◌}
 use Rattle.std.proofs.lemmas.Bool.Decides.{nat_tests}
-use Rattle.std.proofs.lemmas.List.{get_or-set_same, get_or-set_other}
+use Rattle.std.proofs.lemmas.List.{get_or-set_other}
 use Rattle.std.specs.Prelude.{◌==◌, ◌-◌, nat_le, if◌then◌else◌, Option, Some, None}
 use Rattle.inv_shapes.specs.words.Packed.{read_request}
 use Rattle.inv_shapes.specs.words.declared.layout.Layout.{Layout}

@@ -1,7 +1,6 @@
 -- The call's own steps, and each step of a seat.
-use Rattle.std.proofs.Common.{ℕ, ◌+◌, ◌-◌, ◌≡◌, Bool, true, false, arith, refl, ap, ◌∙◌, sym, length}
-use Rattle.std.proofs.lemmas.Bool.Decides.{nat_tests}
-use Rattle.std.specs.Prelude.{◌==◌, nat_lt, if◌then◌else◌, Option, Some, None}
+use Rattle.std.proofs.Common.{ℕ, ◌+◌, ◌-◌, ◌≡◌, Bool, true, false, refl, ◌∙◌, sym, length}
+use Rattle.std.specs.Prelude.{◌==◌, nat_lt, if◌then◌else◌}
 use Rattle.wfe_core.specs.defs.declared.call.Answer.TheVariants as the_answers
 use Rattle.wfe_core.specs.declared.post.Post.{Post}
 use Rattle.wfe_core.specs.Desks.{Desk}
@@ -12,7 +11,7 @@ use Rattle.wfe_core.specs.Enqueue as enqueues
 use Rattle.wfe_core.specs.Dequeue as dequeues
 use Rattle.wfe_core.specs.Calls.{ChangeKept, EnqueueKept, Enqueues, Again, Answering, Why, Opens, FollowsHead, Fills, ClearsNext, Clears, Finishes, GivesUp, Retires, Tidies, Advances, Releases, GetAt, FindVersion, FindCount, FindKey, FindValue, ChangeAt, LoadVersion, LoadCount, LoadKey, LoadValue, ExchangeRoot, EnqueueAt, LoadNumber, LoadNext, PassTail, ExchangeNext, ExchangeTail, DequeueAt, LoadTail, SwingTail, TakeNumber, TakeValue, ExchangeHead, Work, Getting, Changing, Enqueuing, Dequeuing, Phase, Idle, Runs, Scans, Works}
 use Rattle.inv_rows.specs.Rows.Hand.{Empty, Taken, Old}
-use Rattle.inv_rows.specs.Hands.{hand_of, holds_slot, base_row, row_move, linked_row, change_row, enqueue_row, dequeue_row, work_row}
+use Rattle.inv_rows.specs.Hands.{base_row, row_move, linked_row, change_row, enqueue_row, dequeue_row, work_row}
 use Rattle.wfe_core.specs.words.Place.{Place}
 use Rattle.wfe_core.specs.words.Place.Place.{Clock, Bucket, Head, Tail, Row}
 use Rattle.wfe_core.specs.Memory as memory

@@ -27,6 +27,7 @@ use Rattle.wfe_core.specs.Scan as scan
 use Rattle.wfe_core.specs.Steps as steps
 use Rattle.wfe_core.specs.Calls.{ChangeKept, Task, Gets, Changes, Holds, Enqueues, Dequeues, Next, Again, MakeRoom, Answering, Retiring, AfterScan, Answered, Repeated, Counted, Why, Opens, FollowsHead, Fills, ClearsNext, Clears, Finishes, GivesUp, Retires, Tidies, Advances, Releases, ScanAt, ReadGuard, GiveBack, GetAt, FindVersion, FindCount, FindKey, FindValue, ChangeAt, LoadVersion, LoadCount, LoadKey, LoadValue, ExchangeRoot, Work, Getting, Changing, Enqueuing, Dequeuing, Phase, Idle, Runs, Scans, Works, CallTurn, CallOutcome, GoesOn}
 use Rattle.wfe_core.specs.defs.declared.event.Guard.{Guard}
+use Rattle.wfe_core.specs.defs.Shown.{shown}
 use Rattle.wfe_core.specs.Guards as the_guards
 use Rattle.wfe_core.specs.Calls as calls
 use Rattle.inv_rows.specs.Queue.{Line, Walks}
@@ -237,10 +238,10 @@ read_more_quiet later number post desk told true = refl
 read_more_quiet later number post desk told false = giving_back_quiet later post desk told (scan.unmet_from desk 0)
 
 read_quiet : (later : AfterScan) (number : ℕ) (post : Post) (desk : Desk) (guard : Guard) (span : Option Interval) → Quiet (scan.read_guard later number post desk guard span)
-read_quiet later number post desk guard span = read_more_quiet later number post (scan.with_read desk number (guard, span)) (events.Read guard span ∷ []) (nat_lt (number + 1) (the_guards.guards post.layout.config))
+read_quiet later number post desk guard span = read_more_quiet later number post (scan.with_read desk number (guard, shown span)) (events.Read guard span ∷ []) (nat_lt (number + 1) (the_guards.guards post.layout.config))
 
 pub scan_quiet : (later : AfterScan) (at : ScanAt) (post : Post) (desk : Desk) (found : ℕ) → Quiet (scan.scan_turn later at post desk found)
-scan_quiet later (ReadGuard number) post desk found = read_quiet later number post desk (the_guards.guard_at post.layout.config number) (the_guards.published (the_guards.guard_at post.layout.config number) found)
+scan_quiet later (ReadGuard number) post desk found = read_quiet later number post desk (the_guards.guard_at post.layout.config number) (the_guards.eras_in (the_guards.guard_at post.layout.config number) found)
 scan_quiet later (GiveBack place slot) post desk found = giving_back_quiet later post (scan.with_back desk place) (events.Back slot ∷ []) (scan.unmet_from (scan.with_back desk place) place)
 
 pub opened_null_quiet : (task : Task) (post : Post) (desk : Desk) (told : List Event) → Quiet (steps.opened_null task post desk told)

@@ -1,5 +1,5 @@
 -- One step of a seat, by the phase in which it stands.
-use Rattle.std.proofs.Common.{ℕ, ◌≤◌, ◌+◌, ◌<◌, ◌/◌, ◌%◌, ◌≡◌, Bool, true, false, arith, refl, ap, ◌∙◌, sym, List, [], ◌∷◌, ◌++◌}
+use Rattle.std.proofs.Common.{ℕ, ◌≤◌, ◌+◌, ◌<◌, ◌%◌, ◌≡◌, Bool, true, false, arith, refl, ap, ◌∙◌, sym, List, [], ◌∷◌, ◌++◌}
 use Rattle.std.proofs.lemmas.Bool.Decides.{nat_tests}
 use Rattle.std.specs.Prelude.{◌==◌, if◌then◌else◌, Option, Some, None}
 use Rattle.wfe_core.specs.defs.declared.call.Answer.{Answer}
@@ -479,6 +479,6 @@ did_scans slots i mem v later (ReadGuard number) post next desk g w p =
     next
     desk
     (the_guards.guard_at next.layout.config number)
-    (the_guards.published (the_guards.guard_at next.layout.config number) (mem (the_guards.guard_place (the_guards.guard_at post.layout.config number)))))
+    (the_guards.eras_in (the_guards.guard_at next.layout.config number) (mem (the_guards.guard_place (the_guards.guard_at post.layout.config number)))))
 did_scans slots i mem v later (GiveBack place slot) post next desk g w p =
     did_returns slots i mem v later place slot next desk (mem (Claim (claim_word slot))) g w p

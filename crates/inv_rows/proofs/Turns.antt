@@ -1,6 +1,7 @@
 -- The steps of a call's own and those of a scan, and what comes after a machine: what is in hand, and the list.
 use Rattle.std.proofs.Common.{ℕ, zero, suc, ◌+◌, ◌-◌, ◌≡◌, Bool, true, false, arith, refl, ap, ◌∙◌, sym, List, [], ◌∷◌, suc-add, zero-add}
 use Rattle.std.specs.Prelude.{◌==◌, nat_lt, Option, Some, None, drop}
+use Rattle.wfe_core.specs.defs.Shown.{shown, Seen, keeps_any}
 use Rattle.wfe_core.specs.defs.declared.call.Answer.TheVariants as the_answers
 use Rattle.wfe_core.specs.defs.declared.event.Event.TheVariants as events
 use Rattle.wfe_core.specs.defs.declared.call.ClockMove.{ClockMove}
@@ -11,7 +12,7 @@ use Rattle.wfe_core.specs.defs.declared.lifetime.Interval.{Interval}
 use Rattle.wfe_core.specs.defs.declared.lifetime.Lifetime.{Lifetime}
 use Rattle.wfe_core.specs.declared.ends.ProtectEnd.TheVariants as protect_ends
 use Rattle.wfe_core.specs.declared.post.Post.{Post}
-use Rattle.wfe_core.specs.Desks.{Desk, Seen}
+use Rattle.wfe_core.specs.Desks.{Desk}
 use Rattle.wfe_core.specs.Phases.{Ending, Ending as endings}
 use Rattle.wfe_core.specs.Phases.Ending.{Done, Protected, Followed, Allocated, Clocked}
 use Rattle.wfe_core.specs.Rounds.{taken_of}
@@ -91,7 +92,7 @@ found_by read n life lives false h = (0, omega arith, same_number life.slot)
 
 first_found : (read : List Seen) (n : ℕ) (lives : List Lifetime) → FoundIn lives n (scan.first_unmet read n lives)
 first_found read n [] = tt
-first_found read n (life ∷ lives) = found_by read n life lives (scan.meets_any life read) (first_found read (n + 1) lives)
+first_found read n (life ∷ lives) = found_by read n life lives (keeps_any life read) (first_found read (n + 1) lives)
 
 stands_drop : (n q slot : ℕ) (lives : List Lifetime) → stands_at (drop n lives) q slot ≡ stands_at lives (n + q) slot
 stands_drop zero q slot [] = refl
@@ -130,7 +131,7 @@ read_leaves later number post desk guard span =
     later
     number
     post
-    (scan.with_read desk number (guard, span))
+    (scan.with_read desk number (guard, shown span))
     (events.Read guard span ∷ [])
     (nat_lt (number + 1) (the_guards.guards post.layout.config))
 

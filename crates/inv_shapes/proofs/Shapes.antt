@@ -30,7 +30,7 @@ some_guards He config a b = omega (arith, row_below 0 0 config.seats config.inde
 some_guards Ibr config a b = omega arith
 some_guards Wfe config a b = omega arith
 
-guards_some : (layout : Layout) → is_valid layout ≡ true → 0 < guards layout.config
+pub guards_some : (layout : Layout) → is_valid layout ≡ true → 0 < guards layout.config
 guards_some layout v = let b = bounds_of layout v in some_guards layout.config.scheme layout.config b.seats.0 (grind (arith, b.indexes))
 
 root_is : (task : Task) (post : Post) → root_of task post ≡ task_root post.layout.config.buckets task

@@ -5,6 +5,7 @@ use Rattle.std.proofs.lemmas.List.Edits.{length-remove}
 use Rattle.std.proofs.lemmas.List.Elements.{All-append, All-push, All-head, All-tail, All-take, All-drop}
 use Rattle.std.specs.Prelude.{◌==◌, ◌%◌, nat_lt, if◌then◌else◌, ◌&&◌, not, is_some}
 use Rattle.std.specs.List.{remove}
+use Rattle.wfe_core.specs.defs.Shown.{Seen, keeps_any}
 use Rattle.wfe_core.specs.words.declared.config.SchemeKind.{SchemeKind}
 use Rattle.wfe_core.specs.words.declared.config.Config.{Config}
 use Rattle.wfe_core.specs.words.declared.layout.Layout.{Layout}
@@ -27,8 +28,8 @@ use Rattle.wfe_core.specs.declared.ends.FollowEnd.{FollowEnd}
 use Rattle.wfe_core.specs.declared.ends.FollowEnd.TheVariants as follow_ends
 use Rattle.wfe_core.specs.declared.ends.ProtectEnd.TheVariants as protect_ends
 use Rattle.wfe_core.specs.declared.post.Post.{Post}
-use Rattle.wfe_core.specs.Desks.{Desk, Report, Seen, with_life}
-use Rattle.wfe_core.specs.Guards.{guards, guard_at, published}
+use Rattle.wfe_core.specs.Desks.{Desk, Report, with_life}
+use Rattle.wfe_core.specs.Guards.{guards, guard_at, eras_in, published}
 use Rattle.wfe_core.specs.Posts.{stands}
 use Rattle.wfe_core.specs.Phases.{Ending, Base}
 use Rattle.wfe_core.specs.Phases.Ending.{Done, Protected, Followed, Allocated, Retired, Clocked}
@@ -228,7 +229,7 @@ entry_in slots (Some entry) = entry.1.slot ≤ slots
 unmet_slots : (slots : ℕ) (read : List Seen) (place : ℕ) (lives : List Lifetime) → ListIn slots lives → entry_in slots (scan.first_unmet read place lives)
 unmet_slots slots read place [] h = tt
 unmet_slots slots read place (life ∷ lives) h =
-    elim (scan.meets_any life read) as (λ x. entry_in slots (elim x [
+    elim (keeps_any life read) as (λ x. entry_in slots (elim x [
       | true ↦ scan.first_unmet read (place + 1) lives
       | false ↦ Some (place, life)
     ])) [
@@ -284,7 +285,7 @@ pub scan_slots : (layout : Layout) (later : AfterScan) (at : ScanAt) (post : Pos
     → TurnSlots layout (scan.scan_turn later at post desk found)
 scan_slots layout later (ReadGuard number) post desk found f h t q l =
     let seen : Seen = (guard_at post.layout.config number, published (guard_at post.layout.config number) found) in
-    guard_slots layout later number post (scan.with_read desk number seen) (events.Read seen.0 seen.1 ∷ []) (nat_lt (number + 1) (guards post.layout.config))
+    guard_slots layout later number post (scan.with_read desk number seen) (events.Read seen.0 (eras_in seen.0 found) ∷ []) (nat_lt (number + 1) (guards post.layout.config))
     (one_seen (scan.read_before desk.report number) seen number h) (omega arith) t q l
 scan_slots layout later (GiveBack place slot) post desk found f h t q l =
     let r = removed_in layout.config.slots desk.list place l in

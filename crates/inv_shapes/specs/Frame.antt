@@ -1,8 +1,8 @@
 -- How a property of one seat, which looks at its post and its phase, is carried over the steps of that seat.
-use Rattle.wfe_core.specs.Calls.{Answers, CallOutcome, GoesOn, Idle, Phase, CallTurn, Advances, Clears, ClearsNext, Fills, Finishes, FollowsHead, GivesUp, Opens, Releases, Retires, Tidies, Why, AfterScan, GiveBack, Next, ReadGuard, Runs, Scans, Task, Work, Works}
+use Rattle.wfe_core.specs.Calls.{Answers, CallOutcome, GoesOn, Idle, Phase, CallTurn, Advances, Clears, ClearsNext, Fills, Finishes, FollowsHead, GivesUp, Opens, Releases, Retires, Why, AfterScan, GiveBack, Next, ReadGuard, Runs, Scans, Task, Work, Works}
 use Rattle.wfe_core.specs.declared.post.Post.{Post}
 use Rattle.std.specs.Prelude.{is_some, true, ◌≡◌, None, Option, false, ℕ, ◌<◌}
-use Rattle.wfe_core.specs.Rounds.{scheme_of, index_of, move_base, opening, release_base}
+use Rattle.wfe_core.specs.Rounds.{scheme_of, first_tidy, index_of, move_base, opening, release_base}
 use Rattle.wfe_core.specs.words.Schemes.{has_one_interval}
 use Rattle.wfe_core.specs.Phases.Base.{Allocate, Begin, Clear, Finish, GiveUp, Retire}
 use Rattle.wfe_core.specs.defs.declared.call.Answer.{Answer}
@@ -54,7 +54,7 @@ pub record Grows (Q : Post → Type 0) (P : Post → Phase → Type 0) : Type 0 
   pub finishes : (post : Post) (task : Task) (next : Next) → has_one_interval (scheme_of post) ≡ true → stands post 2 ≡ None → Q post → P post (Runs (Finishes task next) Finish)
   pub gives_up : (post : Post) (answer : Answer) (slot : ℕ) → Q post → P post (Runs (GivesUp answer) (GiveUp slot))
   pub retires : (post : Post) (answer : Answer) (slot : ℕ) → Q post → P post (Runs (Retires answer) (Retire (LoadLife slot)))
-  pub tidies : (post : Post) (later : AfterScan) → Q post → P post (Runs (Tidies later) (move_base (scheme_of post)))
+  pub tidies : (post : Post) (later : AfterScan) → Q post → P post (first_tidy later post)
   pub advances : (post : Post) → Q post → P post (Runs Advances (move_base (scheme_of post)))
   pub releases : (post : Post) (key : Option ℕ) → Q post → P post (Runs (Releases key) (release_base (scheme_of post)))
   pub scans : (post : Post) (later : AfterScan) (number : ℕ) → number < guards post.layout.config → Q post → P post (Scans later (ReadGuard number))

@@ -1,14 +1,2 @@
-pub mod Altered
-pub mod Changed
-pub mod Full
-pub mod Helped
-pub mod Intervals
-pub mod Judges
-pub mod Kept
-pub mod Moved
-pub mod PutThenGet
-pub mod Queued
-pub mod Refusals
 pub mod Schedule
-pub mod Spent
 pub mod Whole

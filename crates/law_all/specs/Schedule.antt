@@ -2,11 +2,11 @@
 use Rattle.std.specs.Prelude.{ℕ, ◌≡◌, ◌<◌, false, List}
 use Rattle.wfe_core.specs.words.declared.layout.Layout.{Layout}
 use Rattle.wfe_core.specs.words.Schemes.{is_ibr}
-use Rattle.laws.specs.history.History.{Item, record_of}
+use Rattle.law_steps.specs.inv.history.History.{Item, record_of}
 use Rattle.law_steps.specs.answers.Heard.{IsCounted}
-use Rattle.laws.specs.history.Heard.{heard_of}
-use Rattle.laws.specs.Schedule.{handed_right, one_step, numbers_right, OpenLaw}
-use Rattle.laws.specs.history.Turns.{EachTurn}
+use Rattle.law_steps.specs.inv.history.Heard.{heard_of}
+use Rattle.laws.specs.HistoryTurns.{handed_right, one_step, numbers_right, OpenLaw}
+use Rattle.law_steps.specs.inv.history.Turns.{EachTurn}
 use Rattle.law_steps.specs.inv.Finish.{CallFinishes}
 
 -- A history is starts of calls and turns of seats.

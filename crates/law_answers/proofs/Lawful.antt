@@ -2,6 +2,5 @@ pub mod Counts
 pub mod Current
 pub mod Gots
 pub mod Maps
-pub mod Nulls
 pub mod Queues
 pub mod Versions

@@ -5,15 +5,16 @@ use Rattle.wfe_core.specs.words.Schemes.{is_wfe}
 use Rattle.wfe_core.specs.words.declared.layout.Layout.{Layout}
 use Rattle.inv_all.specs.history.Heard.{heard_of}
 use Rattle.inv_all.specs.history.History.{Item, record_of}
+use Rattle.inv_all.specs.history.Record.{EachEntry}
 use Rattle.inv_all.specs.history.Turns.{EachTurn}
-use Rattle.laws.specs.AnswerLaw.{AnswersLaw}
-use Rattle.laws.specs.QueueLaw.{QueueLaw}
-use Rattle.laws.specs.Schedule.{one_step, OpenLaw}
-use Rattle.laws.specs.StepLaw.{NumberLaw}
+use Rattle.laws.specs.HistoryAnswers.{AnswersLaw}
+use Rattle.laws.specs.QueueLaw.{queue_ok}
+use Rattle.laws.specs.HistoryTurns.{one_step, OpenLaw}
+use Rattle.laws.specs.HistorySteps.{NumberLaw}
 
 -- each history's record keeps it, whatever calls begin and whichever seats make their steps
 abbrev pub RecordsKeepQueue : Type 0
-RecordsKeepQueue = (layout : Layout) (items : List Item) → is_valid layout ≡ true → QueueLaw (record_of layout items)
+RecordsKeepQueue = (layout : Layout) (items : List Item) → is_valid layout ≡ true → EachEntry queue_ok (record_of layout items)
 
 -- each history's record keeps it, whatever calls begin and whichever seats make their steps
 abbrev pub RecordsKeepSteps : Type 0

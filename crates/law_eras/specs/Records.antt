@@ -4,8 +4,9 @@ use Rattle.wfe_core.specs.words.Place.{is_valid}
 use Rattle.wfe_core.specs.words.Place.Place.{Clock}
 use Rattle.wfe_core.specs.words.declared.layout.Layout.{Layout}
 use Rattle.inv_all.specs.history.History.{Item, record_of, world_of}
-use Rattle.laws.specs.EraLaw.{ClockLaw, GuardLaw, BirthsCurrent, RetiresCurrent, ReservesCurrent}
+use Rattle.laws.specs.HistoryEras.{ClockLaw, GuardLaw, BirthsCurrent, RetiresCurrent, ReservesCurrent}
 use Rattle.laws.specs.StateAt.{clock_of}
+use Rattle.laws.specs.HistoryTable.{GuardsOfTable}
 
 -- each history's record keeps it, whatever calls begin and whichever seats make their steps
 abbrev pub RecordsKeepEras : Type 0
@@ -28,3 +29,7 @@ RecordsRetireCurrent = (layout : Layout) (items : List Item) → is_valid layout
 
 abbrev pub RecordsReserveCurrent : Type 0
 RecordsReserveCurrent = (layout : Layout) (items : List Item) → is_valid layout ≡ true → ReservesCurrent (record_of layout items)
+
+-- each history's record keeps it, whatever calls begin and whichever seats make their steps
+abbrev pub RecordsNameGuards : Type 0
+RecordsNameGuards = (layout : Layout) (items : List Item) → is_valid layout ≡ true → GuardsOfTable layout.config (record_of layout items)

@@ -3,7 +3,7 @@
 #![tactic(auto)]
 
 ghost use Rattle.law_eras.specs.Current.{ClockBetween};
-ghost use Rattle.law_eras.specs.Records.{RecordClock, RecordsGiveCurrent, RecordsKeepEras, RecordsKeepGuards, RecordsReserveCurrent, RecordsRetireCurrent};
+ghost use Rattle.law_eras.specs.Records.{RecordClock, RecordsGiveCurrent, RecordsKeepEras, RecordsKeepGuards, RecordsNameGuards, RecordsReserveCurrent, RecordsRetireCurrent};
 
 /// The clock's word is 1 plus the number of Era entries.
 pub fn record_clock()
@@ -45,4 +45,10 @@ pub fn records_retire_current()
 /// mover of the clock hands over.
 pub fn records_reserve_current()
     ensures { RecordsReserveCurrent }
+{}
+
+/// Each guard that is told to publish, or that a scan reads, is one of the table, and of a kind that
+/// its scheme has.
+pub fn records_name_guards()
+    ensures { RecordsNameGuards }
 {}

@@ -1,3 +1,4 @@
+pub mod Alone
 pub mod Clears
 pub mod Fitting
 pub mod Indexing

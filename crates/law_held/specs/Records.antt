@@ -3,8 +3,9 @@ use Rattle.std.specs.Prelude.{List, true, ◌≡◌}
 use Rattle.wfe_core.specs.words.Place.{is_valid}
 use Rattle.wfe_core.specs.words.declared.layout.Layout.{Layout}
 use Rattle.law_places.specs.inv.history.History.{Item, record_of}
-use Rattle.laws.specs.HoldLaw.{HeldThroughout, SourceLaw, FindLaw, GotLaw, LinkLaw, FollowLaw, BehindLaw, RestLaw}
-use Rattle.laws.specs.NoReuse.{ClearLaw, IndexLaw}
+use Rattle.laws.specs.HistoryHolds.{HeldThroughout, SourceLaw, FindLaw, GotLaw, LinkLaw, FollowLaw, BehindLaw, RestLaw}
+use Rattle.laws.specs.HistoryHolds.{LoneLaw}
+use Rattle.laws.specs.HistoryHolds.{ClearLaw, IndexLaw}
 
 -- each history's record keeps it, whatever calls begin and whichever seats make their steps
 abbrev pub RecordsClearRows : Type 0
@@ -45,3 +46,7 @@ RecordsFollowNexts = (layout : Layout) (items : List Item) → is_valid layout �
 -- each history's record keeps it, whatever calls begin and whichever seats make their steps
 abbrev pub RecordsRestGuards : Type 0
 RecordsRestGuards = (layout : Layout) (items : List Item) → is_valid layout ≡ true → RestLaw layout.config.scheme (record_of layout items)
+
+-- each history's record keeps it, whatever calls begin and whichever seats make their steps
+abbrev pub RecordsHoldAlone : Type 0
+RecordsHoldAlone = (layout : Layout) (items : List Item) → is_valid layout ≡ true → LoneLaw (record_of layout items)

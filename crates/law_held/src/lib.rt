@@ -2,7 +2,7 @@
 //! a theorem.
 #![tactic(auto)]
 
-ghost use Rattle.law_held.specs.Records.{RecordsClearRows, RecordsFindRoots, RecordsFindSources, RecordsFollowHead, RecordsFollowNexts, RecordsHoldThroughout, RecordsLinkHeld, RecordsRestGuards, RecordsTellRows, RecordsUseIndexes};
+ghost use Rattle.law_held.specs.Records.{RecordsClearRows, RecordsFindRoots, RecordsFindSources, RecordsFollowHead, RecordsFollowNexts, RecordsHoldAlone, RecordsHoldThroughout, RecordsLinkHeld, RecordsRestGuards, RecordsTellRows, RecordsUseIndexes};
 
 /// Where a seat links a row at a root, the row that the root had stands at its index 0; where it links
 /// one behind a row of the queue, that row does. What the head is linked to stands at its index 1, and
@@ -66,4 +66,10 @@ pub fn records_rest_guards()
 /// life.
 pub fn records_hold_throughout()
     ensures { RecordsHoldThroughout }
+{}
+
+/// Where a seat tells at an index that a row stands, or that there is none, nothing stands at that
+/// index of the seat.
+pub fn records_hold_alone()
+    ensures { RecordsHoldAlone }
 {}

@@ -27,7 +27,7 @@ use Rattle.inv_all.proofs.history.AllOf.{all_of}
 use Rattle.law_answers.proofs.AnswersTold.Owed.{is_open, Owes, owed}
 use Rattle.law_answers.proofs.AnswersTold.Answering.{owes_of}
 use Rattle.law_answers.proofs.AnswersTold.Answering as answering
-use Rattle.laws.specs.HoldLaw.{bare_ok}
+use Rattle.laws.specs.HistoryHolds.{bare_ok}
 use Rattle.law_places.specs.Records.{RecordsEndBare}
 use Rattle.laws.proofs.Tells.{tells_both}
 

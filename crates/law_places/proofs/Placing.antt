@@ -4,4 +4,5 @@ pub mod Keeps
 pub mod Marks
 pub mod Moved
 pub mod Shapes
+pub mod Single
 pub mod Sums

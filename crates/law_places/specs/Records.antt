@@ -3,9 +3,9 @@ use Rattle.std.specs.Prelude.{List, true, ◌≡◌}
 use Rattle.wfe_core.specs.words.Place.{is_valid}
 use Rattle.wfe_core.specs.words.declared.layout.Layout.{Layout}
 use Rattle.inv_all.specs.history.History.{Item, record_of}
-use Rattle.laws.specs.AnswerLaw.{RetireCounts, RefusalLaw}
-use Rattle.laws.specs.HoldLaw.{BareLaw}
-use Rattle.laws.specs.Once.{PlacingLaw, OrderLaw, NextsLaw, RetireLaw}
+use Rattle.laws.specs.HistoryAnswers.{RetireCounts, RefusalLaw}
+use Rattle.laws.specs.HistoryHolds.{BareLaw}
+use Rattle.laws.specs.HistoryRows.{PlacingLaw, OrderLaw, NextsLaw, RetireLaw, SingleLaw}
 
 -- each history's record keeps it, whatever calls begin and whichever seats make their steps
 abbrev pub RecordsPlaceRows : Type 0
@@ -25,6 +25,9 @@ RecordsRetireCuts = (layout : Layout) (items : List Item) → is_valid layout �
 
 abbrev pub RecordsCountRetires : Type 0
 RecordsCountRetires = (layout : Layout) (items : List Item) → is_valid layout ≡ true → RetireCounts (record_of layout items)
+
+abbrev pub RecordsRetireOne : Type 0
+RecordsRetireOne = (layout : Layout) (items : List Item) → is_valid layout ≡ true → SingleLaw (record_of layout items)
 
 abbrev pub RecordsRefuse : Type 0
 RecordsRefuse = (layout : Layout) (items : List Item) → is_valid layout ≡ true → RefusalLaw (record_of layout items)

@@ -2,7 +2,7 @@
 //! a theorem.
 #![tactic(auto)]
 
-ghost use Rattle.law_places.specs.Records.{RecordsCountRetires, RecordsEndBare, RecordsKeepOrder, RecordsLinkNexts, RecordsPlaceRows, RecordsRefuse, RecordsRetireCuts};
+ghost use Rattle.law_places.specs.Records.{RecordsCountRetires, RecordsEndBare, RecordsKeepOrder, RecordsLinkNexts, RecordsPlaceRows, RecordsRefuse, RecordsRetireCuts, RecordsRetireOne};
 
 /// A call is given one row at most. Where it ends, that row was linked by it, or told unused by the
 /// same seat, and not both. What it links at a bucket's root or at a next link is that row, and it
@@ -21,6 +21,11 @@ pub fn records_retire_cuts()
 /// changed before, so that its version is above 1; and else none.
 pub fn records_count_retires()
     ensures { RecordsCountRetires }
+{}
+
+/// A call retires one row at most, and only a put, a remove or a dequeue retires one.
+pub fn records_retire_one()
+    ensures { RecordsRetireOne }
 {}
 
 /// Only a call that answers Done, Queued or Taken has told a change of the map or of the queue, or a

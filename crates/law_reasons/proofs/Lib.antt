@@ -1,3 +1,4 @@
 pub mod Full
+pub mod Ranges
 pub mod Reasons
 pub mod Repeats

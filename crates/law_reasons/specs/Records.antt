@@ -3,8 +3,9 @@ use Rattle.std.specs.Prelude.{List, true, ◌≡◌}
 use Rattle.wfe_core.specs.words.Place.{is_valid}
 use Rattle.wfe_core.specs.words.declared.layout.Layout.{Layout}
 use Rattle.law_scans.specs.inv.history.History.{Item, record_of}
-use Rattle.laws.specs.AnswerLaw.{ReasonLaw, FullLaw, LackLaw, RepeatLaw}
-use Rattle.laws.specs.ScanLaw.{RoomScans}
+use Rattle.laws.specs.HistoryAnswers.{ReasonLaw, FullLaw, LackLaw, RepeatLaw}
+use Rattle.laws.specs.HistoryScans.{RoomScans}
+use Rattle.laws.specs.HistoryTable.{RangeLaw}
 
 -- each history's record keeps it, whatever calls begin and whichever seats make their steps
 abbrev pub RecordsScanForRoom : Type 0
@@ -25,3 +26,7 @@ RecordsKeepLacks = (layout : Layout) (items : List Item) → is_valid layout ≡
 -- each history's record keeps it, whatever calls begin and whichever seats make their steps
 abbrev pub RecordsKeepRepeats : Type 0
 RecordsKeepRepeats = (layout : Layout) (items : List Item) → is_valid layout ≡ true → RepeatLaw layout.config (record_of layout items)
+
+-- each history's record keeps it, whatever calls begin and whichever seats make their steps
+abbrev pub RecordsStayInRange : Type 0
+RecordsStayInRange = (layout : Layout) (items : List Item) → is_valid layout ≡ true → RangeLaw layout.config (record_of layout items)

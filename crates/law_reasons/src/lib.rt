@@ -2,7 +2,7 @@
 //! a theorem.
 #![tactic(auto)]
 
-ghost use Rattle.law_reasons.specs.Records.{RecordsKeepFull, RecordsKeepLacks, RecordsKeepReasons, RecordsKeepRepeats, RecordsScanForRoom};
+ghost use Rattle.law_reasons.specs.Records.{RecordsKeepFull, RecordsKeepLacks, RecordsKeepReasons, RecordsKeepRepeats, RecordsScanForRoom, RecordsStayInRange};
 
 /// Where a call ends, in the record of any history, its answer has its reason in the record: a change
 /// was refused, or made, as the pairs of its bucket at a version current during the call say; the
@@ -37,4 +37,10 @@ pub fn records_keep_lacks()
 /// it has made a scan.
 pub fn records_keep_repeats()
     ensures { RecordsKeepRepeats }
+{}
+
+/// Each entry is of a seat of the table, and the indexes, rows and buckets that it tells of are those
+/// of the table.
+pub fn records_stay_in_range()
+    ensures { RecordsStayInRange }
 {}

@@ -1,13 +1,12 @@
--- What the words of a table show of a row that stands: it is taken, and the guard of its index publishes an interval that
--- meets the row's life.
+-- What the words of a table show of a row that stands: it is taken, and what the guard of its index publishes keeps the row's
+-- life.
 use Rattle.std.specs.Prelude.{ℕ, ◌≡◌, ◌/◌, ◌%◌, true, Some, List}
 use Rattle.std.specs.Int.{bit_at}
 use Rattle.wfe_core.specs.words.Packed.{life_word}
 use Rattle.wfe_core.specs.words.Place.{is_valid}
 use Rattle.wfe_core.specs.words.Place.Place.{Claim, Life}
 use Rattle.wfe_core.specs.words.declared.layout.Layout.{Layout}
-use Rattle.wfe_core.specs.defs.Meets.{meets}
-use Rattle.wfe_core.specs.defs.declared.lifetime.Interval.{Interval}
+use Rattle.wfe_core.specs.defs.Shown.{keeps}
 use Rattle.wfe_core.specs.Posts.{stands}
 use Rattle.wfe_core.specs.World.{World}
 use Rattle.inv_all.specs.covers.Covers.{shown, life_of}
@@ -16,14 +15,12 @@ use Rattle.inv_all.specs.history.History.{Item, world_of}
 use Rattle.inv_all.specs.Inv.{Inv}
 
 pub record RowShown (w : World) (k j s : ℕ) : Type 0 where
-  pub span : Interval
   pub birth : ℕ
   pub retire : ℕ
-  -- the guard of the index publishes the interval
-  pub published : shown w (own_guard w.layout.config.scheme k j) ≡ Some span
   -- the row's lifetime word has birth and retire era, 0 while it is not retired
   pub life : w.mem (Life s) ≡ life_word (record { birth = birth; retire = retire })
-  pub met : meets (life_of s birth retire) span ≡ true
+  -- what the guard of the index publishes keeps that life
+  pub kept : keeps (life_of s birth retire) (shown w (own_guard w.layout.config.scheme k j)) ≡ true
   -- its claim bit is set
   pub taken : bit_at (w.mem (Claim (s / 64))) (s % 64) ≡ 1
 

@@ -4,13 +4,13 @@ use Rattle.wfe_core.specs.Posts.{stands}
 use Rattle.wfe_core.specs.defs.declared.event.Guard.{Guard}
 use Rattle.wfe_core.specs.words.Place.{is_valid}
 use Rattle.wfe_core.specs.words.declared.layout.Layout.{Layout}
-use Rattle.inv_all.specs.covers.Covers.{shown}
+use Rattle.inv_all.specs.covers.Covers.{eras_shown}
 use Rattle.inv_all.specs.history.History.{Item, record_of, world_of}
-use Rattle.laws.specs.EraLaw.{BirthLaw}
+use Rattle.laws.specs.HistoryEras.{BirthLaw}
 use Rattle.laws.specs.HoldLaw.{is_held}
-use Rattle.laws.specs.NoReuse.{ReuseLaw}
-use Rattle.laws.specs.Once.{FreeLaw, BackOnce}
-use Rattle.laws.specs.ScanLaw.{BlockLaw, CountLaw, ReadLaw}
+use Rattle.laws.specs.HistoryHolds.{ReuseLaw}
+use Rattle.laws.specs.HistoryRows.{FreeLaw, BackOnce}
+use Rattle.laws.specs.HistoryScans.{BlockLaw, CountLaw, ReadLaw}
 use Rattle.laws.specs.StateAt.{stood_at, value_of}
 
 -- each history's record keeps it, whatever calls begin and whichever seats make their steps
@@ -55,9 +55,9 @@ RecordsHold =
     → stood_at k j (record_of layout items) ≡ Some s
     → is_held layout.config k j s (record_of layout items) ≡ true
 
--- what a guard publishes by the record is what its word shows
+-- the eras that a guard publishes by the record are those of its word
 abbrev pub RecordValues : Type 0
 RecordValues =
     (layout : Layout) (items : List Item) (guard : Guard)
     → is_valid layout ≡ true
-    → value_of guard (record_of layout items) ≡ shown (world_of layout items) guard
+    → value_of guard (record_of layout items) ≡ eras_shown (world_of layout items) guard

@@ -1,9 +1,17 @@
 -- The law on what a call answers of the clock, over records.
 use Rattle.law_places.specs.inv.history.Record.{Past, Test, EachEntry}
 use Rattle.laws.specs.StateAt.{seen}
-use Rattle.std.specs.Prelude.{ℕ}
-use Rattle.laws.specs.AnswerLaw.{ClockTally, clock_by, no_clock, clock_right}
+use Rattle.std.specs.Prelude.{ℕ, None, ◌%◌, ◌==◌}
+use Rattle.laws.specs.HistoryAnswers.{ClockTally, plain_clock_by, no_clock, clock_right}
+use Rattle.wfe_core.specs.Memory.{bump}
+use Rattle.wfe_core.specs.defs.declared.event.Event.{Event}
+use Rattle.wfe_core.specs.defs.declared.event.Event.TheVariants as events
 use Rattle.wfe_core.specs.words.declared.config.Config.{Config}
+
+-- the tally of a seat whose count of retirements stays at the greatest number of 64 bits
+abbrev pub clock_by : (every : ℕ) → Event → ClockTally → ClockTally
+clock_by every (events.Retire slot birth retire) before = record { retired = bump before.retired; due = bump before.retired % every == 0; moved = None }
+clock_by every event before = plain_clock_by every event before
 
 abbrev pub clock_tally : (every : ℕ) → ℕ → Past → ClockTally
 clock_tally every i p = seen (clock_by every) no_clock i p

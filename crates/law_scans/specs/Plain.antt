@@ -4,8 +4,8 @@ use Rattle.std.specs.Prelude.{List, ℕ, ◌≡◌}
 use Rattle.law_places.specs.inv.history.Record.{Past, tells}
 use Rattle.law_scans.specs.Outcomes.{clock_tally}
 use Rattle.law_scans.specs.Scans.{tally_of}
-use Rattle.laws.specs.AnswerLaw.{plain_clock}
-use Rattle.laws.specs.ScanLaw.{plain_tally}
+use Rattle.laws.specs.HistoryAnswers.{plain_clock}
+use Rattle.laws.specs.HistoryScans.{plain_tally}
 use Rattle.laws.specs.StateAt.{total_retires}
 
 -- a count that stops at the greatest number of 64 bits counts all that a seat has retired, at each position of the record

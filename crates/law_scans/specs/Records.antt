@@ -3,9 +3,9 @@ use Rattle.std.specs.Prelude.{List, true, ◌≡◌}
 use Rattle.wfe_core.specs.words.Place.{is_valid}
 use Rattle.wfe_core.specs.words.declared.layout.Layout.{Layout}
 use Rattle.law_places.specs.inv.history.History.{Item, record_of}
-use Rattle.laws.specs.AnswerLaw.{PlainOutcomes, ClockTimes}
-use Rattle.laws.specs.EraLaw.{PlainMoves}
-use Rattle.laws.specs.ScanLaw.{FewRetired, PlainScans}
+use Rattle.laws.specs.HistoryAnswers.{PlainOutcomes, ClockTimes}
+use Rattle.laws.specs.HistoryEras.{PlainMoves}
+use Rattle.laws.specs.HistoryScans.{FewRetired, PlainScans}
 use Rattle.law_scans.specs.Outcomes.{ClockOutcomes}
 use Rattle.law_scans.specs.Plain.{CountsPlainly}
 use Rattle.law_scans.specs.Scans.{DueScans, DueMoves}

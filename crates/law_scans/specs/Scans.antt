@@ -1,11 +1,19 @@
 -- The laws on which calls scan and which move the clock, over records.
 use Rattle.law_places.specs.inv.history.Record.{Past, Test, EachEntry}
 use Rattle.laws.specs.StateAt.{seen}
-use Rattle.std.specs.Prelude.{ℕ}
-use Rattle.laws.specs.ScanLaw.{Tally, no_tally, tally_by, scan_right}
+use Rattle.std.specs.Prelude.{ℕ, ◌%◌, ◌==◌}
+use Rattle.laws.specs.HistoryScans.{Tally, no_tally, plain_by, retired_course, scan_right}
+use Rattle.wfe_core.specs.Memory.{bump}
+use Rattle.wfe_core.specs.defs.declared.event.Event.{Event}
+use Rattle.wfe_core.specs.defs.declared.event.Event.TheVariants as events
 use Rattle.wfe_core.specs.words.declared.config.Config.{Config}
 use Rattle.wfe_core.specs.Guards.{guards}
-use Rattle.laws.specs.EraLaw.{move_right}
+use Rattle.laws.specs.HistoryEras.{move_right}
+
+-- the tally of a seat whose count of retirements stays at the greatest number of 64 bits
+abbrev pub tally_by : (every : ℕ) → Event → Tally → Tally
+tally_by every (events.Retire slot birth retire) before = record { retired = bump before.retired; course = retired_course (bump before.retired % every == 0) }
+tally_by every event before = plain_by every event before
 
 abbrev pub tally_of : (every : ℕ) → ℕ → Past → Tally
 tally_of every i p = seen (tally_by every) no_tally i p

@@ -1,3 +1,5 @@
 pub mod Asking
 pub mod Helping
 pub mod Kept
+pub mod Owning
+pub mod Owns

@@ -7,3 +7,4 @@ pub mod Asking
 pub mod CallCounts
 pub mod Raises
 pub mod Rising
+pub mod Tried

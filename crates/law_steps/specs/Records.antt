@@ -1,11 +1,14 @@
 -- What the record and the turns of each history keep, whatever calls begin and whichever seats make their steps.
 use Rattle.std.specs.Prelude.{List, true, ◌≡◌}
 use Rattle.wfe_core.specs.words.Place.{is_valid}
-use Rattle.wfe_core.specs.words.Schemes.{is_wfe, is_ibr}
+use Rattle.wfe_core.specs.words.Schemes.{is_wfe, is_he, is_ibr}
 use Rattle.wfe_core.specs.words.declared.layout.Layout.{Layout}
 use Rattle.law_turns.specs.inv.history.History.{Item, record_of}
-use Rattle.laws.specs.EraLaw.{SpansRise}
-use Rattle.laws.specs.StepLaw.{ErasRise, HelperLaw, ShowLaw, TakeLaw, RaiseLaw, EndLaw}
+use Rattle.laws.specs.HistorySteps.{AskLaw}
+use Rattle.laws.specs.HistoryEras.{SpansRise}
+use Rattle.laws.specs.HistorySteps.{ErasRise, HelperLaw, ShowLaw, TakeLaw, RaiseLaw, EndLaw}
+use Rattle.laws.specs.HistorySteps.{TriesRise}
+use Rattle.laws.specs.StepLaw.{TryLaw}
 
 -- each history's record keeps them, whatever calls begin and whichever seats make their steps
 abbrev pub RecordsRaiseSpans : Type 0
@@ -32,3 +35,15 @@ RecordsKeepRaises = (layout : Layout) (items : List Item) → is_valid layout �
 -- each history's record keeps it, whatever calls begin and whichever seats make their steps
 abbrev pub RecordsKeepEnds : Type 0
 RecordsKeepEnds = (layout : Layout) (items : List Item) → is_valid layout ≡ true → EndLaw layout.config (record_of layout items)
+
+-- each history's record keeps it, whatever calls begin and whichever seats make their steps
+abbrev pub RecordsRaiseTries : Type 0
+RecordsRaiseTries = (layout : Layout) (items : List Item) → is_valid layout ≡ true → TriesRise layout.config.scheme (record_of layout items)
+
+-- each history's record keeps it under Hazard Eras, whatever calls begin and whichever seats make their steps
+abbrev pub RecordsCountTries : Type 0
+RecordsCountTries = (layout : Layout) (items : List Item) → is_valid layout ≡ true → is_he layout.config.scheme ≡ true → TryLaw (record_of layout items)
+
+-- each history's record keeps it under Wait-Free Eras, whatever calls begin and whichever seats make their steps
+abbrev pub RecordsAskLate : Type 0
+RecordsAskLate = (layout : Layout) (items : List Item) → is_valid layout ≡ true → is_wfe layout.config.scheme ≡ true → AskLaw layout.config.tries (record_of layout items)

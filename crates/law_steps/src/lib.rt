@@ -2,7 +2,7 @@
 //! a theorem.
 #![tactic(auto)]
 
-ghost use Rattle.law_steps.specs.Records.{RecordsKeepEnds, RecordsKeepHelpers, RecordsKeepRaises, RecordsRaiseEras, RecordsRaiseSpans, RecordsShowLate, RecordsTakeLate};
+ghost use Rattle.law_steps.specs.Records.{RecordsAskLate, RecordsCountTries, RecordsKeepEnds, RecordsKeepHelpers, RecordsKeepRaises, RecordsRaiseEras, RecordsRaiseSpans, RecordsRaiseTries, RecordsShowLate, RecordsTakeLate};
 
 /// Under 2GE the number in a Held or Null is two more than three times the number of times that the seat has
 /// raised its interval since its last Begin, Held, Null or Clear, and for a row held at index 1 one more.
@@ -50,4 +50,24 @@ pub fn records_take_late()
 /// has published more eras in the protection's index word than it has tries.
 pub fn records_keep_helpers()
     ensures { RecordsKeepHelpers }
+{}
+
+/// The eras that are told of an index word rise until it publishes nothing, but for those that a seat tells
+/// under Wait-Free Eras while its helper word publishes.
+pub fn records_raise_tries()
+    ensures { RecordsRaiseTries }
+{}
+
+/// Under Hazard Eras the number in a Held or Null is one more than three times the number of eras that the index
+/// word has published before that entry, since it published nothing, and for a row held at index 1 one more still;
+/// and each of these eras is later than the one before it.
+pub fn records_count_tries()
+    ensures { RecordsCountTries }
+{}
+
+/// Under Wait-Free Eras a seat whose protection is under way publishes an era in its helper word only after it has
+/// itself published more eras in the protection's index word than it has tries, each later than the one before it
+/// that it published there, whatever a mover has handed over between.
+pub fn records_ask_late()
+    ensures { RecordsAskLate }
 {}

@@ -31,7 +31,7 @@ use Rattle.inv_all.proofs.covers.Held.{finds_at}
 use Rattle.inv_all.proofs.handover.Asks.{Asker, asker, in_slow}
 use Rattle.inv_all.proofs.handover.Deals.{handed_deal}
 use Rattle.inv_all.proofs.handover.Words.{Handed}
-use Rattle.laws.specs.Schedule.{event_handed, events_handed, handed_right}
+use Rattle.laws.specs.HistoryTurns.{event_handed, events_handed, handed_right}
 use Rattle.law_turns.specs.Records.{HandoversMeet}
 use Rattle.wfe_core.specs.defs.declared.event.Event.TheVariants as events
 use Rattle.wfe_core.specs.Machine as machine

@@ -26,10 +26,11 @@ use Rattle.wfe_core.specs.words.Schemes.{is_ibr, is_he}
 use Rattle.inv_all.specs.shapes.Seats.{protects, reloads, kind_of, index_by, root_by}
 use Rattle.inv_all.proofs.history.Passes.{Closed, First, step_goes}
 use Rattle.inv_all.specs.history.Turns as schedule
-use Rattle.inv_all.specs.history.Turns.History.{Turns}
-use Rattle.inv_all.specs.history.History.{Made}
+use Rattle.inv_all.specs.history.Turns.History.{Blank, Turns}
+use Rattle.inv_all.specs.history.History.{Made, first_made}
 use Rattle.inv_all.specs.history.Turns.{EachTurn}
-use Rattle.laws.specs.StepLaw.{event_tried, events_tried, tries_right}
+use Rattle.laws.specs.HistorySteps.{events_tried, tries_right}
+use Rattle.laws.specs.StepLaw.{event_tried}
 use Rattle.law_turns.specs.Records.{TriesCount}
 use Rattle.law_answers.proofs.OneStep.Along.{Around, Kept, history_keeps}
 use Rattle.law_turns.proofs.Counting.Counting.{Keeps, published, since_of, seat_of, published_here, begin_kept, step_kept, first_kept}
@@ -42,7 +43,7 @@ use Rattle.law_turns.proofs.Counting.Told.{is_dull, all_dull, quiet_dull, clear_
 use Rattle.inv_all.proofs.requests.Paced.{wfe_not_he}
 use Rattle.inv_all.proofs.history.AllOf.{all_of, of_weaker}
 
-unfound_one : (x : ℕ → ℕ) (event : Event) → not (is_find event) ≡ true → event_tried x event ≡ true
+pub unfound_one : (x : ℕ → ℕ) (event : Event) → not (is_find event) ≡ true → event_tried x event ≡ true
 unfound_one x (events.Held index slot steps) h = absurd (cc)
 unfound_one x (events.Null index steps) h = absurd (cc)
 unfound_one x event h = refl
@@ -139,12 +140,12 @@ event_same x y (events.Held index slot n) p h = rw (p index) h
 event_same x y (events.Null index n) p h = rw (p index) h
 event_same x y event p h = refl
 
-events_same : (x y : ℕ → ℕ) (told : List Event) → ((j : ℕ) → y j ≡ x j) → events_tried x told ≡ true → events_tried y told ≡ true
+pub events_same : (x y : ℕ → ℕ) (told : List Event) → ((j : ℕ) → y j ≡ x j) → events_tried x told ≡ true → events_tried y told ≡ true
 events_same x y [] p h = refl
 events_same x y (event ∷ told) p h = both (event_tried y event) (events_tried y told) (event_same x y event p (first_of (event_tried x event) (events_tried x told) h)) (events_same x y told p (rest_of (event_tried x event) (events_tried x told) h))
 
 -- along a history
-record Tries (layout : Layout) (made : Made) (h : schedule.History) : Type 0 where
+pub record Tries (layout : Layout) (made : Made) (h : schedule.History) : Type 0 where
   pub keeps : Keeps layout made h
   pub law : EachTurn tries_right h
 
@@ -164,12 +165,14 @@ step_law layout made h i e a b y g =
     step_goes (λ p told. events_tried x told ≡ true) (tried_closed x) (w.seat i).phase (counted (w.seat i).post) (w.seat i).desk (finds w i) (turn_tried (published h i) (since_of h i) layout i (w.seat i).phase (w.seat i).post (finds w i) q s) in
     events_same x (published (Turns h i (told_in w i)) i) (told_in w i) (λ j. published_here w i j h a.known b) r
 
-kept : (layout : Layout) → is_he layout.config.scheme ≡ true → Kept (Tries layout)
+pub kept : (layout : Layout) → is_he layout.config.scheme ≡ true → Kept (Tries layout)
 kept layout e = record {
   begins = λ made h i call a b f g. record { keeps = begin_kept layout made h i call f g.keeps; law = g.law };
   steps = λ made h i a b y g. record { keeps = step_kept layout made h i (not_ibr layout.config.scheme e) a b y g.keeps; law = (step_law layout made h i e a b y g.keeps, g.law) };
 }
 
+pub first_tries : (layout : Layout) → is_he layout.config.scheme ≡ true → Tries layout (first_made layout) Blank
+first_tries layout e = record { keeps = first_kept layout (not_ibr layout.config.scheme e); law = tt }
+
 pub tries_count : TriesCount
-tries_count layout items d e =
-    let g = history_keeps layout (Tries layout) (kept layout e) d items (record { keeps = first_kept layout (not_ibr layout.config.scheme e); law = tt }) in g.law
+tries_count layout items d e = let g = history_keeps layout (Tries layout) (kept layout e) d items (first_tries layout e) in g.law

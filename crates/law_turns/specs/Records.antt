@@ -4,10 +4,11 @@ use Rattle.wfe_core.specs.words.Place.{is_valid}
 use Rattle.wfe_core.specs.words.Schemes.{is_wfe, is_he, is_ibr}
 use Rattle.wfe_core.specs.words.declared.layout.Layout.{Layout}
 use Rattle.inv_all.specs.history.Heard.{heard_of}
-use Rattle.inv_all.specs.history.History.{Item}
+use Rattle.inv_all.specs.history.History.{Item, record_of}
 use Rattle.inv_all.specs.history.Turns.{EachTurn}
-use Rattle.laws.specs.Schedule.{numbers_right, handed_right}
-use Rattle.laws.specs.StepLaw.{turns_bounded, lasts_right, withdrawn_right, tries_right}
+use Rattle.laws.specs.HistoryTurns.{numbers_right, handed_right}
+use Rattle.laws.specs.HistorySteps.{turns_bounded, lasts_right, withdrawn_right, tries_right, found_last}
+use Rattle.laws.specs.StepLaw.{WithdrawLaw}
 
 -- each history keeps it under Wait-Free Eras, whatever calls begin and whichever seats make their steps
 abbrev pub ProtectionsEnd : Type 0
@@ -36,3 +37,11 @@ ProtectionsCount = (layout : Layout) (items : List Item) → is_valid layout ≡
 -- each history keeps it under Hazard Eras and Wait-Free Eras, whatever calls begin and whichever seats make their steps
 abbrev pub HandoversMeet : Type 0
 HandoversMeet = (layout : Layout) (items : List Item) → is_valid layout ≡ true → is_ibr layout.config.scheme ≡ false → EachTurn handed_right (heard_of layout items)
+
+-- each history's record keeps it, whatever calls begin and whichever seats make their steps
+abbrev pub RecordsWithdrawNext : Type 0
+RecordsWithdrawNext = (layout : Layout) (items : List Item) → is_valid layout ≡ true → WithdrawLaw (record_of layout items)
+
+-- so do the turns of each history
+abbrev pub TurnsFindLast : Type 0
+TurnsFindLast = (layout : Layout) (items : List Item) → is_valid layout ≡ true → EachTurn found_last (heard_of layout items)

@@ -2,7 +2,7 @@
 //! a theorem.
 #![tactic(auto)]
 
-ghost use Rattle.law_turns.specs.Records.{HandoversMeet, ProtectionsCount, ProtectionsEnd, ProtectionsLast, TriesCount, WithdrawalsFollow};
+ghost use Rattle.law_turns.specs.Records.{HandoversMeet, ProtectionsCount, ProtectionsEnd, ProtectionsLast, RecordsWithdrawNext, TriesCount, WithdrawalsFollow, TurnsFindLast};
 
 /// Under Hazard Eras and Wait-Free Eras the number in a Held or Null is that of the seat's turns from
 /// the first of the protection to the one that tells it. The first is the turn before the one with
@@ -42,4 +42,16 @@ pub fn withdrawals_follow()
 /// head's next link takes two more at most, also where the head has moved and the index word is withdrawn.
 pub fn protections_last()
     ensures { ProtectionsLast }
+{}
+
+/// Where a seat tells Held or Null while its helper word publishes, its next entry is that the helper word
+/// publishes nothing, whatever other seats tell between.
+pub fn records_withdraw_next()
+    ensures { RecordsWithdrawNext }
+{}
+
+/// A turn that tells a Held or Null while its seat's helper word publishes tells nothing after it: the
+/// turn that withdraws the word is the second after.
+pub fn turns_find_last()
+    ensures { TurnsFindLast }
 {}

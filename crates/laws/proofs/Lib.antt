@@ -1,3 +1,3 @@
-pub use Rattle.model_history.proofs as history
+pub use Rattle.model_record.proofs as records
 pub mod Along
 pub mod Tells

@@ -2,10 +2,10 @@
 use Rattle.std.proofs.Common.{ℕ, ◌≡◌, Bool, true, false, List, [], ◌∷◌, ◌++◌, refl, sym, ap, ◌∙◌, subst}
 use Rattle.std.specs.List.{filter}
 use Rattle.std.specs.Prelude.{◌==◌}
-use Rattle.model_history.proofs.model.Facts.{same_number}
-use Rattle.model_history.specs.Record.{Past, Each, tells_of}
-use Rattle.model_history.specs.Record.Past.{Then}
-use Rattle.model_history.specs.defs.declared.event.Event.{Event}
+use Rattle.model_record.proofs.defs.Facts.{same_number}
+use Rattle.model_record.specs.Record.{Past, Each, tells_of}
+use Rattle.model_record.specs.Record.Past.{Then}
+use Rattle.model_record.specs.defs.declared.event.Event.{Event}
 use Rattle.laws.proofs.Along.{along}
 use Rattle.laws.specs.StateAt.{seen}
 

@@ -1,122 +1,19 @@
 -- What calls answer, and why.
-use Rattle.std.specs.Prelude.{nat_lt, ℕ, if◌then◌else◌, Bool, true, ◌==◌, false, not, ◌||◌, None, ◌+◌, ◌%◌, List, [], ◌∷◌, ◌&&◌, Option, Some, length, nat_le, ◌-◌, is_none, ◌≤◌, suc, zero}
-use Rattle.model_history.specs.Record.{Test, EachEntry, Past, begins, held_since, value_since}
-use Rattle.model_history.specs.Record.Past.{Start, Then}
-use Rattle.model_history.specs.defs.Events.{is_null, is_held}
-use Rattle.model_history.specs.defs.declared.call.Answer.{Answer}
-use Rattle.model_history.specs.defs.declared.call.Answer.TheVariants as answers
-use Rattle.model_history.specs.defs.declared.call.Call.{Call}
-use Rattle.model_history.specs.defs.declared.call.Call.TheVariants as calls
-use Rattle.model_history.specs.defs.declared.call.ClockMove.{ClockMove}
-use Rattle.model_history.specs.defs.declared.call.ClockMove.TheVariants as moves
-use Rattle.model_history.specs.defs.declared.event.Event.{Event}
-use Rattle.model_history.specs.defs.declared.event.Event.TheVariants as events
-use Rattle.model_history.specs.model.Guards.{guards}
-use Rattle.model_history.specs.model.Memory.{bump}
-use Rattle.model_history.specs.words.declared.config.Config.{Config}
-use Rattle.laws.specs.ScanLaw.{Search, search_of}
-use Rattle.laws.specs.StateAt.{retires_of, changed_of, seen, same_value, began_of, told_of, count_of, had_version, is_there, pairs_at, was_current, queued_of, has_told, was_empty, begun_at, is_row, stood_at, bucket_of, taken_since, clock_of, taken_of, tails_of, finds_of}
-
--- a change of a bucket that was changed before, and a dequeue that took a value, retire one row; all other calls retire none
-abbrev pub retires_for : Answer → ℕ
-retires_for (answers.Done version clock) = if nat_lt 1 version then 1 else 0
-retires_for (answers.Taken number value clock) = 1
-retires_for answer = 0
-
-abbrev pub counts_right : Event → ℕ → Bool
-counts_right (events.End steps answer) before = before == retires_for answer
-counts_right event before = true
-
-abbrev pub retires_ok : Test
-retires_ok p i event = counts_right event (retires_of i p)
-
--- where a call ends, it has retired as many rows as its answer says
-abbrev pub RetireCounts : Past → Type 0
-RetireCounts r = EachEntry retires_ok r
-
--- the answers of a call that has changed something; refusals are among the others
-abbrev pub is_change : Answer → Bool
-is_change (answers.Done version clock) = true
-is_change (answers.Queued number) = true
-is_change (answers.Taken number value clock) = true
-is_change answer = false
-
-abbrev pub refuses_right : Event → Bool → Bool
-refuses_right (events.End steps answer) before = not before || is_change answer
-refuses_right event before = true
-
-abbrev pub refusing_ok : Test
-refusing_ok p i event = refuses_right event (changed_of i p)
-
--- only a call that answers Done, Queued or Taken has told a change or a link that is not to the tail: a refused call has not
-abbrev pub RefusalLaw : Past → Type 0
-RefusalLaw r = EachEntry refusing_ok r
-
--- what a seat's entries come to: how many rows it has retired in all its calls, counted up to the greatest number of 64 bits, where
--- the count stays; whether its call has to move the clock, since it is an Advance, or since the count became a multiple of `every`
--- in it; and the era that it has told since it began, or since it retired a row
-pub record ClockTally : Type 0 where
-  pub retired : ℕ
-  pub due : Bool
-  pub moved : Option ℕ
-
-abbrev pub is_advance : Call → Bool
-is_advance calls.Advance = true
-is_advance call = false
-
-abbrev pub clock_by : (every : ℕ) → Event → ClockTally → ClockTally
-clock_by every (events.Begin call) before = record { retired = before.retired; due = is_advance call; moved = None }
-clock_by every (events.Retire slot birth retire) before = record { retired = bump before.retired; due = bump before.retired % every == 0; moved = None }
-clock_by every (events.Era era) before = record { retired = before.retired; due = before.due; moved = Some era }
-clock_by every event before = before
-
-abbrev pub plain_clock_by : (every : ℕ) → Event → ClockTally → ClockTally
-plain_clock_by every (events.Retire slot birth retire) before = record { retired = before.retired + 1; due = (before.retired + 1) % every == 0; moved = None }
-plain_clock_by every event before = clock_by every event before
-
-abbrev pub no_clock : ClockTally
-no_clock = record { retired = 0; due = false; moved = None }
-
-abbrev pub plain_clock : (every : ℕ) → ℕ → Past → ClockTally
-plain_clock every i p = seen (plain_clock_by every) no_clock i p
-
-abbrev pub is_era : ℕ → Option ℕ → Bool
-is_era era None = false
-is_era era (Some told) = told == era
-
--- Still, just where no move was due; an era that the call moved the clock to, just where it told that era; that the clock stands at
--- its last era, or that another moved it, only where it told none
-abbrev pub outcome_fits : (last : ℕ) → ClockTally → ClockMove → Bool
-outcome_fits last t moves.Still = not t.due
-outcome_fits last t (moves.Moved era) = t.due && is_era era t.moved
-outcome_fits last t (moves.Other seen) = t.due && is_none t.moved
-outcome_fits last t (moves.EraSpent era) = t.due && (is_none t.moved && era == last)
-
-abbrev pub answer_fits : (last : ℕ) → ClockTally → Answer → Bool
-answer_fits last t (answers.Done version clock) = outcome_fits last t clock
-answer_fits last t (answers.Taken number value clock) = outcome_fits last t clock
-answer_fits last t (answers.Clock clock) = outcome_fits last t clock
-answer_fits last t answer = true
-
-abbrev pub clock_right : (last : ℕ) → Event → ClockTally → Bool
-clock_right last (events.End steps answer) before = answer_fits last before answer
-clock_right last event before = true
-
--- a call answers that the clock is still just where it is no Advance and that number did not become such a multiple in it
-abbrev pub plain_clocks_ok : Config → Test
-plain_clocks_ok config p i event = clock_right config.last_era event (plain_clock config.every i p)
-
-abbrev pub PlainOutcomes : Config → Past → Type 0
-PlainOutcomes config r = EachEntry (plain_clocks_ok config) r
-
--- what a call with this answer has told, in a table with so many buckets
-abbrev pub owes : ℕ → Call → Answer → List Event
-owes n (calls.Get key) (answers.Got version value) = events.Got (key % n) version key value ∷ []
-owes n (calls.Put key value) (answers.Done version clock) = events.Put (key % n) version key value ∷ []
-owes n (calls.Remove key) (answers.Done version clock) = events.Removed (key % n) version key ∷ []
-owes n (calls.Enqueue value) (answers.Queued number) = events.Queued number value ∷ []
-owes n calls.Dequeue (answers.Taken number value clock) = events.Taken number value ∷ []
-owes n call answer = []
+use Rattle.std.specs.Prelude.{nat_lt, ℕ, if◌then◌else◌, Bool, true, ◌==◌, false, not, ◌||◌, None, ◌+◌, ◌%◌, List, [], ◌∷◌, ◌&&◌, Option, Some, length, nat_le, ◌-◌, ◌≤◌, suc, zero}
+use Rattle.model_record.specs.Record.{Test, EachEntry, Past, begins, held_since, value_since}
+use Rattle.model_record.specs.Record.Past.{Start, Then}
+use Rattle.model_record.specs.defs.Events.{is_null, is_held}
+use Rattle.model_record.specs.defs.declared.call.Answer.{Answer}
+use Rattle.model_record.specs.defs.declared.call.Answer.TheVariants as answers
+use Rattle.model_record.specs.defs.declared.call.Call.{Call}
+use Rattle.model_record.specs.defs.declared.call.Call.TheVariants as calls
+use Rattle.model_record.specs.defs.declared.call.ClockMove.{ClockMove}
+use Rattle.model_record.specs.defs.declared.call.ClockMove.TheVariants as moves
+use Rattle.model_record.specs.defs.declared.event.Event.{Event}
+use Rattle.model_record.specs.defs.declared.event.Event.TheVariants as events
+use Rattle.wfe_words.specs.declared.config.Config.{Config}
+use Rattle.laws.specs.ScanLaw.{guards, blocks_of}
+use Rattle.laws.specs.StateAt.{retires_of, changed_of, seen, same_value, began_of, count_of, is_there, pairs_at, was_current, queued_of, has_told, begun_at, is_bare, stands, bucket_of, taken_since, clock_of, taken_of, tails_of, finds_of, times, is_read, is_back, is_give, list_of, is_among}
 
 -- the answers that a call may have
 abbrev pub suits : Call → Answer → Bool
@@ -141,6 +38,15 @@ suits calls.Advance (answers.Clock clock) = true
 suits calls.Scan (answers.Scanned kept back) = true
 suits call answer = false
 
+-- what a call with this answer has told of the map or of the queue, in a table with so many buckets
+abbrev pub owes : ℕ → Call → Answer → Option Event
+owes n (calls.Get key) (answers.Got version value) = Some (events.Got (key % n) version key value)
+owes n (calls.Put key value) (answers.Done version clock) = Some (events.Put (key % n) version key value)
+owes n (calls.Remove key) (answers.Done version clock) = Some (events.Removed (key % n) version key)
+owes n (calls.Enqueue value) (answers.Queued number) = Some (events.Queued number value)
+owes n calls.Dequeue (answers.Taken number value clock) = Some (events.Taken number value)
+owes n call answer = None
+
 abbrev pub same_event : Event → Event → Bool
 same_event (events.Got b version key value) (events.Got b' version' key' value') = (b == b' && version == version') && (key == key' && same_value value value')
 same_event (events.Put b version key value) (events.Put b' version' key' value') = (b == b' && version == version') && (key == key' && value == value')
@@ -149,29 +55,25 @@ same_event (events.Queued number value) (events.Queued number' value') = number 
 same_event (events.Taken number value) (events.Taken number' value') = number == number' && value == value'
 same_event event other = false
 
-abbrev pub same_told : List Event → List Event → Bool
-same_told [] [] = true
-same_told (event ∷ told) (other ∷ others) = same_event event other && same_told told others
-same_told [] (other ∷ others) = false
-same_told (event ∷ told) [] = false
+-- the call of seat i told the event once
+abbrev pub told_once : ℕ → Past → Option Event → Bool
+told_once i p None = true
+told_once i p (Some event) = times i (λ (other : Event). same_event other event) p == 1
 
-abbrev pub answer_right : ℕ → Option Call → List Event → Answer → Bool
-answer_right n None told answer = false
-answer_right n (Some call) told answer = suits call answer && same_told told (owes n call answer)
+abbrev pub answer_right : ℕ → ℕ → Past → Option Call → Answer → Bool
+answer_right n i p None answer = false
+answer_right n i p (Some call) answer = suits call answer && told_once i p (owes n call answer)
 
--- where a call ends, its answer suits it, and it has told just the event that the answer says, or none
-abbrev pub answers_ok : ℕ → Test
-answers_ok n p i (events.End steps answer) = answer_right n (began_of i p) (told_of i p) answer
+-- where a call ends, its answer suits it, and it has told once what the answer says
+abbrev pub answers_ok : (buckets : ℕ) → Test
+answers_ok n p i (events.End steps answer) = answer_right n i p (began_of i p) answer
 answers_ok n p i event = true
-
-abbrev pub AnswersLaw : ℕ → Past → Type 0
-AnswersLaw n r = EachEntry (answers_ok n) r
 
 -- a put of a key of bucket b
 abbrev pub put_reason : Config → ℕ → ℕ → ℕ → Past → Answer → Bool
 -- done: the version is allowed, and at the one before it the key was there, or a row had room for one pair more
 put_reason c i b key p (answers.Done version clock) =
-    nat_le version c.last_version && (had_version b (version - 1) p && (is_there b (version - 1) key p || nat_lt (length (pairs_at b (version - 1) p)) c.pairs))
+    nat_le version c.last_version && (is_there b (version - 1) key p || nat_lt (length (pairs_at b (version - 1) p)) c.pairs)
 -- spent: the bucket has the last version that is allowed
 put_reason c i b key p (answers.Spent version) = version == c.last_version && version == count_of b p
 -- full: at a version current during the call, which was not the last, the row had no room, and the key was not there
@@ -182,7 +84,7 @@ put_reason c i b key p answer = true
 -- a remove of a key of bucket b
 abbrev pub remove_reason : Config → ℕ → ℕ → ℕ → Past → Answer → Bool
 -- done: the version is allowed, and at the one before it the key was there
-remove_reason c i b key p (answers.Done version clock) = nat_le version c.last_version && (had_version b (version - 1) p && is_there b (version - 1) key p)
+remove_reason c i b key p (answers.Done version clock) = nat_le version c.last_version && is_there b (version - 1) key p
 -- absent: at a version current during the call the key was not there
 remove_reason c i b key p (answers.Absent version) = was_current i b version p && not (is_there b version key p)
 -- spent: the bucket has the last version that is allowed, and the key is there
@@ -197,22 +99,27 @@ enqueue_reason c p (answers.Spent number) = number == c.last_version && number =
 enqueue_reason c p answer = true
 
 abbrev pub dequeue_reason : ℕ → Past → Answer → Bool
--- empty: at a position of the call all that was queued was taken, and the call told Null at index 1
-dequeue_reason i p answers.Empty = was_empty i p && has_told i (is_null 1) p
+-- empty: the call told that there is none at index 1
+dequeue_reason i p answers.Empty = has_told i (is_null 1) p
 dequeue_reason i p answer = true
 
 -- a hold of a key of bucket b
 abbrev pub hold_reason : ℕ → ℕ → Past → Answer → Bool
 -- holding: the call told the row to stand at index 2, and it stands there
-hold_reason i b p (answers.Holding slot) = has_told i (is_held 2 slot) p && is_row slot (stood_at i 2 p)
--- nothing: the call told Null at index 2, and when it began the bucket had not been changed
+hold_reason i b p (answers.Holding slot) = has_told i (is_held 2 slot) p && stands i 2 slot p
+-- nothing: the call told that there is none at index 2, and when it began the bucket had not been changed
 hold_reason i b p answers.Nothing = has_told i (is_null 2) p && begun_at i b p == 0
 hold_reason i b p answer = true
 
 abbrev pub release_reason : ℕ → Past → Answer → Bool
 -- released: nothing stands at index 2
-release_reason i p answers.Released = is_none (stood_at i 2 p)
+release_reason i p answers.Released = is_bare i 2 p
 release_reason i p answer = true
+
+abbrev pub scan_reason : ℕ → Past → Answer → Bool
+-- scanned: so many lives are left on the seat's list, and so many rows went back in the call
+scan_reason i p (answers.Scanned kept back) = kept == length (list_of i p) && back == times i is_back p
+scan_reason i p answer = true
 
 -- by the call of seat i that gives the answer
 abbrev pub reason : Config → ℕ → Past → Option Call → Answer → Bool
@@ -222,6 +129,7 @@ reason c i p (Some (calls.Enqueue value)) answer = enqueue_reason c p answer
 reason c i p (Some calls.Dequeue) answer = dequeue_reason i p answer
 reason c i p (Some (calls.Hold key)) answer = hold_reason i (bucket_of c.buckets key) p answer
 reason c i p (Some calls.Release) answer = release_reason i p answer
+reason c i p (Some calls.Scan) answer = scan_reason i p answer
 reason c i p call answer = true
 
 -- where a call ends, its answer has its reason
@@ -229,18 +137,12 @@ abbrev pub reasons_ok : Config → Test
 reasons_ok c p i (events.End steps answer) = reason c i p (began_of i p) answer
 reasons_ok c p i event = true
 
-abbrev pub ReasonLaw : Config → Past → Type 0
-ReasonLaw c r = EachEntry (reasons_ok c) r
-
--- A call that answers Full was given no row, and has read each guard once. Since the last row that went back then, or since the last
--- guard that it read, the row was taken at a position.
+-- A call that answers Full was given no row, and had one block. Since the last row that went back then, or since the last guard that it
+-- read, the row was taken at a position.
 abbrev pub full_ok : Config → (s : ℕ) → Test
-full_ok config s p i (events.End steps answers.Full) = let x : Search = search_of i p in x.seeks && (x.reads == guards config && taken_since config.slots i s p)
+full_ok config s p i (events.End steps answers.Full) =
+    not (has_told i is_give p) && (times i is_read p == guards config && taken_since config.slots i s p)
 full_ok config s p i event = true
-
--- so it is with each row
-abbrev pub FullLaw : Config → Past → Type 0
-FullLaw config r = (s : ℕ) → s ≤ config.slots → EachEntry (full_ok config s) r
 
 -- some number up to n passes
 abbrev pub any_up_to : (ℕ → Bool) → ℕ → Bool
@@ -271,8 +173,60 @@ abbrev pub lacks_ok : Config → Test
 lacks_ok c p i (events.End steps answers.Full) = lacks_row c i p (began_of i p)
 lacks_ok c p i event = true
 
-abbrev pub LackLaw : Config → Past → Type 0
-LackLaw c r = EachEntry (lacks_ok c) r
+-- a change of a bucket that was changed before, and a dequeue that took a value, retire one row; all other calls retire none
+abbrev pub retires_for : Answer → ℕ
+retires_for (answers.Done version clock) = if nat_lt 1 version then 1 else 0
+retires_for (answers.Taken number value clock) = 1
+retires_for answer = 0
+
+-- where a call ends, it has retired as many rows as its answer says
+abbrev pub retires_ok : Test
+retires_ok p i (events.End steps answer) = retires_of i p == retires_for answer
+retires_ok p i event = true
+
+-- the answers of a call that was refused
+abbrev pub is_refusal : Answer → Bool
+is_refusal answers.Full = true
+is_refusal (answers.BucketFull version) = true
+is_refusal (answers.Absent version) = true
+is_refusal (answers.Spent number) = true
+is_refusal answers.Empty = true
+is_refusal answer = false
+
+-- a refused call has told no change of the map or of the queue, and no link but to the tail
+abbrev pub refuses_ok : Test
+refuses_ok p i (events.End steps answer) = not (is_refusal answer && changed_of i p)
+refuses_ok p i event = true
+
+-- What a seat's entries come to for what it answers of the clock. `retired`: the rows that it has retired in all its calls. `due`: its
+-- call has to move the clock, since it is an Advance, or since its last Retire came to a multiple of `every`. Since it began, or since
+-- that Retire: `eras` are those that it told before it read a guard, `told` says whether it told any, and `reads` whether it read one
+pub record ClockTally : Type 0 where
+  pub retired : ℕ
+  pub due : Bool
+  pub eras : List ℕ
+  pub told : Bool
+  pub reads : Bool
+
+abbrev pub no_clock : ClockTally
+no_clock = record { retired = 0; due = false; eras = []; told = false; reads = false }
+
+abbrev pub is_advance : Call → Bool
+is_advance calls.Advance = true
+is_advance call = false
+
+abbrev pub clock_by : (every : ℕ) → Event → ClockTally → ClockTally
+clock_by every (events.Begin call) before = record { retired = before.retired; due = is_advance call; eras = []; told = false; reads = false }
+clock_by every (events.Retire slot birth retire) before =
+    record { retired = before.retired + 1; due = (before.retired + 1) % every == 0; eras = []; told = false; reads = false }
+clock_by every (events.Era era) before =
+    record { retired = before.retired; due = before.due; eras = if before.reads then before.eras else era ∷ before.eras; told = true; reads = before.reads }
+clock_by every (events.Read guard span) before =
+    record { retired = before.retired; due = before.due; eras = before.eras; told = before.told; reads = true }
+clock_by every event before = before
+
+abbrev pub clock_tally : (every : ℕ) → ℕ → Past → ClockTally
+clock_tally every i p = seen (clock_by every) no_clock i p
 
 -- the clock where a seat began its call, or where it has retired a row since
 abbrev pub from_by : (clock : ℕ) → Event → ℕ → ℕ
@@ -284,25 +238,24 @@ abbrev pub from_of : ℕ → Past → ℕ
 from_of i Start = 1
 from_of i (Then p k event) = if i == k then from_by (clock_of p) event (from_of i p) else from_of i p
 
--- an era that another moved the clock to is later than that clock, and at most the present one; a last era is the present one
-abbrev pub time_fits : (from now : ℕ) → ClockMove → Bool
-time_fits from now (moves.Other seen) = nat_lt from seen && nat_le seen now
-time_fits from now (moves.EraSpent era) = era == now
-time_fits from now clock = true
+-- Still, just where no move was due; an era that the call moved the clock to, just where it told that era before it read a guard; that
+-- another moved it, to a later era up to the present one, or that it has come to its last era, only where the call told none
+abbrev pub outcome_fits : (last from now : ℕ) → ClockTally → ClockMove → Bool
+outcome_fits last from now t moves.Still = not t.due
+outcome_fits last from now t (moves.Moved era) = t.due && is_among era t.eras
+outcome_fits last from now t (moves.Other seen) = t.due && (not t.told && (nat_lt from seen && nat_le seen now))
+outcome_fits last from now t (moves.EraSpent era) = t.due && (not t.told && (era == last && era == now))
 
-abbrev pub answer_time : (from now : ℕ) → Answer → Bool
-answer_time from now (answers.Done version clock) = time_fits from now clock
-answer_time from now (answers.Taken number value clock) = time_fits from now clock
-answer_time from now (answers.Clock clock) = time_fits from now clock
-answer_time from now answer = true
+abbrev pub answer_fits : (last from now : ℕ) → ClockTally → Answer → Bool
+answer_fits last from now t (answers.Done version clock) = outcome_fits last from now t clock
+answer_fits last from now t (answers.Taken number value clock) = outcome_fits last from now t clock
+answer_fits last from now t (answers.Clock clock) = outcome_fits last from now t clock
+answer_fits last from now t answer = true
 
--- so where a call ends
-abbrev pub times_ok : Test
-times_ok p i (events.End steps answer) = answer_time (from_of i p) (clock_of p) answer
-times_ok p i event = true
-
-abbrev pub ClockTimes : Past → Type 0
-ClockTimes r = EachEntry times_ok r
+-- what a call answers of the clock is what it has told of it
+abbrev pub clocks_ok : Config → Test
+clocks_ok config p i (events.End steps answer) = answer_fits config.last_era (from_of i p) (clock_of p) (clock_tally config.every i p) answer
+clocks_ok config p i event = true
 
 -- what makes a call begin anew: changes of the bucket of a put or a remove; values queued and links to the tail for an enqueue, values
 -- taken and links to the tail for a dequeue; nothing for any other call
@@ -317,40 +270,31 @@ moves_of c call p = 0
 abbrev pub moves_before : Config → ℕ → Past → ℕ
 moves_before c i p = value_since (begins i) (moves_of c (began_of i p)) p
 
--- one where the call has read each guard, and none else
-abbrev pub whole_scan : (all : ℕ) → Search → ℕ
-whole_scan all search = if nat_le all search.reads then 1 else 0
-
--- the call has found its root once, and once more for each of these since it began, and for a scan
+-- the call has found its root once, and once more for each of these since it began, and for each of its blocks
 abbrev pub finds_few : Config → ℕ → Past → Bool
-finds_few c i p = nat_le (finds_of i p) (1 + (moves_of c (began_of i p) p - moves_before c i p) + whole_scan (guards c) (search_of i p))
+finds_few c i p = let begun : ℕ = (blocks_of c i p).begun in nat_le (finds_of i p) (1 + (moves_of c (began_of i p) p - moves_before c i p) + begun)
 
 -- so where a call ends
 abbrev pub repeats_ok : Config → Test
 repeats_ok c p i (events.End steps answer) = finds_few c i p
 repeats_ok c p i event = true
 
-abbrev pub RepeatLaw : Config → Past → Type 0
-RepeatLaw c r = EachEntry (repeats_ok c) r
-
 -- Each answer with its cause.
 pub record AnswerLaw (config : Config) (r : Past) : Type 0 where
-  -- a call's answer is of a kind that it may have, and the call told once what it answers of map and queue, or nothing
-  pub told : AnswersLaw config.buckets r
+  -- a call's answer is of a kind that it may have, and the call told once what it answers of map and queue
+  pub told : EachEntry (answers_ok config.buckets) r
   -- a change is done or refused by its bucket's pairs at a version of its call, and so are an enqueue, a dequeue and a hold by what the
-  -- queue and the bucket had; what a hold answers stands, and after a release nothing does
-  pub reasons : ReasonLaw config r
-  -- a call that answers Full was given no row and has read each guard once, and since then each row was taken at a position
-  pub full : FullLaw config r
+  -- queue and the bucket had; what a hold answers stands, and after a release nothing does; a scan counts what it kept and gave back
+  pub reasons : EachEntry (reasons_ok config) r
+  -- a call that answers Full was given no row and had one block, and since then each row was taken at a position
+  pub full : (s : ℕ) → s ≤ config.slots → EachEntry (full_ok config s) r
   -- at a version or a position of such a call nothing but a row was lacking
-  pub lacks : LackLaw config r
+  pub lacks : EachEntry (lacks_ok config) r
   -- by its end a call has retired one row if it took a value or changed a bucket after its first version, else none
-  pub retires : RetireCounts r
-  -- only a call that answers Done, Queued or Taken has told a change, or a link that is not to the tail
-  pub refusals : RefusalLaw r
-  -- what a call answers of the clock is what it has told of it
-  pub clock : PlainOutcomes config r
-  -- an era that another seat moved the clock to came after the call had to move it, and a last era is the clock
-  pub times : ClockTimes r
-  -- a call finds its root once, and once more for each change of its bucket or move of the queue since it began, and a scan
-  pub repeats : RepeatLaw config r
+  pub retires : EachEntry retires_ok r
+  -- a refused call has told no change of the map or of the queue, and no link but to the tail
+  pub refusals : EachEntry refuses_ok r
+  -- what a call answers of the clock is what it has told of it, or what other seats made of it
+  pub clock : EachEntry (clocks_ok config) r
+  -- a call finds its root once, and once more for each change of its bucket or move of the queue since it began, and each block
+  pub repeats : EachEntry (repeats_ok config) r

@@ -1,50 +1,73 @@
 -- Which eras are told.
-use Rattle.std.specs.Prelude.{Bool, false, true, None, Option, Some, nat_le, ℕ, ◌==◌, ◌&&◌, ◌||◌, ◌+◌, nat_lt}
-use Rattle.model_history.specs.Record.{Test, EachEntry, Past, begins, own}
-use Rattle.model_history.specs.defs.declared.event.Event.{Event}
-use Rattle.model_history.specs.defs.declared.event.Event.TheVariants as events
-use Rattle.model_history.specs.defs.declared.event.Guard.TheVariants.{Helper, Whole}
-use Rattle.model_history.specs.defs.declared.lifetime.Interval.{Interval}
-use Rattle.model_history.specs.words.Schemes.{is_ibr, is_wfe}
-use Rattle.model_history.specs.words.declared.config.Config.{Config}
-use Rattle.model_history.specs.words.declared.config.SchemeKind.{SchemeKind}
-use Rattle.laws.specs.ScanLaw.{Course, plain_tally}
-use Rattle.laws.specs.ScanLaw.Course.{Advancing, MayScan, MustScan, Plain, Reading}
-use Rattle.laws.specs.StateAt.{birth_of, clock_of, value_of, is_index, seat_of, was_clock, cuts}
+use Rattle.std.specs.Prelude.{Bool, false, true, None, Option, Some, nat_le, ℕ, ◌==◌, ◌&&◌, ◌||◌, ◌+◌, nat_lt, not, if◌then◌else◌}
+use Rattle.model_record.specs.Record.{Test, EachEntry, Past, begins, own}
+use Rattle.model_record.specs.defs.declared.call.Call.{Call}
+use Rattle.model_record.specs.defs.declared.call.Call.TheVariants as calls
+use Rattle.model_record.specs.defs.declared.event.Event.{Event}
+use Rattle.model_record.specs.defs.declared.event.Event.TheVariants as events
+use Rattle.model_record.specs.defs.declared.event.Guard.TheVariants.{Helper}
+use Rattle.model_record.specs.defs.declared.lifetime.Interval.{Interval}
+use Rattle.wfe_words.specs.Schemes.{has_one_interval, is_wfe}
+use Rattle.wfe_words.specs.declared.config.Config.{Config}
+use Rattle.wfe_words.specs.declared.config.SchemeKind.{SchemeKind}
+use Rattle.laws.specs.ScanLaw.{Blocks, blocks_of}
+use Rattle.laws.specs.StateAt.{birth_of, clock_of, value_of, is_index, seat_of, was_clock, cuts, has_cut, began_of}
 
-abbrev pub may_move : Course → Bool
-may_move Plain = false
-may_move Advancing = true
-may_move MayScan = true
-may_move (MustScan moves) = moves
-may_move (Reading reads) = false
+-- The clock is moved to the next era, up to the last one.
+abbrev pub era_ok : (last_era : ℕ) → Test
+era_ok last_era p i (events.Era era) = era == clock_of p + 1 && nat_le era last_era
+era_ok last_era p i event = true
 
--- The clock is moved only by an Advance, or in a call before one of its scans, which then has to come; once at most for each.
-abbrev pub move_right : Event → Course → Bool
-move_right (events.Era era) before = may_move before
-move_right event before = true
+abbrev pub is_of_advance : Option Call → Bool
+is_of_advance (Some calls.Advance) = true
+is_of_advance call = false
 
--- the clock is moved only by an Advance, or before one of these scans
-abbrev pub plain_moves_ok : Config → Test
-plain_moves_ok config p i event = move_right event (plain_tally config.every i p).course
+-- The clock is moved only by an Advance, once, or in a call before one of its blocks, once for each: where a call ends, each era that it
+-- told has had a block after it, but for one of an Advance.
+abbrev pub moves_right : Option Call → Event → Blocks → Bool
+moves_right call (events.End steps answer) blocks = if is_of_advance call then nat_le blocks.moves 1 else blocks.moves == 0
+moves_right call event blocks = true
 
-abbrev pub PlainMoves : Config → Past → Type 0
-PlainMoves config r = EachEntry (plain_moves_ok config) r
+abbrev pub moves_ok : Config → Test
+moves_ok config p i event = moves_right (began_of i p) event (blocks_of config i p)
 
--- an interval of eras up to the clock, and of one era alone but under 2GE
-abbrev pub span_ok : SchemeKind → (clock : ℕ) → Option Interval → Bool
-span_ok scheme clock None = true
-span_ok scheme clock (Some span) = (nat_le span.lo span.hi && nat_le span.hi clock) && (is_ibr scheme || span.lo == span.hi)
+-- a row's birth era was the clock at a position of the call that the row is given to
+abbrev pub birth_ok : Test
+birth_ok p i (events.Give slot birth) = was_clock (begins i) birth p
+birth_ok p i event = true
 
-abbrev pub era_ok : Config → Test
-era_ok config p i (events.Era era) = era == clock_of p + 1 && nat_le era config.last_era
-era_ok config p i (events.Reserve guard span) = span_ok config.scheme (clock_of p) span
-era_ok config p i (events.Give slot birth) = nat_le 1 birth && nat_le birth (clock_of p)
-era_ok config p i (events.Retire slot birth retire) = birth == birth_of slot p && (nat_le birth retire && nat_le retire (clock_of p))
-era_ok config p i event = true
+-- a row is retired with its birth era, and with a retire era that was the clock at a position after the seat has told its cut
+abbrev pub retire_ok : Test
+retire_ok p i (events.Retire slot birth retire) = birth == birth_of slot p && (has_cut i slot p && was_clock (own i (cuts slot)) retire p)
+retire_ok p i event = true
 
-abbrev pub ClockLaw : Config → Past → Type 0
-ClockLaw config r = EachEntry (era_ok config) r
+-- the upper end of what a guard is told to publish was the clock at a position of the call that tells it
+abbrev pub upper_current : (seat : ℕ) → Option Interval → Past → Bool
+upper_current i None p = true
+upper_current i (Some span) p = was_clock (begins i) span.hi p
+
+abbrev pub current_ok : Test
+current_ok p i (events.Reserve guard span) = upper_current i span p
+current_ok p i event = true
+
+-- one era alone, but where the scheme has one interval for a seat
+abbrev pub is_one_era : SchemeKind → Option Interval → Bool
+is_one_era scheme None = true
+is_one_era scheme (Some span) = has_one_interval scheme || span.lo == span.hi
+
+abbrev pub single_ok : SchemeKind → Test
+single_ok scheme p i (events.Reserve guard span) = is_one_era scheme span
+single_ok scheme p i event = true
+
+-- what follows an interval before it is withdrawn keeps its lower end, and has a later upper end
+abbrev pub span_rises : Option Interval → Option Interval → Bool
+span_rises (Some old) (Some span) = span.lo == old.lo && nat_lt old.hi span.hi
+span_rises old span = true
+
+-- so it is under 2GE with each guard
+abbrev pub rising_ok : SchemeKind → Test
+rising_ok scheme p i (events.Reserve guard span) = not (has_one_interval scheme) || span_rises (value_of guard p) span
+rising_ok scheme p i event = true
 
 -- both are intervals, and the same
 abbrev pub same_interval : Option Interval → Option Interval → Bool
@@ -57,73 +80,21 @@ abbrev pub guard_ok : SchemeKind → Test
 guard_ok scheme p i (events.Reserve guard span) = seat_of guard == i || (is_index guard && (is_wfe scheme && same_interval span (value_of (Helper i) p)))
 guard_ok scheme p i event = true
 
-abbrev pub GuardLaw : SchemeKind → Past → Type 0
-GuardLaw scheme r = EachEntry (guard_ok scheme) r
-
--- a row's birth era was the clock somewhere in the call that the row is given to
-abbrev pub birth_current : Test
-birth_current p i (events.Give slot birth) = was_clock (begins i) birth p
-birth_current p i event = true
-
-abbrev pub BirthsCurrent : Past → Type 0
-BirthsCurrent r = EachEntry birth_current r
-
--- a row is retired with a retire era that was the clock at a position after the seat has told its cut
-abbrev pub retire_current : Test
-retire_current p i (events.Retire slot birth retire) = was_clock (own i (cuts slot)) retire p
-retire_current p i event = true
-
-abbrev pub RetiresCurrent : Past → Type 0
-RetiresCurrent r = EachEntry retire_current r
-
--- the upper end of what a guard is told to publish was the clock at a position of the call that tells it
-abbrev pub upper_current : (seat : ℕ) → Option Interval → Past → Bool
-upper_current i None p = true
-upper_current i (Some span) p = was_clock (begins i) span.hi p
-
-abbrev pub reserve_current : Test
-reserve_current p i (events.Reserve guard span) = upper_current i span p
-reserve_current p i event = true
-
-abbrev pub ReservesCurrent : Past → Type 0
-ReservesCurrent r = EachEntry reserve_current r
-
-abbrev pub birth_ok : Test
-birth_ok p i (events.Retire slot birth retire) = birth == birth_of slot p
-birth_ok p i event = true
-
-abbrev pub BirthLaw : Past → Type 0
-BirthLaw r = EachEntry birth_ok r
-
--- an interval begins with one era; until it is withdrawn its lower end is kept, and each change raises its upper end
-abbrev pub span_grows : Option Interval → Option Interval → Bool
-span_grows None None = true
-span_grows None (Some span) = span.lo == span.hi
-span_grows (Some old) None = true
-span_grows (Some old) (Some span) = span.lo == old.lo && nat_lt old.hi span.hi
-
-abbrev pub span_rises : Test
-span_rises p i (events.Reserve (Whole seat) span) = span_grows (value_of (Whole seat) p) span
-span_rises p i event = true
-
-abbrev pub SpansRise : Past → Type 0
-SpansRise r = EachEntry span_rises r
-
 -- The clock, lifetimes and reservations.
 pub record EraLaw (config : Config) (r : Past) : Type 0 where
-  -- the clock rises by one up to the last era; what is published, given and retired has eras up to the clock
-  pub numbers : ClockLaw config r
-  -- the clock is moved only by an Advance or before a scan of the call, once at most for each
-  pub moves : PlainMoves config r
-  -- a row's birth era was the clock somewhere in the call that the row is given to
-  pub births_current : BirthsCurrent r
-  -- a row is retired with the birth era of its last Give
-  pub births : BirthLaw r
-  -- a row is retired with a retire era that was the clock at a position after its seat has told its cut
-  pub retires_current : RetiresCurrent r
+  -- the k-th move of the clock is to era k + 1, at most the last era
+  pub numbers : EachEntry (era_ok config.last_era) r
+  -- the clock is moved only by an Advance or before a block of the call, once at most for each
+  pub moves : EachEntry (moves_ok config) r
+  -- a row's birth era was the clock at a position of the call that the row is given to
+  pub births : EachEntry birth_ok r
+  -- a row is retired with its birth era, and a retire era that was the clock at a position after its cut
+  pub retires : EachEntry retire_ok r
   -- the upper end of what a guard is told to publish was the clock at a position of the call that tells it
-  pub reserves_current : ReservesCurrent r
-  -- an interval of 2GE begins with one era; until it is withdrawn its lower end is kept and each change raises its upper end
-  pub spans_rise : SpansRise r
+  pub current : EachEntry current_ok r
+  -- a guard publishes one era, but under 2GE
+  pub single : EachEntry (single_ok config.scheme) r
+  -- under 2GE the lower end of an interval stays until it is withdrawn, and the upper end rises
+  pub rising : EachEntry (rising_ok config.scheme) r
   -- a seat publishes at its own guards, but that a helper hands an index word what its own helper word publishes
-  pub guards : GuardLaw config.scheme r
+  pub guards : EachEntry (guard_ok config.scheme) r

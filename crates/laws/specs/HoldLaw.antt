@@ -1,24 +1,29 @@
 -- What protections hold.
-use Rattle.std.specs.Prelude.{Bool, ℕ, ◌&&◌, List, Some, true, ◌≡◌, Option, false, ◌%◌, None, ◌==◌, ◌||◌, not, if◌then◌else◌, is_some, is_none}
-use Rattle.model_history.specs.Record.{Past, tells, begins, held_since, Test, EachEntry}
-use Rattle.model_history.specs.defs.Entry.{Entry}
-use Rattle.model_history.specs.defs.declared.call.Call.{Call}
-use Rattle.model_history.specs.defs.declared.call.Call.TheVariants as calls
-use Rattle.model_history.specs.defs.declared.event.Event.TheVariants as events
-use Rattle.model_history.specs.defs.declared.event.Guard.TheVariants.{Helper, Index, Whole}
-use Rattle.model_history.specs.defs.declared.event.Root.TheVariants as roots
-use Rattle.model_history.specs.defs.declared.lifetime.Interval.{Interval}
-use Rattle.model_history.specs.model.Guards.{own_guard}
-use Rattle.model_history.specs.model.Scan.{meets_span}
-use Rattle.model_history.specs.words.declared.config.Config.{Config}
-use Rattle.model_history.specs.words.declared.config.SchemeKind.{SchemeKind}
-use Rattle.model_history.specs.words.declared.config.SchemeKind.TheVariants.{He, Ibr, Wfe}
+use Rattle.std.specs.Prelude.{Bool, ℕ, ◌&&◌, List, Some, true, ◌≡◌, Option, false, ◌%◌, None, ◌==◌, ◌||◌, not, if◌then◌else◌, is_none, [], ◌∷◌}
+use Rattle.model_record.specs.Record.{Past, tells, begins, held_since, Test, EachEntry}
+use Rattle.model_record.specs.defs.Entry.{Entry}
+use Rattle.model_record.specs.defs.Events.{is_null}
+use Rattle.model_record.specs.defs.Shown.{keeps, shown}
+use Rattle.model_record.specs.defs.declared.call.Call.{Call}
+use Rattle.model_record.specs.defs.declared.call.Call.TheVariants as calls
+use Rattle.model_record.specs.defs.declared.event.Event.TheVariants as events
+use Rattle.model_record.specs.defs.declared.event.Guard.{Guard}
+use Rattle.model_record.specs.defs.declared.event.Guard.TheVariants.{Helper, Index, Whole}
+use Rattle.model_record.specs.defs.declared.event.Root.TheVariants as roots
+use Rattle.model_record.specs.defs.declared.lifetime.Interval.{Interval}
+use Rattle.wfe_words.specs.Schemes.{has_one_interval}
+use Rattle.wfe_words.specs.declared.config.Config.{Config}
+use Rattle.wfe_words.specs.declared.config.SchemeKind.{SchemeKind}
 use Rattle.laws.specs.Once.{is_slot}
-use Rattle.laws.specs.StateAt.{taken_at, life_at, value_of, stood_at, bucket_at, head_at, same_value, tail_at, began_of, has_root, rooted_of, is_row, null_of, row_at, next_at}
+use Rattle.laws.specs.StateAt.{taken_at, life_at, value_of, stands, standing_of, is_bare, bucket_at, head_at, same_value, tail_at, began_of, has_root, has_told, is_dequeue, rooted_of, row_at, next_at}
+
+-- the guard of a seat's index: its index word, or under 2GE the seat's interval word
+abbrev pub own_guard : SchemeKind → (seat index : ℕ) → Guard
+own_guard scheme seat index = if has_one_interval scheme then Whole seat else Index seat index
 
 -- the row is taken, and the guard of index j of seat k publishes an interval that meets the row's life
-abbrev pub is_held : Config → ℕ → ℕ → ℕ → Past → Bool
-is_held config k j s p = taken_at config.slots s p && meets_span (life_at s p) (value_of (own_guard config.scheme k j) p)
+abbrev pub is_held : Config → (k j s : ℕ) → Past → Bool
+is_held config k j s p = taken_at config.slots s p && keeps (life_at s p) (shown (value_of (own_guard config.scheme k j) p))
 
 -- wherever the record is cut, a row that stands at an index of a seat is taken, and the guard of that index publishes an interval that
 -- meets the row's life
@@ -26,7 +31,7 @@ abbrev pub HeldThroughout : Config → Past → Type 0
 HeldThroughout config r =
     (before : Past) (later : List Entry) (k j s : ℕ)
     → r ≡ tells before later
-    → stood_at k j before ≡ Some s
+    → stands k j s before ≡ true
     → is_held config k j s before ≡ true
 
 -- the row that a call found at its root, or that there is none, is what the root had at a position of the call
@@ -39,104 +44,74 @@ has_had c i p (Some (calls.Enqueue value)) found = held_since (begins i) (λ (q 
 has_had c i p (Some calls.Dequeue) found = held_since (begins i) (λ (q : Past). same_value found (Some (head_at c.slots q))) p
 has_had c i p call found = false
 
--- so it is with each row that is told to stand, and where it is told that there is none, but for index 1, where a dequeue follows
--- the next link of the head's row
+-- a call protects its root at this index
+abbrev pub is_of_root : ℕ → Bool
+is_of_root index = index == 0 || index == 2
+
+-- so it is with each row that is told to stand at such an index, and where it is told that there is none
 abbrev pub sources_ok : Config → Test
-sources_ok c p i (events.Held index slot steps) = index == 1 || has_had c i p (began_of i p) (Some slot)
-sources_ok c p i (events.Null index steps) = index == 1 || has_had c i p (began_of i p) None
+sources_ok c p i (events.Held index slot steps) = not (is_of_root index) || has_had c i p (began_of i p) (Some slot)
+sources_ok c p i (events.Null index steps) = not (is_of_root index) || has_had c i p (began_of i p) None
 sources_ok c p i event = true
 
-abbrev pub SourceLaw : Config → Past → Type 0
-SourceLaw c r = EachEntry (sources_ok c) r
-
--- where such a call ends it has found its root
+-- where such a call ends, but for a hold, it has found its root at index 0
 abbrev pub finds_ok : Test
 finds_ok p i (events.End steps answer) = not (has_root (began_of i p)) || rooted_of i p
 finds_ok p i event = true
 
-abbrev pub FindLaw : Past → Type 0
-FindLaw r = EachEntry finds_ok r
+-- the row stands at index j of the seat, if there is one
+abbrev pub stands_as : (seat index : ℕ) → Past → (row : Option ℕ) → Bool
+stands_as i j p None = false
+stands_as i j p (Some slot) = stands i j slot p
 
-abbrev pub stands_as : (row stood : Option ℕ) → Bool
-stands_as None stood = false
-stands_as (Some slot) stood = is_row slot stood
-
--- a get that tells version 0 has found none; where it tells a later version, the row of that version stands at its index 0
+-- a get that tells version 0 has told that there is none; where it tells a later version, the row of that version stands at index 0
 abbrev pub got_right : (b version i : ℕ) → Past → Bool
-got_right b version i p = if version == 0 then null_of i p else stands_as (row_at b version p) (stood_at i 0 p)
+got_right b version i p = if version == 0 then has_told i (is_null 0) p else stands_as i 0 p (row_at b version p)
 
 abbrev pub gots_ok : Test
 gots_ok p i (events.Got bucket version key value) = got_right bucket version i p
 gots_ok p i event = true
 
-abbrev pub GotLaw : Past → Type 0
-GotLaw r = EachEntry gots_ok r
-
-abbrev pub is_dequeue : Option Call → Bool
-is_dequeue (Some calls.Dequeue) = true
-is_dequeue call = false
-
--- the row that a root had, if it had one, stands
-abbrev pub stands_for : (had stood : Option ℕ) → Bool
-stands_for None stood = true
-stands_for (Some slot) stood = is_row slot stood
+-- the row that a root had, if it had one, stands at index 0 of the seat
+abbrev pub stands_for : (seat : ℕ) → Past → (had : Option ℕ) → Bool
+stands_for i p None = true
+stands_for i p (Some slot) = stands i 0 slot p
 
 -- Where a seat links a row at a bucket's root, at the head or at the tail, the row that the root had stands at its index 0, and
 -- where it links one at a next link, the row whose link it is. What the head is linked to stands at its index 1, and so does what
 -- a dequeue links the tail to.
 abbrev pub links_ok : (slots : ℕ) → Test
-links_ok slots p i (events.Link (roots.Bucket bucket) slot) = stands_for (bucket_at bucket p) (stood_at i 0 p)
-links_ok slots p i (events.Link (roots.Next parent) slot) = is_row parent (stood_at i 0 p)
-links_ok slots p i (events.Link roots.Head slot) = is_row (head_at slots p) (stood_at i 0 p) && is_row slot (stood_at i 1 p)
-links_ok slots p i (events.Link roots.Tail slot) =
-    is_row (tail_at slots p) (stood_at i 0 p) && (not (is_dequeue (began_of i p)) || is_row slot (stood_at i 1 p))
+links_ok slots p i (events.Link (roots.Bucket bucket) slot) = stands_for i p (bucket_at bucket p)
+links_ok slots p i (events.Link (roots.Next parent) slot) = stands i 0 parent p
+links_ok slots p i (events.Link roots.Head slot) = stands i 0 (head_at slots p) p && stands i 1 slot p
+links_ok slots p i (events.Link roots.Tail slot) = stands i 0 (tail_at slots p) p && (not (is_dequeue (began_of i p)) || stands i 1 slot p)
 links_ok slots p i event = true
-
-abbrev pub LinkLaw : (slots : ℕ) → Past → Type 0
-LinkLaw slots r = EachEntry (links_ok slots) r
-
--- Where a seat tells at index 1 that a row stands, the row that the head has stands at its index 0, and where it tells at index 1
--- that there is none, some row stands at its index 0.
-abbrev pub follows_ok : (slots : ℕ) → Test
-follows_ok slots p i (events.Held index slot steps) = not (index == 1) || is_row (head_at slots p) (stood_at i 0 p)
-follows_ok slots p i (events.Null index steps) = not (index == 1) || is_some (stood_at i 0 p)
-follows_ok slots p i event = true
-
-abbrev pub FollowLaw : (slots : ℕ) → Past → Type 0
-FollowLaw slots r = EachEntry (follows_ok slots) r
 
 -- the head has this row, and no row is next to it
 abbrev pub is_last : (slots row : ℕ) → Past → Bool
 is_last slots row p = (head_at slots p == row) && is_none (next_at row p)
 
--- so it was with the row that stands, at a position of the call of seat i
-abbrev pub was_last : (slots i : ℕ) → Past → (stood : Option ℕ) → Bool
-was_last slots i p None = false
-was_last slots i p (Some row) = held_since (begins i) (is_last slots row) p
+-- so it was with one of these rows, at a position of the call of seat i
+abbrev pub was_last : (slots i : ℕ) → Past → (rows : List ℕ) → Bool
+was_last slots i p [] = false
+was_last slots i p (row ∷ rows) = held_since (begins i) (is_last slots row) p || was_last slots i p rows
 
--- Where a seat tells at index 1 that a row stands, it is the next row of the row that the head has. Where it tells there that there
--- is none, some row stands at its index 0, and no row was next to that while the head had it, at a position of the call.
+-- Where a seat tells at index 1 that a row stands, the head's row stands at its index 0, and the row is the next one of that. Where it
+-- tells there that there is none, no row was next to one that stands at index 0 while the head had it, at a position of the call.
 abbrev pub behind_ok : (slots : ℕ) → Test
-behind_ok slots p i (events.Held index slot steps) = not (index == 1) || is_slot slot (next_at (head_at slots p) p)
-behind_ok slots p i (events.Null index steps) = not (index == 1) || was_last slots i p (stood_at i 0 p)
+behind_ok slots p i (events.Held index slot steps) = not (index == 1) || (stands i 0 (head_at slots p) p && is_slot slot (next_at (head_at slots p) p))
+behind_ok slots p i (events.Null index steps) = not (index == 1) || was_last slots i p (standing_of i 0 p)
 behind_ok slots p i event = true
 
-abbrev pub BehindLaw : (slots : ℕ) → Past → Type 0
-BehindLaw slots r = EachEntry (behind_ok slots) r
-
--- at an End of a seat nothing stands at its index j, but for index 2
-abbrev pub bare_ok : ℕ → Test
-bare_ok j p i (events.End steps answer) = is_none (stood_at i j p) || j == 2
-bare_ok j p i event = true
-
-abbrev pub BareLaw : Past → Type 0
-BareLaw r = (j : ℕ) → EachEntry (bare_ok j) r
+-- where a call ends nothing stands at index 0 of its seat, and nothing at index 1
+abbrev pub bare_ok : Test
+bare_ok p i (events.End steps answer) = is_bare i 0 p && is_bare i 1 p
+bare_ok p i event = true
 
 -- an interval is published exactly where a row stands
-abbrev pub is_alike : Option Interval → Option ℕ → Bool
-is_alike None None = true
-is_alike (Some span) (Some slot) = true
-is_alike span slot = false
+abbrev pub is_alike : Option Interval → (bare : Bool) → Bool
+is_alike None bare = bare
+is_alike (Some span) bare = not bare
 
 -- the helper word of seat i and its index words 0 and 1 publish nothing, and its index word 2 where a row stands there
 abbrev pub words_rest : ℕ → Past → Bool
@@ -144,39 +119,33 @@ words_rest i p =
     is_none (value_of (Helper i) p)
     && (is_none (value_of (Index i 0) p)
     && (is_none (value_of (Index i 1) p)
-    && is_alike (value_of (Index i 2) p) (stood_at i 2 p)))
+    && is_alike (value_of (Index i 2) p) (is_bare i 2 p)))
 
 -- under 2GE the seat's interval word publishes where a row stands at index 2
 abbrev pub guards_rest : SchemeKind → ℕ → Past → Bool
-guards_rest He i p = words_rest i p
-guards_rest Ibr i p = is_alike (value_of (Whole i) p) (stood_at i 2 p)
-guards_rest Wfe i p = words_rest i p
+guards_rest scheme i p = if has_one_interval scheme then is_alike (value_of (Whole i) p) (is_bare i 2 p) else words_rest i p
 
 -- so it is where a call of the seat ends
 abbrev pub rests_ok : SchemeKind → Test
 rests_ok scheme p i (events.End steps answer) = guards_rest scheme i p
 rests_ok scheme p i event = true
 
-abbrev pub RestLaw : SchemeKind → Past → Type 0
-RestLaw scheme r = EachEntry (rests_ok scheme) r
-
 -- What stands is covered, and was there to be found.
 pub record HoldLaw (config : Config) (r : Past) : Type 0 where
   -- at each position what stands is taken, and the guard of its index publishes an interval that meets its life
   pub throughout : HeldThroughout config r
   -- what a call holds at its root, or that there is nothing, the root had at a position of the call
-  pub sources : SourceLaw config r
+  pub sources : EachEntry (sources_ok config) r
   -- where a call ends it has held the row of its root, or told that there is none
-  pub finds : FindLaw r
+  pub finds : EachEntry finds_ok r
   -- a get tells a version whose row stands, or that it has found none
-  pub gots : GotLaw r
+  pub gots : EachEntry gots_ok r
   -- the row that a link replaces, or behind which it links, stands at index 0, and the head's next row at index 1
-  pub links : LinkLaw config.slots r
-  -- where a row is held at index 1 the head's row stands at index 0, and where there is none some row does
-  pub follows : FollowLaw config.slots r
-  -- what is held at index 1 is the next row of the head's row; where nothing is, the head's row had no next one at a position of the call
-  pub behind : BehindLaw config.slots r
-  -- where a call ends nothing stands at an index of its seat but 2
-  pub bare : BareLaw r
+  pub links : EachEntry (links_ok config.slots) r
+  -- what is held at index 1 is the next row of the head's row, which stands at index 0; where nothing is, the head's row had no next one
+  -- at a position of the call
+  pub behind : EachEntry (behind_ok config.slots) r
+  -- where a call ends nothing stands at index 0 or 1 of its seat
+  pub bare : EachEntry bare_ok r
   -- where a call ends its seat's guards publish nothing, but for what is held on
-  pub rests : RestLaw config.scheme r
+  pub rests : EachEntry (rests_ok config.scheme) r

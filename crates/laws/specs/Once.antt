@@ -1,64 +1,63 @@
 -- Each row is given, linked, cut, retired and given back once, in this order.
-use Rattle.std.specs.Prelude.{not, true, ℕ, ◌&&◌, Bool, false, ◌==◌, None, Option, Some, ◌≡◌, is_none, List}
-use Rattle.model_history.specs.Record.{Test, EachEntry, Past}
-use Rattle.model_history.specs.Record.Past.{Then, Start}
-use Rattle.model_history.specs.defs.declared.event.Event.{Event}
-use Rattle.model_history.specs.defs.declared.event.Event.TheVariants as events
-use Rattle.model_history.specs.defs.declared.event.Root.TheVariants as roots
-use Rattle.laws.specs.StateAt.{cut_at, has_slot, list_of, taken_at, retired_at, Given, given_of, bucket_at, head_at, next_at, tail_at, was_given, is_among, is_empty, cuts_of}
-use Rattle.laws.specs.StateAt.Given.{InHand, Placed, Without}
+use Rattle.std.specs.Prelude.{not, true, ℕ, ◌&&◌, Bool, false, ◌==◌, None, Option, Some, is_none, ◌||◌, List, if◌then◌else◌}
+use Rattle.model_record.specs.Record.{Test, EachEntry, Past}
+use Rattle.model_record.specs.Record.Past.{Then, Start}
+use Rattle.model_record.specs.defs.declared.event.Event.{Event}
+use Rattle.model_record.specs.defs.declared.event.Event.TheVariants as events
+use Rattle.model_record.specs.defs.declared.event.Root.TheVariants as roots
+use Rattle.laws.specs.StateAt.{has_slot, list_of, taken_at, bucket_at, head_at, next_at, tail_at, is_among, is_empty, is_row, cuts_of, seen}
 
--- A row is given only where it is free, and told Unused or Back only where it is taken. A seat tells Back only of a row of its own
--- list, and retires only a row that it has cut and not retired since.
-abbrev pub once_ok : ℕ → Test
-once_ok slots p i (events.Give slot birth) = not (taken_at slots slot p)
-once_ok slots p i (events.Unused slot) = taken_at slots slot p
-once_ok slots p i (events.Back slot) = taken_at slots slot p && has_slot slot (list_of i p)
-once_ok slots p i (events.Retire slot birth retire) = cut_at i slot p
-once_ok slots p i event = true
+-- A row is given only where it is free, and told Unused or Back only where it is taken.
+abbrev pub free_ok : (slots : ℕ) → Test
+free_ok slots p i (events.Give slot birth) = not (taken_at slots slot p)
+free_ok slots p i (events.Unused slot) = taken_at slots slot p
+free_ok slots p i (events.Back slot) = taken_at slots slot p
+free_ok slots p i event = true
 
-abbrev pub FreeLaw : ℕ → Past → Type 0
-FreeLaw slots r = EachEntry (once_ok slots) r
+-- what a call has done with the row that it was given: which one that was, whether it linked it at a bucket's root or at a next link,
+-- and whether it told it unused
+pub record Grant : Type 0 where
+  pub row : Option ℕ
+  pub linked : Bool
+  pub unused : Bool
 
--- A row goes back only where it was retired since it went back last: so each retired row goes back at most once.
-abbrev pub back_ok : Test
-back_ok p i (events.Back slot) = retired_at slot p
-back_ok p i event = true
+abbrev pub no_grant : Grant
+no_grant = record { row = None; linked = false; unused = false }
 
-abbrev pub BackOnce : Past → Type 0
-BackOnce r = EachEntry back_ok r
+abbrev pub linked_to : ℕ → Grant → Grant
+linked_to slot before = if is_row slot before.row then record before { linked = true } else before
 
-abbrev pub is_without : Given → Bool
-is_without Without = true
-is_without (InHand slot) = false
-is_without Placed = false
+abbrev pub granted_by : Event → Grant → Grant
+granted_by (events.Begin call) before = no_grant
+granted_by (events.Give slot birth) before = record { row = Some slot; linked = false; unused = false }
+granted_by (events.Unused slot) before = if is_row slot before.row then record before { unused = true } else before
+granted_by (events.Link (roots.Bucket bucket) slot) before = linked_to slot before
+granted_by (events.Link (roots.Next parent) slot) before = linked_to slot before
+granted_by event before = before
 
-abbrev pub is_in_hand : ℕ → Given → Bool
-is_in_hand slot Without = false
-is_in_hand slot (InHand other) = other == slot
-is_in_hand slot Placed = false
+-- of the call that seat i began last
+abbrev pub grant_of : ℕ → Past → Grant
+grant_of i p = seen granted_by no_grant i p
 
-abbrev pub has_none : Given → Bool
-has_none Without = true
-has_none (InHand slot) = false
-has_none Placed = true
+-- the row was given in the call, and is not linked yet
+abbrev pub may_link : ℕ → Grant → Bool
+may_link slot grant = is_row slot grant.row && not grant.linked
 
--- A call is given a row only where none was given to it. What it links at a bucket's root or at a next link, and what it tells
--- Unused, is the row in its hand. Where it ends, no row is in its hand: the one that it was given was linked or told Unused, and
--- not both.
-abbrev pub places_right : Event → Given → Bool
-places_right (events.Give slot birth) before = is_without before
-places_right (events.Unused slot) before = is_in_hand slot before
-places_right (events.Link (roots.Bucket bucket) slot) before = is_in_hand slot before
-places_right (events.Link (roots.Next parent) slot) before = is_in_hand slot before
-places_right (events.End steps answer) before = has_none before
+-- no row was given, or it was either linked or told unused
+abbrev pub is_placed : Grant → Bool
+is_placed grant = is_none grant.row || (if grant.linked then not grant.unused else grant.unused)
+
+-- A call is given one row at most. What it links at a bucket's root or at a next link is that row, not linked yet. Where the call ends,
+-- the row was linked or told unused by the same seat, and not both.
+abbrev pub places_right : Event → Grant → Bool
+places_right (events.Give slot birth) before = is_none before.row
+places_right (events.Link (roots.Bucket bucket) slot) before = may_link slot before
+places_right (events.Link (roots.Next parent) slot) before = may_link slot before
+places_right (events.End steps answer) before = is_placed before
 places_right event before = true
 
 abbrev pub placing_ok : Test
-placing_ok p i event = places_right event (given_of i p)
-
-abbrev pub PlacingLaw : Past → Type 0
-PlacingLaw r = EachEntry placing_ok r
+placing_ok p i event = places_right event (grant_of i p)
 
 -- what has to be told next, and by which seat. `CutDue`: that this row is cut; `ChangeDue`: a Put or Removed of this bucket;
 -- `QueuedDue`, `TakenDue`: a Queued, a Taken
@@ -124,31 +123,23 @@ meets_due (ChangeDue seat bucket) i event = changes_due seat bucket i event
 meets_due (QueuedDue seat) i event = queued_due seat i event
 meets_due (TakenDue seat) i event = taken_due seat i event
 
--- each entry is what is due where it stands
-abbrev pub order_ok : (slots : ℕ) → Test
-order_ok slots p i event = meets_due (due_at slots p) i event
-
 -- After a link to a bucket's root the next entries, of the same seat, are the cut of the row that the root had, if it had one, and
 -- a change of the bucket; after a link to a next link a Queued; after a link to the head the cut of the row that the head had, and a
--- Taken. Cuts and changes come nowhere else, and at the record's end none is missing.
-pub record OrderLaw (slots : ℕ) (r : Past) : Type 0 where
-  pub each : EachEntry (order_ok slots) r
-  pub last : due_at slots r ≡ NoneDue
+-- Taken. Cuts and changes come nowhere else.
+abbrev pub order_ok : (slots : ℕ) → Test
+order_ok slots p i event = meets_due (due_at slots p) i event
 
 abbrev pub is_slot : ℕ → Option ℕ → Bool
 is_slot slot None = false
 is_slot slot (Some other) = other == slot
 
--- A row is linked at a next link only where that is of a row that was given, or of the dummy, and leads to none. What the head is
--- linked to is the next row of the head's row, and what the tail is linked to the next row of the tail's row.
+-- A row is linked at a next link only where that leads to none. What the head is linked to is the next row of the head's row, and what
+-- the tail is linked to the next row of the tail's row.
 abbrev pub nexts_ok : (slots : ℕ) → Test
-nexts_ok slots p i (events.Link (roots.Next parent) slot) = was_given slots parent p && is_none (next_at parent p)
+nexts_ok slots p i (events.Link (roots.Next parent) slot) = is_none (next_at parent p)
 nexts_ok slots p i (events.Link roots.Head slot) = is_slot slot (next_at (head_at slots p) p)
 nexts_ok slots p i (events.Link roots.Tail slot) = is_slot slot (next_at (tail_at slots p) p)
 nexts_ok slots p i event = true
-
-abbrev pub NextsLaw : (slots : ℕ) → Past → Type 0
-NextsLaw slots r = EachEntry (nexts_ok slots) r
 
 -- A row is retired only by a call that has cut it and not retired it since, and where a call ends it has retired all that it has
 -- cut: each just once for each Cut.
@@ -160,20 +151,23 @@ retires_right event before = true
 abbrev pub retiring_ok : Test
 retiring_ok p i event = retires_right event (cuts_of i p)
 
-abbrev pub RetireLaw : Past → Type 0
-RetireLaw r = EachEntry retiring_ok r
+-- A row goes back only from the list of the seat that tells so.
+abbrev pub backs_ok : Test
+backs_ok p i (events.Back slot) = has_slot slot (list_of i p)
+backs_ok p i event = true
 
 -- The way of a row from free to free.
 pub record Once (slots : ℕ) (r : Past) : Type 0 where
-  -- free rows are given, taken ones told unused or back; a seat tells back of its own list, and retires what it has cut
-  pub free : FreeLaw slots r
-  -- a row goes back only where it was retired since it went back last, so each retired row at most once
-  pub back : BackOnce r
-  -- a call is given one row at most, which it links or tells unused, not both, and links no other to a bucket or a next link
-  pub placing : PlacingLaw r
+  -- free rows are given, and taken ones told unused or back
+  pub free : EachEntry (free_ok slots) r
+  -- a call is given one row at most, links at a bucket's root or at a next link that row alone and once, and has linked it or told it
+  -- unused where it ends, and not both
+  pub placing : EachEntry placing_ok r
   -- after a link come the cut of the row that it replaced and the change that it made, and these come nowhere else
-  pub order : OrderLaw slots r
+  pub order : EachEntry (order_ok slots) r
   -- a row is linked behind one that has no next row, and head and tail go on to the next row
-  pub nexts : NextsLaw slots r
+  pub nexts : EachEntry (nexts_ok slots) r
   -- a call retires each row that it cuts before it ends, once for each time that it cuts it, and no other
-  pub retiring : RetireLaw r
+  pub retiring : EachEntry retiring_ok r
+  -- a row goes back only from the list of the seat that tells so
+  pub backs : EachEntry backs_ok r

@@ -1,31 +1,52 @@
 -- What scans read and give back, and which calls scan.
-use Rattle.std.specs.Prelude.{List, None, Option, Some, if◌then◌else◌, [], ◌∷◌, Bool, false, ℕ, ◌==◌, is_none, length, ◌&&◌, nat_lt, not, ◌||◌, true, ◌+◌, ◌%◌, ◌≡◌, ◌≤◌, ◌<◌, ◌*◌}
-use Rattle.model_history.specs.Record.{Test, EachEntry, Past, tells}
-use Rattle.model_history.specs.defs.Entry.{Entry}
-use Rattle.model_history.specs.defs.declared.call.Answer.{Answer}
-use Rattle.model_history.specs.defs.declared.call.Answer.TheVariants as answers
-use Rattle.model_history.specs.defs.declared.call.Call.{Call}
-use Rattle.model_history.specs.defs.declared.call.Call.TheVariants as calls
-use Rattle.model_history.specs.defs.declared.event.Event.{Event}
-use Rattle.model_history.specs.defs.declared.event.Event.TheVariants as events
-use Rattle.model_history.specs.defs.declared.lifetime.Lifetime.{Lifetime}
-use Rattle.model_history.specs.model.Desks.{Seen}
-use Rattle.model_history.specs.model.Guards.{guard_at, guards}
-use Rattle.model_history.specs.model.Memory.{bump}
-use Rattle.model_history.specs.model.Scan.{meets_any}
-use Rattle.model_history.specs.words.declared.config.Config.{Config}
-use Rattle.laws.specs.StateAt.{same_guard, list_of, read_of, scans_of, is_back, is_read, times, call_of, value_of, same_span, is_retire, takes_out, told, seen, was_taken}
+use Rattle.std.specs.Prelude.{List, None, Option, Some, if◌then◌else◌, [], ◌∷◌, Bool, false, ℕ, ◌==◌, is_none, length, ◌&&◌, nat_lt, not, ◌||◌, true, ◌+◌, ◌-◌, ◌*◌, ◌/◌, ◌%◌, ◌≤◌}
+use Rattle.model_record.specs.Record.{Test, EachEntry, Past}
+use Rattle.model_record.specs.defs.Shown.{Seen, keeps_any}
+use Rattle.model_record.specs.defs.declared.call.Call.{Call}
+use Rattle.model_record.specs.defs.declared.call.Call.TheVariants as calls
+use Rattle.model_record.specs.defs.declared.event.Event.{Event}
+use Rattle.model_record.specs.defs.declared.event.Event.TheVariants as events
+use Rattle.model_record.specs.defs.declared.event.Guard.{Guard}
+use Rattle.model_record.specs.defs.declared.event.Guard.TheVariants.{Helper, Index, Whole}
+use Rattle.model_record.specs.defs.declared.lifetime.Lifetime.{Lifetime}
+use Rattle.wfe_words.specs.declared.config.Config.{Config}
+use Rattle.wfe_words.specs.declared.config.SchemeKind.{SchemeKind}
+use Rattle.wfe_words.specs.declared.config.SchemeKind.TheVariants.{He, Ibr, Wfe}
+use Rattle.laws.specs.StateAt.{same_guard, list_of, read_of, scans_of, value_of, same_span, seen, began_of, was_taken}
 
--- the first life of a list that meets nothing read
+-- the index word of this number, by seat and then index
+abbrev pub index_at : Config → ℕ → Guard
+index_at config k = Index (k / config.indexes) (k % config.indexes)
+
+-- the guard that a scan reads after k others: index words by seat and then index; under 2GE the interval words by seat; under Wait-Free
+-- Eras all helper words by seat, and then the index words
+abbrev pub guard_by : SchemeKind → Config → ℕ → Guard
+guard_by He config k = index_at config k
+guard_by Ibr config k = Whole k
+guard_by Wfe config k = if nat_lt k config.seats then Helper k else index_at config (k - config.seats)
+
+abbrev pub guard_at : Config → ℕ → Guard
+guard_at config k = guard_by config.scheme config k
+
+-- how many guards there are
+abbrev pub guards_by : SchemeKind → Config → ℕ
+guards_by He config = config.seats * config.indexes
+guards_by Ibr config = config.seats
+guards_by Wfe config = config.seats + config.seats * config.indexes
+
+abbrev pub guards : Config → ℕ
+guards config = guards_by config.scheme config
+
+-- the first life of a list that nothing read keeps
 abbrev pub next_back : List Seen → List Lifetime → Option Lifetime
 next_back read [] = None
-next_back read (life ∷ lives) = if meets_any life read then next_back read lives else Some life
+next_back read (life ∷ lives) = if keeps_any life read then next_back read lives else Some life
 
-abbrev pub is_row : ℕ → Option Lifetime → Bool
-is_row slot None = false
-is_row slot (Some life) = life.slot == slot
+abbrev pub is_life_of : ℕ → Option Lifetime → Bool
+is_life_of slot None = false
+is_life_of slot (Some life) = life.slot == slot
 
--- all guards are read, and each life that is left meets something read
+-- all guards are read, and each life that is left is kept by something read
 abbrev pub is_over : ℕ → List Seen → List Lifetime → Bool
 is_over all read list = length read == all && is_none (next_back read list)
 
@@ -38,194 +59,123 @@ abbrev pub next_number : ℕ → List Seen → ℕ
 next_number all read = if length read == all then 0 else length read
 
 -- A guard is the next one of its block, which goes on with nothing between, or begins where no scan is left undone. A row goes
--- back in a scan whose block is whole, and it is the first of the seat's list that meets nothing read. Where the seat tells
+-- back in a scan whose block is whole, and it is the first of the seat's list that nothing read keeps. Where the seat tells
 -- anything else, no scan is left undone: no such row is on its list any more.
 abbrev pub scan_by : Config → (read : List Seen) → (list : List Lifetime) → (scans : Bool) → Event → Bool
 scan_by config read list scans (events.Read guard span) =
     same_guard guard (guard_at config (next_number (guards config) read))
     && (if is_partial (guards config) read then scans else (not scans || is_over (guards config) read list))
-scan_by config read list scans (events.Back slot) = scans && (length read == guards config && is_row slot (next_back read list))
+scan_by config read list scans (events.Back slot) = scans && (length read == guards config && is_life_of slot (next_back read list))
 scan_by config read list scans event = not scans || is_over (guards config) read list
 
 abbrev pub scan_ok : Config → Test
 scan_ok config p i event = scan_by config (read_of (guards config) i p) (list_of i p) (scans_of i p) event
-
-abbrev pub BlockLaw : Config → Past → Type 0
-BlockLaw config r = EachEntry (scan_ok config) r
-
-abbrev pub is_scan_call : Option Call → Bool
-is_scan_call (Some calls.Scan) = true
-is_scan_call call = false
-
--- each guard was read once in the call; the answer is how many lives are left on the seat's list, and how many rows went back
-abbrev pub answers_scan : Config → ℕ → Past → Answer → Bool
-answers_scan config i p (answers.Scanned kept back) = times i is_read p == guards config && (kept == length (list_of i p) && back == times i is_back p)
-answers_scan config i p answer = false
-
--- a call that only scans ends with such an answer
-abbrev pub count_ok : Config → Test
-count_ok config p i (events.End steps answer) = if is_scan_call (call_of i p) then answers_scan config i p answer else true
-count_ok config p i event = true
-
-abbrev pub CountLaw : Config → Past → Type 0
-CountLaw config r = EachEntry (count_ok config) r
 
 -- A guard that is read shows what it publishes.
 abbrev pub read_ok : Test
 read_ok p i (events.Read guard span) = same_span span (value_of guard p)
 read_ok p i event = true
 
-abbrev pub ReadLaw : Past → Type 0
-ReadLaw r = EachEntry read_ok r
-
--- what of scans may come next in a call. `Plain`: none. `Advancing`: none, but the clock may be moved once. `MayScan`: one, before a
--- row is given, and the clock may be moved before it. `MustScan`: one has to come; `moves` says whether the clock may be moved
--- before it. `Reading`: one that has begun, of which so many guards are read
-pub data Course : Type 0 where
-  Plain : Course
-  Advancing : Course
-  MayScan : Course
-  MustScan : (moves : Bool) → Course
-  Reading : (reads : ℕ) → Course
-
--- what a seat's entries come to: how many rows it has retired in all its calls, counted up to the greatest number of 64 bits,
--- where the count stays; and what may come in its call
-pub record Tally : Type 0 where
+-- What the blocks of a seat's call come to. `retired`: the rows that the seat has retired in all its calls. `given`: the call was given
+-- a row. `begun`: the blocks that it has begun. `due`: where its retirements came to a multiple of `every`, the blocks begun since the
+-- first that did. `last`: those since the last that did. `left`: the guards that its block has yet to read. `moves`: the eras that it
+-- has told and that no block after them has taken
+pub record Blocks : Type 0 where
   pub retired : ℕ
-  pub course : Course
+  pub given : Bool
+  pub begun : ℕ
+  pub due : Option ℕ
+  pub last : ℕ
+  pub left : ℕ
+  pub moves : ℕ
 
-abbrev pub first_course : Call → Course
-first_course (calls.Put key value) = MayScan
-first_course (calls.Remove key) = MayScan
-first_course (calls.Enqueue value) = MayScan
-first_course calls.Advance = Advancing
-first_course calls.Scan = MustScan false
-first_course call = Plain
+abbrev pub no_blocks : Blocks
+no_blocks = record { retired = 0; given = false; begun = 0; due = None; last = 0; left = 0; moves = 0 }
 
--- once the clock was moved: a scan that may have come has to come
-abbrev pub moved_course : Course → Course
-moved_course Advancing = Plain
-moved_course MayScan = MustScan false
-moved_course (MustScan moves) = MustScan false
-moved_course course = course
+-- one block more since a retirement, if there was one
+abbrev pub one_block : Option ℕ → Option ℕ
+one_block None = None
+one_block (Some blocks) = Some (blocks + 1)
 
-abbrev pub read_course : Course → Course
-read_course (Reading reads) = Reading (reads + 1)
-read_course course = Reading 1
+-- a block begins: it takes one of the eras told before
+abbrev pub begun_block : (all : ℕ) → Blocks → Blocks
+begun_block all before =
+    record before { begun = before.begun + 1; due = one_block before.due; last = before.last + 1; left = all - 1; moves = before.moves - 1 }
 
--- once a row is retired: a scan has to come where the count is a multiple of `every`
-abbrev pub retired_course : (due : Bool) → Course
-retired_course true = MustScan true
-retired_course false = Plain
+-- a retirement came to a multiple
+abbrev pub due_block : Option ℕ → Option ℕ
+due_block None = Some 0
+due_block (Some blocks) = Some blocks
 
-abbrev pub tally_by : (every : ℕ) → Event → Tally → Tally
-tally_by every (events.Begin call) before = record { retired = before.retired; course = first_course call }
-tally_by every (events.Era era) before = record { retired = before.retired; course = moved_course before.course }
-tally_by every (events.Read guard span) before = record { retired = before.retired; course = read_course before.course }
-tally_by every (events.Give slot birth) before = record { retired = before.retired; course = Plain }
-tally_by every (events.Retire slot birth retire) before = record { retired = bump before.retired; course = retired_course (bump before.retired % every == 0) }
-tally_by every event before = before
+abbrev pub retired_block : (every : ℕ) → Blocks → Blocks
+retired_block every before =
+    if (before.retired + 1) % every == 0
+    then record before { retired = before.retired + 1; due = due_block before.due; last = 0 }
+    else record before { retired = before.retired + 1 }
 
-abbrev pub no_tally : Tally
-no_tally = record { retired = 0; course = Plain }
+abbrev pub blocks_by : (all every : ℕ) → Event → Blocks → Blocks
+blocks_by all every (events.Begin call) before =
+    record { retired = before.retired; given = false; begun = 0; due = None; last = 0; left = before.left; moves = 0 }
+blocks_by all every (events.Give slot birth) before = record before { given = true }
+blocks_by all every (events.Retire slot birth retire) before = retired_block every before
+blocks_by all every (events.Era era) before = record before { moves = before.moves + 1 }
+blocks_by all every (events.Read guard span) before =
+    if before.left == 0 then begun_block all before else record before { left = before.left - 1 }
+blocks_by all every event before = before
 
--- a guard may be read: a scan may begin or has to, or one goes on that has not read all of them
-abbrev pub may_read : (all : ℕ) → Course → Bool
-may_read all Plain = false
-may_read all Advancing = false
-may_read all MayScan = true
-may_read all (MustScan moves) = true
-may_read all (Reading reads) = nat_lt reads all
-
--- no scan is due, and none that has begun lacks a guard
-abbrev pub is_settled : (all : ℕ) → Course → Bool
-is_settled all Plain = true
-is_settled all Advancing = true
-is_settled all MayScan = true
-is_settled all (MustScan moves) = false
-is_settled all (Reading reads) = reads == all
-
--- A call that only scans reads each guard once. A call in which the number of its seat's retirements became a multiple of `every`
--- does so once after that Retire, before it ends. A put, a remove or an enqueue may do so once more, before it is given a row and
--- before it ends. No guard is read elsewhere.
-abbrev pub scan_right : (all : ℕ) → Event → Course → Bool
-scan_right all (events.Read guard span) before = may_read all before
-scan_right all (events.Give slot birth) before = is_settled all before
-scan_right all (events.Retire slot birth retire) before = is_settled all before
-scan_right all (events.End steps answer) before = is_settled all before
-scan_right all event before = true
-
--- At each position no more rows were retired than changes were made and values taken before. These are at most as many as there are
--- versions of all buckets and numbers of the queue. So a count that stops at the greatest number of 64 bits does not get there.
-pub record FewRetired (config : Config) (r : Past) : Type 0 where
-  pub retired : (before : Past) (later : List Entry) → r ≡ tells before later → told is_retire before ≤ told takes_out before
-  pub taken : told takes_out r ≤ (config.buckets + 1) * config.last_version
-  pub room : told is_retire r < 18446744073709551615
-
--- a seat's tally of scans and of the clock, in which each row that it retires counts one more
-abbrev pub plain_by : (every : ℕ) → Event → Tally → Tally
-plain_by every (events.Retire slot birth retire) before = record { retired = before.retired + 1; course = retired_course ((before.retired + 1) % every == 0) }
-plain_by every event before = tally_by every event before
-
-abbrev pub plain_tally : (every : ℕ) → ℕ → Past → Tally
-plain_tally every i p = seen (plain_by every) no_tally i p
-
--- A call that only scans does so once, and one in which the number of its seat's retirements became a multiple of `every` once after
--- that; a call that is given a row may do so once more before
-abbrev pub plain_scans_ok : Config → Test
-plain_scans_ok config p i event = scan_right (guards config) event (plain_tally config.every i p).course
-
-abbrev pub PlainScans : Config → Past → Type 0
-PlainScans config r = EachEntry (plain_scans_ok config) r
-
--- what a call has come to in its search for a row: whether it still seeks one, since it is a put, a remove or an enqueue that was
--- given none and has retired none; and how many guards it has read
-pub record Search : Type 0 where
-  pub seeks : Bool
-  pub reads : ℕ
+abbrev pub blocks_of : Config → ℕ → Past → Blocks
+blocks_of config i p = seen (blocks_by (guards config) config.every) no_blocks i p
 
 -- calls that are given a row
-abbrev pub seeks_row : Call → Bool
-seeks_row (calls.Put key value) = true
-seeks_row (calls.Remove key) = true
-seeks_row (calls.Enqueue value) = true
-seeks_row call = false
+abbrev pub is_given_one : Option Call → Bool
+is_given_one (Some (calls.Put key value)) = true
+is_given_one (Some (calls.Remove key)) = true
+is_given_one (Some (calls.Enqueue value)) = true
+is_given_one call = false
 
--- the search after an event of the seat
-abbrev pub search_by : Event → Search → Search
-search_by (events.Begin call) before = record { seeks = seeks_row call; reads = 0 }
-search_by (events.Give slot birth) before = record { seeks = false; reads = before.reads }
-search_by (events.Retire slot birth retire) before = record { seeks = false; reads = before.reads }
-search_by (events.Read guard span) before = record { seeks = before.seeks; reads = before.reads + 1 }
-search_by event before = before
+abbrev pub is_scan_call : Option Call → Bool
+is_scan_call (Some calls.Scan) = true
+is_scan_call call = false
 
-abbrev pub no_search : Search
-no_search = record { seeks = false; reads = 0 }
+-- a block may begin that no retirement makes due: the one of a call that only scans, and one of a call before it is given a row
+abbrev pub may_scan : Option Call → Blocks → Bool
+may_scan call blocks = blocks.begun == 0 && (is_scan_call call || (is_given_one call && not blocks.given))
 
--- the search of seat i
-abbrev pub search_of : ℕ → Past → Search
-search_of i p = seen search_by no_search i p
+-- a block may begin: after a retirement that came to a multiple, one
+abbrev pub may_begin : Option Call → Blocks → Option ℕ → Bool
+may_begin call blocks None = may_scan call blocks
+may_begin call blocks (Some since) = since == 0 && (not (is_scan_call call) || blocks.begun == 0)
 
--- a guard that a call reads while it seeks a row is read only where the row was taken at a position of the call so far
-abbrev pub room_ok : (slots s : ℕ) → Test
-room_ok slots s p i (events.Read guard span) = let x : Search = search_of i p in not x.seeks || was_taken slots i s p
-room_ok slots s p i event = true
+-- no block is due any more
+abbrev pub is_scanned : Option Call → Blocks → Bool
+is_scanned call blocks = (is_none blocks.due || blocks.last == 1) && (not (is_scan_call call) || blocks.begun == 1)
 
--- so it is with each row
-abbrev pub RoomScans : Config → Past → Type 0
-RoomScans config r = (s : ℕ) → s ≤ config.slots → EachEntry (room_ok config.slots s) r
+-- A call that only scans has one block. A call in which the number of its seat's retirements came to a multiple of `every` has one after
+-- that Retire. A put, a remove or an enqueue may have one more before it is given a row. There are no others.
+abbrev pub blocks_right : Option Call → Event → Blocks → Bool
+blocks_right call (events.Read guard span) blocks = not (blocks.left == 0) || may_begin call blocks blocks.due
+blocks_right call (events.End steps answer) blocks = is_scanned call blocks
+blocks_right call event blocks = true
+
+abbrev pub blocks_ok : Config → Test
+blocks_ok config p i event = blocks_right (began_of i p) event (blocks_of config i p)
+
+-- the block that begins is one that a call needs to find a free row
+abbrev pub seeks_room : Option Call → Blocks → Bool
+seeks_room call blocks = blocks.left == 0 && (is_none blocks.due && is_given_one call)
+
+-- such a block begins only where the row was taken at a position of the call before
+abbrev pub room_ok : Config → (s : ℕ) → Test
+room_ok config s p i (events.Read guard span) = not (seeks_room (began_of i p) (blocks_of config i p)) || was_taken config.slots i s p
+room_ok config s p i event = true
 
 -- Each scan keeps just the rows whose lives meet reservations that it read.
 pub record ScanLaw (config : Config) (r : Past) : Type 0 where
   -- a seat reads all guards, in order, and then just the rows of its list go back whose lives meet nothing that it read
-  pub blocks : BlockLaw config r
+  pub blocks : EachEntry (scan_ok config) r
   -- a guard that is read shows what was last told that it publishes, whichever seat told it
-  pub reads : ReadLaw r
-  -- a call that only scans reads each guard once, and answers how many lives are kept and how many rows went back
-  pub counts : CountLaw config r
-  -- a call scans where a scan is due, may scan before it is given a row, and scans nowhere else
-  pub due : PlainScans config r
-  -- no more rows are retired than changes were made and values taken, so that a count of 64 bits has room for all
-  pub few : FewRetired config r
-  -- a call that has no row yet reads a guard only where each row was taken at a position of the call before
-  pub room : RoomScans config r
+  pub reads : EachEntry read_ok r
+  -- a call scans where a scan is due, may scan once before it is given a row, and scans nowhere else
+  pub due : EachEntry (blocks_ok config) r
+  -- it scans for a row only where each row was taken at a position of the call before
+  pub room : (s : ℕ) → s ≤ config.slots → EachEntry (room_ok config s) r

@@ -1,20 +1,20 @@
 -- What is read off a record at a position, that is off the entries before it. What one law alone counts stands with that law.
 use Rattle.std.specs.Prelude.{None, Option, Some, ℕ, ◌==◌, if◌then◌else◌, Bool, false, true, List, [], ◌∷◌, ◌++◌, ◌||◌, ◌+◌, length, ◌&&◌, nat_le, ◌%◌, take, is_some, nat_lt}
-use Rattle.model_history.specs.Record.{Past, begins, own, told_since, Test, held_since, value_since}
-use Rattle.model_history.specs.Record.Past.{Start, Then}
-use Rattle.model_history.specs.defs.Pairs.{pairs_after, value_in, Pair}
-use Rattle.model_history.specs.defs.declared.call.Call.{Call}
-use Rattle.model_history.specs.defs.declared.call.Call.TheVariants as calls
-use Rattle.model_history.specs.defs.declared.event.Event.{Event}
-use Rattle.model_history.specs.defs.declared.event.Event.TheVariants as events
-use Rattle.model_history.specs.defs.declared.event.Guard.{Guard}
-use Rattle.model_history.specs.defs.declared.event.Guard.TheVariants.{Helper, Index, Whole}
-use Rattle.model_history.specs.defs.declared.event.Root.TheVariants as roots
-use Rattle.model_history.specs.defs.declared.fold.Change.{Change}
-use Rattle.model_history.specs.defs.declared.fold.Change.TheVariants as changes
-use Rattle.model_history.specs.defs.declared.lifetime.Interval.{Interval}
-use Rattle.model_history.specs.defs.declared.lifetime.Lifetime.{Lifetime}
-use Rattle.model_history.specs.model.Desks.{Seen}
+use Rattle.model_record.specs.Record.{Past, begins, own, told_since, Test, held_since, value_since}
+use Rattle.model_record.specs.Record.Past.{Start, Then}
+use Rattle.model_record.specs.defs.Shown.{Seen, shown}
+use Rattle.model_record.specs.defs.Pairs.{pairs_after, value_in, Pair}
+use Rattle.model_record.specs.defs.declared.call.Call.{Call}
+use Rattle.model_record.specs.defs.declared.call.Call.TheVariants as calls
+use Rattle.model_record.specs.defs.declared.event.Event.{Event}
+use Rattle.model_record.specs.defs.declared.event.Event.TheVariants as events
+use Rattle.model_record.specs.defs.declared.event.Guard.{Guard}
+use Rattle.model_record.specs.defs.declared.event.Guard.TheVariants.{Helper, Index, Whole}
+use Rattle.model_record.specs.defs.declared.event.Root.TheVariants as roots
+use Rattle.model_record.specs.defs.declared.fold.Change.{Change}
+use Rattle.model_record.specs.defs.declared.fold.Change.TheVariants as changes
+use Rattle.model_record.specs.defs.declared.lifetime.Interval.{Interval}
+use Rattle.model_record.specs.defs.declared.lifetime.Lifetime.{Lifetime}
 
 -- Counts of entries, and what a seat's own entries come to.
 
@@ -94,6 +94,42 @@ abbrev pub is_row : ℕ → Option ℕ → Bool
 is_row s None = false
 is_row s (Some slot) = s == slot
 
+abbrev pub is_empty : List ℕ → Bool
+is_empty [] = true
+is_empty (slot ∷ slots) = false
+
+-- the rows without this one
+abbrev pub without_row : ℕ → List ℕ → List ℕ
+without_row slot [] = []
+without_row slot (other ∷ rows) = if slot == other then without_row slot rows else other ∷ without_row slot rows
+
+-- the row is one of these
+abbrev pub is_one_of : ℕ → List ℕ → Bool
+is_one_of slot [] = false
+is_one_of slot (other ∷ rows) = (slot == other) || is_one_of slot rows
+
+-- what an event of a seat makes of the rows that stand at its index j: a Held adds its row, whatever stands there, and a Clear takes
+-- its own row away, and no other
+abbrev pub standing_by : ℕ → Event → List ℕ → List ℕ
+standing_by j (events.Held index slot steps) rows = if j == index then slot ∷ rows else rows
+standing_by j (events.Clear index slot) rows = if j == index then without_row slot rows else rows
+standing_by j event rows = rows
+
+-- the rows that stand at index j of seat k
+abbrev pub standing_of : ℕ → ℕ → Past → List ℕ
+standing_of k j Start = []
+standing_of k j (Then p i e) = if k == i then standing_by j e (standing_of k j p) else standing_of k j p
+
+-- row s stands at index j of seat k: the seat told Held of it there, and since then no Clear of it there
+abbrev pub stands : (k j s : ℕ) → Past → Bool
+stands k j s p = is_one_of s (standing_of k j p)
+
+-- no row stands there
+abbrev pub is_bare : ℕ → ℕ → Past → Bool
+is_bare k j p = is_empty (standing_of k j p)
+
+-- What stands where one row does at most, as it is in each history: the row told last.
+
 -- what an event of a seat makes of what stood at its index j
 abbrev pub stood_by : ℕ → Event → Option ℕ → Option ℕ
 stood_by j (events.Held index slot steps) x = if j == index then Some slot else x
@@ -104,6 +140,10 @@ stood_by j event x = x
 abbrev pub stood_at : ℕ → ℕ → Past → Option ℕ
 stood_at k j Start = None
 stood_at k j (Then p i e) = if k == i then stood_by j e (stood_at k j p) else stood_at k j p
+
+abbrev pub is_dequeue : Option Call → Bool
+is_dequeue (Some calls.Dequeue) = true
+is_dequeue call = false
 
 -- the calls that look for a root at index 0: all that work on a bucket or on the queue, but a hold
 abbrev pub has_root : Option Call → Bool
@@ -142,11 +182,21 @@ finds_root (events.Held index slot steps) = index == 0
 finds_root (events.Null index steps) = index == 0
 finds_root event = false
 
+-- an index is protected, or found null
+abbrev pub is_found : Event → Bool
+is_found (events.Held index slot steps) = true
+is_found (events.Null index steps) = true
+is_found event = false
+
 -- how often the call of seat i has told so
 abbrev pub finds_of : ℕ → Past → ℕ
 finds_of i p = told_since (begins i) (own i finds_root) p
 
 -- Rows: which are taken, with which life, and which one a call was given.
+
+abbrev pub is_give : Event → Bool
+is_give (events.Give slot birth) = true
+is_give event = false
 
 -- a row is taken from its Give on, until it is told Unused or Back
 abbrev pub taken_by : ℕ → Event → Bool → Bool
@@ -237,10 +287,6 @@ abbrev pub is_among : ℕ → List ℕ → Bool
 is_among slot [] = false
 is_among slot (other ∷ slots) = (other == slot) || is_among slot slots
 
-abbrev pub is_empty : List ℕ → Bool
-is_empty [] = true
-is_empty (slot ∷ slots) = false
-
 -- the row is cut
 abbrev pub cuts : (slot : ℕ) → Event → Bool
 cuts s (events.Cut slot) = s == slot
@@ -266,6 +312,11 @@ cut_by s event before = before
 abbrev pub cut_at : ℕ → ℕ → Past → Bool
 cut_at i s Start = false
 cut_at i s (Then p k event) = if i == k then cut_by s event (cut_at i s p) else cut_at i s p
+
+-- seat i has told the row's cut
+abbrev pub has_cut : (seat row : ℕ) → Past → Bool
+has_cut i s Start = false
+has_cut i s (Then p k event) = if i == k then cuts s event || has_cut i s p else has_cut i s p
 
 -- a call has told a change of the map or of the queue, or a link that is not to the tail
 abbrev pub changed_by : Event → Bool → Bool
@@ -457,6 +508,26 @@ abbrev pub reserves_of : (seat index : ℕ) → Past → ℕ
 reserves_of i j Start = 0
 reserves_of i j (Then p k event) = if i == k then reserves_by i j event (reserves_of i j p) else reserves_of i j p
 
+-- an era that follows another is later
+abbrev pub era_grows : Option Interval → Option Interval → Bool
+era_grows None span = true
+era_grows (Some old) None = true
+era_grows (Some old) (Some span) = nat_lt old.hi span.hi
+
+-- an interval is later than the one before it, and so were those before; none begins anew
+abbrev pub rises_on : (last span : Option Interval) → (before : Bool) → Bool
+rises_on last None before = true
+rises_on last (Some span) before = era_grows last (Some span) && before
+
+abbrev pub rising_by : (seat index : ℕ) → (last : Option Interval) → Event → (before : Bool) → Bool
+rising_by i j last (events.Reserve guard span) before = if is_index_word i j guard then rises_on last span before else before
+rising_by i j last event before = before
+
+-- the eras that index word j of seat i has published since it published nothing rose, whoever told them
+abbrev pub rising_of : (seat index : ℕ) → Past → Bool
+rising_of i j Start = true
+rising_of i j (Then p k event) = rising_by i j (value_of (Index i j) p) event (rising_of i j p)
+
 -- an interval is one more; none, and what a protection ends with, begin anew
 abbrev pub tried_by : (seat index : ℕ) → Event → ℕ → ℕ
 tried_by i j (events.Reserve guard span) before = if is_index_word i j guard then one_more span before else before
@@ -469,6 +540,29 @@ tried_by i j event before = before
 abbrev pub tried_of : (seat index : ℕ) → Past → ℕ
 tried_of i j Start = 0
 tried_of i j (Then p k event) = if i == k then tried_by i j event (tried_of i j p) else tried_of i j p
+
+-- none, and what a protection ends with, begin anew
+abbrev pub own_last_by : (seat index : ℕ) → Event → Option Interval → Option Interval
+own_last_by i j (events.Reserve guard span) before = if is_index_word i j guard then span else before
+own_last_by i j (events.Held index slot steps) before = if index == j then None else before
+own_last_by i j (events.Null index steps) before = if index == j then None else before
+own_last_by i j event before = before
+
+-- what seat i itself told last that its index word j publishes, in the protection that is under way there
+abbrev pub own_last_of : (seat index : ℕ) → Past → Option Interval
+own_last_of i j Start = None
+own_last_of i j (Then p k event) = if i == k then own_last_by i j event (own_last_of i j p) else own_last_of i j p
+
+abbrev pub own_rising_by : (seat index : ℕ) → (last : Option Interval) → Event → (before : Bool) → Bool
+own_rising_by i j last (events.Reserve guard span) before = if is_index_word i j guard then rises_on last span before else before
+own_rising_by i j last (events.Held index slot steps) before = if index == j then true else before
+own_rising_by i j last (events.Null index steps) before = if index == j then true else before
+own_rising_by i j last event before = before
+
+-- the eras that seat i itself has told of its index word j in that protection rose
+abbrev pub own_rising_of : (seat index : ℕ) → Past → Bool
+own_rising_of i j Start = true
+own_rising_of i j (Then p k event) = if i == k then own_rising_by i j (own_last_of i j p) event (own_rising_of i j p) else own_rising_of i j p
 
 abbrev pub last_by : Event → ℕ → ℕ
 last_by (events.Held index slot steps) before = index
@@ -527,7 +621,7 @@ scans_of i (Then p k event) = if i == k then is_scan event else scans_of i p
 
 -- what a seat has read of its block: after a whole block, of `all` guards, the next one begins
 abbrev pub read_by : ℕ → Event → List Seen → List Seen
-read_by all (events.Read guard span) read = (if length read == all then [] else read) ++ (guard, span) ∷ []
+read_by all (events.Read guard span) read = (if length read == all then [] else read) ++ (guard, shown span) ∷ []
 read_by all event read = read
 
 abbrev pub read_of : ℕ → ℕ → Past → List Seen

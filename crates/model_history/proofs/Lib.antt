@@ -1,7 +1,7 @@
 pub use Rattle.wfe_core.proofs as model
+pub use Rattle.model_record.proofs.Entries
 pub mod AllOf
 pub mod Along
-pub mod Entries
 pub mod History
 pub mod MayTell
 pub mod Passes

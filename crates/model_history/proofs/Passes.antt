@@ -1,6 +1,7 @@
 -- What a machine has told and left passes on to the end of a step: all that comes after it tells is quiet, or clears an index.
 use Rattle.std.proofs.Common.{ℕ, ◌≡◌, ◌+◌, ◌-◌, Bool, true, false, List, [], ◌∷◌, ◌++◌, length, Option, Some, None, refl}
 use Rattle.std.specs.Prelude.{◌==◌, ◌%◌, nat_lt, if◌then◌else◌}
+use Rattle.wfe_core.specs.defs.Shown.{Seen}
 use Rattle.wfe_core.specs.defs.declared.fold.Change.{Change}
 use Rattle.wfe_core.specs.defs.declared.fold.Change.TheVariants as changes
 use Rattle.wfe_core.specs.defs.declared.call.Answer.{Answer}
@@ -17,11 +18,11 @@ use Rattle.wfe_core.specs.declared.ends.FollowEnd.TheVariants as follow_ends
 use Rattle.wfe_core.specs.declared.ends.ProtectEnd.TheVariants as protect_ends
 use Rattle.wfe_core.specs.declared.post.Post.{Post}
 use Rattle.wfe_core.specs.Change as alters
-use Rattle.wfe_core.specs.Desks.{Desk, Seen, with_life}
+use Rattle.wfe_core.specs.Desks.{Desk, with_life}
 use Rattle.wfe_core.specs.Dequeue as dequeues
 use Rattle.wfe_core.specs.Enqueue as enqueues
 use Rattle.wfe_core.specs.Get as gets
-use Rattle.wfe_core.specs.Guards.{guards, guard_at, published}
+use Rattle.wfe_core.specs.Guards.{guards, guard_at, eras_in, published}
 use Rattle.wfe_core.specs.Locals.{told_by, told_end}
 use Rattle.wfe_core.specs.Machine as machine
 use Rattle.wfe_core.specs.Scan as scan
@@ -69,7 +70,7 @@ Left P t = P t.post t.told
 
 -- what a step of a scan tells
 abbrev pub scan_told : ScanAt → Post → ℕ → List Event
-scan_told (ReadGuard number) post found = events.Read (guard_at post.layout.config number) (published (guard_at post.layout.config number) found) ∷ []
+scan_told (ReadGuard number) post found = events.Read (guard_at post.layout.config number) (eras_in (guard_at post.layout.config number) found) ∷ []
 scan_told (GiveBack place slot) post found = events.Back slot ∷ []
 
 -- a get may tell the version that it knows, and 0 where its protection ends with null
@@ -244,7 +245,7 @@ guard_goes P0 P A c later number post desk told false h = giving_back_goes P0 P 
 scan_goes : (P0 P : Post → List Event → Type 0) (A : ℕ → ℕ → Type 0) (c : Closing P0 P A) (later : AfterScan) (at : ScanAt) (post : Post) (desk : Desk) (found : ℕ) → P0 post (scan_told at post found) → Left P (scan.scan_turn later at post desk found)
 scan_goes P0 P A c later (ReadGuard number) post desk found h =
     let seen : Seen = (guard_at post.layout.config number, published (guard_at post.layout.config number) found) in
-    guard_goes P0 P A c later number post (scan.with_read desk number seen) (events.Read seen.0 seen.1 ∷ []) (nat_lt (number + 1) (guards post.layout.config)) h
+    guard_goes P0 P A c later number post (scan.with_read desk number seen) (events.Read seen.0 (eras_in seen.0 found) ∷ []) (nat_lt (number + 1) (guards post.layout.config)) h
 scan_goes P0 P A c later (GiveBack place slot) post desk found h = giving_back_goes P0 P A c later post (scan.with_back desk place) (events.Back slot ∷ []) (scan.unmet_from (scan.with_back desk place) place) h
 
 -- what comes after a machine

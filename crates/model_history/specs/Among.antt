@@ -16,8 +16,8 @@ use Rattle.wfe_core.specs.defs.declared.event.Root.{Root}
 use Rattle.wfe_core.specs.defs.declared.event.Root.TheVariants as roots
 use Rattle.wfe_core.specs.defs.declared.lifetime.Interval.{Interval}
 use Rattle.wfe_core.specs.defs.Entry.{Entry}
-use Rattle.model_history.specs.Record.{Past}
-use Rattle.model_history.specs.Record.Past.{Start, Then}
+use Rattle.model_record.specs.Record.{Past}
+use Rattle.model_record.specs.Record.Past.{Start, Then}
 use Rattle.model_history.specs.History.{Item, Begins, times}
 
 -- each event as its kind's number and its parts

@@ -3,8 +3,8 @@ use Rattle.std.specs.Prelude.{Bool, false, true, List, [], ◌∷◌}
 use Rattle.wfe_core.specs.World.{World, told_in}
 use Rattle.wfe_core.specs.words.declared.layout.Layout.{Layout}
 use Rattle.model_history.specs.History.{Begins, Item, Steps, Made, did, fits, first_made}
-use Rattle.model_history.specs.Turns as schedule
-use Rattle.model_history.specs.Turns.History.{Starts, Turns, Blank}
+use Rattle.model_record.specs.Turns as schedule
+use Rattle.model_record.specs.Turns.History.{Starts, Turns, Blank}
 
 -- one item more
 abbrev pub heard_by : World → Item → schedule.History → schedule.History

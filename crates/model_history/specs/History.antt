@@ -3,8 +3,8 @@ use Rattle.std.specs.Prelude.{ℕ, zero, suc, ◌&&◌, Bool, true, false, not, 
 use Rattle.wfe_core.specs.words.declared.layout.Layout.{Layout}
 use Rattle.wfe_core.specs.defs.declared.call.Call.{Call}
 use Rattle.wfe_core.specs.defs.declared.event.Event.TheVariants as events
-use Rattle.model_history.specs.Record.{Past, tells_of}
-use Rattle.model_history.specs.Record.Past.{Start, Then}
+use Rattle.model_record.specs.Record.{Past, tells_of}
+use Rattle.model_record.specs.Record.Past.{Start, Then}
 use Rattle.wfe_core.specs.Calls.{CallTurn}
 use Rattle.wfe_core.specs.Locals.{Local, move, turn, told_by}
 use Rattle.wfe_core.specs.Memory.{Move, place_in, found}

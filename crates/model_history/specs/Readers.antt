@@ -7,8 +7,8 @@ use Rattle.wfe_core.specs.defs.declared.call.ClockMove.TheVariants as moves
 use Rattle.wfe_core.specs.defs.declared.event.Event.TheVariants as events
 use Rattle.wfe_core.specs.defs.declared.event.Guard.TheVariants as guards
 use Rattle.wfe_core.specs.defs.declared.event.Root.TheVariants as roots
-use Rattle.model_history.specs.Record.{tells_of}
-use Rattle.model_history.specs.Record.Past.{Start}
+use Rattle.model_record.specs.Record.{tells_of}
+use Rattle.model_record.specs.Record.Past.{Start}
 use Rattle.wfe_core.specs.Guards.{from_to}
 use Rattle.model_history.specs.History.{record_of, times}
 use Rattle.model_history.specs.Among.{call, to_end, said, setting, entries, left_over}

@@ -7,7 +7,6 @@ ghost use Rattle.model_history.specs.Falls.{ClockMovesUnderARequest, HeadMoves, 
 ghost use Rattle.model_history.specs.Helping.{HelperStopsBeforeHandOver, LateHelperMeetsSecondRequest, MoversAtTheirExchange};
 ghost use Rattle.model_history.specs.Queues.{DequeueOfNothing, HeadMovesUnderADequeue};
 ghost use Rattle.model_history.specs.Readers.{EndsUnderIntervals, GetUnderIntervals, IntervalIsRaised, PutThenGetUnderHazardEras, ReaderOvertakenTriesAgain};
-ghost use Rattle.model_history.specs.Record.{Each, EachEntry, Past, Test};
 ghost use Rattle.model_history.specs.Tables.{EndsInAFullTable, FullBucket, FullTableScansAndTriesAgain, LastEra, LastVersion, PutGivesBackInItsOwnScan, Removes, WalksReadWholeClaimWords};
 
 /// Readers under Hazard Eras and 2GE, also one that a move of the clock overtakes.
@@ -55,11 +54,4 @@ pub fn runs_come_nearer_to_their_end()
     ensures clock_moves_under_a_request { ClockMovesUnderARequest }
     ensures table_is_full { TableIsFull }
     ensures head_moves { HeadMoves }
-{}
-
-/// A law by recursion on the record, as proofs use it, says what it says wherever the record is
-/// cut, as it is published.
-pub fn laws_by_recursion()
-    ensures published { (ok : Test) (r : Past) → Each ok r → EachEntry ok r }
-    ensures recursive { (ok : Test) (r : Past) → EachEntry ok r → Each ok r }
 {}

@@ -13,7 +13,7 @@ ghost use Rattle.wfe_core.specs.Steps.{filled_by, opened, phase_turn, written_ro
 ghost use Rattle.wfe_core.specs.Valid.{IsValid};
 ghost use Rattle.wfe_core.specs.WriteRow.{writing};
 ghost use Rattle.wfe_core.specs.declared.post.Post.{Post as ModelPost};
-ghost use Rattle.wfe_call_rounds.specs.Steps.{Steps};
+ghost use Rattle.wfe_call_rounds.specs.Steps.{SameSeat, Steps};
 ghost use Rattle.wfe_bucketmap.specs.Changes.{kept_of, led, next_of};
 ghost use Rattle.wfe_bucketmap.specs.ChangeStates.{change_phase};
 
@@ -96,10 +96,7 @@ impl<S: Scheme> ChangeBucket<S> {
         requires scheme { post.old.layout.config.scheme ≡ S.kind }
         requires few { length told.old ≤ 6 }
         ensures steps { (desk : ModelDesk) → Steps (clearing (Changes (kept_of self.old.kept)) (next_of ending) post.old desk told.old) post.new desk told.new result (change_phase ⟦<S as Rounds>⟧.all_phases (kept_of self.new.kept) self.new.at post.new) }
-        ensures valid { IsValid post.new }
-        ensures layout { post.new.layout ≡ post.old.layout }
-        ensures seat { post.new.seat ≡ post.old.seat }
-        ensures most { length told.new ≤ length told.old + 1 }
+        ensures seat { SameSeat post.old post.new told.new (length told.old + 1) }
     {
         match close::<S>(post, told, 0, ending.is_again()) {
             Some(closing) => {
@@ -117,10 +114,7 @@ impl<S: Scheme> ChangeBucket<S> {
         requires few { length told.old ≤ 2 }
         requires fits { ChangeFits post.old (kept_of self.old.kept) }
         ensures steps { (desk : ModelDesk) → Steps (opened (Changes (kept_of self.old.kept)) (Protected end) post.old desk told.old) post.new desk told.new result (change_phase ⟦<S as Rounds>⟧.all_phases (kept_of self.new.kept) self.new.at post.new) }
-        ensures valid { IsValid post.new }
-        ensures layout { post.new.layout ≡ post.old.layout }
-        ensures seat { post.new.seat ≡ post.old.seat }
-        ensures most { length told.new ≤ 4 }
+        ensures seat { SameSeat post.old post.new told.new 4 }
     {
         match end {
             ProtectEnd::Held { slot, .. } => {
@@ -157,10 +151,7 @@ impl<S: Scheme> ChangeBucket<S> {
         requires few { length told.old ≤ 3 }
         requires fits { ChangeFits post.old (kept_of self.old.kept) }
         ensures steps { (desk : ModelDesk) → Steps (led (kept_of self.old.kept) step post.old desk told.old) post.new desk told.new result (change_phase ⟦<S as Rounds>⟧.all_phases (kept_of self.new.kept) self.new.at post.new) }
-        ensures valid { IsValid post.new }
-        ensures layout { post.new.layout ≡ post.old.layout }
-        ensures seat { post.new.seat ≡ post.old.seat }
-        ensures most { length told.new ≤ 4 }
+        ensures seat { SameSeat post.old post.new told.new 4 }
     {
         match step {
             Changed::Goes(at) => {
@@ -185,10 +176,7 @@ impl<S: Scheme> ChangeBucket<S> {
         requires few { length told.old ≤ 2 }
         requires fits { ChangeFits post.old (kept_of self.old.kept) }
         ensures steps { (desk : ModelDesk) → Steps (filled_by (Changes (kept_of self.old.kept)) end post.old desk told.old) post.new desk told.new result (change_phase ⟦<S as Rounds>⟧.all_phases (kept_of self.new.kept) self.new.at post.new) }
-        ensures valid { IsValid post.new }
-        ensures layout { post.new.layout ≡ post.old.layout }
-        ensures seat { post.new.seat ≡ post.old.seat }
-        ensures most { length told.new ≤ 3 }
+        ensures seat { SameSeat post.old post.new told.new 3 }
     {
         match end {
             AllocateEnd::Given { slot, .. } => {
@@ -224,10 +212,7 @@ impl<S: Scheme> ChangeBucket<S> {
         requires plausible { IsCallPlausible (round (Changes (kept_of self.old.kept)) post.old) post.old found }
         requires empty { told.old ≡ [] }
         ensures steps { Steps (phase_turn (round (Changes (kept_of self.old.kept)) post.old) post.old (desk_of desk.now) found) post.new (desk_of desk.now) told.new result (change_phase ⟦<S as Rounds>⟧.all_phases (kept_of self.new.kept) self.new.at post.new) }
-        ensures valid { IsValid post.new }
-        ensures layout { post.new.layout ≡ post.old.layout }
-        ensures seat { post.new.seat ≡ post.old.seat }
-        ensures most { length told.new ≤ 4 }
+        ensures seat { SameSeat post.old post.new told.new 4 }
     {
         let root = self.root(post);
         let mut opening = open::<S>(post, 0, root);

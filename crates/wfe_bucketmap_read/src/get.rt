@@ -12,7 +12,7 @@ ghost use Rattle.wfe_core.specs.Steps.{opened, phase_turn};
 ghost use Rattle.wfe_core.specs.Valid.{IsValid};
 ghost use Rattle.wfe_core.specs.declared.post.Post.{Post};
 ghost use Rattle.wfe_bucketmap_read.specs.Gets.{get_phase};
-ghost use Rattle.wfe_call_rounds.specs.Steps.{Steps};
+ghost use Rattle.wfe_call_rounds.specs.Steps.{SameSeat, Steps};
 
 use crate::find::{Find, Found};
 use crate::get_at::GetAt;
@@ -56,10 +56,7 @@ impl<S: Scheme> Get<S> {
         requires plausible { IsCallPlausible (get_phase ⟦<S as Rounds>⟧.all_phases self.old.key self.old.at post.old) post.old found }
         requires empty { told.old ≡ [] }
         ensures steps { Steps (phase_turn (get_phase ⟦<S as Rounds>⟧.all_phases self.old.key self.old.at post.old) post.old (desk_of desk.now) found) post.new (desk_of desk.now) told.new result (get_phase ⟦<S as Rounds>⟧.all_phases self.new.key self.new.at post.new) }
-        ensures valid { IsValid post.new }
-        ensures layout { post.new.layout ≡ post.old.layout }
-        ensures seat { post.new.seat ≡ post.old.seat }
-        ensures most { length told.new ≤ 4 }
+        ensures seat { SameSeat post.old post.new told.new 4 }
     {
         let root = self.root(post);
         match &mut self.at {
@@ -111,10 +108,7 @@ impl<S: Scheme> Get<S> {
         requires scheme { post.old.layout.config.scheme ≡ S.kind }
         requires few { length told.old ≤ 2 }
         ensures steps { Steps (opened (Gets self.old.key) (Protected end) post.old (desk_of desk.now) told.old) post.new (desk_of desk.now) told.new result (get_phase ⟦<S as Rounds>⟧.all_phases self.new.key self.new.at post.new) }
-        ensures valid { IsValid post.new }
-        ensures layout { post.new.layout ≡ post.old.layout }
-        ensures seat { post.new.seat ≡ post.old.seat }
-        ensures most { length told.new ≤ 4 }
+        ensures seat { SameSeat post.old post.new told.new 4 }
     {
         match end {
             ProtectEnd::Held { slot, .. } => {
@@ -139,10 +133,7 @@ impl<S: Scheme> Get<S> {
         requires few { length told.old ≤ 2 }
         ensures steps { Steps (model_got self.old.key version value post.old (desk_of desk.now) told.old) post.new (desk_of desk.now) told.new result (get_phase ⟦<S as Rounds>⟧.all_phases self.new.key self.new.at post.new) }
         ensures key { self.new.key ≡ self.old.key }
-        ensures valid { IsValid post.new }
-        ensures layout { post.new.layout ≡ post.old.layout }
-        ensures seat { post.new.seat ≡ post.old.seat }
-        ensures most { length told.new ≤ 4 }
+        ensures seat { SameSeat post.old post.new told.new 4 }
     {
         let key = self.key;
         let bucket = (key % post.layout.config().buckets as u64) as u32;

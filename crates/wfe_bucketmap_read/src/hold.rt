@@ -10,7 +10,7 @@ ghost use Rattle.wfe_core.specs.Rounds.{root_of, round};
 ghost use Rattle.wfe_core.specs.Steps.{holding, opened, phase_turn};
 ghost use Rattle.wfe_core.specs.Valid.{IsValid};
 ghost use Rattle.wfe_core.specs.declared.post.Post.{Post};
-ghost use Rattle.wfe_call_rounds.specs.Steps.{Steps};
+ghost use Rattle.wfe_call_rounds.specs.Steps.{SameSeat, Steps};
 ghost use Rattle.wfe_bucketmap_read.specs.Holds.{hold_phase};
 
 use crate::hold_at::HoldAt;
@@ -57,10 +57,7 @@ impl<S: Scheme> Hold<S> {
         requires scheme { post.old.layout.config.scheme ≡ S.kind }
         requires few { length told.old ≤ 2 }
         ensures steps { Steps (opened (Holds self.old.key) (Protected end) post.old (desk_of desk.now) told.old) post.new (desk_of desk.now) told.new result (hold_phase ⟦<S as Rounds>⟧.all_phases S.Release.phase self.new.key self.new.at post.new) }
-        ensures valid { IsValid post.new }
-        ensures layout { post.new.layout ≡ post.old.layout }
-        ensures seat { post.new.seat ≡ post.old.seat }
-        ensures most { length told.new ≤ 4 }
+        ensures seat { SameSeat post.old post.new told.new 4 }
     {
         match end {
             ProtectEnd::Held { slot, .. } => Some(Answer::Holding { slot }),
@@ -82,10 +79,7 @@ impl<S: Scheme> Hold<S> {
         requires plausible { IsCallPlausible (round (Holds self.old.key) post.old) post.old found }
         requires empty { told.old ≡ [] }
         ensures steps { Steps (phase_turn (round (Holds self.old.key) post.old) post.old (desk_of desk.now) found) post.new (desk_of desk.now) told.new result (hold_phase ⟦<S as Rounds>⟧.all_phases S.Release.phase self.new.key self.new.at post.new) }
-        ensures valid { IsValid post.new }
-        ensures layout { post.new.layout ≡ post.old.layout }
-        ensures seat { post.new.seat ≡ post.old.seat }
-        ensures most { length told.new ≤ 4 }
+        ensures seat { SameSeat post.old post.new told.new 4 }
     {
         let root = self.root(post);
         let mut opening = open::<S>(post, 2, root);
@@ -111,10 +105,7 @@ impl<S: Scheme> Hold<S> {
         requires plausible { Plausible (S.Release.phase machine) post.old found }
         requires empty { told.old ≡ [] }
         ensures steps { Steps (phase_turn (Runs (Releases (Some self.old.key)) (S.Release.phase machine)) post.old (desk_of desk.now) found) post.new (desk_of desk.now) told.new result (hold_phase ⟦<S as Rounds>⟧.all_phases S.Release.phase self.new.key self.new.at post.new) }
-        ensures valid { IsValid post.new }
-        ensures layout { post.new.layout ≡ post.old.layout }
-        ensures seat { post.new.seat ≡ post.old.seat }
-        ensures most { length told.new ≤ 4 }
+        ensures seat { SameSeat post.old post.new told.new 4 }
     {
         match machine.take(post, found, told) {
             Some(()) => {
@@ -136,10 +127,7 @@ impl<S: Scheme> Hold<S> {
         requires plausible { IsCallPlausible (holding self.old.key post.old (stands post.old 2)) post.old found }
         requires empty { told.old ≡ [] }
         ensures steps { Steps (phase_turn (holding self.old.key post.old (stands post.old 2)) post.old (desk_of desk.now) found) post.new (desk_of desk.now) told.new result (hold_phase ⟦<S as Rounds>⟧.all_phases S.Release.phase self.new.key self.new.at post.new) }
-        ensures valid { IsValid post.new }
-        ensures layout { post.new.layout ≡ post.old.layout }
-        ensures seat { post.new.seat ≡ post.old.seat }
-        ensures most { length told.new ≤ 4 }
+        ensures seat { SameSeat post.old post.new told.new 4 }
     {
         match post.standing[2] {
             Some(_) => self.release(S::release(), post, desk, found, told),
@@ -155,10 +143,7 @@ impl<S: Scheme> Hold<S> {
         requires plausible { IsCallPlausible (hold_phase ⟦<S as Rounds>⟧.all_phases S.Release.phase self.old.key self.old.at post.old) post.old found }
         requires empty { told.old ≡ [] }
         ensures steps { Steps (phase_turn (hold_phase ⟦<S as Rounds>⟧.all_phases S.Release.phase self.old.key self.old.at post.old) post.old (desk_of desk.now) found) post.new (desk_of desk.now) told.new result (hold_phase ⟦<S as Rounds>⟧.all_phases S.Release.phase self.new.key self.new.at post.new) }
-        ensures valid { IsValid post.new }
-        ensures layout { post.new.layout ≡ post.old.layout }
-        ensures seat { post.new.seat ≡ post.old.seat }
-        ensures most { length told.new ≤ 4 }
+        ensures seat { SameSeat post.old post.new told.new 4 }
     {
         let root = self.root(post);
         match &mut self.at {

@@ -1,9 +1,8 @@
-//! A call of any kind as one machine, over any scheme.
+//! A call of any kind as one machine, over any scheme, and under each of the schemes.
 #![tactic(auto)]
 
-mod begin;
 mod running;
+mod scheme_calls;
 
-pub use begin::{CallOf, begin_call};
-pub use running::Running;
-pub use wfe_bucketmap::{He, Ibr, Wfe};
+pub use running::{CallOf, Running, begin_call};
+pub use scheme_calls::{HeCall, IbrCall, WfeCall};

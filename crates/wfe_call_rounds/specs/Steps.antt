@@ -1,11 +1,12 @@
 -- A step of a call, before its events are noted.
-use Rattle.std.specs.Prelude.{◌≡◌, List, Option}
+use Rattle.std.specs.Prelude.{◌≡◌, ◌≤◌, length, List, Option, ℕ}
 use Rattle.wfe_core.specs.defs.declared.call.Answer.{Answer}
 use Rattle.wfe_core.specs.defs.declared.event.Event.{Event}
 use Rattle.wfe_core.specs.declared.post.Post.{Post}
 use Rattle.wfe_core.specs.Calls.{Phase, CallTurn}
 use Rattle.wfe_core.specs.DeskHeld.{Leads}
 use Rattle.wfe_core.specs.Desks.{Desk}
+use Rattle.wfe_core.specs.Valid.{IsValid}
 
 -- the call took this turn, and its desk is this one
 pub record Steps (t : CallTurn) (post : Post) (desk : Desk) (told : List Event) (answer : Option Answer) (phase : Phase) : Type 0 where
@@ -13,3 +14,10 @@ pub record Steps (t : CallTurn) (post : Post) (desk : Desk) (told : List Event) 
   pub told_is : told ≡ t.told
   pub desk_is : desk ≡ t.desk
   pub outcome_is : Leads t.outcome answer phase
+
+-- a part of a step leaves a valid post of the same seat and table, and at most so many events told
+pub record SameSeat (old new : Post) (told : List Event) (count : ℕ) : Type 0 where
+  pub valid : IsValid new
+  pub layout : new.layout ≡ old.layout
+  pub seat : new.seat ≡ old.seat
+  pub most : length told ≤ count

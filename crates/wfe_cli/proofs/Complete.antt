@@ -1,4 +1,5 @@
 -- A trace in the grammar is replayed whole, where nothing fails.
+use Rattle.wfe_server_out.specs.Heard.{Seen}
 use Rattle.std.proofs.Common.{ℕ, ◌≡◌, ◌⊎◌, inl, inr, List, [], ◌++◌, Option, Some, None, Ok, Err, refl, sym, ap, ◌∙◌, append-nil}
 use Rattle.std.specs.Io.KnownBytes.{Consumes}
 use Rattle.wfe_trace.specs.declared.item.Mode.TheVariants as modes
@@ -8,7 +9,6 @@ use Rattle.wfe_trace.specs.declared.reason.Status.TheVariants as statuses
 use Rattle.wfe_server.specs.server_replay.Replay.{Replays, IsRefused, came, whole}
 use Rattle.wfe_server.specs.server_replay.Given.{Given, keeper}
 use Rattle.wfe_server.specs.server_replay.Sunk.{Outside}
-use Rattle.wfe_defs.specs.Entry.{Entry}
 use Rattle.wfe_server.specs.server_replay.Trace.{Progress, progress_start, after_bytes, finished, ◌>>=◌}
 use Rattle.wfe_server.proofs.server_replay.Bytes.{after_bytes-append, after_bytes-bad}
 
@@ -21,23 +21,23 @@ bad_in : (bytes taken rest : List ℕ) (bad : BadLine) → bytes ≡ taken ++ re
 bad_in bytes taken rest bad split found (inl here) = ap whole split ∙ bad_before taken rest bad here
 bad_in bytes taken rest bad split found (inr none) = ap whole (split ∙ ap (λ (xs : List ℕ). taken ++ xs) none ∙ append-nil taken) ∙ found
 
-never_bad : {W : Type 0} (stands : W → List Entry → Type 0) (watched bytes taken : List ℕ) (left : Option (List ℕ)) (old new : Outside W) (p : Progress Given) (bad : BadLine) → whole bytes ≡ Ok p → Consumes (Some bytes) left taken →
-    IsRefused stands watched taken left old new bad → ⊥
-never_bad stands watched bytes taken None old new p bad good consumed refused = consumed
-never_bad stands watched bytes taken (Some rest) old new p bad good consumed refused =
-    let found : Err bad ≡ Ok p = sym (bad_in bytes taken rest bad consumed refused.first refused.seen) ∙ good in cc
+never_bad : {W : Type 0} (seen : Seen W) (watched bytes taken : List ℕ) (left : Option (List ℕ)) (old new : Outside W) (p : Progress Given) (bad : BadLine) → whole bytes ≡ Ok p → Consumes (Some bytes) left taken →
+    IsRefused seen taken left old new bad → ⊥
+never_bad seen watched bytes taken None old new p bad good consumed refused = consumed
+never_bad seen watched bytes taken (Some rest) old new p bad good consumed refused =
+    let found : Err bad ≡ Ok p = sym (bad_in bytes taken rest bad consumed refused.first refused.found) ∙ good in cc
 
-complete_in : {W : Type 0} (stands : W → List Entry → Type 0) (status : Status) (watched bytes : List ℕ) (left : Option (List ℕ)) (old new : Outside W) (p : Progress Given) → Replays stands status watched (Some bytes) left old new → whole bytes ≡ Ok p →
+complete_in : {W : Type 0} (seen : Seen W) (status : Status) (watched bytes : List ℕ) (left : Option (List ℕ)) (old new : Outside W) (p : Progress Given) → Replays seen status watched (Some bytes) left old new → whole bytes ≡ Ok p →
     (status ≡ statuses.ReadFault → ⊥) → (status ≡ statuses.WriteFault → ⊥) → (status ≡ statuses.Done) ⊎ (status ≡ statuses.NoMemory)
-complete_in stands statuses.Done watched bytes left old new p replays good reads writes = inl refl
-complete_in stands statuses.Usage watched bytes left old new p replays good reads writes = absurd replays.2
-complete_in stands (statuses.BadTrace line reason) watched bytes left old new p (taken, consumed, refused) good reads writes =
-    absurd (never_bad stands watched bytes taken left old new p (record { line = line; reason = reason }) good consumed refused)
-complete_in stands statuses.ReadFault watched bytes left old new p replays good reads writes = absurd (reads refl)
-complete_in stands statuses.WriteFault watched bytes left old new p replays good reads writes = absurd (writes refl)
-complete_in stands statuses.NoMemory watched bytes left old new p replays good reads writes = inr refl
+complete_in seen statuses.Done watched bytes left old new p replays good reads writes = inl refl
+complete_in seen statuses.Usage watched bytes left old new p replays good reads writes = absurd replays.2
+complete_in seen (statuses.BadTrace line reason) watched bytes left old new p (taken, consumed, refused) good reads writes =
+    absurd (never_bad seen watched bytes taken left old new p (record { line = line; reason = reason }) good consumed refused)
+complete_in seen statuses.ReadFault watched bytes left old new p replays good reads writes = absurd (reads refl)
+complete_in seen statuses.WriteFault watched bytes left old new p replays good reads writes = absurd (writes refl)
+complete_in seen statuses.NoMemory watched bytes left old new p replays good reads writes = inr refl
 
-pub complete : {W : Type 0} (stands : W → List Entry → Type 0) (status : Status) (watched : List ℕ) (before left : Option (List ℕ)) (old new : Outside W) → Replays stands status watched before left old new →
+pub complete : {W : Type 0} (seen : Seen W) (status : Status) (watched : List ℕ) (before left : Option (List ℕ)) (old new : Outside W) → Replays seen status watched before left old new →
     (bytes : List ℕ) (p : Progress Given) → before ≡ Some bytes → whole bytes ≡ Ok p →
     (status ≡ statuses.ReadFault → ⊥) → (status ≡ statuses.WriteFault → ⊥) → (status ≡ statuses.Done) ⊎ (status ≡ statuses.NoMemory)
-complete stands status watched before left old new replays bytes p told good reads writes = complete_in stands status watched bytes left old new p (rw told at replays) good reads writes
+complete seen status watched before left old new replays bytes p told good reads writes = complete_in seen status watched bytes left old new p (rw told at replays) good reads writes

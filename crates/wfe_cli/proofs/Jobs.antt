@@ -1,39 +1,38 @@
 -- What a job does, by what the words ask for; and that nothing is done where memory runs out before.
+use Rattle.wfe_server_out.specs.Heard.{Seen}
 use Rattle.std.proofs.Common.{List, [], Option, Some, ℕ, ◌≡◌, refl}
 use Rattle.std.proofs.KnownBytes.{Consumes-nil}
 use Rattle.wfe_cli_job.specs.declared.job.Job.{Job}
 use Rattle.wfe_cli_job.specs.declared.job.Job.TheVariants as jobs
-use Rattle.wfe_defs.specs.Entry.{Entry}
 use Rattle.wfe_server.specs.Generated.{Generates}
-use Rattle.wfe_server.specs.Turns.{generated, trace_of}
 use Rattle.wfe_server.proofs.History.{generated_taken}
 use Rattle.wfe_server_out.proofs.Hearing.{hears_some_none}
-use Rattle.wfe_server_out.proofs.Puts.{puts_some_none}
+use Rattle.wfe_server.proofs.server_replay.Says.{stopped_before}
 use Rattle.wfe_trace.specs.declared.reason.Status.{Status}
 use Rattle.wfe_trace.specs.declared.reason.Status.TheVariants as statuses
 use Rattle.wfe_server.specs.server_replay.Replay.{Replays}
 use Rattle.wfe_server.specs.server_replay.Sunk.{Outside}
 use Rattle.wfe_cli.specs.Command.{Does}
 use Rattle.wfe_cli.specs.Headline.{Keeps, Summarizes}
-use Rattle.wfe_cli.proofs.Headline.{summarizes_of}
+use Rattle.wfe_cli.proofs.Headline.{broken_of, summarizes_of}
 
 -- the job is the one that the words ask for
 job_is : (job other : Job) (a : Option Job) → Some job ≡ a → a ≡ Some other → job ≡ other
 job_is job other a e h = let both : Some job ≡ Some other = cc in cc
 
-pub replays_as : {W : Type 0} (stands : W → List Entry → Type 0) (job : Job) (a : Option Job) (status : Status) (watched : List ℕ) (before left : Option (List ℕ)) (old new : Outside W) →
-    Some job ≡ a → a ≡ Some jobs.Replay → Does stands job status watched before left old new → Replays stands status watched before left old new
-replays_as stands job a status watched before left old new e h does = rw (job_is job jobs.Replay a e h) at does
+pub replays_as : {W : Type 0} (seen : Seen W) (job : Job) (a : Option Job) (status : Status) (watched : List ℕ) (before left : Option (List ℕ)) (old new : Outside W) →
+    Some job ≡ a → a ≡ Some jobs.Replay → Does seen job status watched before left old new → Replays seen status watched before left old new
+replays_as seen job a status watched before left old new e h does = rw (job_is job jobs.Replay a e h) at does
 
-pub summarizes_as : {W : Type 0} (stands : W → List Entry → Type 0) (job : Job) (a : Option Job) (seed turns : ℕ) (status : Status) (watched : List ℕ) (before left : Option (List ℕ)) (old new : Outside W) →
-    Some job ≡ a → a ≡ Some (jobs.Generate seed turns) → Does stands job status watched before left old new → Summarizes stands status seed turns watched old new
-summarizes_as stands job a seed turns status watched before left old new e h does =
-    let made : Generates stands status seed turns watched old new = rw (job_is job (jobs.Generate seed turns) a e h) at does in
-    summarizes_of stands status seed turns watched old new made
+pub summarizes_as : {W : Type 0} (seen : Seen W) (job : Job) (a : Option Job) (seed turns : ℕ) (status : Status) (watched : List ℕ) (before left : Option (List ℕ)) (old new : Outside W) →
+    Some job ≡ a → a ≡ Some (jobs.Generate seed turns) → Does seen job status watched before left old new → Summarizes seen status seed turns watched old new
+summarizes_as seen job a seed turns status watched before left old new e h does =
+    let made : Generates seen status seed turns watched old new = rw (job_is job (jobs.Generate seed turns) a e h) at does in
+    summarizes_of seen status seed turns watched old new made
 
-pub nothing_kept : {W : Type 0} (stands : W → List Entry → Type 0) (watched : List ℕ) (left : Option (List ℕ)) (out : Outside W) → Keeps stands statuses.NoMemory watched left left out out
-nothing_kept stands watched left out = ([], Consumes-nil left, puts_some_none _ _ _ _)
+pub nothing_kept : {W : Type 0} (seen : Seen W) (watched : List ℕ) (left : Option (List ℕ)) (out : Outside W) → Keeps seen statuses.NoMemory watched left left out out
+nothing_kept seen watched left out = ([], Consumes-nil left, broken_of seen watched [] left out out (stopped_before seen watched left out))
 
-pub nothing_summarized : {W : Type 0} (stands : W → List Entry → Type 0) (seed turns : ℕ) (watched : List ℕ) (out : Outside W) → Summarizes stands statuses.NoMemory seed turns watched out out
-nothing_summarized stands seed turns watched out =
-    summarizes_of stands statuses.NoMemory seed turns watched out out (record { taken = generated_taken seed turns; says = (refl, hears_some_none stands out.watchers _) })
+pub nothing_summarized : {W : Type 0} (seen : Seen W) (seed turns : ℕ) (watched : List ℕ) (out : Outside W) → Summarizes seen statuses.NoMemory seed turns watched out out
+nothing_summarized seen seed turns watched out =
+    summarizes_of seen statuses.NoMemory seed turns watched out out (record { taken = generated_taken seed turns; says = (refl, hears_some_none seen out.watchers _) })

@@ -1,12 +1,11 @@
 -- The commands of the program.
+use Rattle.wfe_server_out.specs.Heard.{Seen}
 use Rattle.std.specs.Prelude.{◌≡◌, ◌≤◌, ◌⊎◌, ℕ, List, Option, Some, Ok, codes}
 use Rattle.std.specs.Io.KnownBytes.{Appends}
 use Rattle.wfe_cli_job.specs.Jobs.{most_turns}
 use Rattle.wfe_cli_job.specs.declared.job.Job.{Job}
 use Rattle.wfe_cli_job.specs.declared.job.Job.TheVariants as jobs
-use Rattle.wfe_defs.specs.Entry.{Entry}
 use Rattle.wfe_server.specs.Generated.{Generates}
-use Rattle.wfe_outside.specs.Faults.{Rose}
 use Rattle.wfe_trace.specs.declared.reason.Status.{Status}
 use Rattle.wfe_trace.specs.declared.reason.Status.TheVariants as statuses
 use Rattle.wfe_server_out.specs.Some.{AppendsSome}
@@ -21,9 +20,9 @@ Allowed jobs.Replay = Unit {0}
 Allowed (jobs.Generate seed turns) = turns ≤ most_turns
 
 -- what a job does
-abbrev pub Does : {W : Type 0} → (W → List Entry → Type 0) → Job → Status → (watched : List ℕ) → Option (List ℕ) → Option (List ℕ) → Outside W → Outside W → Type 0
-Does stands jobs.Replay status watched before left old new = Replays stands status watched before left old new
-Does stands (jobs.Generate seed turns) status watched before left old new = Generates stands status seed turns watched old new
+abbrev pub Does : {W : Type 0} → Seen W → Job → Status → (watched : List ℕ) → Option (List ℕ) → Option (List ℕ) → Outside W → Outside W → Type 0
+Does seen jobs.Replay status watched before left old new = Replays seen status watched before left old new
+Does seen (jobs.Generate seed turns) status watched before left old new = Generates seen status seed turns watched old new
 
 -- the line that lists the commands
 abbrev pub usage_line : List ℕ
@@ -37,13 +36,13 @@ Refuses status old new =
     ⊎ ((status ≡ statuses.NoMemory) × (new ≡ old))
 
 -- where the sink's count of faults did not rise, the summary is written or memory ran out
-abbrev pub IsGenerated : Status → ℕ → ℕ → Type 0
-IsGenerated status writes writes' = (Rose writes writes' → ⊥) → (status ≡ statuses.Done) ⊎ (status ≡ statuses.NoMemory)
+abbrev pub IsGenerated : Status → (write_rose : Type 0) → Type 0
+IsGenerated status write_rose = (write_rose → ⊥) → (status ≡ statuses.Done) ⊎ (status ≡ statuses.NoMemory)
 
 -- where the source tells a trace in the grammar, and neither count of faults rose, the work is done or memory ran out
-abbrev pub IsComplete : Status → Option (List ℕ) → ℕ → ℕ → ℕ → ℕ → Type 0
-IsComplete status left reads reads' writes writes' =
-    (bytes : List ℕ) (progress : Progress Given) → left ≡ Some bytes → whole bytes ≡ Ok progress → (Rose reads reads' → ⊥) → (Rose writes writes' → ⊥) →
+abbrev pub IsComplete : Status → Option (List ℕ) → (read_rose write_rose : Type 0) → Type 0
+IsComplete status left read_rose write_rose =
+    (bytes : List ℕ) (progress : Progress Given) → left ≡ Some bytes → whole bytes ≡ Ok progress → (read_rose → ⊥) → (write_rose → ⊥) →
     (status ≡ statuses.Done) ⊎ (status ≡ statuses.NoMemory)
 
 -- the number with which the program ends

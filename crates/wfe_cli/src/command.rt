@@ -1,4 +1,5 @@
 // The commands of the program, over any source and sink.
+ghost use Rattle.wfe_server_out.specs.Heard.{boxed};
 ghost use Rattle.std.specs.Prelude.{◌≡◌, ◌≢◌, ◌≤◌, ℕ, None, Some, map, string_bytes};
 ghost use Rattle.wfe_cli.specs.Command.{Allowed, Does, IsComplete, IsGenerated, Refuses, status_number};
 ghost use Rattle.wfe_cli.specs.Headline.{GivenLawful, Keeps, Summarizes};
@@ -23,7 +24,7 @@ fn refuse<K: Sink>(sink: &mut K) -> Status
     ensures refused { Refuses result (K.written sink.old) (K.written sink.new) }
     ensures later { K.faults sink.old ≤ K.faults sink.new }
     ensures read { result ≢ Status.ReadFault }
-    ensures cause { result ≡ Status.WriteFault → Rose (K.faults sink.old) (K.faults sink.new) }
+    ensures cause { result ≡ Status.WriteFault → Rose K.may_stand (K.faults sink.old) (K.faults sink.new) }
 {
     match write_all(sink, USAGE) {
         Ok(()) => Status::Usage,
@@ -40,12 +41,12 @@ fn perform<S: Source, K: Sink>(
     watchers: &mut Vec<Box<dyn Watcher>>,
 ) -> Status
     requires { Allowed job }
-    ensures does { Does stands job result (watch_text shown shows watchers.new.items) (S.left source.old) (S.left source.new) (outside (K.written sink.old) watchers.old.items) (outside (K.written sink.new) watchers.new.items) }
+    ensures does { Does (boxed stands) job result (watch_text shown shows watchers.new.items) (S.left source.old) (S.left source.new) (outside (K.written sink.old) watchers.old.items) (outside (K.written sink.new) watchers.new.items) }
     ensures unread { job ≢ Job.Replay → source.new ≡ source.old }
     ensures source { S.faults source.old ≤ S.faults source.new }
     ensures sink { K.faults sink.old ≤ K.faults sink.new }
-    ensures read { result ≡ Status.ReadFault → Rose (S.faults source.old) (S.faults source.new) }
-    ensures write { result ≡ Status.WriteFault → Rose (K.faults sink.old) (K.faults sink.new) }
+    ensures read { result ≡ Status.ReadFault → Rose S.may_stand (S.faults source.old) (S.faults source.new) }
+    ensures write { result ≡ Status.WriteFault → Rose K.may_stand (K.faults sink.old) (K.faults sink.new) }
 {
     match job {
         Job::Replay => replay::<Rig<PlainCells>, S, K>(alloc, source, sink, watchers),
@@ -68,20 +69,20 @@ pub fn main_call<R: Threads + Sync, S: Source, K: Sink>(
     watchers: &mut Vec<Box<dyn Watcher>>,
 ) -> Status
     // The words are judged first.
-    ensures replays { asked (map string_bytes words.now) ≡ Some Job.Replay → Keeps stands result (watch_text shown shows watchers.new.items) (S.left source.old) (S.left source.new) (outside (K.written sink.old) watchers.old.items) (outside (K.written sink.new) watchers.new.items) }
+    ensures replays { asked (map string_bytes words.now) ≡ Some Job.Replay → Keeps (boxed stands) result (watch_text shown shows watchers.new.items) (S.left source.old) (S.left source.new) (outside (K.written sink.old) watchers.old.items) (outside (K.written sink.new) watchers.new.items) }
     ensures lawful { GivenLawful }
-    ensures generates { (seed turns : ℕ) → asked (map string_bytes words.now) ≡ Some (Job.Generate seed turns) → Summarizes stands result seed turns (watch_text shown shows watchers.new.items) (outside (K.written sink.old) watchers.old.items) (outside (K.written sink.new) watchers.new.items) }
+    ensures generates { (seed turns : ℕ) → asked (map string_bytes words.now) ≡ Some (Job.Generate seed turns) → Summarizes (boxed stands) result seed turns (watch_text shown shows watchers.new.items) (outside (K.written sink.old) watchers.old.items) (outside (K.written sink.new) watchers.new.items) }
     ensures refuses { asked (map string_bytes words.now) ≡ None → Refuses result (K.written sink.old) (K.written sink.new) }
     ensures unread { asked (map string_bytes words.now) ≢ Some Job.Replay → source.new ≡ source.old }
     ensures unheard { asked (map string_bytes words.now) ≡ None → watchers.new ≡ watchers.old }
 
     // A trace in the grammar is replayed whole, and a generated one is summarized, but for a fault of the source or the sink, and for want of memory.
-    ensures complete { asked (map string_bytes words.now) ≡ Some Job.Replay → IsComplete result (S.left source.old) (S.faults source.old) (S.faults source.new) (K.faults sink.old) (K.faults sink.new) }
-    ensures generated { (seed turns : ℕ) → asked (map string_bytes words.now) ≡ Some (Job.Generate seed turns) → IsGenerated result (K.faults sink.old) (K.faults sink.new) }
+    ensures complete { asked (map string_bytes words.now) ≡ Some Job.Replay → IsComplete result (S.left source.old) (Rose S.may_stand (S.faults source.old) (S.faults source.new)) (Rose K.may_stand (K.faults sink.old) (K.faults sink.new)) }
+    ensures generated { (seed turns : ℕ) → asked (map string_bytes words.now) ≡ Some (Job.Generate seed turns) → IsGenerated result (Rose K.may_stand (K.faults sink.old) (K.faults sink.new)) }
 
     // A fault is told only where its count rose.
-    ensures read { result ≡ Status.ReadFault → Rose (S.faults source.old) (S.faults source.new) }
-    ensures write { result ≡ Status.WriteFault → Rose (K.faults sink.old) (K.faults sink.new) }
+    ensures read { result ≡ Status.ReadFault → Rose S.may_stand (S.faults source.old) (S.faults source.new) }
+    ensures write { result ≡ Status.WriteFault → Rose K.may_stand (K.faults sink.old) (K.faults sink.new) }
     ensures source { S.faults source.old ≤ S.faults source.new }
     ensures sink { K.faults sink.old ≤ K.faults sink.new }
 {

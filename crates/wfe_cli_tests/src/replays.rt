@@ -23,11 +23,13 @@ struct Drip {
 }
 
 impl Source for Drip {
-    ghost use Rattle.std.specs.Prelude.{Some};
+    ghost use Rattle.std.specs.Prelude.{Some, false};
 
     ghost left = { λ s. Some s.inner.left };
 
     ghost faults = { λ s. s.inner.faults };
+
+    ghost may_stand = { false };
 
     fn read(&mut self, buf: &mut [u8]) -> Result<usize, Failed> {
         if buf.is_empty() {
@@ -37,28 +39,27 @@ impl Source for Drip {
     }
 }
 
-// What a run of the program with these words ends with and writes.
-fn run_words<R: Threads + Sync + AllocGlobal, S: Source>(
+// What a run of the program with these words ends with, and what it writes: with so much room, and these
+// writes failing.
+fn run_words<R: Threads + Sync + AllocGlobal, S: Source + Drop>(
     rt: &R,
     words: &[&str],
-    source: &mut S,
-    sink: &mut MemSink,
-) -> Result<Status, Fail> {
+    mut source: S,
+    (room, fails): (usize, &[u64]),
+) -> Result<(Status, MemSink), Fail> {
+    let list = list_of(rt, words)?;
+    let mut watchers: Vec<Box<dyn Watcher>> = Vec::new(rt.alloc());
+    let mut sink = MemSink::new(rt.alloc(), room, fails)?;
+    let status = main_call(rt, rt.alloc(), &list, &mut source, &mut sink, &mut watchers);
+    Ok((status, sink))
+}
+
+fn list_of<R: AllocGlobal>(rt: &R, words: &[&str]) -> Result<Vec<String>, Fail> {
     let mut list = Vec::new(rt.alloc());
     for word in words {
         list.push(String::from_str(rt.alloc(), word)?)?;
     }
-    let mut watchers: Vec<Box<dyn Watcher>> = Vec::new(rt.alloc());
-    Ok(main_call(rt, rt.alloc(), &list, source, sink, &mut watchers))
-}
-
-fn run<R: Threads + Sync + AllocGlobal, S: Source>(
-    rt: &R,
-    word: &str,
-    source: &mut S,
-    sink: &mut MemSink,
-) -> Result<Status, Fail> {
-    run_words(rt, &[word], source, sink)
+    Ok(list)
 }
 
 // The bytes one after the other.
@@ -70,28 +71,49 @@ fn joined<R: AllocGlobal>(rt: &R, parts: &[&[u8]]) -> Result<Vec<u8>, Fail> {
     Ok(all)
 }
 
-// Wants this status and this output of a trace.
+// Wants a run of the program with these words to end with this status and this output.
+fn run_is<R: Threads + Sync + Abort + AllocGlobal, S: Source + Drop>(
+    rt: &R,
+    words: &[&str],
+    source: S,
+    sink: (usize, &[u64]),
+    (status, output): (Status, &[u8]),
+    case: usize,
+) -> Result<(), Fail> {
+    let (found, sink) = run_words(rt, words, source, sink)?;
+    assert_eq!(rt; found, status, "case {case}");
+    assert_eq!(rt; sink.bytes(), output, "case {case}");
+    Ok(())
+}
+
+// Wants this status and this output of a replay.
+fn replay_is<R: Threads + Sync + Abort + AllocGlobal, S: Source + Drop>(
+    rt: &R,
+    source: S,
+    status: Status,
+    output: &[u8],
+    case: usize,
+) -> Result<(), Fail> {
+    run_is(rt, &["replay"], source, (4096, &[]), (status, output), case)
+}
+
+// A source of the trace that gives one byte at a call, and fails at these.
+fn one_by_one<R: AllocGlobal>(rt: &R, trace: &[u8], fails: &[u64]) -> Result<Drip, Fail> {
+    let inner = MemSource::new(rt.alloc(), trace, fails)?;
+    Ok(Drip { inner })
+}
+
+// Wants this status and this output of a trace, also where it comes in pieces of one byte.
 fn expect<R: Threads + Sync + Abort + AllocGlobal>(
     rt: &R,
     trace: &[u8],
     status: Status,
     output: &[u8],
 ) -> Result<(), Fail> {
-    let mut sink = MemSink::new(rt.alloc(), 4096, &[])?;
-    let mut source = MemSource::new(rt.alloc(), trace, &[])?;
-    assert_eq!(rt; run(rt, "replay", &mut source, &mut sink)?, status);
-    assert_eq!(rt; sink.bytes(), output);
-    let mut sink = MemSink::new(rt.alloc(), 4096, &[])?;
-    let mut source = Drip {
-        inner: MemSource::new(rt.alloc(), trace, &[])?,
-    };
-    assert_eq!(rt;
-        run(rt, "replay", &mut source, &mut sink)?,
-        status,
-        "in pieces of one byte"
-    );
-    assert_eq!(rt; sink.bytes(), output, "in pieces of one byte");
-    Ok(())
+    let source = MemSource::new(rt.alloc(), trace, &[])?;
+    replay_is(rt, source, status, output, 0)?;
+    let source = one_by_one(rt, trace, &[])?;
+    replay_is(rt, source, status, output, 1)
 }
 
 #[test]
@@ -107,20 +129,32 @@ fn put_then_get_is_recorded(rt: HostRuntime) -> Result<(), Fail> {
     expect(&rt, &trace, Status::Done, &record)
 }
 
+// Wants this of a trace whose source never fails.
+fn expect_clean<R: Threads + Sync + Abort + AllocGlobal>(
+    rt: &R,
+    trace: &[u8],
+    status: Status,
+    output: &[u8],
+) -> Result<(), Fail> {
+    let source = CleanSource::new(rt.alloc(), trace)?;
+    replay_is(rt, source, status, output, 0)
+}
+
 #[test]
 fn a_source_that_never_fails_is_replayed_whole(rt: HostRuntime) -> Result<(), Fail> {
     let trace = joined(&rt, &[SETTING, b"0 put 7 70\n0 put 8 80\n"])?;
-    let mut source = CleanSource::new(rt.alloc(), &trace[..trace.len().saturating_sub(11)])?;
-    let mut sink = MemSink::new(rt.alloc(), 4096, &[])?;
     let status = Status::BadTrace {
         line: 13,
         reason: Reason::NoEnd,
     };
-    assert_eq!(rt; run(&rt, "replay", &mut source, &mut sink)?, status);
+    let record = joined(&rt, &[HEADER, b"0 begin put 7 70\nbad 13 no-end\n"])?;
+    expect_clean(
+        &rt,
+        &trace[..trace.len().saturating_sub(11)],
+        status,
+        &record,
+    )?;
     let trace = joined(&rt, &[SETTING, b"0 put 7 70\nend\n"])?;
-    let mut source = CleanSource::new(rt.alloc(), &trace)?;
-    let mut sink = MemSink::new(rt.alloc(), 4096, &[])?;
-    assert_eq!(rt; run(&rt, "replay", &mut source, &mut sink)?, Status::Done);
     let record = joined(
         &rt,
         &[
@@ -128,8 +162,7 @@ fn a_source_that_never_fails_is_replayed_whole(rt: HostRuntime) -> Result<(), Fa
             b"0 begin put 7 70\n0 reserve i0.0 1 1\n0 null 0 4\n0 give 0 1\n0 link b0 0\n0 put 0 1 7 70\n0 reserve i0.0 none\n0 end 13 done 1 still\ndone\n",
         ],
     )?;
-    assert_eq!(rt; sink.bytes(), record.as_slice());
-    Ok(())
+    expect_clean(&rt, &trace, Status::Done, &record)
 }
 
 #[test]
@@ -214,6 +247,19 @@ fn bad_input_has_its_line_and_reason(rt: HostRuntime) -> Result<(), Fail> {
     Ok(())
 }
 
+// Wants writing to fail after this output.
+fn expect_fault<R: Threads + Sync + Abort + AllocGlobal>(
+    rt: &R,
+    trace: &[u8],
+    sink: (usize, &[u64]),
+    output: &[u8],
+    case: usize,
+) -> Result<(), Fail> {
+    let source = MemSource::new(rt.alloc(), trace, &[])?;
+    let want = (Status::WriteFault, output);
+    run_is(rt, &["replay"], source, sink, want, case)
+}
+
 #[test]
 fn a_sink_that_fails_keeps_the_lines_before(rt: HostRuntime) -> Result<(), Fail> {
     let trace = joined(&rt, &[SETTING, b"0 put 7 70\n0 run\nend\n"])?;
@@ -230,24 +276,40 @@ fn a_sink_that_fails_keeps_the_lines_before(rt: HostRuntime) -> Result<(), Fail>
         b"done\n",
     ];
     for (i, _) in lines.iter().enumerate() {
-        let mut source = MemSource::new(rt.alloc(), &trace, &[])?;
-        let mut sink = MemSink::new(rt.alloc(), 4096, &[i as u64 + 1])?;
-        assert_eq!(rt;
-            run(&rt, "replay", &mut source, &mut sink)?,
-            Status::WriteFault,
-            "at call {i}"
-        );
         let before = joined(&rt, &lines[..i])?;
-        assert_eq!(rt; sink.bytes(), before.as_slice(), "at call {i}");
+        expect_fault(&rt, &trace, (4096, &[i as u64 + 1]), &before, i)?;
     }
-    let mut source = MemSource::new(rt.alloc(), &trace, &[])?;
-    let mut sink = MemSink::new(rt.alloc(), 10, &[])?;
-    assert_eq!(rt;
-        run(&rt, "replay", &mut source, &mut sink)?,
-        Status::WriteFault
-    );
-    assert_eq!(rt; sink.bytes(), b"record 1 h".as_slice());
-    Ok(())
+    expect_fault(&rt, &trace, (10, &[]), b"record 1 h", 10)
+}
+
+// The parts of a trace that a source has given once it has given so many bytes, and what is printed of them.
+fn printed<R: AllocGlobal>(
+    rt: &R,
+    parts: &[(&[u8], &[u8])],
+    given: usize,
+) -> Result<Vec<u8>, Fail> {
+    let mut all = Vec::new(rt.alloc());
+    let mut end: usize = 0;
+    for (lines, output) in parts {
+        end = end.saturating_add(lines.len());
+        if end <= given {
+            all.extend_from_slice(output)?;
+        }
+    }
+    Ok(all)
+}
+
+// Wants reading to fail once so many bytes were given, one at a time, and the parts that were whole by then to
+// have been printed.
+fn expect_cut<R: Threads + Sync + Abort + AllocGlobal>(
+    rt: &R,
+    trace: &[u8],
+    parts: &[(&[u8], &[u8])],
+    given: usize,
+) -> Result<(), Fail> {
+    let output = printed(rt, parts, given)?;
+    let source = one_by_one(rt, trace, &[(given as u64).saturating_add(1)])?;
+    replay_is(rt, source, Status::ReadFault, &output, given)
 }
 
 #[test]
@@ -262,28 +324,23 @@ fn a_source_that_fails_leaves_the_lines_read(rt: HostRuntime) -> Result<(), Fail
         ),
         (b"end\n", b""),
     ];
-    let mut trace = Vec::new(rt.alloc());
-    for (lines, _) in parts {
-        trace.extend_from_slice(lines)?;
-    }
-    for read in 0..=trace.len() {
-        let mut want = Vec::new(rt.alloc());
-        let mut end: usize = 0;
-        for (lines, printed) in parts {
-            end = end.saturating_add(lines.len());
-            if end <= read {
-                want.extend_from_slice(printed)?;
-            }
-        }
-        let mut source = Drip {
-            inner: MemSource::new(rt.alloc(), &trace, &[(read as u64).saturating_add(1)])?,
-        };
-        let mut sink = MemSink::new(rt.alloc(), 4096, &[])?;
-        let status = run(&rt, "replay", &mut source, &mut sink)?;
-        assert_eq!(rt; status, Status::ReadFault, "after {read} bytes");
-        assert_eq!(rt; sink.bytes(), want.as_slice(), "after {read} bytes");
+    let trace = joined(&rt, &[SETTING, b"0 put 7 70\n0 run\nend\n"])?;
+    for given in 0..=trace.len() {
+        expect_cut(&rt, &trace, &parts, given)?;
     }
     Ok(())
+}
+
+// Wants these words to be answered at once, whatever the source gives, with these writes failing.
+fn expect_answer<R: Threads + Sync + Abort + AllocGlobal>(
+    rt: &R,
+    words: &[&str],
+    fails: &[u64],
+    want: (Status, &[u8]),
+    case: usize,
+) -> Result<(), Fail> {
+    let source = MemSource::new(rt.alloc(), b"wfe 1\n", &[1])?;
+    run_is(rt, words, source, (4096, fails), want, case)
 }
 
 #[test]
@@ -304,23 +361,10 @@ fn other_words_are_answered_by_the_usage_line(rt: HostRuntime) -> Result<(), Fai
         &["gen", "1", "5", "2"],
     ];
     for (i, words) in lists.iter().enumerate() {
-        let mut source = MemSource::new(rt.alloc(), b"wfe 1\n", &[1])?;
-        let mut sink = MemSink::new(rt.alloc(), 4096, &[])?;
-        let status = run_words(&rt, words, &mut source, &mut sink)?;
-        assert_eq!(rt; status, Status::Usage, "of list {i}");
-        assert_eq!(rt;
-            sink.bytes(),
-            b"usage: wfe replay | gen SEED N\n".as_slice(),
-            "of list {i}"
-        );
+        let usage = b"usage: wfe replay | gen SEED N\n";
+        expect_answer(&rt, words, &[], (Status::Usage, usage), i)?;
     }
-    let mut source = MemSource::new(rt.alloc(), b"", &[])?;
-    let mut sink = MemSink::new(rt.alloc(), 4096, &[1])?;
-    assert_eq!(rt;
-        run(&rt, "none", &mut source, &mut sink)?,
-        Status::WriteFault
-    );
-    Ok(())
+    expect_answer(&rt, &["none"], &[1], (Status::WriteFault, b""), 13)
 }
 
 // Where a line begins in the output, from this place on, and ends.
@@ -341,9 +385,9 @@ fn expect_among<R: Threads + Sync + Abort + AllocGlobal>(
     lines: &[&[u8]],
 ) -> Result<(), Fail> {
     let trace = joined(rt, &[setting, body])?;
-    let mut source = MemSource::new(rt.alloc(), &trace, &[])?;
-    let mut sink = MemSink::new(rt.alloc(), 65_536, &[])?;
-    assert_eq!(rt; run(rt, "replay", &mut source, &mut sink)?, Status::Done);
+    let source = MemSource::new(rt.alloc(), &trace, &[])?;
+    let (status, sink) = run_words(rt, &["replay"], source, (65_536, &[]))?;
+    assert_eq!(rt; status, Status::Done);
     let mut from = 0;
     for (i, line) in lines.iter().enumerate() {
         match end_of_line(sink.bytes(), from, line) {

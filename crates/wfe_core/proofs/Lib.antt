@@ -1,6 +1,6 @@
 pub use Rattle.wfe_words.proofs as words
+pub use Rattle.wfe_defs.proofs.Facts
 pub mod CallFrames
-pub mod Facts
 pub mod Following
 pub mod Frames
 pub mod Lists

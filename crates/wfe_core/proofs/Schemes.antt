@@ -11,7 +11,7 @@ use Rattle.wfe_core.specs.Phases.{Base}
 use Rattle.wfe_core.specs.Phases.Base.{Clear, Release}
 use Rattle.wfe_core.specs.Posts.{stands, withdrawn, cleared}
 use Rattle.wfe_core.specs.Rounds.{begin_span, begin_where, begin_base, clear_base, clear_post, clear_told, finish_span, finish_base, release_base}
-use Rattle.wfe_core.proofs.Facts.{if_by}
+use Rattle.wfe_defs.proofs.Facts.{if_by}
 
 pub each_begin : (scheme : SchemeKind) (post : Post) (P : Option Base → Type 0) → P None → P (begin_span post.span) → P (begin_base scheme post)
 each_begin scheme post P f t = by (has_one_interval scheme)

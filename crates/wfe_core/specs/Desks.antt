@@ -2,13 +2,8 @@
 use Rattle.std.specs.Prelude.{ℕ, Bool, true, false, List, [], ◌∷◌, ◌++◌, length, Option, Some, None}
 use Rattle.wfe_defs.specs.declared.event.Event.{Event}
 use Rattle.wfe_defs.specs.declared.event.Event.TheVariants as events
-use Rattle.wfe_defs.specs.declared.event.Guard.{Guard}
-use Rattle.wfe_defs.specs.declared.lifetime.Interval.{Interval}
 use Rattle.wfe_defs.specs.declared.lifetime.Lifetime.{Lifetime}
-
--- a guard and what it published
-abbrev pub Seen : Type 0
-Seen = Guard × Option Interval
+use Rattle.wfe_defs.specs.Shown.{Seen}
 
 -- a scan: the guards read so far, how many lives stay, and how many went back
 pub record Report : Type 0 where

@@ -10,6 +10,7 @@ use Rattle.wfe_words.specs.declared.packed.Span.{Span}
 use Rattle.wfe_defs.specs.declared.event.Guard.{Guard}
 use Rattle.wfe_defs.specs.declared.event.Guard.TheVariants.{Helper, Index, Whole}
 use Rattle.wfe_defs.specs.declared.lifetime.Interval.{Interval}
+use Rattle.wfe_defs.specs.Shown.{Shown, shown}
 
 -- the index word of this number, by seat and then index
 abbrev pub index_at : Config → ℕ → Guard
@@ -54,11 +55,15 @@ interval_in None = None
 interval_in (Some None) = None
 interval_in (Some (Some span)) = from_to span.lo span.hi
 
--- what a guard publishes with this word
-abbrev pub published : Guard → ℕ → Option Interval
-published (Helper seat) word = one_era (read_reservation word).era
-published (Index seat index) word = one_era (read_reservation word).era
-published (Whole seat) word = interval_in (read_span word)
+-- the eras that a guard publishes with this word
+abbrev pub eras_in : Guard → ℕ → Option Interval
+eras_in (Helper seat) word = one_era (read_reservation word).era
+eras_in (Index seat index) word = one_era (read_reservation word).era
+eras_in (Whole seat) word = interval_in (read_span word)
+
+-- what it publishes with this word
+abbrev pub published : Guard → ℕ → Shown
+published guard word = shown (eras_in guard word)
 
 -- the guard of a seat's index: its own word, or where the scheme has one interval the seat's interval word
 abbrev pub own_guard : SchemeKind → ℕ → ℕ → Guard

@@ -1,8 +1,8 @@
 pub use Rattle.wfe_defs.specs as defs
 pub use Rattle.wfe_words.specs as words
+pub use Rattle.wfe_defs.specs.Bounds
 pub mod Allocate
 pub mod Book
-pub mod Bounds
 pub mod CallReady
 pub mod Calls
 pub mod Change

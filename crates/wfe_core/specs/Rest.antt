@@ -5,7 +5,7 @@ use Rattle.wfe_words.specs.Place.Place.{Clock}
 use Rattle.wfe_words.specs.declared.config.Config.{Config}
 use Rattle.wfe_defs.specs.declared.lifetime.Interval.{Interval}
 use Rattle.wfe_defs.specs.declared.lifetime.Lifetime.{Lifetime}
-use Rattle.wfe_core.specs.Bounds.{clock_most, over_most}
+use Rattle.wfe_defs.specs.Bounds.{clock_most, over_most}
 use Rattle.wfe_core.specs.Guards.{guards}
 use Rattle.wfe_core.specs.Phases.{Aim, Alone, Follows, Tries, Endless, Failed, BeginAt, ProtectAt, AllocateAt, RetireAt, MoveAt, Base}
 use Rattle.wfe_core.specs.Phases.BeginAt.{LoadLower, PublishSpan}

@@ -22,7 +22,7 @@ use Rattle.wfe_core.specs.Phases.BeginAt.{LoadLower}
 use Rattle.wfe_core.specs.Phases.RetireAt.{LoadLife}
 use Rattle.wfe_core.specs.Phases.MoveAt.{LoadEra}
 use Rattle.wfe_core.specs.Phases.Base.{Begin, Protect, Clear, Finish, Release, GiveUp, Retire, Move}
-use Rattle.wfe_core.specs.Calls.{Task, Gets, Changes, Holds, Enqueues, Dequeues, Next, Again, MakeRoom, Answering, Retiring, Repeated, Phase, Runs, CallTurn, goes_on, Opens, ClearsNext, Clears, Finishes, GivesUp, Retires, Tidies}
+use Rattle.wfe_core.specs.Calls.{AfterScan, Task, Gets, Changes, Holds, Enqueues, Dequeues, Next, Again, MakeRoom, Answering, Retiring, Repeated, Phase, Runs, CallTurn, goes_on, Opens, ClearsNext, Clears, Finishes, GivesUp, Retires, Tidies}
 use Rattle.wfe_core.specs.Calls as calls
 
 -- the scheme of a post's table
@@ -110,6 +110,10 @@ release_base scheme = if has_one_interval scheme then Release else Clear 2
 abbrev pub move_base : SchemeKind → Base
 move_base scheme = Move (LoadEra (helps scheme))
 
+-- the first phase of a call that is to move the clock and then to scan
+abbrev pub first_tidy : AfterScan → Post → Phase
+first_tidy later post = Runs (Tidies later) (move_base (scheme_of post))
+
 -- the protection of a task's root
 abbrev pub opening : Task → Post → Phase
 opening task post = Runs (Opens task) (protect_base (scheme_of post) (index_of task) (root_of task post))
@@ -130,7 +134,7 @@ given_up answer post desk told (Some slot) = goes_on post desk told (Runs (Gives
 -- a round is over
 abbrev pub closed : Task → Next → Post → Desk → List Event → CallTurn
 closed task Again post desk told = goes_on post desk told (round task post)
-closed task MakeRoom post desk told = goes_on post desk told (Runs (Tidies (Repeated task)) (move_base (scheme_of post)))
+closed task MakeRoom post desk told = goes_on post desk told (first_tidy (Repeated task) post)
 closed task (Answering answer) post desk told = given_up answer post desk told (taken_of task)
 closed task (Retiring slot answer) post desk told = goes_on post desk told (Runs (Retires answer) (Retire (LoadLife slot)))
 

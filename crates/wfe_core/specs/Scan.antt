@@ -1,5 +1,5 @@
 -- A scan reads each guard once, and then gives back the rows of the list whose lives meet nothing that it read.
-use Rattle.std.specs.Prelude.{ℕ, zero, suc, ◌+◌, ◌||◌, Bool, true, false, nat_lt, List, [], ◌∷◌, ◌++◌, length, drop, Option, Some, None}
+use Rattle.std.specs.Prelude.{ℕ, zero, suc, ◌+◌, Bool, true, false, nat_lt, List, [], ◌∷◌, ◌++◌, length, drop, Option, Some, None}
 use Rattle.std.specs.List.{remove}
 use Rattle.wfe_defs.specs.declared.call.Answer.TheVariants as answers
 use Rattle.wfe_defs.specs.declared.event.Event.{Event}
@@ -7,10 +7,10 @@ use Rattle.wfe_defs.specs.declared.event.Event.TheVariants as events
 use Rattle.wfe_defs.specs.declared.event.Guard.{Guard}
 use Rattle.wfe_defs.specs.declared.lifetime.Interval.{Interval}
 use Rattle.wfe_defs.specs.declared.lifetime.Lifetime.{Lifetime}
-use Rattle.wfe_defs.specs.Meets.{meets}
+use Rattle.wfe_defs.specs.Shown.{Seen, keeps_any, shown}
 use Rattle.wfe_core.specs.declared.post.Post.{Post}
-use Rattle.wfe_core.specs.Desks.{Desk, Report, Seen}
-use Rattle.wfe_core.specs.Guards.{guards, guard_at, guard_place, published}
+use Rattle.wfe_core.specs.Desks.{Desk, Report}
+use Rattle.wfe_core.specs.Guards.{guards, guard_at, guard_place, eras_in}
 use Rattle.wfe_core.specs.Memory.{Move, Load}
 use Rattle.wfe_core.specs.Machine.{free_move}
 use Rattle.wfe_core.specs.Calls.{AfterScan, Answered, Repeated, Counted, ScanAt, ReadGuard, GiveBack, Scans, CallTurn, goes_on}
@@ -21,16 +21,6 @@ abbrev pub scan_move : ScanAt → Post → Move
 scan_move (ReadGuard number) post = Load (guard_place (guard_at post.layout.config number))
 scan_move (GiveBack place slot) post = free_move slot
 
--- a life meets what a guard published
-abbrev pub meets_span : Lifetime → Option Interval → Bool
-meets_span life None = false
-meets_span life (Some span) = meets life span
-
--- a life meets something that was read
-abbrev pub meets_any : Lifetime → List Seen → Bool
-meets_any life [] = false
-meets_any life (seen ∷ read) = meets_span life seen.1 || meets_any life read
-
 -- an entry of the list, with its place
 abbrev pub Entry : Type 0
 Entry = ℕ × Lifetime
@@ -39,7 +29,7 @@ Entry = ℕ × Lifetime
 abbrev pub first_unmet : List Seen → ℕ → List Lifetime → Option Entry
 first_unmet read place [] = None
 first_unmet read place (life ∷ lives) =
-    elim (meets_any life read) [
+    elim (keeps_any life read) [
       | true ↦ first_unmet read (place + 1) lives
       | false ↦ Some (place, life)
     ]
@@ -83,7 +73,7 @@ read_guard later number post desk guard span =
     later
     number
     post
-    (with_read desk number (guard, span))
+    (with_read desk number (guard, shown span))
     (events.Read guard span ∷ [])
     (nat_lt (number + 1) (guards post.layout.config))
 
@@ -104,6 +94,6 @@ scan_turn later (ReadGuard number) post desk found =
     post
     desk
     (guard_at post.layout.config number)
-    (published (guard_at post.layout.config number) found)
+    (eras_in (guard_at post.layout.config number) found)
 scan_turn later (GiveBack place slot) post desk found =
     giving_back later post (with_back desk place) (events.Back slot ∷ []) (unmet_from (with_back desk place) place)

@@ -21,7 +21,7 @@ use Rattle.wfe_core.specs.WriteRow.{writing}
 use Rattle.wfe_core.specs.Machine.{base_move, after}
 use Rattle.wfe_core.specs.Calls.{Task, Gets, Changes, Holds, Enqueues, Dequeues, Next, Again, Answering, AfterScan, Answered, Repeated, Counted, Why, Opens, FollowsHead, Fills, ClearsNext, Clears, Finishes, GivesUp, Retires, Tidies, Advances, Releases, ReadGuard, FindVersion, LoadVersion, ExchangeRoot, LoadNumber, ExchangeNext, LoadTail, Work, Getting, Changing, Enqueuing, Dequeuing, Phase, Idle, Runs, Scans, Works, CallTurn, goes_on}
 use Rattle.wfe_core.specs.Calls as calls
-use Rattle.wfe_core.specs.Rounds.{scheme_of, opening, round, release_base, move_base, closed, finishing, clearing, with_clock}
+use Rattle.wfe_core.specs.Rounds.{scheme_of, first_tidy, opening, round, release_base, move_base, closed, finishing, clearing, with_clock}
 use Rattle.wfe_core.specs.Get.{get_move, get_turn, got}
 use Rattle.wfe_core.specs.Change.{change_move, change_turn, deciding, at_link, with_taken, with_walked, no_room, new_row}
 use Rattle.wfe_core.specs.Enqueue.{enqueue_move, enqueue_turn, item_taken, item_walked, new_item}
@@ -102,7 +102,7 @@ followed_by head tail ending post desk told = closed Dequeues Again post desk to
 
 -- after every so many retirements the clock is moved and the list is scanned
 abbrev pub tidying : Answer → Post → Desk → List Event → (due : Bool) → CallTurn
-tidying answer post desk told true = goes_on post desk told (Runs (Tidies (Answered answer)) (move_base (scheme_of post)))
+tidying answer post desk told true = goes_on post desk told (first_tidy (Answered answer) post)
 tidying answer post desk told false = calls.answers post desk told answer
 
 abbrev pub retired_by : Answer → Ending → Post → Desk → List Event → CallTurn

@@ -2,7 +2,7 @@
 // memory.
 ghost use Rattle.std.specs.Prelude.{◌≡◌, ◌<◌, ◌≤◌, ◌+◌, ◌*◌, [], ◌∷◌, ◌++◌, ◌^◌, length, slice_get, Some, true, IfOk};
 ghost use Rattle.std.specs.List.{remove};
-ghost use Rattle.wfe_words.specs.Place.{is_valid};
+ghost use Rattle.wfe_defs.specs.Shown.{shown};
 ghost use Rattle.wfe_core.specs.CallReady.{NotListed};
 ghost use Rattle.wfe_core.specs.Desks.{noted, noted_all, noting, no_report, no_notes, new_desk};
 ghost use Rattle.wfe_core.specs.DeskHeld.{HasRoom, desk_of, told_answer};
@@ -124,7 +124,7 @@ impl ScanReport {
     /// takes no memory.
     pub fn note(&mut self, number: u32, guard: Guard, span: Option<Interval>)
         requires { length (read_before (report_of self.old) number) < self.old.room }
-        ensures report { report_of self.new ≡ record { read = read_before (report_of self.old) number ++ (guard, span) ∷ []; kept = 0; back = 0 } }
+        ensures report { report_of self.new ≡ record { read = read_before (report_of self.old) number ++ (guard, shown span) ∷ []; kept = 0; back = 0 } }
         ensures room { self.old.room ≤ self.new.room }
     {
         if number == 0 {
@@ -252,7 +252,6 @@ pub struct Desk {
 impl Desk {
     /// The desk of a seat that has made no call.
     pub fn new(alloc: Global, layout: Layout) -> Result<Desk, NoMemory>
-        requires { is_valid layout ≡ true }
         ensures empty { IfOk result (λ desk. desk_of desk ≡ new_desk) }
         ensures room { IfOk result (λ desk. HasRoom desk layout) }
     {

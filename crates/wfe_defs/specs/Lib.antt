@@ -1,4 +1,6 @@
+pub mod Bounds
 pub mod Entry
 pub mod Events
 pub mod Meets
 pub mod Pairs
+pub mod Shown

@@ -3,8 +3,8 @@ use Rattle.std.specs.Prelude.{true, Bool, false}
 use Rattle.wfe_core.specs.words.declared.config.SchemeKind.{SchemeKind}
 use Rattle.wfe_core.specs.Calls.{Idle, Phase}
 use Rattle.wfe_core.specs.declared.post.Post.{Post}
-use Rattle.wfe_drive.specs.declared.engaged.Engaged.{Engaged}
-use Rattle.wfe_drive.specs.declared.engaged.Engaged.TheVariants as calls
+use Rattle.wfe_drive.specs.declared.seat.Engaged.{Engaged}
+use Rattle.wfe_drive.specs.declared.seat.Engaged.TheVariants as calls
 
 -- where the call stands; a seat without one is idle
 abbrev pub engaged_phase : {H I W : Type 0} → (H → Post → Phase) → (I → Post → Phase) → (W → Post → Phase) → Engaged H I W → Post → Phase

@@ -7,7 +7,7 @@ use Rattle.wfe_core.specs.Locals.{busy_in}
 use Rattle.wfe_core.specs.declared.desk.Desk.{Desk as HeldDesk}
 use Rattle.wfe_core.specs.declared.post.Post.{Post}
 use Rattle.wfe_drive.specs.Seats.{Suits, engaged_phase, is_engaged}
-use Rattle.wfe_drive.specs.declared.engaged.Engaged.{Engaged}
+use Rattle.wfe_drive.specs.declared.seat.Engaged.{Engaged}
 
 pub record IsSound {H I W : Type 0} (he ibr wfe : SchemeKind → Type 0) (he_phase : H → Post → Phase) (ibr_phase : I → Post → Phase) (wfe_phase : W → Post → Phase) (engaged : Engaged H I W) (post : Post) (desk : HeldDesk) : Type 0 where
   -- the call is one of the table's scheme, and under way

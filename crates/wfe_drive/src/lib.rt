@@ -2,12 +2,9 @@
 //! model, and the interface through which a trace is replayed.
 #![tactic(auto)]
 
-mod engaged;
 mod engine;
 mod rig;
-mod scheme_calls;
 mod seat;
-mod unit;
 
 pub use engine::Engine;
 pub use rig::Rig;

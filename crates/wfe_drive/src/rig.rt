@@ -9,11 +9,10 @@ ghost use Rattle.wfe_core.specs.declared.post.Post.{Post};
 ghost use Rattle.wfe_drive.specs.Reached.{first_table, units_left};
 ghost use Rattle.wfe_drive.specs.Seats.{Suits, engaged_phase, is_engaged};
 
-use crate::engaged::Engaged;
-use crate::scheme_calls::{HeCall, IbrCall, WfeCall};
-use crate::seat::SeatState;
+use crate::seat::{Engaged, SeatState};
 use std::alloc::Global;
 use std::marker::Model;
+use wfe_call_any::{HeCall, IbrCall, WfeCall};
 use wfe_core::{Answer, Call, CallMachine, Layout, NoMemory, SchemeKind, Told};
 use wfe_drive_cells::Cells;
 

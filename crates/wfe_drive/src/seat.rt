@@ -1,20 +1,34 @@
-// A seat of a rig: its post, its desk and its call, and the seat's part of a unit.
+// A seat of a rig: its post, its desk and the call under way on it, and the seat's part of a unit.
 ghost use Rattle.std.specs.Prelude.{◌≡◌, ◌<◌, [], IfOk, length, true, false};
 ghost use Rattle.wfe_core.specs.words.Place.{is_valid};
 ghost use Rattle.wfe_drive_cells.specs.Operations.{answered, performed, word_in};
-ghost use Rattle.wfe_drive_cells.specs.Unit.{SeatView, answer_in, asked, fresh_seat, seat_after, turned};
+ghost use Rattle.wfe_drive_cells.specs.Unit.{Leaves, SeatView, answer_in, asked, fresh_seat, seat_after, turned};
 ghost use Rattle.wfe_core.specs.CallReady.{IsCallPlausible, IsCallReady, NotesFit};
 ghost use Rattle.wfe_core.specs.Calls.{GoesOn, Phase};
+ghost use Rattle.wfe_core.specs.DeskHeld.{HasRoom, desk_of};
 ghost use Rattle.wfe_core.specs.Desks.{no_notes};
 ghost use Rattle.wfe_core.specs.Locals.{begun_post, busy_in, told_by};
+ghost use Rattle.wfe_core.specs.Posts.{counted};
+ghost use Rattle.wfe_core.specs.Steps.{call_op, phase_turn};
 ghost use Rattle.wfe_core.specs.Valid.{IsValid};
 ghost use Rattle.wfe_drive.specs.Seats.{Suits, engaged_phase, is_engaged};
 
-use crate::engaged::Engaged;
 use std::alloc::Global;
 use std::marker::Model;
 use wfe_core::{Answer, CallMachine, Desk, Layout, NoMemory, Post, Told};
 use wfe_drive_cells::Cells;
+
+/// A seat's call, by the table's scheme; none between calls.
+#[derive(Drop)]
+pub enum Engaged<H: CallMachine, I: CallMachine, W: CallMachine> {
+    Free,
+    /// Under Hazard Eras.
+    He(H),
+    /// Under 2GE intervals.
+    Ibr(I),
+    /// Under Wait-Free Eras.
+    Wfe(W),
+}
 
 /// A seat of a table. It is seen as what the model knows of a seat: where its call stands, its post
 /// and its desk.
@@ -101,4 +115,67 @@ impl<H: CallMachine, I: CallMachine, W: CallMachine> SeatState<H, I, W> {
         }
         answer
     }
+}
+
+impl<H: CallMachine, I: CallMachine, W: CallMachine> Engaged<H, I, W> {
+    /// Makes one step of the call, under whichever scheme it is.
+    fn unit<C: Cells>(
+        &mut self,
+        cells: &mut C,
+        post: &mut Post,
+        desk: &mut Desk,
+        told: &mut Told,
+    ) -> Option<Answer>
+        requires engaged { is_engaged self.old ≡ true }
+        requires there { word_in (call_op (engaged_phase H.phase I.phase W.phase self.old post.old) post.old) < length (C.words cells.old) }
+        requires valid { IsValid post.old }
+        requires suits { Suits H.suits I.suits W.suits self.old post.old.layout.config.scheme }
+        requires room { HasRoom desk.old post.old.layout }
+        requires ready { IsCallReady (engaged_phase H.phase I.phase W.phase self.old post.old) post.old (desk_of desk.old) }
+        requires noted { NotesFit post.old (desk_of desk.old) }
+        requires plausible { IsCallPlausible (engaged_phase H.phase I.phase W.phase self.old post.old) post.old (answered (C.words cells.old) (call_op (engaged_phase H.phase I.phase W.phase self.old post.old) post.old)) }
+        requires empty { told.old ≡ [] }
+        ensures engaged { is_engaged self.new ≡ true }
+        ensures suits { Suits H.suits I.suits W.suits self.new post.new.layout.config.scheme }
+        ensures layout { post.new.layout ≡ post.old.layout }
+        ensures room { HasRoom desk.new post.new.layout }
+        ensures words { C.words cells.new ≡ performed (C.words cells.old) (call_op (engaged_phase H.phase I.phase W.phase self.old post.old) post.old) }
+        ensures leaves { Leaves (phase_turn (engaged_phase H.phase I.phase W.phase self.old post.old) (counted post.old) (desk_of desk.old) (answered (C.words cells.old) (call_op (engaged_phase H.phase I.phase W.phase self.old post.old) post.old))) post.new desk.new told.new result (engaged_phase H.phase I.phase W.phase self.new post.new) }
+    {
+        match self {
+            Engaged::Free => unreachable!(),
+            Engaged::He(machine) => make_unit(cells, machine, post, desk, told),
+            Engaged::Ibr(machine) => make_unit(cells, machine, post, desk, told),
+            Engaged::Wfe(machine) => make_unit(cells, machine, post, desk, told),
+        }
+    }
+}
+
+/// Makes one step of a seat's call, whatever machine it is: exactly one operation on the cells, and the
+/// model's turn of what it found. The events are told, and the answer is Some where the call ended. It
+/// takes no memory.
+fn make_unit<C: Cells, M: CallMachine>(
+    cells: &mut C,
+    machine: &mut M,
+    post: &mut Post,
+    desk: &mut Desk,
+    told: &mut Told,
+) -> Option<Answer>
+    requires there { word_in (call_op (M.phase machine.old post.old) post.old) < length (C.words cells.old) }
+    requires valid { IsValid post.old }
+    requires scheme { M.suits post.old.layout.config.scheme }
+    requires room { HasRoom desk.old post.old.layout }
+    requires ready { IsCallReady (M.phase machine.old post.old) post.old (desk_of desk.old) }
+    requires noted { NotesFit post.old (desk_of desk.old) }
+    requires plausible { IsCallPlausible (M.phase machine.old post.old) post.old (answered (C.words cells.old) (call_op (M.phase machine.old post.old) post.old)) }
+    requires empty { told.old ≡ [] }
+    ensures valid { IsValid post.new }
+    ensures layout { post.new.layout ≡ post.old.layout }
+    ensures room { HasRoom desk.new post.new.layout }
+    ensures words { C.words cells.new ≡ performed (C.words cells.old) (call_op (M.phase machine.old post.old) post.old) }
+    ensures leaves { Leaves (phase_turn (M.phase machine.old post.old) (counted post.old) (desk_of desk.old) (answered (C.words cells.old) (call_op (M.phase machine.old post.old) post.old))) post.new desk.new told.new result (M.phase machine.new post.new) }
+{
+    let op = machine.next_op(post, desk);
+    let found = cells.perform(post.seat, op);
+    machine.take(post, desk, found, told)
 }

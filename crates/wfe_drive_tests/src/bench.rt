@@ -2,6 +2,7 @@
 ghost use Rattle.std.specs.Prelude.{◌≡◌};
 
 use std::alloc::Global;
+use std::process::Abort;
 use std::test::Fail;
 use wfe_core::{Answer, Call, Config, Event, Layout, Told};
 use wfe_drive::Rig;
@@ -15,10 +16,10 @@ const MOST: u32 = 10_000;
 #[derive(Drop)]
 pub struct Bench {
     rig: Rig<PlainCells>,
-    seats: u32,
+    config: Config,
     /// The events of all units so far, each with its seat.
     pub record: Vec<(u32, Event)>,
-    ghost seated: { rig.layout.config.seats ≡ seats },
+    ghost seated: { rig.layout.config.seats ≡ config.seats },
 }
 
 impl Bench {
@@ -28,19 +29,19 @@ impl Bench {
         let cells = PlainCells::make(alloc, layout)?;
         Ok(Bench {
             rig: Rig::new(alloc, cells, layout)?,
-            seats: layout.config().seats,
+            config: layout.config(),
             record: Vec::new(alloc),
         })
     }
 
     /// Whether a call of the seat is under way.
     pub fn busy(&self, seat: u32) -> bool {
-        seat < self.seats && self.rig.busy(seat)
+        seat < self.config.seats && self.rig.busy(seat)
     }
 
     /// Begins a call of a seat that is free. It answers whether it did.
     pub fn start(&mut self, seat: u32, call: Call) -> bool {
-        if seat >= self.seats || self.rig.busy(seat) {
+        if seat >= self.config.seats || self.rig.busy(seat) {
             return false;
         }
         self.rig.start(seat, call);
@@ -49,7 +50,7 @@ impl Bench {
 
     /// Makes one unit of the seat's call.
     pub fn unit(&mut self, seat: u32) -> Result<Option<Answer>, Fail> {
-        if seat >= self.seats || !self.rig.busy(seat) {
+        if seat >= self.config.seats || !self.rig.busy(seat) {
             return Ok(None);
         }
         let mut told = Told::new();
@@ -92,4 +93,38 @@ impl Bench {
         }
         self.run(seat)
     }
+}
+
+/// A part of a schedule.
+#[derive(Clone, Copy)]
+pub enum Part {
+    /// A call begins.
+    Begins(Call),
+    /// So many units of the call under way are made, and it goes on.
+    Goes(u32),
+    /// The call under way runs to its end, which tells its steps and its answer.
+    Ends(u64, Answer),
+    /// A whole call is made, whose end tells its steps and its answer.
+    Makes(Call, u64, Answer),
+}
+
+/// Plays the parts, each with its seat, one after another, and wants each to come to what it says.
+pub fn play_parts<R: Abort>(rt: &R, bench: &mut Bench, parts: &[(u32, Part)]) -> Result<(), Fail> {
+    let scheme = bench.config.scheme;
+    for (place, (seat, part)) in parts.iter().enumerate() {
+        let (found, want) = match *part {
+            Part::Begins(call) => {
+                assert!(rt; bench.start(*seat, call), "part {place} under {scheme:?}");
+                (None, None)
+            }
+            Part::Goes(count) => {
+                let answer = bench.units(*seat, count)?;
+                (answer.map(|answer| (0, answer)), None)
+            }
+            Part::Ends(steps, answer) => (bench.run(*seat)?, Some((steps, answer))),
+            Part::Makes(call, steps, answer) => (bench.call(*seat, call)?, Some((steps, answer))),
+        };
+        assert_eq!(rt; found, want, "part {place} under {scheme:?}");
+    }
+    Ok(())
 }

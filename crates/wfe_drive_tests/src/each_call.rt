@@ -1,7 +1,8 @@
 // What each call answers and in how many steps, once at each of its ends, with no other call under way.
 // Each count is that of the steps as the calls are described: the loads and stores of the protection,
 // of the row, of the claim, of the clearing, and of retirement, move and scan where they are due.
-use crate::bench::Bench;
+use crate::bench::Part::{Begins, Ends, Goes, Makes};
+use crate::bench::{Bench, Part, play_parts};
 use std::process::Abort;
 use std::test::Fail;
 use wfe_core::{Answer, Call, ClockMove, Config, SchemeKind};
@@ -13,9 +14,6 @@ const IBR: SchemeKind = SchemeKind::Ibr;
 const WFE: SchemeKind = SchemeKind::Wfe;
 
 const STILL: ClockMove = ClockMove::Still;
-
-// A call of a seat, and the steps and the answer with which it ends.
-type End = (u32, Call, u64, Answer);
 
 // The setting of most tests, of one seat.
 fn single(scheme: SchemeKind) -> Config {
@@ -46,6 +44,10 @@ fn put(value: u64) -> Call {
     Call::Put { key: 7, value }
 }
 
+fn put_key(key: u64) -> Call {
+    Call::Put { key, value: 10 }
+}
+
 fn moved(era: u32) -> ClockMove {
     ClockMove::Moved { era }
 }
@@ -58,6 +60,19 @@ fn got(version: u64, value: Option<u64>) -> Answer {
     Answer::Got { version, value }
 }
 
+fn queued(number: u64) -> Answer {
+    Answer::Queued { number }
+}
+
+// The value that a dequeue takes, where its move of the clock is to this era.
+fn taken(number: u64, value: u64, era: u32) -> Answer {
+    Answer::Taken {
+        number,
+        value,
+        clock: moved(era),
+    }
+}
+
 fn clock(outcome: ClockMove) -> Answer {
     Answer::Clock { outcome }
 }
@@ -66,35 +81,22 @@ fn scanned(kept: u32, back: u32) -> Answer {
     Answer::Scanned { kept, back }
 }
 
-// Makes the calls, one after another, on a table of this setting.
-fn expect_ends<R: Abort + AllocGlobal>(
-    rt: &R,
-    config: Config,
-    ends: &[End],
-) -> Result<Bench, Fail> {
+// Plays the parts on a table of this setting.
+fn play<R: Abort + AllocGlobal>(rt: &R, config: Config, parts: &[(u32, Part)]) -> Result<(), Fail> {
     let mut bench = Bench::new(rt.alloc(), config)?;
-    for (place, (seat, call, steps, answer)) in ends.iter().enumerate() {
-        let end = bench.call(*seat, *call)?;
-        let scheme = config.scheme;
-        assert_eq!(rt;
-            end,
-            Some((*steps, *answer)),
-            "call {place} under {scheme:?}"
-        );
-    }
-    Ok(bench)
+    play_parts(rt, &mut bench, parts)
 }
 
 #[test]
 fn a_get_answers_the_keys_value_or_none(rt: HostRuntime) -> Result<(), Fail> {
     for scheme in [HE, IBR, WFE] {
-        let ends = [
-            (0, Call::Get { key: 5 }, 5, got(0, None)),
-            (0, put(70), 13, done(1, STILL)),
-            (0, Call::Get { key: 7 }, 9, got(1, Some(70))),
-            (0, Call::Get { key: 5 }, 8, got(1, None)),
+        let parts = [
+            (0, Makes(Call::Get { key: 5 }, 5, got(0, None))),
+            (0, Makes(put(70), 13, done(1, STILL))),
+            (0, Makes(Call::Get { key: 7 }, 9, got(1, Some(70)))),
+            (0, Makes(Call::Get { key: 5 }, 8, got(1, None))),
         ];
-        expect_ends(&rt, single(scheme), &ends)?;
+        play(&rt, single(scheme), &parts)?;
     }
     Ok(())
 }
@@ -103,32 +105,37 @@ fn a_get_answers_the_keys_value_or_none(rt: HostRuntime) -> Result<(), Fail> {
 fn a_change_is_done_and_retires_the_row_before(rt: HostRuntime) -> Result<(), Fail> {
     for (scheme, second, removed) in [(HE, 26, 24), (IBR, 24, 22), (WFE, 28, 26)] {
         let remove = Call::Remove { key: 7 };
-        let ends = [
-            (0, remove, 5, Answer::Absent { version: 0 }),
-            (0, put(70), 13, done(1, STILL)),
-            (0, put(71), second, done(2, moved(2))),
-            (0, remove, removed, done(3, moved(3))),
-            (0, remove, 7, Answer::Absent { version: 3 }),
-            (0, Call::Get { key: 7 }, 7, got(3, None)),
+        let parts = [
+            (0, Makes(remove, 5, Answer::Absent { version: 0 })),
+            (0, Makes(put(70), 13, done(1, STILL))),
+            (0, Makes(put(71), second, done(2, moved(2)))),
+            (0, Makes(remove, removed, done(3, moved(3)))),
+            (0, Makes(remove, 7, Answer::Absent { version: 3 })),
+            (0, Makes(Call::Get { key: 7 }, 7, got(3, None))),
         ];
-        expect_ends(&rt, single(scheme), &ends)?;
+        play(&rt, single(scheme), &parts)?;
     }
     Ok(())
 }
 
 #[test]
 fn a_row_has_room_for_six_keys(rt: HostRuntime) -> Result<(), Fail> {
-    for (scheme, last) in [(HE, 46), (IBR, 44), (WFE, 48)] {
-        let mut bench = Bench::new(rt.alloc(), single(scheme))?;
-        for key in 1..7 {
-            let call = Call::Put { key, value: 10 };
-            assert!(rt; bench.call(0, call)?.is_some(), "key {key}");
-        }
-        let full = Answer::BucketFull { version: 6 };
-        assert_eq!(rt; bench.call(0, put(70))?, Some((19, full)));
-        let call = Call::Put { key: 3, value: 99 };
-        let end = bench.call(0, call)?;
-        assert_eq!(rt; end, Some((last, done(7, moved(7)))), "{scheme:?}");
+    for (scheme, ends, last) in [
+        (HE, [28, 32, 36, 40, 44], 46),
+        (IBR, [26, 30, 34, 38, 42], 44),
+        (WFE, [30, 34, 38, 42, 46], 48),
+    ] {
+        let parts = [
+            (0, Makes(put_key(1), 13, done(1, STILL))),
+            (0, Makes(put_key(2), ends[0], done(2, moved(2)))),
+            (0, Makes(put_key(3), ends[1], done(3, moved(3)))),
+            (0, Makes(put_key(4), ends[2], done(4, moved(4)))),
+            (0, Makes(put_key(5), ends[3], done(5, moved(5)))),
+            (0, Makes(put_key(6), ends[4], done(6, moved(6)))),
+            (0, Makes(put(70), 19, Answer::BucketFull { version: 6 })),
+            (0, Makes(put_key(3), last, done(7, moved(7)))),
+        ];
+        play(&rt, single(scheme), &parts)?;
     }
     Ok(())
 }
@@ -141,19 +148,14 @@ fn the_last_version_takes_no_change(rt: HostRuntime) -> Result<(), Fail> {
             last_version: 1,
             ..single(scheme)
         };
-        let ends = [
-            (0, put(70), 13, done(1, STILL)),
-            (0, put(71), 9, spent),
-            (0, Call::Remove { key: 7 }, 9, spent),
-            (
-                0,
-                Call::Enqueue { value: 5 },
-                15,
-                Answer::Queued { number: 1 },
-            ),
-            (0, Call::Enqueue { value: 6 }, 7, spent),
+        let parts = [
+            (0, Makes(put(70), 13, done(1, STILL))),
+            (0, Makes(put(71), 9, spent)),
+            (0, Makes(Call::Remove { key: 7 }, 9, spent)),
+            (0, Makes(Call::Enqueue { value: 5 }, 15, queued(1))),
+            (0, Makes(Call::Enqueue { value: 6 }, 7, spent)),
         ];
-        expect_ends(&rt, config, &ends)?;
+        play(&rt, config, &parts)?;
     }
     Ok(())
 }
@@ -172,14 +174,17 @@ fn without_a_free_row_a_change_is_refused(rt: HostRuntime) -> Result<(), Fail> {
             (Call::Enqueue { value: 5 }, queued),
         ];
         for (call, steps) in calls {
-            let ends = [
-                (0, put(70), 13, done(1, STILL)),
-                (1, Call::Hold { key: 7 }, 4, Answer::Holding { slot: 0 }),
-                (0, put(71), second, done(2, moved(2))),
-                (0, call, steps, Answer::Full),
-                (1, Call::Release, 1, Answer::Released),
+            let parts = [
+                (0, Makes(put(70), 13, done(1, STILL))),
+                (
+                    1,
+                    Makes(Call::Hold { key: 7 }, 4, Answer::Holding { slot: 0 }),
+                ),
+                (0, Makes(put(71), second, done(2, moved(2)))),
+                (0, Makes(call, steps, Answer::Full)),
+                (1, Makes(Call::Release, 1, Answer::Released)),
             ];
-            expect_ends(&rt, narrow(scheme), &ends)?;
+            play(&rt, narrow(scheme), &parts)?;
         }
     }
     Ok(())
@@ -187,31 +192,33 @@ fn without_a_free_row_a_change_is_refused(rt: HostRuntime) -> Result<(), Fail> {
 
 #[test]
 fn a_full_table_recovers_once_the_row_is_released(rt: HostRuntime) -> Result<(), Fail> {
-    let ends = [
-        (0, put(70), 13, done(1, STILL)),
-        (1, Call::Hold { key: 7 }, 4, Answer::Holding { slot: 0 }),
-        (0, put(71), 28, done(2, moved(2))),
-        (0, put(72), 30, Answer::Full),
-        (1, Call::Release, 1, Answer::Released),
-        (0, put(72), 50, done(3, moved(5))),
+    let parts = [
+        (0, Makes(put(70), 13, done(1, STILL))),
+        (
+            1,
+            Makes(Call::Hold { key: 7 }, 4, Answer::Holding { slot: 0 }),
+        ),
+        (0, Makes(put(71), 28, done(2, moved(2)))),
+        (0, Makes(put(72), 30, Answer::Full)),
+        (1, Makes(Call::Release, 1, Answer::Released)),
+        (0, Makes(put(72), 50, done(3, moved(5)))),
     ];
-    expect_ends(&rt, narrow(HE), &ends)?;
-    Ok(())
+    play(&rt, narrow(HE), &parts)
 }
 
 #[test]
 fn a_hold_protects_the_keys_row_until_its_release(rt: HostRuntime) -> Result<(), Fail> {
     let hold = Call::Hold { key: 7 };
     for scheme in [HE, IBR, WFE] {
-        let ends = [
-            (0, hold, 5, Answer::Nothing),
-            (0, Call::Release, 1, Answer::Released),
-            (0, put(70), 13, done(1, STILL)),
-            (0, hold, 4, Answer::Holding { slot: 0 }),
-            (0, hold, 5, Answer::Holding { slot: 0 }),
-            (0, Call::Release, 1, Answer::Released),
+        let parts = [
+            (0, Makes(hold, 5, Answer::Nothing)),
+            (0, Makes(Call::Release, 1, Answer::Released)),
+            (0, Makes(put(70), 13, done(1, STILL))),
+            (0, Makes(hold, 4, Answer::Holding { slot: 0 })),
+            (0, Makes(hold, 5, Answer::Holding { slot: 0 })),
+            (0, Makes(Call::Release, 1, Answer::Released)),
         ];
-        expect_ends(&rt, single(scheme), &ends)?;
+        play(&rt, single(scheme), &parts)?;
     }
     Ok(())
 }
@@ -223,13 +230,16 @@ fn an_advance_moves_the_clock_up_to_its_last_era(rt: HostRuntime) -> Result<(), 
             last_era: 3,
             ..single(scheme)
         };
-        let ends = [
-            (0, Call::Advance, steps, clock(moved(2))),
-            (0, Call::Advance, steps, clock(moved(3))),
-            (0, Call::Advance, 1, clock(ClockMove::EraSpent { era: 3 })),
-            (0, put(70), 13, done(1, STILL)),
+        let parts = [
+            (0, Makes(Call::Advance, steps, clock(moved(2)))),
+            (0, Makes(Call::Advance, steps, clock(moved(3)))),
+            (
+                0,
+                Makes(Call::Advance, 1, clock(ClockMove::EraSpent { era: 3 })),
+            ),
+            (0, Makes(put(70), 13, done(1, STILL))),
         ];
-        expect_ends(&rt, config, &ends)?;
+        play(&rt, config, &parts)?;
     }
     Ok(())
 }
@@ -238,13 +248,13 @@ fn an_advance_moves_the_clock_up_to_its_last_era(rt: HostRuntime) -> Result<(), 
 #[test]
 fn of_two_movers_one_moves_the_clock(rt: HostRuntime) -> Result<(), Fail> {
     for (scheme, steps) in [(HE, 2), (IBR, 2), (WFE, 4)] {
-        let mut bench = Bench::new(rt.alloc(), narrow(scheme))?;
-        assert!(rt; bench.start(1, Call::Advance));
-        assert_eq!(rt; bench.units(1, 1)?, None);
-        let first = bench.call(0, Call::Advance)?;
-        assert_eq!(rt; first, Some((steps, clock(moved(2)))), "{scheme:?}");
-        let other = clock(ClockMove::Other { seen: 2 });
-        assert_eq!(rt; bench.run(1)?, Some((steps, other)), "{scheme:?}");
+        let parts = [
+            (1, Begins(Call::Advance)),
+            (1, Goes(1)),
+            (0, Makes(Call::Advance, steps, clock(moved(2)))),
+            (1, Ends(steps, clock(ClockMove::Other { seen: 2 }))),
+        ];
+        play(&rt, narrow(scheme), &parts)?;
     }
     Ok(())
 }
@@ -252,57 +262,37 @@ fn of_two_movers_one_moves_the_clock(rt: HostRuntime) -> Result<(), Fail> {
 // Seat 1 has loaded the link of the first row, in era 1, when the row is cut.
 #[test]
 fn a_scan_keeps_a_held_row_and_gives_back_others(rt: HostRuntime) -> Result<(), Fail> {
-    for (scheme, reads) in [(HE, 6), (IBR, 2), (WFE, 8)] {
+    for (scheme, reads, back) in [(HE, 6, 7), (IBR, 2, 3), (WFE, 8, 9)] {
         let config = Config {
             every: 2,
             ..narrow(scheme)
         };
-        let ends = [
-            (0, put(70), 13, done(1, STILL)),
-            (0, Call::Scan, reads, scanned(0, 0)),
+        let parts = [
+            (0, Makes(put(70), 13, done(1, STILL))),
+            (0, Makes(Call::Scan, reads, scanned(0, 0))),
+            (1, Begins(Call::Hold { key: 7 })),
+            (1, Goes(3)),
+            (0, Makes(put(71), 20, done(2, STILL))),
+            (1, Ends(4, Answer::Holding { slot: 0 })),
+            (0, Makes(Call::Scan, reads, scanned(1, 0))),
+            (1, Makes(Call::Release, 1, Answer::Released)),
+            (0, Makes(Call::Scan, back, scanned(0, 1))),
         ];
-        let mut bench = expect_ends(&rt, config, &ends)?;
-        assert!(rt; bench.start(1, Call::Hold { key: 7 }));
-        assert_eq!(rt; bench.units(1, 3)?, None);
-        let cut = bench.call(0, put(71))?;
-        assert_eq!(rt; cut, Some((20, done(2, STILL))), "{scheme:?}");
-        let held = Answer::Holding { slot: 0 };
-        assert_eq!(rt; bench.run(1)?, Some((4, held)), "{scheme:?}");
-        let kept = bench.call(0, Call::Scan)?;
-        assert_eq!(rt; kept, Some((reads, scanned(1, 0))), "{scheme:?}");
-        let released = bench.call(1, Call::Release)?;
-        assert_eq!(rt; released, Some((1, Answer::Released)));
-        let back = bench.call(0, Call::Scan)?;
-        assert_eq!(rt; back, Some((reads + 1, scanned(0, 1))), "{scheme:?}");
+        play(&rt, config, &parts)?;
     }
     Ok(())
 }
 
 #[test]
 fn a_dequeue_takes_the_first_value_or_finds_none(rt: HostRuntime) -> Result<(), Fail> {
-    for (scheme, empty, taken) in [(HE, 11, 24), (IBR, 8, 19), (WFE, 11, 26)] {
-        let first = Answer::Taken {
-            number: 1,
-            value: 5,
-            clock: moved(2),
-        };
-        let ends = [
-            (0, Call::Dequeue, empty, Answer::Empty),
-            (
-                0,
-                Call::Enqueue { value: 5 },
-                15,
-                Answer::Queued { number: 1 },
-            ),
-            (
-                0,
-                Call::Enqueue { value: 6 },
-                15,
-                Answer::Queued { number: 2 },
-            ),
-            (0, Call::Dequeue, taken, first),
+    for (scheme, empty, steps) in [(HE, 11, 24), (IBR, 8, 19), (WFE, 11, 26)] {
+        let parts = [
+            (0, Makes(Call::Dequeue, empty, Answer::Empty)),
+            (0, Makes(Call::Enqueue { value: 5 }, 15, queued(1))),
+            (0, Makes(Call::Enqueue { value: 6 }, 15, queued(2))),
+            (0, Makes(Call::Dequeue, steps, taken(1, 5, 2))),
         ];
-        expect_ends(&rt, single(scheme), &ends)?;
+        play(&rt, single(scheme), &parts)?;
     }
     Ok(())
 }
@@ -314,34 +304,13 @@ fn a_dequeue_that_is_overtaken_takes_the_next_value(rt: HostRuntime) -> Result<(
         slots: 8,
         ..narrow(HE)
     };
-    let ends = [
-        (
-            0,
-            Call::Enqueue { value: 5 },
-            15,
-            Answer::Queued { number: 1 },
-        ),
-        (
-            0,
-            Call::Enqueue { value: 6 },
-            15,
-            Answer::Queued { number: 2 },
-        ),
+    let parts = [
+        (0, Makes(Call::Enqueue { value: 5 }, 15, queued(1))),
+        (0, Makes(Call::Enqueue { value: 6 }, 15, queued(2))),
+        (1, Begins(Call::Dequeue)),
+        (1, Goes(8)),
+        (0, Makes(Call::Dequeue, 26, taken(1, 5, 2))),
+        (1, Ends(42, taken(2, 6, 3))),
     ];
-    let mut bench = expect_ends(&rt, config, &ends)?;
-    assert!(rt; bench.start(1, Call::Dequeue));
-    assert_eq!(rt; bench.units(1, 8)?, None);
-    let first = Answer::Taken {
-        number: 1,
-        value: 5,
-        clock: moved(2),
-    };
-    assert_eq!(rt; bench.call(0, Call::Dequeue)?, Some((26, first)));
-    let second = Answer::Taken {
-        number: 2,
-        value: 6,
-        clock: moved(3),
-    };
-    assert_eq!(rt; bench.run(1)?, Some((42, second)));
-    Ok(())
+    play(&rt, config, &parts)
 }

@@ -1,5 +1,6 @@
 // A protection of Wait-Free Eras that moves of the clock overtake, at known places.
-use crate::bench::Bench;
+use crate::bench::Part::{Begins, Ends, Goes, Makes};
+use crate::bench::{Bench, play_parts};
 use std::process::Abort;
 use std::test::Fail;
 use wfe_core::{Answer, Call, ClockMove, Config, Event, Guard, Interval, SchemeKind};
@@ -39,10 +40,17 @@ fn reserve(guard: Guard, era: u32) -> Event {
 // loaded the link. Then seat 1 moves the clock to 2.
 fn overtaken_once<R: Abort + AllocGlobal>(rt: &R) -> Result<Bench, Fail> {
     let mut bench = Bench::new(rt.alloc(), PAIR)?;
-    assert!(rt; bench.call(1, Call::Put { key: 7, value: 70 })?.is_some());
-    assert!(rt; bench.start(0, Call::Hold { key: 7 }));
-    assert_eq!(rt; bench.units(0, 3)?, None);
-    assert_eq!(rt; bench.call(1, Call::Advance)?, Some((MOVE, moved(2))));
+    let done = Answer::Done {
+        version: 1,
+        clock: ClockMove::Still,
+    };
+    let parts = [
+        (1, Makes(Call::Put { key: 7, value: 70 }, 13, done)),
+        (0, Begins(Call::Hold { key: 7 })),
+        (0, Goes(3)),
+        (1, Makes(Call::Advance, MOVE, moved(2))),
+    ];
+    play_parts(rt, &mut bench, &parts)?;
     Ok(bench)
 }
 
@@ -64,7 +72,7 @@ fn a_reader_whose_try_fails_answers_its_own_request(rt: HostRuntime) -> Result<(
     let mut bench = overtaken_once(&rt)?;
     let from = bench.record.len();
     let answer = Answer::Holding { slot: 0 };
-    assert_eq!(rt; bench.run(0)?, Some((14, answer)));
+    play_parts(&rt, &mut bench, &[(0, Ends(14, answer))])?;
     let index = Guard::Index { seat: 0, index: 2 };
     let helper = Guard::Helper { seat: 0 };
     let want = [
@@ -94,13 +102,17 @@ fn a_reader_whose_try_fails_answers_its_own_request(rt: HostRuntime) -> Result<(
 #[test]
 fn a_reader_that_loses_both_turns_takes_the_movers_answer(rt: HostRuntime) -> Result<(), Fail> {
     let mut bench = overtaken_once(&rt)?;
-    assert!(rt; bench.start(1, Call::Advance));
-    assert_eq!(rt; bench.units(1, 3)?, None);
-    assert_eq!(rt; bench.units(0, 4)?, None);
-    assert_eq!(rt; bench.run(1)?, Some((MOVE, moved(3))));
-    assert_eq!(rt; bench.units(0, 5)?, None);
+    let parts = [
+        (1, Begins(Call::Advance)),
+        (1, Goes(3)),
+        (0, Goes(4)),
+        (1, Ends(MOVE, moved(3))),
+        (0, Goes(5)),
+    ];
+    play_parts(&rt, &mut bench, &parts)?;
     let before = bench.record.len();
-    assert_eq!(rt; bench.call(1, Call::Advance)?, Some((MOVE + 7, moved(4))));
+    let meets = Makes(Call::Advance, MOVE + 7, moved(4));
+    play_parts(&rt, &mut bench, &[(1, meets)])?;
     let index = Guard::Index { seat: 0, index: 2 };
     let handed = bench
         .record
@@ -110,7 +122,7 @@ fn a_reader_that_loses_both_turns_takes_the_movers_answer(rt: HostRuntime) -> Re
     assert!(rt; handed);
     let from = bench.record.len();
     let answer = Answer::Holding { slot: 0 };
-    assert_eq!(rt; bench.run(0)?, Some((17, answer)));
+    play_parts(&rt, &mut bench, &[(0, Ends(17, answer))])?;
     let want = [
         reserve(index, 3),
         Event::Held {

@@ -12,7 +12,7 @@ ghost use Rattle.wfe_core.specs.Rounds.{clearing, clearing_next, closed as model
 ghost use Rattle.wfe_core.specs.Steps.{opened, phase_turn};
 ghost use Rattle.wfe_core.specs.Valid.{IsValid};
 ghost use Rattle.wfe_core.specs.declared.post.Post.{Post as ModelPost};
-ghost use Rattle.wfe_call_rounds.specs.Steps.{Steps};
+ghost use Rattle.wfe_call_rounds.specs.Steps.{SameSeat, Steps};
 ghost use Rattle.wfe_msqueue.specs.Dequeues.{LedWithin, led, next_of};
 ghost use Rattle.wfe_msqueue.specs.DequeueStates.{dequeue_phase};
 ghost use Rattle.wfe_msqueue.specs.declared.dequeue_at.Dequeued.TheVariants.{Goes};
@@ -68,10 +68,7 @@ impl<S: Scheme> Dequeue<S> {
         requires scheme { post.old.layout.config.scheme ≡ S.kind }
         requires few { length told.old ≤ 6 }
         ensures steps { (desk : ModelDesk) → Steps (clearing Dequeues (next_of ending) post.old desk told.old) post.new desk told.new result (dequeue_phase ⟦<S as Rounds>⟧.all_phases ⟦<Follow<S> as Machine>⟧.phase self.new.at post.new) }
-        ensures valid { IsValid post.new }
-        ensures layout { post.new.layout ≡ post.old.layout }
-        ensures seat { post.new.seat ≡ post.old.seat }
-        ensures most { length told.new ≤ length told.old + 1 }
+        ensures seat { SameSeat post.old post.new told.new (length told.old + 1) }
     {
         match close::<S>(post, told, 0, ending.is_again()) {
             Some(closing) => {
@@ -88,10 +85,7 @@ impl<S: Scheme> Dequeue<S> {
         requires scheme { post.old.layout.config.scheme ≡ S.kind }
         requires few { length told.old ≤ 5 }
         ensures steps { (desk : ModelDesk) → Steps (clearing_next (next_of ending) post.old desk told.old) post.new desk told.new result (dequeue_phase ⟦<S as Rounds>⟧.all_phases ⟦<Follow<S> as Machine>⟧.phase self.new.at post.new) }
-        ensures valid { IsValid post.new }
-        ensures layout { post.new.layout ≡ post.old.layout }
-        ensures seat { post.new.seat ≡ post.old.seat }
-        ensures most { length told.new ≤ length told.old + 2 }
+        ensures seat { SameSeat post.old post.new told.new (length told.old + 2) }
     {
         match S::clear(post, 1, told) {
             Some(machine) => {
@@ -108,10 +102,7 @@ impl<S: Scheme> Dequeue<S> {
         requires scheme { post.old.layout.config.scheme ≡ S.kind }
         requires few { length told.old ≤ 2 }
         ensures steps { (desk : ModelDesk) → Steps (opened Dequeues (Protected end) post.old desk told.old) post.new desk told.new result (dequeue_phase ⟦<S as Rounds>⟧.all_phases ⟦<Follow<S> as Machine>⟧.phase self.new.at post.new) }
-        ensures valid { IsValid post.new }
-        ensures layout { post.new.layout ≡ post.old.layout }
-        ensures seat { post.new.seat ≡ post.old.seat }
-        ensures most { length told.new ≤ 4 }
+        ensures seat { SameSeat post.old post.new told.new 4 }
     {
         match end {
             ProtectEnd::Held { slot, .. } => {
@@ -129,10 +120,7 @@ impl<S: Scheme> Dequeue<S> {
         requires few { length told.old ≤ 3 }
         requires within { LedWithin step post.old }
         ensures steps { (desk : ModelDesk) → Steps (led step post.old desk told.old) post.new desk told.new result (dequeue_phase ⟦<S as Rounds>⟧.all_phases ⟦<Follow<S> as Machine>⟧.phase self.new.at post.new) }
-        ensures valid { IsValid post.new }
-        ensures layout { post.new.layout ≡ post.old.layout }
-        ensures seat { post.new.seat ≡ post.old.seat }
-        ensures most { length told.new ≤ 5 }
+        ensures seat { SameSeat post.old post.new told.new 5 }
     {
         match step {
             Dequeued::Goes(at) => {
@@ -162,10 +150,7 @@ impl<S: Scheme> Dequeue<S> {
         requires scheme { post.old.layout.config.scheme ≡ S.kind }
         requires few { length told.old ≤ 2 }
         ensures steps { (desk : ModelDesk) → Steps (model_followed head tail end post.old desk told.old) post.new desk told.new result (dequeue_phase ⟦<S as Rounds>⟧.all_phases ⟦<Follow<S> as Machine>⟧.phase self.new.at post.new) }
-        ensures valid { IsValid post.new }
-        ensures layout { post.new.layout ≡ post.old.layout }
-        ensures seat { post.new.seat ≡ post.old.seat }
-        ensures most { length told.new ≤ 4 }
+        ensures seat { SameSeat post.old post.new told.new 4 }
     {
         match end {
             FollowEnd::Followed { slot } => {
@@ -185,10 +170,7 @@ impl<S: Scheme> Dequeue<S> {
         requires plausible { IsCallPlausible (round Dequeues post.old) post.old found }
         requires empty { told.old ≡ [] }
         ensures steps { Steps (phase_turn (round Dequeues post.old) post.old (desk_of desk.now) found) post.new (desk_of desk.now) told.new result (dequeue_phase ⟦<S as Rounds>⟧.all_phases ⟦<Follow<S> as Machine>⟧.phase self.new.at post.new) }
-        ensures valid { IsValid post.new }
-        ensures layout { post.new.layout ≡ post.old.layout }
-        ensures seat { post.new.seat ≡ post.old.seat }
-        ensures most { length told.new ≤ 5 }
+        ensures seat { SameSeat post.old post.new told.new 5 }
     {
         let mut opening = open::<S>(post, 0, Root::Head);
         let end = take_open::<S>(&mut opening, 0, Root::Head, post, found, told);

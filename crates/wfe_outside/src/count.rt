@@ -1,5 +1,5 @@
 // A sink that counts bytes and keeps none, for runs whose text nobody reads.
-ghost use Rattle.std.specs.Prelude.{◌≡◌, ◌<◌, ◌≤◌, ◌+◌, ◌-◌, ◌^◌, min, length, None, Ok, IfOk, OnErr};
+ghost use Rattle.std.specs.Prelude.{◌≡◌, ◌<◌, ◌≤◌, ◌+◌, ◌-◌, ◌^◌, false, min, length, None, Ok, IfOk, OnErr};
 ghost use Rattle.std.specs.Io.{WritesAtMost};
 ghost use Rattle.std.specs.Io.KnownBytes.{WriteAppends};
 ghost use Rattle.wfe_outside.specs.Faults.{Rose};
@@ -43,12 +43,14 @@ impl Sink for CountSink {
 
     ghost faults = { λ _. 0 };
 
+    ghost may_stand = { false };
+
     fn write(&mut self, piece: &[u8]) -> Result<usize, Failed>
         ensures bound { WritesAtMost result piece.now }
         ensures some { 0 < length piece.now → IfOk result (λ count. 0 < count) }
         ensures bytes { WriteAppends None None result piece.now }
         ensures later { 0 ≤ 0 }
-        ensures cause { OnErr result (Rose 0 0) }
+        ensures cause { OnErr result (Rose false 0 0) }
         ensures takes_all { result ≡ Ok (length piece.now) }
         ensures counts { self.new ≡ min (self.old + length piece.now) (2 ^ 64 - 1) }
     {

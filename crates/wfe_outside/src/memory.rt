@@ -1,16 +1,17 @@
 // Sources and sinks in memory, which fail at the calls that they are told to fail at.
-ghost use Rattle.std.specs.Prelude.{◌≡◌, ◌≤◌, ◌<◌, ◌-◌, ◌++◌, ◌==◌, ◌&&◌, ◌||◌, ℕ, [], length, drop, take, min, not, Some, IfOk, OnErr, is_err, is_ok, IsOk};
+ghost use Rattle.std.specs.Prelude.{◌≡◌, ◌≤◌, ◌<◌, ◌+◌, ◌-◌, ◌++◌, ◌==◌, ◌&&◌, ◌||◌, ℕ, false, true, [], length, drop, take, min, not, Some, IfOk, OnErr, is_err, is_ok, IsOk};
 ghost use Rattle.std.specs.Io.{ReadsAtMost, WritesAtMost};
 ghost use Rattle.std.specs.Io.KnownBytes.{ReadConsumes, WriteAppends};
 ghost use Rattle.wfe_outside.specs.Faults.{Rose, one_more};
-ghost use Rattle.wfe_outside.specs.Memory.{Reader, Writer, is_named, has_no_room};
+ghost use Rattle.wfe_outside.specs.Memory.{Reader, Writer, is_named, is_next_named, has_no_room};
 
 use crate::{Failed, Sink, Source};
 use std::alloc::Global;
 use std::marker::Model;
 use wfe_defs::NoMemory;
 
-/// Bytes in memory. The calls whose numbers, from 1, are listed fail.
+/// Bytes in memory. The calls whose numbers, from 1, are listed fail; no number of 64 bits names one
+/// after the last, so that the count of those that failed always rises.
 #[derive(Drop)]
 pub struct MemSource {
     bytes: Vec<u8>,
@@ -28,7 +29,7 @@ impl Model for MemSource {
 
     ghost view = { λ s. record { left = drop s.at s.bytes.items; fails = s.fails.items; calls = s.calls; faults = s.faults } };
 
-    ghost invariant = { λ s. s.at ≤ length s.bytes.items };
+    ghost invariant = { λ s. (s.at ≤ length s.bytes.items) × (s.faults ≤ s.calls) };
 }
 
 impl MemSource {
@@ -51,21 +52,24 @@ impl Source for MemSource {
 
     ghost faults = { λ s. s.faults };
 
+    ghost may_stand = { false };
+
     fn read(&mut self, buf: &mut [u8]) -> Result<usize, Failed>
         ensures bound { ReadsAtMost result buf.new }
         ensures bytes { ReadConsumes (Some self.old.left) (Some self.new.left) result buf.new }
         ensures later { self.old.faults ≤ self.new.faults }
-        ensures cause { OnErr result (Rose self.old.faults self.new.faults) }
-        ensures fails_where_named { is_err result ≡ is_named self.old.fails (one_more self.old.calls) }
+        ensures cause { OnErr result (Rose false self.old.faults self.new.faults) }
+        ensures fails_where_named { is_err result ≡ is_next_named self.old.fails self.old.calls }
         ensures takes_all_it_can { IfOk result (λ count. count ≡ min (length buf.old) (length self.old.left)) }
         ensures after { IfOk result (λ count. self.new ≡ record self.old { left = drop count self.old.left; calls = one_more self.old.calls }) }
-        ensures after_failing { OnErr result (self.new ≡ record self.old { calls = one_more self.old.calls; faults = one_more self.old.faults }) }
+        ensures after_failing { OnErr result (self.new ≡ record self.old { calls = self.old.calls + 1; faults = self.old.faults + 1 }) }
     {
-        self.calls = self.calls.saturating_add(1);
-        if self.fails.contains(&self.calls) {
-            self.faults = self.faults.saturating_add(1);
+        if self.calls < u64::MAX && self.fails.contains(&(self.calls + 1)) {
+            self.calls += 1;
+            self.faults += 1;
             return Err(Failed);
         }
+        self.calls = self.calls.saturating_add(1);
         let count = copy_front(&self.bytes[self.at..], buf);
         self.at += count;
         Ok(count)
@@ -106,11 +110,13 @@ impl Source for CleanSource {
 
     ghost faults = { λ _. 0 };
 
+    ghost may_stand = { false };
+
     fn read(&mut self, buf: &mut [u8]) -> Result<usize, Failed>
         ensures bound { ReadsAtMost result buf.new }
         ensures bytes { ReadConsumes (Some self.old) (Some self.new) result buf.new }
         ensures later { 0 ≤ 0 }
-        ensures cause { OnErr result (Rose 0 0) }
+        ensures cause { OnErr result (Rose false 0 0) }
         ensures never_fails { IsOk result }
         ensures takes_all_it_can { IfOk result (λ count. count ≡ min (length buf.old) (length self.old)) }
     {
@@ -121,7 +127,8 @@ impl Source for CleanSource {
 }
 
 /// A sink in memory with room for so many bytes. The calls whose numbers, from 1, are listed fail,
-/// and so does a write of a piece with bytes where no room is left.
+/// and so does a write of a piece with bytes where no room is left. It may fail without end, so its
+/// counts stand still at the greatest number of 64 bits.
 #[derive(Drop)]
 pub struct MemSink {
     bytes: Vec<u8>,
@@ -172,12 +179,14 @@ impl Sink for MemSink {
 
     ghost faults = { λ s. s.faults };
 
+    ghost may_stand = { true };
+
     fn write(&mut self, piece: &[u8]) -> Result<usize, Failed>
         ensures bound { WritesAtMost result piece.now }
         ensures some { 0 < length piece.now → IfOk result (λ count. 0 < count) }
         ensures bytes { WriteAppends (Some self.old.written) (Some self.new.written) result piece.now }
         ensures later { self.old.faults ≤ self.new.faults }
-        ensures cause { OnErr result (Rose self.old.faults self.new.faults) }
+        ensures cause { OnErr result (Rose true self.old.faults self.new.faults) }
         ensures fails_where_named_or_full { is_err result ≡ (is_named self.old.fails (one_more self.old.calls) || has_no_room self.old piece.now) }
         ensures takes_all_it_can { IfOk result (λ count. count ≡ min (length piece.now) (self.old.room - length self.old.written)) }
         ensures after { IfOk result (λ count. self.new ≡ record self.old { written = self.old.written ++ take count piece.now; calls = one_more self.old.calls }) }

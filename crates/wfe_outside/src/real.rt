@@ -1,6 +1,6 @@
 // Readers and writers of the system, with a count of their errors. What they read and write is not
 // known to any contract: this is the trusted edge.
-ghost use Rattle.std.specs.Prelude.{◌≡◌, ◌<◌, ◌≤◌, None, OnOk, OnErr, IfOk, length};
+ghost use Rattle.std.specs.Prelude.{◌≡◌, ◌<◌, ◌≤◌, true, None, OnOk, OnErr, IfOk, length};
 ghost use Rattle.std.specs.Io.{ReadsAtMost, WritesAtMost};
 ghost use Rattle.std.specs.Io.KnownBytes.{ReadConsumes, WriteAppends};
 ghost use Rattle.wfe_outside.specs.Faults.{Rose, one_more};
@@ -9,7 +9,8 @@ use crate::{Failed, Sink, Source};
 use std::io::{Read, Write};
 use std::marker::Model;
 
-/// A reader, as standard input, that tells nothing of its bytes. It is seen as its count of faults.
+/// A reader, as standard input, that tells nothing of its bytes. It is seen as its count of faults,
+/// which stands still at its type's end.
 #[derive(Drop)]
 pub struct StdSource<R: Read + Drop> {
     reader: R,
@@ -38,11 +39,13 @@ impl<R: Read + Drop> Source for StdSource<R> {
 
     ghost faults = { λ s. s };
 
+    ghost may_stand = { true };
+
     fn read(&mut self, buf: &mut [u8]) -> Result<usize, Failed>
         ensures bound { ReadsAtMost result buf.new }
         ensures bytes { ReadConsumes None None result buf.new }
         ensures later { self.old ≤ self.new }
-        ensures cause { OnErr result (Rose self.old self.new) }
+        ensures cause { OnErr result (Rose true self.old self.new) }
         ensures counts { OnErr result (self.new ≡ one_more self.old) }
         ensures kept { OnOk result (self.new ≡ self.old) }
     {
@@ -57,7 +60,7 @@ impl<R: Read + Drop> Source for StdSource<R> {
 }
 
 /// A writer, as standard output, that tells nothing of its bytes. One that takes nothing of a piece
-/// counts as an error. It is seen as its count of faults.
+/// counts as an error. It is seen as its count of faults, which stands still at its type's end.
 #[derive(Drop)]
 pub struct StdSink<W: Write + Drop> {
     writer: W,
@@ -100,12 +103,14 @@ impl<W: Write + Drop> Sink for StdSink<W> {
 
     ghost faults = { λ s. s };
 
+    ghost may_stand = { true };
+
     fn write(&mut self, piece: &[u8]) -> Result<usize, Failed>
         ensures bound { WritesAtMost result piece.now }
         ensures some { 0 < length piece.now → IfOk result (λ count. 0 < count) }
         ensures bytes { WriteAppends None None result piece.now }
         ensures later { self.old ≤ self.new }
-        ensures cause { OnErr result (Rose self.old self.new) }
+        ensures cause { OnErr result (Rose true self.old self.new) }
         ensures counts { OnErr result (self.new ≡ one_more self.old) }
         ensures kept { OnOk result (self.new ≡ self.old) }
     {

@@ -1,5 +1,5 @@
 // Sources and sinks of bytes, as a program sees them.
-ghost use Rattle.std.specs.Prelude.{◌≡◌, ◌<◌, ◌≤◌, ℕ, List, Option, length, IfOk, OnErr};
+ghost use Rattle.std.specs.Prelude.{◌≡◌, ◌<◌, ◌≤◌, ℕ, Bool, List, Option, length, IfOk, OnErr};
 ghost use Rattle.std.specs.Io.{ReadsAtMost, WritesAtMost};
 ghost use Rattle.std.specs.Io.KnownBytes.{ReadConsumes, WriteAppends};
 ghost use Rattle.wfe_outside.specs.Faults.{Rose};
@@ -13,8 +13,12 @@ pub trait Source {
     /// The bytes that are left, where the source tells them.
     ghost left: { Self → Option (List ℕ) };
 
-    /// How many calls failed so far. The count stands still at its type's end.
+    /// How many calls failed so far.
     ghost faults: { Self → ℕ };
+
+    /// Whether that count may stand still at the greatest number of 64 bits. One of a type that
+    /// says no rises at each call that fails.
+    ghost may_stand: { Bool };
 
     /// Takes bytes from the front of what is left, at most the buffer's length, and answers how
     /// many. 0 for a buffer that is not empty is the end.
@@ -22,7 +26,7 @@ pub trait Source {
         ensures bound { ReadsAtMost result buf.new }
         ensures bytes { ReadConsumes (left self.old) (left self.new) result buf.new }
         ensures later { faults self.old ≤ faults self.new }
-        ensures cause { OnErr result (Rose (faults self.old) (faults self.new)) };
+        ensures cause { OnErr result (Rose may_stand (faults self.old) (faults self.new)) };
 }
 
 /// Bytes that go outside.
@@ -30,8 +34,12 @@ pub trait Sink {
     /// The bytes written so far, where the sink tells them.
     ghost written: { Self → Option (List ℕ) };
 
-    /// How many calls failed so far. The count stands still at its type's end.
+    /// How many calls failed so far.
     ghost faults: { Self → ℕ };
+
+    /// Whether that count may stand still at the greatest number of 64 bits. One of a type that
+    /// says no rises at each call that fails.
+    ghost may_stand: { Bool };
 
     /// Writes bytes from the front of the piece, and answers how many: at least one, where the
     /// piece has one.
@@ -40,5 +48,5 @@ pub trait Sink {
         ensures some { 0 < length piece.now → IfOk result (λ count. 0 < count) }
         ensures bytes { WriteAppends (written self.old) (written self.new) result piece.now }
         ensures later { faults self.old ≤ faults self.new }
-        ensures cause { OnErr result (Rose (faults self.old) (faults self.new)) };
+        ensures cause { OnErr result (Rose may_stand (faults self.old) (faults self.new)) };
 }

@@ -1,7 +1,7 @@
 // Who is told of each event of a run.
 ghost use Rattle.std.specs.Prelude.{◌≡◌, ◌<◌, ℕ, List, OnOk, OnErr};
 ghost use Rattle.wfe_defs.specs.Entry.{Entry, entry};
-ghost use Rattle.wfe_outside.specs.Watched.{Grows, Stays};
+ghost use Rattle.wfe_outside.specs.Watched.{Grows};
 
 use wfe_defs::{Event, NoMemory};
 
@@ -30,7 +30,7 @@ pub trait Watcher: Drop {
     /// Tells one more event. Without memory the watcher stays as it was.
     fn note(&mut self, seat: u32, event: &Event) -> Result<(), NoMemory>
         ensures ok { OnOk result (Grows stands self.old self.new (entry seat event.now)) }
-        ensures err { OnErr result (Stays stands self.old self.new) };
+        ensures err { OnErr result (self.new ≡ self.old) };
 
     /// How many rows it shows.
     fn rows(&self) -> u64

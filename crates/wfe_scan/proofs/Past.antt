@@ -2,9 +2,9 @@
 use Rattle.std.proofs.Common.{ℕ, suc, ◌≡◌, ◌<◌, ◌+◌, true, false, List, ◌∷◌, length, drop, get_or, Some, refl, ap, ◌∙◌, add-one, drop-cons}
 use Rattle.std.proofs.lemmas.Option.{get_or_from_slice_get, slice_get_within}
 use Rattle.std.specs.Prelude.{slice_get}
+use Rattle.wfe_core.specs.defs.Shown.{Seen, keeps_any}
 use Rattle.wfe_core.specs.defs.declared.lifetime.Lifetime.{Lifetime}
-use Rattle.wfe_core.specs.Desks.{Seen}
-use Rattle.wfe_core.specs.Scan.{meets_any, first_unmet}
+use Rattle.wfe_core.specs.Scan.{first_unmet}
 
 -- the list from a place on is the entry there, and the list from the next place on
 drop_at : (lives : List Lifetime) (place : ℕ) (life : Lifetime) → slice_get lives place ≡ Some life → drop place lives ≡ life ∷ drop (place + 1) lives
@@ -14,9 +14,9 @@ drop_at lives place life at =
     rw (add-one) (drop-cons lives place life within ∙ ap (λ (first : Lifetime). first ∷ drop (suc place) lives) entry)
 
 -- the entry at this place meets something: the first that meets nothing comes after it
-pub passed : (read : List Seen) (lives : List Lifetime) (place : ℕ) (life : Lifetime) → slice_get lives place ≡ Some life → meets_any life read ≡ true → first_unmet read (place + 1) (drop (place + 1) lives) ≡ first_unmet read place (drop place lives)
+pub passed : (read : List Seen) (lives : List Lifetime) (place : ℕ) (life : Lifetime) → slice_get lives place ≡ Some life → keeps_any life read ≡ true → first_unmet read (place + 1) (drop (place + 1) lives) ≡ first_unmet read place (drop place lives)
 passed read lives place life at e = rw (drop_at lives place life at) (rw (e, first_unmet) refl)
 
 -- it meets nothing
-pub found : (read : List Seen) (lives : List Lifetime) (place : ℕ) (life : Lifetime) → slice_get lives place ≡ Some life → meets_any life read ≡ false → Some (place, life) ≡ first_unmet read place (drop place lives)
+pub found : (read : List Seen) (lives : List Lifetime) (place : ℕ) (life : Lifetime) → slice_get lives place ≡ Some life → keeps_any life read ≡ false → Some (place, life) ≡ first_unmet read place (drop place lives)
 found read lives place life at e = rw (drop_at lives place life at) (rw (e, first_unmet) refl)

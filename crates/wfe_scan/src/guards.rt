@@ -1,7 +1,7 @@
 // The words that publish reservations, in the order in which a scan reads them.
 ghost use Rattle.std.specs.Prelude.{◌≡◌, ◌<◌, ◌≤◌, true};
 ghost use Rattle.wfe_words.specs.Place.{has, is_valid, number as number_of};
-ghost use Rattle.wfe_core.specs.Guards.{guard_at as model_guard_at, guard_place, guards as model_guards, index_at as model_index_at, interval_in, published as model_published};
+ghost use Rattle.wfe_core.specs.Guards.{guard_at as model_guard_at, guard_place, guards as model_guards, index_at as model_index_at, interval_in, eras_in as model_eras_in};
 ghost use Rattle.wfe_core.specs.Valid.{Bounds};
 
 use wfe_core::{Guard, Interval, one_era};
@@ -65,7 +65,7 @@ pub fn guard_word(layout: Layout, guard: Guard) -> u32
 
 // What a guard publishes with this word.
 pub fn published(guard: Guard, word: u64) -> Option<Interval>
-    ensures { result ≡ model_published guard word }
+    ensures { result ≡ model_eras_in guard word }
 {
     match guard {
         Guard::Whole { .. } => match read_span(word) {

@@ -1,12 +1,13 @@
 // The rows that may go back: those whose lives meet nothing that was read.
 ghost use Rattle.std.specs.Prelude.{◌≡◌, drop};
-ghost use Rattle.wfe_core.specs.Scan.{first_unmet as model_first_unmet, meets_any as model_meets_any, meets_span as model_meets_span};
+ghost use Rattle.wfe_core.specs.defs.Shown.{keeps, keeps_any, seen_all, shown};
+ghost use Rattle.wfe_core.specs.Scan.{first_unmet as model_first_unmet};
 
 use wfe_core::{Guard, Interval, Lifetime, RetireList, meets};
 
 // A life meets what a guard published.
 fn meets_span(life: Lifetime, span: Option<Interval>) -> bool
-    ensures { result ≡ model_meets_span life span }
+    ensures { result ≡ keeps life (shown span) }
 {
     match span {
         Some(span) => meets(life, span),
@@ -16,7 +17,7 @@ fn meets_span(life: Lifetime, span: Option<Interval>) -> bool
 
 // A life meets something that was read.
 fn meets_any(life: Lifetime, read: &[(Guard, Option<Interval>)]) -> bool
-    ensures { result ≡ model_meets_any life read.now }
+    ensures { result ≡ keeps_any life (seen_all read.now) }
 {
     for seen in read {
         if meets_span(life, seen.1) {
@@ -32,7 +33,7 @@ pub fn first_unmet(
     read: &[(Guard, Option<Interval>)],
     from: usize,
 ) -> Option<(usize, Lifetime)>
-    ensures { result ≡ model_first_unmet read.now from (drop from list.now.lives) }
+    ensures { result ≡ model_first_unmet (seen_all read.now) from (drop from list.now.lives) }
 {
     let mut place = from;
     while place < list.len() {

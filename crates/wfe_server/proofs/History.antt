@@ -22,7 +22,7 @@ use Rattle.wfe_server.specs.Generated.{entries_of}
 use Rattle.wfe_server.specs.Tally.{Tells, lines_told}
 use Rattle.wfe_server.specs.Summary.{Counts, summary_of}
 use Rattle.wfe_server.specs.declared.summary.Summary.{Summary}
-use Rattle.wfe_server_out.specs.Heard.{Hears, HearsSome}
+use Rattle.wfe_server_out.specs.Heard.{Hears, HearsSome, Seen}
 use Rattle.wfe_server.specs.Turns.{commands_of, generated, seeded, setting, trace_of, turn_call, turn_seat, turn_units}
 use Rattle.wfe_server.proofs.Bare.{strip_heard, strip_played, stripped}
 
@@ -94,11 +94,11 @@ heard_is : (seed turns : ℕ) (s : Played) → s ≡ stripped (opened setting) �
 heard_is seed turns s e = ap (λ (t : Played). heard_of (lines_told (generated seed turns) t)) e ∙ trace_told (generated seed turns) (generated_taken seed turns)
 
 -- what the watchers heard in a whole run, what was counted, and what they heard where one had no memory
-pub generated_heard : {W : Type 0} (stands : W → List Entry → Type 0) (a b : List W) (x y : Summary) (seed turns : ℕ) (s : Played) → s ≡ stripped (opened setting) → Tells stands a b x y (lines_told (generated seed turns) s) → Hears stands a b (entries_of (generated seed turns))
-generated_heard stands a b x y seed turns s e t = subst (Hears stands a b) (heard_is seed turns s e) t.heard
+pub generated_heard : {W : Type 0} (seen : Seen W) (a b : List W) (x y : Summary) (seed turns : ℕ) (s : Played) → s ≡ stripped (opened setting) → Tells seen a b x y (lines_told (generated seed turns) s) → Hears seen a b (entries_of (generated seed turns))
+generated_heard seen a b x y seed turns s e t = subst (Hears seen a b) (heard_is seed turns s e) t.heard
 
-pub generated_counted : {W : Type 0} (stands : W → List Entry → Type 0) (a b : List W) (x y : Summary) (seed turns : ℕ) (s : Played) → s ≡ stripped (opened setting) → Counts x [] → Tells stands a b x y (lines_told (generated seed turns) s) → y ≡ summary_of (entries_of (generated seed turns))
-generated_counted stands a b x y seed turns s e c t = t.counted [] c ∙ ap summary_of (heard_is seed turns s e)
+pub generated_counted : {W : Type 0} (seen : Seen W) (a b : List W) (x y : Summary) (seed turns : ℕ) (s : Played) → s ≡ stripped (opened setting) → Counts x [] → Tells seen a b x y (lines_told (generated seed turns) s) → y ≡ summary_of (entries_of (generated seed turns))
+generated_counted seen a b x y seed turns s e c t = t.counted [] c ∙ ap summary_of (heard_is seed turns s e)
 
-pub generated_some : {W : Type 0} (stands : W → List Entry → Type 0) (a b : List W) (seed turns : ℕ) (s : Played) → s ≡ stripped (opened setting) → HearsSome stands a b (heard_of (lines_told (generated seed turns) s)) → HearsSome stands a b (entries_of (generated seed turns))
-generated_some stands a b seed turns s e h = subst (HearsSome stands a b) (heard_is seed turns s e) h
+pub generated_some : {W : Type 0} (seen : Seen W) (a b : List W) (seed turns : ℕ) (s : Played) → s ≡ stripped (opened setting) → HearsSome seen a b (heard_of (lines_told (generated seed turns) s)) → HearsSome seen a b (entries_of (generated seed turns))
+generated_some seen a b seed turns s e h = subst (HearsSome seen a b) (heard_is seed turns s e) h

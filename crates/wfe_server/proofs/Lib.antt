@@ -2,6 +2,7 @@ pub use Rattle.wfe_server_replay.proofs as server_replay
 pub mod Bare
 pub mod Counted
 pub mod Going
+pub mod HandedBack
 pub mod History
 pub mod Turning
 pub mod Written

@@ -11,7 +11,7 @@ use Rattle.wfe_outside.specs.defs.declared.command.Command.TheVariants as comman
 use Rattle.wfe_outside.specs.defs.declared.event.Event.TheVariants as events
 use Rattle.wfe_outside.specs.defs.declared.call.Call.{Call}
 use Rattle.wfe_server_replay.specs.drive.Reached.{units_left}
-use Rattle.wfe_server_out.specs.Heard.{HearsSome}
+use Rattle.wfe_server_out.specs.Heard.{HearsSome, Seen}
 use Rattle.wfe_server_out.specs.Pieces.{Piece, Told, heard_of}
 use Rattle.wfe_server_out.proofs.Hearing.{hears_some_more, hears_then_some}
 use Rattle.wfe_server_out.proofs.Texts.{heard_of-append}
@@ -26,16 +26,16 @@ use Rattle.wfe_core.proofs.Facts.{one_is_suc, if_true}
 use Rattle.wfe_server_replay.proofs.Seats.{rest_after}
 
 -- of so many units so many are left, and what the others tell was told
-pub record Running {W : Type 0} (stands : W → List Entry → Type 0) (a b : List W) (x y : Summary) (most left seat : ℕ) (s t : Played) : Type 0 where
+pub record Running {W : Type 0} (seen : Seen W) (a b : List W) (x y : Summary) (most left seat : ℕ) (s t : Played) : Type 0 where
   pub made : units_made most seat s ≡ units_made left seat t
   pub table : t.table.layout ≡ s.table.layout
-  pub goes : Going stands a b x y (units_out most seat s) (units_out left seat t)
+  pub goes : Going seen a b x y (units_out most seat s) (units_out left seat t)
 
-pub running_none : {W : Type 0} (stands : W → List Entry → Type 0) (ws : List W) (x : Summary) (most left seat : ℕ) (s : Played) → most ≡ left → Running stands ws ws x x most left seat s s
-running_none stands ws x most left seat s e = record {
+pub running_none : {W : Type 0} (seen : Seen W) (ws : List W) (x : Summary) (most left seat : ℕ) (s : Played) → most ≡ left → Running seen ws ws x x most left seat s s
+running_none seen ws x most left seat s e = record {
   made = ap (λ (n : ℕ). units_made n seat s) e;
   table = refl;
-  goes = subst (λ (n : ℕ). Going stands ws ws x x (units_out most seat s) (units_out n seat s)) e (going_none stands ws x (units_out most seat s));
+  goes = subst (λ (n : ℕ). Going seen ws ws x x (units_out most seat s) (units_out n seat s)) e (going_none seen ws x (units_out most seat s));
 }
 
 next_out : (left more seat : ℕ) (t : Played) → left ≡ suc more → is_playing seat t ≡ true → units_out left seat t ≡ unit_out t seat ++ units_out more seat (unit_made t seat)
@@ -45,66 +45,66 @@ next_made : (left more seat : ℕ) (t : Played) → left ≡ suc more → is_pla
 next_made left more seat t e b = ap (λ (n : ℕ). units_made n seat t) e ∙ if_true (is_playing seat t) (units_made more seat (unit_made t seat)) t b
 
 -- a unit more
-pub running_more : {W : Type 0} (stands : W → List Entry → Type 0) (a b c : List W) (x y z : Summary) (most left more seat : ℕ) (s t u : Played) → left ≡ suc more → is_playing seat t ≡ true → u ≡ unit_made t seat
-    → Running stands a b x y most left seat s t → Tells stands b c y z (unit_out t seat) → Running stands a c x z most more seat s u
-running_more stands a b c x y z most left more seat s t u e busy m r h =
-    subst (Running stands a c x z most more seat s) (sym m)
+pub running_more : {W : Type 0} (seen : Seen W) (a b c : List W) (x y z : Summary) (most left more seat : ℕ) (s t u : Played) → left ≡ suc more → is_playing seat t ≡ true → u ≡ unit_made t seat
+    → Running seen a b x y most left seat s t → Tells seen b c y z (unit_out t seat) → Running seen a c x z most more seat s u
+running_more seen a b c x y z most left more seat s t u e busy m r h =
+    subst (Running seen a c x z most more seat s) (sym m)
     (record {
       made = r.made ∙ next_made left more seat t e busy;
       table = r.table;
-      goes = going_more stands a b c x y z (units_out most seat s) (units_out left seat t) (unit_out t seat) (units_out more seat (unit_made t seat)) (next_out left more seat t e busy) r.goes h;
+      goes = going_more seen a b c x y z (units_out most seat s) (units_out left seat t) (unit_out t seat) (units_out more seat (unit_made t seat)) (next_out left more seat t e busy) r.goes h;
     })
 
 -- a watcher has no memory for it
-pub running_fails : {W : Type 0} (stands : W → List Entry → Type 0) (a b c : List W) (x y : Summary) (most left more seat : ℕ) (s t : Played) → left ≡ suc more → is_playing seat t ≡ true
-    → Running stands a b x y most left seat s t → HearsSome stands b c (heard_of (unit_out t seat)) → HearsSome stands a c (heard_of (units_out most seat s))
-running_fails stands a b c x y most left more seat s t e busy r h =
-    going_fails stands a b c x y (units_out most seat s) (units_out left seat t) (unit_out t seat) (units_out more seat (unit_made t seat)) (next_out left more seat t e busy) r.goes h
+pub running_fails : {W : Type 0} (seen : Seen W) (a b c : List W) (x y : Summary) (most left more seat : ℕ) (s t : Played) → left ≡ suc more → is_playing seat t ≡ true
+    → Running seen a b x y most left seat s t → HearsSome seen b c (heard_of (unit_out t seat)) → HearsSome seen a c (heard_of (units_out most seat s))
+running_fails seen a b c x y most left more seat s t e busy r h =
+    going_fails seen a b c x y (units_out most seat s) (units_out left seat t) (unit_out t seat) (units_out more seat (unit_made t seat)) (next_out left more seat t e busy) r.goes h
 
 -- nothing is left: its call has ended, or all units are made
-pub record Over {W : Type 0} (stands : W → List Entry → Type 0) (a b : List W) (x y : Summary) (most seat : ℕ) (s t : Played) : Type 0 where
+pub record Over {W : Type 0} (seen : Seen W) (a b : List W) (x y : Summary) (most seat : ℕ) (s t : Played) : Type 0 where
   pub made : t ≡ units_made most seat s
-  pub told : Tells stands a b x y (units_out most seat s)
+  pub told : Tells seen a b x y (units_out most seat s)
 
-pub running_ended : {W : Type 0} (stands : W → List Entry → Type 0) (a b : List W) (x y : Summary) (most left seat : ℕ) (s t : Played) → is_playing seat t ≡ false → Running stands a b x y most left seat s t → Over stands a b x y most seat s t
-running_ended stands a b x y most left seat s t free r = record {
+pub running_ended : {W : Type 0} (seen : Seen W) (a b : List W) (x y : Summary) (most left seat : ℕ) (s t : Played) → is_playing seat t ≡ false → Running seen a b x y most left seat s t → Over seen a b x y most seat s t
+running_ended seen a b x y most left seat s t free r = record {
   made = sym (r.made ∙ ended_made left seat t free);
-  told = going_all stands a b x y (units_out most seat s) (units_out left seat t) (ended_out left seat t free) r.goes;
+  told = going_all seen a b x y (units_out most seat s) (units_out left seat t) (ended_out left seat t free) r.goes;
 }
 
-pub running_all : {W : Type 0} (stands : W → List Entry → Type 0) (a b : List W) (x y : Summary) (most left seat : ℕ) (s t : Played) → left ≡ 0 → Running stands a b x y most left seat s t → Over stands a b x y most seat s t
-running_all stands a b x y most left seat s t e r = record {
+pub running_all : {W : Type 0} (seen : Seen W) (a b : List W) (x y : Summary) (most left seat : ℕ) (s t : Played) → left ≡ 0 → Running seen a b x y most left seat s t → Over seen a b x y most seat s t
+running_all seen a b x y most left seat s t e r = record {
   made = sym (r.made ∙ ap (λ (n : ℕ). units_made n seat t) e);
-  told = going_all stands a b x y (units_out most seat s) (units_out left seat t) (ap (λ (n : ℕ). units_out n seat t) e) r.goes;
+  told = going_all seen a b x y (units_out most seat s) (units_out left seat t) (ap (λ (n : ℕ). units_out n seat t) e) r.goes;
 }
 
 -- a run: more units are left than the seat's call may make
-pub record Runs {W : Type 0} (stands : W → List Entry → Type 0) (a b : List W) (x y : Summary) (seat : ℕ) (s t : Played) : Type 0 where
+pub record Runs {W : Type 0} (seen : Seen W) (a b : List W) (x y : Summary) (seat : ℕ) (s t : Played) : Type 0 where
   pub left : ℕ
-  pub runs : Running stands a b x y call_most left seat s t
+  pub runs : Running seen a b x y call_most left seat s t
   pub enough : units_left t.table seat ≤ left
 
-pub runs_none : {W : Type 0} (stands : W → List Entry → Type 0) (ws : List W) (x : Summary) (seat : ℕ) (s : Played) → Runs stands ws ws x x seat s s
-runs_none stands ws x seat s = record { left = call_most; runs = running_none stands ws x call_most call_most seat s refl; enough = few seat s }
+pub runs_none : {W : Type 0} (seen : Seen W) (ws : List W) (x : Summary) (seat : ℕ) (s : Played) → Runs seen ws ws x x seat s s
+runs_none seen ws x seat s = record { left = call_most; runs = running_none seen ws x call_most call_most seat s refl; enough = few seat s }
 
 one_left : (left now next : ℕ) → now ≤ left → next < now → left ≡ suc (left - 1)
 one_left left now next e f = omega (e, f, arith)
 
-pub runs_more : {W : Type 0} (stands : W → List Entry → Type 0) (a b c : List W) (x y z : Summary) (seat : ℕ) (s t u : Played) → is_playing seat t ≡ true → u ≡ unit_made t seat → units_left u.table seat < units_left t.table seat
-    → Runs stands a b x y seat s t → Tells stands b c y z (unit_out t seat) → Runs stands a c x z seat s u
-runs_more stands a b c x y z seat s t u busy m f r h = record {
+pub runs_more : {W : Type 0} (seen : Seen W) (a b c : List W) (x y z : Summary) (seat : ℕ) (s t u : Played) → is_playing seat t ≡ true → u ≡ unit_made t seat → units_left u.table seat < units_left t.table seat
+    → Runs seen a b x y seat s t → Tells seen b c y z (unit_out t seat) → Runs seen a c x z seat s u
+runs_more seen a b c x y z seat s t u busy m f r h = record {
   left = r.left - 1;
-  runs = running_more stands a b c x y z call_most r.left (r.left - 1) seat s t u (one_left r.left (units_left t.table seat) (units_left u.table seat) r.enough f) busy m r.runs h;
+  runs = running_more seen a b c x y z call_most r.left (r.left - 1) seat s t u (one_left r.left (units_left t.table seat) (units_left u.table seat) r.enough f) busy m r.runs h;
   enough = fewer r.left (units_left t.table seat) (units_left u.table seat) r.enough f;
 }
   where
     fewer : (left now next : ℕ) → now ≤ left → next < now → next ≤ left - 1
     fewer left now next e f = omega (e, f, arith)
 
-pub runs_fail : {W : Type 0} (stands : W → List Entry → Type 0) (a b c : List W) (x y : Summary) (seat : ℕ) (s t u : Played) → is_playing seat t ≡ true → units_left u.table seat < units_left t.table seat
-    → Runs stands a b x y seat s t → HearsSome stands b c (heard_of (unit_out t seat)) → HearsSome stands a c (heard_of (units_out call_most seat s))
-runs_fail stands a b c x y seat s t u busy f r h =
-    running_fails stands a b c x y call_most r.left (r.left - 1) seat s t (one_left r.left (units_left t.table seat) (units_left u.table seat) r.enough f) busy r.runs h
+pub runs_fail : {W : Type 0} (seen : Seen W) (a b c : List W) (x y : Summary) (seat : ℕ) (s t u : Played) → is_playing seat t ≡ true → units_left u.table seat < units_left t.table seat
+    → Runs seen a b x y seat s t → HearsSome seen b c (heard_of (unit_out t seat)) → HearsSome seen a c (heard_of (units_out call_most seat s))
+runs_fail seen a b c x y seat s t u busy f r h =
+    running_fails seen a b c x y call_most r.left (r.left - 1) seat s t (one_left r.left (units_left t.table seat) (units_left u.table seat) r.enough f) busy r.runs h
 
 -- the three lines of a turn
 abbrev pub turn_lines : Turn → List Command
@@ -118,47 +118,47 @@ abbrev pub begin_out : Turn → List Piece
 begin_out t = Told (entry t.seat (events.Begin t.call)) ∷ []
 
 -- all of a turn is told
-pub turn_told : {W : Type 0} (stands : W → List Entry → Type 0) (a b c d : List W) (x y z w : Summary) (t : Turn) (s : Played) → Tells stands a b x y (units_out call_most t.seat s) → Tells stands b c y z (begin_out t) → Tells stands c d z w (units_out t.units t.seat (began_turn t s))
-    → Tells stands a d x w (lines_told (turn_lines t) s)
-turn_told stands a b c d x y z w t s one two three =
-    subst (λ (last : List Piece). Tells stands a d x w (units_out call_most t.seat s ++ (begin_out t ++ last))) (sym (append-nil (units_out t.units t.seat (began_turn t s))))
-    (tells_along stands a b d x y w (units_out call_most t.seat s) (begin_out t ++ units_out t.units t.seat (began_turn t s)) one
-    (tells_along stands b c d y z w (begin_out t) (units_out t.units t.seat (began_turn t s)) two three))
+pub turn_told : {W : Type 0} (seen : Seen W) (a b c d : List W) (x y z w : Summary) (t : Turn) (s : Played) → Tells seen a b x y (units_out call_most t.seat s) → Tells seen b c y z (begin_out t) → Tells seen c d z w (units_out t.units t.seat (began_turn t s))
+    → Tells seen a d x w (lines_told (turn_lines t) s)
+turn_told seen a b c d x y z w t s one two three =
+    subst (λ (last : List Piece). Tells seen a d x w (units_out call_most t.seat s ++ (begin_out t ++ last))) (sym (append-nil (units_out t.units t.seat (began_turn t s))))
+    (tells_along seen a b d x y w (units_out call_most t.seat s) (begin_out t ++ units_out t.units t.seat (began_turn t s)) one
+    (tells_along seen b c d y z w (begin_out t) (units_out t.units t.seat (began_turn t s)) two three))
 
 -- some of the first, or all of it and some of the second
-pub some_first : {W : Type 0} (stands : W → List Entry → Type 0) (a b : List W) (ps qs : List Piece) → HearsSome stands a b (heard_of ps) → HearsSome stands a b (heard_of (ps ++ qs))
-some_first stands a b ps qs h = subst (HearsSome stands a b) (sym (heard_of-append ps qs)) (hears_some_more stands a b (heard_of ps) (heard_of qs) h)
+pub some_first : {W : Type 0} (seen : Seen W) (a b : List W) (ps qs : List Piece) → HearsSome seen a b (heard_of ps) → HearsSome seen a b (heard_of (ps ++ qs))
+some_first seen a b ps qs h = subst (HearsSome seen a b) (sym (heard_of-append ps qs)) (hears_some_more seen a b (heard_of ps) (heard_of qs) h)
 
-pub some_then : {W : Type 0} (stands : W → List Entry → Type 0) (a b c : List W) (x y : Summary) (ps qs : List Piece) → Tells stands a b x y ps → HearsSome stands b c (heard_of qs) → HearsSome stands a c (heard_of (ps ++ qs))
-some_then stands a b c x y ps qs t h = subst (HearsSome stands a c) (sym (heard_of-append ps qs)) (hears_then_some stands a b c (heard_of ps) (heard_of qs) t.heard h)
+pub some_then : {W : Type 0} (seen : Seen W) (a b c : List W) (x y : Summary) (ps qs : List Piece) → Tells seen a b x y ps → HearsSome seen b c (heard_of qs) → HearsSome seen a c (heard_of (ps ++ qs))
+some_then seen a b c x y ps qs t h = subst (HearsSome seen a c) (sym (heard_of-append ps qs)) (hears_then_some seen a b c (heard_of ps) (heard_of qs) t.heard h)
 
 -- a watcher has no memory in its first line, in its second, or in its third
-pub turn_first : {W : Type 0} (stands : W → List Entry → Type 0) (a b : List W) (t : Turn) (s : Played) → HearsSome stands a b (heard_of (units_out call_most t.seat s)) → HearsSome stands a b (heard_of (lines_told (turn_lines t) s))
-turn_first stands a b t s h = some_first stands a b (units_out call_most t.seat s) (begin_out t ++ (units_out t.units t.seat (began_turn t s) ++ [])) h
+pub turn_first : {W : Type 0} (seen : Seen W) (a b : List W) (t : Turn) (s : Played) → HearsSome seen a b (heard_of (units_out call_most t.seat s)) → HearsSome seen a b (heard_of (lines_told (turn_lines t) s))
+turn_first seen a b t s h = some_first seen a b (units_out call_most t.seat s) (begin_out t ++ (units_out t.units t.seat (began_turn t s) ++ [])) h
 
-pub turn_second : {W : Type 0} (stands : W → List Entry → Type 0) (a b c : List W) (x y : Summary) (t : Turn) (s : Played) → Tells stands a b x y (units_out call_most t.seat s) → HearsSome stands b c (heard_of (begin_out t)) → HearsSome stands a c (heard_of (lines_told (turn_lines t) s))
-turn_second stands a b c x y t s one h =
+pub turn_second : {W : Type 0} (seen : Seen W) (a b c : List W) (x y : Summary) (t : Turn) (s : Played) → Tells seen a b x y (units_out call_most t.seat s) → HearsSome seen b c (heard_of (begin_out t)) → HearsSome seen a c (heard_of (lines_told (turn_lines t) s))
+turn_second seen a b c x y t s one h =
     let last : List Piece = units_out t.units t.seat (began_turn t s) ++ [] in
-    some_then stands a b c x y (units_out call_most t.seat s) (begin_out t ++ last) one (some_first stands b c (begin_out t) last h)
+    some_then seen a b c x y (units_out call_most t.seat s) (begin_out t ++ last) one (some_first seen b c (begin_out t) last h)
 
-pub turn_third : {W : Type 0} (stands : W → List Entry → Type 0) (a b c d : List W) (x y z : Summary) (t : Turn) (s : Played) → Tells stands a b x y (units_out call_most t.seat s) → Tells stands b c y z (begin_out t) → HearsSome stands c d (heard_of (units_out t.units t.seat (began_turn t s)))
-    → HearsSome stands a d (heard_of (lines_told (turn_lines t) s))
-turn_third stands a b c d x y z t s one two h =
+pub turn_third : {W : Type 0} (seen : Seen W) (a b c d : List W) (x y z : Summary) (t : Turn) (s : Played) → Tells seen a b x y (units_out call_most t.seat s) → Tells seen b c y z (begin_out t) → HearsSome seen c d (heard_of (units_out t.units t.seat (began_turn t s)))
+    → HearsSome seen a d (heard_of (lines_told (turn_lines t) s))
+turn_third seen a b c d x y z t s one two h =
     let last : List Piece = units_out t.units t.seat (began_turn t s) in
-    some_then stands a b d x y (units_out call_most t.seat s) (begin_out t ++ (last ++ [])) one (some_then stands b c d y z (begin_out t) (last ++ []) two (some_first stands c d last [] h))
+    some_then seen a b d x y (units_out call_most t.seat s) (begin_out t ++ (last ++ [])) one (some_then seen b c d y z (begin_out t) (last ++ []) two (some_first seen c d last [] h))
 
-pub seats_more : {W : Type 0} (stands : W → List Entry → Type 0) (a b c : List W) (x y z : Summary) (n : ℕ) (s t : Played) → t ≡ seats_run n s → Tells stands a b x y (seats_out n s) → Tells stands b c y z (units_out call_most n t) → Tells stands a c x z (seats_out (n + 1) s)
-seats_more stands a b c x y z n s t e one two =
-    subst (λ (m : ℕ). Tells stands a c x z (seats_out m s)) (sym (one_is_suc n))
-    (tells_along stands a b c x y z (seats_out n s) (units_out call_most n (seats_run n s)) one (subst (λ (u : Played). Tells stands b c y z (units_out call_most n u)) e two))
+pub seats_more : {W : Type 0} (seen : Seen W) (a b c : List W) (x y z : Summary) (n : ℕ) (s t : Played) → t ≡ seats_run n s → Tells seen a b x y (seats_out n s) → Tells seen b c y z (units_out call_most n t) → Tells seen a c x z (seats_out (n + 1) s)
+seats_more seen a b c x y z n s t e one two =
+    subst (λ (m : ℕ). Tells seen a c x z (seats_out m s)) (sym (one_is_suc n))
+    (tells_along seen a b c x y z (seats_out n s) (units_out call_most n (seats_run n s)) one (subst (λ (u : Played). Tells seen b c y z (units_out call_most n u)) e two))
 
-pub seats_fail : {W : Type 0} (stands : W → List Entry → Type 0) (a b c : List W) (x y : Summary) (n most : ℕ) (s t : Played) → n < most → t ≡ seats_run n s → Tells stands a b x y (seats_out n s) → HearsSome stands b c (heard_of (units_out call_most n t)) → HearsSome stands a c (heard_of (seats_out most s))
-seats_fail stands a b c x y n most s t h e one part =
+pub seats_fail : {W : Type 0} (seen : Seen W) (a b c : List W) (x y : Summary) (n most : ℕ) (s t : Played) → n < most → t ≡ seats_run n s → Tells seen a b x y (seats_out n s) → HearsSome seen b c (heard_of (units_out call_most n t)) → HearsSome seen a c (heard_of (seats_out most s))
+seats_fail seen a b c x y n most s t h e one part =
     let (rest, f) = rest_after (most - suc n) (suc n) s in
     let all : most - suc n + suc n ≡ most = omega (h, arith) in
-    subst (λ (out : List Piece). HearsSome stands a c (heard_of out)) (sym (ap (λ (m : ℕ). seats_out m s) (sym all) ∙ f))
-    (some_first stands a c (seats_out (suc n) s) rest
-    (some_then stands a b c x y (seats_out n s) (units_out call_most n (seats_run n s)) one (subst (λ (u : Played). HearsSome stands b c (heard_of (units_out call_most n u))) e part)))
+    subst (λ (out : List Piece). HearsSome seen a c (heard_of out)) (sym (ap (λ (m : ℕ). seats_out m s) (sym all) ∙ f))
+    (some_first seen a c (seats_out (suc n) s) rest
+    (some_then seen a b c x y (seats_out n s) (units_out call_most n (seats_run n s)) one (subst (λ (u : Played). HearsSome seen b c (heard_of (units_out call_most n u))) e part)))
 
 -- lines after lines
 lines_along : (first second : List Command) (s : Played) → lines_told (first ++ second) s ≡ lines_told first s ++ lines_told second (lines_made first s)
@@ -206,45 +206,45 @@ turn_of a b = record { seat = turn_seat a; call = turn_call a b; units = turn_un
 pub began : (t : Turn) (s p q : Played) → p ≡ units_made call_most t.seat s → q ≡ started p t.seat t.call → q ≡ began_turn t s
 began t s p q e f = f ∙ ap (λ (r : Played). started r t.seat t.call) e
 
-pub turn_ok : {T E W : Type 0} (stands : W → List Entry → Type 0) (a b c d : List W) (x y z w : Summary) (r : Result T E) (t : Turn) (m n : ℕ) (s p : Played) → t ≡ turn_of m n → p ≡ began_turn t s
-    → Tells stands a b x y (units_out call_most t.seat s) → Tells stands b c y z (begin_out t) → OnOk r (Tells stands c d z w (units_out t.units t.seat p)) → OnOk r (Tells stands a d x w (lines_told (turn_commands m n) s))
-turn_ok stands a b c d x y z w (Ok v) t m n s p e f one two three =
-    subst (λ (u : Turn). Tells stands a d x w (lines_told (turn_lines u) s)) e
-    (turn_told stands a b c d x y z w t s one two (subst (λ (q : Played). Tells stands c d z w (units_out t.units t.seat q)) f three))
-turn_ok stands a b c d x y z w (Err v) t m n s p e f one two three = tt
+pub turn_ok : {T E W : Type 0} (seen : Seen W) (a b c d : List W) (x y z w : Summary) (r : Result T E) (t : Turn) (m n : ℕ) (s p : Played) → t ≡ turn_of m n → p ≡ began_turn t s
+    → Tells seen a b x y (units_out call_most t.seat s) → Tells seen b c y z (begin_out t) → OnOk r (Tells seen c d z w (units_out t.units t.seat p)) → OnOk r (Tells seen a d x w (lines_told (turn_commands m n) s))
+turn_ok seen a b c d x y z w (Ok v) t m n s p e f one two three =
+    subst (λ (u : Turn). Tells seen a d x w (lines_told (turn_lines u) s)) e
+    (turn_told seen a b c d x y z w t s one two (subst (λ (q : Played). Tells seen c d z w (units_out t.units t.seat q)) f three))
+turn_ok seen a b c d x y z w (Err v) t m n s p e f one two three = tt
 
-pub turn_err : {T E W : Type 0} (stands : W → List Entry → Type 0) (a b c d : List W) (x y z : Summary) (r : Result T E) (t : Turn) (m n : ℕ) (s p : Played) → t ≡ turn_of m n → p ≡ began_turn t s
-    → Tells stands a b x y (units_out call_most t.seat s) → Tells stands b c y z (begin_out t) → OnErr r (HearsSome stands c d (heard_of (units_out t.units t.seat p))) → OnErr r (HearsSome stands a d (heard_of (lines_told (turn_commands m n) s)))
-turn_err stands a b c d x y z (Ok v) t m n s p e f one two three = tt
-turn_err stands a b c d x y z (Err v) t m n s p e f one two three =
-    subst (λ (u : Turn). HearsSome stands a d (heard_of (lines_told (turn_lines u) s))) e
-    (turn_third stands a b c d x y z t s one two (subst (λ (q : Played). HearsSome stands c d (heard_of (units_out t.units t.seat q))) f three))
+pub turn_err : {T E W : Type 0} (seen : Seen W) (a b c d : List W) (x y z : Summary) (r : Result T E) (t : Turn) (m n : ℕ) (s p : Played) → t ≡ turn_of m n → p ≡ began_turn t s
+    → Tells seen a b x y (units_out call_most t.seat s) → Tells seen b c y z (begin_out t) → OnErr r (HearsSome seen c d (heard_of (units_out t.units t.seat p))) → OnErr r (HearsSome seen a d (heard_of (lines_told (turn_commands m n) s)))
+turn_err seen a b c d x y z (Ok v) t m n s p e f one two three = tt
+turn_err seen a b c d x y z (Err v) t m n s p e f one two three =
+    subst (λ (u : Turn). HearsSome seen a d (heard_of (lines_told (turn_lines u) s))) e
+    (turn_third seen a b c d x y z t s one two (subst (λ (q : Played). HearsSome seen c d (heard_of (units_out t.units t.seat q))) f three))
 
 pub turn_made : {T E : Type 0} (r : Result T E) (t : Turn) (m n : ℕ) (s p q : Played) → t ≡ turn_of m n → p ≡ began_turn t s → OnOk r (q ≡ units_made t.units t.seat p) → OnOk r (q ≡ lines_made (turn_commands m n) s)
 turn_made (Ok v) t m n s p q e f g = g ∙ ap (units_made t.units t.seat) f ∙ ap (λ (u : Turn). lines_made (turn_lines u) s) e
 turn_made (Err v) t m n s p q e f g = tt
 
 -- the lines of a turn, by its words
-pub turn_is : {W : Type 0} (stands : W → List Entry → Type 0) (a b : List W) (t : Turn) (m n : ℕ) (s : Played) → t ≡ turn_of m n → HearsSome stands a b (heard_of (lines_told (turn_lines t) s)) → HearsSome stands a b (heard_of (lines_told (turn_commands m n) s))
-turn_is stands a b t m n s e h = subst (λ (u : Turn). HearsSome stands a b (heard_of (lines_told (turn_lines u) s))) e h
+pub turn_is : {W : Type 0} (seen : Seen W) (a b : List W) (t : Turn) (m n : ℕ) (s : Played) → t ≡ turn_of m n → HearsSome seen a b (heard_of (lines_told (turn_lines t) s)) → HearsSome seen a b (heard_of (lines_told (turn_commands m n) s))
+turn_is seen a b t m n s e h = subst (λ (u : Turn). HearsSome seen a b (heard_of (lines_told (turn_lines u) s))) e h
 
 pub words_layout : (m n : ℕ) (s u : Played) → u ≡ lines_made (turn_commands m n) s → u.table.layout ≡ s.table.layout
 words_layout m n s u e = ap (λ (p : Played). p.table.layout) e ∙ turn_layout (turn_of m n) s
 
 -- what tells of the end of all turns
-pub end_ok : {T E W : Type 0} (stands : W → List Entry → Type 0) (a b c : List W) (x y z : Summary) (r : Result T E) (all rest last : List Piece) → rest ≡ last → Going stands a b x y all rest → OnOk r (Tells stands b c y z last) → OnOk r (Tells stands a c x z all)
-end_ok stands a b c x y z (Ok v) all rest last e g t = going_all stands a c x z all [] refl (going_more stands a b c x y z all rest last [] (e ∙ sym (append-nil last)) g t)
-end_ok stands a b c x y z (Err v) all rest last e g t = tt
+pub end_ok : {T E W : Type 0} (seen : Seen W) (a b c : List W) (x y z : Summary) (r : Result T E) (all rest last : List Piece) → rest ≡ last → Going seen a b x y all rest → OnOk r (Tells seen b c y z last) → OnOk r (Tells seen a c x z all)
+end_ok seen a b c x y z (Ok v) all rest last e g t = going_all seen a c x z all [] refl (going_more seen a b c x y z all rest last [] (e ∙ sym (append-nil last)) g t)
+end_ok seen a b c x y z (Err v) all rest last e g t = tt
 
-pub end_err : {T E W : Type 0} (stands : W → List Entry → Type 0) (a b c : List W) (x y : Summary) (r : Result T E) (all rest last : List Piece) → rest ≡ last → Going stands a b x y all rest → OnErr r (HearsSome stands b c (heard_of last)) → OnErr r (HearsSome stands a c (heard_of all))
-end_err stands a b c x y (Ok v) all rest last e g t = tt
-end_err stands a b c x y (Err v) all rest last e g t = going_fails stands a b c x y all rest last [] (e ∙ sym (append-nil last)) g t
+pub end_err : {T E W : Type 0} (seen : Seen W) (a b c : List W) (x y : Summary) (r : Result T E) (all rest last : List Piece) → rest ≡ last → Going seen a b x y all rest → OnErr r (HearsSome seen b c (heard_of last)) → OnErr r (HearsSome seen a c (heard_of all))
+end_err seen a b c x y (Ok v) all rest last e g t = tt
+end_err seen a b c x y (Err v) all rest last e g t = going_fails seen a b c x y all rest last [] (e ∙ sym (append-nil last)) g t
 
 -- no turn was played
-pub play_start : {W : Type 0} (stands : W → List Entry → Type 0) (ws : List W) (x : Summary) (s : Played) (seed turns n : ℕ) (g : Lcg) → n ≡ turns → g ≡ seeded seed → Going stands ws ws x x (lines_told (generated seed turns) s) (lines_told (turns_left n g) s)
-play_start stands ws x s seed turns n g e f =
-    subst (λ (rest : List Piece). Going stands ws ws x x (lines_told (generated seed turns) s) rest) (sym (ap (λ (m : ℕ). lines_told (turns_left m g) s) e ∙ ap (λ (h : Lcg). lines_told (turns_left turns h) s) f))
-    (going_none stands ws x (lines_told (generated seed turns) s))
+pub play_start : {W : Type 0} (seen : Seen W) (ws : List W) (x : Summary) (s : Played) (seed turns n : ℕ) (g : Lcg) → n ≡ turns → g ≡ seeded seed → Going seen ws ws x x (lines_told (generated seed turns) s) (lines_told (turns_left n g) s)
+play_start seen ws x s seed turns n g e f =
+    subst (λ (rest : List Piece). Going seen ws ws x x (lines_told (generated seed turns) s) rest) (sym (ap (λ (m : ℕ). lines_told (turns_left m g) s) e ∙ ap (λ (h : Lcg). lines_told (turns_left turns h) s) f))
+    (going_none seen ws x (lines_told (generated seed turns) s))
 
 -- the seat of a turn is one of the table's
 pub seat_within : (t : Turn) (m n : ℕ) (layout after : Layout) → t ≡ turn_of m n → layout.config.seats ≡ 4 → after ≡ layout → t.seat < after.config.seats

@@ -3,7 +3,7 @@ use Rattle.std.specs.Prelude.{List, ℕ, ◌≡◌}
 use Rattle.std.specs.Io.KnownBytes.{Appends}
 use Rattle.wfe_outside.specs.defs.declared.command.Command.{Command}
 use Rattle.wfe_outside.specs.defs.Entry.{Entry}
-use Rattle.wfe_server_out.specs.Heard.{Hears, HearsSome}
+use Rattle.wfe_server_out.specs.Heard.{Hears, HearsSome, Seen}
 use Rattle.wfe_server_out.specs.Some.{AppendsSome}
 use Rattle.wfe_trace.specs.declared.reason.Status.{Status}
 use Rattle.wfe_trace.specs.declared.reason.Status.TheVariants as statuses
@@ -18,15 +18,15 @@ abbrev pub entries_of : List Command → List Entry
 entries_of lines = past_entries (given_record (trace_of lines))
 
 -- what a status says, where the trace has these entries and the watchers' rows these lines
-abbrev pub Says : {W : Type 0} → (W → List Entry → Type 0) → Status → (watched : List ℕ) → List Entry → Outside W → Outside W → Type 0
-Says stands statuses.Done watched told old new = Appends old.written new.written (report (summary_of told) watched) × Hears stands old.watchers new.watchers told
-Says stands statuses.Usage watched told old new = ⊥
-Says stands (statuses.BadTrace line reason) watched told old new = ⊥
-Says stands statuses.ReadFault watched told old new = ⊥
-Says stands statuses.WriteFault watched told old new = AppendsSome old.written new.written (report (summary_of told) watched) × Hears stands old.watchers new.watchers told
-Says stands statuses.NoMemory watched told old new = (new.written ≡ old.written) × HearsSome stands old.watchers new.watchers told
+abbrev pub Says : {W : Type 0} → Seen W → Status → (watched : List ℕ) → List Entry → Outside W → Outside W → Type 0
+Says seen statuses.Done watched told old new = Appends old.written new.written (report (summary_of told) watched) × Hears seen old.watchers new.watchers told
+Says seen statuses.Usage watched told old new = ⊥
+Says seen (statuses.BadTrace line reason) watched told old new = ⊥
+Says seen statuses.ReadFault watched told old new = ⊥
+Says seen statuses.WriteFault watched told old new = AppendsSome old.written new.written (report (summary_of told) watched) × Hears seen old.watchers new.watchers told
+Says seen statuses.NoMemory watched told old new = (new.written ≡ old.written) × HearsSome seen old.watchers new.watchers told
 
 -- The lines of so many turns of a seed are a trace that is taken, and what is put out tells of its record.
-pub record Generates {W : Type 0} (stands : W → List Entry → Type 0) (status : Status) (seed turns : ℕ) (watched : List ℕ) (old new : Outside W) : Type 0 where
+pub record Generates {W : Type 0} (seen : Seen W) (status : Status) (seed turns : ℕ) (watched : List ℕ) (old new : Outside W) : Type 0 where
   pub taken : IsTaken (trace_of (generated seed turns))
-  pub says : Says stands status watched (entries_of (generated seed turns)) old new
+  pub says : Says seen status watched (entries_of (generated seed turns)) old new

@@ -3,7 +3,7 @@ use Rattle.std.specs.Prelude.{List, [], ◌++◌, ◌∷◌}
 use Rattle.wfe_outside.specs.defs.declared.command.Command.{Command}
 use Rattle.wfe_outside.specs.defs.Entry.{Entry}
 use Rattle.wfe_server_replay.specs.drive_cells.Unit.{TableView}
-use Rattle.wfe_server_out.specs.Heard.{Gains, Hears}
+use Rattle.wfe_server_out.specs.Heard.{Gains, Hears, Seen}
 use Rattle.wfe_server_out.specs.Pieces.{Piece, heard_of}
 use Rattle.wfe_server_replay.specs.Playing.{Played, played, played_out}
 use Rattle.wfe_server.specs.declared.summary.Summary.{Summary}
@@ -28,6 +28,6 @@ lines_told [] s = []
 lines_told (line ∷ lines) s = played_out line s ++ lines_told lines (played line s)
 
 -- each watcher was told all events, and they were counted
-pub record Tells {W : Type 0} (stands : W → List Entry → Type 0) (before after : List W) (old new : Summary) (out : List Piece) : Type 0 where
-  pub heard : Hears stands before after (heard_of out)
+pub record Tells {W : Type 0} (seen : Seen W) (before after : List W) (old new : Summary) (out : List Piece) : Type 0 where
+  pub heard : Hears seen before after (heard_of out)
   pub counted : Gains Counts old new (heard_of out)

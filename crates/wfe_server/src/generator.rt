@@ -1,6 +1,6 @@
 // A generated trace, from its seed to its summary.
 ghost use Rattle.std.specs.Prelude.{◌≡◌, ◌≤◌, IfOk, OnErr, OnOk};
-ghost use Rattle.wfe_server_out.specs.Heard.{Hears, HearsSome};
+ghost use Rattle.wfe_server_out.specs.Heard.{Hears, HearsSome, boxed};
 ghost use Rattle.wfe_server_out.specs.Pieces.{heard_of};
 ghost use Rattle.wfe_server_replay.specs.drive.Reached.{first_table};
 ghost use Rattle.wfe_server.specs.Summary.{summary_of};
@@ -30,8 +30,8 @@ fn summarize<E: Engine>(
 ) -> Result<Summary, NoMemory>
     ensures taken { IsTaken (trace_of (generated seed turns)) }
     ensures counted { IfOk result (λ summary. summary ≡ summary_of (entries_of (generated seed turns))) }
-    ensures heard { OnOk result (Hears stands watchers.old watchers.new (entries_of (generated seed turns))) }
-    ensures some { OnErr result (HearsSome stands watchers.old watchers.new (entries_of (generated seed turns))) }
+    ensures heard { OnOk result (Hears (boxed stands) watchers.old watchers.new (entries_of (generated seed turns))) }
+    ensures some { OnErr result (HearsSome (boxed stands) watchers.old watchers.new (entries_of (generated seed turns))) }
 {
     let mut table = Table::<E>::open(alloc)?;
     let mut sink = CountSink::new();
@@ -49,9 +49,9 @@ pub fn generate<E: Engine, K: Sink>(
     sink: &mut K,
     watchers: &mut Vec<Box<dyn Watcher>>,
 ) -> Status
-    ensures generates { Generates stands result seed turns (watch_text shown shows watchers.new.items) (outside (K.written sink.old) watchers.old.items) (outside (K.written sink.new) watchers.new.items) }
+    ensures generates { Generates (boxed stands) result seed turns (watch_text shown shows watchers.new.items) (outside (K.written sink.old) watchers.old.items) (outside (K.written sink.new) watchers.new.items) }
     ensures later { K.faults sink.old ≤ K.faults sink.new }
-    ensures cause { result ≡ Status.WriteFault → Rose (K.faults sink.old) (K.faults sink.new) }
+    ensures cause { result ≡ Status.WriteFault → Rose K.may_stand (K.faults sink.old) (K.faults sink.new) }
 {
     let Ok(summary) = summarize::<E>(alloc, seed, turns, watchers) else {
         return Status::NoMemory;

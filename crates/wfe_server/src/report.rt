@@ -39,7 +39,7 @@ fn put_count<K: Sink>(name: &[u8], number: u64, sink: &mut K) -> Result<(), Fail
     ensures wrote { OnOk result (Appends (K.written sink.old) (K.written sink.new) (count_line name.now number)) }
     ensures some { OnErr result (AppendsSome (K.written sink.old) (K.written sink.new) (count_line name.now number)) }
     ensures later { K.faults sink.old ≤ K.faults sink.new }
-    ensures cause { OnErr result (Rose (K.faults sink.old) (K.faults sink.new)) }
+    ensures cause { OnErr result (Rose K.may_stand (K.faults sink.old) (K.faults sink.new)) }
 {
     let mut line = Line::new();
     print_count(name, number, &mut line);
@@ -51,7 +51,7 @@ fn put_counts<K: Sink>(summary: &Summary, sink: &mut K) -> Result<(), Failed>
     ensures wrote { OnOk result (Appends (K.written sink.old) (K.written sink.new) (summary_lines summary.now)) }
     ensures some { OnErr result (AppendsSome (K.written sink.old) (K.written sink.new) (summary_lines summary.now)) }
     ensures later { K.faults sink.old ≤ K.faults sink.new }
-    ensures cause { OnErr result (Rose (K.faults sink.old) (K.faults sink.new)) }
+    ensures cause { OnErr result (Rose K.may_stand (K.faults sink.old) (K.faults sink.new)) }
 {
     for place in 0..10 {
         let (name, number) = count_at(summary, place);
@@ -69,7 +69,7 @@ pub fn put_report<K: Sink>(
     ensures wrote { OnOk result (Appends (K.written sink.old) (K.written sink.new) (report summary.now (watch_text shown shows watchers.now))) }
     ensures some { OnErr result (AppendsSome (K.written sink.old) (K.written sink.new) (report summary.now (watch_text shown shows watchers.now))) }
     ensures later { K.faults sink.old ≤ K.faults sink.new }
-    ensures cause { OnErr result (Rose (K.faults sink.old) (K.faults sink.new)) }
+    ensures cause { OnErr result (Rose K.may_stand (K.faults sink.old) (K.faults sink.new)) }
 {
     put_counts(summary, sink)?;
     put_watched(sink, watchers)?;

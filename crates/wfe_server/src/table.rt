@@ -6,7 +6,7 @@ ghost use Rattle.wfe_server.specs.Summary.{Counts};
 ghost use Rattle.wfe_server.specs.Tally.{Tells, bare, lines_made, lines_told};
 ghost use Rattle.wfe_server.specs.Turns.{commands_of, generated, setting, turn_commands};
 ghost use Rattle.wfe_server_replay.specs.Playing.{call_most, is_playing, opened, played, played_out, seats_out, seats_run, started, unit_made, unit_out, units_made, units_out};
-ghost use Rattle.wfe_server_out.specs.Heard.{Hears, HearsSome};
+ghost use Rattle.wfe_server_out.specs.Heard.{Hears, HearsSome, boxed};
 ghost use Rattle.wfe_server_out.specs.Pieces.{heard_of, told_pieces};
 ghost use Rattle.wfe_server_out.specs.Pieces.{Told as told_piece};
 
@@ -71,8 +71,8 @@ impl<E: Engine> Table<E> {
         requires busy { is_playing seat self.old.played ≡ true }
         ensures after { self.new.played ≡ unit_made self.old.played seat }
         ensures falls { units_left self.new.played.table seat < units_left self.old.played.table seat }
-        ensures ok { OnOk result (Tells stands watchers.old watchers.new self.old.summary self.new.summary (unit_out self.old.played seat)) }
-        ensures err { OnErr result (HearsSome stands watchers.old watchers.new (heard_of (unit_out self.old.played seat))) }
+        ensures ok { OnOk result (Tells (boxed stands) watchers.old watchers.new self.old.summary self.new.summary (unit_out self.old.played seat)) }
+        ensures err { OnErr result (HearsSome (boxed stands) watchers.old watchers.new (heard_of (unit_out self.old.played seat))) }
     {
         told.clear();
         let _ = self.engine.unit(seat, told);
@@ -90,8 +90,8 @@ impl<E: Engine> Table<E> {
         requires { seat < self.old.played.table.layout.config.seats }
         ensures after { OnOk result (self.new.played ≡ units_made call_most seat self.old.played) }
         ensures free { OnOk result (is_playing seat self.new.played ≡ false) }
-        ensures ok { OnOk result (Tells stands watchers.old watchers.new self.old.summary self.new.summary (units_out call_most seat self.old.played)) }
-        ensures err { OnErr result (HearsSome stands watchers.old watchers.new (heard_of (units_out call_most seat self.old.played))) }
+        ensures ok { OnOk result (Tells (boxed stands) watchers.old watchers.new self.old.summary self.new.summary (units_out call_most seat self.old.played)) }
+        ensures err { OnErr result (HearsSome (boxed stands) watchers.old watchers.new (heard_of (units_out call_most seat self.old.played))) }
     {
         let mut told = Told::new();
         while self.engine.busy(seat) {
@@ -110,8 +110,8 @@ impl<E: Engine> Table<E> {
     ) -> Result<(), Fault>
         requires { seat < self.old.played.table.layout.config.seats }
         ensures after { OnOk result (self.new.played ≡ units_made units seat self.old.played) }
-        ensures ok { OnOk result (Tells stands watchers.old watchers.new self.old.summary self.new.summary (units_out units seat self.old.played)) }
-        ensures err { OnErr result (HearsSome stands watchers.old watchers.new (heard_of (units_out units seat self.old.played))) }
+        ensures ok { OnOk result (Tells (boxed stands) watchers.old watchers.new self.old.summary self.new.summary (units_out units seat self.old.played)) }
+        ensures err { OnErr result (HearsSome (boxed stands) watchers.old watchers.new (heard_of (units_out units seat self.old.played))) }
     {
         let mut told = Told::new();
         for _ in 0..units {
@@ -134,8 +134,8 @@ impl<E: Engine> Table<E> {
         requires seat { seat < self.old.played.table.layout.config.seats }
         requires free { is_playing seat self.old.played ≡ false }
         ensures after { self.new.played ≡ started self.old.played seat call }
-        ensures ok { OnOk result (Tells stands watchers.old watchers.new self.old.summary self.new.summary (told_piece (entry seat (Event.Begin call)) ∷ [])) }
-        ensures err { OnErr result (HearsSome stands watchers.old watchers.new (heard_of (told_piece (entry seat (Event.Begin call)) ∷ []))) }
+        ensures ok { OnOk result (Tells (boxed stands) watchers.old watchers.new self.old.summary self.new.summary (told_piece (entry seat (Event.Begin call)) ∷ [])) }
+        ensures err { OnErr result (HearsSome (boxed stands) watchers.old watchers.new (heard_of (told_piece (entry seat (Event.Begin call)) ∷ []))) }
     {
         self.engine.start(seat, call);
         let event = Event::Begin { call };
@@ -153,8 +153,8 @@ impl<E: Engine> Table<E> {
     ) -> Result<(), Fault>
         requires { self.old.played.table.layout.config.seats ≡ 4 }
         ensures after { OnOk result (self.new.played ≡ lines_made (turn_commands a b) self.old.played) }
-        ensures ok { OnOk result (Tells stands watchers.old watchers.new self.old.summary self.new.summary (lines_told (turn_commands a b) self.old.played)) }
-        ensures err { OnErr result (HearsSome stands watchers.old watchers.new (heard_of (lines_told (turn_commands a b) self.old.played))) }
+        ensures ok { OnOk result (Tells (boxed stands) watchers.old watchers.new self.old.summary self.new.summary (lines_told (turn_commands a b) self.old.played)) }
+        ensures err { OnErr result (HearsSome (boxed stands) watchers.old watchers.new (heard_of (lines_told (turn_commands a b) self.old.played))) }
     {
         let turn = Turn::of(a, b);
         self.run(turn.seat, sink, watchers)?;
@@ -170,8 +170,8 @@ impl<E: Engine> Table<E> {
     ) -> Result<(), Fault>
         requires { self.old.played.table.layout.config.seats ≡ 4 }
         ensures after { OnOk result (self.new.played ≡ seats_run 4 self.old.played) }
-        ensures ok { OnOk result (Tells stands watchers.old watchers.new self.old.summary self.new.summary (seats_out 4 self.old.played)) }
-        ensures err { OnErr result (HearsSome stands watchers.old watchers.new (heard_of (seats_out 4 self.old.played))) }
+        ensures ok { OnOk result (Tells (boxed stands) watchers.old watchers.new self.old.summary self.new.summary (seats_out 4 self.old.played)) }
+        ensures err { OnErr result (HearsSome (boxed stands) watchers.old watchers.new (heard_of (seats_out 4 self.old.played))) }
     {
         for seat in 0..4 {
             self.run(seat, sink, watchers)?;
@@ -188,8 +188,8 @@ impl<E: Engine> Table<E> {
         watchers: &mut [Box<dyn Watcher>],
     ) -> Result<(), Fault>
         requires { self.old.played.table.layout.config.seats ≡ 4 }
-        ensures ok { OnOk result (Tells stands watchers.old watchers.new self.old.summary self.new.summary (lines_told (generated seed turns) self.old.played)) }
-        ensures err { OnErr result (HearsSome stands watchers.old watchers.new (heard_of (lines_told (generated seed turns) self.old.played))) }
+        ensures ok { OnOk result (Tells (boxed stands) watchers.old watchers.new self.old.summary self.new.summary (lines_told (generated seed turns) self.old.played)) }
+        ensures err { OnErr result (HearsSome (boxed stands) watchers.old watchers.new (heard_of (lines_told (generated seed turns) self.old.played))) }
     {
         let mut words = Lcg64Xsh32::new(seed, 0);
         for _ in 0..turns {

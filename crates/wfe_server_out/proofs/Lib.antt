@@ -1,3 +1,4 @@
+pub mod Boxes
 pub mod Hearing
 pub mod Puts
 pub mod Stops

@@ -3,8 +3,8 @@ ghost use Rattle.std.specs.Prelude.{◌≡◌, ◌≤◌, ◌<◌, [], ◌∷◌
 ghost use Rattle.std.specs.Io.KnownBytes.{Appends, Keeps};
 ghost use Rattle.wfe_outside.specs.defs.Entry.{entry};
 ghost use Rattle.wfe_outside.specs.Faults.{Rose};
-ghost use Rattle.wfe_outside.specs.Watched.{Grows, Stays};
-ghost use Rattle.wfe_server_out.specs.Heard.{Hears, HearsSome};
+ghost use Rattle.wfe_outside.specs.Watched.{Grows};
+ghost use Rattle.wfe_server_out.specs.Heard.{Hears, HearsSome, boxed};
 ghost use Rattle.wfe_server_out.specs.Pieces.{Told as told_piece, text_of, told_pieces};
 ghost use Rattle.wfe_server_out.specs.Some.{AppendsSome};
 ghost use Rattle.wfe_server_out.specs.PutOut.{PutsOut, PutsSome, FailsToWrite, FailsToTell};
@@ -18,7 +18,8 @@ use wfe_trace::{Line, print_event};
 // Tells one watcher.
 fn tell_one(watcher: &mut Box<dyn Watcher>, seat: u32, event: &Event) -> Result<(), NoMemory>
     ensures ok { OnOk result (Grows stands watcher.old watcher.new (entry seat event.now)) }
-    ensures err { OnErr result (Stays stands watcher.old watcher.new) }
+    ensures err { OnErr result (watcher.new ≡ watcher.old) }
+    ensures place { watcher.new.ptr ≡ watcher.old.ptr }
 {
     watcher.note(seat, event)
 }
@@ -29,8 +30,8 @@ fn tell_watchers(
     seat: u32,
     event: &Event,
 ) -> Result<(), NoMemory>
-    ensures ok { OnOk result (Hears stands watchers.old watchers.new (entry seat event.now ∷ [])) }
-    ensures some { HearsSome stands watchers.old watchers.new (entry seat event.now ∷ []) }
+    ensures ok { OnOk result (Hears (boxed stands) watchers.old watchers.new (entry seat event.now ∷ [])) }
+    ensures some { HearsSome (boxed stands) watchers.old watchers.new (entry seat event.now ∷ []) }
     ensures needs_a_watcher { OnErr result (0 < length watchers.old) }
 {
     for watcher in watchers.iter_mut() {
@@ -44,7 +45,7 @@ fn put_event<K: Sink>(sink: &mut K, seat: u32, event: &Event) -> Result<(), Fail
     ensures wrote { OnOk result (Appends (K.written sink.old) (K.written sink.new) (text_of (told_piece (entry seat event.now) ∷ []))) }
     ensures some { OnErr result (AppendsSome (K.written sink.old) (K.written sink.new) (text_of (told_piece (entry seat event.now) ∷ []))) }
     ensures later { K.faults sink.old ≤ K.faults sink.new }
-    ensures cause { OnErr result (Rose (K.faults sink.old) (K.faults sink.new)) }
+    ensures cause { OnErr result (Rose K.may_stand (K.faults sink.old) (K.faults sink.new)) }
 {
     let mut line = Line::new();
     print_event(seat, event, &mut line);
@@ -59,11 +60,11 @@ pub fn tell<K: Sink>(
     seat: u32,
     event: &Event,
 ) -> Result<(), Fault>
-    ensures put { OnOk result (PutsOut stands (K.written sink.old) (K.written sink.new) watchers.old watchers.new (told_piece (entry seat event.now) ∷ [])) }
-    ensures some { OnErr result (PutsSome stands (K.written sink.old) (K.written sink.new) watchers.old watchers.new (told_piece (entry seat event.now) ∷ [])) }
+    ensures put { OnOk result (PutsOut (boxed stands) (K.written sink.old) (K.written sink.new) watchers.old watchers.new (told_piece (entry seat event.now) ∷ [])) }
+    ensures some { OnErr result (PutsSome (boxed stands) (K.written sink.old) (K.written sink.new) watchers.old watchers.new (told_piece (entry seat event.now) ∷ [])) }
     ensures later { K.faults sink.old ≤ K.faults sink.new }
-    ensures cause { IfErr result (λ fault. fault ≡ Fault.Write → Rose (K.faults sink.old) (K.faults sink.new)) }
-    ensures heard_before { IfErr result (λ fault. fault ≡ Fault.Write → Hears stands watchers.old watchers.new (entry seat event.now ∷ [])) }
+    ensures cause { IfErr result (λ fault. fault ≡ Fault.Write → Rose K.may_stand (K.faults sink.old) (K.faults sink.new)) }
+    ensures heard_before { IfErr result (λ fault. fault ≡ Fault.Write → Hears (boxed stands) watchers.old watchers.new (entry seat event.now ∷ [])) }
     ensures unwritten { IfErr result (λ fault. fault ≡ Fault.Memory → Keeps (K.written sink.old) (K.written sink.new)) }
     ensures needs_a_watcher { IfErr result (λ fault. fault ≡ Fault.Memory → 0 < length watchers.old) }
 {
@@ -79,12 +80,12 @@ pub fn tell_all<K: Sink>(
     seat: u32,
     told: &Told,
 ) -> Result<(), Fault>
-    ensures put { OnOk result (PutsOut stands (K.written sink.old) (K.written sink.new) watchers.old watchers.new (told_pieces seat told.now)) }
-    ensures some { OnErr result (PutsSome stands (K.written sink.old) (K.written sink.new) watchers.old watchers.new (told_pieces seat told.now)) }
+    ensures put { OnOk result (PutsOut (boxed stands) (K.written sink.old) (K.written sink.new) watchers.old watchers.new (told_pieces seat told.now)) }
+    ensures some { OnErr result (PutsSome (boxed stands) (K.written sink.old) (K.written sink.new) watchers.old watchers.new (told_pieces seat told.now)) }
     ensures later { K.faults sink.old ≤ K.faults sink.new }
-    ensures cause { IfErr result (λ fault. fault ≡ Fault.Write → Rose (K.faults sink.old) (K.faults sink.new)) }
-    ensures heard_before { IfErr result (λ fault. fault ≡ Fault.Write → FailsToWrite stands (K.written sink.old) (K.written sink.new) watchers.old watchers.new (told_pieces seat told.now)) }
-    ensures unwritten { IfErr result (λ fault. fault ≡ Fault.Memory → FailsToTell stands (K.written sink.old) (K.written sink.new) watchers.old watchers.new (told_pieces seat told.now)) }
+    ensures cause { IfErr result (λ fault. fault ≡ Fault.Write → Rose K.may_stand (K.faults sink.old) (K.faults sink.new)) }
+    ensures heard_before { IfErr result (λ fault. fault ≡ Fault.Write → FailsToWrite (boxed stands) (K.written sink.old) (K.written sink.new) watchers.old watchers.new (told_pieces seat told.now)) }
+    ensures unwritten { IfErr result (λ fault. fault ≡ Fault.Memory → FailsToTell (boxed stands) (K.written sink.old) (K.written sink.new) watchers.old watchers.new (told_pieces seat told.now)) }
     ensures needs_a_watcher { IfErr result (λ fault. fault ≡ Fault.Memory → 0 < length watchers.old) }
 {
     for place in 0..told.len() {

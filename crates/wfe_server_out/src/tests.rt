@@ -4,6 +4,7 @@ ghost use Rattle.std.specs.Prelude.{◌≡◌, length, slice_index_or};
 ghost use Rattle.wfe_outside.specs.declared.watcher.WatchRow.{WatchRow};
 
 use crate::{Fault, put_line, tell, tell_all, write_all};
+use std::marker::Model;
 use std::process::Abort;
 use std::test::Fail;
 use wfe_core::Told;
@@ -17,12 +18,21 @@ struct Keeper {
     room: usize,
 }
 
+impl Model for Keeper {
+    ghost use Rattle.std.specs.Prelude.{List};
+    ghost use Rattle.wfe_outside.specs.declared.watcher.WatchRow.{WatchRow};
+
+    ghost Value = { List WatchRow };
+
+    ghost view = { λ k. k.rows.items };
+}
+
 impl Watcher for Keeper {
-    ghost stands = { λ w told. length w.rows.items ≡ length told };
+    ghost stands = { λ rows told. length rows ≡ length told };
 
-    ghost shown = { λ w. length w.rows.items };
+    ghost shown = { λ rows. length rows };
 
-    ghost shows = { λ w k. slice_index_or w.rows.items k (record { a = 0; b = 0; c = 0 }) };
+    ghost shows = { λ rows k. slice_index_or rows k (record { a = 0; b = 0; c = 0 }) };
 
     fn note(&mut self, seat: u32, event: &Event) -> Result<(), NoMemory> {
         if self.rows.len() >= self.room {
@@ -59,11 +69,13 @@ struct Drip {
 }
 
 impl Sink for Drip {
-    ghost use Rattle.std.specs.Prelude.{Some};
+    ghost use Rattle.std.specs.Prelude.{Some, true};
 
     ghost written = { λ s. Some s.inner.written };
 
     ghost faults = { λ s. s.inner.faults };
+
+    ghost may_stand = { true };
 
     fn write(&mut self, piece: &[u8]) -> Result<usize, Failed> {
         if piece.is_empty() {

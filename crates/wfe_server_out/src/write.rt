@@ -12,7 +12,7 @@ pub fn write_all<K: Sink>(sink: &mut K, piece: &[u8]) -> Result<(), Failed>
     ensures wrote { OnOk result (Appends (K.written sink.old) (K.written sink.new) piece.now) }
     ensures some { OnErr result (AppendsSome (K.written sink.old) (K.written sink.new) piece.now) }
     ensures later { K.faults sink.old ≤ K.faults sink.new }
-    ensures cause { OnErr result (Rose (K.faults sink.old) (K.faults sink.new)) }
+    ensures cause { OnErr result (Rose K.may_stand (K.faults sink.old) (K.faults sink.new)) }
 {
     let mut rest = piece;
     while !rest.is_empty() {
@@ -27,7 +27,7 @@ pub fn put_line<K: Sink>(sink: &mut K, line: &Line) -> Result<(), Failed>
     ensures wrote { OnOk result (Appends (K.written sink.old) (K.written sink.new) line.now) }
     ensures some { OnErr result (AppendsSome (K.written sink.old) (K.written sink.new) line.now) }
     ensures later { K.faults sink.old ≤ K.faults sink.new }
-    ensures cause { OnErr result (Rose (K.faults sink.old) (K.faults sink.new)) }
+    ensures cause { OnErr result (Rose K.may_stand (K.faults sink.old) (K.faults sink.new)) }
 {
     write_all(sink, line.bytes())
 }

@@ -1,7 +1,7 @@
 -- The status of a run says what it owes, however the run ended.
+use Rattle.wfe_server_out.specs.Heard.{Seen}
 use Rattle.std.proofs.Common.{ℕ, ◌≡◌, inl, inr, List, [], ◌++◌, ◌∷◌, Option, Ok, Err, sym, ap, ◌∙◌, subst, append-nil, codes}
 use Rattle.std.specs.Io.KnownBytes.{IsAtEnd}
-use Rattle.wfe_outside.specs.defs.Entry.{Entry}
 use Rattle.wfe_server_out.specs.Pieces.{Piece, Text}
 use Rattle.wfe_server_out.specs.declared.fault.Fault.TheVariants as faults
 use Rattle.wfe_trace.specs.declared.item.Mode.TheVariants as modes
@@ -13,10 +13,11 @@ use Rattle.wfe_server_replay.specs.declared.stop.Stop.{Stop}
 use Rattle.wfe_server_replay.specs.declared.stop.Stop.TheVariants as stops
 use Rattle.wfe_server_replay.specs.Playing.{Played, player}
 use Rattle.wfe_server_replay.specs.Ends.{Closes, StopCloses}
-use Rattle.wfe_server_replay.specs.Run.{PlayerSays}
+use Rattle.wfe_server_replay.specs.Run.{PlayerFound, PlayerSays, PlayerStops}
 use Rattle.wfe_server_replay.specs.Sunk.{Outside, Puts, PutsPart, StopsAt}
-use Rattle.wfe_server_replay.specs.Trace.{Progress, progress_start, after_bytes, bytes_output, closing, last_output, finished, trace_output, output_of, ◌>>=◌}
-use Rattle.wfe_server_replay.proofs.Outs.{part_first, part_then, puts_trans}
+use Rattle.wfe_server_replay.specs.Trace.{Progress, progress_start, after_bytes, after_trace, bytes_output, closing, last_output, finished, lines_output, trace_output, output_of, ◌>>=◌}
+use Rattle.wfe_server_replay.proofs.Outs.{part_then, puts_trans}
+use Rattle.wfe_server_replay.proofs.Stopped.{closing_quiet, stops_after}
 
 -- what the bytes of a trace put out
 abbrev printed : List ℕ → List Piece
@@ -34,67 +35,83 @@ output-bad watched taken bad found =
     ap (λ r. (printed taken ++ output_of (last_output player) r) ++ closing watched (r >>= finished player)) found
     ∙ ap (λ (t : List Piece). t ++ Text (bad_text bad.line bad.reason) ∷ []) (append-nil (printed taken))
 
--- a part of what the bytes put out is a part of the whole
-some-of-whole : {W : Type 0} (stands : W → List Entry → Type 0) (watched taken : List ℕ) (old new : Outside W) → PutsPart stands old new (printed taken) → PutsPart stands old new (trace_output player modes.Replay watched taken)
-some-of-whole stands watched taken old new part = part_first stands old new _ _ (part_first stands old new (printed taken) _ part)
+-- the lines of the trace, where its bytes are good, and where one is bad
+lines-good : (taken : List ℕ) (p : Progress Played) → after_bytes player (Ok (progress_start modes.Replay)) taken ≡ Ok p → lines_output player modes.Replay taken ≡ printed taken ++ last_output player p
+lines-good taken p good = ap (λ r. printed taken ++ output_of (last_output player) r) good
+
+lines-bad : (taken : List ℕ) (bad : BadLine) → after_bytes player (Ok (progress_start modes.Replay)) taken ≡ Err bad → lines_output player modes.Replay taken ≡ printed taken
+lines-bad taken bad found = ap (λ r. printed taken ++ output_of (last_output player) r) found ∙ append-nil (printed taken)
+
+-- all lines were put out, and a write failed in those after them
+stops-after : {W : Type 0} (seen : Seen W) (watched taken : List ℕ) (lines last : List Piece) (left : Option (List ℕ)) (old mid new : Outside W) → PlayerFound taken left → lines_output player modes.Replay taken ≡ lines → Puts seen old mid lines →
+    closing watched (after_trace player modes.Replay taken) ≡ last → PutsPart seen mid new last → PlayerStops seen watched taken left old new
+stops-after seen watched taken lines last left old mid new found e put f part =
+    inr (inr (stops_after seen (PlayerFound taken left) (lines_output player modes.Replay taken) (closing watched (after_trace player modes.Replay taken)) old mid new found
+    (subst (Puts seen old mid) (sym e) put) (closing_quiet watched (after_trace player modes.Replay taken)) (subst (PutsPart seen mid new) (sym f) part)))
 
 -- a byte is bad, or a fault came
-pub says-stopped : {W : Type 0} (stands : W → List Entry → Type 0) (stop : Stop) (result : Status) (watched taken : List ℕ) (left : Option (List ℕ)) (old mid new : Outside W) →
-    StopsAt stands stop (after_bytes player (Ok (progress_start modes.Replay)) taken) old mid (printed taken) → StopCloses stands stop result mid new → PlayerSays stands result watched taken left old new
-says-stopped stands (stops.Bad bad) result watched taken left old mid new (found, put) (inl (status, more)) =
-    subst (λ r. PlayerSays stands r watched taken left old new) (sym status) (
+pub says-stopped : {W : Type 0} (seen : Seen W) (stop : Stop) (result : Status) (watched taken : List ℕ) (left : Option (List ℕ)) (old mid new : Outside W) →
+    StopsAt seen stop (after_bytes player (Ok (progress_start modes.Replay)) taken) old mid (printed taken) → StopCloses seen stop result mid new → PlayerSays seen result watched taken left old new
+says-stopped seen (stops.Bad bad) result watched taken left old mid new (found, put) (inl (status, more)) =
+    subst (λ r. PlayerSays seen r watched taken left old new) (sym status) (
       ap (λ r. r >>= finished player) found,
       inl found,
-      subst (Puts stands old new) (sym (output-bad watched taken bad found)) (puts_trans stands old mid new _ _ put more),
+      subst (Puts seen old new) (sym (output-bad watched taken bad found)) (puts_trans seen old mid new _ _ put more),
     )
-says-stopped stands (stops.Bad bad) result watched taken left old mid new (found, put) (inr (status, part)) =
-    subst (λ r. PlayerSays stands r watched taken left old new) (sym status)
-    (subst (PutsPart stands old new) (sym (output-bad watched taken bad found)) (part_then stands old mid new _ _ put part))
-says-stopped stands (stops.Fault faults.Write) result watched taken left old mid new part (status, same) =
-    subst (λ r. PlayerSays stands r watched taken left old new) (sym status) (some-of-whole stands watched taken old new (subst (λ t. PutsPart stands old t (printed taken)) (sym same) part))
-says-stopped stands (stops.Fault faults.Memory) result watched taken left old mid new part (status, same) =
-    subst (λ r. PlayerSays stands r watched taken left old new) (sym status) (some-of-whole stands watched taken old new (subst (λ t. PutsPart stands old t (printed taken)) (sym same) part))
+says-stopped seen (stops.Bad bad) result watched taken left old mid new (found, put) (inr (status, part)) =
+    subst (λ r. PlayerSays seen r watched taken left old new) (sym status)
+    (stops-after seen watched taken (printed taken) (Text (bad_text bad.line bad.reason) ∷ []) left old mid new (inl (bad, found)) (lines-bad taken bad found) put (ap (λ r. closing watched (r >>= finished player)) found) part)
+says-stopped seen (stops.Fault faults.Write) result watched taken left old mid new part (status, same) =
+    subst (λ r. PlayerSays seen r watched taken left old new) (sym status) (inl (subst (λ t. PutsPart seen old t (printed taken)) (sym same) part))
+says-stopped seen (stops.Fault faults.Memory) result watched taken left old mid new part (status, same) =
+    subst (λ r. PlayerSays seen r watched taken left old new) (sym status) (inl (subst (λ t. PutsPart seen old t (printed taken)) (sym same) part))
 
 -- the input ended, and all of it is good
-pub says-done : {W : Type 0} (stands : W → List Entry → Type 0) (result : Status) (watched taken : List ℕ) (p q : Progress Played) (left : Option (List ℕ)) (old mid last new : Outside W) →
-    after_bytes player (Ok (progress_start modes.Replay)) taken ≡ Ok p → Puts stands old mid (printed taken) → IsAtEnd left →
-    finished player p ≡ Ok q → Puts stands mid last (last_output player p) → Closes stands result statuses.Done last new (Text watched ∷ Text (codes "done\n") ∷ []) → PlayerSays stands result watched taken left old new
-says-done stands result watched taken p q left old mid last new good put end_ whole more (inl (status, closed)) =
-    subst (λ r. PlayerSays stands r watched taken left old new) (sym status) (
+pub says-done : {W : Type 0} (seen : Seen W) (result : Status) (watched taken : List ℕ) (p q : Progress Played) (left : Option (List ℕ)) (old mid last new : Outside W) →
+    after_bytes player (Ok (progress_start modes.Replay)) taken ≡ Ok p → Puts seen old mid (printed taken) → IsAtEnd left →
+    finished player p ≡ Ok q → Puts seen mid last (last_output player p) → Closes seen result statuses.Done last new (Text watched ∷ Text (codes "done\n") ∷ []) → PlayerSays seen result watched taken left old new
+says-done seen result watched taken p q left old mid last new good put end_ whole more (inl (status, closed)) =
+    subst (λ r. PlayerSays seen r watched taken left old new) (sym status) (
       q,
       ap (λ r. r >>= finished player) good ∙ whole,
       end_,
-      subst (Puts stands old new) (sym (output-good watched taken p good ∙ ap (λ r. (printed taken ++ last_output player p) ++ closing watched r) whole))
-          (puts_trans stands old last new _ _ (puts_trans stands old mid last _ _ put more) closed),
+      subst (Puts seen old new) (sym (output-good watched taken p good ∙ ap (λ r. (printed taken ++ last_output player p) ++ closing watched r) whole))
+          (puts_trans seen old last new _ _ (puts_trans seen old mid last _ _ put more) closed),
     )
-says-done stands result watched taken p q left old mid last new good put end_ whole more (inr (status, part)) =
-    subst (λ r. PlayerSays stands r watched taken left old new) (sym status)
-    (subst (PutsPart stands old new) (sym (output-good watched taken p good ∙ ap (λ r. (printed taken ++ last_output player p) ++ closing watched r) whole))
-    (part_then stands old last new _ _ (puts_trans stands old mid last _ _ put more) part))
+says-done seen result watched taken p q left old mid last new good put end_ whole more (inr (status, part)) =
+    subst (λ r. PlayerSays seen r watched taken left old new) (sym status)
+    (stops-after seen watched taken (printed taken ++ last_output player p) (Text watched ∷ Text (codes "done\n") ∷ []) left old last new (inr end_) (lines-good taken p good) (puts_trans seen old mid last _ _ put more)
+    (ap (λ r. closing watched (r >>= finished player)) good ∙ ap (closing watched) whole) part)
 
 -- the input ended, and its last line or its end is bad, or a fault came
-pub says-last : {W : Type 0} (stands : W → List Entry → Type 0) (stop : Stop) (result : Status) (watched taken : List ℕ) (p : Progress Played) (left : Option (List ℕ)) (old mid last new : Outside W) →
-    after_bytes player (Ok (progress_start modes.Replay)) taken ≡ Ok p → Puts stands old mid (printed taken) → IsAtEnd left →
-    StopsAt stands stop (finished player p) mid last (last_output player p) → StopCloses stands stop result last new → PlayerSays stands result watched taken left old new
-says-last stands (stops.Bad bad) result watched taken p left old mid last new good put end_ (found, more) (inl (status, closed)) =
-    subst (λ r. PlayerSays stands r watched taken left old new) (sym status) (
+pub says-last : {W : Type 0} (seen : Seen W) (stop : Stop) (result : Status) (watched taken : List ℕ) (p : Progress Played) (left : Option (List ℕ)) (old mid last new : Outside W) →
+    after_bytes player (Ok (progress_start modes.Replay)) taken ≡ Ok p → Puts seen old mid (printed taken) → IsAtEnd left →
+    StopsAt seen stop (finished player p) mid last (last_output player p) → StopCloses seen stop result last new → PlayerSays seen result watched taken left old new
+says-last seen (stops.Bad bad) result watched taken p left old mid last new good put end_ (found, more) (inl (status, closed)) =
+    subst (λ r. PlayerSays seen r watched taken left old new) (sym status) (
       ap (λ r. r >>= finished player) good ∙ found,
       inr end_,
-      subst (Puts stands old new) (sym (output-good watched taken p good ∙ ap (λ r. (printed taken ++ last_output player p) ++ closing watched r) found))
-          (puts_trans stands old last new _ _ (puts_trans stands old mid last _ _ put more) closed),
+      subst (Puts seen old new) (sym (output-good watched taken p good ∙ ap (λ r. (printed taken ++ last_output player p) ++ closing watched r) found))
+          (puts_trans seen old last new _ _ (puts_trans seen old mid last _ _ put more) closed),
     )
-says-last stands (stops.Bad bad) result watched taken p left old mid last new good put end_ (found, more) (inr (status, part)) =
-    subst (λ r. PlayerSays stands r watched taken left old new) (sym status)
-    (subst (PutsPart stands old new) (sym (output-good watched taken p good ∙ ap (λ r. (printed taken ++ last_output player p) ++ closing watched r) found))
-    (part_then stands old last new _ _ (puts_trans stands old mid last _ _ put more) part))
-says-last stands (stops.Fault faults.Write) result watched taken p left old mid last new good put end_ part (status, same) =
-    subst (λ r. PlayerSays stands r watched taken left old new) (sym status) (subst (λ t. PutsPart stands old t (trace_output player modes.Replay watched taken)) (sym same)
-    (subst (PutsPart stands old last) (sym (output-good watched taken p good)) (part_first stands old last _ _ (part_then stands old mid last _ _ put part))))
-says-last stands (stops.Fault faults.Memory) result watched taken p left old mid last new good put end_ part (status, same) =
-    subst (λ r. PlayerSays stands r watched taken left old new) (sym status) (subst (λ t. PutsPart stands old t (trace_output player modes.Replay watched taken)) (sym same)
-    (subst (PutsPart stands old last) (sym (output-good watched taken p good)) (part_first stands old last _ _ (part_then stands old mid last _ _ put part))))
+says-last seen (stops.Bad bad) result watched taken p left old mid last new good put end_ (found, more) (inr (status, part)) =
+    subst (λ r. PlayerSays seen r watched taken left old new) (sym status)
+    (stops-after seen watched taken (printed taken ++ last_output player p) (Text (bad_text bad.line bad.reason) ∷ []) left old last new (inr end_) (lines-good taken p good) (puts_trans seen old mid last _ _ put more)
+    (ap (λ r. closing watched (r >>= finished player)) good ∙ ap (closing watched) found) part)
+says-last seen (stops.Fault faults.Write) result watched taken p left old mid last new good put end_ part (status, same) =
+    subst (λ r. PlayerSays seen r watched taken left old new) (sym status) (inr (inl (
+      end_,
+      subst (λ t. PutsPart seen old t (lines_output player modes.Replay taken)) (sym same)
+          (subst (PutsPart seen old last) (sym (lines-good taken p good)) (part_then seen old mid last _ _ put part)),
+    )))
+says-last seen (stops.Fault faults.Memory) result watched taken p left old mid last new good put end_ part (status, same) =
+    subst (λ r. PlayerSays seen r watched taken left old new) (sym status) (inr (inl (
+      end_,
+      subst (λ t. PutsPart seen old t (lines_output player modes.Replay taken)) (sym same)
+          (subst (PutsPart seen old last) (sym (lines-good taken p good)) (part_then seen old mid last _ _ put part)),
+    )))
 
 -- lines before the last ones
-pub closes_after : {W : Type 0} (stands : W → List Entry → Type 0) (result status : Status) (old mid new : Outside W) (xs ys : List Piece) → Puts stands old mid xs → Closes stands result status mid new ys → Closes stands result status old new (xs ++ ys)
-closes_after stands result status old mid new xs ys p (inl (is, q)) = inl (is, puts_trans stands old mid new xs ys p q)
-closes_after stands result status old mid new xs ys p (inr (is, q)) = inr (is, part_then stands old mid new xs ys p q)
+pub closes_after : {W : Type 0} (seen : Seen W) (result status : Status) (old mid new : Outside W) (xs ys : List Piece) → Puts seen old mid xs → Closes seen result status mid new ys → Closes seen result status old new (xs ++ ys)
+closes_after seen result status old mid new xs ys p (inl (is, q)) = inl (is, puts_trans seen old mid new xs ys p q)
+closes_after seen result status old mid new xs ys p (inr (is, q)) = inr (is, part_then seen old mid new xs ys p q)

@@ -29,7 +29,7 @@ pub last-mapped : (r : Result (Progress Given) BadLine) → SoundIn r → output
 last-mapped (Ok p) s = (last-line p s).output
 last-mapped (Err bad) s = refl
 
-closing-mapped : (watched : List ℕ) (r : Result (Progress Given) BadLine) → closing watched (mapped_result r) ≡ closing watched r
+pub closing-mapped : (watched : List ℕ) (r : Result (Progress Given) BadLine) → closing watched (mapped_result r) ≡ closing watched r
 closing-mapped watched (Ok p) = refl
 closing-mapped watched (Err bad) = refl
 

@@ -1,7 +1,6 @@
 -- Items after items, and steps of a seat that has no call under way.
-use Rattle.std.proofs.Common.{Bool, List, [], ap, append_assoc, arith, false, refl, suc, sym, true, zero, ℕ, ◌++◌, ◌<◌, ◌∙◌, ◌≡◌, ◌∷◌}
-use Rattle.std.proofs.lemmas.Bool.Decides.{nat_tests}
-use Rattle.std.specs.Prelude.{nat_lt, not, ◌&&◌}
+use Rattle.std.proofs.Common.{Bool, List, [], ap, append_assoc, false, refl, suc, sym, true, zero, ℕ, ◌++◌, ◌<◌, ◌∙◌, ◌≡◌, ◌∷◌}
+use Rattle.std.specs.Prelude.{nat_lt}
 use Rattle.wfe_core.specs.World.{World, is_busy}
 use Rattle.wfe_outside.specs.defs.declared.call.Call.{Call}
 use Rattle.wfe_drive.specs.history.History.{Begins, Item, Made, Steps, did, done_if, fits, made_from, times}

@@ -1,40 +1,42 @@
 -- What pieces of work put out one after the other, between two states of the outside.
-use Rattle.std.proofs.Common.{List, [], ap, refl, subst, sym, ◌++◌, ◌∙◌, ◌≡◌, ◌∷◌}
-use Rattle.std.specs.Prelude.{Ok, Option, Result, ℕ}
+use Rattle.wfe_server_out.specs.Heard.{Seen}
+use Rattle.std.proofs.Common.{Bool, List, [], ap, false, if◌then◌else◌, length, refl, subst, sym, ◌++◌, ◌==◌, ◌∙◌, ◌≡◌, ◌∷◌}
+use Rattle.std.specs.Prelude.{None, Ok, Option, Result, ℕ}
 use Rattle.wfe_trace.specs.declared.item.Item.{Item}
 use Rattle.wfe_trace.specs.declared.item.Item.TheVariants as items
 use Rattle.wfe_trace.specs.declared.reason.BadLine.{BadLine}
-use Rattle.wfe_server_out.specs.PutOut.{PutsSome}
+use Rattle.wfe_trace.specs.declared.reason.Reason.{Reason}
+use Rattle.wfe_server_replay.specs.declared.stop.Stop.{Stop}
+use Rattle.wfe_server_out.specs.PutOut.{PutsOut, PutsSome}
 use Rattle.wfe_server_replay.specs.Playing.{Played, player}
-use Rattle.wfe_server_replay.specs.Trace.{Progress, line_item, line_out, line_output, line_read, out_by}
+use Rattle.wfe_server_replay.specs.Trace.{Progress, after_byte, after_good_byte, after_last, after_line, byte_output, byte_refused, counted, good_byte_output, item_taken, last_output, line_item, line_out, line_output, line_read, line_taken, out_by}
 use Rattle.std.specs.Io.KnownBytes.{Appends}
-use Rattle.wfe_outside.specs.defs.Entry.{Entry}
 use Rattle.wfe_server_out.specs.Pieces.{Piece, Text}
 use Rattle.wfe_server_out.specs.Some.{AppendsSome}
 use Rattle.wfe_server_out.proofs.Puts.{puts_along, puts_none, puts_some_more, puts_text, puts_text_some, puts_then_some}
-use Rattle.wfe_server_replay.specs.Sunk.{Outside, Puts, PutsPart, outside}
+use Rattle.wfe_server_replay.specs.Sunk.{Outside, Puts, PutsPart, Took, outside}
 
-pub puts_nil : {W : Type 0} (stands : W → List Entry → Type 0) (a : Outside W) → Puts stands a a []
-puts_nil stands a = puts_none stands a.written a.watchers
+pub puts_nil : {W : Type 0} (seen : Seen W) (a : Outside W) → Puts seen a a []
+puts_nil seen a = puts_none seen a.written a.watchers
 
-pub puts_trans : {W : Type 0} (stands : W → List Entry → Type 0) (a b c : Outside W) (xs ys : List Piece) → Puts stands a b xs → Puts stands b c ys → Puts stands a c (xs ++ ys)
-puts_trans stands a b c xs ys p q = puts_along stands a.written b.written c.written a.watchers b.watchers c.watchers xs ys p q
+pub puts_trans : {W : Type 0} (seen : Seen W) (a b c : Outside W) (xs ys : List Piece) → Puts seen a b xs → Puts seen b c ys → Puts seen a c (xs ++ ys)
+puts_trans seen a b c xs ys p q = puts_along seen a.written b.written c.written a.watchers b.watchers c.watchers xs ys p q
 
-pub part_then : {W : Type 0} (stands : W → List Entry → Type 0) (a b c : Outside W) (xs ys : List Piece) → Puts stands a b xs → PutsPart stands b c ys → PutsPart stands a c (xs ++ ys)
-part_then stands a b c xs ys p q = puts_then_some stands a.written b.written c.written a.watchers b.watchers c.watchers xs ys p q
+pub part_then : {W : Type 0} (seen : Seen W) (a b c : Outside W) (xs ys : List Piece) → Puts seen a b xs → PutsPart seen b c ys → PutsPart seen a c (xs ++ ys)
+part_then seen a b c xs ys p q = puts_then_some seen a.written b.written c.written a.watchers b.watchers c.watchers xs ys p q
 
-pub part_first : {W : Type 0} (stands : W → List Entry → Type 0) (a b : Outside W) (xs ys : List Piece) → PutsPart stands a b xs → PutsPart stands a b (xs ++ ys)
-part_first stands a b xs ys p = puts_some_more stands a.written b.written a.watchers b.watchers xs ys p
+pub part_first : {W : Type 0} (seen : Seen W) (a b : Outside W) (xs ys : List Piece) → PutsPart seen a b xs → PutsPart seen a b (xs ++ ys)
+part_first seen a b xs ys p = puts_some_more seen a.written b.written a.watchers b.watchers xs ys p
 
 -- a line that tells of no event
-pub puts_line : {W : Type 0} (stands : W → List Entry → Type 0) (old new : Option (List ℕ)) (ws : List W) (bytes : List ℕ) → Appends old new bytes → Puts stands (outside old ws) (outside new ws) (Text bytes ∷ [])
-puts_line stands old new ws bytes wrote = puts_text stands old new ws bytes wrote
+pub puts_line : {W : Type 0} (seen : Seen W) (old new : Option (List ℕ)) (ws : List W) (bytes : List ℕ) → Appends old new bytes → Puts seen (outside old ws) (outside new ws) (Text bytes ∷ [])
+puts_line seen old new ws bytes wrote = puts_text seen old new ws bytes wrote
 
-pub part_line : {W : Type 0} (stands : W → List Entry → Type 0) (old new : Option (List ℕ)) (ws : List W) (bytes : List ℕ) → AppendsSome old new bytes → PutsPart stands (outside old ws) (outside new ws) (Text bytes ∷ [])
-part_line stands old new ws bytes some = puts_text_some stands old new ws bytes some
+pub part_line : {W : Type 0} (seen : Seen W) (old new : Option (List ℕ)) (ws : List W) (bytes : List ℕ) → AppendsSome old new bytes → PutsPart seen (outside old ws) (outside new ws) (Text bytes ∷ [])
+part_line seen old new ws bytes some = puts_text_some seen old new ws bytes some
 
-pub part_of : {W : Type 0} (stands : W → List Entry → Type 0) (old new : Option (List ℕ)) (before after : List W) (xs ys : List Piece) → xs ≡ ys → PutsSome stands old new before after xs → PutsSome stands old new before after ys
-part_of stands old new before after xs ys e p = subst (PutsSome stands old new before after) e p
+pub part_of : {W : Type 0} (seen : Seen W) (old new : Option (List ℕ)) (before after : List W) (xs ys : List Piece) → xs ≡ ys → PutsSome seen old new before after xs → PutsSome seen old new before after ys
+part_of seen old new before after xs ys e p = subst (PutsSome seen old new before after) e p
 
 -- what a line that was read puts out
 pub line_is : (p q : Progress Played) (item : Item) (r : Result Item BadLine) → r ≡ line_item player p → r ≡ Ok item → q ≡ line_read p → out_by player q item ≡ line_output player p
@@ -44,3 +46,33 @@ line_is p q item r e f h = ap (λ (x : Progress Played). out_by player x item) h
     read p items.Setting = refl
     read p (items.Ready version config) = refl
     read p (items.Command c) = refl
+
+pub puts_of : {W : Type 0} (seen : Seen W) (old new : Option (List ℕ)) (before after : List W) (xs ys : List Piece) → xs ≡ ys → PutsOut seen old new before after xs → PutsOut seen old new before after ys
+puts_of seen old new before after xs ys e p = subst (PutsOut seen old new before after) e p
+
+-- the line feed ends the line under way
+feed_took : {T W : Type 0} (seen : Seen W) (r : Result T Stop) (p m now : Progress Played) (old new : Outside W) (o : Option Reason) → o ≡ byte_refused p 10 → o ≡ None → m ≡ counted p →
+    Took seen r (after_line player m) now old new (line_output player m) → Took seen r (after_byte player p 10) now old new (byte_output player p 10)
+feed_took seen r p m now old new o is none same took =
+    subst (λ x. Took seen r (after_good_byte player p 10 x) now old new (good_byte_output player p 10 x)) (sym none ∙ is)
+    (subst (λ (x : Progress Played). Took seen r (after_line player x) now old new (line_output player x)) same took)
+
+pub byte_took : {T W : Type 0} (seen : Seen W) (r : Result T Stop) (p m now : Progress Played) (old new : Outside W) (b : ℕ) (o : Option Reason) → b ≡ 10 → o ≡ byte_refused p b → o ≡ None → m ≡ counted p →
+    Took seen r (after_line player m) now old new (line_output player m) → Took seen r (after_byte player p b) now old new (byte_output player p b)
+byte_took seen r p m now old new b o ten is none same took =
+    subst (λ (x : ℕ). Took seen r (after_byte player p x) now old new (byte_output player p x)) (sym ten)
+    (feed_took seen r p m now old new o (is ∙ ap (byte_refused p) ten) none same took)
+
+-- bytes after the last line feed are a line
+pub last_took : {T W : Type 0} (seen : Seen W) (r : Result T Stop) (p now : Progress Played) (old new : Outside W) (none : Bool) → (length p.line == 0) ≡ none → none ≡ false →
+    Took seen r (after_line player p) now old new (line_output player p) → Took seen r (after_last player p) now old new (last_output player p)
+last_took seen r p now old new none is filled took =
+    subst (λ (x : Bool). Took seen r (if x then Ok p else after_line player p) now old new (if x then [] else line_output player p)) (sym (is ∙ filled)) took
+
+-- a line that was read is taken
+pub line_done : (p q s : Progress Played) (item : Item) (r : Result Item BadLine) → r ≡ line_item player p → r ≡ Ok item → q ≡ line_read p → s ≡ item_taken player q item → after_line player p ≡ Ok s
+line_done p q s item r e f h g =
+    let whole : Result (Progress Played) BadLine = Ok (item_taken player (line_read p) item) in
+    let read : after_line player p ≡ whole = ap (line_taken player p) (sym e ∙ f) in
+    let same : item_taken player (line_read p) item ≡ s = ap (λ (x : Progress Played). item_taken player x item) (sym h) ∙ sym g in
+    read ∙ ap Ok same

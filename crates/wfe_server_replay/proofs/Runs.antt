@@ -1,16 +1,13 @@
 -- A seat that is run has no call under way in the end.
 use Rattle.std.proofs.Common.{Bool, [], ap, arith, false, refl, suc, subst, sym, true, zero, ℕ, ◌+◌, ◌<◌, ◌≤◌, ◌∙◌, ◌≡◌, ◌∷◌, ◌^◌}
-use Rattle.wfe_trace.specs.words.Place.{is_valid}
 use Rattle.wfe_trace.specs.words.declared.layout.Layout.{Layout}
 use Rattle.wfe_core.specs.Rest.{rest}
 use Rattle.wfe_core.specs.World.{World, is_busy, step}
 use Rattle.wfe_drive.specs.history.History.{Made, Steps, did, first_made, made_from, made_of, times}
-use Rattle.wfe_drive.proofs.history.Along.{Steady, items_keep}
+use Rattle.wfe_drive.proofs.history.Along.{items_keep}
 use Rattle.wfe_drive.specs.inv.Ends.{CallsEnd}
 use Rattle.wfe_drive.specs.inv.Inv.{Inv}
-use Rattle.wfe_drive.proofs.inv.Inv.Begun.{inv_begin, inv_start}
 use Rattle.wfe_drive.proofs.inv.Inv.Ends.{inv_ends}
-use Rattle.wfe_drive.proofs.inv.Inv.Kept.{inv_kept}
 use Rattle.wfe_server_replay.specs.Given.{RunsEnd}
 use Rattle.wfe_server_replay.specs.Playing.{call_most}
 use Rattle.wfe_server_replay.proofs.Items.{did_fit, step_fits, times_idle}

@@ -41,7 +41,7 @@ judged-byte : (p : Progress Given) (b : ℕ) (refused : Option Reason) → Sound
 judged-byte p b (Some reason) s = record { after = refl; output = refl; follows = tt }
 judged-byte p b None s = good-byte p b (b == 10) s
 
-one-byte : (p : Progress Given) (b : ℕ) → Sound p → Both p (after_byte player (mapped p) b) (after_byte keeper p b) (byte_output player (mapped p) b) (byte_output keeper p b)
+pub one-byte : (p : Progress Given) (b : ℕ) → Sound p → Both p (after_byte player (mapped p) b) (after_byte keeper p b) (byte_output player (mapped p) b) (byte_output keeper p b)
 one-byte p b s = judged-byte p b (byte_refused p b) s
 
 abbrev pub SoundIn : Result (Progress Given) BadLine → Type 0

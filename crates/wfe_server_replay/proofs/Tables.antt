@@ -1,18 +1,18 @@
 -- The lines and the sums of a table of counts, seat by seat.
-use Rattle.std.proofs.Common.{List, [], ap, append-nil, append_assoc, arith, drop, get_or, length, length-set, refl, subst, sym, take, ℕ, ◌++◌, ◌+◌, ◌-◌, ◌<◌, ◌≤◌, ◌∙◌, ◌≡◌, ◌∷◌}
+use Rattle.std.proofs.Common.{List, [], ap, append-nil, append_assoc, arith, drop, length, length-set, refl, subst, sym, take, ℕ, ◌++◌, ◌+◌, ◌-◌, ◌<◌, ◌∙◌, ◌≡◌, ◌∷◌}
 use Rattle.std.proofs.lemmas.List.{drop_more, take_more}
 use Rattle.std.proofs.lemmas.List.Sums.{sum_by-append}
-use Rattle.std.proofs.lemmas.Option.{slice_get-get_or, slice_get_within, get_or_from_slice_get}
+use Rattle.std.proofs.lemmas.Option.{slice_get_within, get_or_from_slice_get}
 use Rattle.std.specs.Prelude.{Err, Ok, OnErr, OnOk, Option, Result, Some, min, slice_get, sum_by, ◌^◌}
 use Rattle.wfe_outside.specs.defs.declared.event.Event.{Event}
 use Rattle.wfe_outside.specs.declared.watcher.WatchRow.{WatchRow}
 use Rattle.std.specs.Io.KnownBytes.{Appends}
 use Rattle.std.proofs.KnownBytes.{Appends-trans}
-use Rattle.wfe_outside.specs.defs.Entry.{Entry}
-use Rattle.wfe_server_out.specs.Heard.{Hears}
+use Rattle.wfe_server_out.specs.Heard.{Hears, Seen}
 use Rattle.wfe_server_out.specs.Pieces.{Piece, Text, heard_of, text_of}
 use Rattle.wfe_server_out.specs.PutOut.{PutsOut, PutsSome}
-use Rattle.wfe_server_out.proofs.Hearing.{hears_none, hears_some_none}
+use Rattle.wfe_server_out.proofs.Hearing.{hears_none}
+use Rattle.wfe_server_out.proofs.Puts.{puts_lines_some}
 use Rattle.wfe_server_out.specs.Some.{AppendsSome}
 use Rattle.wfe_server_out.proofs.Texts.{AppendsSome-first, AppendsSome-then, text_of-append}
 use Rattle.wfe_watch.specs.Counts.{row_at, row_of}
@@ -94,17 +94,17 @@ heard_none : (seat : ℕ) (rows : List WatchRow) (last : List ℕ) → heard_of 
 heard_none seat [] last = refl
 heard_none seat (row ∷ rows) last = heard_none (seat + 1) rows last
 
-pub puts_table : {W : Type 0} (stands : W → List Entry → Type 0) (old new : Option (List ℕ)) (ws : List W) (rows : List WatchRow) → Appends old new (text_of (table_pieces rows)) → PutsOut stands old new ws ws (table_pieces rows)
-puts_table stands old new ws rows wrote = record { wrote = wrote; heard = subst (Hears stands ws ws) (sym (heard_none 0 rows (total_line rows))) (hears_none stands ws) }
+pub puts_table : {W : Type 0} (seen : Seen W) (old new : Option (List ℕ)) (ws : List W) (rows : List WatchRow) → Appends old new (text_of (table_pieces rows)) → PutsOut seen old new ws ws (table_pieces rows)
+puts_table seen old new ws rows wrote = record { wrote = wrote; heard = subst (Hears seen ws ws) (sym (heard_none 0 rows (total_line rows))) (hears_none seen ws) }
 
-pub puts_table_some : {W : Type 0} (stands : W → List Entry → Type 0) (old new : Option (List ℕ)) (ws : List W) (rows : List WatchRow) → AppendsSome old new (text_of (table_pieces rows)) → PutsSome stands old new ws ws (table_pieces rows)
-puts_table_some stands old new ws rows wrote = record { wrote = wrote; heard = hears_some_none stands ws (heard_of (table_pieces rows)) }
+pub puts_table_some : {W : Type 0} (seen : Seen W) (old new : Option (List ℕ)) (ws : List W) (rows : List WatchRow) → AppendsSome old new (text_of (table_pieces rows)) → PutsSome seen old new ws ws (table_pieces rows)
+puts_table_some seen old new ws rows wrote = puts_lines_some seen old new ws (table_pieces rows) (heard_none 0 rows (total_line rows)) wrote
 
 -- written, or in part, by another name of what a line puts out
-pub ok_table : {T E W : Type 0} (stands : W → List Entry → Type 0) (old new : Option (List ℕ)) (ws : List W) (r : Result T E) (rows : List WatchRow) (out : List Piece) → table_pieces rows ≡ out → OnOk r (Appends old new (text_of (table_pieces rows))) → OnOk r (PutsOut stands old new ws ws out)
-ok_table stands old new ws (Ok x) rows out e wrote = subst (PutsOut stands old new ws ws) e (puts_table stands old new ws rows wrote)
-ok_table stands old new ws (Err x) rows out e wrote = tt
+pub ok_table : {T E W : Type 0} (seen : Seen W) (old new : Option (List ℕ)) (ws : List W) (r : Result T E) (rows : List WatchRow) (out : List Piece) → table_pieces rows ≡ out → OnOk r (Appends old new (text_of (table_pieces rows))) → OnOk r (PutsOut seen old new ws ws out)
+ok_table seen old new ws (Ok x) rows out e wrote = subst (PutsOut seen old new ws ws) e (puts_table seen old new ws rows wrote)
+ok_table seen old new ws (Err x) rows out e wrote = tt
 
-pub err_table : {T E W : Type 0} (stands : W → List Entry → Type 0) (old new : Option (List ℕ)) (ws : List W) (r : Result T E) (rows : List WatchRow) (out : List Piece) → table_pieces rows ≡ out → OnErr r (AppendsSome old new (text_of (table_pieces rows))) → OnErr r (PutsSome stands old new ws ws out)
-err_table stands old new ws (Ok x) rows out e wrote = tt
-err_table stands old new ws (Err x) rows out e wrote = subst (PutsSome stands old new ws ws) e (puts_table_some stands old new ws rows wrote)
+pub err_table : {T E W : Type 0} (seen : Seen W) (old new : Option (List ℕ)) (ws : List W) (r : Result T E) (rows : List WatchRow) (out : List Piece) → table_pieces rows ≡ out → OnErr r (AppendsSome old new (text_of (table_pieces rows))) → OnErr r (PutsSome seen old new ws ws out)
+err_table seen old new ws (Ok x) rows out e wrote = tt
+err_table seen old new ws (Err x) rows out e wrote = subst (PutsSome seen old new ws ws) e (puts_table_some seen old new ws rows wrote)

@@ -1,11 +1,10 @@
 -- The lines of watchers, row by row and watcher by watcher.
-use Rattle.std.proofs.Common.{List, [], ap, append-nil, append_assoc, arith, drop, get_or, length, refl, subst, sym, ℕ, ◌++◌, ◌+◌, ◌<◌, ◌≤◌, ◌∙◌, ◌≡◌, ◌∷◌}
+use Rattle.std.proofs.Common.{List, [], ap, append-nil, append_assoc, arith, drop, get_or, length, refl, subst, sym, ℕ, ◌++◌, ◌+◌, ◌<◌, ◌≤◌, ◌∙◌, ◌≡◌}
 use Rattle.std.proofs.lemmas.List.{drop_all, drop_more}
 use Rattle.std.proofs.lemmas.List.FromFn.{get_or-map-range_with_len, length-map-range_with_len}
 use Rattle.std.proofs.KnownBytes.{Appends-trans}
 use Rattle.std.specs.Io.KnownBytes.{Appends}
-use Rattle.std.specs.List.{range_with_len}
-use Rattle.std.specs.Prelude.{Option, map}
+use Rattle.std.specs.Prelude.{Option}
 use Rattle.wfe_outside.specs.declared.watcher.WatchRow.{WatchRow}
 use Rattle.wfe_server_out.specs.Some.{AppendsSome}
 use Rattle.wfe_server_out.proofs.Texts.{AppendsSome-first, AppendsSome-then}

@@ -1,7 +1,7 @@
 -- How a run over a source goes and ends.
+use Rattle.wfe_server_out.specs.Heard.{Seen}
 use Rattle.std.specs.Prelude.{List, None, Ok, Option, Some, ℕ, ◌<◌, ◌≡◌, ◌⊎◌, [], ◌∷◌}
 use Rattle.std.specs.Io.KnownBytes.{Consumes, IsAtEnd}
-use Rattle.wfe_outside.specs.defs.Entry.{Entry}
 use Rattle.wfe_server_out.specs.Pieces.{Piece, Text}
 use Rattle.wfe_server_out.specs.declared.fault.Fault.TheVariants as faults
 use Rattle.wfe_trace.specs.Record.{bad_line as bad_text}
@@ -16,35 +16,35 @@ use Rattle.wfe_server_replay.specs.Sunk.{Outside, Puts, PutsPart, StopsAt}
 use Rattle.wfe_server_replay.specs.Trace.{Progress, after_bytes, bytes_output}
 
 -- good bytes were taken, and what they give was put out
-pub record Goes {W : Type 0} (stands : W → List Entry → Type 0) (before left : Option (List ℕ)) (old new : Outside W) (p q : Progress Played) : Type 0 where
+pub record Goes {W : Type 0} (seen : Seen W) (before left : Option (List ℕ)) (old new : Outside W) (p q : Progress Played) : Type 0 where
   pub taken : List ℕ
   pub consumed : Consumes before left taken
   pub good : after_bytes player (Ok p) taken ≡ Ok q
-  pub put : Puts stands old new (bytes_output player (Ok p) taken)
+  pub put : Puts seen old new (bytes_output player (Ok p) taken)
 
 -- bytes were taken up to a stop
-pub record Stops {W : Type 0} (stands : W → List Entry → Type 0) (before left : Option (List ℕ)) (old new : Outside W) (p : Progress Played) (stop : Stop) : Type 0 where
+pub record Stops {W : Type 0} (seen : Seen W) (before left : Option (List ℕ)) (old new : Outside W) (p : Progress Played) (stop : Stop) : Type 0 where
   pub taken : List ℕ
   pub consumed : Consumes before left taken
-  pub stops : StopsAt stands stop (after_bytes player (Ok p) taken) old new (bytes_output player (Ok p) taken)
+  pub stops : StopsAt seen stop (after_bytes player (Ok p) taken) old new (bytes_output player (Ok p) taken)
 
 -- how a run over the source ends
-abbrev pub Ends : {W : Type 0} → (W → List Entry → Type 0) → Ending → Option (List ℕ) → Option (List ℕ) → Outside W → Outside W → Progress Played → Progress Played → Type 0
-Ends stands endings.AtEnd before left old new p q = Goes stands before left old new p q × IsAtEnd left
-Ends stands endings.NoRead before left old new p q = Goes stands before left old new p q
-Ends stands (endings.Stopped stop) before left old new p q = Stops stands before left old new p stop
+abbrev pub Ends : {W : Type 0} → Seen W → Ending → Option (List ℕ) → Option (List ℕ) → Outside W → Outside W → Progress Played → Progress Played → Type 0
+Ends seen endings.AtEnd before left old new p q = Goes seen before left old new p q × IsAtEnd left
+Ends seen endings.NoRead before left old new p q = Goes seen before left old new p q
+Ends seen (endings.Stopped stop) before left old new p q = Stops seen before left old new p stop
 
 -- one read, and what came of it
-abbrev pub Turns : {W : Type 0} → (W → List Entry → Type 0) → Option Ending → Option (List ℕ) → Option (List ℕ) → Outside W → Outside W → Progress Played → Progress Played → Type 0
-Turns stands None before left old new p q = Goes stands before left old new p q × (p.count < q.count)
-Turns stands (Some ending) before left old new p q = Ends stands ending before left old new p q
+abbrev pub Turns : {W : Type 0} → Seen W → Option Ending → Option (List ℕ) → Option (List ℕ) → Outside W → Outside W → Progress Played → Progress Played → Type 0
+Turns seen None before left old new p q = Goes seen before left old new p q × (p.count < q.count)
+Turns seen (Some ending) before left old new p q = Ends seen ending before left old new p q
 
 -- Last lines were written, and the status is this one; or a part of them, and the sink failed.
-abbrev pub Closes : {W : Type 0} → (W → List Entry → Type 0) → Status → Status → Outside W → Outside W → List Piece → Type 0
-Closes stands result status old new out = ((result ≡ status) × Puts stands old new out) ⊎ ((result ≡ statuses.WriteFault) × PutsPart stands old new out)
+abbrev pub Closes : {W : Type 0} → Seen W → Status → Status → Outside W → Outside W → List Piece → Type 0
+Closes seen result status old new out = ((result ≡ status) × Puts seen old new out) ⊎ ((result ≡ statuses.WriteFault) × PutsPart seen old new out)
 
 -- The status after a stop: a bad line is written down.
-abbrev pub StopCloses : {W : Type 0} → (W → List Entry → Type 0) → Stop → Status → Outside W → Outside W → Type 0
-StopCloses stands (stops.Bad bad) result old new = Closes stands result (statuses.BadTrace bad.line bad.reason) old new (Text (bad_text bad.line bad.reason) ∷ [])
-StopCloses stands (stops.Fault faults.Write) result old new = (result ≡ statuses.WriteFault) × (new ≡ old)
-StopCloses stands (stops.Fault faults.Memory) result old new = (result ≡ statuses.NoMemory) × (new ≡ old)
+abbrev pub StopCloses : {W : Type 0} → Seen W → Stop → Status → Outside W → Outside W → Type 0
+StopCloses seen (stops.Bad bad) result old new = Closes seen result (statuses.BadTrace bad.line bad.reason) old new (Text (bad_text bad.line bad.reason) ∷ [])
+StopCloses seen (stops.Fault faults.Write) result old new = (result ≡ statuses.WriteFault) × (new ≡ old)
+StopCloses seen (stops.Fault faults.Memory) result old new = (result ≡ statuses.NoMemory) × (new ≡ old)

@@ -127,6 +127,11 @@ pub record IsTaken (given : Given) : Type 0 where
   pub config : bad_field given.config ≡ None
   pub lines : AreTaken (no_lines given.version given.config) given.lines
 
+-- the same of the lines before a bad one, or of those that came so far
+abbrev pub IsTakenIn : Option Given → Type 0
+IsTakenIn None = Unit {0}
+IsTakenIn (Some given) = IsTaken given
+
 -- a seat that is run has no call under way in the end
 abbrev pub RunsEnd : Type 0
 RunsEnd = (layout : Layout) (items : List Item) (seat : ℕ) → is_valid layout ≡ true → seat < layout.config.seats → is_busy (world_of layout (items ++ times call_most seat)) seat ≡ false

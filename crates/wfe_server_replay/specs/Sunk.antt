@@ -1,7 +1,7 @@
 -- What a piece of work put out: to a sink, and to watchers.
-use Rattle.std.specs.Prelude.{Err, List, Ok, Option, Result, ℕ, ◌≡◌}
-use Rattle.wfe_outside.specs.defs.Entry.{Entry}
-use Rattle.wfe_server_out.specs.Pieces.{Piece}
+use Rattle.wfe_server_out.specs.Heard.{Hears, Seen}
+use Rattle.std.specs.Prelude.{Err, List, Ok, Option, Result, ℕ, ◌++◌, ◌≡◌, ◌⊎◌}
+use Rattle.wfe_server_out.specs.Pieces.{Piece, heard_of}
 use Rattle.wfe_server_out.specs.PutOut.{PutsOut, PutsSome}
 use Rattle.wfe_trace.specs.declared.reason.BadLine.{BadLine}
 use Rattle.wfe_server_replay.specs.Playing.{Played}
@@ -17,19 +17,29 @@ pub record Outside (W : Type 0) : Type 0 where
 abbrev pub outside : {W : Type 0} → Option (List ℕ) → List W → Outside W
 outside written watchers = record { written = written; watchers = watchers }
 
-abbrev pub Puts : {W : Type 0} → (W → List Entry → Type 0) → Outside W → Outside W → List Piece → Type 0
-Puts stands old new out = PutsOut stands old.written new.written old.watchers new.watchers out
+abbrev pub Puts : {W : Type 0} → Seen W → Outside W → Outside W → List Piece → Type 0
+Puts seen old new out = PutsOut seen old.written new.written old.watchers new.watchers out
 
 -- a first part of it, up to a fault
-abbrev pub PutsPart : {W : Type 0} → (W → List Entry → Type 0) → Outside W → Outside W → List Piece → Type 0
-PutsPart stands old new out = PutsSome stands old.written new.written old.watchers new.watchers out
+abbrev pub PutsPart : {W : Type 0} → Seen W → Outside W → Outside W → List Piece → Type 0
+PutsPart seen old new out = PutsSome seen old.written new.written old.watchers new.watchers out
 
 -- Bytes of a trace were taken up to a stop, and what they give was put out; after a fault, only some of it.
-abbrev pub StopsAt : {W : Type 0} → (W → List Entry → Type 0) → Stop → Result (Progress Played) BadLine → Outside W → Outside W → List Piece → Type 0
-StopsAt stands (stops.Bad bad) verdict old new out = (verdict ≡ Err bad) × Puts stands old new out
-StopsAt stands (stops.Fault fault) verdict old new out = PutsPart stands old new out
+abbrev pub StopsAt : {W : Type 0} → Seen W → Stop → Result (Progress Played) BadLine → Outside W → Outside W → List Piece → Type 0
+StopsAt seen (stops.Bad bad) verdict old new out = (verdict ≡ Err bad) × Puts seen old new out
+StopsAt seen (stops.Fault fault) verdict old new out = PutsPart seen old new out
 
 -- Bytes of a trace were taken, as they are judged, and what they give was put out.
-abbrev pub Took : {W T : Type 0} → (W → List Entry → Type 0) → Result T Stop → Result (Progress Played) BadLine → Progress Played → Outside W → Outside W → List Piece → Type 0
-Took stands (Ok x) verdict now old new out = (verdict ≡ Ok now) × Puts stands old new out
-Took stands (Err stop) verdict now old new out = StopsAt stands stop verdict old new out
+abbrev pub Took : {W T : Type 0} → Seen W → Result T Stop → Result (Progress Played) BadLine → Progress Played → Outside W → Outside W → List Piece → Type 0
+Took seen (Ok x) verdict now old new out = (verdict ≡ Ok now) × Puts seen old new out
+Took seen (Err stop) verdict now old new out = StopsAt seen stop verdict old new out
+
+-- All lines of a trace were put out, and the work stopped in the lines after them: the first bad byte or the end had been read, and each watcher has heard the whole record.
+pub record StopsAfter {W : Type 0} (seen : Seen W) (found : Type 0) (lines last : List Piece) (old new : Outside W) : Type 0 where
+  pub is_found : found
+  pub heard : Hears seen old.watchers new.watchers (heard_of lines)
+  pub put : PutsPart seen old new (lines ++ last)
+
+-- The work stopped by a fault: in a line that was closed; or, where the end was read, in the last line; or after the lines.
+abbrev pub StopsShort : {W : Type 0} → Seen W → (at_end found : Type 0) → (closed lines last : List Piece) → Outside W → Outside W → Type 0
+StopsShort seen at_end found closed lines last old new = PutsPart seen old new closed ⊎ ((at_end × PutsPart seen old new lines) ⊎ StopsAfter seen found lines last old new)

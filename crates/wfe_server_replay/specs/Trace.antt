@@ -158,6 +158,16 @@ abbrev pub bytes_output : {S : Type 0} → Engine S → Result (Progress S) BadL
 bytes_output E r [] = []
 bytes_output E r (b ∷ bs) = output_of (λ p. byte_output E p b) r ++ bytes_output E (r >>= (λ p. after_byte E p b)) bs
 
+-- as far as it is good
+abbrev pub go_on : {S : Type 0} → (Progress S → Progress S) → Progress S → Result (Progress S) BadLine → Progress S
+go_on f p (Ok q) = f q
+go_on f p (Err bad) = p
+
+-- after the bytes before the first that is bad
+abbrev pub good_bytes : {S : Type 0} → Engine S → Progress S → List ℕ → Progress S
+good_bytes E p [] = p
+good_bytes E p (b ∷ bs) = go_on (λ q. good_bytes E q bs) p (after_byte E p b)
+
 -- bytes after the last line feed are a line too
 abbrev pub after_last : {S : Type 0} → Engine S → Progress S → Result (Progress S) BadLine
 after_last E p = if length p.line == 0 then Ok p else after_line E p
@@ -176,6 +186,11 @@ finished E p = after_last E p >>= at_end
 -- a whole trace
 abbrev pub after_trace : {S : Type 0} → Engine S → Mode → List ℕ → Result (Progress S) BadLine
 after_trace E mode bytes = after_bytes E (Ok (progress_start mode)) bytes >>= finished E
+
+-- a whole trace before its first bad line
+abbrev pub good_trace : {S : Type 0} → Engine S → Mode → List ℕ → Progress S
+good_trace E mode bytes =
+    go_on (λ p. go_on (λ q. q) p (after_last E p)) (good_bytes E (progress_start mode) bytes) (after_bytes E (Ok (progress_start mode)) bytes)
 
 -- what its lines put out, up to the first bad one
 abbrev pub lines_output : {S : Type 0} → Engine S → Mode → List ℕ → List Piece

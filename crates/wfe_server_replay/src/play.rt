@@ -1,4 +1,5 @@
 // A table that takes the lines of a trace.
+ghost use Rattle.wfe_server_out.specs.Heard.{boxed};
 ghost use Rattle.std.specs.Prelude.{◌≡◌, ◌<◌, ◌≤◌, IfErr, IfOk, None, OnErr, OnOk, [], ◌∷◌, false, length, true};
 ghost use Rattle.wfe_core.specs.Locals.{busy_in};
 ghost use Rattle.wfe_drive.specs.drive_cells.Unit.{seat_at};
@@ -88,10 +89,10 @@ impl<E: Engine> Play<E> {
         ensures after { self.new ≡ unit_made self.old seat }
         ensures table { self.new.table.layout ≡ self.old.table.layout }
         ensures falls { units_left self.new.table seat < units_left self.old.table seat }
-        ensures put { OnOk result (PutsOut stands (K.written sink.old) (K.written sink.new) watchers.old watchers.new (unit_out self.old seat)) }
-        ensures some { OnErr result (PutsSome stands (K.written sink.old) (K.written sink.new) watchers.old watchers.new (unit_out self.old seat)) }
+        ensures put { OnOk result (PutsOut (boxed stands) (K.written sink.old) (K.written sink.new) watchers.old watchers.new (unit_out self.old seat)) }
+        ensures some { OnErr result (PutsSome (boxed stands) (K.written sink.old) (K.written sink.new) watchers.old watchers.new (unit_out self.old seat)) }
         ensures later { K.faults sink.old ≤ K.faults sink.new }
-        ensures cause { IfErr result (λ fault. fault ≡ Fault.Write → Rose (K.faults sink.old) (K.faults sink.new)) }
+        ensures cause { IfErr result (λ fault. fault ≡ Fault.Write → Rose K.may_stand (K.faults sink.old) (K.faults sink.new)) }
     {
         told.clear();
         let _ = self.engine.unit(seat, told);
@@ -109,10 +110,10 @@ impl<E: Engine> Play<E> {
         requires { seat < self.old.table.layout.config.seats }
         ensures after { OnOk result (self.new ≡ units_made call_most seat self.old) }
         ensures table { self.new.table.layout ≡ self.old.table.layout }
-        ensures put { OnOk result (PutsOut stands (K.written sink.old) (K.written sink.new) watchers.old watchers.new (units_out call_most seat self.old)) }
-        ensures some { OnErr result (PutsSome stands (K.written sink.old) (K.written sink.new) watchers.old watchers.new (units_out call_most seat self.old)) }
+        ensures put { OnOk result (PutsOut (boxed stands) (K.written sink.old) (K.written sink.new) watchers.old watchers.new (units_out call_most seat self.old)) }
+        ensures some { OnErr result (PutsSome (boxed stands) (K.written sink.old) (K.written sink.new) watchers.old watchers.new (units_out call_most seat self.old)) }
         ensures later { K.faults sink.old ≤ K.faults sink.new }
-        ensures cause { IfErr result (λ fault. fault ≡ Fault.Write → Rose (K.faults sink.old) (K.faults sink.new)) }
+        ensures cause { IfErr result (λ fault. fault ≡ Fault.Write → Rose K.may_stand (K.faults sink.old) (K.faults sink.new)) }
     {
         let mut told = Told::new();
         while self.busy(seat) {
@@ -132,10 +133,10 @@ impl<E: Engine> Play<E> {
         requires { seat < self.old.table.layout.config.seats }
         ensures after { OnOk result (self.new ≡ units_made units seat self.old) }
         ensures table { self.new.table.layout ≡ self.old.table.layout }
-        ensures put { OnOk result (PutsOut stands (K.written sink.old) (K.written sink.new) watchers.old watchers.new (units_out units seat self.old)) }
-        ensures some { OnErr result (PutsSome stands (K.written sink.old) (K.written sink.new) watchers.old watchers.new (units_out units seat self.old)) }
+        ensures put { OnOk result (PutsOut (boxed stands) (K.written sink.old) (K.written sink.new) watchers.old watchers.new (units_out units seat self.old)) }
+        ensures some { OnErr result (PutsSome (boxed stands) (K.written sink.old) (K.written sink.new) watchers.old watchers.new (units_out units seat self.old)) }
         ensures later { K.faults sink.old ≤ K.faults sink.new }
-        ensures cause { IfErr result (λ fault. fault ≡ Fault.Write → Rose (K.faults sink.old) (K.faults sink.new)) }
+        ensures cause { IfErr result (λ fault. fault ≡ Fault.Write → Rose K.may_stand (K.faults sink.old) (K.faults sink.new)) }
     {
         let mut told = Told::new();
         for _ in 0..units {
@@ -155,10 +156,10 @@ impl<E: Engine> Play<E> {
     ) -> Result<(), Fault>
         ensures after { OnOk result (self.new ≡ seats_run self.old.table.layout.config.seats self.old) }
         ensures table { self.new.table.layout ≡ self.old.table.layout }
-        ensures put { OnOk result (PutsOut stands (K.written sink.old) (K.written sink.new) watchers.old watchers.new (seats_out self.old.table.layout.config.seats self.old)) }
-        ensures some { OnErr result (PutsSome stands (K.written sink.old) (K.written sink.new) watchers.old watchers.new (seats_out self.old.table.layout.config.seats self.old)) }
+        ensures put { OnOk result (PutsOut (boxed stands) (K.written sink.old) (K.written sink.new) watchers.old watchers.new (seats_out self.old.table.layout.config.seats self.old)) }
+        ensures some { OnErr result (PutsSome (boxed stands) (K.written sink.old) (K.written sink.new) watchers.old watchers.new (seats_out self.old.table.layout.config.seats self.old)) }
         ensures later { K.faults sink.old ≤ K.faults sink.new }
-        ensures cause { IfErr result (λ fault. fault ≡ Fault.Write → Rose (K.faults sink.old) (K.faults sink.new)) }
+        ensures cause { IfErr result (λ fault. fault ≡ Fault.Write → Rose K.may_stand (K.faults sink.old) (K.faults sink.new)) }
     {
         for seat in 0..self.seats {
             self.run(seat, sink, watchers)?;
@@ -171,7 +172,7 @@ impl<E: Engine> Play<E> {
         ensures wrote { OnOk result (Appends (K.written sink.old) (K.written sink.new) (text_of (table_pieces self.now.garbage))) }
         ensures some { OnErr result (AppendsSome (K.written sink.old) (K.written sink.new) (text_of (table_pieces self.now.garbage))) }
         ensures later { K.faults sink.old ≤ K.faults sink.new }
-        ensures cause { IfErr result (λ fault. (fault ≡ Fault.Write) × Rose (K.faults sink.old) (K.faults sink.new)) }
+        ensures cause { IfErr result (λ fault. (fault ≡ Fault.Write) × Rose K.may_stand (K.faults sink.old) (K.faults sink.new)) }
     {
         put_seats(&self.garbage, self.seats, sink)?;
         put_total(&self.garbage, sink)?;
@@ -190,10 +191,10 @@ impl<E: Engine> Play<E> {
         requires free { is_playing seat self.old ≡ false }
         ensures after { OnOk result (self.new ≡ started self.old seat call) }
         ensures table { self.new.table.layout ≡ self.old.table.layout }
-        ensures put { OnOk result (PutsOut stands (K.written sink.old) (K.written sink.new) watchers.old watchers.new (told_piece (entry seat (Event.Begin call)) ∷ [])) }
-        ensures some { OnErr result (PutsSome stands (K.written sink.old) (K.written sink.new) watchers.old watchers.new (told_piece (entry seat (Event.Begin call)) ∷ [])) }
+        ensures put { OnOk result (PutsOut (boxed stands) (K.written sink.old) (K.written sink.new) watchers.old watchers.new (told_piece (entry seat (Event.Begin call)) ∷ [])) }
+        ensures some { OnErr result (PutsSome (boxed stands) (K.written sink.old) (K.written sink.new) watchers.old watchers.new (told_piece (entry seat (Event.Begin call)) ∷ [])) }
         ensures later { K.faults sink.old ≤ K.faults sink.new }
-        ensures cause { IfErr result (λ fault. fault ≡ Fault.Write → Rose (K.faults sink.old) (K.faults sink.new)) }
+        ensures cause { IfErr result (λ fault. fault ≡ Fault.Write → Rose K.may_stand (K.faults sink.old) (K.faults sink.new)) }
     {
         self.engine.start(seat, call);
         tell(sink, watchers, seat, &Event::Begin { call })
@@ -210,10 +211,10 @@ impl<E: Engine> Play<E> {
         requires free { is_refused player command self.old ≡ false }
         ensures after { OnOk result (self.new ≡ played command self.old) }
         ensures table { self.new.table.layout ≡ self.old.table.layout }
-        ensures put { OnOk result (PutsOut stands (K.written sink.old) (K.written sink.new) watchers.old watchers.new (played_out command self.old)) }
-        ensures some { OnErr result (PutsSome stands (K.written sink.old) (K.written sink.new) watchers.old watchers.new (played_out command self.old)) }
+        ensures put { OnOk result (PutsOut (boxed stands) (K.written sink.old) (K.written sink.new) watchers.old watchers.new (played_out command self.old)) }
+        ensures some { OnErr result (PutsSome (boxed stands) (K.written sink.old) (K.written sink.new) watchers.old watchers.new (played_out command self.old)) }
         ensures later { K.faults sink.old ≤ K.faults sink.new }
-        ensures cause { IfErr result (λ fault. fault ≡ Fault.Write → Rose (K.faults sink.old) (K.faults sink.new)) }
+        ensures cause { IfErr result (λ fault. fault ≡ Fault.Write → Rose K.may_stand (K.faults sink.old) (K.faults sink.new)) }
     {
         match command {
             Command::Call { seat, call } => self.start(seat, call, sink, watchers),
@@ -239,7 +240,7 @@ fn put_seat<K: Sink>(seat: u32, row: WatchRow, sink: &mut K) -> Result<(), Faile
     ensures wrote { OnOk result (Appends (K.written sink.old) (K.written sink.new) (seat_line seat row)) }
     ensures some { OnErr result (AppendsSome (K.written sink.old) (K.written sink.new) (seat_line seat row)) }
     ensures later { K.faults sink.old ≤ K.faults sink.new }
-    ensures cause { OnErr result (Rose (K.faults sink.old) (K.faults sink.new)) }
+    ensures cause { OnErr result (Rose K.may_stand (K.faults sink.old) (K.faults sink.new)) }
 {
     let mut line = Line::new();
     let waiting = row.b.saturating_sub(row.c);
@@ -253,7 +254,7 @@ fn put_seats<K: Sink>(garbage: &GarbageCounter, seats: u32, sink: &mut K) -> Res
     ensures wrote { OnOk result (Appends (K.written sink.old) (K.written sink.new) (text_of (seat_lines 0 garbage.now))) }
     ensures some { OnErr result (AppendsSome (K.written sink.old) (K.written sink.new) (text_of (seat_lines 0 garbage.now))) }
     ensures later { K.faults sink.old ≤ K.faults sink.new }
-    ensures cause { OnErr result (Rose (K.faults sink.old) (K.faults sink.new)) }
+    ensures cause { OnErr result (Rose K.may_stand (K.faults sink.old) (K.faults sink.new)) }
 {
     for seat in 0..seats {
         put_seat(seat, garbage.row(seat as u64), sink)?;
@@ -280,7 +281,7 @@ fn put_total<K: Sink>(garbage: &GarbageCounter, sink: &mut K) -> Result<(), Fail
     ensures wrote { OnOk result (Appends (K.written sink.old) (K.written sink.new) (total_line garbage.now)) }
     ensures some { OnErr result (AppendsSome (K.written sink.old) (K.written sink.new) (total_line garbage.now)) }
     ensures later { K.faults sink.old ≤ K.faults sink.new }
-    ensures cause { OnErr result (Rose (K.faults sink.old) (K.faults sink.new)) }
+    ensures cause { OnErr result (Rose K.may_stand (K.faults sink.old) (K.faults sink.new)) }
 {
     let (retired, back) = totals(garbage);
     let mut line = Line::new();

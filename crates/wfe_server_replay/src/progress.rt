@@ -1,4 +1,5 @@
 // A trace as its bytes come, and the table that takes its lines.
+ghost use Rattle.wfe_server_out.specs.Heard.{boxed};
 ghost use Rattle.std.specs.Prelude.{◌≡◌, ◌≤◌, ◌<◌, length, OnOk, OnErr, IfOk, IfErr, MatchResult, None, Some, Ok, Err, [], ◌∷◌, true};
 ghost use Rattle.wfe_outside.specs.Faults.{Rose};
 ghost use Rattle.wfe_server_replay.specs.Opening.{FitsTable, ItemFits, MayPlay, MayTake};
@@ -99,10 +100,10 @@ impl<E: Engine> Work<E> {
         requires body { is_body self.old.reading.stage ≡ true }
         requires seats { config.seats ≡ self.old.reading.config.seats }
         ensures after { OnOk result (self.new ≡ record self.old { engine = Some (player.opened version config) }) }
-        ensures put { OnOk result (PutsOut stands (K.written sink.old) (K.written sink.new) watchers.old watchers.new (Text (header_line version config) ∷ [])) }
-        ensures some { OnErr result (PutsSome stands (K.written sink.old) (K.written sink.new) watchers.old watchers.new (Text (header_line version config) ∷ [])) }
+        ensures put { OnOk result (PutsOut (boxed stands) (K.written sink.old) (K.written sink.new) watchers.old watchers.new (Text (header_line version config) ∷ [])) }
+        ensures some { OnErr result (PutsSome (boxed stands) (K.written sink.old) (K.written sink.new) watchers.old watchers.new (Text (header_line version config) ∷ [])) }
         ensures later { K.faults sink.old ≤ K.faults sink.new }
-        ensures cause { IfErr result (λ fault. fault ≡ Fault.Write → Rose (K.faults sink.old) (K.faults sink.new)) }
+        ensures cause { IfErr result (λ fault. fault ≡ Fault.Write → Rose K.may_stand (K.faults sink.old) (K.faults sink.new)) }
     {
         let _ = watchers;
         self.play = Some(Play::open(alloc, config)?);
@@ -132,10 +133,10 @@ impl<E: Engine> Work<E> {
     ) -> Result<(), Fault>
         requires { MayPlay command self.old.engine }
         ensures after { OnOk result (self.new ≡ command_taken player self.old command self.old.engine) }
-        ensures put { OnOk result (PutsOut stands (K.written sink.old) (K.written sink.new) watchers.old watchers.new (out_in player command self.old.engine)) }
-        ensures some { OnErr result (PutsSome stands (K.written sink.old) (K.written sink.new) watchers.old watchers.new (out_in player command self.old.engine)) }
+        ensures put { OnOk result (PutsOut (boxed stands) (K.written sink.old) (K.written sink.new) watchers.old watchers.new (out_in player command self.old.engine)) }
+        ensures some { OnErr result (PutsSome (boxed stands) (K.written sink.old) (K.written sink.new) watchers.old watchers.new (out_in player command self.old.engine)) }
         ensures later { K.faults sink.old ≤ K.faults sink.new }
-        ensures cause { IfErr result (λ fault. fault ≡ Fault.Write → Rose (K.faults sink.old) (K.faults sink.new)) }
+        ensures cause { IfErr result (λ fault. fault ≡ Fault.Write → Rose K.may_stand (K.faults sink.old) (K.faults sink.new)) }
     {
         self.ended = matches!(command, Command::End);
         if let Some(play) = &mut self.play {
@@ -154,10 +155,10 @@ impl<E: Engine> Work<E> {
     ) -> Result<(), Fault>
         requires { MayTake self.old item }
         ensures after { OnOk result (self.new ≡ item_taken player self.old item) }
-        ensures put { OnOk result (PutsOut stands (K.written sink.old) (K.written sink.new) watchers.old watchers.new (out_by player self.old item)) }
-        ensures some { OnErr result (PutsSome stands (K.written sink.old) (K.written sink.new) watchers.old watchers.new (out_by player self.old item)) }
+        ensures put { OnOk result (PutsOut (boxed stands) (K.written sink.old) (K.written sink.new) watchers.old watchers.new (out_by player self.old item)) }
+        ensures some { OnErr result (PutsSome (boxed stands) (K.written sink.old) (K.written sink.new) watchers.old watchers.new (out_by player self.old item)) }
         ensures later { K.faults sink.old ≤ K.faults sink.new }
-        ensures cause { IfErr result (λ fault. fault ≡ Fault.Write → Rose (K.faults sink.old) (K.faults sink.new)) }
+        ensures cause { IfErr result (λ fault. fault ≡ Fault.Write → Rose K.may_stand (K.faults sink.old) (K.faults sink.new)) }
     {
         match item {
             Item::Setting => Ok(()),
@@ -199,9 +200,9 @@ impl<E: Engine> Work<E> {
         sink: &mut K,
         watchers: &mut [Box<dyn Watcher>],
     ) -> Result<(), Stop>
-        ensures took { Took stands result (after_line player self.old) self.new (outside (K.written sink.old) watchers.old) (outside (K.written sink.new) watchers.new) (line_output player self.old) }
+        ensures took { Took (boxed stands) result (after_line player self.old) self.new (outside (K.written sink.old) watchers.old) (outside (K.written sink.new) watchers.new) (line_output player self.old) }
         ensures later { K.faults sink.old ≤ K.faults sink.new }
-        ensures cause { IfErr result (λ stop. stop ≡ Stop.Fault Fault.Write → Rose (K.faults sink.old) (K.faults sink.new)) }
+        ensures cause { IfErr result (λ stop. stop ≡ Stop.Fault Fault.Write → Rose K.may_stand (K.faults sink.old) (K.faults sink.new)) }
     {
         let item = match self.read() {
             Ok(item) => item,
@@ -229,9 +230,9 @@ impl<E: Engine> Work<E> {
         sink: &mut K,
         watchers: &mut [Box<dyn Watcher>],
     ) -> Result<(), Stop>
-        ensures took { Took stands result (after_byte player self.old byte) self.new (outside (K.written sink.old) watchers.old) (outside (K.written sink.new) watchers.new) (byte_output player self.old byte) }
+        ensures took { Took (boxed stands) result (after_byte player self.old byte) self.new (outside (K.written sink.old) watchers.old) (outside (K.written sink.new) watchers.new) (byte_output player self.old byte) }
         ensures later { K.faults sink.old ≤ K.faults sink.new }
-        ensures cause { IfErr result (λ stop. stop ≡ Stop.Fault Fault.Write → Rose (K.faults sink.old) (K.faults sink.new)) }
+        ensures cause { IfErr result (λ stop. stop ≡ Stop.Fault Fault.Write → Rose K.may_stand (K.faults sink.old) (K.faults sink.new)) }
     {
         if let Some(reason) = self.refused(byte) {
             return Err(Stop::Bad {
@@ -254,9 +255,9 @@ impl<E: Engine> Work<E> {
         sink: &mut K,
         watchers: &mut [Box<dyn Watcher>],
     ) -> Result<(), Stop>
-        ensures took { Took stands result (after_bytes player (Ok self.old) bytes.now) self.new (outside (K.written sink.old) watchers.old) (outside (K.written sink.new) watchers.new) (bytes_output player (Ok self.old) bytes.now) }
+        ensures took { Took (boxed stands) result (after_bytes player (Ok self.old) bytes.now) self.new (outside (K.written sink.old) watchers.old) (outside (K.written sink.new) watchers.new) (bytes_output player (Ok self.old) bytes.now) }
         ensures later { K.faults sink.old ≤ K.faults sink.new }
-        ensures cause { IfErr result (λ stop. stop ≡ Stop.Fault Fault.Write → Rose (K.faults sink.old) (K.faults sink.new)) }
+        ensures cause { IfErr result (λ stop. stop ≡ Stop.Fault Fault.Write → Rose K.may_stand (K.faults sink.old) (K.faults sink.new)) }
     {
         for byte in bytes {
             match self.take_byte(alloc, *byte, sink, watchers) {
@@ -274,9 +275,9 @@ impl<E: Engine> Work<E> {
         sink: &mut K,
         watchers: &mut [Box<dyn Watcher>],
     ) -> Result<(), Stop>
-        ensures took { Took stands result (after_last player self.old) self.new (outside (K.written sink.old) watchers.old) (outside (K.written sink.new) watchers.new) (last_output player self.old) }
+        ensures took { Took (boxed stands) result (after_last player self.old) self.new (outside (K.written sink.old) watchers.old) (outside (K.written sink.new) watchers.new) (last_output player self.old) }
         ensures later { K.faults sink.old ≤ K.faults sink.new }
-        ensures cause { IfErr result (λ stop. stop ≡ Stop.Fault Fault.Write → Rose (K.faults sink.old) (K.faults sink.new)) }
+        ensures cause { IfErr result (λ stop. stop ≡ Stop.Fault Fault.Write → Rose K.may_stand (K.faults sink.old) (K.faults sink.new)) }
     {
         if self.line.is_empty() {
             return Ok(());
@@ -302,9 +303,9 @@ impl<E: Engine> Work<E> {
         sink: &mut K,
         watchers: &mut [Box<dyn Watcher>],
     ) -> Result<(), Stop>
-        ensures took { Took stands result (finished player self.old) self.new (outside (K.written sink.old) watchers.old) (outside (K.written sink.new) watchers.new) (last_output player self.old) }
+        ensures took { Took (boxed stands) result (finished player self.old) self.new (outside (K.written sink.old) watchers.old) (outside (K.written sink.new) watchers.new) (last_output player self.old) }
         ensures later { K.faults sink.old ≤ K.faults sink.new }
-        ensures cause { IfErr result (λ stop. stop ≡ Stop.Fault Fault.Write → Rose (K.faults sink.old) (K.faults sink.new)) }
+        ensures cause { IfErr result (λ stop. stop ≡ Stop.Fault Fault.Write → Rose K.may_stand (K.faults sink.old) (K.faults sink.new)) }
     {
         match self.take_last(alloc, sink, watchers) {
             Ok(()) => {}

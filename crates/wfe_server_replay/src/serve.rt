@@ -1,4 +1,5 @@
 // Replays a trace: reads it in pieces, and puts out the record of the one history that its lines give.
+ghost use Rattle.wfe_server_out.specs.Heard.{boxed};
 ghost use Rattle.std.specs.Prelude.{◌≡◌, ◌≢◌, ◌≤◌, ◌<◌, ◌⊎◌, ℕ, List, Option, [], ◌∷◌, codes, length, Some};
 ghost use Rattle.wfe_outside.specs.Faults.{Rose};
 ghost use Rattle.wfe_server_replay.specs.Ends.{Turns, Ends, Closes, StopCloses};
@@ -36,11 +37,11 @@ fn turn<E: Engine, S: Source, K: Sink>(
     work: &mut Work<E>,
 ) -> Option<Ending>
     requires { 0 < length piece.old }
-    ensures turned { Turns stands result (S.left source.old) (S.left source.new) (outside (K.written sink.old) watchers.old) (outside (K.written sink.new) watchers.new) work.old work.new }
+    ensures turned { Turns (boxed stands) result (S.left source.old) (S.left source.new) (outside (K.written sink.old) watchers.old) (outside (K.written sink.new) watchers.new) work.old work.new }
     ensures source { S.faults source.old ≤ S.faults source.new }
     ensures sink { K.faults sink.old ≤ K.faults sink.new }
-    ensures read { result ≡ Some Ending.NoRead → Rose (S.faults source.old) (S.faults source.new) }
-    ensures write { result ≡ Some (Ending.Stopped (Stop.Fault Fault.Write)) → Rose (K.faults sink.old) (K.faults sink.new) }
+    ensures read { result ≡ Some Ending.NoRead → Rose S.may_stand (S.faults source.old) (S.faults source.new) }
+    ensures write { result ≡ Some (Ending.Stopped (Stop.Fault Fault.Write)) → Rose K.may_stand (K.faults sink.old) (K.faults sink.new) }
 {
     match source.read(piece) {
         Err(_) => Some(Ending::NoRead),
@@ -59,9 +60,9 @@ fn close<K: Sink>(
     line: &[u8],
     status: Status,
 ) -> Status
-    ensures closed { Closes stands result status (outside (K.written sink.old) watchers.now) (outside (K.written sink.new) watchers.now) (Text line.now ∷ []) }
+    ensures closed { Closes (boxed stands) result status (outside (K.written sink.old) watchers.now) (outside (K.written sink.new) watchers.now) (Text line.now ∷ []) }
     ensures later { K.faults sink.old ≤ K.faults sink.new }
-    ensures cause { result ≡ Status.WriteFault → (status ≡ Status.WriteFault) ⊎ Rose (K.faults sink.old) (K.faults sink.new) }
+    ensures cause { result ≡ Status.WriteFault → (status ≡ Status.WriteFault) ⊎ Rose K.may_stand (K.faults sink.old) (K.faults sink.new) }
 {
     match write_all(sink, line) {
         Ok(()) => status,
@@ -71,9 +72,9 @@ fn close<K: Sink>(
 
 // Writes the rows of the watchers and that the work is done.
 fn close_done<K: Sink>(sink: &mut K, watchers: &[Box<dyn Watcher>]) -> Status
-    ensures closed { Closes stands result Status.Done (outside (K.written sink.old) watchers.now) (outside (K.written sink.new) watchers.now) (Text (watch_text shown shows watchers.now) ∷ Text (codes "done\n") ∷ []) }
+    ensures closed { Closes (boxed stands) result Status.Done (outside (K.written sink.old) watchers.now) (outside (K.written sink.new) watchers.now) (Text (watch_text shown shows watchers.now) ∷ Text (codes "done\n") ∷ []) }
     ensures later { K.faults sink.old ≤ K.faults sink.new }
-    ensures cause { result ≡ Status.WriteFault → Rose (K.faults sink.old) (K.faults sink.new) }
+    ensures cause { result ≡ Status.WriteFault → Rose K.may_stand (K.faults sink.old) (K.faults sink.new) }
     ensures read { result ≢ Status.ReadFault }
 {
     match put_watched(sink, watchers) {
@@ -84,10 +85,10 @@ fn close_done<K: Sink>(sink: &mut K, watchers: &[Box<dyn Watcher>]) -> Status
 
 // The status after a stop: a bad line is written down.
 fn stopped<K: Sink>(sink: &mut K, watchers: &[Box<dyn Watcher>], stop: Stop) -> Status
-    ensures closed { StopCloses stands stop result (outside (K.written sink.old) watchers.now) (outside (K.written sink.new) watchers.now) }
+    ensures closed { StopCloses (boxed stands) stop result (outside (K.written sink.old) watchers.now) (outside (K.written sink.new) watchers.now) }
     ensures later { K.faults sink.old ≤ K.faults sink.new }
     ensures read { result ≢ Status.ReadFault }
-    ensures cause { result ≡ Status.WriteFault → (stop ≡ Stop.Fault Fault.Write) ⊎ Rose (K.faults sink.old) (K.faults sink.new) }
+    ensures cause { result ≡ Status.WriteFault → (stop ≡ Stop.Fault Fault.Write) ⊎ Rose K.may_stand (K.faults sink.old) (K.faults sink.new) }
 {
     match stop {
         Stop::Bad { bad } => {
@@ -120,11 +121,11 @@ fn conclude<E: Engine, K: Sink>(
     sink: &mut K,
     watchers: &mut [Box<dyn Watcher>],
 ) -> Status
-    ensures said { (before left written : Option (List ℕ)) (ws : List _) → Ends stands ending before left (outside written ws) (outside (K.written sink.old) watchers.old) (progress_start Mode.Replay) work.old
-        → PlayerReplays stands result (watch_text shown shows watchers.new) before left (outside written ws) (outside (K.written sink.new) watchers.new) }
+    ensures said { (before left written : Option (List ℕ)) (ws : List _) → Ends (boxed stands) ending before left (outside written ws) (outside (K.written sink.old) watchers.old) (progress_start Mode.Replay) work.old
+        → PlayerReplays (boxed stands) result (watch_text shown shows watchers.new) before left (outside written ws) (outside (K.written sink.new) watchers.new) }
     ensures later { K.faults sink.old ≤ K.faults sink.new }
     ensures read { result ≡ Status.ReadFault → ending ≡ Ending.NoRead }
-    ensures write { result ≡ Status.WriteFault → (ending ≡ Ending.Stopped (Stop.Fault Fault.Write)) ⊎ Rose (K.faults sink.old) (K.faults sink.new) }
+    ensures write { result ≡ Status.WriteFault → (ending ≡ Ending.Stopped (Stop.Fault Fault.Write)) ⊎ Rose K.may_stand (K.faults sink.old) (K.faults sink.new) }
 {
     match ending {
         Ending::NoRead => Status::ReadFault,
@@ -147,11 +148,11 @@ fn read_all<E: Engine, S: Source, K: Sink>(
 ) -> Ending
     requires some { 0 < length piece.old }
     requires fresh { work.old ≡ progress_start Mode.Replay }
-    ensures ended { Ends stands result (S.left source.old) (S.left source.new) (outside (K.written sink.old) watchers.old) (outside (K.written sink.new) watchers.new) (progress_start Mode.Replay) work.new }
+    ensures ended { Ends (boxed stands) result (S.left source.old) (S.left source.new) (outside (K.written sink.old) watchers.old) (outside (K.written sink.new) watchers.new) (progress_start Mode.Replay) work.new }
     ensures source { S.faults source.old ≤ S.faults source.new }
     ensures sink { K.faults sink.old ≤ K.faults sink.new }
-    ensures read { result ≡ Ending.NoRead → Rose (S.faults source.old) (S.faults source.new) }
-    ensures write { result ≡ Ending.Stopped (Stop.Fault Fault.Write) → Rose (K.faults sink.old) (K.faults sink.new) }
+    ensures read { result ≡ Ending.NoRead → Rose S.may_stand (S.faults source.old) (S.faults source.new) }
+    ensures write { result ≡ Ending.Stopped (Stop.Fault Fault.Write) → Rose K.may_stand (K.faults sink.old) (K.faults sink.new) }
 {
     // Each turn takes a byte, and a trace with a byte more than these is bad.
     for _ in 0..16_777_217u32 {
@@ -171,11 +172,11 @@ fn replay_in<E: Engine, S: Source, K: Sink>(
     piece: &mut [u8],
 ) -> Status
     requires { 0 < length piece.old }
-    ensures said { PlayerReplays stands result (watch_text shown shows watchers.new) (S.left source.old) (S.left source.new) (outside (K.written sink.old) watchers.old) (outside (K.written sink.new) watchers.new) }
+    ensures said { PlayerReplays (boxed stands) result (watch_text shown shows watchers.new) (S.left source.old) (S.left source.new) (outside (K.written sink.old) watchers.old) (outside (K.written sink.new) watchers.new) }
     ensures source { S.faults source.old ≤ S.faults source.new }
     ensures sink { K.faults sink.old ≤ K.faults sink.new }
-    ensures read { result ≡ Status.ReadFault → Rose (S.faults source.old) (S.faults source.new) }
-    ensures write { result ≡ Status.WriteFault → Rose (K.faults sink.old) (K.faults sink.new) }
+    ensures read { result ≡ Status.ReadFault → Rose S.may_stand (S.faults source.old) (S.faults source.new) }
+    ensures write { result ≡ Status.WriteFault → Rose K.may_stand (K.faults sink.old) (K.faults sink.new) }
 {
     let mut work: Work<E> = Work::new();
     let ending = read_all(alloc, source, sink, watchers, piece, &mut work);
@@ -191,11 +192,11 @@ pub fn replay<E: Engine, S: Source, K: Sink>(
     sink: &mut K,
     watchers: &mut Vec<Box<dyn Watcher>>,
 ) -> Status
-    ensures said { Replays stands result (watch_text shown shows watchers.new.items) (S.left source.old) (S.left source.new) (outside (K.written sink.old) watchers.old.items) (outside (K.written sink.new) watchers.new.items) }
+    ensures said { Replays (boxed stands) result (watch_text shown shows watchers.new.items) (S.left source.old) (S.left source.new) (outside (K.written sink.old) watchers.old.items) (outside (K.written sink.new) watchers.new.items) }
     ensures source { S.faults source.old ≤ S.faults source.new }
     ensures sink { K.faults sink.old ≤ K.faults sink.new }
-    ensures read { result ≡ Status.ReadFault → Rose (S.faults source.old) (S.faults source.new) }
-    ensures write { result ≡ Status.WriteFault → Rose (K.faults sink.old) (K.faults sink.new) }
+    ensures read { result ≡ Status.ReadFault → Rose S.may_stand (S.faults source.old) (S.faults source.new) }
+    ensures write { result ≡ Status.WriteFault → Rose K.may_stand (K.faults sink.old) (K.faults sink.new) }
 {
     let Ok(mut piece) = vec![in alloc; 0u8; 65_536] else {
         return Status::NoMemory;

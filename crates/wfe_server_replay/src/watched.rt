@@ -15,7 +15,7 @@ fn put_row<K: Sink>(sink: &mut K, place: u64, row: WatchRow) -> Result<(), Faile
     ensures wrote { OnOk result (Appends (K.written sink.old) (K.written sink.new) (watch_line place row.a row.b row.c)) }
     ensures some { OnErr result (AppendsSome (K.written sink.old) (K.written sink.new) (watch_line place row.a row.b row.c)) }
     ensures later { K.faults sink.old ≤ K.faults sink.new }
-    ensures cause { OnErr result (Rose (K.faults sink.old) (K.faults sink.new)) }
+    ensures cause { OnErr result (Rose K.may_stand (K.faults sink.old) (K.faults sink.new)) }
 {
     let mut line = Line::new();
     print_watch(place, row.a, row.b, row.c, &mut line);
@@ -42,7 +42,7 @@ fn put_rows<K: Sink>(sink: &mut K, place: u64, watcher: &Box<dyn Watcher>) -> Re
     ensures wrote { OnOk result (Appends (K.written sink.old) (K.written sink.new) (rows_text place (rows_of shown shows watcher.now))) }
     ensures some { OnErr result (AppendsSome (K.written sink.old) (K.written sink.new) (rows_text place (rows_of shown shows watcher.now))) }
     ensures later { K.faults sink.old ≤ K.faults sink.new }
-    ensures cause { OnErr result (Rose (K.faults sink.old) (K.faults sink.new)) }
+    ensures cause { OnErr result (Rose K.may_stand (K.faults sink.old) (K.faults sink.new)) }
 {
     for row in 0..count_in(watcher) {
         put_row(sink, place, row_in(watcher, row))?;
@@ -55,7 +55,7 @@ pub fn put_watched<K: Sink>(sink: &mut K, watchers: &[Box<dyn Watcher>]) -> Resu
     ensures wrote { OnOk result (Appends (K.written sink.old) (K.written sink.new) (watch_text shown shows watchers.now)) }
     ensures some { OnErr result (AppendsSome (K.written sink.old) (K.written sink.new) (watch_text shown shows watchers.now)) }
     ensures later { K.faults sink.old ≤ K.faults sink.new }
-    ensures cause { OnErr result (Rose (K.faults sink.old) (K.faults sink.new)) }
+    ensures cause { OnErr result (Rose K.may_stand (K.faults sink.old) (K.faults sink.new)) }
 {
     for place in 0..watchers.len() {
         put_rows(sink, place as u64, &watchers[place])?;

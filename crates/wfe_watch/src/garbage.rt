@@ -2,7 +2,7 @@
 // is taken when it is made, so that telling it an event never fails.
 ghost use Rattle.std.specs.Prelude.{◌≡◌, ◌<◌, ◌≤◌, [], length, OnOk, OnErr, IfOk, IsOk};
 ghost use Rattle.wfe_defs.specs.Entry.{entry};
-ghost use Rattle.wfe_outside.specs.Watched.{Grows, Stays};
+ghost use Rattle.wfe_outside.specs.Watched.{Grows};
 ghost use Rattle.wfe_watch.specs.Counts.{row_at};
 ghost use Rattle.wfe_watch.specs.Garbage.{garbage_after, with_garbage, CountsGarbage};
 
@@ -84,7 +84,7 @@ impl Watcher for GarbageCounter {
 
     fn note(&mut self, seat: u32, event: &Event) -> Result<(), NoMemory>
         ensures ok { OnOk result (Grows CountsGarbage self.old self.new (entry seat event.now)) }
-        ensures err { OnErr result (Stays CountsGarbage self.old self.new) }
+        ensures err { OnErr result (self.new ≡ self.old) }
         ensures never_fails { IsOk result }
         ensures seats { length self.new ≡ length self.old }
     {

@@ -2,7 +2,7 @@
 // its first put, so these are kept until it has a row. Memory is taken only while a key has none.
 ghost use Rattle.std.specs.Prelude.{◌≡◌, [], false, length, OnOk, OnErr};
 ghost use Rattle.wfe_defs.specs.Entry.{entry};
-ghost use Rattle.wfe_outside.specs.Watched.{Grows, Stays};
+ghost use Rattle.wfe_outside.specs.Watched.{Grows};
 ghost use Rattle.wfe_watch.specs.Counts.{row_at};
 ghost use Rattle.wfe_watch.specs.Keys.{CountsKeys, ChangesNewKey, early_count, has_row, put_counted, removal_counted};
 
@@ -106,8 +106,7 @@ impl Watcher for KeyCounter {
 
     fn note(&mut self, seat: u32, event: &Event) -> Result<(), NoMemory>
         ensures ok { OnOk result (Grows CountsKeys self.old self.new (entry seat event.now)) }
-        ensures err { OnErr result (Stays CountsKeys self.old self.new) }
-        ensures unchanged { OnErr result (self.new ≡ self.old) }
+        ensures err { OnErr result (self.new ≡ self.old) }
         ensures refused { OnErr result (ChangesNewKey self.old.rows event.now) }
     {
         match *event {

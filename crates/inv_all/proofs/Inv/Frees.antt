@@ -13,11 +13,9 @@ use Rattle.inv_ends.specs.shapes.Seats.{task_root, Run}
 use Rattle.inv_steps_left.specs.rows.Hands.{row_move}
 use Rattle.inv_steps_left.specs.rows.Rows.{Status, View, is_settled}
 use Rattle.inv_steps_left.specs.rows.Tries.{at_tries, base_tries}
-use Rattle.inv_ends.specs.covers.Covers.{takes_or_frees, shown, CoversNeeds, Scanning}
-use Rattle.wfe_core.specs.Guards.{own_guard}
+use Rattle.inv_ends.specs.covers.Covers.{takes_or_frees, CoversNeeds, Scanning}
 use Rattle.inv_ends.specs.covers.Held.{under, Held}
 use Rattle.inv_ends.proofs.covers.Begun.{standing_stays}
-use Rattle.inv_ends.proofs.covers.Kept.{spans_past}
 use Rattle.inv_steps_left.specs.links.Tracked.{carries_at, carries_base, root_base}
 use Rattle.wfe_core.proofs.Facts.{true_not_false, same_number}
 
@@ -31,7 +29,7 @@ back_apart w i k j v later place slot n c h e s = true_not_false (takes_or_frees
 
 -- what stands was linked
 pub stands_settled : (w : World) (k j s : ℕ) (v : View) → Held w v → stands (w.seat k).post j ≡ Some s → is_settled (v.status s) ≡ true
-stands_settled w k j s v h e = let c = (h.stood k j s e).covers in spans_past (shown w (own_guard w.layout.config.scheme k j)) (v.birth s) (v.status s) c.spans
+stands_settled w k j s v h e = (h.stood k j s e).covers.settled
 
 -- the root of a task leads to rows that are linked
 task_under : (status : ℕ → Status) (buckets : ℕ) (task : Task) → under status (task_root buckets task) ≡ true

@@ -28,7 +28,7 @@ use Rattle.inv_steps_left.specs.rows.Chain.{Both}
 use Rattle.inv_steps_left.specs.rows.Hands.{is_right, runs_right}
 use Rattle.inv_steps_left.specs.rows.Queue.{Line}
 use Rattle.inv_steps_left.specs.rows.Rows.{View}
-use Rattle.inv_ends.specs.covers.Covers.{Scanning, shown}
+use Rattle.inv_ends.specs.covers.Covers.{Scanning, eras_shown}
 use Rattle.inv_ends.specs.covers.Held.{index_base, follows_row, BaseNeeds, HeldNeeds}
 use Rattle.inv_ends.specs.covers.Parents.{has_parent, has_parent_why, has_parent_dequeue, Parents, ParentsNeeds}
 use Rattle.inv_ends.specs.covers.Rests.{Rests, RestsNeeds}
@@ -59,7 +59,7 @@ same_era x era e p = let same : x ≡ era = grind (arith, nat_tests) in subst (�
     some_era era false e p = refl
 
 pub published_of : (w : World) (i : ℕ) (z : Asked) (why : Why) (aim : Aim) (index : ℕ) (root : Root) (steps era : ℕ) (tries : Tries) → is_valid w.layout ≡ true → Eras w → Requests w z → (w.seat i).phase ≡ Runs why (Protect aim index root steps (LoadLink era tries))
-    → shown w (Index i index) ≡ from_to era era
+    → eras_shown w (Index i index) ≡ from_to era era
 published_of w i z why aim index root steps era tries d a q e =
     let r : Attempts index era (has_failed tries) ≡ z.role i = ap (role_of w.layout) (sym e) ∙ q.locals.roles i in
     let p : publishes (Attempts index era (has_failed tries)) (z.era i) ≡ true = subst (λ (x : Role). publishes x (z.era i) ≡ true) (sym r) (q.parts.published i) in

@@ -2,13 +2,11 @@
 use Rattle.std.proofs.Common.{◌≡◌, ◌<◌, true, refl, sym, subst, List}
 use Rattle.wfe_core.specs.words.Place.{is_valid}
 use Rattle.wfe_core.specs.words.declared.layout.Layout.{Layout}
-use Rattle.wfe_core.specs.World.{World}
 use Rattle.model_history.specs.History.{Item, first_made, world_of}
-use Rattle.model_history.proofs.Along.{Steady, items_keep}
-use Rattle.inv_all.specs.Inv.{Inv}
+use Rattle.model_history.proofs.Along.{items_keep}
 use Rattle.inv_all.specs.Histories.{InvReached, ReachedReady}
-use Rattle.inv_all.proofs.Inv.Begun.{inv_start, inv_begin}
-use Rattle.inv_all.proofs.Inv.Kept.{inv_kept, inv_ready}
+use Rattle.inv_all.proofs.Inv.Begun.{inv_start}
+use Rattle.inv_all.proofs.Inv.Kept.{inv_ready}
 use Rattle.inv_all.proofs.Finish.{Goes, steady}
 
 history_goes : (layout : Layout) (items : List Item) → is_valid layout ≡ true → Goes layout (world_of layout items)

@@ -1,6 +1,6 @@
 -- What the rows, and the load of a link, take of other parts.
 use Rattle.std.proofs.Common.{ℕ, ◌≡◌, ◌≤◌, ◌<◌, true, refl, sym, ap, ◌∙◌, arith, Some}
-use Rattle.wfe_core.specs.words.Packed.{halves, read_request}
+use Rattle.wfe_core.specs.words.Packed.{halves}
 use Rattle.wfe_core.specs.words.Place.{is_valid}
 use Rattle.wfe_core.specs.words.Place.Place.{Clock, Life, Row}
 use Rattle.wfe_core.specs.words.declared.packed.Request.TheVariants as requests

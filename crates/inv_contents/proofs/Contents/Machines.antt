@@ -10,7 +10,6 @@ use Rattle.inv_rows.specs.defs.declared.event.Root.{Root}
 use Rattle.inv_rows.specs.defs.declared.event.Root.TheVariants as roots
 use Rattle.inv_rows.specs.model.declared.post.Post.{Post}
 use Rattle.inv_rows.specs.model.Allocate as allocates
-use Rattle.inv_rows.specs.model.Change as alters
 use Rattle.inv_rows.specs.model.Machine as machine
 use Rattle.inv_rows.specs.model.Machine.{base_move}
 use Rattle.inv_rows.specs.model.Memory as memory
@@ -27,12 +26,10 @@ use Rattle.inv_rows.specs.model.Phases.MoveAt.{LoadEra, LoadRequest, ShowEra, Lo
 use Rattle.inv_rows.specs.model.Phases.Base.{Begin, Protect, Reload, Clear, Finish, Release, Allocate, Write, GiveUp, Retire, Move}
 use Rattle.inv_rows.specs.model.Scan as scan
 use Rattle.inv_rows.specs.model.Steps.{phase_move, work_move}
-use Rattle.inv_rows.specs.model.Get as gets
-use Rattle.inv_rows.specs.model.Calls.{ChangeKept, EnqueueKept, GetAt, FindVersion, FindCount, FindKey, FindValue, ChangeAt, LoadVersion, LoadCount, LoadKey, LoadValue, ExchangeRoot, EnqueueAt, LoadNumber, LoadNext, PassTail, ExchangeNext, ExchangeTail, DequeueAt, LoadTail, SwingTail, TakeNumber, TakeValue, ExchangeHead, ScanAt, ReadGuard, GiveBack, Work, Getting, Changing, Enqueuing, Dequeuing, Phase, Idle, Runs, Scans, Works}
+use Rattle.inv_rows.specs.model.Calls.{EnqueueKept, EnqueueAt, LoadNumber, LoadNext, PassTail, ExchangeNext, ExchangeTail, ScanAt, ReadGuard, GiveBack, Work, Getting, Changing, Enqueuing, Dequeuing, Phase, Idle, Runs, Scans, Works}
 use Rattle.inv_contents.specs.Knows.{base_owns}
 use Rattle.inv_contents.proofs.Contents.Told.{all_calm, calm_append}
 use Rattle.inv_rows.specs.model.Enqueue as enqueues
-use Rattle.inv_rows.specs.model.Dequeue as dequeues
 use Rattle.inv_rows.proofs.Writers.{dequeue_stays, get_stays, change_stays}
 
 abbrev pub Tells : Turn → Type 0

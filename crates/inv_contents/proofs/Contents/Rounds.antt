@@ -8,6 +8,7 @@ use Rattle.inv_rows.specs.defs.declared.event.Event.TheVariants as events
 use Rattle.inv_rows.specs.defs.declared.event.Event.{Event}
 use Rattle.inv_rows.specs.defs.declared.event.Guard.{Guard}
 use Rattle.inv_rows.specs.defs.declared.lifetime.Interval.{Interval}
+use Rattle.inv_rows.specs.defs.Shown.{shown}
 use Rattle.inv_rows.specs.words.declared.config.SchemeKind.{SchemeKind}
 use Rattle.inv_rows.specs.model.declared.post.Post.{Post}
 use Rattle.inv_rows.specs.model.Desks.{Desk}
@@ -193,11 +194,11 @@ reading_adds later number post desk told false = giving_back_adds later post des
 
 read_guard_turns : (g : Ground) (later : AfterScan) (number : ℕ) (post : Post) (desk : Desk) (guard : Guard) (span : Option Interval) → Turns g (scan.read_guard later number post desk guard span)
 read_guard_turns g later number post desk guard span =
-    turns_adds g (events.Read guard span ∷ []) (scan.read_guard later number post desk guard span) refl (reading_adds later number post (scan.with_read desk number (guard, span)) (events.Read guard span ∷ []) (nat_lt (number + 1) (the_guards.guards post.layout.config)))
+    turns_adds g (events.Read guard span ∷ []) (scan.read_guard later number post desk guard span) refl (reading_adds later number post (scan.with_read desk number (guard, shown span)) (events.Read guard span ∷ []) (nat_lt (number + 1) (the_guards.guards post.layout.config)))
 
 pub scan_turns : (g : Ground) (later : AfterScan) (at : ScanAt) (post : Post) (desk : Desk) (found : ℕ) → Turns g (scan.scan_turn later at post desk found)
 scan_turns g later (ReadGuard number) post desk found =
-    read_guard_turns g later number post desk (the_guards.guard_at post.layout.config number) (the_guards.published (the_guards.guard_at post.layout.config number) found)
+    read_guard_turns g later number post desk (the_guards.guard_at post.layout.config number) (the_guards.eras_in (the_guards.guard_at post.layout.config number) found)
 scan_turns g later (GiveBack place slot) post desk found =
     turns_adds g (events.Back slot ∷ []) (scan.scan_turn later (GiveBack place slot) post desk found) refl (giving_back_adds later post (scan.with_back desk place) (events.Back slot ∷ []) (scan.unmet_from (scan.with_back desk place) place))
 

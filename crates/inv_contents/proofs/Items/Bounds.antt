@@ -2,7 +2,7 @@
 use Rattle.std.proofs.Common.{ℕ, ◌≡◌, ◌≤◌, ◌<◌, ◌+◌, Bool, true, false, arith, refl, ap, subst, ◌∙◌, List, [], ◌∷◌, ◌++◌, length}
 use Rattle.std.proofs.lemmas.Bool.Decides.{nat_tests}
 use Rattle.std.proofs.lemmas.List.{length-append, take-append-le, take_all}
-use Rattle.std.specs.Prelude.{◌==◌, nat_le, if◌then◌else◌, take, None}
+use Rattle.std.specs.Prelude.{◌==◌, nat_le, take, None}
 use Rattle.inv_rows.specs.words.Place.{Place}
 use Rattle.inv_rows.specs.words.Place.Place.{Bucket, Head, Row}
 use Rattle.inv_rows.specs.defs.Pairs.{Pair, changed, pairs_after}

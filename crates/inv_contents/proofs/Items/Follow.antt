@@ -1,6 +1,6 @@
 -- What a step finds of the queue's rows, and a row to which a dequeue has followed the head's next link.
 use Rattle.std.proofs.Common.{ℕ, ◌≡◌, ◌+◌, true, false, arith, ap, sym, ◌∙◌, [], ◌∷◌}
-use Rattle.std.specs.Prelude.{◌==◌, if◌then◌else◌}
+use Rattle.std.specs.Prelude.{◌==◌}
 use Rattle.inv_rows.specs.words.Place.{Place}
 use Rattle.inv_rows.specs.words.Place.Place.{Head, Row}
 use Rattle.inv_rows.specs.defs.declared.event.Event.TheVariants as events

@@ -1,5 +1,5 @@
 -- Most events leave what the book says of the queue and of the changes of buckets.
-use Rattle.std.proofs.Common.{ℕ, ◌≡◌, Bool, true, false, ◌&&◌, refl, ◌∙◌, List, [], ◌∷◌, ◌++◌}
+use Rattle.std.proofs.Common.{ℕ, ◌≡◌, true, refl, ◌∙◌, List, [], ◌∷◌, ◌++◌}
 use Rattle.inv_rows.specs.defs.declared.event.Event.{Event}
 use Rattle.inv_rows.specs.defs.declared.event.Event.TheVariants as events
 use Rattle.inv_rows.specs.defs.declared.event.Root.{Root}

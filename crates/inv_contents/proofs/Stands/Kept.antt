@@ -4,10 +4,7 @@ use Rattle.inv_rows.specs.words.declared.layout.Layout.{Layout}
 use Rattle.inv_rows.specs.model.declared.post.Post.{Post}
 use Rattle.inv_rows.specs.model.Desks.{Desk}
 use Rattle.inv_rows.specs.model.Posts.{counted}
-use Rattle.inv_rows.specs.model.Phases.{ProtectAt, Base}
-use Rattle.inv_rows.specs.model.Phases.ProtectAt.{WithdrawRequest, WithdrawHelper}
-use Rattle.inv_rows.specs.model.Phases.Base.{Begin, Protect, Reload, Clear, Finish, Release, Allocate, Write, GiveUp, Retire, Move}
-use Rattle.inv_rows.specs.model.Calls.{Why, Opens, FollowsHead, Fills, ClearsNext, Clears, Finishes, GivesUp, Retires, Tidies, Advances, Releases, Phase, Idle, Runs, Scans, Works}
+use Rattle.inv_rows.specs.model.Calls.{Phase, Idle, Runs, Scans, Works}
 use Rattle.inv_rows.specs.model.Steps.{phase_turn, first_phase}
 use Rattle.inv_rows.specs.model.Scan.{scan_turn}
 use Rattle.inv_rows.specs.model.Locals.{Local, begun_post, turn}
@@ -15,13 +12,13 @@ use Rattle.inv_rows.specs.model.World.{begin, step, finds}
 use Rattle.inv_requests.specs.shapes.Seats.{PostFits, PhaseFits}
 use Rattle.inv_requests.proofs.shapes.Frame.{seat_stays, seat_steps, begin_stays, begin_begins, settled_seated}
 use Rattle.inv_requests.proofs.shapes.Kept.{counted_fits, run_counted, one_moves}
-use Rattle.inv_requests.specs.Parents.{protect_stands, base_stands, why_stands, phase_stands}
+use Rattle.inv_requests.specs.Parents.{phase_stands}
 use Rattle.inv_requests.proofs.Paces.{Any}
 use Rattle.inv_contents.specs.Stands.{Stood, StandsStart, StandsBegin, StandsKept}
 use Rattle.inv_contents.proofs.Stands.Rounds.{TurnStood, free_stood, adds_stood, scan_told, scan_adds, first_free}
 use Rattle.inv_contents.proofs.Stands.Works.{work_stood}
 use Rattle.inv_contents.proofs.Stands.Machines.{run_stood}
-use Rattle.inv_requests.proofs.Parents.{protect_counted, why_counted}
+use Rattle.inv_requests.proofs.Parents.{why_counted}
 
 stood_counted : (phase : Phase) (post : Post) → Stood phase post → Stood phase (counted post)
 stood_counted phase post h = record { reads = λ s e. h.reads s e; queue = λ s e. h.queue s e; nexts = λ s e. h.nexts s e }

@@ -9,6 +9,7 @@ use Rattle.inv_rows.specs.defs.declared.event.Event.TheVariants as events
 use Rattle.inv_rows.specs.defs.declared.event.Event.{Event}
 use Rattle.inv_rows.specs.defs.declared.event.Guard.{Guard}
 use Rattle.inv_rows.specs.defs.declared.lifetime.Interval.{Interval}
+use Rattle.inv_rows.specs.defs.Shown.{shown}
 use Rattle.inv_rows.specs.words.declared.config.SchemeKind.{SchemeKind}
 use Rattle.inv_rows.specs.model.declared.post.Post.{Post}
 use Rattle.inv_rows.specs.model.Desks.{Desk, with_life}
@@ -168,16 +169,16 @@ reading_adds later number post desk told false = giving_back_adds later post des
 -- what a scan's step tells besides
 abbrev pub scan_told : ScanAt → Post → ℕ → List Event
 scan_told (ReadGuard number) post found =
-    events.Read (the_guards.guard_at post.layout.config number) (the_guards.published (the_guards.guard_at post.layout.config number) found) ∷ []
+    events.Read (the_guards.guard_at post.layout.config number) (the_guards.eras_in (the_guards.guard_at post.layout.config number) found) ∷ []
 scan_told (GiveBack place slot) post found = events.Back slot ∷ []
 
 read_guard_adds : (later : AfterScan) (number : ℕ) (post : Post) (desk : Desk) (guard : Guard) (span : Option Interval) → Adds (events.Read guard span ∷ []) (scan.read_guard later number post desk guard span)
 read_guard_adds later number post desk guard span =
-    reading_adds later number post (scan.with_read desk number (guard, span)) (events.Read guard span ∷ []) (nat_lt (number + 1) (the_guards.guards post.layout.config))
+    reading_adds later number post (scan.with_read desk number (guard, shown span)) (events.Read guard span ∷ []) (nat_lt (number + 1) (the_guards.guards post.layout.config))
 
 pub scan_adds : (later : AfterScan) (at : ScanAt) (post : Post) (desk : Desk) (found : ℕ) → Adds (scan_told at post found) (scan.scan_turn later at post desk found)
 scan_adds later (ReadGuard number) post desk found =
-    read_guard_adds later number post desk (the_guards.guard_at post.layout.config number) (the_guards.published (the_guards.guard_at post.layout.config number) found)
+    read_guard_adds later number post desk (the_guards.guard_at post.layout.config number) (the_guards.eras_in (the_guards.guard_at post.layout.config number) found)
 scan_adds later (GiveBack place slot) post desk found =
     giving_back_adds later post (scan.with_back desk place) (events.Back slot ∷ []) (scan.unmet_from (scan.with_back desk place) place)
 

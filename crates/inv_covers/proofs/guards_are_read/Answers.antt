@@ -1,4 +1,4 @@
-use Rattle.inv_covers.proofs.Guards.{guards_fit, helpers_fit, handed_covers, handed_kept}
+use Rattle.inv_covers.proofs.Guards.{guards_fit, helpers_fit, helpers_first, handed_covers, handed_kept}
 use Rattle.inv_covers.proofs.guards_are_read.Goals as goal
 
 pub returns-clause-own : goal.returns-clause-own
@@ -6,6 +6,9 @@ returns-clause-own c = guards_fit
 
 pub returns-clause-helpers : goal.returns-clause-helpers
 returns-clause-helpers c = helpers_fit
+
+pub returns-clause-first : goal.returns-clause-first
+returns-clause-first c = helpers_first
 
 pub returns-clause-handed : goal.returns-clause-handed
 returns-clause-handed c = handed_covers

@@ -19,7 +19,7 @@ use Rattle.inv_handover.specs.covers.model.Calls.Why.{Advances, Clears, ClearsNe
 use Rattle.inv_handover.specs.covers.model.Calls.Work.{Changing, Dequeuing, Enqueuing, Getting}
 use Rattle.inv_handover.specs.covers.model.Change.{changed_bucket}
 use Rattle.inv_handover.specs.covers.model.Desks.{Desk}
-use Rattle.inv_handover.specs.covers.model.Guards.{guard_at, guards, published}
+use Rattle.inv_handover.specs.covers.model.Guards.{guard_at, guards, eras_in, published}
 use Rattle.inv_handover.specs.covers.model.Locals.{Local, turn}
 use Rattle.inv_handover.specs.covers.model.Machine.{after, allocate_turn, base_move, begin_turn, move_turn, protect_turn, retire_move, retire_turn}
 use Rattle.inv_handover.specs.covers.model.Memory.{place_in}
@@ -69,7 +69,7 @@ abbrev pub own_told : Phase → Post → ℕ → List Event
 own_told Idle post found = []
 own_told (Runs why base) post found = (after base post found).told
 own_told (Scans later (ReadGuard number)) post found =
-    events.Read (guard_at post.layout.config number) (published (guard_at post.layout.config number) found) ∷ []
+    events.Read (guard_at post.layout.config number) (eras_in (guard_at post.layout.config number) found) ∷ []
 own_told (Scans later (GiveBack place slot)) post found = events.Back slot ∷ []
 own_told (Works work) post found = []
 

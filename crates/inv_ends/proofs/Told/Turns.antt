@@ -46,7 +46,7 @@ use Rattle.inv_handover.specs.covers.defs.declared.event.Event.{Event}
 use Rattle.inv_handover.specs.covers.defs.declared.event.Root.{Root}
 use Rattle.inv_handover.specs.covers.defs.declared.fold.Change.{Change}
 use Rattle.inv_handover.specs.covers.words.declared.config.SchemeKind.{SchemeKind}
-use Rattle.std.specs.Prelude.{List, [], ◌∷◌, ◌++◌, length, Option, Some, None, nat_lt, if◌then◌else◌, ◌==◌, ◌||◌, ◌%◌}
+use Rattle.std.specs.Prelude.{List, [], ◌∷◌, ◌++◌, length, Option, Some, None, nat_lt, if◌then◌else◌, ◌==◌, ◌%◌}
 use Rattle.inv_handover.proofs.covers.model.Standing.{stands-withdrawn_same, stands-withdrawn_other}
 use Rattle.inv_handover.proofs.covers.model.Facts.{either_true, no_truth_2}
 use Rattle.inv_handover.proofs.covers.model.Schemes.{each_clear, each_finish}

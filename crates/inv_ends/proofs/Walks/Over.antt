@@ -1,11 +1,9 @@
 -- A request that is over stays over: its answer stands until it is taken, and then the tag of its index has risen.
-use Rattle.std.proofs.Common.{ℕ, ◌+◌, ◌≤◌, ◌<◌, ◌^◌, Bool, true, false, ◌≡◌, ◌∙◌, sym, refl, ap, subst, arith}
+use Rattle.std.proofs.Common.{ℕ, ◌+◌, ◌<◌, Bool, true, false, ◌≡◌, ◌∙◌, sym, refl, ap, subst, arith}
 use Rattle.std.proofs.lemmas.Bool.Decides.{nat_tests}
-use Rattle.inv_handover.proofs.covers.model.Ranges.{bounds_of}
 use Rattle.inv_handover.specs.covers.model.Calls.{Phase, Why}
 use Rattle.inv_handover.specs.covers.model.Calls.Phase.{Idle, Runs, Scans, Works}
 use Rattle.inv_handover.specs.covers.model.Links.{link_number}
-use Rattle.inv_handover.specs.covers.model.Locals.{Local}
 use Rattle.inv_handover.specs.covers.model.Memory.{upd}
 use Rattle.inv_handover.specs.covers.model.Phases.{Aim}
 use Rattle.inv_handover.specs.covers.model.Phases.Base.{Allocate, Begin, Clear, Finish, GiveUp, Move, Protect, Release, Reload, Retire, Write}
@@ -20,7 +18,7 @@ use Rattle.inv_handover.proofs.requests.Answering.{Bits, own_bits}
 use Rattle.inv_handover.proofs.requests.Going.{stands_in}
 use Rattle.inv_handover.proofs.requests.Kept.{at_of}
 use Rattle.inv_handover.specs.requests.Context.{At}
-use Rattle.inv_handover.specs.requests.Deals.{ahead, answered_with, asked_by, gave_by, has_tag, is_quiet, taken_with}
+use Rattle.inv_handover.specs.requests.Deals.{answered_with, asked_by, gave_by, has_tag, is_quiet, taken_with}
 use Rattle.inv_handover.specs.requests.NextDeals.{move_deals, next_deals, phase_deals, protect_deals}
 use Rattle.inv_handover.specs.requests.Standing.{request_of}
 use Rattle.inv_handover.specs.requests.Views.{Deal, View}
@@ -29,7 +27,7 @@ use Rattle.inv_ends.proofs.Walks.Tags.{tag_taken, tags_rise, take_below}
 use Rattle.inv_ends.specs.Moves.{MeetingNeeds, done_at, open_at, over_in}
 use Rattle.inv_handover.proofs.covers.words.Parts.{halves_one, pending≢answered}
 use Rattle.inv_handover.specs.covers.words.Packed.{halves, pending_word}
-use Rattle.inv_handover.specs.covers.words.Place.{Place, is_valid}
+use Rattle.inv_handover.specs.covers.words.Place.{is_valid}
 use Rattle.inv_handover.specs.covers.words.Place.Place.{Index, Request}
 use Rattle.std.specs.Prelude.{length, nat_lt, if◌then◌else◌, ◌==◌, ◌&&◌, ◌||◌}
 use Rattle.inv_handover.proofs.requests.Handing.{mark_few, asked_bits}

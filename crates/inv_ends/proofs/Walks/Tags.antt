@@ -10,10 +10,8 @@ use Rattle.inv_handover.specs.covers.defs.declared.event.Event.TheVariants as ev
 use Rattle.inv_handover.specs.covers.defs.declared.event.Root.TheVariants as roots
 use Rattle.inv_handover.specs.covers.defs.declared.call.ClockMove.TheVariants as moves
 use Rattle.inv_handover.specs.covers.model.Allocate.{after_claim_slot, is_claimed, walk_past, walking}
-use Rattle.inv_handover.specs.covers.model.Calls.{Phase, Task, Why}
+use Rattle.inv_handover.specs.covers.model.Calls.{Phase, Why}
 use Rattle.inv_handover.specs.covers.model.Calls.Phase.{Idle, Runs, Scans, Works}
-use Rattle.inv_handover.specs.covers.model.Calls.Task.{Changes, Dequeues, Enqueues, Gets, Holds}
-use Rattle.inv_handover.specs.covers.model.Calls.Why.{Advances, Clears, ClearsNext, Fills, Finishes, FollowsHead, GivesUp, Opens, Releases, Retires, Tidies}
 use Rattle.inv_handover.specs.covers.model.Links.{parent_of}
 use Rattle.inv_handover.specs.covers.model.Locals.{Local, after, settled}
 use Rattle.inv_handover.specs.covers.model.Machine.{move_turn}
@@ -30,7 +28,6 @@ use Rattle.inv_handover.specs.covers.model.Phases.ProtectAt.{AnswerOwn, CheckClo
 use Rattle.inv_handover.specs.covers.model.Phases.RetireAt.{LoadLife, LoadRetire, StoreRetired}
 use Rattle.inv_handover.specs.covers.model.Posts.{counted, reserves_helper, tag_of, upper, with_row, with_tag}
 use Rattle.inv_handover.specs.covers.model.Protect.{concluded, held_post, protected, told_held}
-use Rattle.inv_handover.specs.covers.model.Rounds.{index_of}
 use Rattle.inv_handover.specs.covers.model.SlowPath.{asking, own_request}
 use Rattle.inv_handover.specs.covers.model.Steps.{phase_turn}
 use Rattle.inv_handover.specs.covers.model.World.{World, finds, step}
@@ -43,11 +40,10 @@ use Rattle.inv_handover.proofs.covers.shapes.Inside.{shape_moves}
 use Rattle.inv_handover.proofs.covers.shapes.Kept.{counted_fits, run_counted}
 use Rattle.inv_handover.proofs.covers.shapes.Shapes.{shape_grows}
 use Rattle.inv_handover.specs.covers.shapes.Frame.{Grows, Moves, Onward, Owes, Seated}
-use Rattle.inv_handover.specs.covers.shapes.Seats.{PhaseFits, PostFits, Run, Seats, index_by}
+use Rattle.inv_handover.specs.covers.shapes.Seats.{PhaseFits, PostFits, Run, Seats}
 use Rattle.inv_handover.specs.covers.words.Packed.{read_reservation}
 use Rattle.inv_handover.specs.covers.words.Place.{is_valid}
 use Rattle.inv_handover.specs.covers.words.declared.layout.Layout.{Layout}
-use Rattle.inv_handover.proofs.requests.Standings.{index_small}
 use Rattle.inv_ends.proofs.Ends.Stood.{at_below}
 use Rattle.inv_handover.proofs.covers.model.Facts.{set_there, no_truth_2}
 

@@ -1,5 +1,5 @@
 -- What tracked links give to the contents of rows and to the queue.
-use Rattle.std.proofs.Common.{ℕ, ◌≡◌, ◌<◌, ◌+◌, ◌-◌, ◌%◌, Bool, true, Some, arith, ap, subst}
+use Rattle.std.proofs.Common.{ℕ, ◌≡◌, ◌<◌, ◌+◌, ◌-◌, ◌%◌, Bool, true, Some, arith, refl, ap, subst}
 use Rattle.std.proofs.lemmas.Bool.Decides.{nat_tests}
 use Rattle.std.specs.Prelude.{◌==◌, ◌&&◌, ◌||◌, not}
 use Rattle.inv_covers.specs.words.Place.Place.{Row}
@@ -24,7 +24,7 @@ use Rattle.inv_covers.specs.rows.Follow.{at_asks}
 use Rattle.inv_covers.specs.rows.Queue.{Line}
 use Rattle.inv_covers.specs.rows.Tries.{is_tail, is_head, FromHead}
 use Rattle.inv_links.proofs.Origins.Came.{aimed_at}
-use Rattle.inv_links.proofs.Origins.Ends.{held_tracked, held_root, answer_tracked}
+use Rattle.inv_links.proofs.Origins.Ends.{end_tracked, end_root, answer_tracked}
 use Rattle.inv_links.specs.Origins.{OriginsNeeds}
 use Rattle.inv_links.specs.Tracked.{root_for}
 use Rattle.inv_links.specs.Links.{is_bucket, links_to, Links, LinksGive}
@@ -73,7 +73,7 @@ answer_link w i v l z why aim index root steps at link era n h q a r =
 -- the link with which a protection ends
 held_link : (w : World) (i : ℕ) (v : View) (l : Line) (z : Asking) (why : Why) (base : Base) (slot era : ℕ) → OriginsNeeds w i z → Links w v l z → (w.seat i).phase ≡ Runs why base → (after base (counted (w.seat i).post) (finds w i)).outcome ≡ Ends (Protected (protect_ends.Held slot era)) → links_to w.book w.mem v l (root_by w.layout.config.buckets why) (slot + 1) ≡ true
 held_link w i v l z why base slot era n h q o =
-    subst (λ (x : Root). links_to w.book w.mem v l x (slot + 1) ≡ true) (held_root w i why base slot era n.seats q o) (h.tracked i (slot + 1) (held_tracked w i z why base slot era q o))
+    subst (λ (x : Root). links_to w.book w.mem v l x (slot + 1) ≡ true) (end_root w i why base (Protected (protect_ends.Held slot era)) (slot + 1) n.seats q o refl) (h.tracked i (slot + 1) (end_tracked w i z why base (Protected (protect_ends.Held slot era)) (slot + 1) q o refl))
 
 pub links_give : LinksGive
 links_give w i v l z n h = record {

@@ -25,7 +25,7 @@ use Rattle.inv_covers.specs.model.Dequeue as dequeues
 use Rattle.inv_covers.specs.model.Desks.{Desk, with_life}
 use Rattle.inv_covers.specs.model.Enqueue as enqueues
 use Rattle.inv_covers.specs.model.Get as gets
-use Rattle.inv_covers.specs.model.Guards.{guard_at, guards, published}
+use Rattle.inv_covers.specs.model.Guards.{guard_at, guards, eras_in, published}
 use Rattle.inv_covers.specs.model.Machine as machine
 use Rattle.inv_covers.specs.model.Memory.{bump}
 use Rattle.inv_covers.specs.model.MoveClock as movers
@@ -425,7 +425,7 @@ read_in f later number post desk told false h = giving_back_in f later post desk
 
 scan_in : (f : ℕ → Bool) (later : AfterScan) (at : ScanAt) (post : Post) (desk : Desk) (found : ℕ) → links_in f (scan.scan_turn later at post desk found).told ≡ true
 scan_in f later (ReadGuard number) post desk found =
-    read_in f later number post (scan.with_read desk number (guard_at post.layout.config number, published (guard_at post.layout.config number) found)) (events.Read (guard_at post.layout.config number) (published (guard_at post.layout.config number) found) ∷ []) (nat_lt (number + 1) (guards post.layout.config)) refl
+    read_in f later number post (scan.with_read desk number (guard_at post.layout.config number, published (guard_at post.layout.config number) found)) (events.Read (guard_at post.layout.config number) (eras_in (guard_at post.layout.config number) found) ∷ []) (nat_lt (number + 1) (guards post.layout.config)) refl
 scan_in f later (GiveBack place slot) post desk found = giving_back_in f later post (scan.with_back desk place) (events.Back slot ∷ []) (scan.unmet_from (scan.with_back desk place) place) refl
 
 -- the rows that a step links are of f

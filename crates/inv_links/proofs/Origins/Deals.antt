@@ -1,14 +1,13 @@
 -- The answer that a request has after a step it had before, or its owner or a mover carries it and gives it in this step.
-use Rattle.std.proofs.Common.{ℕ, ◌≡◌, ◌≤◌, ◌<◌, ◌+◌, ◌^◌, ◌⊎◌, inl, inr, Bool, true, false, arith, refl, sym, ap, subst, ◌∙◌}
+use Rattle.std.proofs.Common.{ℕ, ◌≡◌, ◌⊎◌, inl, inr, Bool, true, false, arith, refl, sym, ap, subst, ◌∙◌}
 use Rattle.std.proofs.lemmas.Bool.Decides.{nat_tests}
 use Rattle.std.specs.Prelude.{◌==◌, ◌&&◌, ◌||◌, nat_lt, if◌then◌else◌}
 use Rattle.inv_covers.specs.words.Place.{Place}
 use Rattle.inv_covers.specs.words.Place.Place.{Clock, Index, Request}
-use Rattle.inv_covers.specs.words.Packed.{halves, pending_word}
+use Rattle.inv_covers.specs.words.Packed.{halves}
 use Rattle.inv_covers.specs.words.declared.layout.Layout.{Layout}
-use Rattle.inv_covers.proofs.words.Parts.{halves_one, pending_some, pending≢answered, pending_one}
+use Rattle.inv_covers.proofs.words.Parts.{halves_one}
 use Rattle.inv_covers.specs.defs.declared.event.Root.{Root}
-use Rattle.inv_covers.proofs.model.Ranges.{bounds_of}
 use Rattle.inv_covers.specs.model.Links.{link_number}
 use Rattle.inv_covers.specs.model.Locals.{Local}
 use Rattle.inv_covers.specs.model.Memory.{upd}
@@ -21,19 +20,16 @@ use Rattle.inv_covers.specs.model.Phases.Base.{Begin, Protect, Reload, Clear, Fi
 use Rattle.inv_covers.specs.model.Calls.{Why, Phase, Idle, Runs, Scans, Works}
 use Rattle.inv_covers.specs.model.World.{World}
 use Rattle.inv_requests.specs.Context.{At}
-use Rattle.inv_requests.specs.Deals.{gave_by, ahead}
+use Rattle.inv_requests.specs.Deals.{gave_by}
 use Rattle.inv_requests.specs.NextDeals.{protect_deals, move_deals, base_deals, phase_deals, next_deals}
-use Rattle.inv_requests.specs.Standing.{request_of}
 use Rattle.inv_requests.specs.Views.{View, Deal}
 use Rattle.inv_requests.specs.Views.Deal.{Quiet, Open, Answered, Passed, Taken}
-use Rattle.inv_requests.proofs.Answering.{Bits}
-use Rattle.inv_requests.proofs.Going.{stands_in, link_few}
-use Rattle.inv_requests.proofs.Helping.{asker_of}
+use Rattle.inv_requests.proofs.Going.{stands_in}
 use Rattle.inv_requests.proofs.Kept.{at_of}
 use Rattle.inv_links.specs.Tracked.{carries_in, carries_at, has_link, helps_at, helps_in, Tracked, Carried, Given, Helped}
 use Rattle.inv_links.specs.Origins.{OriginsNeeds}
 use Rattle.inv_requests.proofs.Handing.{mark_few, open_exact, asked_bits, gave_is}
-use Rattle.inv_covers.proofs.model.Facts.{by_cases, number_is}
+use Rattle.inv_covers.proofs.model.Facts.{number_is}
 
 -- a mover answers a request that is open
 pub answered_is : (mem : Place → ℕ) (seat : ℕ → Local) (i : ℕ) (v : View) (why : Why) (e k t j : ℕ) (root : Root) (link : ℕ) → At mem seat i v → (seat i).phase ≡ Runs why (Move (AnswerAsked e k t j root link))

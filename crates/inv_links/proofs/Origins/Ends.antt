@@ -1,10 +1,11 @@
 -- A protection ends with a link that was tracked, and so is the answer that a seat finds in its request.
 use Rattle.std.proofs.Common.{ℕ, ◌≡◌, ◌+◌, ◌-◌, Bool, true, false, List, arith, refl, sym, subst, ◌∙◌, ap}
 use Rattle.std.proofs.lemmas.Bool.Decides.{nat_tests}
-use Rattle.std.specs.Prelude.{◌==◌, ◌&&◌, if◌then◌else◌, []}
+use Rattle.std.specs.Prelude.{◌==◌, ◌&&◌, if◌then◌else◌, is_none, [], Option, Some}
 use Rattle.inv_covers.specs.words.Place.Place.{Clock}
 use Rattle.inv_covers.specs.defs.declared.event.Event.{Event}
 use Rattle.inv_covers.specs.defs.declared.event.Root.{Root}
+use Rattle.inv_covers.specs.model.declared.ends.FollowEnd.TheVariants as follow_ends
 use Rattle.inv_covers.specs.model.declared.ends.ProtectEnd.TheVariants as protect_ends
 use Rattle.inv_covers.specs.model.declared.post.Post.{Post}
 use Rattle.inv_covers.specs.model.Machine.{protect_turn, after}
@@ -12,130 +13,94 @@ use Rattle.inv_covers.specs.model.Memory.{bump}
 use Rattle.inv_covers.specs.model.Posts.{counted, upper, reserves_helper}
 use Rattle.inv_covers.specs.model.Protect.{held_post, told_held, concluded, failed_once}
 use Rattle.inv_covers.specs.model.SlowPath.{own_request}
-use Rattle.inv_covers.specs.model.Phases.{Aim, Alone, Follows, ProtectAt, Base, Outcome, Ends, Turn, goes}
-use Rattle.inv_covers.specs.model.Phases.Ending.{Protected}
-use Rattle.inv_covers.specs.model.Phases.ProtectAt.{LoadClock, PublishEra, LoadLink, CheckClock, PublishRequest, LoadOwnClock, PublishHelper, LoadOwnLink, CheckOwnClock, AnswerOwn, LoadAnswer, TakeAnswer, WithdrawRequest, WithdrawHelper, LoadWithin, CheckUpper, RaiseUpper}
-use Rattle.inv_covers.specs.model.Phases.Base.{Begin, Protect, Reload, Clear, Finish, Release, Allocate, Write, GiveUp, Retire, Move}
+use Rattle.inv_covers.specs.model.Phases.{Aim, Alone, Follows, ProtectAt, Base, Outcome, Ends, Ending, goes, ends}
+use Rattle.inv_covers.specs.model.Phases.Ending.{Followed, Protected}
+use Rattle.inv_covers.specs.model.Phases.ProtectAt.{PublishEra, CheckClock, CheckOwnClock, AnswerOwn, WithdrawHelper, CheckUpper, RaiseUpper}
+use Rattle.inv_covers.specs.model.Phases.Base.{Protect, Move}
 use Rattle.inv_covers.specs.model.Calls.{Why, Phase, Runs}
 use Rattle.inv_covers.specs.model.World.{World, finds}
 use Rattle.inv_requests.specs.Views.{View}
 use Rattle.inv_links.specs.Tracked.{carries_at, carries_in, root_for, root_in, Tracked, Carried, Given}
-use Rattle.inv_links.specs.Origins.{HeldTracked, HeldRoot, AnswerTracked}
+use Rattle.inv_links.specs.Origins.{link_of, ends_at, ends_base, EndsWith, EndTracked, EndRoot, AnswerTracked}
 use Rattle.inv_covers.specs.shapes.Seats.{Seats, root_by}
 use Rattle.inv_links.proofs.Origins.Came.{aimed_at}
 use Rattle.inv_links.proofs.Origins.Heard.{answer_heard}
-use Rattle.inv_links.proofs.Origins.Plain.{out_plain, is_plain, plain_after, out_moves, moves_on}
+use Rattle.inv_links.proofs.Origins.Plain.{out_plain, plain_after, out_moves, moves_on}
 use Rattle.inv_covers.proofs.Held.{finds_at}
-use Rattle.inv_covers.proofs.model.Facts.{both}
+use Rattle.inv_covers.proofs.model.Facts.{both, first_of, rest_of}
 
 -- the link with which a protection ends
-alone_link : (link era slot last : ℕ) (null : Bool) → (link == 0) ≡ null → ◌≡◌ {A = Outcome} (Ends (Protected (if null then protect_ends.Null else protect_ends.Held (link - 1) era))) (Ends (Protected (protect_ends.Held slot last))) → (link == slot + 1) ≡ true
-alone_link link era slot last true e h = absurd (cc)
-alone_link link era slot last false e h = let s : link - 1 ≡ slot = cc in grind (arith, nat_tests)
+alone_link : (link era : ℕ) (ending : Ending) (x : ℕ) (null : Bool) → (link == 0) ≡ null → ◌≡◌ {A = Outcome} (Ends (Protected (if null then protect_ends.Null else protect_ends.Held (link - 1) era))) (Ends ending) → link_of ending ≡ Some x → (link == x) ≡ true
+alone_link link era ending x true e h k = let s : Protected protect_ends.Null ≡ ending = cc in let z : ◌≡◌ {A = Option ℕ} (Some 0) (Some x) = ap link_of s ∙ k in let y : 0 ≡ x = cc in subst (λ (n : ℕ). (link == n) ≡ true) y e
+alone_link link era ending x false e h k = let s : Protected (protect_ends.Held (link - 1) era) ≡ ending = cc in let z : ◌≡◌ {A = Option ℕ} (Some (link - 1 + 1)) (Some x) = ap link_of s ∙ k in let y : link - 1 + 1 ≡ x = cc in grind (arith, nat_tests)
 
-follows_link : (one two : Turn) (slot last : ℕ) (c : Bool) → (one.outcome ≡ Ends (Protected (protect_ends.Held slot last)) → ⊥) → (two.outcome ≡ Ends (Protected (protect_ends.Held slot last)) → ⊥) → (if c then one else two).outcome ≡ Ends (Protected (protect_ends.Held slot last)) → ⊥
-follows_link one two slot last true a b h = a h
-follows_link one two slot last false a b h = b h
+follows_link : (post : Post) (told : List Event) (next : Base) (link : ℕ) (ending : Ending) (x : ℕ) (null : Bool) → (link == 0) ≡ null → (if null then ends post told (Followed follow_ends.NoNext) else goes post told next).outcome ≡ Ends ending → link_of ending ≡ Some x → (link == x) ≡ true
+follows_link post told next link ending x true e h k = let s : Followed follow_ends.NoNext ≡ ending = cc in let z : ◌≡◌ {A = Option ℕ} (Some 0) (Some x) = ap link_of s ∙ k in let y : 0 ≡ x = cc in subst (λ (n : ℕ). (link == n) ≡ true) y e
+follows_link post told next link ending x false e h k = absurd (cc)
 
-concluded_link : (aim : Aim) (index : ℕ) (root : Root) (n link era : ℕ) (post : Post) (told : List Event) (slot last : ℕ) → (concluded aim index root n link era post told).outcome ≡ Ends (Protected (protect_ends.Held slot last)) → (link == slot + 1) ≡ true
-concluded_link Alone index root n link era post told slot last h = alone_link link era slot last (link == 0) refl h
-concluded_link Follows index root n link era post told slot last h = absurd (follows_link _ _ slot last (link == 0) (λ g. cc) (λ g. cc) h)
+concluded_link : (aim : Aim) (index : ℕ) (root : Root) (n link era : ℕ) (post : Post) (told : List Event) (ending : Ending) (x : ℕ) → (concluded aim index root n link era post told).outcome ≡ Ends ending → link_of ending ≡ Some x → (link == x) ≡ true
+concluded_link Alone index root n link era post told ending x h k = alone_link link era ending x (link == 0) refl h k
+concluded_link Follows index root n link era post told ending x h k = follows_link post told _ link ending x (link == 0) refl h k
 
-check_link : (found own : ℕ) (aim : Aim) (index : ℕ) (root : Root) (n link era : ℕ) (post next : Post) (told : List Event) (base : Base) (slot last : ℕ) (same : Bool) → (found == own) ≡ same
-    → (if same then concluded aim index root n link era next told else goes post [] base).outcome ≡ Ends (Protected (protect_ends.Held slot last)) → (link == slot + 1 && found == own) ≡ true
-check_link found own aim index root n link era post next told base slot last true e h = both (link == slot + 1) (found == own) (concluded_link aim index root n link era next told slot last h) e
-check_link found own aim index root n link era post next told base slot last false e h = absurd (cc)
+check_link : (found own : ℕ) (aim : Aim) (index : ℕ) (root : Root) (n link era : ℕ) (post next : Post) (told : List Event) (base : Base) (ending : Ending) (x : ℕ) (same : Bool) → (found == own) ≡ same
+    → (if same then concluded aim index root n link era next told else goes post [] base).outcome ≡ Ends ending → link_of ending ≡ Some x → (found == own && link == x) ≡ true
+check_link found own aim index root n link era post next told base ending x true e h k = both (found == own) (link == x) e (concluded_link aim index root n link era next told ending x h k)
+check_link found own aim index root n link era post next told base ending x false e h k = absurd (cc)
 
-protect_link : (aim : Aim) (index : ℕ) (root : Root) (n : ℕ) (at : ProtectAt) (post : Post) (found slot last : ℕ) → (protect_turn aim index root n at post found).outcome ≡ Ends (Protected (protect_ends.Held slot last)) → carries_at found (upper post.span) at (slot + 1) ≡ true
-protect_link aim index root n (LoadClock tries) post found slot last h = absurd (cc)
-protect_link aim index root n (PublishEra era tries) post found slot last h = absurd (cc)
-protect_link aim index root n (LoadLink era tries) post found slot last h = absurd (cc)
-protect_link aim index root n (CheckClock era tries link) post found slot last h =
-    check_link found era aim index root n link era post (held_post post index root link) (told_held index root link n) (Protect aim index root n (PublishEra found (failed_once tries))) slot last (found == era) refl h
-protect_link aim index root n PublishRequest post found slot last h = absurd (cc)
-protect_link aim index root n LoadOwnClock post found slot last h = absurd (cc)
-protect_link aim index root n (PublishHelper first era end) post found slot last h = absurd (cc)
-protect_link aim index root n (LoadOwnLink first era end) post found slot last h = absurd (cc)
-protect_link aim index root n (CheckOwnClock first era end link) post found slot last h = absurd (follows_link _ _ slot last (found == era) (λ g. cc) (λ g. cc) h)
-protect_link aim index root n (AnswerOwn first era link) post found slot last h = absurd (follows_link _ _ slot last (found == own_request post index root) (λ g. cc) (λ g. cc) h)
-protect_link aim index root n (LoadAnswer first) post found slot last h = absurd (cc)
-protect_link aim index root n (TakeAnswer link era) post found slot last h = absurd (cc)
-protect_link aim index root n (WithdrawRequest link era) post found slot last h = absurd (cc)
-protect_link aim index root n (WithdrawHelper link era) post found slot last h = concluded_link aim index root n link era post (reserves_helper post 0) slot last h
-protect_link aim index root n LoadWithin post found slot last h = absurd (cc)
-protect_link aim index root n (CheckUpper link) post found slot last h =
-    check_link found (upper post.span) aim index root n link found post (held_post post index root link) (told_held index root link n) (Protect aim index root n (RaiseUpper found)) slot last (found == upper post.span) refl h
-protect_link aim index root n (RaiseUpper era) post found slot last h = absurd (cc)
+no_end : (post : Post) (one two : Base) (ending : Ending) (same : Bool) → (if same then goes post [] one else goes post [] two).outcome ≡ Ends ending → ⊥
+no_end post one two ending true h = cc
+no_end post one two ending false h = cc
 
--- what a protection finds where it ends is the clock, or nothing is asked of it
-pub found_clock : (w : World) (i : ℕ) (why : Why) (aim : Aim) (index : ℕ) (root : Root) (steps : ℕ) (at : ProtectAt) (x : ℕ) → (w.seat i).phase ≡ Runs why (Protect aim index root steps at) → carries_at (finds w i) (upper (w.seat i).post.span) at x ≡ true → carries_at (w.mem Clock) (upper (w.seat i).post.span) at x ≡ true
-found_clock w i why aim index root steps (LoadClock tries) x q h = h
-found_clock w i why aim index root steps (PublishEra era tries) x q h = h
-found_clock w i why aim index root steps (LoadLink era tries) x q h = h
-found_clock w i why aim index root steps (CheckClock era tries link) x q h = subst (λ (y : ℕ). (link == x && y == era) ≡ true) (finds_at w i (Runs why (Protect aim index root steps (CheckClock era tries link))) q) h
-found_clock w i why aim index root steps PublishRequest x q h = h
-found_clock w i why aim index root steps LoadOwnClock x q h = h
-found_clock w i why aim index root steps (PublishHelper first era end) x q h = h
-found_clock w i why aim index root steps (LoadOwnLink first era end) x q h = h
-found_clock w i why aim index root steps (CheckOwnClock first era end link) x q h = subst (λ (y : ℕ). (link == x && y == era) ≡ true) (finds_at w i (Runs why (Protect aim index root steps (CheckOwnClock first era end link))) q) h
-found_clock w i why aim index root steps (AnswerOwn first era link) x q h = h
-found_clock w i why aim index root steps (LoadAnswer first) x q h = h
-found_clock w i why aim index root steps (TakeAnswer link era) x q h = h
-found_clock w i why aim index root steps (WithdrawRequest link era) x q h = h
-found_clock w i why aim index root steps (WithdrawHelper link era) x q h = h
-found_clock w i why aim index root steps LoadWithin x q h = h
-found_clock w i why aim index root steps (CheckUpper link) x q h = subst (λ (y : ℕ). (link == x && y == upper (w.seat i).post.span) ≡ true) (finds_at w i (Runs why (Protect aim index root steps (CheckUpper link))) q) h
-found_clock w i why aim index root steps (RaiseUpper era) x q h = h
+protect_ends_at : (aim : Aim) (index : ℕ) (root : Root) (n : ℕ) (at : ProtectAt) (post : Post) (found : ℕ) (ending : Ending) (x : ℕ) → (protect_turn aim index root n at post found).outcome ≡ Ends ending → link_of ending ≡ Some x → ends_at post at found x ≡ true
+protect_ends_at aim index root n (CheckClock era tries link) post found ending x h k =
+    check_link found era aim index root n link era post (held_post post index root link) (told_held index root link n) (Protect aim index root n (PublishEra found (failed_once tries))) ending x (found == era) refl h k
+protect_ends_at aim index root n (CheckOwnClock first era last link) post found ending x h k = absurd (no_end post _ _ ending (found == era) h)
+protect_ends_at aim index root n (AnswerOwn first era link) post found ending x h k = absurd (no_end post _ _ ending (found == own_request post index root) h)
+protect_ends_at aim index root n (WithdrawHelper link era) post found ending x h k = concluded_link aim index root n link era post (reserves_helper post 0) ending x h k
+protect_ends_at aim index root n (CheckUpper link) post found ending x h k =
+    check_link found (upper post.span) aim index root n link found post (held_post post index root link) (told_held index root link n) (Protect aim index root n (RaiseUpper found)) ending x (found == upper post.span) refl h k
+protect_ends_at aim index root n at post found ending x h k = absurd (cc)
 
 -- other machines do not end so
-not_plain : (outcome : Outcome) (slot last : ℕ) → out_plain outcome ≡ true → outcome ≡ Ends (Protected (protect_ends.Held slot last)) → ⊥
-not_plain outcome slot last p h = let q : false ≡ true = subst (λ (y : Outcome). out_plain y ≡ true) h p in cc
+not_plain : (outcome : Outcome) (ending : Ending) (x : ℕ) → out_plain outcome ≡ true → outcome ≡ Ends ending → link_of ending ≡ Some x → ⊥
+not_plain outcome ending x p h k = let q : is_none (link_of ending) ≡ true = subst (λ (y : Outcome). out_plain y ≡ true) h p in let z = rw k at q in cc
 
-not_moves : (outcome : Outcome) (slot last : ℕ) → out_moves outcome ≡ true → outcome ≡ Ends (Protected (protect_ends.Held slot last)) → ⊥
-not_moves outcome slot last p h = let q : false ≡ true = subst (λ (y : Outcome). out_moves y ≡ true) h p in cc
+not_moves : (outcome : Outcome) (ending : Ending) (x : ℕ) → out_moves outcome ≡ true → outcome ≡ Ends ending → link_of ending ≡ Some x → ⊥
+not_moves outcome ending x p h k = let q : is_none (link_of ending) ≡ true = subst (λ (y : Outcome). out_moves y ≡ true) h p in let z = rw k at q in cc
 
--- so its machine is a protection
-other_ends : (w : World) (i : ℕ) (base : Base) (slot last : ℕ) → is_plain base ≡ true → (after base (counted (w.seat i).post) (finds w i)).outcome ≡ Ends (Protected (protect_ends.Held slot last)) → ⊥
-other_ends w i base slot last p h = not_plain (after base (counted (w.seat i).post) (finds w i)).outcome slot last (plain_after base (counted (w.seat i).post) (finds w i) p) h
+pub ends_with : EndsWith
+ends_with (Protect aim index root steps at) post found ending link h k = protect_ends_at aim index root (bump steps) at post found ending link h k
+ends_with (Move at) post found ending link h k = absurd (not_moves (after (Move at) post found).outcome ending link (moves_on at post found) h k)
+ends_with base post found ending link h k = absurd (not_plain (after base post found).outcome ending link (plain_after base post found refl) h k)
 
-pub record ProtectIs (base : Base) : Type 0 where
-  pub aim : Aim
-  pub index : ℕ
-  pub root : Root
-  pub steps : ℕ
-  pub at : ProtectAt
-  pub is : base ≡ Protect aim index root steps at
+-- so it carries the link: what it finds is the clock, or nothing is asked of it
+pub found_clock : (w : World) (i : ℕ) (why : Why) (aim : Aim) (index : ℕ) (root : Root) (steps : ℕ) (at : ProtectAt) (x : ℕ) → (w.seat i).phase ≡ Runs why (Protect aim index root steps at) → carries_at (finds w i) (upper (w.seat i).post.span) at x ≡ true → carries_at (w.mem Clock) (upper (w.seat i).post.span) at x ≡ true
+found_clock w i why aim index root steps (CheckClock era tries link) x q h = subst (λ (y : ℕ). (link == x && y == era) ≡ true) (finds_at w i (Runs why (Protect aim index root steps (CheckClock era tries link))) q) h
+found_clock w i why aim index root steps (CheckOwnClock first era last link) x q h = subst (λ (y : ℕ). (link == x && y == era) ≡ true) (finds_at w i (Runs why (Protect aim index root steps (CheckOwnClock first era last link))) q) h
+found_clock w i why aim index root steps (CheckUpper link) x q h = subst (λ (y : ℕ). (link == x && y == upper (w.seat i).post.span) ≡ true) (finds_at w i (Runs why (Protect aim index root steps (CheckUpper link))) q) h
+found_clock w i why aim index root steps at x q h = h
 
-protect_is : (w : World) (i : ℕ) (base : Base) (slot last : ℕ) → (after base (counted (w.seat i).post) (finds w i)).outcome ≡ Ends (Protected (protect_ends.Held slot last)) → ProtectIs base
-protect_is w i (Begin at) slot last h = absurd (other_ends w i (Begin at) slot last refl h)
-protect_is w i (Protect aim index root steps at) slot last h = record { aim = aim; index = index; root = root; steps = steps; at = at; is = refl }
-protect_is w i (Reload parent index row era steps) slot last h = absurd (other_ends w i (Reload parent index row era steps) slot last refl h)
-protect_is w i (Clear index) slot last h = absurd (other_ends w i (Clear index) slot last refl h)
-protect_is w i Finish slot last h = absurd (other_ends w i Finish slot last refl h)
-protect_is w i Release slot last h = absurd (other_ends w i Release slot last refl h)
-protect_is w i (Allocate at) slot last h = absurd (other_ends w i (Allocate at) slot last refl h)
-protect_is w i (Write row kind place) slot last h = absurd (other_ends w i (Write row kind place) slot last refl h)
-protect_is w i (GiveUp row) slot last h = absurd (other_ends w i (GiveUp row) slot last refl h)
-protect_is w i (Retire at) slot last h = absurd (other_ends w i (Retire at) slot last refl h)
-protect_is w i (Move at) slot last h = absurd (not_moves (after (Move at) (counted (w.seat i).post) (finds w i)).outcome slot last (moves_on at (counted (w.seat i).post) (finds w i)) h)
+ends_carries : (post : Post) (at : ProtectAt) (found x : ℕ) → ends_at post at found x ≡ true → carries_at found (upper post.span) at x ≡ true
+ends_carries post (CheckClock era tries link) found x h = both (link == x) (found == era) (rest_of (found == era) (link == x) h) (first_of (found == era) (link == x) h)
+ends_carries post (WithdrawHelper link era) found x h = h
+ends_carries post (CheckUpper link) found x h = both (link == x) (found == upper post.span) (rest_of (found == upper post.span) (link == x) h) (first_of (found == upper post.span) (link == x) h)
+ends_carries post at found x h = absurd (cc)
 
-held_by : (w : World) (i : ℕ) (z : View) (why : Why) (base : Base) (slot last : ℕ) → (w.seat i).phase ≡ Runs why base → (after base (counted (w.seat i).post) (finds w i)).outcome ≡ Ends (Protected (protect_ends.Held slot last)) → ProtectIs base → Tracked w z i (slot + 1)
-held_by w i z why base slot last q h p =
-    let r : (w.seat i).phase ≡ Runs why (Protect p.aim p.index p.root p.steps p.at) = q ∙ ap (λ (b : Base). Runs why b) p.is in
-    let g : (protect_turn p.aim p.index p.root (bump p.steps) p.at (counted (w.seat i).post) (finds w i)).outcome ≡ Ends (Protected (protect_ends.Held slot last)) = subst (λ (b : Base). (after b (counted (w.seat i).post) (finds w i)).outcome ≡ Ends (Protected (protect_ends.Held slot last))) p.is h in
-    let c = found_clock w i why p.aim p.index p.root p.steps p.at (slot + 1) r (protect_link p.aim p.index p.root (bump p.steps) p.at (counted (w.seat i).post) (finds w i) slot last g) in
-    Carried (subst (λ (f : Phase). carries_in (w.mem Clock) (upper (w.seat i).post.span) f (slot + 1) ≡ true) (sym r) c)
+-- it was tracked
+base_tracked : (w : World) (i : ℕ) (z : View) (why : Why) (base : Base) (x : ℕ) → (w.seat i).phase ≡ Runs why base → ends_base (counted (w.seat i).post) base (finds w i) x ≡ true → Tracked w z i x
+base_tracked w i z why (Protect aim index root steps at) x q h =
+    Carried (subst (λ (f : Phase). carries_in (w.mem Clock) (upper (w.seat i).post.span) f x ≡ true) (sym q) (found_clock w i why aim index root steps at x q (ends_carries (counted (w.seat i).post) at (finds w i) x h)))
+base_tracked w i z why base x q h = absurd (cc)
 
-pub held_tracked : HeldTracked
-held_tracked w i z why base slot era q h = held_by w i z why base slot era q h (protect_is w i base slot era h)
+pub end_tracked : EndTracked
+end_tracked w i z why base ending link q h k = base_tracked w i z why base link q (ends_with base (counted (w.seat i).post) (finds w i) ending link h k)
 
-pub root_of : (w : World) (i : ℕ) (why : Why) (base : Base) → Seats w → (w.seat i).phase ≡ Runs why base → ProtectIs base → root_in w i ≡ root_by w.layout.config.buckets why
-root_of w i why base s q p =
-    let r : (w.seat i).phase ≡ Runs why (Protect p.aim p.index p.root p.steps p.at) = q ∙ ap (λ (b : Base). Runs why b) p.is in
-    ap root_for r ∙ (aimed_at w i why p.aim p.index p.root p.steps p.at s r).of
+base_root : (w : World) (i : ℕ) (why : Why) (base : Base) (x : ℕ) → Seats w → (w.seat i).phase ≡ Runs why base → ends_base (counted (w.seat i).post) base (finds w i) x ≡ true → root_in w i ≡ root_by w.layout.config.buckets why
+base_root w i why (Protect aim index root steps at) x s q h = ap root_for q ∙ (aimed_at w i why aim index root steps at s q).of
+base_root w i why base x s q h = absurd (cc)
 
-pub held_root : HeldRoot
-held_root w i why base slot era s q h = root_of w i why base s q (protect_is w i base slot era h)
+pub end_root : EndRoot
+end_root w i why base ending link s q h k = base_root w i why base link s q (ends_with base (counted (w.seat i).post) (finds w i) ending link h k)
 
 pub answer_tracked : AnswerTracked
 answer_tracked w i z why aim index root steps at link era n q s r = Given (answer_heard w i z why aim index root steps at link era n q s r)

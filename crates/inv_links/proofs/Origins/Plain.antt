@@ -1,7 +1,7 @@
 -- What the steps of machines come to: only a protection comes to a protection that carries a link, and only a move of the
 -- clock to one that helps.
 use Rattle.std.proofs.Common.{ℕ, ◌≡◌, ◌+◌, Bool, true, false, Option, Some, None, List, [], ◌∷◌, refl}
-use Rattle.std.specs.Prelude.{◌==◌, if◌then◌else◌}
+use Rattle.std.specs.Prelude.{◌==◌, if◌then◌else◌, is_none}
 use Rattle.inv_covers.specs.words.Packed.{read_reservation, reservation_word}
 use Rattle.inv_covers.specs.words.declared.layout.Layout.{Layout}
 use Rattle.inv_covers.specs.defs.declared.event.Event.{Event}
@@ -13,7 +13,6 @@ use Rattle.inv_covers.specs.model.Calls.{Why, Phase, Idle, Runs, Scans, Works}
 use Rattle.inv_covers.specs.model.Machine.{begin_turn, protect_turn, allocate_turn, retire_turn, move_turn, after}
 use Rattle.inv_covers.specs.model.MoveClock.{after_hand_over}
 use Rattle.inv_covers.specs.model.Phases.{Aim, Alone, Follows, BeginAt, ProtectAt, AllocateAt, RetireAt, MoveAt, Base, Walk, Turn, Outcome, Goes, Ends, Ending, goes}
-use Rattle.inv_covers.specs.model.Phases.Ending.{Done, Protected, Followed, Allocated, Retired, Clocked}
 use Rattle.inv_covers.specs.model.Phases.BeginAt.{LoadLower, PublishSpan}
 use Rattle.inv_covers.specs.model.Phases.ProtectAt.{LoadClock, PublishEra, LoadLink, CheckClock, PublishRequest, LoadOwnClock, PublishHelper, LoadOwnLink, CheckOwnClock, AnswerOwn, LoadAnswer, TakeAnswer, WithdrawRequest, WithdrawHelper, LoadWithin, CheckUpper, RaiseUpper}
 use Rattle.inv_covers.specs.model.Phases.AllocateAt.{LoadBirth, ClaimSlot, StoreLife}
@@ -26,16 +25,12 @@ use Rattle.inv_covers.specs.model.Posts.{upper, reserves_helper}
 use Rattle.inv_covers.specs.model.WriteRow.{last_written}
 use Rattle.inv_covers.specs.Tries.{is_start, starts_protect, starts_base}
 use Rattle.inv_requests.specs.Views.{Deal}
+use Rattle.inv_links.specs.Origins.{link_of}
 use Rattle.inv_links.specs.Tracked.{carries_at, carries_base, carries_in, helps_at, helps_base, helps_in}
 
--- the machine ends, and not with what a protection has found
+-- the machine ends, and not with a link
 abbrev pub ends_plain : Ending → Bool
-ends_plain Done = true
-ends_plain (Protected ending) = false
-ends_plain (Followed ending) = true
-ends_plain (Allocated ending) = true
-ends_plain (Retired life) = true
-ends_plain (Clocked clock) = true
+ends_plain ending = is_none (link_of ending)
 
 -- so it ends, or no link is carried or loaded for help
 abbrev pub out_plain : Outcome → Bool

@@ -16,7 +16,7 @@ use Rattle.inv_contents.specs.model.Calls.Next.{Again, Answering, MakeRoom, Reti
 use Rattle.inv_contents.specs.model.Calls.ScanAt.{GiveBack, ReadGuard}
 use Rattle.inv_contents.specs.model.Calls.Task.{Changes, Dequeues, Enqueues, Gets, Holds}
 use Rattle.inv_contents.specs.model.Desks.{Desk, with_life}
-use Rattle.inv_contents.specs.model.Guards.{guard_at, guards, published}
+use Rattle.inv_contents.specs.model.Guards.{guard_at, guards, eras_in, published}
 use Rattle.inv_contents.specs.model.Locals.{rounds_told}
 use Rattle.inv_contents.specs.model.Phases.{Ending, Base}
 use Rattle.inv_contents.specs.model.Phases.Ending.{Allocated, Clocked, Done, Followed, Protected, Retired}
@@ -249,5 +249,5 @@ reads_fit c rounds later number post desk told false l = gives_fit c rounds late
 
 pub scan_fit : (c : Config) (rounds : ℕ) (later : AfterScan) (at : ScanAt) (post : Post) (desk : Desk) (found : ℕ) → later_fit c rounds later → TurnFit c rounds (scan.scan_turn later at post desk found)
 scan_fit c rounds later (ReadGuard number) post desk found l =
-    reads_fit c rounds later number post (scan.with_read desk number (guard_at post.layout.config number, published (guard_at post.layout.config number) found)) (events.Read (guard_at post.layout.config number) (published (guard_at post.layout.config number) found) ∷ []) (nat_lt (number + 1) (guards post.layout.config)) l
+    reads_fit c rounds later number post (scan.with_read desk number (guard_at post.layout.config number, published (guard_at post.layout.config number) found)) (events.Read (guard_at post.layout.config number) (eras_in (guard_at post.layout.config number) found) ∷ []) (nat_lt (number + 1) (guards post.layout.config)) l
 scan_fit c rounds later (GiveBack place slot) post desk found l = gives_fit c rounds later post (scan.with_back desk place) (events.Back slot ∷ []) (scan.unmet_from (scan.with_back desk place) place) l

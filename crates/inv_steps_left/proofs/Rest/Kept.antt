@@ -1,5 +1,5 @@
 -- The steps that a call has left fall at its own steps, and rise at no other.
-use Rattle.std.proofs.Common.{ℕ, ◌∙◌, ◌≡◌, ◌≤◌, ◌+◌, true, [], arith, refl, sym, subst}
+use Rattle.std.proofs.Common.{ℕ, ◌≡◌, ◌≤◌, ◌+◌, true, [], arith, refl, sym, subst}
 use Rattle.inv_links.specs.shapes.Frame.{phase_left as stands_at, Left, SpanStands}
 use Rattle.inv_contents.specs.model.Steps as steps
 use Rattle.inv_contents.specs.model.Scan as scan

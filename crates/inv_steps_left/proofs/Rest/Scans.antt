@@ -3,13 +3,14 @@ use Rattle.std.proofs.Common.{ℕ, ◌≡◌, ◌≤◌, ◌<◌, ◌+◌, ◌-�
 use Rattle.std.proofs.lemmas.Bool.Decides.{nat_tests}
 use Rattle.std.proofs.lemmas.List.{length-drop}
 use Rattle.std.proofs.lemmas.List.Edits.{length-remove}
+use Rattle.inv_contents.specs.defs.Shown.{Seen, keeps_any}
 use Rattle.inv_contents.specs.model.Scan as scan
 use Rattle.inv_contents.specs.defs.declared.event.Event.TheVariants as events
 use Rattle.inv_contents.specs.model.Calls.{AfterScan, ScanAt, Task}
 use Rattle.inv_contents.specs.model.Calls.AfterScan.{Answered, Counted, Repeated}
 use Rattle.inv_contents.specs.model.Calls.ScanAt.{GiveBack, ReadGuard}
-use Rattle.inv_contents.specs.model.Desks.{Desk, Seen}
-use Rattle.inv_contents.specs.model.Guards.{guard_at, guards, published}
+use Rattle.inv_contents.specs.model.Desks.{Desk}
+use Rattle.inv_contents.specs.model.Guards.{guard_at, guards, eras_in, published}
 use Rattle.inv_contents.specs.model.Locals.{rounds_told}
 use Rattle.inv_contents.specs.model.Rest.{later_left, phase_left, round_worth, rounds_most, scan_left, task_left}
 use Rattle.inv_contents.specs.model.Rounds.{round}
@@ -38,7 +39,7 @@ wider low less high more (Some entry) a b w = let u = w.0 in let v = w.1 in (ome
 found_within : (read : List Seen) (place : ℕ) (lives : List Lifetime) → Within place (place + length lives) (scan.first_unmet read place lives)
 found_within read place [] = tt
 found_within read place (life ∷ lives) =
-    elim (scan.meets_any life read) as (λ x. Within place (place + length (life ∷ lives)) (elim x [
+    elim (keeps_any life read) as (λ x. Within place (place + length (life ∷ lives)) (elim x [
       | true ↦ scan.first_unmet read (place + 1) lives
       | false ↦ Some (place, life)
     ])) [
@@ -91,7 +92,7 @@ later_grows c lives more rounds Counted h = omega arith
 pub scan_falls : (c : Config) (rounds : ℕ) (later : AfterScan) (at : ScanAt) (post : Post) (desk : Desk) (found : ℕ) → later_fit c rounds later → scan_fits c at ≡ true → scan_lists c desk at
     → turn_left c rounds (scan.scan_turn later at post desk found) + 1 ≤ scan_left c desk.list at + later_left c (length desk.list) rounds later
 scan_falls c rounds later (ReadGuard number) post desk found l f s =
-    reads_left c rounds later number post (scan.with_read desk number (guard_at post.layout.config number, published (guard_at post.layout.config number) found)) (events.Read (guard_at post.layout.config number) (published (guard_at post.layout.config number) found) ∷ []) (nat_lt (number + 1) (guards post.layout.config)) refl l (grind (arith, nat_tests, f))
+    reads_left c rounds later number post (scan.with_read desk number (guard_at post.layout.config number, published (guard_at post.layout.config number) found)) (events.Read (guard_at post.layout.config number) (eras_in (guard_at post.layout.config number) found) ∷ []) (nat_lt (number + 1) (guards post.layout.config)) refl l (grind (arith, nat_tests, f))
 scan_falls c rounds later (GiveBack place slot) post desk found l f s =
     let n = length-remove desk.list place s in
     let h = gives_left c rounds later post (scan.with_back desk place) (events.Back slot ∷ []) place (scan.unmet_from (scan.with_back desk place) place) refl l (unmet_within (scan.with_back desk place) place (omega (arith, n, s))) in

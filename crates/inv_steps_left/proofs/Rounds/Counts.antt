@@ -3,7 +3,7 @@ use Rattle.std.proofs.Common.{length-append, bit_or, bit_and, ℕ, ◌≡◌, �
 use Rattle.std.proofs.lemmas.Bool.Decides.{nat_tests}
 use Rattle.inv_contents.specs.words.Place.{Place, same}
 use Rattle.inv_contents.specs.words.Place.Place.{Clock, Helper, Index, Interval, Bucket, Head, Tail, Claim, Life, Row, PlaceOf, Request as RequestOf}
-use Rattle.inv_contents.specs.model.Memory.{Load, Store, Cas, Or, And, written, change, put, Move as Memory}
+use Rattle.inv_contents.specs.model.Memory.{Load, Store, Cas, Or, And, written, change, Move as Memory}
 use Rattle.inv_contents.specs.defs.declared.event.Event.TheVariants as events
 use Rattle.inv_contents.specs.defs.declared.event.Root.TheVariants as roots
 use Rattle.inv_contents.specs.defs.declared.fold.Change.TheVariants as changes
@@ -14,7 +14,7 @@ use Rattle.inv_contents.specs.defs.declared.fold.Change.{Change}
 use Rattle.inv_steps_left.proofs.Rounds.Grows.{Grows}
 use Rattle.inv_steps_left.specs.Tallies.{Tally}
 use Rattle.inv_contents.specs.rows.Queue.{Line}
-use Rattle.std.specs.Prelude.{List, ◌++◌, length, nat_le, if◌then◌else◌, ◌==◌, ◌||◌}
+use Rattle.std.specs.Prelude.{List, ◌++◌, length, nat_le, if◌then◌else◌, ◌==◌}
 use Rattle.inv_contents.proofs.rows.Words.{put_other}
 use Rattle.inv_contents.proofs.model.Facts.{same_or}
 

@@ -34,7 +34,7 @@ use Rattle.inv_steps_left.specs.Rounds.{RoundsNeeds}
 use Rattle.inv_steps_left.specs.Tallies.{Tally, changes_so_far, passes_so_far, phase_good, since_test, tally, task_good}
 use Rattle.inv_contents.specs.rows.Chain.{line_after}
 use Rattle.inv_contents.specs.rows.Queue.{Line}
-use Rattle.std.specs.Prelude.{nat_le, not, ◌==◌, ◌&&◌, ◌||◌, ◌%◌}
+use Rattle.std.specs.Prelude.{nat_le, not, ◌==◌, ◌%◌}
 
 some_number : (n : ℕ) → 0 < n → (n == 0) ≡ false
 some_number n h = grind (arith, nat_tests, h)

@@ -14,7 +14,7 @@ use Rattle.inv_contents.specs.model.Phases.{Base}
 use Rattle.inv_contents.specs.model.Rest.{is_told, lost_by}
 use Rattle.inv_contents.specs.model.Rounds.{key_of}
 use Rattle.inv_steps_left.specs.Tallies.{Since, Tally, bucket_good, dequeue_paced, enqueue_paced, fills_paced, head_since, lag_since, later_paced, next_paced, next_since, once, phase_paced, root_since, since_test, tail_since, task_paced, why_paced, work_paced, head_good, passes_so_far, phase_good, tail_good, task_good, why_good}
-use Rattle.std.specs.Prelude.{nat_le, ◌==◌, ◌&&◌, ◌||◌, ◌%◌, not}
+use Rattle.std.specs.Prelude.{nat_le, ◌==◌, ◌||◌, ◌%◌, not}
 use Rattle.inv_contents.specs.defs.declared.event.Root.TheVariants as roots
 use Rattle.inv_contents.specs.defs.declared.event.Root.{Root}
 use Rattle.inv_contents.proofs.model.Facts.{first_of, rest_of, both}

@@ -34,7 +34,7 @@ use Rattle.inv_contents.specs.rows.Chain.{Both, line_after}
 use Rattle.inv_contents.specs.rows.Hands.{hand_in, is_right}
 use Rattle.inv_contents.specs.rows.Queue.{Line, follows_in}
 use Rattle.inv_contents.specs.words.declared.layout.Layout.{Layout}
-use Rattle.std.specs.Prelude.{nat_le, if◌then◌else◌, ◌==◌, ◌&&◌, ◌||◌, ◌%◌}
+use Rattle.std.specs.Prelude.{nat_le, if◌then◌else◌, ◌==◌, ◌||◌, ◌%◌}
 use Rattle.inv_links.proofs.covers.Held.{finds_at}
 use Rattle.inv_contents.proofs.rows.Runs.{taken_slot}
 use Rattle.inv_contents.proofs.model.Facts.{first_of, same_both, number_is, le_of_test}

@@ -53,7 +53,7 @@ use Rattle.inv_steps_left.proofs.Rounds.Paced.{TurnPaced, advanced_paced, cleari
 use Rattle.inv_steps_left.specs.Tallies.{Tally, fills_paced, head_since, lag_since, later_paced, next_paced, passes_so_far, since_test, task_good, task_paced, why_good, why_paced}
 use Rattle.inv_contents.specs.words.Packed.{read_request}
 use Rattle.inv_contents.specs.words.declared.config.Config.{Config}
-use Rattle.std.specs.Prelude.{List, Option, Some, None, not, if◌then◌else◌, ◌==◌, ◌&&◌}
+use Rattle.std.specs.Prelude.{List, Option, Some, None, not, if◌then◌else◌, ◌==◌}
 use Rattle.inv_contents.proofs.model.Facts.{rest_of, both, if_by}
 
 -- with which link a protection ends

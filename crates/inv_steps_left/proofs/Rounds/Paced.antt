@@ -24,7 +24,7 @@ use Rattle.inv_contents.specs.model.Calls.ScanAt.{GiveBack, ReadGuard}
 use Rattle.inv_contents.specs.model.Calls.Task.{Changes, Dequeues, Enqueues, Gets, Holds}
 use Rattle.inv_contents.specs.model.Calls.Work.{Changing, Dequeuing, Enqueuing, Getting}
 use Rattle.inv_contents.specs.model.Desks.{Desk, with_life}
-use Rattle.inv_contents.specs.model.Guards.{guard_at, guards, published}
+use Rattle.inv_contents.specs.model.Guards.{guard_at, guards, eras_in, published}
 use Rattle.inv_contents.specs.model.Locals.{rounds_told}
 use Rattle.inv_contents.specs.model.Phases.{Ending, Base}
 use Rattle.inv_contents.specs.model.Phases.Ending.{Allocated, Clocked, Done, Followed, Protected, Retired}
@@ -43,7 +43,7 @@ use Rattle.inv_steps_left.proofs.Rest.Works.{link_told}
 use Rattle.inv_steps_left.specs.Losses.{is_queue}
 use Rattle.inv_steps_left.specs.Tallies.{Since, Tally, changes_so_far, dequeue_paced, enqueue_paced, fills_paced, head_since, lag_since, later_paced, next_paced, next_since, once, passes_so_far, phase_paced, root_since, tail_since, task_paced, work_paced}
 use Rattle.inv_contents.specs.words.declared.config.SchemeKind.{SchemeKind}
-use Rattle.std.specs.Prelude.{List, ◌++◌, length, Option, Some, None, nat_lt, nat_le, ◌==◌, ◌||◌, ◌%◌}
+use Rattle.std.specs.Prelude.{List, ◌++◌, length, Option, Some, None, nat_lt, nat_le, ◌==◌, ◌%◌}
 use Rattle.inv_contents.proofs.model.Facts.{or_left_true, one_before, if_by}
 use Rattle.inv_contents.proofs.model.Schemes.{each_begin, each_clear, each_finish}
 
@@ -261,7 +261,7 @@ reads_paced u rounds later number post desk told false l = gives_paced u rounds 
 
 pub scan_paced : (u : Tally) (rounds : ℕ) (later : AfterScan) (at : ScanAt) (post : Post) (desk : Desk) (found : ℕ) → later_paced u later rounds → TurnPaced u rounds (scan.scan_turn later at post desk found)
 scan_paced u rounds later (ReadGuard number) post desk found l =
-    reads_paced u rounds later number post (scan.with_read desk number (guard_at post.layout.config number, published (guard_at post.layout.config number) found)) (events.Read (guard_at post.layout.config number) (published (guard_at post.layout.config number) found) ∷ []) (nat_lt (number + 1) (guards post.layout.config)) l
+    reads_paced u rounds later number post (scan.with_read desk number (guard_at post.layout.config number, published (guard_at post.layout.config number) found)) (events.Read (guard_at post.layout.config number) (eras_in (guard_at post.layout.config number) found) ∷ []) (nat_lt (number + 1) (guards post.layout.config)) l
 scan_paced u rounds later (GiveBack place slot) post desk found l = gives_paced u rounds later post (scan.with_back desk place) (events.Back slot ∷ []) (scan.unmet_from (scan.with_back desk place) place) l
 
 -- a call's own steps

@@ -28,7 +28,8 @@ use Rattle.inv_all.proofs.history.Along.{Steady, items_keep}
 use Rattle.inv_all.specs.Inv.{Inv}
 use Rattle.inv_all.proofs.Inv.Begun.{inv_start, inv_begin}
 use Rattle.inv_all.proofs.Inv.Kept.{inv_kept}
-use Rattle.laws.specs.AnswerLaw.{owes, suits, same_told, answer_right, answers_ok}
+use Rattle.laws.specs.AnswerLaw.{suits}
+use Rattle.laws.specs.HistoryAnswers.{owes, same_told, answer_right, answers_ok}
 use Rattle.law_answers.specs.Records.{RecordsKeepAnswers}
 use Rattle.inv_all.proofs.history.AllOf.{all_of}
 use Rattle.inv_all.proofs.Machines.{is_within, end_still, within_of}

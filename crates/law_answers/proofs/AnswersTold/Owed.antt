@@ -15,7 +15,8 @@ use Rattle.wfe_core.specs.Phases.{Ending, Outcome, Goes, Ends}
 use Rattle.wfe_core.specs.Phases.Ending.{Clocked}
 use Rattle.wfe_core.specs.Calls.{Task, Gets, Changes, Holds, Enqueues, Dequeues, Next, Again, MakeRoom, Answering, Retiring, AfterScan, Answered, Repeated, Counted, EnqueueKept, EnqueueAt, LoadNumber, LoadNext, PassTail, ExchangeNext, ExchangeTail, Work, Getting, Changing, Enqueuing, Dequeuing, Why, Opens, FollowsHead, Fills, ClearsNext, Clears, Finishes, GivesUp, Retires, Tidies, Advances, Releases, Phase, Idle, Runs, Scans, Works, CallTurn, CallOutcome, GoesOn, Answers}
 use Rattle.wfe_core.proofs.Facts.{first_of, rest_of}
-use Rattle.laws.specs.AnswerLaw.{owes, suits}
+use Rattle.laws.specs.AnswerLaw.{suits}
+use Rattle.laws.specs.HistoryAnswers.{owes}
 use Rattle.inv_all.proofs.history.AllOf.{all_of, of_along, of_weaker}
 use Rattle.inv_all.proofs.Machines.{is_machine, is_still, machine_still}
 

@@ -27,7 +27,7 @@ use Rattle.wfe_core.specs.Desks.{Desk, with_life}
 use Rattle.wfe_core.specs.Dequeue as dequeues
 use Rattle.wfe_core.specs.Enqueue as enqueues
 use Rattle.wfe_core.specs.Get as gets
-use Rattle.wfe_core.specs.Guards.{guards, guard_at, published}
+use Rattle.wfe_core.specs.Guards.{guards, guard_at, eras_in, published}
 use Rattle.wfe_core.specs.Machine as machine
 use Rattle.wfe_core.specs.Posts.{stands}
 use Rattle.wfe_core.specs.Scan as scan
@@ -38,7 +38,8 @@ use Rattle.wfe_core.specs.Phases.Ending.{Done, Protected, Followed, Allocated, R
 use Rattle.wfe_core.specs.Calls.{Task, Gets, Changes, Holds, Enqueues, Dequeues, Next, Again, MakeRoom, Answering, Retiring, AfterScan, Answered, Repeated, Counted, ChangeKept, EnqueueKept, GetAt, FindVersion, FindCount, FindKey, FindValue, ChangeAt, LoadVersion, LoadCount, LoadKey, LoadValue, ExchangeRoot, EnqueueAt, LoadNumber, LoadNext, PassTail, ExchangeNext, ExchangeTail, DequeueAt, SwingTail, ExchangeHead, Work, Getting, Changing, Enqueuing, Dequeuing, ScanAt, ReadGuard, GiveBack, Why, Opens, FollowsHead, Fills, ClearsNext, Clears, Finishes, GivesUp, Retires, Tidies, Advances, Releases, Phase, Idle, Runs, Scans, Works}
 use Rattle.wfe_core.proofs.Frames.{after_same}
 use Rattle.wfe_core.proofs.Facts.{both}
-use Rattle.laws.specs.AnswerLaw.{owes, suits}
+use Rattle.laws.specs.AnswerLaw.{suits}
+use Rattle.laws.specs.HistoryAnswers.{owes}
 use Rattle.inv_all.proofs.history.AllOf.{of_along}
 use Rattle.inv_all.proofs.Machines.{is_still, base_machine, clear_machine}
 use Rattle.law_answers.proofs.AnswersTold.Owed.{call_for, TaskServes, NextServes, LaterServes, FreeServes, WhyServes, WorkServes, Serves, next_owed, later_owed, why_owed, enqueue_owed, work_owed, owed, Told, Owes, ends_clocked, EndsFor, told_machine, told_more, told_none, clock_owes, clock_suits, is_open, loud, loud_along, append_none}
@@ -324,7 +325,7 @@ guard_owes n call later number post desk told false s t = giving_owes n call lat
 
 scan_owes : (n : ℕ) (call : Call) (later : AfterScan) (at : ScanAt) (post : Post) (desk : Desk) (found : ℕ) → LaterServes call later → Owes n call (later_owed n call later) (scan.scan_turn later at post desk found)
 scan_owes n call later (ReadGuard number) post desk found s =
-    guard_owes n call later number post (scan.with_read desk number (guard_at post.layout.config number, published (guard_at post.layout.config number) found)) (events.Read (guard_at post.layout.config number) (published (guard_at post.layout.config number) found) ∷ []) (nat_lt (number + 1) (guards post.layout.config)) s
+    guard_owes n call later number post (scan.with_read desk number (guard_at post.layout.config number, published (guard_at post.layout.config number) found)) (events.Read (guard_at post.layout.config number) (eras_in (guard_at post.layout.config number) found) ∷ []) (nat_lt (number + 1) (guards post.layout.config)) s
     (record { sum = append_none (later_owed n call later); goes = refl })
 scan_owes n call later (GiveBack place slot) post desk found s =
     giving_owes n call later post (scan.with_back desk place) (events.Back slot ∷ []) (scan.unmet_from (scan.with_back desk place) place) s (record { sum = append_none (later_owed n call later); goes = refl })

@@ -17,24 +17,24 @@ use Rattle.wfe_core.specs.declared.post.Post.{Post}
 use Rattle.wfe_core.specs.Book.{Book, booked, booked_all}
 use Rattle.wfe_core.specs.Change as alters
 use Rattle.wfe_core.specs.Enqueue as enqueues
-use Rattle.wfe_core.specs.Desks.{Desk, noting}
+use Rattle.wfe_core.specs.Desks.{Desk}
 use Rattle.wfe_core.specs.Links.{link_place}
-use Rattle.wfe_core.specs.Locals.{Local, begun_post, settled_by, turn, told_by, told_end, rounds_told}
+use Rattle.wfe_core.specs.Locals.{Local, begun_post, turn, told_by, told_end}
 use Rattle.wfe_core.specs.Machine as machine
 use Rattle.wfe_core.specs.Posts.{counted, upper}
 use Rattle.wfe_core.specs.Rounds.{key_of}
 use Rattle.wfe_core.specs.Steps.{first_phase, phase_turn}
 use Rattle.wfe_core.specs.Phases.{Base, Ends, Protected}
 use Rattle.wfe_core.specs.Phases.Base.{Begin, Protect, Reload, Clear, Finish, Release, Allocate, Write, GiveUp, Retire, Move}
-use Rattle.wfe_core.specs.Calls.{Again, Changes, Enqueues, Gets, Opens, Why, LoadVersion, LoadCount, LoadKey, LoadValue, ExchangeRoot, LoadNumber, LoadNext, PassTail, ExchangeNext, ExchangeTail, Getting, Changing, Enqueuing, Dequeuing, Phase, Idle, Runs, Scans, Works, CallTurn, CallOutcome, GoesOn, Answers}
+use Rattle.wfe_core.specs.Calls.{Again, Changes, Enqueues, Gets, Opens, Why, LoadVersion, LoadCount, LoadKey, LoadValue, ExchangeRoot, LoadNumber, LoadNext, PassTail, ExchangeNext, ExchangeTail, Getting, Changing, Enqueuing, Dequeuing, Phase, Idle, Runs, Scans, Works, CallTurn}
 use Rattle.wfe_core.specs.World.{World, start, begin, step, is_busy, finds, told_in}
 use Rattle.inv_all.specs.shapes.Frame.{phase_left}
 use Rattle.wfe_core.specs.words.Schemes.{is_wfe}
 use Rattle.inv_all.specs.shapes.Seats.{root_by}
-use Rattle.inv_all.specs.requests.Deals.{fits, is_quiet}
+use Rattle.inv_all.specs.requests.Deals.{is_quiet}
 use Rattle.inv_all.specs.requests.NextDeals.{next_deals}
-use Rattle.inv_all.specs.requests.Standing.{Requests, role_of}
-use Rattle.inv_all.specs.requests.Views.{Role, View as Asked}
+use Rattle.inv_all.specs.requests.Standing.{Requests}
+use Rattle.inv_all.specs.requests.Views.{View as Asked}
 use Rattle.inv_all.specs.requests.Views.Deal.{Quiet}
 use Rattle.inv_all.proofs.requests.Kept.{idle_of}
 use Rattle.inv_all.specs.rows.Hands.{row_move}
@@ -46,7 +46,7 @@ use Rattle.inv_all.specs.covers.Held.{under}
 use Rattle.inv_all.specs.links.Origins.{Origins, loads_link}
 use Rattle.inv_all.specs.links.Tracked.{carries_in, root_in, Tracked, Carried, Given, Helped}
 use Rattle.inv_all.proofs.links.Origins.Came.{link_busy, helps_busy}
-use Rattle.inv_all.proofs.links.Origins.Ends.{held_tracked, held_root}
+use Rattle.inv_all.proofs.links.Origins.Ends.{end_tracked, end_root}
 use Rattle.inv_all.proofs.links.Origins.Kept.{origins_kept, origins_start, origins_begin, idle_deal}
 use Rattle.inv_all.specs.contents.Knows.{Ground, Knows}
 use Rattle.inv_all.specs.contents.Shelf.{Shelf, shelf_of}
@@ -57,14 +57,14 @@ use Rattle.inv_all.proofs.contents.Contents.Lasts.{on, knows_lasts}
 use Rattle.inv_all.proofs.contents.Contents.Machines.{rows_stay}
 use Rattle.inv_all.proofs.contents.Contents.Phases.{links_in, phase_turns}
 use Rattle.inv_all.proofs.contents.Contents.Rounds.{Turns, plain_knows, clearing_adds}
-use Rattle.inv_all.proofs.contents.Contents.Told.{all_calm, SameBook, SameSlot, same_slot, claimed_book, claimed_append, calm_claimed}
+use Rattle.inv_all.proofs.contents.Contents.Told.{SameBook, SameSlot, same_slot, claimed_book, claimed_append, calm_claimed}
 use Rattle.inv_all.proofs.contents.Contents.Views.{owned_stays}
 use Rattle.inv_all.specs.Known.{Known}
 use Rattle.inv_all.proofs.Inv.Rows.{rows_need}
 use Rattle.inv_all.proofs.Inv.Whole.{contents_need, links_show, links_stay, origins_need}
-use Rattle.inv_all.proofs.shapes.Frame.{seat_stays, seat_steps, begin_stays, begin_begins}
+use Rattle.inv_all.proofs.shapes.Frame.{seat_stays, begin_stays, begin_begins}
 use Rattle.law_answers.proofs.Lawful.Versions.{version_stays}
-use Rattle.inv_all.proofs.covers.Held.{settled_phase, stepped_phase}
+use Rattle.inv_all.proofs.covers.Held.{stepped_phase}
 use Rattle.wfe_core.proofs.Facts.{true_not_false}
 
 -- a row of a bucket counts only if its version is no lower than what the bucket had before
@@ -207,7 +207,7 @@ root_version base book root b slot e h = link_version base book b slot (subst (�
 
 held_since : (w : World) (i : ℕ) (v : View) (l : Line) (z : Asked) (base : ℕ → ℕ → ℕ) (why : Why) (one : Base) (b slot era : ℕ) → Known w v l z → Current base w z → (w.seat i).phase ≡ Runs why one → root_by w.layout.config.buckets why ≡ roots.Bucket b → (machine.after one (counted (w.seat i).post) (finds w i)).outcome ≡ Ends (Protected (protect_ends.Held slot era)) → base i b ≤ (w.book.row slot).version
 held_since w i v l z base why one b slot era a c e r o =
-    root_version (base i) w.book (root_in w i) b slot (held_root w i why one slot era a.seats e o ∙ r) (c.links.tracked i (slot + 1) (held_tracked w i z why one slot era e o))
+    root_version (base i) w.book (root_in w i) b slot (end_root w i why one (Protected (protect_ends.Held slot era)) (slot + 1) a.seats e o refl ∙ r) (c.links.tracked i (slot + 1) (end_tracked w i z why one (Protected (protect_ends.Held slot era)) (slot + 1) e o refl))
 
 own_turns : (w : World) (i : ℕ) (v : View) (l : Line) (z : Asked) (base : ℕ → ℕ → ℕ) → i < w.layout.config.seats → Known w v l z → Current base w z → links_in (w.seat i).phase (finds w i) ≡ false
     → Turns (on w.layout.config.buckets (shelf_since (base i) w.book) (step w i).mem) (turn (w.seat i) (finds w i))

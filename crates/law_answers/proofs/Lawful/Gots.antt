@@ -37,7 +37,7 @@ use Rattle.inv_all.proofs.history.Passes.{Closing, First, scan_told, get_allows,
 use Rattle.law_answers.proofs.Lawful.Current.{Current, shelf_since, since_is, link_since}
 use Rattle.inv_all.proofs.history.AllOf.{all_of, of_along, of_weaker}
 use Rattle.inv_all.proofs.Machines.{is_machine, is_still, machine_still, base_machine, scan_machine, clear_machine, cut_still, link_still, end_still}
-use Rattle.law_answers.proofs.Lawful.Nulls.{null_tracked, null_root}
+use Rattle.inv_all.proofs.links.Origins.Ends.{end_tracked, end_root}
 
 -- among so many buckets, which had been changed so often
 abbrev pub got_new : ℕ → (ℕ → ℕ) → Event → Bool
@@ -145,7 +145,7 @@ null_at base book root b e h = none_at base book b (subst (λ (r : Root). link_s
 
 ending_knows : (w : World) (i : ℕ) (v : View) (l : Line) (z : Asked) (base : ℕ → ℕ → ℕ) (task : Task) (one : Base) (ending : Ending) → Known w v l z → Current base w z → (w.seat i).phase ≡ Runs (Opens task) one → (machine.after one (counted (w.seat i).post) (finds w i)).outcome ≡ Ends ending → ending_allows (Allowed w.layout (base i)) task ending
 ending_knows w i v l z base (Gets key) one (Protected protect_ends.Null) a c e o =
-    null_at (base i) w.book (root_in w i) (key % w.layout.config.buckets) (null_root w i (Opens (Gets key)) one a.seats e o) (c.links.tracked i 0 (null_tracked w i z (Opens (Gets key)) one e o))
+    null_at (base i) w.book (root_in w i) (key % w.layout.config.buckets) (end_root w i (Opens (Gets key)) one (Protected protect_ends.Null) 0 a.seats e o refl) (c.links.tracked i 0 (end_tracked w i z (Opens (Gets key)) one (Protected protect_ends.Null) 0 e o refl))
 ending_knows w i v l z base (Changes kept) one (Protected protect_ends.Null) a c e o = tt
 ending_knows w i v l z base (Holds key) one (Protected protect_ends.Null) a c e o = tt
 ending_knows w i v l z base (Enqueues kept) one (Protected protect_ends.Null) a c e o = tt

@@ -22,7 +22,7 @@ use Rattle.inv_all.specs.history.Turns as schedule
 use Rattle.inv_all.specs.history.History.{Made}
 use Rattle.inv_all.proofs.history.Passes.{Closing, Any, First, phase_any, scan_told, step_closes}
 use Rattle.inv_all.specs.history.Turns.{EachTurn}
-use Rattle.laws.specs.Schedule.{is_atomic, none_atomic, one_atomic, one_step}
+use Rattle.laws.specs.HistoryTurns.{is_atomic, none_atomic, one_atomic, one_step}
 use Rattle.law_answers.specs.Records.{TurnsTellOne}
 use Rattle.law_answers.proofs.OneStep.Along.{Kept, history_keeps}
 use Rattle.inv_all.proofs.history.AllOf.{all_of}

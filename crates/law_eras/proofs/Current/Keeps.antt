@@ -44,7 +44,7 @@ use Rattle.inv_all.proofs.Inv.Whole.{origins_need}
 use Rattle.inv_all.proofs.Machines.{within_of}
 use Rattle.laws.specs.StateAt.{clock_of}
 use Rattle.law_eras.proofs.EraLaw.Keeps.{record_clock}
-use Rattle.laws.specs.EraLaw.{birth_current, retire_current, reserve_current}
+use Rattle.laws.specs.HistoryEras.{birth_current, retire_current, reserve_current}
 use Rattle.law_eras.specs.Records.{RecordsGiveCurrent, RecordsRetireCurrent, RecordsReserveCurrent}
 use Rattle.law_eras.proofs.Current.Ages.{loads_base, BaseHears, Loads, PhaseSince, PhaseLoads, Aged, since_grows, since_owed, same_since}
 use Rattle.law_eras.proofs.Current.Answers.{Answers}

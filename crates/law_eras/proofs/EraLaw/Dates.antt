@@ -35,12 +35,13 @@ use Rattle.inv_all.specs.shapes.Eras.{TurnIn, SpanIn}
 use Rattle.std.specs.List.{filter}
 use Rattle.inv_all.specs.history.Record.{Past}
 use Rattle.inv_all.specs.history.Record.Past.{Then}
-use Rattle.laws.proofs.Along.{along, Single, OfKind, along_kind, shape_single}
+use Rattle.laws.proofs.Along.{along, Single, OfKind, along_kind}
+use Rattle.law_eras.proofs.EraLaw.Shapes.{shape_single}
 use Rattle.inv_all.proofs.ends.Told.Rows.{own_told, step_filter}
 use Rattle.inv_all.proofs.ends.Told.Turns.{is_later}
 use Rattle.laws.specs.StateAt.{born_by, birth_of, ticked_by, clock_of}
 use Rattle.law_reuse.proofs.Holding.Values.{Ranges}
-use Rattle.laws.specs.EraLaw.{span_ok, era_ok}
+use Rattle.laws.specs.HistoryEras.{span_ok, era_ok}
 use Rattle.inv_all.proofs.history.MayTell.{Tells, base_shows, span_of, is_find, shape_of, base_all}
 use Rattle.inv_all.proofs.history.AllOf.{all_of}
 use Rattle.wfe_core.proofs.Facts.{first_of, rest_of, number_is}

@@ -21,7 +21,8 @@ use Rattle.inv_all.proofs.ends.Told.Births.{retires_given}
 use Rattle.laws.proofs.Along.{along, along_kind, Single, single_each}
 use Rattle.law_reuse.proofs.Holding.Holds.{Held, begin_held, step_held, first_held, given_need, ranges_of}
 use Rattle.laws.specs.StateAt.{ticked_by, clock_of}
-use Rattle.laws.specs.EraLaw.{era_ok, guard_ok}
+use Rattle.laws.specs.EraLaw.{guard_ok}
+use Rattle.laws.specs.HistoryEras.{era_ok}
 use Rattle.law_eras.specs.Records.{RecordsKeepEras, RecordClock, RecordsKeepGuards}
 use Rattle.wfe_core.specs.defs.declared.event.Guard.TheVariants.{Helper}
 use Rattle.law_eras.proofs.EraLaw.Owners.{is_reserve, guard_kind, step_owned, hands_of}

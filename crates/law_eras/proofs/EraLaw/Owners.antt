@@ -22,7 +22,8 @@ use Rattle.wfe_core.specs.World.{World, told_in, finds}
 use Rattle.std.specs.List.{filter}
 use Rattle.inv_all.specs.history.Record.{Past}
 use Rattle.inv_all.specs.history.Record.Past.{Then}
-use Rattle.laws.proofs.Along.{Single, OfKind, shape_single}
+use Rattle.laws.proofs.Along.{Single, OfKind}
+use Rattle.law_eras.proofs.EraLaw.Shapes.{shape_single}
 use Rattle.inv_all.proofs.ends.Told.Rows.{own_told, step_filter}
 use Rattle.inv_all.proofs.ends.Told.Turns.{is_later}
 use Rattle.law_reuse.proofs.Holding.Values.{Ranges}
@@ -32,7 +33,7 @@ use Rattle.inv_all.specs.requests.Views.{View as Asked, Role as role}
 use Rattle.inv_all.proofs.handover.Shown.{helper_shows}
 use Rattle.wfe_core.specs.Links.{link_number}
 use Rattle.wfe_core.proofs.Facts.{first_of, both, rest_of, number_is, false_not_true}
-use Rattle.inv_all.specs.covers.Covers.{shown}
+use Rattle.inv_all.specs.covers.Covers.{eras_shown}
 use Rattle.laws.specs.StateAt.{reserved_by, value_of, seat_of}
 use Rattle.laws.specs.EraLaw.{same_interval, guard_ok}
 use Rattle.law_eras.proofs.EraLaw.Dates.{is_dated, later_undated}
@@ -131,7 +132,7 @@ shown_same era helper x e h m =
     let z : (era == 0) ≡ false = grind (arith, nat_tests) in
     subst (λ (y : Option Interval). same_interval (one_era era) y ≡ true) (sym (e ∙ ap one_era q)) (rw z (grind (arith, nat_tests)))
 
-pub hands_of : (w : World) (i : ℕ) (z : Asked) (p : Past) (why : Why) (base : Base) → Requests w z → value_of (Helper i) p ≡ shown w (Helper i) → (w.seat i).phase ≡ Runs why base → Ranges w.layout (w.mem places.Clock) (w.seat i).post base → Hands w.layout.config.scheme p i base
+pub hands_of : (w : World) (i : ℕ) (z : Asked) (p : Past) (why : Why) (base : Base) → Requests w z → value_of (Helper i) p ≡ eras_shown w (Helper i) → (w.seat i).phase ≡ Runs why base → Ranges w.layout (w.mem places.Clock) (w.seat i).post base → Hands w.layout.config.scheme p i base
 hands_of w i z p why base q v e r era seat tag index root link old same =
     let f : (w.seat i).phase ≡ Runs why (Move (HandOver era seat tag index root link old)) = e ∙ ap (λ (b : Base). Runs why b) same in
     let g : Ranges w.layout (w.mem places.Clock) (w.seat i).post (Move (HandOver era seat tag index root link old)) = subst (Ranges w.layout (w.mem places.Clock) (w.seat i).post) same r in

@@ -3,8 +3,6 @@ use Rattle.std.proofs.Common.{ℕ, ◌≡◌, ◌-◌, ◌+◌, ◌%◌, Bool, t
 use Rattle.std.proofs.lemmas.Bool.Decides.{nat_tests}
 use Rattle.std.specs.Prelude.{◌==◌, ◌||◌, not, if◌then◌else◌}
 use Rattle.wfe_core.specs.words.Place.{is_valid}
-use Rattle.wfe_core.specs.words.declared.config.SchemeKind.{SchemeKind}
-use Rattle.wfe_core.specs.words.declared.config.SchemeKind.TheVariants.{He, Ibr, Wfe}
 use Rattle.wfe_core.specs.words.declared.layout.Layout.{Layout}
 use Rattle.wfe_core.specs.defs.declared.event.Event.{Event}
 use Rattle.wfe_core.specs.defs.declared.event.Event.TheVariants as events
@@ -20,7 +18,7 @@ use Rattle.wfe_core.specs.Locals.{told_end}
 use Rattle.wfe_core.specs.Machine as machine
 use Rattle.wfe_core.specs.Memory.{bump}
 use Rattle.wfe_core.specs.Posts.{counted}
-use Rattle.wfe_core.specs.Rounds.{scheme_of, bucket_of, clear_post, clear_told}
+use Rattle.wfe_core.specs.Rounds.{scheme_of, bucket_of, clear_told}
 use Rattle.wfe_core.specs.World.{World, finds, told_in}
 use Rattle.wfe_core.specs.Phases.{Base, Ending, Outcome, Goes, Ends}
 use Rattle.wfe_core.specs.Phases.Base.{Protect}
@@ -31,8 +29,8 @@ use Rattle.wfe_core.proofs.Facts.{same_number, first_of, rest_of, zero_test}
 use Rattle.law_places.specs.inv.contents.Contents.{ground_of}
 use Rattle.law_places.specs.inv.contents.Knows.{Knows, GetKnows, FoundRow, get_reads, reads_in}
 use Rattle.law_places.proofs.answers.OneStep.Along.{Kept, history_keeps}
-use Rattle.law_places.proofs.inv.ends.Ends.Nulls.{nulls_end}
-use Rattle.law_places.specs.inv.ends.Nulls.{ended_base}
+use Rattle.law_places.proofs.inv.links.Origins.Ends.{ends_with}
+use Rattle.law_places.specs.inv.links.Origins.{ends_base}
 use Rattle.law_places.specs.inv.shapes.Seats.{Seats}
 use Rattle.law_places.specs.inv.history.History.{Item, Made, made_of, record_of, world_of}
 use Rattle.law_places.specs.inv.Inv.{Inv}
@@ -49,7 +47,7 @@ use Rattle.law_places.proofs.inv.history.Passes.{Closing, First, get_allows, end
 use Rattle.law_held.proofs.Roots.Ways.{record_each}
 use Rattle.law_places.proofs.inv.ends.Told.Rows.{own_told}
 use Rattle.law_places.specs.inv.history.Heard.{heard_of}
-use Rattle.laws.specs.HoldLaw.{stands_as, got_right, gots_ok}
+use Rattle.laws.specs.HistoryHolds.{stands_as, got_right, gots_ok}
 use Rattle.law_held.specs.Records.{RecordsTellRows}
 use Rattle.law_held.proofs.GotRows.Nulled.{nulled, nulled_at, NulledIn, step_nulled, begin_nulled, ended_null}
 use Rattle.law_held.proofs.GotRows.Rowed.{Rowed, step_rowed, begin_rowed, first_book_rowed}
@@ -185,7 +183,7 @@ work_right w i (Changing kept at) p e s = tt
 work_right w i (Enqueuing kept at) p e s = tt
 work_right w i (Dequeuing at) p e s = tt
 
-null_right : (w : World) (i key : ℕ) (base : Base) (p : Past) → (w.seat i).phase ≡ Runs (Opens (Gets key)) base → ended_base (counted (w.seat i).post) base (finds w i) ≡ true → Sees w i p → null_of i (tells_of p i (machine.after base (counted (w.seat i).post) (finds w i)).told) ≡ true
+null_right : (w : World) (i key : ℕ) (base : Base) (p : Past) → (w.seat i).phase ≡ Runs (Opens (Gets key)) base → ends_base (counted (w.seat i).post) base (finds w i) 0 ≡ true → Sees w i p → null_of i (tells_of p i (machine.after base (counted (w.seat i).post) (finds w i)).told) ≡ true
 null_right w i key (Protect aim index root made at) p e d s =
     let r = run_of w i (Opens (Gets key)) (Protect aim index root made at) s.seats e in
     let zero : (index == 0) ≡ true = zero_test index r.shape.at in
@@ -194,7 +192,7 @@ null_right w i key (Protect aim index root made at) p e d s =
 null_right w i key base p e d s = absurd (cc)
 
 ending_right : (w : World) (i : ℕ) (task : Task) (base : Base) (ending : Ending) (p : Past) → (w.seat i).phase ≡ Runs (Opens task) base → (machine.after base (counted (w.seat i).post) (finds w i)).outcome ≡ Ends ending → Sees w i p → ending_allows (Allowed w.layout.config.buckets i (tells_of p i (machine.after base (counted (w.seat i).post) (finds w i)).told)) task ending
-ending_right w i (Gets key) base (Protected protect_ends.Null) p e o s = null_right w i key base p e ((nulls_end base (counted (w.seat i).post) (finds w i)).protected o) s
+ending_right w i (Gets key) base (Protected protect_ends.Null) p e o s = null_right w i key base p e (ends_with base (counted (w.seat i).post) (finds w i) (Protected protect_ends.Null) 0 o refl) s
 ending_right w i (Changes kept) base (Protected protect_ends.Null) p e o s = tt
 ending_right w i (Holds key) base (Protected protect_ends.Null) p e o s = tt
 ending_right w i (Enqueues kept) base (Protected protect_ends.Null) p e o s = tt

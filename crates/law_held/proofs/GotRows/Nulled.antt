@@ -35,7 +35,7 @@ use Rattle.wfe_core.specs.Phases.Ending.{Followed}
 use Rattle.wfe_core.specs.Calls.{Why, Phase, Idle, Runs, Scans, Works}
 use Rattle.wfe_core.proofs.Facts.{first_of, rest_of, then_of}
 use Rattle.law_places.proofs.inv.history.MayTell.{concluded_told}
-use Rattle.law_places.specs.inv.ends.Nulls.{ended_at}
+use Rattle.law_places.specs.inv.links.Origins.{ends_at}
 use Rattle.law_places.specs.inv.shapes.Frame.{Onward, Grows, Owes, Moves, Passed}
 use Rattle.law_places.specs.inv.shapes.Seats.{PostFits, PhaseFits, Run, Seats, Kind, ToOpen, ToFollow, kind_of, suits, protects, fills, retires, moves}
 use Rattle.law_places.proofs.inv.shapes.Frame.{seat_stays, seat_steps, begin_stays, begin_begins, after_seated, begun_seated, moves_with}
@@ -292,7 +292,7 @@ found_null aim index root n link era post was e z =
     subst (λ (es : List Event). along null_by es was ≡ true) (sym (concluded_told aim index root n link era (held_post post index root link) (told_held index root link n)))
     (then_of (link == 0) (along null_by (told_held index root link n) was) z (held_null index root link n was e))
 
-pub ended_null : (aim : Aim) (index : ℕ) (root : Root) (n : ℕ) (at : ProtectAt) (post : Post) (found : ℕ) (was : Bool) → ended_at post at found ≡ true → (index == 0) ≡ true → (not (index == 0) || nulled_at at was) ≡ true → along null_by (protect_turn aim index root n at post found).told was ≡ true
+pub ended_null : (aim : Aim) (index : ℕ) (root : Root) (n : ℕ) (at : ProtectAt) (post : Post) (found : ℕ) (was : Bool) → ends_at post at found 0 ≡ true → (index == 0) ≡ true → (not (index == 0) || nulled_at at was) ≡ true → along null_by (protect_turn aim index root n at post found).told was ≡ true
 ended_null aim index root n (CheckClock era tries link) post found was d e h =
     if_null (found == era) was (protected aim index root n link era post) (goes post [] (Protect aim index root n (PublishEra found (failed_once tries)))) (first_of (found == era) (link == 0) d) (found_null aim index root n link era post was e (rest_of (found == era) (link == 0) d))
 ended_null aim index root n (WithdrawHelper link era) post found was d e h =

@@ -171,7 +171,7 @@ step_right w i j d s =
 abbrev clears_at : ℕ → Past → ℕ → Event → Bool
 clears_at j p i event = clear_right j event (stood_at i j p)
 
-own_stood : (i j : ℕ) (p : Past) (event : Event) → stood_at i j (Then p i event) ≡ stood_by j event (stood_at i j p)
+pub own_stood : (i j : ℕ) (p : Past) (event : Event) → stood_at i j (Then p i event) ≡ stood_by j event (stood_at i j p)
 own_stood i j p event = let e : (i == i) ≡ true = same_number i in rw e refl
 
 right_each : (i j : ℕ) (told : List Event) (p : Past) → RightAt j told (stood_at i j p) → Each (clears_at j) p → Each (clears_at j) (tells_of p i told)

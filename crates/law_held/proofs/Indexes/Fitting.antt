@@ -33,7 +33,7 @@ use Rattle.wfe_core.specs.Phases.Ending.{Protected, Followed, Allocated, Retired
 use Rattle.wfe_core.specs.Calls.{Task, Gets, Changes, Holds, Enqueues, Dequeues, Next, Again, MakeRoom, Answering, Retiring, AfterScan, ChangeKept, EnqueueKept, GetAt, FindVersion, FindCount, FindKey, FindValue, ChangeAt, LoadVersion, LoadCount, LoadKey, LoadValue, ExchangeRoot, EnqueueAt, LoadNumber, LoadNext, PassTail, ExchangeNext, ExchangeTail, DequeueAt, SwingTail, ExchangeHead, Work, Getting, Changing, Enqueuing, Dequeuing, Why, Opens, FollowsHead, Fills, ClearsNext, Clears, Finishes, GivesUp, Retires, Tidies, Advances, Releases, CallTurn}
 use Rattle.law_places.proofs.answers.AnswersTold.Owed.{call_for, TaskServes, WhyServes, WorkServes}
 use Rattle.law_places.proofs.inv.history.AllOf.{all_of, of_along}
-use Rattle.laws.specs.NoReuse.{protects_at, clears_at}
+use Rattle.laws.specs.HistoryHolds.{protects_at, clears_at}
 
 -- an event at an index of the call, or none of protections
 abbrev pub fits : Call → Event → Bool

@@ -2,6 +2,7 @@
 use Rattle.std.proofs.Common.{ℕ, ◌≡◌, ◌-◌, ◌+◌, Bool, true, false, List, [], ◌∷◌, Option, Some, None, refl, sym, ap, ◌∙◌, subst}
 use Rattle.std.specs.List.{list_any}
 use Rattle.std.specs.Prelude.{◌==◌, ◌||◌, not, nat_lt, if◌then◌else◌}
+use Rattle.wfe_core.specs.defs.Shown.{Seen}
 use Rattle.wfe_core.specs.defs.declared.call.Call.{Call}
 use Rattle.wfe_core.specs.defs.declared.event.Event.{Event}
 use Rattle.wfe_core.specs.defs.declared.event.Event.TheVariants as events
@@ -11,8 +12,8 @@ use Rattle.wfe_core.specs.defs.declared.fold.Change.{Change}
 use Rattle.wfe_core.specs.defs.declared.fold.Change.TheVariants as changes
 use Rattle.wfe_core.specs.declared.post.Post.{Post}
 use Rattle.wfe_core.specs.Calls.{Task, Gets, Changes, Holds, Enqueues, Dequeues, AfterScan, Answered, Repeated, Counted, ScanAt, ReadGuard, GiveBack, Why, Opens, FollowsHead, ClearsNext, Clears, Releases, Phase, Idle, Runs, Scans, Works, CallTurn, CallOutcome, GoesOn, Answers}
-use Rattle.wfe_core.specs.Desks.{Desk, Seen}
-use Rattle.wfe_core.specs.Guards.{guards, guard_at, published}
+use Rattle.wfe_core.specs.Desks.{Desk}
+use Rattle.wfe_core.specs.Guards.{guards, guard_at, eras_in, published}
 use Rattle.wfe_core.specs.Locals.{told_end, turn}
 use Rattle.wfe_core.specs.Machine as machine
 use Rattle.wfe_core.specs.Memory.{bump}
@@ -36,7 +37,7 @@ use Rattle.law_places.proofs.inv.Machines.{is_within, within_of}
 use Rattle.laws.specs.StateAt.{began_of}
 use Rattle.law_places.proofs.answers.AnswersTold.Answering.{one_began, own_began}
 use Rattle.law_places.proofs.answers.AnswersTold.Owed.{call_for, TaskServes, FreeServes, WhyServes, Serves}
-use Rattle.laws.specs.NoReuse.{protects_at, clears_at, indexes_ok}
+use Rattle.laws.specs.HistoryHolds.{protects_at, clears_at, indexes_ok}
 use Rattle.law_held.specs.Records.{RecordsUseIndexes}
 use Rattle.law_held.proofs.Indexes.Fitting.{fits, Fit, May, task_may, dequeue_may, work_fit, resumed_fit}
 use Rattle.law_held.proofs.Roots.Ways.{record_each, answers_of}
@@ -146,7 +147,7 @@ guard_fit call later number post desk told false h = back_fit call later post de
 scan_fit : (call : Call) (later : AfterScan) (at : ScanAt) (post : Post) (desk : Desk) (found : ℕ) → Fit call (scan.scan_turn later at post desk found).told
 scan_fit call later (ReadGuard number) post desk found =
     let seen : Seen = (guard_at post.layout.config number, published (guard_at post.layout.config number) found) in
-    guard_fit call later number post (scan.with_read desk number seen) (events.Read seen.0 seen.1 ∷ []) (nat_lt (number + 1) (guards post.layout.config)) refl
+    guard_fit call later number post (scan.with_read desk number seen) (events.Read seen.0 (eras_in seen.0 found) ∷ []) (nat_lt (number + 1) (guards post.layout.config)) refl
 scan_fit call later (GiveBack place slot) post desk found = back_fit call later post (scan.with_back desk place) (events.Back slot ∷ []) (scan.unmet_from (scan.with_back desk place) place) refl
 
 -- a step

@@ -49,7 +49,8 @@ use Rattle.law_places.proofs.inv.ends.Told.Rows.{own_told, own_post, step_adds}
 use Rattle.law_places.proofs.inv.ends.Told.Turns.{Adds, is_later}
 use Rattle.law_held.proofs.Roots.Leads.{Leads, leads_of}
 use Rattle.law_held.proofs.Roots.Ways.{record_each}
-use Rattle.laws.specs.HoldLaw.{is_last, was_last, behind_ok}
+use Rattle.laws.specs.HistoryHolds.{was_last, behind_ok}
+use Rattle.laws.specs.HoldLaw.{is_last}
 use Rattle.law_held.specs.Records.{RecordsFollowNexts}
 use Rattle.law_held.proofs.NextRows.Behind.{had_none, within_none, carried_none, reloaded_next, behind_of}
 use Rattle.law_held.proofs.NextRows.Nexts.{Nexts}

@@ -13,6 +13,9 @@ use Rattle.wfe_core.specs.defs.declared.event.Event.TheVariants as events
 use Rattle.wfe_core.specs.defs.declared.event.Guard.{Guard}
 use Rattle.wfe_core.specs.defs.declared.event.Guard.TheVariants.{Helper, Index, Whole}
 use Rattle.wfe_core.specs.defs.declared.lifetime.Interval.{Interval}
+use Rattle.wfe_core.specs.defs.declared.lifetime.Lifetime.{Lifetime}
+use Rattle.wfe_core.specs.defs.Shown as values
+use Rattle.wfe_core.specs.defs.Shown.{keeps}
 use Rattle.wfe_core.specs.declared.post.Post.{Post}
 use Rattle.wfe_core.specs.Guards.{one_era, own_guard}
 use Rattle.wfe_core.specs.Calls.{Phase, Idle, CallTurn, CallOutcome, GoesOn, Answers}
@@ -20,7 +23,7 @@ use Rattle.wfe_core.specs.Locals.{busy_in, told_by, told_end, turn}
 use Rattle.wfe_core.specs.Posts.{stands}
 use Rattle.wfe_core.specs.World.{World, finds, is_busy, told_in}
 use Rattle.wfe_core.proofs.Facts.{first_of, rest_of}
-use Rattle.law_places.specs.inv.covers.Covers.{shown, spans}
+use Rattle.law_places.specs.inv.covers.Covers.{life_in, eras_shown, shown}
 use Rattle.law_places.proofs.inv.covers.Held.{stepped_phase}
 use Rattle.wfe_core.specs.words.Schemes.{is_ibr}
 use Rattle.law_places.specs.inv.shapes.Frame.{phase_left}
@@ -47,12 +50,11 @@ use Rattle.law_turns.proofs.Counting.Counting.{Keeps, begin_kept, step_kept, fir
 use Rattle.law_turns.proofs.Counting.Fits.{Clean, free, holds}
 use Rattle.law_turns.proofs.Handovers.{handovers_meet}
 use Rattle.law_places.proofs.reuse.Holding.Holds.{record_values, history_held}
-use Rattle.law_places.specs.inv.rows.Rows.{Status}
 use Rattle.law_held.proofs.Roots.Ways.{Turning, record_each, answers_of}
 use Rattle.law_places.specs.inv.history.Heard.{heard_of}
 use Rattle.law_places.specs.answers.Heard.{IsCounted}
 use Rattle.law_places.proofs.answers.Turns.Counted.{histories_count}
-use Rattle.laws.specs.HoldLaw.{is_alike, words_rest, guards_rest, rests_ok}
+use Rattle.laws.specs.HistoryHolds.{is_alike, words_rest, guards_rest, rests_ok}
 use Rattle.law_held.specs.Records.{RecordsRestGuards}
 use Rattle.law_held.proofs.Resting.Spans.{spent_of}
 use Rattle.law_held.proofs.Resting.Spent.{Spent}
@@ -64,7 +66,7 @@ idle_as : (w : World) (i : ℕ) → is_busy w i ≡ false → (w.seat i).phase �
 idle_as w i b = idle_of (w.seat i).phase b
 
 -- its helper word
-helper_none : (w : World) (i : ℕ) (a : Inv w) → is_busy w i ≡ false → shown w (Helper i) ≡ None
+helper_none : (w : World) (i : ℕ) (a : Inv w) → is_busy w i ≡ false → eras_shown w (Helper i) ≡ None
 helper_none w i a b =
     let q : Requests w a.asked = a.known.requests in
     let r : role_of w.layout Idle ≡ a.asked.role i = ap (role_of w.layout) (sym (idle_as w i b)) ∙ q.locals.roles i in
@@ -82,9 +84,9 @@ empty_of layout items k j d n z =
     subst (λ (p : Past). value_of (Index k j) p ≡ None) c.tells (history_empty (heard_of layout items) k j (handovers_meet layout items d n) z)
 
 -- what stands publishes
-some_alike : (value : Option Interval) (birth : ℕ) (s : ℕ) (x : Status) → spans value birth x ≡ true → is_alike value (Some s) ≡ true
-some_alike None birth s x h = absurd (cc)
-some_alike (Some span) birth s x h = refl
+some_alike : (value : Option Interval) (life : Lifetime) (s : ℕ) → keeps life (values.shown value) ≡ true → is_alike value (Some s) ≡ true
+some_alike None life s h = absurd (cc)
+some_alike (Some span) life s h = refl
 
 alike_by : (value : Option Interval) (stood : Option ℕ) → (stood ≡ None → value ≡ None) → ((s : ℕ) → stood ≡ Some s → is_alike value (Some s) ≡ true) → is_alike value stood ≡ true
 alike_by value None f g = rw (f refl) refl
@@ -95,8 +97,8 @@ holds_alike layout items i s guard d e t =
     let w : World = world_of layout items in
     let a : Inv w = inv_reached layout items d in
     let h = a.known.held.stood i 2 s t in
-    let c : spans (shown w guard) (a.rows.birth s) (a.rows.status s) ≡ true = subst (λ (g : Guard). spans (shown w g) (a.rows.birth s) (a.rows.status s) ≡ true) e h.covers.spans in
-    subst (λ (x : Option Interval). is_alike x (Some s) ≡ true) (sym (record_values layout items guard d)) (some_alike (shown w guard) (a.rows.birth s) s (a.rows.status s) c)
+    let c : keeps (life_in a.rows s) (shown w guard) ≡ true = subst (λ (g : Guard). keeps (life_in a.rows s) (shown w g) ≡ true) e h.covers.kept in
+    subst (λ (x : Option Interval). is_alike x (Some s) ≡ true) (sym (record_values layout items guard d)) (some_alike (eras_shown w guard) (life_in a.rows s) s c)
 
 words_idle : (layout : Layout) (items : List Item) (i : ℕ) → is_valid layout ≡ true → is_ibr layout.config.scheme ≡ false → own_guard (world_of layout items).layout.config.scheme i 2 ≡ Index i 2 → is_busy (world_of layout items) i ≡ false → words_rest i (record_of layout items) ≡ true
 words_idle layout items i d n e b =

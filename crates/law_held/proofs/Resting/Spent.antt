@@ -22,7 +22,7 @@ use Rattle.wfe_core.specs.Dequeue as dequeues
 use Rattle.wfe_core.specs.Desks.{Desk, with_life}
 use Rattle.wfe_core.specs.Enqueue as enqueues
 use Rattle.wfe_core.specs.Get as gets
-use Rattle.wfe_core.specs.Guards.{guards, guard_at, published}
+use Rattle.wfe_core.specs.Guards.{guards, guard_at, eras_in, published}
 use Rattle.wfe_core.specs.Posts.{stands}
 use Rattle.wfe_core.specs.Rounds.{scheme_of, bucket_of, index_of, taken_of, begin_base, release_base, clear_base, clear_post, clear_told, finish_base, finish_span, round_by, round, given_up, closed, finishing_by, finishing, clearing_by, clearing, clearing_next_by, clearing_next}
 use Rattle.wfe_core.specs.Scan as scan
@@ -211,7 +211,7 @@ guards_spent later n post desk told false h = back_spent later post desk told (s
 
 pub scan_spent : (later : AfterScan) (at : ScanAt) (post : Post) (desk : Desk) (found : ℕ) → Ended post → Turned (scan.scan_turn later at post desk found)
 scan_spent later (ReadGuard n) post desk found h =
-    guards_spent later n post (scan.with_read desk n (guard_at post.layout.config n, published (guard_at post.layout.config n) found)) (events.Read (guard_at post.layout.config n) (published (guard_at post.layout.config n) found) ∷ []) (nat_lt (n + 1) (guards post.layout.config)) h
+    guards_spent later n post (scan.with_read desk n (guard_at post.layout.config n, published (guard_at post.layout.config n) found)) (events.Read (guard_at post.layout.config n) (eras_in (guard_at post.layout.config n) found) ∷ []) (nat_lt (n + 1) (guards post.layout.config)) h
 scan_spent later (GiveBack place slot) post desk found h = back_spent later post (scan.with_back desk place) (events.Back slot ∷ []) (scan.unmet_from (scan.with_back desk place) place) h
 
 opened_row_spent : (task : Task) (slot : ℕ) (post : Post) (desk : Desk) (told : List Event) → (is_hold task ≡ true → Ended post) → Turned (steps.opened_row task slot post desk told)

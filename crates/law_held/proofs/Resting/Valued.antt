@@ -9,7 +9,7 @@ use Rattle.wfe_core.specs.defs.declared.event.Guard.TheVariants.{Helper, Index, 
 use Rattle.wfe_core.specs.defs.declared.lifetime.Interval.{Interval}
 use Rattle.wfe_core.proofs.Facts.{first_of, rest_of}
 use Rattle.laws.specs.StateAt.{is_index_word, one_more, reserves_by, reserves_of, value_of, reserved_by}
-use Rattle.laws.specs.Schedule.{event_handed, events_handed, handed_right}
+use Rattle.laws.specs.HistoryTurns.{event_handed, events_handed, handed_right}
 use Rattle.law_places.specs.inv.history.Turns.{EachTurn, record_of}
 use Rattle.law_places.specs.inv.history.Record.{Past, tells_of}
 use Rattle.law_places.specs.inv.history.Record.Past.{Then}

@@ -34,7 +34,7 @@ use Rattle.law_places.proofs.reuse.Reuse.Keeps.{record_stands}
 use Rattle.law_places.specs.inv.rows.Queue.{stands_on}
 use Rattle.law_places.proofs.inv.ends.Told.Rows.{own_told, own_post, step_adds}
 use Rattle.law_places.proofs.inv.ends.Told.Turns.{Adds, is_later}
-use Rattle.laws.specs.HoldLaw.{follows_ok}
+use Rattle.laws.specs.HistoryHolds.{follows_ok}
 use Rattle.law_held.specs.Records.{RecordsFollowHead}
 use Rattle.law_held.proofs.Roots.Early.{RunFits}
 use Rattle.law_held.proofs.Roots.Finding.{fits_by}

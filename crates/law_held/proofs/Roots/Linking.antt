@@ -32,7 +32,7 @@ use Rattle.law_places.proofs.Placing.Fronts.{linked_front, queued_front, taken_f
 use Rattle.law_places.proofs.Placing.Marks.{is_common, ordered, InOrder, tells, step_order}
 use Rattle.law_places.proofs.Ordering.Ordered.{word_of, head_is}
 use Rattle.laws.proofs.Tells.{tells_both}
-use Rattle.laws.specs.HoldLaw.{is_dequeue, stands_for, links_ok}
+use Rattle.laws.specs.HistoryHolds.{is_dequeue, stands_for, links_ok}
 use Rattle.law_held.specs.Records.{RecordsLinkHeld}
 use Rattle.law_held.proofs.Roots.Leads.{Leads, leads_of}
 use Rattle.law_held.proofs.Roots.Ways.{Turning, record_each, answers_of}

@@ -55,7 +55,8 @@ use Rattle.law_places.specs.inv.rows.Rows.{View}
 use Rattle.law_places.proofs.inv.ends.Told.Turns.{is_later}
 use Rattle.law_places.proofs.answers.AnswersTold.Answering.{one_began, own_began}
 use Rattle.law_places.proofs.answers.AnswersTold.Owed.{call_for, TaskServes, Serves}
-use Rattle.laws.specs.HoldLaw.{has_had, sources_ok}
+use Rattle.laws.specs.HistoryHolds.{sources_ok}
+use Rattle.laws.specs.HoldLaw.{has_had}
 use Rattle.law_held.specs.Records.{RecordsFindSources}
 use Rattle.law_held.proofs.Roots.Leads.{Leads, leads_of}
 use Rattle.law_held.proofs.Roots.Ways.{record_each, answers_of}

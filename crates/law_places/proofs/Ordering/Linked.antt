@@ -47,7 +47,8 @@ use Rattle.inv_all.specs.ends.Told.{row_events, birth_in, move_of}
 use Rattle.laws.proofs.Along.{along}
 use Rattle.inv_all.proofs.history.AllOf.{all_of, of_weaker}
 use Rattle.laws.specs.StateAt.{next_by, next_at, was_given_by, was_given, tail_by, tail_at, head_at}
-use Rattle.laws.specs.Once.{is_slot, nexts_ok}
+use Rattle.laws.specs.HistoryRows.{nexts_ok}
+use Rattle.laws.specs.Once.{is_slot}
 use Rattle.law_places.specs.Records.{RecordsLinkNexts}
 use Rattle.law_places.proofs.Placing.Comes.{agree_of, shape_in}
 use Rattle.law_places.proofs.Placing.Fronts.{linked_front, queued_front, taken_front}

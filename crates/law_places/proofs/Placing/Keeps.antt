@@ -1,7 +1,7 @@
 -- The record of each history keeps the laws on the rows that calls are given, cut and retire.
-use Rattle.std.proofs.Common.{ℕ, ◌≡◌, ◌<◌, ◌+◌, Bool, true, false, List, [], ◌∷◌, ◌++◌, length, None, refl, sym, ap, ◌∙◌, subst, arith}
+use Rattle.std.proofs.Common.{ℕ, ◌≡◌, ◌<◌, ◌+◌, Bool, true, false, List, [], ◌∷◌, ◌++◌, length, None, Some, refl, sym, ap, ◌∙◌, subst, arith}
 use Rattle.std.proofs.lemmas.Bool.Decides.{nat_tests}
-use Rattle.std.specs.Prelude.{◌==◌, ◌||◌, not, if◌then◌else◌}
+use Rattle.std.specs.Prelude.{◌==◌, ◌&&◌, ◌||◌, not, if◌then◌else◌}
 use Rattle.wfe_core.specs.words.Place.{is_valid}
 use Rattle.wfe_core.specs.words.declared.layout.Layout.{Layout}
 use Rattle.wfe_core.specs.defs.declared.call.Answer.{Answer}
@@ -24,7 +24,7 @@ use Rattle.inv_all.specs.rows.Hands.{hand_in}
 use Rattle.inv_all.specs.rows.Queue.{Line}
 use Rattle.inv_all.specs.rows.Rows.{Hand, RowMove, View}
 use Rattle.inv_all.specs.rows.Rows.Hand.{Empty}
-use Rattle.inv_all.specs.rows.Rows.RowMove.{Claims}
+use Rattle.inv_all.specs.rows.Rows.RowMove.{Claims, Lists}
 use Rattle.inv_all.specs.history.Record.{Past, Each, tells_of}
 use Rattle.inv_all.specs.history.Record.Past.{Then}
 use Rattle.inv_all.proofs.history.Entries.{entries_of_each}
@@ -37,16 +37,19 @@ use Rattle.inv_all.specs.ends.Told.{move_of}
 use Rattle.laws.proofs.Along.{along}
 use Rattle.inv_all.proofs.history.AllOf.{all_of}
 use Rattle.laws.specs.StateAt.{began_of, told_of, Given, Without, given_of, given_by, cuts_of, cuts_by, is_empty, retires_of, retires_by, changed_of, changed_by, seen}
-use Rattle.laws.specs.AnswerLaw.{answers_ok, retires_for, counts_right, retires_ok, is_change, refuses_right, refusing_ok}
+use Rattle.laws.specs.AnswerLaw.{retires_for}
+use Rattle.laws.specs.HistoryAnswers.{answers_ok, counts_right, retires_ok, is_change, refuses_right, refusing_ok}
 use Rattle.law_answers.proofs.AnswersTold.Answering as answering
 use Rattle.law_answers.proofs.AnswersTold.Answering.{owes_of}
 use Rattle.law_answers.proofs.AnswersTold.Owed.{is_open, owed, Owes}
-use Rattle.laws.specs.Once.{has_none, places_right, placing_ok, retires_right, retiring_ok}
-use Rattle.law_places.specs.Records.{RecordsPlaceRows, RecordsRetireCuts, RecordsCountRetires, RecordsRefuse}
+use Rattle.laws.specs.HistoryRows.{cuts_one, has_none, places_right, placing_ok, single_ok}
+use Rattle.laws.specs.Once.{retires_right, retiring_ok}
+use Rattle.law_places.specs.Records.{RecordsPlaceRows, RecordsRetireCuts, RecordsCountRetires, RecordsRefuse, RecordsRetireOne}
 use Rattle.law_places.proofs.Placing.Comes.{given_end, changed_end, loud_end, cuts_end, retires_end, said_end, ComesTo, Stepping, agree_of, shape_in, fits_in, comes_own, comes_other}
 use Rattle.law_places.proofs.Placing.Marks.{is_marked, marks, tells, marks_told}
 use Rattle.law_places.proofs.Placing.Moved.{in_hand_of, new_of, old_of, is_placed, loud_by, said_by, Agrees, places_moved, retires_moved}
-use Rattle.law_places.proofs.Placing.Shapes.{Claiming, Shape}
+use Rattle.law_places.proofs.Placing.Shapes.{Claiming, HandFits, Shape}
+use Rattle.law_places.proofs.Placing.Single.{Single, no_single, single_by, single_right, single_seen, single_each, single_kind, single_moved, OnlyFirst, phase_first}
 use Rattle.law_places.proofs.Placing.Sums.{given_kind, cuts_kind, along_both, said_told, loud_told, answer_said, answer_loud}
 use Rattle.laws.proofs.Tells.{AllRight, each_tells, right_kind, seen_tells, tells_both}
 use Rattle.inv_all.proofs.rows.Kept.{idle_hand}
@@ -122,6 +125,7 @@ record Keeps (layout : Layout) (made : Made) : Type 0 where
   pub retiring : Each retiring_ok made.past
   pub counts : Each retires_ok made.past
   pub refusing : Each refusing_ok made.past
+  pub single : Each (λ q k event. single_right event (seen single_by no_single k q)) made.past
 
 -- a seat that claims a row has placed none before
 not_placed : (busy : Bool) (given : Given) (changed loud : Bool) → (busy ≡ true → is_placed given ≡ true → changed ≡ true) → (changed ≡ true → loud ≡ true) → busy ≡ true → loud ≡ false → is_placed given ≡ false
@@ -230,6 +234,34 @@ step_refusing layout made i k r =
     refused_by (changed_of i q) (seen loud_by false i q) (is_change answer) loud (loud_told i q ∙ answer_loud n (began_of i q) (told_of i q) answer (ended_right n w i p answer o r.answers.law)))
     k.refusing
 
+-- a row that is retired is the first that the call retires
+retires_first : (layout : Layout) (made : Made) (i : ℕ) (k : Keeps layout made) → Ready layout made i k → (m : RowMove) → HandFits m (k.rows.hand i) → OnlyFirst m (seen single_by no_single i made.past)
+retires_first layout made i k r (Lists slot birth retire) f =
+    let w : World = made.world in
+    let p : Past = made.past in
+    let n : ℕ = layout.config.buckets in
+    let c = ready_comes layout made i k r in
+    let one : retires_of i p + 1 ≡ seen said_by 0 i p = ap (λ (h : Hand). retires_of i p + length (old_of h)) (sym f) ∙ c.counts in
+    let told : retires_of i p + 1 ≡ along said_by (owed n (w.seat i).call (w.seat i).phase) 0 =
+    one ∙ said_told i p ∙ ap (λ (es : List Event). along said_by es 0) ((k.answers.seats i).told r.busy) in
+    let first = phase_first n (w.seat i).call (w.seat i).phase (retires_of i p) told in
+    let began : began_of i p ≡ Some (w.seat i).call = (k.answers.seats i).began r.busy in
+    subst (λ (x : Single). (cuts_one x.call && x.retires == 0) ≡ true) (sym (single_seen i p)) (rw (began, first.0, first.1) refl)
+retires_first layout made i k r m f = tt
+
+step_single : (layout : Layout) (made : Made) (i : ℕ) (k : Keeps layout made) → Ready layout made i k → Each (λ q j event. single_right event (seen single_by no_single j q)) (tells_of made.past i (told_in made.world i))
+step_single layout made i k r =
+    let w : World = made.world in
+    let p : Past = made.past in
+    let a = agree_of w k.rows k.line k.asked k.known in
+    step_each single_by no_single single_right w i p
+    (right_kind single_by single_right is_marked (tells w i) (seen single_by no_single i p) single_kind
+    (subst (λ (es : List Event). AllRight single_by single_right es (seen single_by no_single i p)) (sym (marks_told w i))
+    (single_moved (w.seat i).phase (w.seat i).post (finds w i) (move_of w i) (marks (w.seat i).phase (w.seat i).post (finds w i)) (seen single_by no_single i p) (shape_in w i k.rows a)
+    (retires_first layout made i k r (move_of w i) (fits_in w i k.rows a)))))
+    (λ answer o. refl)
+    k.single
+
 -- each seat
 step_comes : (layout : Layout) (made : Made) (i : ℕ) (k : Keeps layout made) → Ready layout made i k → (m : ℕ) (same : Bool) → (m == i) ≡ same → ComesTo ((rows_after made.world i k.rows).hand m) (is_busy (step made.world i) m) m (tells_of made.past i (told_in made.world i))
 step_comes layout made i k r m true e =
@@ -257,6 +289,7 @@ step_keeps layout made i b y g =
       retiring = step_retiring layout made i g r;
       counts = step_counts layout made i g r;
       refusing = step_refusing layout made i g r;
+      single = step_single layout made i g r;
     }
 
 begin_comes : (w : World) (i k : ℕ) (v : View) (call : Call) (p : Past) (same : Bool) → (k == i) ≡ same → v.hand i ≡ Empty → ComesTo (v.hand k) (is_busy w k) k p → ComesTo (v.hand k) (is_busy (begin w i call) k) k (Then p i (events.Begin call))
@@ -284,6 +317,7 @@ begin_keeps layout made i call f g =
       retiring = (refl, g.retiring);
       counts = (refl, g.counts);
       refusing = (refl, g.refusing);
+      single = (refl, g.single);
     }
 
 steady : (layout : Layout) → Steady (Keeps layout)
@@ -303,6 +337,7 @@ first_keeps layout d =
       retiring = tt;
       counts = tt;
       refusing = tt;
+      single = tt;
     }
 
 history_keeps : (layout : Layout) (items : List Item) → is_valid layout ≡ true → Keeps layout (made_of layout items)
@@ -319,3 +354,6 @@ records_count_retires layout items d = let g = history_keeps layout items d in e
 
 pub records_refuse : RecordsRefuse
 records_refuse layout items d = let g = history_keeps layout items d in entries_of_each refusing_ok (record_of layout items) g.refusing
+
+pub records_retire_one : RecordsRetireOne
+records_retire_one layout items d = let g = history_keeps layout items d in entries_of_each single_ok (record_of layout items) (single_each (record_of layout items) g.single)

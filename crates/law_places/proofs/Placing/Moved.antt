@@ -15,7 +15,8 @@ use Rattle.inv_all.specs.rows.Rows.RowMove.{Stays, Claims, Bears, Drops, Links, 
 use Rattle.laws.proofs.Along.{along}
 use Rattle.inv_all.proofs.history.AllOf.{all_of}
 use Rattle.laws.specs.StateAt.{Given, Without, InHand, Placed, given_by, without_one, is_among, cuts_by, retires_by, changed_by}
-use Rattle.laws.specs.Once.{is_without, is_in_hand, places_right, retires_right}
+use Rattle.laws.specs.HistoryRows.{is_without, is_in_hand, places_right}
+use Rattle.laws.specs.Once.{retires_right}
 use Rattle.law_places.proofs.Placing.Shapes.{HandFits, is_change_of, is_passing, Shape}
 use Rattle.laws.proofs.Tells.{AllRight}
 

@@ -14,8 +14,10 @@ use Rattle.inv_all.specs.history.Record.{Past}
 use Rattle.inv_all.specs.history.Record.Past.{Start, Then}
 use Rattle.laws.proofs.Along.{along}
 use Rattle.laws.specs.StateAt.{with_told, told_of, Given, given_by, cuts_by, retires_by, changed_by, seen}
-use Rattle.laws.specs.AnswerLaw.{owes, suits, same_event, same_told, answer_right, retires_for, is_change}
-use Rattle.laws.specs.Once.{places_right, retires_right}
+use Rattle.laws.specs.AnswerLaw.{suits, same_event, retires_for}
+use Rattle.laws.specs.HistoryAnswers.{owes, same_told, answer_right, is_change}
+use Rattle.laws.specs.HistoryRows.{places_right}
+use Rattle.laws.specs.Once.{retires_right}
 use Rattle.law_places.proofs.Placing.Marks.{is_marked}
 use Rattle.law_places.proofs.Placing.Moved.{loud_by, said_by}
 use Rattle.laws.proofs.Tells.{OfKind}

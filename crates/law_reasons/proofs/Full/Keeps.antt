@@ -47,9 +47,10 @@ use Rattle.law_scans.proofs.inv.ends.Walks.Kept.{full_seen, walking_start, walki
 use Rattle.law_scans.proofs.DueScans.Keeps.{phase_right, told_starts}
 use Rattle.law_scans.proofs.DueScans.Lands.{PhaseRight}
 use Rattle.law_scans.proofs.DueScans.Still.{is_still, front}
-use Rattle.laws.specs.AnswerLaw.{full_ok, has_number, lacks_row, lacks_ok}
+use Rattle.laws.specs.AnswerLaw.{has_number, lacks_row, lacks_ok}
+use Rattle.laws.specs.HistoryAnswers.{full_ok}
 use Rattle.law_reasons.specs.Records.{RecordsKeepFull, RecordsKeepLacks, RecordsScanForRoom}
-use Rattle.laws.specs.ScanLaw.{Search, search_by, no_search, search_of, room_ok}
+use Rattle.laws.specs.HistoryScans.{Search, search_by, no_search, search_of, room_ok}
 use Rattle.law_reasons.proofs.Full.Lands.{FullSees, Onto, PhaseSure, after_first, first_fits, later_on, now_by, out_on, phase_on, turn_fits}
 use Rattle.law_reasons.proofs.Full.Lacks.{lacks_last, phase_sure}
 use Rattle.law_reasons.proofs.Full.Sees.{Sees, step_sees, begin_sees, first_sees}

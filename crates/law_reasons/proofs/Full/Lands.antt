@@ -2,6 +2,9 @@
 use Rattle.std.proofs.Common.{ℕ, ◌≡◌, ◌≤◌, ◌<◌, ◌+◌, ◌%◌, Bool, true, false, List, [], ◌∷◌, Option, Some, None, refl, sym, ap, ◌∙◌, subst, arith}
 use Rattle.std.proofs.lemmas.Bool.Decides.{nat_tests}
 use Rattle.std.specs.Prelude.{◌==◌, nat_lt, if◌then◌else◌}
+use Rattle.wfe_core.specs.defs.declared.event.Guard.{Guard}
+use Rattle.wfe_core.specs.defs.declared.lifetime.Interval.{Interval}
+use Rattle.wfe_core.specs.defs.Shown.{Seen}
 use Rattle.wfe_core.specs.words.declared.config.Config.{Config}
 use Rattle.wfe_core.specs.defs.declared.call.Answer.{Answer}
 use Rattle.wfe_core.specs.defs.declared.call.Answer.TheVariants as the_answers
@@ -14,9 +17,9 @@ use Rattle.wfe_core.specs.declared.ends.AllocateEnd.TheVariants as allocate_ends
 use Rattle.wfe_core.specs.declared.post.Post.{Post}
 use Rattle.wfe_core.specs.Allocate as allocates
 use Rattle.wfe_core.specs.Change as alters
-use Rattle.wfe_core.specs.Desks.{Desk, Seen, with_life}
+use Rattle.wfe_core.specs.Desks.{Desk, with_life}
 use Rattle.wfe_core.specs.Enqueue as enqueues
-use Rattle.wfe_core.specs.Guards.{guards, guard_at, published}
+use Rattle.wfe_core.specs.Guards.{guards, guard_at, eras_in, published}
 use Rattle.wfe_core.specs.Machine as machine
 use Rattle.wfe_core.specs.Posts.{stands}
 use Rattle.wfe_core.specs.Rounds.{with_clock}
@@ -36,7 +39,7 @@ use Rattle.laws.proofs.Along.{along}
 use Rattle.law_scans.proofs.inv.history.Passes.{scan_told}
 use Rattle.law_scans.proofs.DueScans.Lands.{PhaseRight}
 use Rattle.law_scans.proofs.DueScans.Still.{claim_front, tick_front, base_front, front}
-use Rattle.laws.specs.ScanLaw.{Search, search_by, seeks_row}
+use Rattle.laws.specs.HistoryScans.{Search, search_by, seeks_row}
 use Rattle.law_reasons.proofs.Full.Ties.{Now, is_full, is_walked, reads_in, reads_at, OutcomeSure, WorkSure, TaskFits, WalkFits, RoomFits, FullFits, AnswerFits, NextFits, LaterFits, FillFits, WhyFits, WorkFits, PhaseFits, OutFits, other_task, round_fits, closed_fits, clearing_fits, work_fits, resumed_opens, resumed_follows, resumed_next, resumed_clears, resumed_finishes, resumed_gives, resumed_releases}
 
 -- a row is filled
@@ -309,10 +312,10 @@ reading_fits c n later post desk told false z m l f =
     let e : n + 1 ≡ guards c = grind (arith, nat_tests) in
     giving_fits c later post desk told (scan.unmet_from desk 0) z (subst (λ (k : ℕ). LaterFits c k later z) e f)
 
-read_later : (c : Config) (n : ℕ) (later : AfterScan) (seen : Seen) (z : Now) → LaterFits c n later z → LaterFits c (n + 1) later (now_by (events.Read seen.0 seen.1) z)
-read_later c n (Answered answer) seen z f = f
-read_later c n (Repeated task) seen z f = record { seeks = f.seeks; reads = ap (λ (k : ℕ). k + 1) f.reads; walked = f.walked; was = f.was }
-read_later c n Counted seen z f = f
+read_later : (c : Config) (n : ℕ) (later : AfterScan) (guard : Guard) (span : Option Interval) (z : Now) → LaterFits c n later z → LaterFits c (n + 1) later (now_by (events.Read guard span) z)
+read_later c n (Answered answer) guard span z f = f
+read_later c n (Repeated task) guard span z f = record { seeks = f.seeks; reads = ap (λ (k : ℕ). k + 1) f.reads; walked = f.walked; was = f.was }
+read_later c n Counted guard span z f = f
 
 scan_fits_on : (z : Now) (later : AfterScan) (at : ScanAt) (post : Post) (desk : Desk) (found : ℕ) → scan_fits post.layout.config at ≡ true → LaterFits post.layout.config (reads_at (guards post.layout.config) at) later z
     → OutFits post.layout.config (scan.scan_turn later at post desk found).outcome (after_first (scan_told at post found) z)
@@ -320,7 +323,7 @@ scan_fits_on z later (ReadGuard n) post desk found s f =
     let c : Config = post.layout.config in
     let l : n < guards c = grind (arith, nat_tests) in
     let seen : Seen = (guard_at c n, published (guard_at c n) found) in
-    reading_fits c n later post (scan.with_read desk n seen) (events.Read seen.0 seen.1 ∷ []) (nat_lt (n + 1) (guards c)) (now_by (events.Read seen.0 seen.1) z) refl l (read_later c n later seen z f)
+    reading_fits c n later post (scan.with_read desk n seen) (events.Read seen.0 (eras_in seen.0 found) ∷ []) (nat_lt (n + 1) (guards c)) (now_by (events.Read seen.0 (eras_in seen.0 found)) z) refl l (read_later c n later seen.0 (eras_in seen.0 found) z f)
 scan_fits_on z later (GiveBack place slot) post desk found s f =
     let c : Config = post.layout.config in
     let y : Now = now_by (events.Back slot) z in

@@ -12,7 +12,7 @@ use Rattle.wfe_core.specs.Phases.AllocateAt.{ClaimSlot}
 use Rattle.wfe_core.specs.Phases.Base.{Allocate}
 use Rattle.wfe_core.specs.Locals.{told_by}
 use Rattle.wfe_core.specs.Calls.{Releases, AfterScan, Answered, Repeated, Counted, ReadGuard, GiveBack, ScanAt, Holds, Task, Phase, Idle, Runs, Scans, Works}
-use Rattle.wfe_core.specs.Guards.{guards, guard_at, published}
+use Rattle.wfe_core.specs.Guards.{guards, guard_at, eras_in, published}
 use Rattle.wfe_core.specs.Posts.{stands}
 use Rattle.wfe_core.specs.Rounds.{begin_base, begin_span, release_base, round, round_by, scheme_of}
 use Rattle.wfe_core.specs.Scan as scan
@@ -22,7 +22,6 @@ use Rattle.law_scans.specs.inv.shapes.Frame.{phase_left}
 use Rattle.law_scans.specs.inv.history.Record.{Past, Test, begins, own, held_since, tells_of}
 use Rattle.law_scans.specs.inv.history.Record.Past.{Start, Then}
 use Rattle.law_scans.proofs.inv.history.AllOf.{all_of}
-use Rattle.law_scans.proofs.reuse.Once.Calm as calm
 use Rattle.law_scans.proofs.reuse.Once.Calm.{is_unread, run_unread, work_unread}
 use Rattle.law_scans.specs.inv.ends.Walks.{WalkPhase}
 use Rattle.wfe_core.specs.words.declared.config.SchemeKind.{SchemeKind}
@@ -150,5 +149,5 @@ reading_walks slots seen later n post desk told true = tt
 reading_walks slots seen later n post desk told false = giving_walks slots seen later post desk told (scan.unmet_from desk 0)
 
 pub scan_walks : (slots : ℕ) (seen : ℕ → Bool) (later : AfterScan) (at : ScanAt) (post : Post) (desk : Desk) (found : ℕ) → WalkPhase slots seen (phase_left (scan.scan_turn later at post desk found).outcome)
-scan_walks slots seen later (ReadGuard n) post desk found = reading_walks slots seen later n post (scan.with_read desk n (guard_at post.layout.config n, published (guard_at post.layout.config n) found)) (events.Read (guard_at post.layout.config n) (published (guard_at post.layout.config n) found) ∷ []) (nat_lt (n + 1) (guards post.layout.config))
+scan_walks slots seen later (ReadGuard n) post desk found = reading_walks slots seen later n post (scan.with_read desk n (guard_at post.layout.config n, published (guard_at post.layout.config n) found)) (events.Read (guard_at post.layout.config n) (eras_in (guard_at post.layout.config n) found) ∷ []) (nat_lt (n + 1) (guards post.layout.config))
 scan_walks slots seen later (GiveBack place slot) post desk found = giving_walks slots seen later post (scan.with_back desk place) (events.Back slot ∷ []) (scan.unmet_from (scan.with_back desk place) place)

@@ -29,7 +29,7 @@ use Rattle.wfe_core.specs.Phases.Base.{Allocate}
 use Rattle.wfe_core.specs.Phases.Ending.{Done, Protected, Followed, Allocated, Retired, Clocked}
 use Rattle.wfe_core.specs.Calls.{Task, Gets, Changes, Holds, Enqueues, Dequeues, Next, Again, MakeRoom, Answering, Retiring, AfterScan, Answered, Repeated, Counted, ChangeKept, EnqueueKept, GetAt, FindVersion, FindCount, FindKey, FindValue, ChangeAt, LoadVersion, LoadCount, LoadKey, LoadValue, ExchangeRoot, EnqueueAt, LoadNumber, LoadNext, PassTail, ExchangeNext, ExchangeTail, DequeueAt, SwingTail, ExchangeHead, Work, Getting, Changing, Enqueuing, Dequeuing, ScanAt, ReadGuard, GiveBack, Why, Opens, FollowsHead, Fills, ClearsNext, Clears, Finishes, GivesUp, Retires, Tidies, Advances, Releases, Phase, Idle, Runs, Scans, Works, CallOutcome, GoesOn, Answers}
 use Rattle.law_scans.specs.inv.rows.Hands.{holds_none}
-use Rattle.laws.specs.ScanLaw.{Search}
+use Rattle.laws.specs.HistoryScans.{Search}
 
 -- what a record says of a seat's call: its search for a row, which rows were taken at a position of it, which were taken after the last
 -- entry of its scan, and whether all but a row was there for it at a position of it

@@ -41,7 +41,8 @@ use Rattle.law_scans.specs.inv.requests.Parents.{OutcomeStands, base_stands, pha
 use Rattle.law_scans.specs.inv.requests.Views.{View as Asked}
 use Rattle.law_scans.specs.inv.rows.Queue.{Line}
 use Rattle.law_scans.specs.inv.rows.Rows.{View}
-use Rattle.laws.specs.AnswerLaw.{put_reason, remove_reason, enqueue_reason, dequeue_reason, hold_reason, release_reason, reason}
+use Rattle.laws.specs.AnswerLaw.{enqueue_reason}
+use Rattle.laws.specs.HistoryAnswers.{put_reason, remove_reason, dequeue_reason, hold_reason, release_reason, reason}
 use Rattle.law_reasons.proofs.Reasons.Later.{Later, Bounds, is_last, reason_lasts}
 use Rattle.law_reasons.proofs.Reasons.Deciding.{Sound, is_plain, ChangeDecides, EnqueueDecides, TaskDecides, FollowDecides, FreeDecides, WhyDecides, OutcomeDecides, AlterDecides, AppendDecides, WorkDecides, PhaseDecides, PhaseKeeps, OutKeeps, keeps_on, turn_keeps}
 use Rattle.law_reasons.proofs.Reasons.Emptied.{Emptied, no_next_seen}

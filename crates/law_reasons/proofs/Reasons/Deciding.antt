@@ -21,7 +21,7 @@ use Rattle.wfe_core.specs.Desks.{Desk, with_life}
 use Rattle.wfe_core.specs.Dequeue as dequeues
 use Rattle.wfe_core.specs.Enqueue as enqueues
 use Rattle.wfe_core.specs.Get as gets
-use Rattle.wfe_core.specs.Guards.{guard_at, guards, published}
+use Rattle.wfe_core.specs.Guards.{guard_at, guards, eras_in, published}
 use Rattle.wfe_core.specs.Machine as machine
 use Rattle.wfe_core.specs.Posts.{stands}
 use Rattle.wfe_core.specs.Scan as scan
@@ -367,7 +367,7 @@ guard_keeps K R s later number post desk told true h = h
 guard_keeps K R s later number post desk told false h = giving_keeps K R s later post desk told (scan.unmet_from desk 0) h
 
 scan_keeps : (K R : Answer → Type 0) → Sound K R → (later : AfterScan) (at : ScanAt) (post : Post) (desk : Desk) (found : ℕ) → LaterKeeps K later → OutKeeps K R (scan.scan_turn later at post desk found).outcome
-scan_keeps K R s later (ReadGuard number) post desk found h = guard_keeps K R s later number post (scan.with_read desk number (guard_at post.layout.config number, published (guard_at post.layout.config number) found)) (events.Read (guard_at post.layout.config number) (published (guard_at post.layout.config number) found) ∷ []) (nat_lt (number + 1) (guards post.layout.config)) h
+scan_keeps K R s later (ReadGuard number) post desk found h = guard_keeps K R s later number post (scan.with_read desk number (guard_at post.layout.config number, published (guard_at post.layout.config number) found)) (events.Read (guard_at post.layout.config number) (eras_in (guard_at post.layout.config number) found) ∷ []) (nat_lt (number + 1) (guards post.layout.config)) h
 scan_keeps K R s later (GiveBack place slot) post desk found h = giving_keeps K R s later post _ _ _ h
 
 -- what comes after a machine

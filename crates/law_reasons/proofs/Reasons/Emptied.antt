@@ -2,7 +2,7 @@
 use Rattle.std.proofs.Common.{ℕ, ◌≡◌, ◌<◌, Bool, true, false, length, refl, sym, ap, ◌∙◌, subst, arith}
 use Rattle.std.proofs.lemmas.Bool.Decides.{nat_tests}
 use Rattle.std.specs.Prelude.{◌==◌, if◌then◌else◌}
-use Rattle.wfe_core.specs.words.Place.Place.{Clock, Row}
+use Rattle.wfe_core.specs.words.Place.Place.{Row}
 use Rattle.wfe_core.specs.words.declared.layout.Layout.{Layout}
 use Rattle.wfe_core.specs.defs.declared.call.Call.{Call}
 use Rattle.wfe_core.specs.defs.declared.event.Root.{Root}
@@ -11,25 +11,21 @@ use Rattle.wfe_core.specs.declared.ends.FollowEnd.TheVariants as follow_ends
 use Rattle.wfe_core.specs.declared.post.Post.{Post}
 use Rattle.wfe_core.specs.Links.{link_place, parent_of}
 use Rattle.wfe_core.specs.Machine as machine
-use Rattle.wfe_core.specs.Posts.{counted, upper}
-use Rattle.wfe_core.specs.Phases.{ProtectAt, Base, Ends}
+use Rattle.wfe_core.specs.Posts.{counted}
+use Rattle.wfe_core.specs.Phases.{Base, Ends}
 use Rattle.wfe_core.specs.Phases.Ending.{Followed}
-use Rattle.wfe_core.specs.Phases.ProtectAt.{CheckClock, WithdrawHelper, CheckUpper}
 use Rattle.wfe_core.specs.Phases.Base.{Protect, Reload}
 use Rattle.wfe_core.specs.Calls.{Gets, Why, Opens, FollowsHead, Phase, Idle, Runs, Scans, Works}
 use Rattle.wfe_core.specs.World.{World, start, begin, step, is_busy, finds}
-use Rattle.wfe_core.proofs.Facts.{same_number, both, first_of, rest_of}
-use Rattle.law_scans.proofs.inv.ends.Ends.Nulls.{nulls_end}
-use Rattle.law_scans.specs.inv.ends.Nulls.{ended_at, ended_base}
+use Rattle.wfe_core.proofs.Facts.{same_number}
 use Rattle.law_scans.specs.inv.shapes.Seats.{Seats, Run, root_by}
 use Rattle.law_scans.proofs.inv.Inv.Whole.{origins_need}
 use Rattle.law_scans.specs.inv.Known.{Known}
 use Rattle.law_scans.proofs.inv.contents.Items.Gives.{empty_right}
 use Rattle.law_scans.proofs.answers.Lawful.Current.{idle_untracked}
-use Rattle.law_scans.proofs.inv.links.Origins.Came.{aimed_at}
 use Rattle.law_scans.proofs.inv.links.Origins.Kept.{origins_kept, origins_start, origins_begin}
 use Rattle.law_scans.specs.inv.links.Origins.{Origins}
-use Rattle.law_scans.specs.inv.links.Tracked.{carries_at, carries_in, root_for, root_in, Tracked, Carried}
+use Rattle.law_scans.specs.inv.links.Tracked.{root_for, root_in, Tracked}
 use Rattle.law_scans.specs.inv.requests.NextDeals.{next_deals}
 use Rattle.law_scans.specs.inv.requests.Standing.{Requests}
 use Rattle.law_scans.specs.inv.requests.Views.{View as Asked}
@@ -37,7 +33,7 @@ use Rattle.law_scans.specs.inv.requests.Views.Deal.{Quiet}
 use Rattle.law_scans.specs.inv.rows.Chain.{queue_of}
 use Rattle.law_scans.specs.inv.rows.Queue.{Line, heads_on, stands_on}
 use Rattle.law_scans.specs.inv.rows.Rows.{View}
-use Rattle.law_scans.proofs.inv.links.Origins.Ends.{found_clock}
+use Rattle.law_scans.proofs.inv.links.Origins.Ends.{end_tracked, end_root}
 use Rattle.law_scans.proofs.inv.handover.Asks.{run_of}
 
 -- a null next link shows a queue of which all was taken
@@ -129,19 +125,8 @@ pub emptied_start : (layout : Layout) (z : Asked) (seen : ℕ → Bool) → ((k 
 emptied_start layout z seen q = record { links = origins_start (λ k. null_seen (seen k)) layout z q }
 
 -- a dequeue that finds no next row
-ended_carries : (post : Post) (at : ProtectAt) (found : ℕ) → ended_at post at found ≡ true → carries_at found (upper post.span) at 0 ≡ true
-ended_carries post (CheckClock era tries link) found h = both (link == 0) (found == era) (rest_of (found == era) (link == 0) h) (first_of (found == era) (link == 0) h)
-ended_carries post (WithdrawHelper link era) found h = h
-ended_carries post (CheckUpper link) found h = both (link == 0) (found == upper post.span) (rest_of (found == upper post.span) (link == 0) h) (first_of (found == upper post.span) (link == 0) h)
-ended_carries post at found h = absurd (cc)
-
-none_seen : (w : World) (i : ℕ) (z : Asked) (seen : ℕ → Bool) (head tail : ℕ) (base : Base) → Seats w → Emptied seen w z → (w.seat i).phase ≡ Runs (FollowsHead head tail) base → ended_base (counted (w.seat i).post) base (finds w i) ≡ true → seen i ≡ true
-none_seen w i z seen head tail (Protect aim index root steps at) s e q h =
-    let c = found_clock w i (FollowsHead head tail) aim index root steps at 0 q (ended_carries (counted (w.seat i).post) at (finds w i) h) in
-    let t : Tracked w z i 0 = Carried (subst (λ (f : Phase). carries_in (w.mem Clock) (upper (w.seat i).post.span) f 0 ≡ true) (sym q) c) in
-    let r : root_in w i ≡ roots.Next head = ap root_for q ∙ (aimed_at w i (FollowsHead head tail) aim index root steps at s q).of in
-    subst (λ (x : Root). null_seen (seen i) x 0 ≡ true) r (e.links.tracked i 0 t)
-none_seen w i z seen head tail base s e q h = absurd (cc)
-
 pub no_next_seen : (w : World) (i : ℕ) (z : Asked) (seen : ℕ → Bool) (head tail : ℕ) (base : Base) → Seats w → Emptied seen w z → (w.seat i).phase ≡ Runs (FollowsHead head tail) base → (machine.after base (counted (w.seat i).post) (finds w i)).outcome ≡ Ends (Followed follow_ends.NoNext) → seen i ≡ true
-no_next_seen w i z seen head tail base s e q o = none_seen w i z seen head tail base s e q ((nulls_end base (counted (w.seat i).post) (finds w i)).followed o)
+no_next_seen w i z seen head tail base s e q o =
+    let t : Tracked w z i 0 = end_tracked w i z (FollowsHead head tail) base (Followed follow_ends.NoNext) 0 q o refl in
+    let r : root_in w i ≡ roots.Next head = end_root w i (FollowsHead head tail) base (Followed follow_ends.NoNext) 0 s q o refl in
+    subst (λ (x : Root). null_seen (seen i) x 0 ≡ true) r (e.links.tracked i 0 t)

@@ -49,7 +49,7 @@ use Rattle.law_scans.proofs.answers.AnswersTold.Answering as answering
 use Rattle.law_scans.proofs.answers.AnswersTold.Answering.{first_all, owes_of, began_along}
 use Rattle.law_scans.proofs.answers.AnswersTold.Owed.{is_open, Owes, owed}
 use Rattle.law_scans.proofs.places.BareEnds.{end_stood}
-use Rattle.laws.specs.AnswerLaw.{reason, reasons_ok}
+use Rattle.laws.specs.HistoryAnswers.{reason, reasons_ok}
 use Rattle.law_reasons.specs.Records.{RecordsKeepReasons}
 use Rattle.law_reasons.proofs.Reasons.Decides.{Kept, Right, kept_lasts, step_decides}
 use Rattle.law_reasons.proofs.Reasons.Deciding.{PhaseKeeps, OutKeeps, keeps_on, first_keeps}

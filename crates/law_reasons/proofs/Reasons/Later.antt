@@ -20,7 +20,8 @@ use Rattle.law_scans.specs.inv.history.Record.Past.{Then}
 use Rattle.law_scans.proofs.inv.history.AllOf.{all_of}
 use Rattle.law_scans.proofs.inv.Machines.{is_within, within_begins}
 use Rattle.wfe_core.specs.defs.Events.{is_null}
-use Rattle.laws.specs.AnswerLaw.{put_reason, remove_reason, enqueue_reason, dequeue_reason, hold_reason, release_reason, reason}
+use Rattle.laws.specs.AnswerLaw.{enqueue_reason}
+use Rattle.laws.specs.HistoryAnswers.{put_reason, remove_reason, dequeue_reason, hold_reason, release_reason, reason}
 
 -- q comes after p in the same call of seat i
 pub record Later (i : ℕ) (p q : Past) : Type 0 where

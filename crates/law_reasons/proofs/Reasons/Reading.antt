@@ -3,7 +3,7 @@
 use Rattle.std.proofs.Common.{ℕ, ◌≡◌, ◌≤◌, ◌<◌, ◌+◌, ◌%◌, true, false, List, [], ◌∷◌, ◌++◌, length, take, refl, sym, ap, ◌∙◌, subst, arith}
 use Rattle.std.proofs.lemmas.Bool.Decides.{nat_tests}
 use Rattle.std.proofs.lemmas.List.{take_all}
-use Rattle.std.specs.Prelude.{◌==◌, ◌&&◌, nat_lt}
+use Rattle.std.specs.Prelude.{◌==◌, nat_lt}
 use Rattle.wfe_core.specs.words.Place.Place.{Row}
 use Rattle.wfe_core.specs.defs.Pairs.{Pair, pairs_after}
 use Rattle.wfe_core.specs.defs.declared.event.Root.{Root}
@@ -33,7 +33,7 @@ use Rattle.law_scans.proofs.inv.contents.Items.Gives.{items_count}
 use Rattle.law_scans.proofs.answers.Lawful.Current.{Current, shelf_since, since, since_is}
 use Rattle.law_scans.proofs.answers.Lawful.Gots.{null_at}
 use Rattle.law_scans.proofs.answers.Lawful.Maps.{base_of}
-use Rattle.law_scans.proofs.answers.Lawful.Nulls.{null_tracked, null_root}
+use Rattle.law_scans.proofs.inv.links.Origins.Ends.{end_tracked, end_root}
 use Rattle.laws.specs.StateAt.{queued_of, changes_of, count_of, begun_at, pairs_at}
 use Rattle.law_scans.specs.inv.history.Record.{Past}
 use Rattle.law_scans.specs.inv.links.Tracked.{root_in}
@@ -115,7 +115,7 @@ value_read w i v l z p kept slot count key a h e none =
 pub null_base : (w : World) (i : ℕ) (v : View) (l : Line) (z : Asked) (p : Past) (task : Task) (base : Base) (b : ℕ) → Shown w v l z p → (w.seat i).phase ≡ Runs (Opens task) base → root_by w.layout.config.buckets (Opens task) ≡ roots.Bucket b
     → (machine.after base (counted (w.seat i).post) (finds w i)).outcome ≡ Ends (Protected protect_ends.Null) → begun_at i b p ≤ 0
 null_base w i v l z p task base b h e r o =
-    null_at (base_of p i) w.book (root_in w i) b (null_root w i (Opens task) base h.known.seats e o ∙ r) (h.current.links.tracked i 0 (null_tracked w i z (Opens task) base e o))
+    null_at (base_of p i) w.book (root_in w i) b (end_root w i (Opens task) base (Protected protect_ends.Null) 0 h.known.seats e o refl ∙ r) (h.current.links.tracked i 0 (end_tracked w i z (Opens task) base (Protected protect_ends.Null) 0 e o refl))
 
 pub null_read : (w : World) (i : ℕ) (v : View) (l : Line) (z : Asked) (p : Past) (kept : ChangeKept) (base : Base) → Shown w v l z p → (w.seat i).phase ≡ Runs (Opens (Changes kept)) base
     → (machine.after base (counted (w.seat i).post) (finds w i)).outcome ≡ Ends (Protected protect_ends.Null) → ReadAt w.layout.config i (key_of kept.change % w.layout.config.buckets) 0 [] p

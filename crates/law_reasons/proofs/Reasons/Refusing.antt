@@ -16,7 +16,7 @@ use Rattle.wfe_core.proofs.Facts.{both, first_of, rest_of, below_unless, true_of
 use Rattle.law_scans.proofs.answers.AnswersTold.Owed.{call_for}
 use Rattle.laws.specs.StateAt.{was_current, count_of, begun_at, had_version, is_there, pairs_at}
 use Rattle.law_scans.specs.inv.history.Record.{Past}
-use Rattle.laws.specs.AnswerLaw.{put_reason, remove_reason, reason}
+use Rattle.laws.specs.HistoryAnswers.{put_reason, remove_reason, reason}
 
 -- a call of seat i has read these pairs at this version of bucket b
 pub record ReadAt (c : Config) (i b version : ℕ) (pairs : List Pair) (p : Past) : Type 0 where

@@ -1,5 +1,5 @@
 -- A protection that has concluded has told so in its call: Null where its link is null, else that its row is held.
-use Rattle.std.proofs.Common.{ℕ, ◌≡◌, ◌+◌, ◌-◌, Bool, true, false, List, [], ◌∷◌, ◌++◌, Option, Some, None, refl, sym, ap, ◌∙◌, subst, arith}
+use Rattle.std.proofs.Common.{ℕ, ◌≡◌, ◌+◌, ◌-◌, Bool, true, false, List, [], ◌∷◌, ◌++◌, Option, Some, None, refl, sym, ◌∙◌, subst, arith}
 use Rattle.std.proofs.lemmas.Bool.Decides.{nat_tests}
 use Rattle.std.specs.List.{list_any}
 use Rattle.std.specs.Prelude.{◌==◌, ◌&&◌, ◌||◌, nat_le, nat_lt, if◌then◌else◌}
@@ -27,7 +27,7 @@ use Rattle.wfe_core.specs.Steps as steps
 use Rattle.wfe_core.specs.Phases.{Aim, Alone, Follows, Tries, Endless, Failed, ProtectAt, Base, Ending, Outcome, Goes, Ends, Turn}
 use Rattle.wfe_core.specs.Phases.Ending.{Done, Protected, Followed, Allocated, Retired, Clocked}
 use Rattle.wfe_core.specs.Phases.ProtectAt.{PublishEra, LoadLink, CheckClock, PublishRequest, CheckOwnClock, AnswerOwn, LoadAnswer, TakeAnswer, WithdrawRequest, WithdrawHelper, CheckUpper}
-use Rattle.wfe_core.specs.Phases.Base.{Begin, Protect, Reload, Clear, Finish, Release, Allocate, Write, GiveUp, Retire, Move}
+use Rattle.wfe_core.specs.Phases.Base.{Protect, Move}
 use Rattle.wfe_core.specs.Calls.{Task, Why, Opens, FollowsHead, Phase, Idle, Runs, Scans, Works, CallTurn, CallOutcome, GoesOn, Answers}
 use Rattle.wfe_core.specs.World.{World, finds, told_in}
 use Rattle.wfe_core.proofs.Facts.{same_number, both, first_of, rest_of, is_one_more}
@@ -37,8 +37,8 @@ use Rattle.law_scans.proofs.inv.covers.Fresh.{resume_fresh, work_fresh}
 use Rattle.law_scans.proofs.inv.covers.Scans.{scan_starts}
 use Rattle.law_scans.specs.inv.covers.Tries.{is_start, starts_base}
 use Rattle.law_scans.proofs.inv.ends.Ends.Stood.{held_told}
-use Rattle.law_scans.proofs.inv.ends.Ends.Nulls.{null_told, nulls_end}
-use Rattle.law_scans.specs.inv.ends.Nulls.{ended_base, null_base, null_in}
+use Rattle.law_scans.proofs.inv.ends.Ends.Nulls.{null_told}
+use Rattle.law_scans.specs.inv.ends.Nulls.{null_base, null_in}
 use Rattle.wfe_core.specs.defs.Events.{is_null, is_held}
 use Rattle.law_scans.specs.inv.ends.Standing.{is_end, holds_base, holds_in}
 use Rattle.law_scans.specs.inv.history.Record.{Past, begins, own, told_since, tells_of}
@@ -248,39 +248,28 @@ run_says i buckets why aim index root (Goes base) q a h = h
 run_says i buckets why aim index root (Ends ending) q a h = why_says i buckets why aim index root ending q a h
 
 -- other machines
-plain_end : (i : ℕ) (why : Why) (ending : Ending) (q : Past) → ends_plain ending ≡ true → (ending ≡ Followed follow_ends.NoNext → ⊥) → WhySays i why ending q
-plain_end i (Opens task) (Protected protect_ends.Null) q p f = absurd (cc)
-plain_end i (Opens task) (Protected (protect_ends.Held slot era)) q p f = absurd (cc)
-plain_end i (FollowsHead head tail) (Followed follow_ends.NoNext) q p f = absurd (f refl)
-plain_end i why ending q p f = tt
+plain_end : (i : ℕ) (why : Why) (ending : Ending) (q : Past) → ends_plain ending ≡ true → WhySays i why ending q
+plain_end i (Opens task) (Protected protect_ends.Null) q p = absurd (cc)
+plain_end i (Opens task) (Protected (protect_ends.Held slot era)) q p = absurd (cc)
+plain_end i (FollowsHead head tail) (Followed follow_ends.NoNext) q p = absurd (cc)
+plain_end i why ending q p = tt
 
-plain_says : (i : ℕ) (why : Why) (outcome : Outcome) (q : Past) → out_plain outcome ≡ true → (outcome ≡ Ends (Followed follow_ends.NoNext) → ⊥) → RunSays i why outcome q
-plain_says i why (Goes base) q p f = start_base i base q p
-plain_says i why (Ends ending) q p f = plain_end i why ending q p (λ e. f (ap (λ (x : Ending). Ends x) e))
-
-no_next : (base : Base) (post : Post) (found : ℕ) → ended_base post base found ≡ false → (machine.after base post found).outcome ≡ Ends (Followed follow_ends.NoNext) → ⊥
-no_next base post found f e = let h = (nulls_end base post found).followed e in cc
+plain_says : (i : ℕ) (why : Why) (outcome : Outcome) (q : Past) → out_plain outcome ≡ true → RunSays i why outcome q
+plain_says i why (Goes base) q p = start_base i base q p
+plain_says i why (Ends ending) q p = plain_end i why ending q p
 
 move_base : (i : ℕ) (base : Base) (q : Past) → is_move base ≡ true → BaseSays i base q
 move_base i (Protect aim index root steps at) q h = absurd (cc)
 move_base i base q h = tt
 
-moved_says : (i : ℕ) (why : Why) (outcome : Outcome) (q : Past) → out_moves outcome ≡ true → (outcome ≡ Ends (Followed follow_ends.NoNext) → ⊥) → RunSays i why outcome q
-moved_says i why (Goes base) q p f = move_base i base q p
-moved_says i why (Ends ending) q p f = plain_end i why ending q p (λ e. f (ap (λ (x : Ending). Ends x) e))
+moved_says : (i : ℕ) (why : Why) (outcome : Outcome) (q : Past) → out_moves outcome ≡ true → RunSays i why outcome q
+moved_says i why (Goes base) q p = move_base i base q p
+moved_says i why (Ends ending) q p = plain_end i why ending q p
 
 machine_says : (i : ℕ) (layout : Layout) (why : Why) (base : Base) (post : Post) (found : ℕ) (q : Past) → Run layout why base post → BaseSays i base q → Now i post base found q → RunSays i why (machine.after base (counted post) found).outcome q
 machine_says i layout why (Protect aim index root steps at) post found q r h e = run_says i layout.config.buckets why aim index root _ q r.shape (protect_says i aim index root steps (bump steps) at post found q h e)
-machine_says i layout why (Move at) post found q r h e = moved_says i why _ q (moves_on at (counted post) found) (no_next (Move at) (counted post) found refl)
-machine_says i layout why (Begin at) post found q r h e = plain_says i why _ q (plain_after (Begin at) (counted post) found refl) (no_next (Begin at) (counted post) found refl)
-machine_says i layout why (Reload parent index slot era steps) post found q r h e = plain_says i why _ q (plain_after (Reload parent index slot era steps) (counted post) found refl) (no_next (Reload parent index slot era steps) (counted post) found refl)
-machine_says i layout why (Clear index) post found q r h e = plain_says i why _ q (plain_after (Clear index) (counted post) found refl) (no_next (Clear index) (counted post) found refl)
-machine_says i layout why Finish post found q r h e = plain_says i why _ q (plain_after Finish (counted post) found refl) (no_next Finish (counted post) found refl)
-machine_says i layout why Release post found q r h e = plain_says i why _ q (plain_after Release (counted post) found refl) (no_next Release (counted post) found refl)
-machine_says i layout why (Allocate at) post found q r h e = plain_says i why _ q (plain_after (Allocate at) (counted post) found refl) (no_next (Allocate at) (counted post) found refl)
-machine_says i layout why (Write slot row place) post found q r h e = plain_says i why _ q (plain_after (Write slot row place) (counted post) found refl) (no_next (Write slot row place) (counted post) found refl)
-machine_says i layout why (GiveUp slot) post found q r h e = plain_says i why _ q (plain_after (GiveUp slot) (counted post) found refl) (no_next (GiveUp slot) (counted post) found refl)
-machine_says i layout why (Retire at) post found q r h e = plain_says i why _ q (plain_after (Retire at) (counted post) found refl) (no_next (Retire at) (counted post) found refl)
+machine_says i layout why (Move at) post found q r h e = moved_says i why _ q (moves_on at (counted post) found)
+machine_says i layout why base post found q r h e = plain_says i why (machine.after base (counted post) found).outcome q (plain_after base (counted post) found refl)
 
 -- what a step tells besides End
 no_end : (kind : Event → Bool) (post : Post) (outcome : CallOutcome) → ((steps : ℕ) (answer : Answer) → kind (events.End steps answer) ≡ false) → list_any kind (told_end post outcome) ≡ true → ⊥

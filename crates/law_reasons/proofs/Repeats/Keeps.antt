@@ -50,8 +50,9 @@ use Rattle.law_scans.specs.inv.steps_left.Tallies.{Tally, once, tally, phase_pac
 use Rattle.law_reasons.proofs.Full.Keeps as full
 use Rattle.law_reasons.proofs.Full.Keeps.{now_of}
 use Rattle.law_reasons.proofs.Full.Ties as ties
-use Rattle.laws.specs.ScanLaw.{Search, search_by, no_search, search_of}
-use Rattle.laws.specs.AnswerLaw.{moves_before, moves_of, repeats_ok, whole_scan}
+use Rattle.laws.specs.HistoryScans.{Search, search_by, no_search, search_of}
+use Rattle.laws.specs.AnswerLaw.{moves_before, moves_of}
+use Rattle.laws.specs.HistoryAnswers.{repeats_ok, whole_scan}
 use Rattle.law_reasons.specs.Records.{RecordsKeepRepeats}
 use Rattle.law_reasons.proofs.Repeats.Finds.{both_finds, finds_in, opens_now, phase_top, run_opens, step_finds, told_finds, top_of}
 use Rattle.law_reasons.proofs.Repeats.Gets.{gets_begin, gets_start, gets_step, once_more}

@@ -18,8 +18,9 @@ use Rattle.law_scans.proofs.inv.Machines.{is_within, within_begins}
 use Rattle.laws.proofs.Tells.{seen_own}
 use Rattle.law_reasons.proofs.Reasons.Later.{later_all, later_same, more_queued, more_count}
 use Rattle.law_reasons.proofs.Full.Since.{others_begin, others_own}
-use Rattle.laws.specs.ScanLaw.{Search, search_by, no_search, search_of}
-use Rattle.laws.specs.AnswerLaw.{moves_of, moves_before, whole_scan}
+use Rattle.laws.specs.HistoryScans.{Search, search_by, no_search, search_of}
+use Rattle.laws.specs.AnswerLaw.{moves_of, moves_before}
+use Rattle.laws.specs.HistoryAnswers.{whole_scan}
 use Rattle.law_scans.proofs.answers.AnswersTold.Answering.{one_began}
 
 -- finds

@@ -1,22 +1,23 @@
 -- The record of scans after what a step tells that is of no scan; and the desk and the phase after such a step.
 use Rattle.std.proofs.Common.{ℕ, ◌≡◌, Bool, true, false, List, [], ◌∷◌, length, refl, ap, ◌∙◌}
 use Rattle.std.specs.Prelude.{◌==◌, ◌||◌, not}
+use Rattle.wfe_core.specs.defs.Shown.{Seen}
 use Rattle.wfe_core.specs.words.declared.config.Config.{Config}
 use Rattle.wfe_core.specs.defs.declared.event.Event.{Event}
 use Rattle.wfe_core.specs.defs.declared.event.Event.TheVariants as events
 use Rattle.wfe_core.specs.defs.declared.lifetime.Lifetime.{Lifetime}
 use Rattle.wfe_core.specs.declared.post.Post.{Post}
 use Rattle.wfe_core.specs.Calls.{Why, Work, Runs, Works, Retires}
-use Rattle.wfe_core.specs.Desks.{Desk, Seen}
+use Rattle.wfe_core.specs.Desks.{Desk}
 use Rattle.wfe_core.specs.Guards.{guards}
 use Rattle.wfe_core.specs.Machine.{after}
 use Rattle.wfe_core.specs.Phases.{Base, Ending, Outcome, Goes, Ends}
 use Rattle.wfe_core.specs.Phases.Ending.{Done, Protected, Followed, Allocated, Retired, Clocked}
-use Rattle.wfe_core.specs.Steps.{phase_turn, resumed}
+use Rattle.wfe_core.specs.Steps.{phase_turn}
 use Rattle.wfe_core.proofs.Facts.{same_number, first_of, rest_of}
 use Rattle.inv_all.specs.shapes.Frame.{phase_left}
 use Rattle.inv_all.specs.covers.Covers.{is_fresh}
-use Rattle.inv_all.proofs.covers.Fresh.{work_fresh, resume_fresh}
+use Rattle.inv_all.proofs.covers.Fresh.{work_fresh}
 use Rattle.inv_all.specs.history.Record.{Past, Each, tells_of}
 use Rattle.inv_all.specs.history.Record.Past.{Then}
 use Rattle.laws.specs.StateAt.{list_of, read_by, read_of, is_scan, scans_of}

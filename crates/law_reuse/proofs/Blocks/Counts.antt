@@ -2,6 +2,7 @@
 use Rattle.std.proofs.Common.{ℕ, ◌≡◌, ◌<◌, ◌+◌, Bool, true, false, List, [], ◌∷◌, ◌++◌, length, Option, Some, None, refl, sym, ap, ◌∙◌, subst, arith}
 use Rattle.std.proofs.lemmas.Bool.Decides.{nat_tests}
 use Rattle.std.specs.Prelude.{◌==◌, ◌&&◌, nat_lt, if◌then◌else◌}
+use Rattle.wfe_core.specs.defs.Shown.{Seen}
 use Rattle.wfe_core.specs.words.declared.config.Config.{Config}
 use Rattle.wfe_core.specs.words.declared.layout.Layout.{Layout}
 use Rattle.wfe_core.specs.defs.declared.call.Answer.{Answer}
@@ -12,8 +13,8 @@ use Rattle.wfe_core.specs.defs.declared.event.Event.{Event}
 use Rattle.wfe_core.specs.defs.declared.event.Event.TheVariants as events
 use Rattle.wfe_core.specs.declared.post.Post.{Post}
 use Rattle.wfe_core.specs.Calls.{AfterScan, Counted, ScanAt, ReadGuard, GiveBack, Phase, Idle, Runs, Scans, Works, CallTurn, CallOutcome, GoesOn, Answers}
-use Rattle.wfe_core.specs.Desks.{Desk, Report, Seen, noting}
-use Rattle.wfe_core.specs.Guards.{guards, guard_at, published}
+use Rattle.wfe_core.specs.Desks.{Desk, Report, noting}
+use Rattle.wfe_core.specs.Guards.{guards, guard_at, eras_in, published}
 use Rattle.wfe_core.specs.Locals.{Local, after, begun, settled, rounds_told, told_by, told_end, turn}
 use Rattle.wfe_core.specs.Posts.{counted}
 use Rattle.wfe_core.specs.Scan.{Entry, giving_back, reading, with_read, with_back, unmet_from, scan_turn}
@@ -36,7 +37,8 @@ use Rattle.laws.proofs.Along.{list_own}
 use Rattle.law_reuse.proofs.Once.Calm.{is_calm, run_calm, work_calm}
 use Rattle.law_reuse.proofs.Once.Keeps.{Keeps, first_keeps, begin_keeps, step_keeps, settled_list}
 use Rattle.law_reuse.proofs.Once.Moves.{removed}
-use Rattle.laws.specs.ScanLaw.{is_scan_call, answers_scan, count_ok}
+use Rattle.laws.specs.HistoryScans.{answers_scan, count_ok}
+use Rattle.laws.specs.ScanLaw.{is_scan_call}
 use Rattle.law_reuse.specs.Records.{RecordsCountScans}
 use Rattle.law_reuse.proofs.Blocks.Keeps.{ScanFits, scans_fit}
 use Rattle.law_reuse.proofs.Blocks.Placed.{scan_event, scan_tells}
@@ -154,7 +156,7 @@ scan_counts : (i : ℕ) (at : ScanAt) (post : Post) (desk : Desk) (found : ℕ) 
 scan_counts i (ReadGuard n) post desk found p f r b l d s =
     let config : Config = post.layout.config in
     let seen : Seen = (guard_at config n, published (guard_at config n) found) in
-    let event : Event = events.Read seen.0 seen.1 in
+    let event : Event = events.Read seen.0 (eras_in seen.0 found) in
     let m : n < guards config = grind (arith, nat_tests) in
     reading_counts config i n post (with_read desk n seen) (event ∷ []) (nat_lt (n + 1) (guards config)) (Then p i event) refl m
     (times_read i is_read event p refl refl ∙ ap (λ (x : ℕ). x + 1) r) (times_quiet i is_back event p refl refl ∙ b) refl (list_own i event p ∙ l)

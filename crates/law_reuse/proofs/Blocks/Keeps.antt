@@ -2,6 +2,7 @@
 use Rattle.std.proofs.Common.{ℕ, ◌≡◌, ◌<◌, Bool, true, false, List, [], ◌∷◌, ◌++◌, refl, sym, ap, ◌∙◌, subst, arith}
 use Rattle.std.proofs.lemmas.Bool.Decides.{nat_tests}
 use Rattle.std.specs.Prelude.{◌==◌, if◌then◌else◌}
+use Rattle.wfe_core.specs.defs.Shown.{Seen}
 use Rattle.wfe_core.specs.words.Place.{is_valid}
 use Rattle.wfe_core.specs.words.declared.config.Config.{Config}
 use Rattle.wfe_core.specs.words.declared.layout.Layout.{Layout}
@@ -11,7 +12,7 @@ use Rattle.wfe_core.specs.defs.declared.event.Event.TheVariants as events
 use Rattle.wfe_core.specs.defs.declared.lifetime.Lifetime.{Lifetime}
 use Rattle.wfe_core.specs.declared.post.Post.{Post}
 use Rattle.wfe_core.specs.Calls.{AfterScan, ScanAt, Phase, Idle, Runs, Scans, Works, CallTurn, CallOutcome, GoesOn, Answers}
-use Rattle.wfe_core.specs.Desks.{Desk, Report, Seen, noting}
+use Rattle.wfe_core.specs.Desks.{Desk, Report, noting}
 use Rattle.wfe_core.specs.Guards.{guards}
 use Rattle.wfe_core.specs.Locals.{Local, after, begun, begun_post, busy_in, settled, rounds_told, told_by, told_end, turn}
 use Rattle.wfe_core.specs.Posts.{counted}
@@ -27,7 +28,7 @@ use Rattle.inv_all.proofs.shapes.Frame.{seat_stays, seat_steps, begin_stays, beg
 use Rattle.inv_all.specs.history.Record.{Past, Each, tells_of}
 use Rattle.inv_all.specs.history.Record.Past.{Then}
 use Rattle.inv_all.proofs.history.Entries.{entries_of_each}
-use Rattle.inv_all.specs.history.History.{Begins, Steps, Made, fits, done, first_made, record_of}
+use Rattle.inv_all.specs.history.History.{Begins, Steps, Made, done, first_made, record_of}
 use Rattle.inv_all.proofs.history.Along.{Steady, items_keep}
 use Rattle.laws.specs.StateAt.{list_of, read_by, read_of, is_scan, scans_of}
 use Rattle.law_reuse.proofs.Once.Calm.{is_unread, run_unread, work_unread}

@@ -4,6 +4,7 @@ use Rattle.std.proofs.lemmas.Bool.Decides.{nat_tests}
 use Rattle.std.proofs.lemmas.List.{length-append}
 use Rattle.std.specs.Prelude.{◌==◌, ◌&&◌, ◌||◌, not, nat_lt, if◌then◌else◌, is_none}
 use Rattle.std.specs.List.{remove}
+use Rattle.wfe_core.specs.defs.Shown.{Seen}
 use Rattle.wfe_core.specs.words.declared.config.Config.{Config}
 use Rattle.wfe_core.specs.defs.declared.event.Event.{Event}
 use Rattle.wfe_core.specs.defs.declared.event.Event.TheVariants as events
@@ -12,8 +13,8 @@ use Rattle.wfe_core.specs.defs.declared.event.Guard.TheVariants.{Helper, Index, 
 use Rattle.wfe_core.specs.defs.declared.lifetime.Lifetime.{Lifetime}
 use Rattle.wfe_core.specs.declared.post.Post.{Post}
 use Rattle.wfe_core.specs.Calls.{AfterScan, Answered, Repeated, Counted, ScanAt, ReadGuard, GiveBack, Phase, Idle, Runs, Scans, Works, CallTurn}
-use Rattle.wfe_core.specs.Desks.{Desk, Report, Seen}
-use Rattle.wfe_core.specs.Guards.{guards, guard_at, published}
+use Rattle.wfe_core.specs.Desks.{Desk, Report}
+use Rattle.wfe_core.specs.Guards.{guards, guard_at, eras_in, published}
 use Rattle.wfe_core.specs.Scan.{Entry, read_before, scanned, giving_back, reading, with_kept, with_read, with_back, unmet_from, scan_turn}
 use Rattle.wfe_core.proofs.Facts.{both}
 use Rattle.inv_all.specs.shapes.Frame.{phase_left}
@@ -21,7 +22,8 @@ use Rattle.inv_all.specs.shapes.Seats.{scan_fits}
 use Rattle.inv_all.specs.covers.Covers.{is_fresh}
 use Rattle.inv_all.proofs.covers.Fresh.{round_fresh}
 use Rattle.laws.specs.StateAt.{read_by, same_guard}
-use Rattle.laws.specs.ScanLaw.{next_back, is_row, is_over, is_partial, next_number, scan_by}
+use Rattle.laws.specs.ScanLaw.{next_back, is_over, is_partial, next_number, scan_by}
+use Rattle.laws.specs.ScanLaw.{is_life_of}
 use Rattle.law_reuse.proofs.Blocks.Found.{met_before, met_none, PlaceOf, place_from, met_remove}
 
 -- no scan is left undone
@@ -34,7 +36,7 @@ pub record Gives (all place slot : ℕ) (read : List Seen) (list : List Lifetime
   pub whole : length read ≡ all
   pub going : scans ≡ true
   pub met : met_before read place list ≡ true
-  pub next : is_row slot (next_back read list) ≡ true
+  pub next : is_life_of slot (next_back read list) ≡ true
 
 abbrev pub PlacedAt : ℕ → ScanAt → List Seen → List Lifetime → Bool → Type 0
 PlacedAt all (ReadGuard zero) read list scans = Rests all read list scans
@@ -104,14 +106,14 @@ read_length all n report list scans seen h = let e = before_length all n report 
 
 -- the event of a scan's step
 abbrev pub scan_event : ScanAt → Post → ℕ → Event
-scan_event (ReadGuard number) post found = events.Read (guard_at post.layout.config number) (published (guard_at post.layout.config number) found)
+scan_event (ReadGuard number) post found = events.Read (guard_at post.layout.config number) (eras_in (guard_at post.layout.config number) found)
 scan_event (GiveBack place slot) post found = events.Back slot
 
 pub scan_placed : (later : AfterScan) (at : ScanAt) (post : Post) (desk : Desk) (found : ℕ) (scans : Bool) → scan_fits post.layout.config at ≡ true → PlacedAt (guards post.layout.config) at desk.report.read desk.list scans → TurnPlaced (guards post.layout.config) (scan_turn later at post desk found)
 scan_placed later (ReadGuard n) post desk found scans f h =
     let seen : Seen = (guard_at post.layout.config n, published (guard_at post.layout.config n) found) in
     let b : n < guards post.layout.config = grind (arith, nat_tests) in
-    reading_placed (guards post.layout.config) later n post (with_read desk n seen) (events.Read seen.0 seen.1 ∷ []) (nat_lt (n + 1) (guards post.layout.config)) refl (read_length (guards post.layout.config) n desk.report desk.list scans seen h) b
+    reading_placed (guards post.layout.config) later n post (with_read desk n seen) (events.Read seen.0 (eras_in seen.0 found) ∷ []) (nat_lt (n + 1) (guards post.layout.config)) refl (read_length (guards post.layout.config) n desk.report desk.list scans seen h) b
 scan_placed later (GiveBack place slot) post desk found scans f h =
     giving_placed (guards post.layout.config) later post (with_back desk place) (events.Back slot ∷ []) (unmet_from (with_back desk place) place) h.whole
     (place_from desk.report.read place (remove desk.list place) (met_remove desk.report.read place desk.list h.met))
@@ -133,7 +135,7 @@ reading_tells later number post desk told false = giving_tells later post desk t
 pub scan_tells : (later : AfterScan) (at : ScanAt) (post : Post) (desk : Desk) (found : ℕ) → (scan_turn later at post desk found).told ≡ scan_event at post found ∷ []
 scan_tells later (ReadGuard n) post desk found =
     let seen : Seen = (guard_at post.layout.config n, published (guard_at post.layout.config n) found) in
-    reading_tells later n post (with_read desk n seen) (events.Read seen.0 seen.1 ∷ []) (nat_lt (n + 1) (guards post.layout.config))
+    reading_tells later n post (with_read desk n seen) (events.Read seen.0 (eras_in seen.0 found) ∷ []) (nat_lt (n + 1) (guards post.layout.config))
 scan_tells later (GiveBack place slot) post desk found = giving_tells later post (with_back desk place) (events.Back slot ∷ []) (unmet_from (with_back desk place) place)
 
 scanned_reads : (later : AfterScan) (post : Post) (desk : Desk) (told : List Event) → (scanned later post desk told).desk.report.read ≡ desk.report.read
@@ -154,7 +156,7 @@ pub scan_reads : (later : AfterScan) (at : ScanAt) (post : Post) (desk : Desk) (
 scan_reads later (ReadGuard n) post desk found scans f h =
     let seen : Seen = (guard_at post.layout.config n, published (guard_at post.layout.config n) found) in
     let b : n < guards post.layout.config = grind (arith, nat_tests) in
-    reading_reads later n post (with_read desk n seen) (events.Read seen.0 seen.1 ∷ []) (nat_lt (n + 1) (guards post.layout.config))
+    reading_reads later n post (with_read desk n seen) (events.Read seen.0 (eras_in seen.0 found) ∷ []) (nat_lt (n + 1) (guards post.layout.config))
     ∙ ap (λ (read : List Seen). read ++ seen ∷ []) (read_before_is (guards post.layout.config) n desk.report desk.list scans b h)
 scan_reads later (GiveBack place slot) post desk found scans f h = giving_reads later post (with_back desk place) (events.Back slot ∷ []) (unmet_from (with_back desk place) place)
 
@@ -195,4 +197,4 @@ scan_allowed (GiveBack place slot) post read list found scans f h =
     let all : ℕ = guards post.layout.config in
     let e : length read ≡ all = h.whole in
     let q : (length read == all) ≡ true = grind (arith, nat_tests) in
-    both scans (length read == all && is_row slot (next_back read list)) h.going (both (length read == all) (is_row slot (next_back read list)) q h.next)
+    both scans (length read == all && is_life_of slot (next_back read list)) h.going (both (length read == all) (is_life_of slot (next_back read list)) q h.next)

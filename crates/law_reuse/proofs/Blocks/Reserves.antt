@@ -11,7 +11,7 @@ use Rattle.wfe_core.specs.defs.declared.event.Guard.TheVariants.{Helper, Index, 
 use Rattle.wfe_core.specs.defs.declared.event.Root.{Root}
 use Rattle.wfe_core.specs.declared.post.Post.{Post}
 use Rattle.wfe_core.specs.Calls.{ReadGuard, GiveBack, Phase, Idle, Runs, Scans, Works, LoadVersion, LoadNumber, LoadTail, FindVersion, Work, Getting, Changing, Enqueuing, Dequeuing, Why}
-use Rattle.wfe_core.specs.Guards.{guard_place, published, one_era, from_to}
+use Rattle.wfe_core.specs.Guards.{guard_place, eras_in, one_era, from_to}
 use Rattle.wfe_core.specs.Machine as machine
 use Rattle.wfe_core.specs.Memory as memory
 use Rattle.wfe_core.specs.Memory.{bump, put, place_in, found}
@@ -36,7 +36,7 @@ use Rattle.wfe_core.proofs.Facts.{first_of, rest_of, false_of_not, false_not_tru
 use Rattle.wfe_core.specs.words.declared.layout.Layout.{Layout}
 use Rattle.wfe_core.specs.defs.declared.lifetime.Interval.{Interval}
 use Rattle.wfe_core.specs.World.{World, start, step, finds, told_in}
-use Rattle.inv_all.specs.covers.Covers.{shown}
+use Rattle.inv_all.specs.covers.Covers.{eras_shown}
 use Rattle.inv_all.specs.shapes.Eras.{PhaseEras, SpanIn, base_eras, begin_eras, protect_eras, move_eras}
 use Rattle.wfe_core.specs.words.Schemes.{is_ibr}
 use Rattle.inv_all.specs.shapes.Seats.{PhaseFits, Run}
@@ -107,10 +107,10 @@ protect_shows guard mem aim index root n (WithdrawHelper link era) post h =
 protect_shows guard mem aim index root n (RaiseUpper era) post h = put_published guard (Whole post.seat) mem _ (from_to (lower post.span) era) _ (span_shown (lower post.span) era h.0 h.1 h.2) refl
 protect_shows guard mem aim index root n at post h = bare_shows guard mem (Protect aim index root n at) post refl refl
 
-hand_by : (guard : Guard) (mem : Place → ℕ) (era seat tag index old new : ℕ) (post : Post) (same : Bool) → published (Index seat index) new ≡ one_era era
-    → published guard (put mem (Place.Index seat index) (if same then new else mem (Place.Index seat index)) (guard_place guard)) ≡ along (reserved_by guard) (of_guards (movers.after_hand_over era seat tag index old post same).told) (published guard (mem (guard_place guard)))
+hand_by : (guard : Guard) (mem : Place → ℕ) (era seat tag index old new : ℕ) (post : Post) (same : Bool) → eras_in (Index seat index) new ≡ one_era era
+    → eras_in guard (put mem (Place.Index seat index) (if same then new else mem (Place.Index seat index)) (guard_place guard)) ≡ along (reserved_by guard) (of_guards (movers.after_hand_over era seat tag index old post same).told) (eras_in guard (mem (guard_place guard)))
 hand_by guard mem era seat tag index old new post true e = put_published guard (Index seat index) mem new (one_era era) _ e refl
-hand_by guard mem era seat tag index old new post false e = ap (published guard) (put_back mem (Place.Index seat index) (guard_place guard))
+hand_by guard mem era seat tag index old new post false e = ap (eras_in guard) (put_back mem (Place.Index seat index) (guard_place guard))
 
 move_shows : (guard : Guard) (mem : Place → ℕ) (at : MoveAt) (post : Post) → BaseWords (Base.Move at) post → Shows guard mem (Base.Move at) post
 move_shows guard mem (ShowEra era seat tag index root) post h = put_published guard (Helper post.seat) mem _ (one_era era) _ (era_shown era 0 (omega arith)) refl
@@ -207,21 +207,21 @@ reserved_tells : (guard : Guard) (i : ℕ) (told : List Event) (p : Past) → va
 reserved_tells guard i [] p = refl
 reserved_tells guard i (event ∷ told) p = reserved_tells guard i told (Then p i event)
 
-pub step_shown : (w : World) (i : ℕ) (p : Past) (guard : Guard) → PhaseWords (w.seat i).phase (w.seat i).post → shown w guard ≡ value_of guard p → shown (step w i) guard ≡ value_of guard (tells_of p i (told_in w i))
+pub step_shown : (w : World) (i : ℕ) (p : Past) (guard : Guard) → PhaseWords (w.seat i).phase (w.seat i).post → eras_shown w guard ≡ value_of guard p → eras_shown (step w i) guard ≡ value_of guard (tells_of p i (told_in w i))
 step_shown w i p guard h t =
     let own : List Event = own_told (w.seat i).phase (counted (w.seat i).post) (finds w i) in
-    let a : shown (step w i) guard ≡ along (reserved_by guard) (of_guards own) (shown w guard) = phase_shows guard w.mem (w.seat i).phase (w.seat i).post h in
+    let a : eras_shown (step w i) guard ≡ along (reserved_by guard) (of_guards own) (eras_shown w guard) = phase_shows guard w.mem (w.seat i).phase (w.seat i).post h in
     let b : of_guards (told_in w i) ≡ of_guards own = step_filter is_guard w i later_guards in
     let c : value_of guard (tells_of p i (told_in w i)) ≡ along (reserved_by guard) (of_guards (told_in w i)) (value_of guard p) =
     reserved_tells guard i (told_in w i) p ∙ along_kind (reserved_by guard) is_guard (reserved_quiet guard) (told_in w i) (value_of guard p) in
     a ∙ ap (along (reserved_by guard) (of_guards own)) t ∙ ap (λ (es : List Event). along (reserved_by guard) es (value_of guard p)) (sym b) ∙ sym c
 
 -- at the start no guard publishes
-start_if : (guard : Guard) (there : Bool) (x : ℕ) → x ≡ 0 → published guard (if there then x else 0) ≡ None
-start_if guard true x e = ap (published guard) e ∙ nothing_shown guard
+start_if : (guard : Guard) (there : Bool) (x : ℕ) → x ≡ 0 → eras_in guard (if there then x else 0) ≡ None
+start_if guard true x e = ap (eras_in guard) e ∙ nothing_shown guard
 start_if guard false x e = nothing_shown guard
 
-pub start_shown : (layout : Layout) (guard : Guard) → shown (start layout) guard ≡ None
+pub start_shown : (layout : Layout) (guard : Guard) → eras_shown (start layout) guard ≡ None
 start_shown layout (Helper seat) = start_if (Helper seat) (has layout (Place.Helper seat)) 0 refl
 start_shown layout (Index seat index) = start_if (Index seat index) (has layout (Place.Index seat index)) 0 refl
 start_shown layout (Whole seat) = start_if (Whole seat) (has layout (Place.Interval seat)) 0 refl

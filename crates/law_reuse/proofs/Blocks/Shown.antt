@@ -11,7 +11,7 @@ use Rattle.wfe_core.specs.defs.declared.lifetime.Interval.{Interval}
 use Rattle.wfe_core.specs.declared.post.Post.{Post}
 use Rattle.wfe_core.specs.Calls.{AfterScan, ScanAt, ReadGuard, GiveBack, Phase, Idle, Runs, Scans, Works, CallTurn, CallOutcome, GoesOn, Answers}
 use Rattle.wfe_core.specs.Desks.{Desk}
-use Rattle.wfe_core.specs.Guards.{guard_at, guard_place, published}
+use Rattle.wfe_core.specs.Guards.{guard_at, guard_place, eras_in}
 use Rattle.wfe_core.specs.Locals.{told_by, told_end}
 use Rattle.wfe_core.specs.Memory.{found, place_in}
 use Rattle.wfe_core.specs.Posts.{counted}
@@ -19,7 +19,7 @@ use Rattle.wfe_core.specs.Scan.{scan_turn}
 use Rattle.wfe_core.specs.Steps.{phase_move, phase_turn}
 use Rattle.wfe_core.specs.World.{World, is_busy}
 use Rattle.wfe_core.proofs.Facts.{first_of, rest_of}
-use Rattle.inv_all.specs.covers.Covers.{shown}
+use Rattle.inv_all.specs.covers.Covers.{eras_shown}
 use Rattle.inv_all.specs.shapes.Eras.{ErasNeeds}
 use Rattle.inv_all.specs.history.Record.{Past, Each, tells_of}
 use Rattle.inv_all.specs.history.Record.Past.{Then}
@@ -54,11 +54,11 @@ end_each : (i : ℕ) (event : Event) (p : Past) (post : Post) (outcome : CallOut
 end_each i event p post (GoesOn phase) o t = (o, t)
 end_each i event p post (Answers answer) o t = (refl, (o, t))
 
-event_ok : (at : ScanAt) (post : Post) (mem : Place → ℕ) (p : Past) (i x : ℕ) → ((number : ℕ) → at ≡ ReadGuard number → x ≡ mem (guard_place (guard_at post.layout.config number))) → ((guard : Guard) → published guard (mem (guard_place guard)) ≡ value_of guard p) → read_ok p i (scan_event at post x) ≡ true
+event_ok : (at : ScanAt) (post : Post) (mem : Place → ℕ) (p : Past) (i x : ℕ) → ((number : ℕ) → at ≡ ReadGuard number → x ≡ mem (guard_place (guard_at post.layout.config number))) → ((guard : Guard) → eras_in guard (mem (guard_place guard)) ≡ value_of guard p) → read_ok p i (scan_event at post x) ≡ true
 event_ok (ReadGuard number) post mem p i x f h =
     let guard : Guard = guard_at post.layout.config number in
-    let e : published guard x ≡ value_of guard p = ap (published guard) (f number refl) ∙ h guard in
-    subst (λ (y : Option Interval). same_span (published guard x) y ≡ true) e (span_self (published guard x))
+    let e : eras_in guard x ≡ value_of guard p = ap (eras_in guard) (f number refl) ∙ h guard in
+    subst (λ (y : Option Interval). same_span (eras_in guard x) y ≡ true) e (span_self (eras_in guard x))
 event_ok (GiveBack place slot) post mem p i x f h = refl
 
 scan_each : (i : ℕ) (later : AfterScan) (at : ScanAt) (post : Post) (desk : Desk) (x : ℕ) (p : Past) → read_ok p i (scan_event at post x) ≡ true → Each read_ok p → Each read_ok (tells_of p i (told_by (scan_turn later at post desk x)))
@@ -70,7 +70,7 @@ scan_each i later at post desk x p o t =
 found_guard : (later : AfterScan) (at : ScanAt) (post : Post) (mem : Place → ℕ) (number : ℕ) → at ≡ ReadGuard number → found (phase_move (Scans later at) post) (mem (place_in (phase_move (Scans later at) post))) ≡ mem (guard_place (guard_at post.layout.config number))
 found_guard later at post mem number e = subst (λ (x : ScanAt). found (phase_move (Scans later x) post) (mem (place_in (phase_move (Scans later x) post))) ≡ mem (guard_place (guard_at post.layout.config number))) (sym e) refl
 
-phase_each : (i : ℕ) (phase : Phase) (post : Post) (desk : Desk) (mem : Place → ℕ) (p : Past) → ((guard : Guard) → published guard (mem (guard_place guard)) ≡ value_of guard p) → Each read_ok p
+phase_each : (i : ℕ) (phase : Phase) (post : Post) (desk : Desk) (mem : Place → ℕ) (p : Past) → ((guard : Guard) → eras_in guard (mem (guard_place guard)) ≡ value_of guard p) → Each read_ok p
     → Each read_ok (tells_of p i (told_by (phase_turn phase (counted post) desk (found (phase_move phase post) (mem (place_in (phase_move phase post)))))))
 phase_each i Idle post desk mem p h t = t
 phase_each i (Runs why base) post desk mem p h t =
@@ -85,7 +85,7 @@ phase_each i (Works work) post desk mem p h t =
 -- what a history keeps
 record Read (layout : Layout) (made : Made) : Type 0 where
   base : Keeps layout made
-  shows : (guard : Guard) → shown made.world guard ≡ value_of guard made.past
+  shows : (guard : Guard) → eras_shown made.world guard ≡ value_of guard made.past
   law : Each read_ok made.past
 
 words_of : (layout : Layout) (made : Made) (i : ℕ) → Keeps layout made → PhaseWords (made.world.seat i).phase (made.world.seat i).post

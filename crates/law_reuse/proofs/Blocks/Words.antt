@@ -12,7 +12,7 @@ use Rattle.wfe_core.specs.defs.declared.event.Event.TheVariants as events
 use Rattle.wfe_core.specs.defs.declared.event.Guard.{Guard}
 use Rattle.wfe_core.specs.defs.declared.event.Guard.TheVariants.{Helper, Index, Whole}
 use Rattle.wfe_core.specs.defs.declared.lifetime.Interval.{Interval}
-use Rattle.wfe_core.specs.Guards.{guard_place, published, one_era, from_to, interval_in}
+use Rattle.wfe_core.specs.Guards.{guard_place, eras_in, one_era, from_to, interval_in}
 use Rattle.wfe_core.specs.Memory.{Move, Load, Store, Cas, Or, And, put, written}
 use Rattle.wfe_core.specs.Spans.{eras_word}
 use Rattle.inv_all.proofs.shapes.Frame.{written_other}
@@ -57,15 +57,15 @@ written_plain guard mem (And place bits) h = written_other mem (And place bits) 
 
 -- what is told of guards after an operation is what they publish
 abbrev pub Publishes : Guard → (Place → ℕ) → Move → List Event → Type 0
-Publishes guard mem m told = published guard (written mem m (guard_place guard)) ≡ along (reserved_by guard) told (published guard (mem (guard_place guard)))
+Publishes guard mem m told = eras_in guard (written mem m (guard_place guard)) ≡ along (reserved_by guard) told (eras_in guard (mem (guard_place guard)))
 
 pub none_published : (guard : Guard) (mem : Place → ℕ) (m : Move) (told : List Event) → leaves m ≡ true → told ≡ [] → Publishes guard mem m told
-none_published guard mem m told h e = ap (published guard) (written_plain guard mem m h) ∙ ap (λ (es : List Event). along (reserved_by guard) es (published guard (mem (guard_place guard)))) (sym e)
+none_published guard mem m told h e = ap (eras_in guard) (written_plain guard mem m h) ∙ ap (λ (es : List Event). along (reserved_by guard) es (eras_in guard (mem (guard_place guard)))) (sym e)
 
-put_shown : (guard other : Guard) (mem : Place → ℕ) (word : ℕ) → published guard (put mem (guard_place other) word (guard_place guard)) ≡ reserved_by guard (events.Reserve other (published other word)) (published guard (mem (guard_place guard)))
+put_shown : (guard other : Guard) (mem : Place → ℕ) (word : ℕ) → eras_in guard (put mem (guard_place other) word (guard_place guard)) ≡ reserved_by guard (events.Reserve other (eras_in other word)) (eras_in guard (mem (guard_place guard)))
 put_shown (Helper a) (Helper b) mem word = by (a == b)
   where
-    by : (same : Bool) → published (Helper a) (if same then word else mem (Place.Helper a)) ≡ (if same then published (Helper b) word else published (Helper a) (mem (Place.Helper a)))
+    by : (same : Bool) → eras_in (Helper a) (if same then word else mem (Place.Helper a)) ≡ (if same then eras_in (Helper b) word else eras_in (Helper a) (mem (Place.Helper a)))
     by true = refl
     by false = refl
 put_shown (Helper a) (Index b j) mem word = refl
@@ -73,7 +73,7 @@ put_shown (Helper a) (Whole b) mem word = refl
 put_shown (Index a i) (Helper b) mem word = refl
 put_shown (Index a i) (Index b j) mem word = by (a == b && i == j)
   where
-    by : (same : Bool) → published (Index a i) (if same then word else mem (Place.Index a i)) ≡ (if same then published (Index b j) word else published (Index a i) (mem (Place.Index a i)))
+    by : (same : Bool) → eras_in (Index a i) (if same then word else mem (Place.Index a i)) ≡ (if same then eras_in (Index b j) word else eras_in (Index a i) (mem (Place.Index a i)))
     by true = refl
     by false = refl
 put_shown (Index a i) (Whole b) mem word = refl
@@ -81,14 +81,14 @@ put_shown (Whole a) (Helper b) mem word = refl
 put_shown (Whole a) (Index b j) mem word = refl
 put_shown (Whole a) (Whole b) mem word = by (a == b)
   where
-    by : (same : Bool) → published (Whole a) (if same then word else mem (Place.Interval a)) ≡ (if same then published (Whole b) word else published (Whole a) (mem (Place.Interval a)))
+    by : (same : Bool) → eras_in (Whole a) (if same then word else mem (Place.Interval a)) ≡ (if same then eras_in (Whole b) word else eras_in (Whole a) (mem (Place.Interval a)))
     by true = refl
     by false = refl
 
-pub put_published : (guard other : Guard) (mem : Place → ℕ) (word : ℕ) (span : Option Interval) (told : List Event) → published other word ≡ span → told ≡ events.Reserve other span ∷ [] → published guard (put mem (guard_place other) word (guard_place guard)) ≡ along (reserved_by guard) told (published guard (mem (guard_place guard)))
+pub put_published : (guard other : Guard) (mem : Place → ℕ) (word : ℕ) (span : Option Interval) (told : List Event) → eras_in other word ≡ span → told ≡ events.Reserve other span ∷ [] → eras_in guard (put mem (guard_place other) word (guard_place guard)) ≡ along (reserved_by guard) told (eras_in guard (mem (guard_place guard)))
 put_published guard other mem word span told e q =
-    put_shown guard other mem word ∙ ap (λ (x : Option Interval). reserved_by guard (events.Reserve other x) (published guard (mem (guard_place guard)))) e
-    ∙ ap (λ (es : List Event). along (reserved_by guard) es (published guard (mem (guard_place guard)))) (sym q)
+    put_shown guard other mem word ∙ ap (λ (x : Option Interval). reserved_by guard (events.Reserve other x) (eras_in guard (mem (guard_place guard)))) e
+    ∙ ap (λ (es : List Event). along (reserved_by guard) es (eras_in guard (mem (guard_place guard)))) (sym q)
 
 -- what words publish
 pub era_shown : (era tag : ℕ) → tag < 4294967296 → one_era (read_reservation (reservation_word (record { era = era; tag = tag }))).era ≡ one_era era
@@ -97,7 +97,7 @@ era_shown era tag f = ap (λ (r : Reservation). one_era r.era) (read_reservation
 pub span_shown : (lo hi : ℕ) → 0 < lo → lo ≤ hi → hi < 4294967296 → interval_in (read_span (eras_word lo hi)) ≡ from_to lo hi
 span_shown lo hi a b c = ap interval_in (read_span-halves lo hi a b c)
 
-pub nothing_shown : (guard : Guard) → published guard 0 ≡ None
+pub nothing_shown : (guard : Guard) → eras_in guard 0 ≡ None
 unfolding read_span
 nothing_shown (Helper seat) = ap (λ (word : ℕ). one_era (read_reservation word).era) no_index ∙ era_shown 0 0 (omega arith)
 nothing_shown (Index seat index) = ap (λ (word : ℕ). one_era (read_reservation word).era) no_index ∙ era_shown 0 0 (omega arith)

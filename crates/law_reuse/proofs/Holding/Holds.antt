@@ -1,7 +1,10 @@
 -- What a history keeps of guards and of lives, and so what stands is held.
-use Rattle.std.proofs.Common.{ℕ, ◌≡◌, ◌<◌, ◌&&◌, Bool, true, false, List, Option, Some, None, refl, sym, ap, ◌∙◌, subst, arith}
+use Rattle.std.proofs.Common.{ℕ, ◌≡◌, ◌<◌, Bool, true, false, List, Option, Some, refl, sym, ap, ◌∙◌, subst, arith}
 use Rattle.std.proofs.lemmas.Bool.Decides.{nat_tests}
-use Rattle.std.specs.Prelude.{◌==◌, if◌then◌else◌, nat_le}
+use Rattle.std.specs.Prelude.{◌==◌, if◌then◌else◌}
+use Rattle.wfe_core.specs.defs.Shown.{Shown, keeps}
+use Rattle.wfe_core.specs.defs.Shown.Shown.{Nothing, Eras}
+use Rattle.wfe_core.specs.defs.Shown as values
 use Rattle.wfe_core.specs.words.Place.{is_valid}
 use Rattle.wfe_core.specs.words.Place.Place.{Clock}
 use Rattle.wfe_core.specs.words.declared.layout.Layout.{Layout}
@@ -13,9 +16,8 @@ use Rattle.wfe_core.specs.Calls.{Why, Runs}
 use Rattle.wfe_core.specs.Guards.{own_guard}
 use Rattle.wfe_core.specs.Phases.{Base}
 use Rattle.wfe_core.specs.Posts.{stands}
-use Rattle.wfe_core.specs.Scan.{meets_span}
 use Rattle.wfe_core.specs.World.{World, start, step, is_busy, told_in}
-use Rattle.wfe_core.proofs.Facts.{both, first_of}
+use Rattle.wfe_core.proofs.Facts.{both}
 use Rattle.inv_all.specs.requests.Views.{View as Asked}
 use Rattle.inv_all.specs.rows.Agree.{first_rows, rows_after}
 use Rattle.inv_all.proofs.requests.Kept.{requests_begin, requests_start}
@@ -23,7 +25,7 @@ use Rattle.inv_all.specs.rows.Chain.{first_line, line_after}
 use Rattle.inv_all.specs.rows.Queue.{Line}
 use Rattle.inv_all.specs.rows.Rows.{Status, View, is_settled, is_taken, retire_in}
 use Rattle.inv_all.specs.rows.Rows.Status.{Free, Claimed, Born, Linked, InQueue, Cut, Sealed, Listed}
-use Rattle.inv_all.specs.covers.Covers.{shown, spans, until, life_of}
+use Rattle.inv_all.specs.covers.Covers.{eras_shown, shown, retired_at, life_of}
 use Rattle.inv_all.proofs.covers.Kept.{before_at}
 use Rattle.inv_all.specs.history.Record.{Past, tells_of}
 use Rattle.inv_all.specs.history.Record.Past.{Start}
@@ -54,7 +56,7 @@ use Rattle.inv_all.proofs.handover.Asks.{run_of}
 
 -- what a record says of guards and lives is so
 pub record Tied (w : World) (v : View) (p : Past) (births : ℕ → ℕ) : Type 0 where
-  pub values : (guard : Guard) → value_of guard p ≡ shown w guard
+  pub values : (guard : Guard) → value_of guard p ≡ eras_shown w guard
   pub given : Given w v births
   pub told : (s : ℕ) → birth_of s p ≡ births s
   pub retires : (s : ℕ) → is_taken (v.status s) ≡ true → retire_of s p ≡ retire_in (v.status s)
@@ -190,21 +192,16 @@ settled_taken (Cut by) h = refl
 settled_taken (Sealed by retire) h = refl
 settled_taken (Listed by retire) h = refl
 
-met_by : (s birth : ℕ) (x : Status) (span : Interval) → spans (Some span) birth x ≡ true → meets_span (life_of s birth (retire_in x)) (Some span) ≡ true
-met_by s birth Free span h = absurd (cc)
-met_by s birth (Claimed by) span h = absurd (cc)
-met_by s birth (Born by) span h = absurd (cc)
-met_by s birth (Linked bucket) span h = grind (arith, nat_tests)
-met_by s birth InQueue span h = grind (arith, nat_tests)
-met_by s birth (Cut by) span h = grind (arith, nat_tests)
-met_by s birth (Sealed by retire) span h = grind (arith, nat_tests)
-met_by s birth (Listed by retire) span h = grind (arith, nat_tests)
+-- the retire era that is stored is 0, or the one that the cover goes by
+still_keeps : (s birth retire : ℕ) (value : Shown) → keeps (life_of s birth retire) value ≡ true → keeps (life_of s birth 0) value ≡ true
+still_keeps s birth retire Nothing h = h
+still_keeps s birth retire (Eras span) h = grind (arith, nat_tests)
 
-covered : (s birth : ℕ) (x : Status) (value : Option Interval) → spans value birth x ≡ true → (is_settled x ≡ true) × (meets_span (life_of s birth (retire_in x)) value ≡ true)
-covered s birth x None h = absurd (cc)
-covered s birth x (Some span) h = (first_of (is_settled x) (nat_le birth span.hi && until x span.lo) h, met_by s birth x span h)
+pub stored_keeps : (s birth : ℕ) (x : Status) (value : Shown) → keeps (life_of s birth (retired_at x)) value ≡ true → keeps (life_of s birth (retire_in x)) value ≡ true
+stored_keeps s birth (Sealed by retire) value h = still_keeps s birth retire value h
+stored_keeps s birth x value h = h
 
-same_life : (s : ℕ) (p : Past) (birth retire : ℕ) (value other : Option Interval) → birth_of s p ≡ birth → retire_of s p ≡ retire → value ≡ other → meets_span (life_of s birth retire) other ≡ true → meets_span (life_at s p) value ≡ true
+same_life : (s : ℕ) (p : Past) (birth retire : ℕ) (value other : Option Interval) → birth_of s p ≡ birth → retire_of s p ≡ retire → value ≡ other → keeps (life_of s birth retire) (values.shown other) ≡ true → keeps (life_at s p) (values.shown value) ≡ true
 same_life s p birth retire value other a b c h = rw (a, b, c) h
 
 pub records_hold : RecordsHold
@@ -215,11 +212,11 @@ records_hold layout items k j s d e =
     let v : View = g.rows in
     let t : stands (w.seat k).post j ≡ Some s = sym (record_stands layout items k j d) ∙ e in
     let h = g.known.held.stood k j s t in
-    let c = covered s (v.birth s) (v.status s) (shown w (own_guard w.layout.config.scheme k j)) h.covers.spans in
-    let b : birth_of s p ≡ v.birth s = g.tied.told s ∙ sym (g.tied.given.born s (settled_life (v.status s) c.0)) in
-    let r : retire_of s p ≡ retire_in (v.status s) = g.tied.retires s (settled_taken (v.status s) c.0) in
-    let x : value_of (own_guard w.layout.config.scheme k j) p ≡ shown w (own_guard w.layout.config.scheme k j) = g.tied.values (own_guard w.layout.config.scheme k j) in
-    let m = same_life s p (v.birth s) (retire_in (v.status s)) (value_of (own_guard w.layout.config.scheme k j) p) (shown w (own_guard w.layout.config.scheme k j)) b r x c.1 in
-    let n : taken_at w.layout.config.slots s p ≡ true = g.tied.taken s ∙ settled_taken (v.status s) c.0 in
+    let c = h.covers.settled in
+    let b : birth_of s p ≡ v.birth s = g.tied.told s ∙ sym (g.tied.given.born s (settled_life (v.status s) c)) in
+    let r : retire_of s p ≡ retire_in (v.status s) = g.tied.retires s (settled_taken (v.status s) c) in
+    let x : value_of (own_guard w.layout.config.scheme k j) p ≡ eras_shown w (own_guard w.layout.config.scheme k j) = g.tied.values (own_guard w.layout.config.scheme k j) in
+    let m = same_life s p (v.birth s) (retire_in (v.status s)) (value_of (own_guard w.layout.config.scheme k j) p) (eras_shown w (own_guard w.layout.config.scheme k j)) b r x (stored_keeps s (v.birth s) (v.status s) (shown w (own_guard w.layout.config.scheme k j)) h.covers.kept) in
+    let n : taken_at w.layout.config.slots s p ≡ true = g.tied.taken s ∙ settled_taken (v.status s) c in
     subst (λ (table : Layout). is_held table.config k j s p ≡ true) g.table
-    (both (taken_at w.layout.config.slots s p) (meets_span (life_at s p) (value_of (own_guard w.layout.config.scheme k j) p)) n m)
+    (both (taken_at w.layout.config.slots s p) (keeps (life_at s p) (values.shown (value_of (own_guard w.layout.config.scheme k j) p))) n m)

@@ -30,7 +30,7 @@ use Rattle.inv_all.specs.ends.Told.{row_events, birth_in, move_of}
 use Rattle.inv_all.proofs.ends.Told.Births.{given_start, given_begin, given_kept, retires_given}
 use Rattle.inv_all.proofs.ends.Told.Rows.{rows_told}
 use Rattle.laws.specs.StateAt.{born_by, birth_of}
-use Rattle.laws.specs.EraLaw.{birth_ok}
+use Rattle.laws.specs.HistoryEras.{birth_ok}
 use Rattle.law_reuse.specs.Records.{RecordsKeepBirths}
 use Rattle.laws.proofs.Along.{Single, OfKind, single_each}
 use Rattle.inv_all.proofs.Inv.Whole.{covers_of}

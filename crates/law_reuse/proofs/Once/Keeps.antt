@@ -40,7 +40,7 @@ use Rattle.inv_all.proofs.Inv.Rows.{covers_need}
 use Rattle.wfe_core.specs.defs.Events.{is_of_rows}
 use Rattle.inv_all.specs.ends.Told.{of_rows, row_events, birth_in, move_of}
 use Rattle.inv_all.proofs.ends.Told.Rows.{rows_told}
-use Rattle.laws.specs.Once.{once_ok, back_ok}
+use Rattle.laws.specs.HistoryRows.{once_ok, back_ok}
 use Rattle.law_reuse.specs.Records.{RecordsKeepOnce, RecordsGoBackOnce}
 use Rattle.laws.specs.StateAt.{taken_by, taken_at, retired_by, retired_at, list_by, list_of, has_slot, cut_by, cut_at}
 use Rattle.law_reuse.specs.Rows.{is_listed, is_cut, Shows, RecordShows}

@@ -4,6 +4,7 @@ use Rattle.std.proofs.lemmas.Bool.Decides.{nat_tests}
 use Rattle.std.proofs.lemmas.List.Folds.{list_any-append}
 use Rattle.std.specs.Prelude.{◌==◌, ◌||◌, nat_lt, if◌then◌else◌}
 use Rattle.std.specs.List.{filter, list_any}
+use Rattle.wfe_core.specs.defs.Shown.{Seen}
 use Rattle.wfe_core.specs.defs.declared.call.Answer.{Answer}
 use Rattle.wfe_core.specs.defs.declared.call.Answer.TheVariants as answers
 use Rattle.wfe_core.specs.defs.declared.call.ClockMove.TheVariants as moves
@@ -15,8 +16,8 @@ use Rattle.wfe_core.specs.declared.post.Post.{Post}
 use Rattle.wfe_core.specs.Allocate.{is_claimed}
 use Rattle.wfe_core.specs.Calls.{ChangeKept, Task, Changes, Dequeues, Next, Again, MakeRoom, Answering, Retiring, AfterScan, Answered, Repeated, Counted, Why, Fills, Retires, ReadGuard, GiveBack, LoadVersion, LoadCount, LoadKey, LoadValue, ExchangeRoot, LoadNumber, LoadNext, PassTail, ExchangeNext, ExchangeTail, LoadTail, SwingTail, TakeNumber, TakeValue, ExchangeHead, Work, Getting, Changing, Enqueuing, Dequeuing, Phase, Idle, Runs, Scans, Works, CallTurn}
 use Rattle.wfe_core.specs.Change.{told_linked, told_change, changed_bucket, answer_done}
-use Rattle.wfe_core.specs.Desks.{Desk, Seen}
-use Rattle.wfe_core.specs.Guards.{guards, guard_at, published}
+use Rattle.wfe_core.specs.Desks.{Desk}
+use Rattle.wfe_core.specs.Guards.{guards, guard_at, eras_in, published}
 use Rattle.wfe_core.specs.Locals.{told_by, told_end}
 use Rattle.wfe_core.specs.Machine.{after}
 use Rattle.wfe_core.specs.Phases.{Base, Outcome, Goes, Ends}
@@ -148,7 +149,7 @@ phase_list Idle last post desk found h d = refl
 phase_list (Runs why base) last post desk found h d = run_list why base last post desk found h
 phase_list (Scans later (ReadGuard number)) last post desk found h d =
     let seen : Seen = (guard_at post.layout.config number, published (guard_at post.layout.config number) found) in
-    reading_list later number post (scan.with_read desk number seen) (events.Read seen.0 seen.1 ∷ []) (nat_lt (number + 1) (guards post.layout.config))
+    reading_list later number post (scan.with_read desk number seen) (events.Read seen.0 (eras_in seen.0 found) ∷ []) (nat_lt (number + 1) (guards post.layout.config))
 phase_list (Scans later (GiveBack place slot)) last post desk found h d =
     giving_list later post (scan.with_back desk place) (events.Back slot ∷ []) (scan.unmet_from (scan.with_back desk place) place) ∙ removed desk.list place slot d h
 phase_list (Works work) last post desk found h d = ap (λ (d : Desk). d.list) (work_desk work post desk found) ∙ sym (work_list work last found desk.list)

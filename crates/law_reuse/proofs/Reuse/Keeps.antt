@@ -30,7 +30,8 @@ use Rattle.inv_all.specs.Inv.{Inv}
 use Rattle.inv_all.proofs.Inv.Begun.{inv_start, inv_begin}
 use Rattle.inv_all.proofs.Inv.Kept.{inv_kept}
 use Rattle.inv_all.proofs.Inv.Shapes.{index_in}
-use Rattle.laws.specs.NoReuse.{is_reuse, reuse_ok}
+use Rattle.laws.specs.HistoryHolds.{reuse_ok}
+use Rattle.laws.specs.NoReuse.{is_reuse}
 use Rattle.law_reuse.specs.Reuse.{reuses}
 use Rattle.laws.specs.StateAt.{stood_by, stood_at, is_row}
 use Rattle.law_reuse.specs.Records.{RecordsKeepReuse, RecordStands}

@@ -1,6 +1,7 @@
 -- What a call has come to of the clock, by where it stands, and what each step leaves of it.
 use Rattle.std.proofs.Common.{ℕ, ◌≡◌, ◌+◌, ◌-◌, ◌%◌, Bool, true, false, List, [], ◌∷◌, ◌++◌, length, Option, Some, None, refl, sym, ap, ◌∙◌, subst}
 use Rattle.std.specs.Prelude.{◌==◌, ◌&&◌, not, nat_lt, if◌then◌else◌, is_none}
+use Rattle.wfe_core.specs.defs.Shown.{Seen}
 use Rattle.wfe_core.specs.words.Packed.{reservation_word, read_reservation}
 use Rattle.wfe_core.specs.defs.declared.call.Answer.{Answer}
 use Rattle.wfe_core.specs.defs.declared.call.Answer.TheVariants as the_answers
@@ -20,11 +21,11 @@ use Rattle.wfe_core.specs.declared.ends.ProtectEnd.TheVariants as protect_ends
 use Rattle.wfe_core.specs.declared.post.Post.{Post}
 use Rattle.wfe_core.specs.Allocate as allocates
 use Rattle.wfe_core.specs.Change as alters
-use Rattle.wfe_core.specs.Desks.{Desk, Seen, with_life}
+use Rattle.wfe_core.specs.Desks.{Desk, with_life}
 use Rattle.wfe_core.specs.Dequeue as dequeues
 use Rattle.wfe_core.specs.Enqueue as enqueues
 use Rattle.wfe_core.specs.Get as gets
-use Rattle.wfe_core.specs.Guards.{guards, guard_at, published}
+use Rattle.wfe_core.specs.Guards.{guards, guard_at, eras_in, published}
 use Rattle.wfe_core.specs.Machine as machine
 use Rattle.wfe_core.specs.Memory.{bump}
 use Rattle.wfe_core.specs.Posts.{stands}
@@ -47,7 +48,9 @@ use Rattle.wfe_core.specs.defs.declared.fold.Change.{Change}
 use Rattle.wfe_core.specs.defs.declared.fold.Change.TheVariants as changes
 use Rattle.wfe_core.specs.SlowPath.{asking}
 use Rattle.wfe_core.proofs.Facts.{same_number, both}
-use Rattle.laws.specs.AnswerLaw.{ClockTally, is_advance, clock_by, outcome_fits, answer_fits}
+use Rattle.laws.specs.AnswerLaw.{is_advance}
+use Rattle.laws.specs.HistoryAnswers.{ClockTally, outcome_fits, answer_fits}
+use Rattle.law_scans.specs.Outcomes.{clock_by}
 use Rattle.law_scans.proofs.DueScans.Lands.{PhaseRight, due_same}
 use Rattle.law_scans.proofs.DueScans.Still.{claim_front, tick_front, move_front, base_front, front, counts}
 
@@ -619,7 +622,7 @@ reading_scan last n later post desk told false c f = giving_fits last later post
 scan_lands : (every last : ℕ) (x : ClockTally) (later : AfterScan) (at : ScanAt) (post : Post) (desk : Desk) (found : ℕ) → AfterFits last later x → Lands every last x (Scans later at) (scan_told at post found) (scan.scan_turn later at post desk found).outcome
 scan_lands every last x later (ReadGuard n) post desk found f =
     let seen : Seen = (guard_at post.layout.config n, published (guard_at post.layout.config n) found) in
-    record { fits = reading_scan last n later post (scan.with_read desk n seen) (events.Read seen.0 seen.1 ∷ []) (nat_lt (n + 1) (guards post.layout.config)) x f; count = refl }
+    record { fits = reading_scan last n later post (scan.with_read desk n seen) (events.Read seen.0 (eras_in seen.0 found) ∷ []) (nat_lt (n + 1) (guards post.layout.config)) x f; count = refl }
 scan_lands every last x later (GiveBack place slot) post desk found f =
     record { fits = giving_fits last later post (scan.with_back desk place) (events.Back slot ∷ []) (scan.unmet_from (scan.with_back desk place) place) x f; count = refl }
 

@@ -27,7 +27,9 @@ use Rattle.law_places.proofs.Placing.Sums.{along_both}
 use Rattle.laws.proofs.Tells.{AllRight, each_tells, seen_own, seen_other, seen_tells, seen_stays, tells_both}
 use Rattle.wfe_core.proofs.Facts.{first_of, rest_of}
 use Rattle.law_places.proofs.inv.covers.Held.{stepped_phase, stepped_post}
-use Rattle.laws.specs.AnswerLaw.{ClockTally, is_advance, clock_by, no_clock, clock_right}
+use Rattle.laws.specs.AnswerLaw.{is_advance}
+use Rattle.laws.specs.HistoryAnswers.{ClockTally, no_clock, clock_right}
+use Rattle.law_scans.specs.Outcomes.{clock_by}
 use Rattle.law_scans.specs.Outcomes.{clock_tally, clocks_ok}
 use Rattle.law_scans.specs.Records.{RecordsKeepOutcomes}
 use Rattle.law_scans.proofs.ClockAnswers.Clocks.{PhaseFits, OutFits, Lands, turn_lands, first_fits}

@@ -43,7 +43,8 @@ use Rattle.laws.proofs.Tells.{tells_both}
 use Rattle.laws.specs.StateAt.{ticked_by, clock_of}
 use Rattle.law_eras.proofs.EraLaw.Keeps.{record_clock}
 use Rattle.law_scans.specs.Outcomes.{clock_tally}
-use Rattle.laws.specs.AnswerLaw.{from_by, from_of, time_fits, answer_time, times_ok}
+use Rattle.laws.specs.AnswerLaw.{from_by, from_of}
+use Rattle.laws.specs.HistoryAnswers.{time_fits, answer_time, times_ok}
 use Rattle.law_scans.specs.Records.{RecordsKeepTimes}
 use Rattle.law_scans.proofs.DueScans.Keeps.{phase_right, told_starts}
 use Rattle.law_scans.proofs.ClockAnswers.Kept.{KeepsClocks, fronts, own_lands, steady, first_clocks}

@@ -15,7 +15,7 @@ use Rattle.wfe_core.specs.defs.declared.event.Root.{Root}
 use Rattle.wfe_core.specs.declared.post.Post.{Post}
 use Rattle.wfe_core.specs.Allocate as allocates
 use Rattle.wfe_core.specs.Desks.{Desk, with_life}
-use Rattle.wfe_core.specs.Guards.{guards, guard_at, published}
+use Rattle.wfe_core.specs.Guards.{guards, guard_at, eras_in, published}
 use Rattle.wfe_core.specs.Machine as machine
 use Rattle.wfe_core.specs.Posts.{stands}
 use Rattle.wfe_core.specs.Scan as scan
@@ -35,7 +35,8 @@ use Rattle.wfe_core.specs.MoveClock as movers
 use Rattle.wfe_core.specs.words.declared.packed.Request.{Request}
 use Rattle.wfe_core.specs.words.declared.packed.Request.TheVariants as requests
 use Rattle.wfe_core.proofs.Facts.{both, first_of, rest_of}
-use Rattle.laws.specs.AnswerLaw.{ClockTally, clock_by, outcome_fits, answer_fits}
+use Rattle.laws.specs.HistoryAnswers.{ClockTally, outcome_fits, answer_fits}
+use Rattle.law_scans.specs.Outcomes.{clock_by}
 use Rattle.law_scans.proofs.ClockAnswers.Clocks.{is_plain, NextFits, WhyFits, PhaseFits, OutFits, move_due}
 use Rattle.law_scans.proofs.DueScans.Lands.{PhaseRight}
 use Rattle.law_scans.proofs.DueScans.Still.{claim_front, base_front, front}
@@ -290,9 +291,9 @@ scanned_in last from now answer post desk told (Some entry) f = f
 scan_in : (last from now : ℕ) (answer : Answer) (at : ScanAt) (post : Post) (desk : Desk) (found : ℕ) → answer_in last from now answer ≡ true → OutIn last from now (scan.scan_turn (Answered answer) at post desk found).outcome
 scan_in last from now answer (ReadGuard n) post desk found f = by (nat_lt (n + 1) (guards post.layout.config))
   where
-    by : (more : Bool) → OutIn last from now (scan.reading (Answered answer) n post (scan.with_read desk n (guard_at post.layout.config n, published (guard_at post.layout.config n) found)) (events.Read (guard_at post.layout.config n) (published (guard_at post.layout.config n) found) ∷ []) more).outcome
+    by : (more : Bool) → OutIn last from now (scan.reading (Answered answer) n post (scan.with_read desk n (guard_at post.layout.config n, published (guard_at post.layout.config n) found)) (events.Read (guard_at post.layout.config n) (eras_in (guard_at post.layout.config n) found) ∷ []) more).outcome
     by true = f
-    by false = scanned_in last from now answer post (scan.with_read desk n (guard_at post.layout.config n, published (guard_at post.layout.config n) found)) (events.Read (guard_at post.layout.config n) (published (guard_at post.layout.config n) found) ∷ []) (scan.unmet_from (scan.with_read desk n (guard_at post.layout.config n, published (guard_at post.layout.config n) found)) 0) f
+    by false = scanned_in last from now answer post (scan.with_read desk n (guard_at post.layout.config n, published (guard_at post.layout.config n) found)) (events.Read (guard_at post.layout.config n) (eras_in (guard_at post.layout.config n) found) ∷ []) (scan.unmet_from (scan.with_read desk n (guard_at post.layout.config n, published (guard_at post.layout.config n) found)) 0) f
 scan_in last from now answer (GiveBack place slot) post desk found f = scanned_in last from now answer post (scan.with_back desk place) (events.Back slot ∷ []) (scan.unmet_from (scan.with_back desk place) place) f
 
 -- where no move is due, nothing of this is said

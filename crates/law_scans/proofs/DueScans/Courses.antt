@@ -27,8 +27,9 @@ use Rattle.law_places.specs.inv.shapes.Seats.{Kind, ToFill, ToRetire, ToMove, ki
 use Rattle.law_places.specs.inv.rows.Hands.{holds_none}
 use Rattle.laws.proofs.Along.{along}
 use Rattle.laws.proofs.Tells.{AllRight}
-use Rattle.laws.specs.ScanLaw.{Course, Advancing, MayScan, MustScan, Reading, Tally, tally_by, is_settled, scan_right}
-use Rattle.laws.specs.EraLaw.{move_right}
+use Rattle.laws.specs.HistoryScans.{Course, Advancing, MayScan, MustScan, Reading, Tally, is_settled, scan_right}
+use Rattle.law_scans.specs.Scans.{tally_by}
+use Rattle.laws.specs.HistoryEras.{move_right}
 use Rattle.law_scans.proofs.DueScans.Still.{base_front, counts}
 
 -- both laws at once

@@ -41,9 +41,10 @@ use Rattle.law_places.proofs.answers.AnswersTold.Answering.{owes_of}
 use Rattle.law_places.proofs.answers.AnswersTold.Owed.{is_open, owed, Owes, append_none}
 use Rattle.law_places.proofs.Placing.Sums.{along_both}
 use Rattle.laws.proofs.Tells.{AllRight, each_tells, seen_own, seen_other, seen_tells, seen_stays}
-use Rattle.laws.specs.ScanLaw.{Course, Tally, first_course, tally_by, no_tally, is_settled, scan_right}
+use Rattle.laws.specs.HistoryScans.{Course, Tally, first_course, no_tally, is_settled, scan_right}
+use Rattle.law_scans.specs.Scans.{tally_by}
 use Rattle.law_scans.specs.Scans.{tally_of}
-use Rattle.laws.specs.EraLaw.{move_right}
+use Rattle.laws.specs.HistoryEras.{move_right}
 use Rattle.law_scans.specs.Records.{RecordsScanWhereDue, RecordsMoveWhereDue}
 use Rattle.law_scans.proofs.DueScans.Courses.{course_right, PhaseFits, OutFits, Lands}
 use Rattle.law_scans.proofs.DueScans.Lands.{PhaseRight, turn_lands, first_fits}

@@ -2,6 +2,7 @@
 use Rattle.std.proofs.Common.{ℕ, ◌≡◌, ◌<◌, ◌+◌, ◌%◌, Bool, true, false, List, [], ◌∷◌, Option, Some, None, refl, sym, ap, ◌∙◌, subst, arith}
 use Rattle.std.proofs.lemmas.Bool.Decides.{nat_tests}
 use Rattle.std.specs.Prelude.{◌==◌, ◌&&◌, not, nat_lt}
+use Rattle.wfe_core.specs.defs.Shown.{Seen}
 use Rattle.wfe_core.specs.defs.declared.call.Answer.{Answer}
 use Rattle.wfe_core.specs.defs.declared.call.Call.{Call}
 use Rattle.wfe_core.specs.defs.declared.call.Call.TheVariants as names
@@ -13,9 +14,9 @@ use Rattle.wfe_core.specs.declared.ends.AllocateEnd.TheVariants as allocate_ends
 use Rattle.wfe_core.specs.declared.post.Post.{Post}
 use Rattle.wfe_core.specs.Allocate as allocates
 use Rattle.wfe_core.specs.Change as alters
-use Rattle.wfe_core.specs.Desks.{Desk, Seen, with_life}
+use Rattle.wfe_core.specs.Desks.{Desk, with_life}
 use Rattle.wfe_core.specs.Enqueue as enqueues
-use Rattle.wfe_core.specs.Guards.{guards, guard_at, published}
+use Rattle.wfe_core.specs.Guards.{guards, guard_at, eras_in, published}
 use Rattle.wfe_core.specs.Machine as machine
 use Rattle.wfe_core.specs.Memory.{bump}
 use Rattle.wfe_core.specs.Posts.{stands}
@@ -33,8 +34,8 @@ use Rattle.wfe_core.proofs.Facts.{both, rest_of}
 use Rattle.law_places.specs.inv.shapes.Seats.{ToFill, ToRetire, ToMove, kind_of, suits, scan_fits}
 use Rattle.law_places.specs.inv.rows.Hands.{holds_none, task_fills, runs_right}
 use Rattle.law_places.proofs.inv.history.Passes.{scan_told}
-use Rattle.laws.specs.ScanLaw.{Course, Plain, Advancing, MayScan, MustScan, Reading, Tally, first_course, moved_course, read_course, retired_course, may_read, is_settled}
-use Rattle.laws.specs.EraLaw.{may_move}
+use Rattle.laws.specs.HistoryScans.{Course, Plain, Advancing, MayScan, MustScan, Reading, Tally, first_course, moved_course, read_course, retired_course, may_read, is_settled}
+use Rattle.laws.specs.HistoryEras.{may_move}
 use Rattle.law_scans.proofs.DueScans.Still.{claim_front, tick_front, base_front, front}
 use Rattle.law_scans.proofs.DueScans.Courses.{is_may, is_fresh, is_walked, TaskFits, NextFits, LaterFits, AfterFits, at_guard, at_end, ScanAtFits, FillFits, WhyFits, PhaseFits, OutFits, Lands, other_task, round_fits, closed_fits, clearing_fits, work_fits, silent_lands, resumed_opens, resumed_follows, resumed_next, resumed_clears, resumed_finishes, resumed_gives, resumed_releases}
 
@@ -292,7 +293,7 @@ scan_lands every x later (ReadGuard n) post desk found s g f =
     let seen : Seen = (guard_at post.layout.config n, published (guard_at post.layout.config n) found) in
     record {
       right = (both (may_read all x.course) true o.may refl, tt);
-      fits = reading_fits all n later post (scan.with_read desk n seen) (events.Read seen.0 seen.1 ∷ []) (nat_lt (n + 1) all) x.course refl l g f;
+      fits = reading_fits all n later post (scan.with_read desk n seen) (events.Read seen.0 (eras_in seen.0 found) ∷ []) (nat_lt (n + 1) all) x.course refl l g f;
       count = refl;
     }
 scan_lands every x later (GiveBack place slot) post desk found s g f = record {

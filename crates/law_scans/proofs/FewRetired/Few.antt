@@ -11,7 +11,8 @@ use Rattle.wfe_core.specs.defs.Entry.{Entry}
 use Rattle.law_places.specs.inv.history.Record.{Past, Each, tells}
 use Rattle.law_places.specs.inv.history.History.{Item, record_of}
 use Rattle.law_places.proofs.answers.Lawful.Maps.{records_keep_map}
-use Rattle.laws.specs.Once.{OrderLaw, order_ok, retiring_ok}
+use Rattle.laws.specs.HistoryRows.{OrderLaw}
+use Rattle.laws.specs.Once.{order_ok, retiring_ok}
 use Rattle.law_places.proofs.Placing.Keeps.{records_retire_cuts}
 use Rattle.law_places.proofs.Ordering.Ordered.{records_keep_order}
 use Rattle.laws.specs.StateAt.{told, is_retire, takes_out}

@@ -12,10 +12,12 @@ use Rattle.wfe_core.specs.Memory.{bump}
 use Rattle.law_places.specs.inv.history.Record.{Past, tells}
 use Rattle.law_places.specs.inv.history.Record.Past.{Start, Then}
 use Rattle.law_places.specs.inv.history.History.{Item, record_of}
-use Rattle.laws.specs.ScanLaw.{Tally, tally_by, retired_course, scan_right, plain_by, plain_tally}
+use Rattle.laws.specs.HistoryScans.{Tally, retired_course, scan_right, plain_by, plain_tally}
+use Rattle.law_scans.specs.Scans.{tally_by}
 use Rattle.law_scans.specs.Scans.{tally_of}
-use Rattle.laws.specs.EraLaw.{move_right}
-use Rattle.laws.specs.AnswerLaw.{ClockTally, clock_by, clock_right, plain_clock_by, plain_clock}
+use Rattle.laws.specs.HistoryEras.{move_right}
+use Rattle.laws.specs.HistoryAnswers.{ClockTally, clock_right, plain_clock_by, plain_clock}
+use Rattle.law_scans.specs.Outcomes.{clock_by}
 use Rattle.law_scans.specs.Outcomes.{clock_tally}
 use Rattle.law_scans.proofs.DueScans.Keeps.{records_scan_where_due, records_move_where_due}
 use Rattle.law_scans.proofs.ClockAnswers.Kept.{records_keep_outcomes}

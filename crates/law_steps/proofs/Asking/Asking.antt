@@ -31,14 +31,14 @@ use Rattle.law_turns.proofs.inv.history.AllOf.{all_of, of_weaker}
 use Rattle.law_turns.proofs.inv.history.Passes.{Closed}
 use Rattle.law_turns.proofs.Counting.Passing.{Apart}
 use Rattle.law_turns.proofs.inv.history.MayTell.{concluded_told, publishes, is_reserve, no_reserve, held_any}
-use Rattle.laws.specs.ScanLaw.{Course}
-use Rattle.laws.specs.EraLaw.{may_move}
+use Rattle.laws.specs.HistoryScans.{Course}
+use Rattle.laws.specs.HistoryEras.{may_move}
 use Rattle.law_scans.specs.Scans.{tally_of}
 use Rattle.law_scans.proofs.DueScans.Courses as courses
 use Rattle.laws.specs.StateAt.{tried_of, shown_of}
 use Rattle.law_turns.proofs.TurnCounts.Trying.{base_tried}
 use Rattle.law_turns.proofs.Withdrawals.Withdrawing.{is_mute, all_mute, quiet_mute, clear_mute, base_shows}
-use Rattle.laws.specs.StepLaw.{failed_at, failed_once}
+use Rattle.laws.specs.HistorySteps.{failed_at, failed_once}
 
 -- both laws at once
 abbrev pub asks_ok : Config → Test

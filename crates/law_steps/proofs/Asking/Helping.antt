@@ -34,9 +34,9 @@ use Rattle.law_turns.specs.answers.Heard.{IsCounted}
 use Rattle.law_turns.proofs.answers.Turns.Counted.{histories_count}
 use Rattle.law_turns.proofs.inv.history.Passes.{Closed, First, step_goes}
 use Rattle.law_turns.proofs.answers.OneStep.Along.{Around, Kept, history_keeps}
-use Rattle.laws.specs.Schedule.{turns_since}
+use Rattle.laws.specs.HistoryTurns.{turns_since}
 use Rattle.laws.specs.StateAt.{tried_by, tried_of, last_of}
-use Rattle.laws.specs.StepLaw.{tried_enough, helper_ok}
+use Rattle.laws.specs.HistorySteps.{tried_enough, helper_ok}
 use Rattle.law_steps.specs.Records.{RecordsKeepHelpers}
 use Rattle.law_turns.proofs.Withdrawals.Withdrawing.{is_mute, all_mute, quiet_mute, clear_mute, is_plain, all_plain, base_plain}
 use Rattle.law_turns.proofs.TurnCounts.Trying.{base_tried}
@@ -67,7 +67,7 @@ mute_one : (event : Event) → is_mute event ≡ true → is_plain event ≡ tru
 mute_one (events.Reserve guard span) h = absurd (cc)
 mute_one event h = refl
 
-mute_plain : (told : List Event) → all_mute told ≡ true → all_plain told ≡ true
+pub mute_plain : (told : List Event) → all_mute told ≡ true → all_plain told ≡ true
 mute_plain [] h = refl
 mute_plain (event ∷ told) h = both (is_plain event) (all_plain told) (mute_one event (first_of (is_mute event) (all_mute told) h)) (mute_plain told (rest_of (is_mute event) (all_mute told) h))
 
@@ -82,7 +82,7 @@ helps_closed i j tries n = record {
   clears = λ post told index h. helps_both i j tries told (clear_told (scheme_of post) post index) n h (mute_plain (clear_told (scheme_of post) post index) (clear_mute (scheme_of post) post index));
 }
 
-abbrev is_clearing : Base → Bool
+abbrev pub is_clearing : Base → Bool
 is_clearing (Clear index) = true
 is_clearing base = false
 
@@ -107,7 +107,7 @@ asks_enough c index root j times h = by (index == j) h
     by true h = enough_own c.tries times h
     by false h = enough_other c.tries times h
 
-other_why : (c : Config) (u : ℕ) (why : Why) (base : Base) (j times last : ℕ) → suits base (kind_of why) ≡ true → is_clearing base ≡ false → why_tried c u why base j times last ≡ true → base_tried c base j times last ≡ true
+pub other_why : (c : Config) (u : ℕ) (why : Why) (base : Base) (j times last : ℕ) → suits base (kind_of why) ≡ true → is_clearing base ≡ false → why_tried c u why base j times last ≡ true → base_tried c base j times last ≡ true
 other_why c u (ClearsNext next) (Clear index) j times last s b h = absurd (cc)
 other_why c u (ClearsNext next) base j times last s b h = absurd (cc)
 other_why c u (Opens task) base j times last s b h = h

@@ -28,9 +28,9 @@ use Rattle.law_turns.proofs.answers.Turns.Counted.{histories_count}
 use Rattle.law_turns.proofs.inv.history.Passes.{First, step_goes}
 use Rattle.law_turns.proofs.answers.OneStep.Along.{Around, Kept, history_keeps}
 use Rattle.law_turns.proofs.Counting.Passing.{Apart}
-use Rattle.laws.specs.Schedule.{turns_since}
-use Rattle.laws.specs.ScanLaw.{Tally, plain_tally}
-use Rattle.laws.specs.EraLaw.{may_move}
+use Rattle.laws.specs.HistoryTurns.{turns_since}
+use Rattle.laws.specs.HistoryScans.{Tally, plain_tally}
+use Rattle.laws.specs.HistoryEras.{may_move}
 use Rattle.law_scans.specs.Scans.{tally_of}
 use Rattle.law_scans.proofs.DueScans.Courses as courses
 use Rattle.law_scans.proofs.DueScans.Keeps as scans
@@ -41,7 +41,7 @@ use Rattle.law_turns.proofs.TurnCounts.Tried.{why_tried, phase_tried}
 use Rattle.law_turns.proofs.TurnCounts.Underway as underway
 use Rattle.law_turns.proofs.TurnCounts.Underway.{Lasts}
 use Rattle.law_turns.proofs.Withdrawals.Withdrawing.{phase_shows}
-use Rattle.laws.specs.StepLaw.{failed_once, shows_ok, takes_ok}
+use Rattle.laws.specs.HistorySteps.{failed_once, shows_ok, takes_ok}
 use Rattle.law_steps.specs.Records.{RecordsShowLate, RecordsTakeLate}
 use Rattle.law_steps.proofs.Asking.Asking.{Asks, asks_ok, asks_closed, Tries, base_asks, move_course, told_each}
 

@@ -9,7 +9,7 @@ use Rattle.wfe_core.specs.defs.declared.event.Event.{Event}
 use Rattle.wfe_core.specs.defs.declared.event.Event.TheVariants as events
 use Rattle.wfe_core.specs.declared.post.Post.{Post}
 use Rattle.wfe_core.specs.Desks.{Desk}
-use Rattle.wfe_core.specs.Guards.{guards, guard_at, published}
+use Rattle.wfe_core.specs.Guards.{guards, guard_at, eras_in, published}
 use Rattle.wfe_core.specs.Rest.{move_left}
 use Rattle.wfe_core.specs.Rounds.{helps}
 use Rattle.wfe_core.specs.Scan as scans
@@ -21,7 +21,7 @@ use Rattle.wfe_core.specs.Calls.{Gets, Holds, Answering, Counted, Opens, Clears,
 use Rattle.wfe_core.proofs.Facts.{both}
 use Rattle.wfe_core.specs.words.Schemes.{is_wfe}
 use Rattle.law_turns.specs.inv.shapes.Seats.{Kind, suits}
-use Rattle.laws.specs.StepLaw.{steps_right}
+use Rattle.laws.specs.HistorySteps.{steps_right}
 
 -- the only phase of a release
 abbrev pub at_release : Phase → Bool
@@ -110,7 +110,7 @@ scan_out c (ReadGuard number) post desk found before backs n m e s h k b =
     let z : before ≡ 0 = grind (arith, nat_tests) in
     let q : m ≡ number + 1 = grind (arith, nat_tests) in
     let l : number < guards c = grind (arith, nat_tests) in
-    subst (λ (d : Config). Out c calls.Scan backs m (scans.reading Counted number post (scans.with_read desk number (guard_at post.layout.config number, published (guard_at post.layout.config number) found)) (events.Read (guard_at post.layout.config number) (published (guard_at post.layout.config number) found) ∷ []) (nat_lt (number + 1) (guards d))).outcome) (sym e)
-    (read_out c number post (scans.with_read desk number (guard_at post.layout.config number, published (guard_at post.layout.config number) found)) (events.Read (guard_at post.layout.config number) (published (guard_at post.layout.config number) found) ∷ []) (nat_lt (number + 1) (guards c)) backs m refl l q (b ∙ z))
+    subst (λ (d : Config). Out c calls.Scan backs m (scans.reading Counted number post (scans.with_read desk number (guard_at post.layout.config number, published (guard_at post.layout.config number) found)) (events.Read (guard_at post.layout.config number) (eras_in (guard_at post.layout.config number) found) ∷ []) (nat_lt (number + 1) (guards d))).outcome) (sym e)
+    (read_out c number post (scans.with_read desk number (guard_at post.layout.config number, published (guard_at post.layout.config number) found)) (events.Read (guard_at post.layout.config number) (eras_in (guard_at post.layout.config number) found) ∷ []) (nat_lt (number + 1) (guards c)) backs m refl l q (b ∙ z))
 scan_out c (GiveBack place slot) post desk found before backs n m e s h k b =
     let q : m ≡ guards c + backs = grind (arith, nat_tests) in given_out c post (scans.with_back desk place) (events.Back slot ∷ []) (scans.unmet_from (scans.with_back desk place) place) backs m q

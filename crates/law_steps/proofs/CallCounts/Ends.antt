@@ -50,7 +50,7 @@ use Rattle.law_turns.proofs.answers.AnswersTold.Owed.{is_open}
 use Rattle.law_turns.proofs.answers.AnswersTold.Owing.{PhaseEnds}
 use Rattle.law_turns.proofs.inv.history.AllOf.{all_of}
 use Rattle.law_turns.proofs.answers.OneStep.Along.{Around, Kept, history_keeps}
-use Rattle.laws.specs.StepLaw.{steps_right, end_ok}
+use Rattle.laws.specs.HistorySteps.{steps_right, end_ok}
 use Rattle.law_steps.specs.Records.{RecordsKeepEnds}
 use Rattle.law_steps.proofs.CallCounts.Counting.{at_release, at_scan, at_advance, at_hold, at_get, call_steps, Out, release_out, scan_small, backs_at, scan_out}
 use Rattle.law_steps.proofs.CallCounts.Courses.{Facts, wfe_scheme, advance_out, hold_out, get_out}

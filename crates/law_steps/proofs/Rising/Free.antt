@@ -25,7 +25,7 @@ use Rattle.laws.specs.StateAt.{same_guard, value_of, is_index_word, one_more, re
 use Rattle.law_turns.specs.answers.Heard.{IsCounted}
 use Rattle.law_turns.specs.inv.history.Heard.{heard_of}
 use Rattle.law_turns.proofs.answers.Turns.Counted.{histories_count}
-use Rattle.laws.specs.Schedule.{turns_since, event_handed, events_handed, handed_right}
+use Rattle.laws.specs.HistoryTurns.{turns_since, event_handed, events_handed, handed_right}
 use Rattle.law_turns.specs.inv.history.Turns.{EachTurn}
 use Rattle.law_turns.proofs.answers.OneStep.Along.{history_keeps}
 use Rattle.law_turns.proofs.Counting.Counting.{Keeps, first_kept, kept}

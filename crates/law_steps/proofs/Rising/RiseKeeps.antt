@@ -4,8 +4,6 @@ use Rattle.std.proofs.lemmas.Bool.Decides.{nat_tests}
 use Rattle.std.specs.Prelude.{◌==◌, is_some}
 use Rattle.wfe_core.specs.words.Place.Place.{Clock}
 use Rattle.wfe_core.specs.words.Place.{is_valid}
-use Rattle.wfe_core.specs.words.declared.config.SchemeKind.{SchemeKind}
-use Rattle.wfe_core.specs.words.declared.config.SchemeKind.TheVariants.{He, Ibr, Wfe}
 use Rattle.wfe_core.specs.words.declared.layout.Layout.{Layout}
 use Rattle.wfe_core.specs.defs.declared.call.Call.{Call}
 use Rattle.wfe_core.specs.defs.declared.event.Event.{Event}
@@ -17,7 +15,7 @@ use Rattle.wfe_core.specs.defs.declared.lifetime.Interval.{Interval}
 use Rattle.wfe_core.specs.declared.post.Post.{Post}
 use Rattle.wfe_core.specs.Calls.{Why, Phase, Idle, Runs, Scans, Works, ReadGuard, GiveBack}
 use Rattle.wfe_core.specs.Locals.{Local, after, begun}
-use Rattle.wfe_core.specs.Phases.{Aim, Tries, Endless, Failed, ProtectAt, MoveAt, Base}
+use Rattle.wfe_core.specs.Phases.{Aim, Tries, ProtectAt, MoveAt, Base}
 use Rattle.wfe_core.specs.Phases.ProtectAt.{LoadClock, PublishEra, LoadAnswer, TakeAnswer, RaiseUpper}
 use Rattle.wfe_core.specs.Phases.MoveAt.{HandOver}
 use Rattle.wfe_core.specs.Phases.Base.{Begin, Protect, Move}
@@ -28,7 +26,7 @@ use Rattle.law_turns.proofs.inv.shapes.Frame.{after_seated, begun_seated, seat_s
 use Rattle.law_turns.proofs.inv.shapes.Kept.{begun_fits}
 use Rattle.wfe_core.specs.words.Schemes.{is_ibr}
 use Rattle.law_turns.specs.inv.shapes.Frame.{Seated}
-use Rattle.law_turns.specs.inv.shapes.Seats.{tries_fit, PostFits, PhaseFits}
+use Rattle.law_turns.specs.inv.shapes.Seats.{PostFits, PhaseFits}
 use Rattle.law_turns.specs.inv.requests.Roles.{shows}
 use Rattle.law_turns.specs.inv.requests.Views.{Role, View as Asked}
 use Rattle.law_turns.proofs.inv.requests.Kept.{requests_begin, requests_start}
@@ -36,7 +34,7 @@ use Rattle.law_turns.specs.inv.rows.Agree.{first_rows, rows_after}
 use Rattle.law_turns.specs.inv.rows.Chain.{first_line, line_after}
 use Rattle.law_turns.specs.inv.rows.Queue.{Line}
 use Rattle.law_turns.specs.inv.rows.Rows.{View}
-use Rattle.law_turns.specs.inv.covers.Covers.{shown}
+use Rattle.law_turns.specs.inv.covers.Covers.{eras_shown}
 use Rattle.law_turns.proofs.inv.handover.Shown.{helper_shows}
 use Rattle.law_turns.specs.inv.links.Origins.{OriginsNeeds}
 use Rattle.law_turns.specs.inv.history.Record.{Past, Each, EachEntry}
@@ -51,8 +49,8 @@ use Rattle.law_turns.proofs.inv.Inv.Whole.{origins_need, handover_need}
 use Rattle.law_turns.proofs.inv.history.Passes.{First, step_goes}
 use Rattle.laws.specs.StateAt.{value_of}
 use Rattle.law_scans.proofs.reuse.Holding.Holds.{record_values}
-use Rattle.laws.specs.EraLaw.{span_rises}
-use Rattle.laws.specs.StepLaw.{era_rises}
+use Rattle.laws.specs.HistoryEras.{span_rises}
+use Rattle.laws.specs.HistorySteps.{era_rises}
 use Rattle.law_steps.specs.Records.{RecordsRaiseSpans, RecordsRaiseEras}
 use Rattle.law_steps.proofs.Rising.Free.{free_index}
 use Rattle.law_scans.proofs.eras.Current.Keeps.{OfItems, next_items}
@@ -73,8 +71,8 @@ record Growing (layout : Layout) (made : Made) : Type 0 where
   seats : (k : ℕ) → SeatRisen made.world k
   law : Each growth_ok made.past
 
-values_of : (layout : Layout) (made : Made) (guard : Guard) → is_valid layout ≡ true → OfItems layout made → value_of guard made.past ≡ shown made.world guard
-values_of layout made guard d h = subst (λ (m : Made). value_of guard m.past ≡ shown m.world guard) (sym h.is) (record_values layout h.items guard d)
+values_of : (layout : Layout) (made : Made) (guard : Guard) → is_valid layout ≡ true → OfItems layout made → value_of guard made.past ≡ eras_shown made.world guard
+values_of layout made guard d h = subst (λ (m : Made). value_of guard m.past ≡ eras_shown m.world guard) (sym h.is) (record_values layout h.items guard d)
 
 -- a protection of tries begins where its index word publishes nothing
 free_by : (layout : Layout) (made : Made) (i : ℕ) (why : Why) (aim : Aim) (index : ℕ) (root : Root) (n : ℕ) (tries : Tries) → is_valid layout ≡ true → is_ibr layout.config.scheme ≡ false → OfItems layout made → (made.world.seat i).phase ≡ Runs why (Protect aim index root n (LoadClock tries))
@@ -87,12 +85,12 @@ free_by layout made i why aim index root n tries d b h =
 tries_of : (w : World) (i : ℕ) (why : Why) (aim : Aim) (index : ℕ) (root : Root) (n : ℕ) (tries : Tries) → PhaseFits w.layout (w.seat i).post (w.seat i).phase → (w.seat i).phase ≡ Runs why (Protect aim index root n (LoadClock tries)) → is_ibr w.layout.config.scheme ≡ false
 tries_of w i why aim index root n tries f q = let r = subst (λ (p : Phase). PhaseFits w.layout (w.seat i).post p) q f in tries_plain w.layout.config.scheme w.layout.config.tries tries r.fits
 
-free_at : (layout : Layout) (made : Made) (i : ℕ) (why : Why) (aim : Aim) (index : ℕ) (root : Root) (n : ℕ) (tries : Tries) → is_valid layout ≡ true → Growing layout made → (made.world.seat i).phase ≡ Runs why (Protect aim index root n (LoadClock tries)) → shown made.world (Index i index) ≡ None
+free_at : (layout : Layout) (made : Made) (i : ℕ) (why : Why) (aim : Aim) (index : ℕ) (root : Root) (n : ℕ) (tries : Tries) → is_valid layout ≡ true → Growing layout made → (made.world.seat i).phase ≡ Runs why (Protect aim index root n (LoadClock tries)) → eras_shown made.world (Index i index) ≡ None
 free_at layout made i why aim index root n tries d g q =
     let b : is_ibr layout.config.scheme ≡ false = subst (λ (table : Layout). is_ibr table.config.scheme ≡ false) g.table (tries_of made.world i why aim index root n tries (g.known.seats.fits i).phase q) in
     sym (values_of layout made (Index i index) d g.of) ∙ free_by layout made i why aim index root n tries d b g.of q
 
-own_raises : (layout : Layout) (made : Made) (i : ℕ) (phase : Phase) → is_valid layout ≡ true → i < made.world.layout.config.seats → Growing layout made → (made.world.seat i).phase ≡ phase → PhaseRaises (λ (j : ℕ). shown (step made.world i) (Index i j)) (shown (step made.world i) (Helper i)) (counted (made.world.seat i).post) phase (finds made.world i)
+own_raises : (layout : Layout) (made : Made) (i : ℕ) (phase : Phase) → is_valid layout ≡ true → i < made.world.layout.config.seats → Growing layout made → (made.world.seat i).phase ≡ phase → PhaseRaises (λ (j : ℕ). eras_shown (step made.world i) (Index i j)) (eras_shown (step made.world i) (Helper i)) (counted (made.world.seat i).post) phase (finds made.world i)
 own_raises layout made i (Runs why (Protect aim index root n at)) d b g q =
     let w : World = made.world in
     let k = g.known in
@@ -108,8 +106,8 @@ own_risen layout made i d b g =
     let w : World = made.world in
     let l : Local = w.seat i in
     let k = g.known in
-    let values : ℕ → Option Interval = λ j. shown (step w i) (Index i j) in
-    let helper : Option Interval = shown (step w i) (Helper i) in
+    let values : ℕ → Option Interval = λ j. eras_shown (step w i) (Index i j) in
+    let helper : Option Interval = eras_shown (step w i) (Helper i) in
     let s : Seated (PostFits w.layout i) (PhaseRisen values helper) (after l (finds w i)) =
     after_seated (risen_grows w.layout i values helper k.valid) l (finds w i) (risen_owed w.layout i values helper k.valid l.phase l.post (finds w i) (k.seats.fits i).post (k.seats.fits i).phase (own_raises layout made i l.phase d b g refl)) in
     subst (λ (x : Local). PhaseRisen values helper x.post x.phase) (sym (seat_steps w i)) s.phase
@@ -119,11 +117,11 @@ step_risen layout made i m true e d b g = let q : i ≡ m = grind (arith, nat_te
 step_risen layout made i m false e d b g =
     let w : World = made.world in
     let k = g.known in
-    subst (λ (x : Local). PhaseRisen (λ (j : ℕ). shown (step w i) (Index m j)) (shown (step w i) (Helper m)) x.post x.phase) (sym (seat_stays w i m e))
+    subst (λ (x : Local). PhaseRisen (λ (j : ℕ). eras_shown (step w i) (Index m j)) (eras_shown (step w i) (Helper m)) x.post x.phase) (sym (seat_stays w i m e))
     (other_phase w i m g.rows g.asked (w.seat m).phase e (handover_need w i g.rows g.line g.asked b k) (k.seats.fits i).post.seat k.requests refl (g.seats m))
 
 -- what a step tells
-move_of : (w : World) (i : ℕ) (z : Asked) (why : Why) (at : MoveAt) → OriginsNeeds w i z → (w.seat i).phase ≡ Runs why (Move at) → move_shows (shown w (Helper i)) at
+move_of : (w : World) (i : ℕ) (z : Asked) (why : Why) (at : MoveAt) → OriginsNeeds w i z → (w.seat i).phase ≡ Runs why (Move at) → move_shows (eras_shown w (Helper i)) at
 move_of w i z why (HandOver era seat tag index root link old) n q =
     let p : Phase = Runs why (Move (HandOver era seat tag index root link old)) in
     let o : (z.helper i == era) ≡ true = subst (λ (x : Role). shows x (z.helper i) ≡ true) (stands_as w z i p n.requests q) (n.requests.parts.shown i) in
@@ -135,7 +133,7 @@ span_stands : (layout : Layout) (post : Post) (at : ProtectAt) (why : Why) (aim 
 span_stands layout post (RaiseUpper era) why aim index root n e f = f.posted (ap (λ (table : Layout). is_ibr table.config.scheme) e ∙ f.fits)
 span_stands layout post at why aim index root n e f = tt
 
-stands_of : (value : Guard → Option Interval) (w : World) (i : ℕ) (z : Asked) (why : Why) (base : Base) → value (Helper i) ≡ shown w (Helper i) → OriginsNeeds w i z → (w.seat i).phase ≡ Runs why base → base_stands (value (Helper i)) base (counted (w.seat i).post)
+stands_of : (value : Guard → Option Interval) (w : World) (i : ℕ) (z : Asked) (why : Why) (base : Base) → value (Helper i) ≡ eras_shown w (Helper i) → OriginsNeeds w i z → (w.seat i).phase ≡ Runs why base → base_stands (value (Helper i)) base (counted (w.seat i).post)
 stands_of value w i z why (Begin at) e n q = let f = subst (λ (p : Phase). PhaseFits w.layout (w.seat i).post p) q (n.seats.fits i).phase in f.posted
 stands_of value w i z why (Protect aim index root made at) e n q =
     counted_stands at (span_stands w.layout (w.seat i).post at why aim index root made (n.seats.fits i).post.layout (subst (λ (p : Phase). PhaseFits w.layout (w.seat i).post p) q (n.seats.fits i).phase))
@@ -149,23 +147,23 @@ stands_of value w i z why base e n q = tt
 abbrev value_in : Past → Guard → Option Interval
 value_in p guard = value_of guard p
 
-risen_in : (value : Guard → Option Interval) (w : World) (i : ℕ) (post : Post) (index : ℕ) (at : ProtectAt) → ((guard : Guard) → value guard ≡ shown w guard) → protect_risen (λ (j : ℕ). shown w (Index i j)) (shown w (Helper i)) post index at → protect_risen (λ (j : ℕ). value (Index i j)) (value (Helper i)) (counted post) index at
+risen_in : (value : Guard → Option Interval) (w : World) (i : ℕ) (post : Post) (index : ℕ) (at : ProtectAt) → ((guard : Guard) → value guard ≡ eras_shown w guard) → protect_risen (λ (j : ℕ). eras_shown w (Index i j)) (eras_shown w (Helper i)) post index at → protect_risen (λ (j : ℕ). value (Index i j)) (value (Helper i)) (counted post) index at
 risen_in value w i post index (PublishEra era tries) e h = subst (λ (x : Option Interval). era_under x era ≡ true) (sym (e (Index i index))) h
 risen_in value w i post index (LoadAnswer first) e h = subst (λ (x : Option Interval). is_some x ≡ true) (sym (e (Helper i))) h
 risen_in value w i post index (TakeAnswer link era) e h = subst (λ (x : Option Interval). is_some x ≡ true) (sym (e (Helper i))) h
 risen_in value w i post index (RaiseUpper era) e h = h
 risen_in value w i post index at e h = tt
 
-phase_leads : (w : World) (i : ℕ) (z : Asked) (p : Past) (phase : Phase) → OriginsNeeds w i z → ((guard : Guard) → value_of guard p ≡ shown w guard) → shown w (Whole i) ≡ (w.seat i).post.span → (w.seat i).phase ≡ phase → SeatRisen w i → First (λ post told. Leads i (value_in p) told) phase (counted (w.seat i).post) (finds w i)
+phase_leads : (w : World) (i : ℕ) (z : Asked) (p : Past) (phase : Phase) → OriginsNeeds w i z → ((guard : Guard) → value_of guard p ≡ eras_shown w guard) → eras_shown w (Whole i) ≡ (w.seat i).post.span → (w.seat i).phase ≡ phase → SeatRisen w i → First (λ post told. Leads i (value_in p) told) phase (counted (w.seat i).post) (finds w i)
 phase_leads w i z p Idle n e s q h = tt
 phase_leads w i z p (Runs why base) n e s q h =
     base_leads i (value_in p) base (counted (w.seat i).post) (finds w i) (record { seat = (n.seats.fits i).post.seat; span = e (Whole i) ∙ s }) (stands_of (value_in p) w i z why base (e (Helper i)) n q)
-    (λ aim index root made at b. risen_in (value_in p) w i (w.seat i).post index at e (subst (PhaseRisen (λ (j : ℕ). shown w (Index i j)) (shown w (Helper i)) (w.seat i).post) (q ∙ ap (λ (x : Base). Runs why x) b) h))
+    (λ aim index root made at b. risen_in (value_in p) w i (w.seat i).post index at e (subst (PhaseRisen (λ (j : ℕ). eras_shown w (Index i j)) (eras_shown w (Helper i)) (w.seat i).post) (q ∙ ap (λ (x : Base). Runs why x) b) h))
 phase_leads w i z p (Scans later (ReadGuard number)) n e s q h = (refl, refl)
 phase_leads w i z p (Scans later (GiveBack place slot)) n e s q h = (refl, refl)
 phase_leads w i z p (Works work) n e s q h = tt
 
-step_leads : (w : World) (i : ℕ) (z : Asked) (p : Past) → OriginsNeeds w i z → ((guard : Guard) → value_of guard p ≡ shown w guard) → shown w (Whole i) ≡ (w.seat i).post.span → SeatRisen w i → Leads i (value_in p) (told_in w i)
+step_leads : (w : World) (i : ℕ) (z : Asked) (p : Past) → OriginsNeeds w i z → ((guard : Guard) → value_of guard p ≡ eras_shown w guard) → eras_shown w (Whole i) ≡ (w.seat i).post.span → SeatRisen w i → Leads i (value_in p) (told_in w i)
 step_leads w i z p n e s h = step_goes (λ post told. Leads i (value_in p) told) (leads_closed i (value_in p)) (w.seat i).phase (counted (w.seat i).post) (w.seat i).desk (finds w i) (phase_leads w i z p (w.seat i).phase n e s refl h)
 
 step_growing : (layout : Layout) (made : Made) (i : ℕ) → is_valid layout ≡ true → fits made.world (Steps i) ≡ true → i < made.world.layout.config.seats → Growing layout made → Growing layout (done made (Steps i))
@@ -187,11 +185,11 @@ step_growing layout made i d h b g =
 begin_risen : (w : World) (i m : ℕ) (call : Call) (same : Bool) → (m == i) ≡ same → is_valid w.layout ≡ true → PostFits w.layout i (w.seat i).post → ((k : ℕ) → SeatRisen w k) → SeatRisen (begin w i call) m
 begin_risen w i m call true e v f g =
     let q : i ≡ m = grind (arith, nat_tests) in
-    let values : ℕ → Option Interval = λ j. shown w (Index i j) in
-    let s : Seated (PostFits w.layout i) (PhaseRisen values (shown w (Helper i))) (begun (w.seat i) call) = begun_seated (risen_grows w.layout i values (shown w (Helper i)) v) (w.seat i) call (begun_fits w.layout i (w.seat i).post f) in
-    subst (λ (n : ℕ). SeatRisen (begin w i call) n) q (subst (λ (x : Local). PhaseRisen values (shown w (Helper i)) x.post x.phase) (sym (begin_begins w i call)) s.phase)
+    let values : ℕ → Option Interval = λ j. eras_shown w (Index i j) in
+    let s : Seated (PostFits w.layout i) (PhaseRisen values (eras_shown w (Helper i))) (begun (w.seat i) call) = begun_seated (risen_grows w.layout i values (eras_shown w (Helper i)) v) (w.seat i) call (begun_fits w.layout i (w.seat i).post f) in
+    subst (λ (n : ℕ). SeatRisen (begin w i call) n) q (subst (λ (x : Local). PhaseRisen values (eras_shown w (Helper i)) x.post x.phase) (sym (begin_begins w i call)) s.phase)
 begin_risen w i m call false e v f g =
-    subst (λ (x : Local). PhaseRisen (λ (j : ℕ). shown w (Index m j)) (shown w (Helper m)) x.post x.phase) (sym (begin_stays w i m call e)) (g m)
+    subst (λ (x : Local). PhaseRisen (λ (j : ℕ). eras_shown w (Index m j)) (eras_shown w (Helper m)) x.post x.phase) (sym (begin_stays w i m call e)) (g m)
 
 begin_growing : (layout : Layout) (made : Made) (i : ℕ) (call : Call) → fits made.world (Begins i call) ≡ true → is_busy made.world i ≡ false → Growing layout made → Growing layout (done made (Begins i call))
 begin_growing layout made i call h f g =

@@ -20,7 +20,7 @@ use Rattle.law_turns.specs.inv.requests.Standing.{Requests}
 use Rattle.law_turns.specs.inv.requests.Views.{View as Asked, Deal, Role}
 use Rattle.law_turns.specs.inv.requests.Views.Deal.{Answered}
 use Rattle.law_turns.specs.inv.rows.Rows.{View}
-use Rattle.law_turns.specs.inv.covers.Covers.{shown}
+use Rattle.law_turns.specs.inv.covers.Covers.{eras_shown}
 use Rattle.law_turns.proofs.inv.covers.Held.{finds_at}
 use Rattle.law_turns.proofs.inv.handover.Deals.{handed_deal}
 use Rattle.law_turns.proofs.inv.handover.Others.{other_index, other_helper}
@@ -33,13 +33,13 @@ use Rattle.law_turns.proofs.inv.requests.Known.{stands_as}
 
 -- what the words of a seat publish
 abbrev pub SeatRisen : World → ℕ → Type 0
-SeatRisen w k = PhaseRisen (λ (j : ℕ). shown w (Index k j)) (shown w (Helper k)) (w.seat k).post (w.seat k).phase
+SeatRisen w k = PhaseRisen (λ (j : ℕ). eras_shown w (Index k j)) (eras_shown w (Helper k)) (w.seat k).post (w.seat k).phase
 
 -- another seat's step hands nothing over to a seat that has no request
 quiet_answered : (t j u l e m : ℕ) (d : Deal) → is_quiet d ≡ true → d ≡ Answered t j u l e m → false ≡ true
 quiet_answered t j u l e m d q a = cc
 
-pub no_hand : (w : World) (i : ℕ) (v : View) (z : Asked) (k j : ℕ) → HandoverNeeds w i v z → is_quiet (z.deal k) ≡ true → (shown (step w i) (Index k j) ≡ shown w (Index k j)) ⊎ Handed w i k j → shown (step w i) (Index k j) ≡ shown w (Index k j)
+pub no_hand : (w : World) (i : ℕ) (v : View) (z : Asked) (k j : ℕ) → HandoverNeeds w i v z → is_quiet (z.deal k) ≡ true → (eras_shown (step w i) (Index k j) ≡ eras_shown w (Index k j)) ⊎ Handed w i k j → eras_shown (step w i) (Index k j) ≡ eras_shown w (Index k j)
 no_hand w i v z k j n q (inl e) = e
 no_hand w i v z k j n q (inr h) = absurd (no (quiet_answered _ _ _ _ _ _ (z.deal k) q (handed_deal w i v z k j n h)))
   where
@@ -47,7 +47,7 @@ no_hand w i v z k j n q (inr h) = absurd (no (quiet_answered _ _ _ _ _ _ (z.deal
     no x = cc
 
 other_protect : (w : World) (i k : ℕ) (v : View) (z : Asked) (why : Why) (aim : Aim) (index : ℕ) (root : Root) (n : ℕ) (at : ProtectAt) → (k == i) ≡ false → HandoverNeeds w i v z → (w.seat i).post.seat ≡ i → Requests w z → (w.seat k).phase ≡ Runs why (Protect aim index root n at)
-    → protect_risen (λ (j : ℕ). shown w (Index k j)) (shown w (Helper k)) (w.seat k).post index at → protect_risen (λ (j : ℕ). shown (step w i) (Index k j)) (shown (step w i) (Helper k)) (w.seat k).post index at
+    → protect_risen (λ (j : ℕ). eras_shown w (Index k j)) (eras_shown w (Helper k)) (w.seat k).post index at → protect_risen (λ (j : ℕ). eras_shown (step w i) (Index k j)) (eras_shown (step w i) (Helper k)) (w.seat k).post index at
 other_protect w i k v z why aim index root n (PublishEra era tries) o needs s r q h =
     let e = no_hand w i v z k index needs (fit_of w z k (Runs why (Protect aim index root n (PublishEra era tries))) r q) (index_stays w i k index (w.seat i).phase s refl (other_index i k index (w.seat i).phase o)) in
     subst (λ (x : Option Interval). era_under x era ≡ true) (sym e) h
@@ -57,7 +57,7 @@ other_protect w i k v z why aim index root n (RaiseUpper era) o needs s r q h = 
 other_protect w i k v z why aim index root n at o needs s r q h = tt
 
 pub other_phase : (w : World) (i k : ℕ) (v : View) (z : Asked) (phase : Phase) → (k == i) ≡ false → HandoverNeeds w i v z → (w.seat i).post.seat ≡ i → Requests w z → (w.seat k).phase ≡ phase
-    → PhaseRisen (λ (j : ℕ). shown w (Index k j)) (shown w (Helper k)) (w.seat k).post phase → PhaseRisen (λ (j : ℕ). shown (step w i) (Index k j)) (shown (step w i) (Helper k)) (w.seat k).post phase
+    → PhaseRisen (λ (j : ℕ). eras_shown w (Index k j)) (eras_shown w (Helper k)) (w.seat k).post phase → PhaseRisen (λ (j : ℕ). eras_shown (step w i) (Index k j)) (eras_shown (step w i) (Helper k)) (w.seat k).post phase
 other_phase w i k v z (Runs why (Protect aim index root n at)) o needs s r q h = other_protect w i k v z why aim index root n at o needs s r q h
 other_phase w i k v z (Runs why base) o needs s r q h = tt
 other_phase w i k v z Idle o needs s r q h = tt
@@ -80,8 +80,8 @@ later_era value era found h m e = by (value == 0) refl
     by false z = grind (arith, nat_tests)
 
 pub own_protect : (w : World) (i : ℕ) (v : View) (z : Asked) (why : Why) (aim : Aim) (index : ℕ) (root : Root) (n : ℕ) (at : ProtectAt) → HandoverNeeds w i v z → (w.seat i).post.seat ≡ i → Requests w z → PhaseEras w.layout (w.mem Clock) (w.seat i).post (w.seat i).phase → SpanIn (w.mem Clock) (w.seat i).post.span
-    → ((tries : Tries) → at ≡ LoadClock tries → shown w (Index i index) ≡ None) → (w.seat i).phase ≡ Runs why (Protect aim index root n at) → SeatRisen w i
-    → protect_raises (λ (j : ℕ). shown (step w i) (Index i j)) (shown (step w i) (Helper i)) (counted (w.seat i).post) index at (finds w i)
+    → ((tries : Tries) → at ≡ LoadClock tries → eras_shown w (Index i index) ≡ None) → (w.seat i).phase ≡ Runs why (Protect aim index root n at) → SeatRisen w i
+    → protect_raises (λ (j : ℕ). eras_shown (step w i) (Index i j)) (eras_shown (step w i) (Helper i)) (counted (w.seat i).post) index at (finds w i)
 own_protect w i v z why aim index root n (LoadClock tries) needs s r c span f q h =
     let p : Phase = Runs why (Protect aim index root n (LoadClock tries)) in
     no_hand w i v z i index needs (fit_of w z i p r q) (index_stays w i i index p s q (no_store (i == i))) ∙ f tries refl
@@ -122,7 +122,7 @@ own_protect w i v z why aim index root n (AnswerOwn first era link) needs s r c 
     no_store false = refl
 own_protect w i v z why aim index root n (LoadAnswer first) needs s r c span f q h =
     let p : Phase = Runs why (Protect aim index root n (LoadAnswer first)) in
-    let o : is_some (shown w (Helper i)) ≡ true = subst (PhaseRisen (λ (j : ℕ). shown w (Index i j)) (shown w (Helper i)) (w.seat i).post) q h in
+    let o : is_some (eras_shown w (Helper i)) ≡ true = subst (PhaseRisen (λ (j : ℕ). eras_shown w (Index i j)) (eras_shown w (Helper i)) (w.seat i).post) q h in
     subst (λ (x : Option Interval). is_some x ≡ true) (sym (helper_stays w i i p s q (no_store (i == i)))) o
   where
     no_store : (b : Bool) → (b && false) ≡ false

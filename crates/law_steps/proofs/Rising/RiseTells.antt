@@ -28,8 +28,8 @@ use Rattle.law_turns.specs.inv.history.Record.Past.{Then}
 use Rattle.law_turns.proofs.inv.history.Passes.{is_quiet, Closed}
 use Rattle.laws.specs.StateAt.{value_of}
 use Rattle.law_turns.proofs.inv.history.AllOf.{all_of, of_along, of_weaker}
-use Rattle.laws.specs.EraLaw.{span_grows}
-use Rattle.laws.specs.StepLaw.{era_grows}
+use Rattle.laws.specs.HistoryEras.{span_grows}
+use Rattle.laws.specs.StateAt.{era_grows}
 use Rattle.law_steps.proofs.Rising.Rises.{era_under, protect_risen}
 use Rattle.law_turns.proofs.inv.history.MayTell.{publishes, is_reserve, no_reserve, held_any, cleared_all, clear_all, concluded_told}
 

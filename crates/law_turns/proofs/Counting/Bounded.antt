@@ -14,14 +14,15 @@ use Rattle.inv_all.proofs.history.Entries.{each_of_entries}
 use Rattle.inv_all.specs.history.Turns.{History, record_of, turns_of, EachTurn}
 use Rattle.inv_all.specs.history.Turns.History.{Blank, Starts, Turns}
 use Rattle.inv_all.specs.history.History as histories
-use Rattle.laws.specs.StepLaw.{few_steps, steps_ok, event_bounded, events_bounded, turns_bounded}
+use Rattle.laws.specs.HistorySteps.{steps_ok, event_bounded, events_bounded, turns_bounded}
+use Rattle.laws.specs.StepLaw.{few_steps}
 use Rattle.law_answers.proofs.Lawful.Counts.{records_keep_steps}
 use Rattle.inv_all.proofs.history.AllOf.{all_of}
 use Rattle.inv_all.specs.history.Heard.{heard_of}
 use Rattle.law_answers.specs.Heard.{IsCounted}
 use Rattle.law_answers.proofs.Turns.Counted.{histories_count}
 use Rattle.laws.specs.StateAt.{reserves_of}
-use Rattle.laws.specs.Schedule.{turns_since, number_right, event_right, events_right, numbers_right}
+use Rattle.laws.specs.HistoryTurns.{turns_since, number_right, event_right, events_right, numbers_right}
 use Rattle.law_turns.specs.Records.{ProtectionsEnd}
 use Rattle.law_turns.proofs.Counting.Counting.{protections_count}
 use Rattle.inv_all.proofs.steps_left.Rest.Falling.{wfe_plain}

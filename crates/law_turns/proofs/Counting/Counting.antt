@@ -47,7 +47,7 @@ use Rattle.inv_all.proofs.Inv.Guards.{rests_need}
 use Rattle.inv_all.proofs.Inv.Whole.{handover_need}
 use Rattle.inv_all.proofs.history.Passes.{First, step_goes}
 use Rattle.laws.specs.StateAt.{reserves_of}
-use Rattle.laws.specs.Schedule.{turns_since, event_right, events_right, numbers_right}
+use Rattle.laws.specs.HistoryTurns.{turns_since, event_right, events_right, numbers_right}
 use Rattle.law_turns.specs.Records.{ProtectionsCount}
 use Rattle.law_answers.proofs.OneStep.Along.{Around, Kept, history_keeps}
 use Rattle.law_turns.proofs.Counting.Fits.{own, base_own, Clean, Fits, Left, first_fits}

@@ -25,7 +25,7 @@ use Rattle.wfe_core.specs.Dequeue as dequeues
 use Rattle.wfe_core.specs.Desks.{Desk, with_life}
 use Rattle.wfe_core.specs.Enqueue as enqueues
 use Rattle.wfe_core.specs.Get as gets
-use Rattle.wfe_core.specs.Guards.{guards, guard_at, published}
+use Rattle.wfe_core.specs.Guards.{guards, guard_at, eras_in, published}
 use Rattle.wfe_core.specs.Posts.{stands}
 use Rattle.wfe_core.specs.Rounds.{scheme_of, bucket_of, index_of, root_of, taken_of, begin_base, protect_base, release_base, clear_base, finish_base, opening, round_by, round, given_up, closed, finishing_by, finishing, clearing_by, clearing, clearing_next_by, clearing_next}
 use Rattle.wfe_core.specs.Scan as scan
@@ -326,7 +326,7 @@ reading_on_fits later number post desk told false c = giving_fits later post des
 
 pub scan_fits : {x u : ℕ → ℕ} (later : AfterScan) (at : ScanAt) (post : Post) (desk : Desk) (found : ℕ) → Clean x post (vacant_later later) false → Left x u (scan.scan_turn later at post desk found)
 scan_fits later (ReadGuard number) post desk found c =
-    reading_on_fits later number post (scan.with_read desk number (guard_at post.layout.config number, published (guard_at post.layout.config number) found)) (events.Read (guard_at post.layout.config number) (published (guard_at post.layout.config number) found) ∷ []) (nat_lt (number + 1) (guards post.layout.config)) c
+    reading_on_fits later number post (scan.with_read desk number (guard_at post.layout.config number, published (guard_at post.layout.config number) found)) (events.Read (guard_at post.layout.config number) (eras_in (guard_at post.layout.config number) found) ∷ []) (nat_lt (number + 1) (guards post.layout.config)) c
 scan_fits later (GiveBack place slot) post desk found c = giving_fits later post (scan.with_back desk place) (events.Back slot ∷ []) (scan.unmet_from (scan.with_back desk place) place) c
 
 -- what comes after a machine

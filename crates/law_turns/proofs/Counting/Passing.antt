@@ -30,7 +30,7 @@ use Rattle.wfe_core.proofs.Facts.{same_number, both}
 use Rattle.wfe_core.specs.words.Schemes.{is_ibr, is_he}
 use Rattle.inv_all.specs.shapes.Seats.{try_fits, index_by, root_by, kind_of, protects}
 use Rattle.laws.specs.StateAt.{reserves_by}
-use Rattle.laws.specs.Schedule.{number_right}
+use Rattle.laws.specs.HistoryTurns.{number_right}
 use Rattle.law_turns.proofs.Counting.Fits.{tried, free_why, holds_why, is_hold, Clean, since, paced, stands_taken, taken}
 use Rattle.law_turns.proofs.Counting.Told.{reserved_along, dull_reserved, cleared_dull, index_more, index_none, index_other, held_reserved, reserved_both, unindexed_reserved}
 use Rattle.wfe_core.proofs.Standing.{stands-with_row_same, stands-with_row_other}

@@ -21,7 +21,7 @@ use Rattle.wfe_core.specs.Calls.{Task, Why, Opens, FollowsHead, Fills, ClearsNex
 use Rattle.wfe_core.proofs.Facts.{both, first_of, rest_of, false_not_true, implies_or, three_more, le_one_more}
 use Rattle.wfe_core.specs.words.Schemes.{is_ibr, is_he}
 use Rattle.inv_all.specs.shapes.Seats.{protect_fits, aim_by, index_by, root_by, kind_of, protects}
-use Rattle.laws.specs.Schedule.{events_right}
+use Rattle.laws.specs.HistoryTurns.{events_right}
 use Rattle.law_turns.proofs.Counting.Fits.{tried, free_why, holds_why, is_hold, Clean, since, paced, stands_taken, taken, Passes, Opened}
 use Rattle.inv_all.proofs.history.MayTell.{concluded_told}
 use Rattle.law_turns.proofs.Counting.Told.{held_right}

@@ -35,7 +35,7 @@ use Rattle.inv_all.proofs.shapes.Inside.{shape_moves}
 use Rattle.inv_all.proofs.shapes.Kept.{counted_fits, run_counted}
 use Rattle.inv_all.specs.covers.Rests.{spare, bare, beside, within, deep, vacant_released}
 use Rattle.inv_all.proofs.history.Passes.{First}
-use Rattle.laws.specs.Schedule.{event_right, events_right}
+use Rattle.laws.specs.HistoryTurns.{event_right, events_right}
 use Rattle.law_turns.proofs.Counting.Fits.{free_why, holds_why, is_hold, fills_task, Clean, since, paced, taken, base_own, Fits, Passes, Resumes, Left, work_fits, scan_fits, resumed_fits}
 use Rattle.law_turns.proofs.Counting.Told.{base_rights}
 use Rattle.law_turns.proofs.Counting.Passing.{after_x, turned, since_next, few_next, number_of}

@@ -20,7 +20,7 @@ use Rattle.inv_all.specs.history.Record.{Past, tells_of}
 use Rattle.inv_all.specs.history.Record.Past.{Then}
 use Rattle.inv_all.proofs.history.Passes.{is_quiet, all_quiet, Closed}
 use Rattle.laws.specs.StateAt.{one_more, reserves_by, reserves_of}
-use Rattle.laws.specs.Schedule.{event_right, events_right}
+use Rattle.laws.specs.HistoryTurns.{event_right, events_right}
 use Rattle.inv_all.proofs.history.MayTell.{held_any, cleared_all, clear_all, is_find, is_index, finds, stores_index, no_find, no_index}
 use Rattle.inv_all.proofs.history.AllOf.{all_of, of_weaker, of_both}
 

@@ -27,13 +27,13 @@ use Rattle.inv_all.specs.history.Turns.{record_of, EachTurn}
 use Rattle.inv_all.specs.history.Turns.History.{Blank, Starts, Turns}
 use Rattle.inv_all.specs.history.History.{Begins, Steps, Made, done, first_made}
 use Rattle.inv_all.specs.Inv.{Inv}
-use Rattle.laws.specs.Schedule.{turns_since}
+use Rattle.laws.specs.HistoryTurns.{turns_since}
 use Rattle.law_answers.proofs.OneStep.Along.{Around, Kept, history_keeps}
 use Rattle.law_turns.proofs.Counting.Counting as counting
 use Rattle.law_turns.proofs.Counting.Counting.{published, since_of, turned_here}
 use Rattle.law_turns.proofs.Counting.Fits.{own, base_own}
 use Rattle.law_turns.proofs.Counting.Passing.{turned}
-use Rattle.laws.specs.StepLaw.{due_of, under_way, lasts_right}
+use Rattle.laws.specs.HistorySteps.{due_of, under_way, lasts_right}
 use Rattle.laws.specs.StateAt.{tried_of, last_of}
 use Rattle.law_turns.specs.Records.{ProtectionsLast}
 use Rattle.law_turns.proofs.Withdrawals.Due as due

@@ -48,7 +48,7 @@ use Rattle.inv_all.proofs.history.Passes.{Closed, step_goes}
 use Rattle.law_answers.proofs.OneStep.Along.{Around, Kept, history_keeps}
 use Rattle.inv_all.proofs.history.MayTell.{concluded_told}
 use Rattle.laws.specs.StateAt.{shown_by, shown_of}
-use Rattle.laws.specs.StepLaw.{found_shown, one_less, due_of, withdraws_first, withdraws_by, withdrawn_right}
+use Rattle.laws.specs.HistorySteps.{found_shown, one_less, due_of, withdraws_first, withdraws_by, withdrawn_right}
 use Rattle.law_turns.specs.Records.{WithdrawalsFollow}
 use Rattle.law_turns.proofs.Withdrawals.Leaving.{is_first, is_new, Leads, Left, stepped_leads, first_new}
 use Rattle.law_turns.proofs.Withdrawals.Withdrawing.{shown_along, at_shows, move_shows, base_shows, phase_shows, base_leaves, phase_leaves, tells_link, base_finds, phase_finds, Shows, PhaseEra, first_shown, shows_closed}
@@ -196,7 +196,7 @@ new_tied (Runs why base) h = let n = new_base base h in record { shown = sym n.0
 new_tied (Scans later at) h = record { shown = refl; due = refl }
 new_tied (Works work) h = record { shown = refl; due = refl }
 
-abbrev after_due : Phase → ℕ
+abbrev pub after_due : Phase → ℕ
 after_due phase = if phase_finds phase then 2 else one_less (phase_due phase)
 
 out_tied : (interval shown : Bool) (due : ℕ) (why : Why) (outcome : Outcome) (next : Phase) → Out shown due outcome → Leads interval why outcome next → Tied shown due next
@@ -238,7 +238,7 @@ withdraw_law i why (WithdrawHelper link era) aim index root made post desk found
     by false = refl
 withdraw_law i why at aim index root made post desk found s = refl
 
-phase_law : (i : ℕ) (phase : Phase) (post : Post) (desk : Desk) (found : ℕ) → post.seat ≡ i → withdraws_by i (phase_due phase) (told_by (steps.phase_turn phase post desk found)) ≡ true
+pub phase_law : (i : ℕ) (phase : Phase) (post : Post) (desk : Desk) (found : ℕ) → post.seat ≡ i → withdraws_by i (phase_due phase) (told_by (steps.phase_turn phase post desk found)) ≡ true
 phase_law i (Runs why (Protect aim index root made at)) post desk found s = withdraw_law i why at aim index root made post desk found s
 phase_law i phase post desk found s = refl
 
@@ -271,7 +271,7 @@ pub record Keeps (made : Made) (h : schedule.History) : Type 0 where
   pub seats : (k : ℕ) → Tied (shown_of k (record_of h)) (due_of k h) (made.world.seat k).phase
   pub law : EachTurn withdrawn_right h
 
-own_told : (w : World) (i : ℕ) → Inv w → Shows i (phase_shows (w.seat i).phase) (phase_leaves (w.seat i).phase) (phase_finds (w.seat i).phase) (told_in w i)
+pub own_told : (w : World) (i : ℕ) → Inv w → Shows i (phase_shows (w.seat i).phase) (phase_leaves (w.seat i).phase) (phase_finds (w.seat i).phase) (told_in w i)
 own_told w i a =
     let k = a.known in
     let f = k.seats.fits i in
@@ -280,7 +280,7 @@ own_told w i a =
     step_goes (λ p told. Shows i (phase_shows phase) (phase_leaves phase) (phase_finds phase) told) (shows_closed i (phase_shows phase) (phase_leaves phase) (phase_finds phase)) phase (counted (w.seat i).post) (w.seat i).desk (finds w i)
     (first_shown i phase (counted (w.seat i).post) (finds w i) s (era_of w i phase k.eras refl))
 
-turned_due : (i : ℕ) (h : schedule.History) (told : List Event) → due_of i (Turns h i told) ≡ (if found_shown i told (shown_of i (record_of h)) then 2 else one_less (due_of i h))
+pub turned_due : (i : ℕ) (h : schedule.History) (told : List Event) → due_of i (Turns h i told) ≡ (if found_shown i told (shown_of i (record_of h)) then 2 else one_less (due_of i h))
 turned_due i h told = rw (same_number i) refl
 
 step_own : (w : World) (h : schedule.History) (i : ℕ) → Inv w → Tied (shown_of i (record_of h)) (due_of i h) (w.seat i).phase → Tied (shown_of i (tells_of (record_of h) i (told_in w i))) (due_of i (Turns h i (told_in w i))) ((step w i).seat i).phase

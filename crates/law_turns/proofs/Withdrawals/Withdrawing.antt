@@ -26,7 +26,8 @@ use Rattle.wfe_core.specs.Calls.{ReadGuard, GiveBack, Phase, Idle, Runs, Scans, 
 use Rattle.wfe_core.proofs.Facts.{first_of, rest_of, and_false, or_false, false_not_true}
 use Rattle.inv_all.proofs.history.Passes.{is_quiet, all_quiet, Closed, First}
 use Rattle.laws.specs.StateAt.{shown_by}
-use Rattle.laws.specs.StepLaw.{is_found, found_shown}
+use Rattle.laws.specs.HistorySteps.{found_shown}
+use Rattle.laws.specs.StateAt.{is_found}
 use Rattle.inv_all.proofs.history.MayTell as may
 use Rattle.inv_all.proofs.history.MayTell.{Tells, may_store, may_publish, same_span, span_of, publishes, finds, is_find, bare, no_find, base_tells, base_all, clear_all, concluded_told}
 use Rattle.inv_all.proofs.history.AllOf.{all_of, of_weaker, of_both}

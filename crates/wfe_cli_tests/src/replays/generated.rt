@@ -1,6 +1,6 @@
 // Generated traces: that each run gives the same summary, and that its counts are those of the record
 // that a replay prints of the same lines.
-use crate::replays::{joined, run, run_words};
+use crate::replays::{joined, run_words};
 use rand_core::utils::NextWord;
 use rand_pcg::Lcg64Xsh32;
 use std::process::Abort;
@@ -21,9 +21,8 @@ fn summary<R: Threads + Sync + Abort + AllocGlobal>(
     seed: &str,
     turns: &str,
 ) -> Result<MemSink, Fail> {
-    let mut source = MemSource::new(rt.alloc(), b"", &[1])?;
-    let mut sink = MemSink::new(rt.alloc(), ROOM, &[])?;
-    let status = run_words(rt, &["gen", seed, turns], &mut source, &mut sink)?;
+    let source = MemSource::new(rt.alloc(), b"", &[1])?;
+    let (status, sink) = run_words(rt, &["gen", seed, turns], source, (ROOM, &[]))?;
     assert_eq!(rt; status, Status::Done);
     Ok(sink)
 }
@@ -90,9 +89,9 @@ fn each_run_of_a_seed_prints_the_same(rt: HostRuntime) -> Result<(), Fail> {
 fn a_summary_counts_the_lines_of_the_record(rt: HostRuntime) -> Result<(), Fail> {
     let sink = summary(&rt, "7", "300")?;
     let trace = trace_of(&rt, 7, 300)?;
-    let mut source = MemSource::new(rt.alloc(), &trace, &[])?;
-    let mut record = MemSink::new(rt.alloc(), ROOM, &[])?;
-    assert_eq!(rt; run(&rt, "replay", &mut source, &mut record)?, Status::Done);
+    let source = MemSource::new(rt.alloc(), &trace, &[])?;
+    let (status, record) = run_words(&rt, &["replay"], source, (ROOM, &[]))?;
+    assert_eq!(rt; status, Status::Done);
     let kinds: [(&str, &str); 8] = [
         ("calls", "begin"),
         ("puts", "put"),

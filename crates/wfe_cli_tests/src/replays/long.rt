@@ -1,9 +1,9 @@
 // The longest trace, from a source that keeps none of it.
-use crate::replays::{HEADER, SETTING, joined, run};
+use crate::replays::{HEADER, SETTING, joined, replay_is};
 use std::process::Abort;
 use std::test::Fail;
 use std::thread::Threads;
-use wfe_outside::{Failed, MemSink, Source};
+use wfe_outside::{Failed, Source};
 use wfe_trace::{Reason, Status};
 
 const LINE: &[u8] = b"0 run\n";
@@ -33,11 +33,13 @@ impl Repeats {
 }
 
 impl Source for Repeats {
-    ghost use Rattle.std.specs.Prelude.{None};
+    ghost use Rattle.std.specs.Prelude.{None, false};
 
     ghost left = { λ _. None };
 
     ghost faults = { λ _. 0 };
+
+    ghost may_stand = { false };
 
     fn read(&mut self, buf: &mut [u8]) -> Result<usize, Failed> {
         for (i, byte) in buf.iter_mut().enumerate() {
@@ -59,16 +61,13 @@ fn expect<R: Threads + Sync + Abort + AllocGlobal>(
     status: Status,
     output: &[u8],
 ) -> Result<(), Fail> {
-    let mut source = Repeats {
+    let source = Repeats {
         given: 0,
         lines,
         last,
     };
-    let mut sink = MemSink::new(rt.alloc(), 4096, &[])?;
-    assert_eq!(rt; run(rt, "replay", &mut source, &mut sink)?, status);
     let want = joined(rt, &[HEADER, output])?;
-    assert_eq!(rt; sink.bytes(), want.as_slice());
-    Ok(())
+    replay_is(rt, source, status, &want, lines)
 }
 
 #[test]

@@ -13,7 +13,7 @@ pub loop-watcher-preserved : goal.loop-watcher-preserved
 loop-watcher-preserved g c =
     let turn = c.loop-watcher in
     let within : turn.watcher-index < length turn.watchers = omega (arith, turn.invariant.count) in
-    first_more _ _ turn.watcher-index c.args.watchers.now turn.watchers c.watcher-item.result c.tell_one.new.watcher turn.invariant within c.in_ok-tell_one.ensures.ok
+    first_more _ _ turn.watcher-index c.args.watchers.now turn.watchers c.watcher-item.result c.tell_one.new.watcher turn.invariant within c.in_ok-tell_one.ensures.place c.in_ok-tell_one.ensures.ok
 
 pub returns-clause-ok : goal.returns-clause-ok
 returns-clause-ok g c = first_all _ _ c.loop-watcher.watcher-index _ _ (omega (arith, c.loop-watcher.invariant.count)) c.loop-watcher.invariant

@@ -1,7 +1,7 @@
 use Rattle.std.proofs.Common.{[], rules}
 use Rattle.std.proofs.KnownBytes.{Consumes-nil}
-use Rattle.wfe_server_out.proofs.Puts.{puts_some_none}
-use Rattle.wfe_server_replay.proofs.Says.{replays_back}
+use Rattle.wfe_server_replay.specs.Sunk.{outside}
+use Rattle.wfe_server_replay.proofs.Says.{replays_back, stopped_before}
 use Rattle.wfe_server_replay.proofs.serve.replay.Goals as goal
 
 pub returns-clause-said : goal.returns-clause-said
@@ -10,4 +10,4 @@ returns-clause-said g c =
     c.deref_mut.ensures.value (search rules) (search rules) c.replay_in.ensures.said
 
 pub returns-in_default-clause-said : goal.returns-in_default-clause-said
-returns-in_default-clause-said g c = ([], Consumes-nil (g.S.Source.left c.args.source.now), puts_some_none _ _ _ _)
+returns-in_default-clause-said g c = ([], Consumes-nil (g.S.Source.left c.args.source.now), stopped_before _ _ _ (outside (g.K.Sink.written c.args.sink.now) c.args.watchers.now.items))

@@ -1,4 +1,4 @@
-use Rattle.std.proofs.Common.{arith, rules, take}
+use Rattle.std.proofs.Common.{arith, take}
 use Rattle.wfe_server_replay.specs.Playing.{player}
 use Rattle.wfe_server_replay.specs.Sunk.{outside}
 use Rattle.wfe_server_replay.proofs.ByteCounts.{count-bytes}

@@ -1,3 +1,4 @@
+use Rattle.wfe_server_out.specs.Heard.{boxed}
 use Rattle.std.proofs.Common.{ap, rules, subst, ℕ, ◌<◌, ◌∙◌, ◌≡◌}
 use Rattle.wfe_server_out.proofs.Texts.{on_err}
 use Rattle.wfe_server.proofs.Turning.{seats_fail, seats_more}
@@ -22,4 +23,4 @@ loop-seat-preserved g c = record {
 pub returns-clause-ok : goal.returns-clause-ok
 returns-clause-ok g c =
     let done : c.loop-seat.seat ≡ 4 = search (rules) in
-    subst (λ (n : ℕ). Tells (λ b. (goal.Watcher-dyn g (b.vtable, b.value)).stands b.value) c.args.watchers.now c.loop-seat.watchers c.args.self.now.summary c.loop-seat.self.summary (seats_out n c.args.self.now.played)) done c.loop-seat.invariant.told
+    subst (λ (n : ℕ). Tells (boxed (λ b. (goal.Watcher-dyn g (b.vtable, b.value)).stands b.value)) c.args.watchers.now c.loop-seat.watchers c.args.self.now.summary c.loop-seat.self.summary (seats_out n c.args.self.now.played)) done c.loop-seat.invariant.told

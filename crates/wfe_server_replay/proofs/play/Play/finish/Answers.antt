@@ -1,5 +1,4 @@
-use Rattle.std.proofs.Common.{ap, arith, rules, sym, ◌∙◌, ◌<◌}
-use Rattle.wfe_trace.specs.words.declared.layout.Layout.{Layout}
+use Rattle.std.proofs.Common.{ap, rules, ◌∙◌, ◌<◌}
 use Rattle.wfe_server_out.proofs.Texts.{on_err}
 use Rattle.wfe_server_replay.specs.Playing.{Played, call_most}
 use Rattle.wfe_server_replay.specs.Sunk.{outside}

@@ -1,8 +1,4 @@
-use Rattle.std.proofs.Common.{subst, sym}
-use Rattle.std.specs.Io.KnownBytes.{Appends}
-use Rattle.std.proofs.KnownBytes.{Appends-trans}
-use Rattle.wfe_server_out.specs.Some.{AppendsSome}
-use Rattle.wfe_server_out.proofs.Texts.{AppendsSome-first, AppendsSome-then, on_err}
+use Rattle.wfe_server_out.proofs.Texts.{on_err}
 use Rattle.wfe_server_replay.proofs.Tables.{table_part, table_some, table_whole}
 use Rattle.wfe_server_replay.proofs.play.Play.put_table.Goals as goal
 

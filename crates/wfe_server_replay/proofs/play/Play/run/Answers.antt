@@ -1,4 +1,4 @@
-use Rattle.std.proofs.Common.{arith, sym, rules, subst, ◌≤◌, ◌<◌, ◌∙◌}
+use Rattle.std.proofs.Common.{sym, rules, subst, ◌<◌}
 use Rattle.wfe_drive.specs.Reached.{units_left}
 use Rattle.wfe_server_out.proofs.Texts.{on_err}
 use Rattle.wfe_server_replay.specs.Playing.{Played, call_most}

@@ -1,3 +1,4 @@
+use Rattle.wfe_server_out.specs.Heard.{boxed}
 use Rattle.std.proofs.Common.{◌≤◌}
 use Rattle.wfe_drive.specs.Reached.{units_left}
 use Rattle.wfe_server_replay.specs.Playing.{call_most}
@@ -8,7 +9,7 @@ use Rattle.wfe_server_replay.proofs.play.Play.run.Given as goal
 -- the units so far, and that more are counted than the call may make
 abbrev pub invariant-loop-told : goal.invariant-loop-told
 invariant-loop-told g l = record {
-  runs : RunsOn (λ b. (goal.Watcher-dyn g (b.vtable, b.value)).stands b.value) (outside (g.K.Sink.written l.fn.sink) l.fn.watchers) (outside (g.K.Sink.written l.sink) l.watchers) call_most l.seat l.fn.self l.self;
+  runs : RunsOn (boxed (λ b. (goal.Watcher-dyn g (b.vtable, b.value)).stands b.value)) (outside (g.K.Sink.written l.fn.sink) l.fn.watchers) (outside (g.K.Sink.written l.sink) l.watchers) call_most l.seat l.fn.self l.self;
   later : g.K.Sink.faults l.fn.sink ≤ g.K.Sink.faults l.sink;
 }
 

@@ -1,8 +1,7 @@
-use Rattle.std.proofs.Common.{arith, rules, subst, suc, sym, ◌+◌, ◌-◌, ◌≡◌, ◌∙◌, ℕ}
+use Rattle.std.proofs.Common.{arith, rules, suc, sym, ◌+◌, ◌-◌, ◌≡◌}
 use Rattle.wfe_server_out.proofs.Texts.{on_err}
-use Rattle.wfe_server_replay.specs.Playing.{Played}
 use Rattle.wfe_server_replay.specs.Sunk.{outside}
-use Rattle.wfe_server_replay.proofs.Units.{left_is, running_all, running_ended, running_fails, running_more, running_none, state_is}
+use Rattle.wfe_server_replay.proofs.Units.{left_is, running_ended, running_fails, running_more, running_none, state_is}
 use Rattle.wfe_server_replay.proofs.play.Play.step.Goals as goal
 
 pub loop-init : goal.loop-init

@@ -1,3 +1,4 @@
+use Rattle.wfe_server_out.specs.Heard.{boxed}
 use Rattle.std.proofs.Common.{Ok, take, ◌≡◌, ◌≤◌}
 use Rattle.wfe_server_replay.specs.Playing.{player}
 use Rattle.wfe_server_replay.specs.Sunk.{Puts, outside}
@@ -8,6 +9,6 @@ use Rattle.wfe_server_replay.proofs.progress.Work.take_bytes.Given as goal
 abbrev pub invariant-loop-byte : goal.invariant-loop-byte
 invariant-loop-byte g l = record {
   taken : after_bytes player (Ok l.fn.self) (take l.byte-index l.bytes) ≡ Ok l.self;
-  put : Puts (λ b. (goal.Watcher-dyn g (b.vtable, b.value)).stands b.value) (outside (g.K.Sink.written l.fn.sink) l.fn.watchers) (outside (g.K.Sink.written l.sink) l.watchers) (bytes_output player (Ok l.fn.self) (take l.byte-index l.bytes));
+  put : Puts (boxed (λ b. (goal.Watcher-dyn g (b.vtable, b.value)).stands b.value)) (outside (g.K.Sink.written l.fn.sink) l.fn.watchers) (outside (g.K.Sink.written l.sink) l.watchers) (bytes_output player (Ok l.fn.self) (take l.byte-index l.bytes));
   later : g.K.Sink.faults l.fn.sink ≤ g.K.Sink.faults l.sink;
 }

@@ -34,6 +34,5 @@ returns-in_default c =
     record {
       ok = grows_same c.args.self.now c.args.seat c.args.event.now named.0 named.1;
       err = tt;
-      unchanged = tt;
       refused = tt;
     }

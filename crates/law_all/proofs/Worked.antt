@@ -1,9 +1,0 @@
-pub mod Full
-pub mod Helped
-pub mod Intervals
-pub mod Kept
-pub mod Moved
-pub mod PutThenGet
-pub mod Queued
-pub mod Readers
-pub mod Spent

@@ -1,5 +1,0 @@
-use Rattle.law_all.proofs.Worked.Full as worked
-use Rattle.law_all.proofs.a_full_table_is_worked.Goals as goal
-
-pub returns : goal.returns
-returns c = worked.full_worked

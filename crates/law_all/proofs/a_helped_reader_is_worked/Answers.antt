@@ -1,5 +1,0 @@
-use Rattle.law_all.proofs.Worked.Helped as worked
-use Rattle.law_all.proofs.a_helped_reader_is_worked.Goals as goal
-
-pub returns : goal.returns
-returns c = worked.helped_worked

@@ -1,5 +1,0 @@
-use Rattle.law_all.proofs.Worked.Kept as worked
-use Rattle.law_all.proofs.a_kept_row_is_worked.Goals as goal
-
-pub returns : goal.returns
-returns c = worked.kept_worked

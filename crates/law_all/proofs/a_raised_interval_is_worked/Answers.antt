@@ -1,5 +1,0 @@
-use Rattle.law_all.proofs.Worked.Intervals as worked
-use Rattle.law_all.proofs.a_raised_interval_is_worked.Goals as goal
-
-pub returns : goal.returns
-returns c = worked.intervals_worked

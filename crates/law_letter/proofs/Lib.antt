@@ -1,0 +1,10 @@
+pub mod Answers
+pub mod Clocks
+pub mod Each
+pub mod Eras
+pub mod Held
+pub mod Letters
+pub mod Rows
+pub mod Scans
+pub mod Stands
+pub mod Steps

@@ -1,0 +1,11 @@
+//! The laws follow from what each history keeps: lemmas on records alone. The function here does nothing, and carries a
+//! theorem.
+#![tactic(auto)]
+
+ghost use Rattle.law_letter.specs.Letters.{LawsFollow};
+
+/// A record that keeps what is proved of each history keeps each sentence of the laws. No history is named: the laws are
+/// tests of records.
+pub fn laws_follow()
+    ensures { LawsFollow }
+{}

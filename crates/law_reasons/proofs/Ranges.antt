@@ -1,0 +1,3 @@
+pub mod Finds
+pub mod Records
+pub mod Rows

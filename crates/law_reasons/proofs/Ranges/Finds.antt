@@ -1,0 +1,144 @@
+-- The indexes and rows at which protections are told to end, and those that are cleared, are those of the table.
+use Rattle.std.proofs.Common.{ℕ, ◌≡◌, ◌≤◌, ◌+◌, ◌-◌, Bool, true, false, List, [], ◌∷◌, Option, Some, None, refl, ap, ◌∙◌, subst}
+use Rattle.std.specs.List.{list_any}
+use Rattle.std.specs.Prelude.{◌==◌, ◌&&◌, ◌||◌, not, nat_le, nat_lt, if◌then◌else◌}
+use Rattle.wfe_core.specs.words.Place.{is_valid}
+use Rattle.wfe_core.specs.words.declared.config.Config.{Config}
+use Rattle.wfe_core.specs.words.declared.config.SchemeKind.{SchemeKind}
+use Rattle.wfe_core.specs.words.declared.config.SchemeKind.TheVariants.{He, Ibr, Wfe}
+use Rattle.wfe_core.specs.words.declared.layout.Layout.{Layout}
+use Rattle.wfe_core.specs.defs.declared.event.Event.{Event}
+use Rattle.wfe_core.specs.defs.declared.event.Event.TheVariants as events
+use Rattle.wfe_core.specs.defs.declared.event.Root.{Root}
+use Rattle.wfe_core.specs.defs.declared.event.Root.TheVariants as roots
+use Rattle.wfe_core.specs.declared.post.Post.{Post}
+use Rattle.wfe_core.specs.Calls.{ReadGuard, GiveBack, Why, Phase, Idle, Runs, Scans, Works}
+use Rattle.wfe_core.specs.Machine as machine
+use Rattle.wfe_core.specs.Memory.{bump, found, place_in}
+use Rattle.wfe_core.specs.Phases.{ProtectAt, Base}
+use Rattle.wfe_core.specs.Phases.ProtectAt.{CheckClock, TakeAnswer, CheckUpper}
+use Rattle.wfe_core.specs.Phases.Base.{Protect, Reload, Clear, Release}
+use Rattle.wfe_core.specs.Posts.{stands, counted, cleared, upper}
+use Rattle.wfe_core.specs.Protect.{told_held}
+use Rattle.wfe_core.specs.Rounds.{scheme_of, clear_post, clear_told}
+use Rattle.wfe_core.specs.Steps.{phase_move}
+use Rattle.wfe_core.specs.World.{World, finds, told_in}
+use Rattle.wfe_core.proofs.Facts.{both, and_true, and_right_false, first_of, le_test, lt_test}
+use Rattle.law_scans.specs.inv.shapes.Eras.{Eras}
+use Rattle.law_scans.specs.inv.shapes.Seats.{PhaseFits, Run, Seats}
+use Rattle.law_scans.specs.inv.shapes.Slots.{BaseIn, PhaseIn, PostIn, ProtectIn, StandsIn, Slots}
+use Rattle.law_scans.proofs.inv.Inv.Shapes.{index_in}
+use Rattle.law_scans.proofs.inv.ends.Ends.Tests.{Calm, at_shows, base_shows, base_any}
+use Rattle.law_scans.proofs.inv.history.AllOf.{all_of, of_along, of_weaker}
+use Rattle.law_scans.proofs.inv.history.Passes.{is_quiet, Closed, First, step_goes}
+use Rattle.law_scans.proofs.inv.shapes.Decode.{told_of}
+use Rattle.law_scans.proofs.inv.shapes.Frame.{finds_counted}
+use Rattle.law_scans.proofs.inv.shapes.Kept.{run_counted}
+use Rattle.law_scans.proofs.inv.shapes.SlotCalls.{link_row}
+use Rattle.law_scans.proofs.inv.shapes.SlotRounds.{withdrawn_slots}
+use Rattle.law_scans.proofs.inv.shapes.SlotSteps.{machine_slots}
+
+abbrev pub finds_in : Config → Event → Bool
+finds_in c (events.Held index slot steps) = nat_lt index c.indexes && nat_le slot c.slots
+finds_in c (events.Null index steps) = nat_lt index c.indexes
+finds_in c (events.Clear index slot) = nat_lt index c.indexes && nat_le slot c.slots
+finds_in c event = true
+
+abbrev is_odd : Config → Event → Bool
+is_odd c event = not (finds_in c event)
+
+odd_calm : (c : Config) → Calm (is_odd c)
+odd_calm c = record { reserve = λ g x. refl; read = λ g x. refl; era = λ e. refl; give = λ a b. refl; unused = λ a. refl; retire = λ a b r. refl; back = λ a. refl }
+
+even_of : (a b : Bool) → (not a || b) ≡ false → (a ≡ true) × (b ≡ false)
+even_of true b h = (refl, h)
+even_of false b h = absurd (cc)
+
+none_odd : (c : Config) (told : List Event) → list_any (is_odd c) told ≡ false → all_of (finds_in c) told ≡ true
+none_odd c [] h = refl
+none_odd c (event ∷ told) h = let q = even_of (finds_in c event) (list_any (is_odd c) told) h in both (finds_in c event) (all_of (finds_in c) told) q.0 (none_odd c told q.1)
+
+-- a machine
+one_even : (c : Config) (event : Event) → finds_in c event ≡ true → list_any (is_odd c) (event ∷ []) ≡ false
+one_even c event h = rw h refl
+
+link_even : (c : Config) (index link n : ℕ) (null : Bool) → nat_lt index c.indexes ≡ true → link ≤ c.slots + 1 → list_any (is_odd c) (if null then events.Null index n ∷ [] else events.Held index (link - 1) n ∷ []) ≡ false
+link_even c index link n true i h = one_even c (events.Null index n) i
+link_even c index link n false i h = one_even c (events.Held index (link - 1) n) (both (nat_lt index c.indexes) (nat_le (link - 1) c.slots) i (le_test (link - 1) c.slots (link_row c.slots link h)))
+
+next_even : (c : Config) (index n : ℕ) (null : Bool) → nat_lt index c.indexes ≡ true → list_any (is_odd c) (if null then events.Null index n ∷ [] else []) ≡ false
+next_even c index n true i = one_even c (events.Null index n) i
+next_even c index n false i = refl
+
+held_even : (c : Config) (index : ℕ) (root : Root) (link n : ℕ) → nat_lt index c.indexes ≡ true → link ≤ c.slots + 1 → list_any (is_odd c) (told_held index root link n) ≡ false
+held_even c index (roots.Next parent) link n i h = next_even c index n (link == 0) i
+held_even c index (roots.Bucket bucket) link n i h = link_even c index link n (link == 0) i h
+held_even c index roots.Head link n i h = link_even c index link n (link == 0) i h
+held_even c index roots.Tail link n i h = link_even c index link n (link == 0) i h
+
+at_even : (layout : Layout) (index : ℕ) (root : Root) (n : ℕ) (post : Post) (at : ProtectAt) (found : ℕ) → nat_lt index layout.config.indexes ≡ true → ProtectIn layout.config.slots at → at_shows (is_odd layout.config) index root n post at found ≡ false
+at_even layout index root n post (CheckClock era tries link) found i h = and_right_false (found == era) (list_any (is_odd layout.config) (told_held index root link n)) (held_even layout.config index root link n i h)
+at_even layout index root n post (TakeAnswer link era) found i h = held_even layout.config index root link n i h
+at_even layout index root n post (CheckUpper link) found i h = and_right_false (found == upper post.span) (list_any (is_odd layout.config) (told_held index root link n)) (held_even layout.config index root link n i h)
+at_even layout index root n post at found i h = refl
+
+stood_in : (layout : Layout) (index : ℕ) (x : Option ℕ) → StandsIn layout x index → all_of (finds_in layout.config) (cleared index x) ≡ true
+stood_in layout index None s = refl
+stood_in layout index (Some slot) s =
+    and_true (nat_lt index layout.config.indexes && nat_le slot layout.config.slots)
+    (both (nat_lt index layout.config.indexes) (nat_le slot layout.config.slots) (lt_test index layout.config.indexes s.1) (le_test slot layout.config.slots s.0))
+
+cleared_even : (layout : Layout) (index : ℕ) (x : Option ℕ) → StandsIn layout x index → list_any (is_odd layout.config) (cleared index x) ≡ false
+cleared_even layout index None s = refl
+cleared_even layout index (Some slot) s = one_even layout.config (events.Clear index slot) (first_of _ _ (stood_in layout index (Some slot) s))
+
+base_even : (layout : Layout) (why : Why) (base : Base) (post : Post) (found : ℕ) → is_valid layout ≡ true → Run layout why base post → BaseIn layout base → PostIn layout post → base_shows (is_odd layout.config) post base found ≡ false
+base_even layout why (Protect aim index root steps at) post found d r h q =
+    at_even layout index root (bump steps) post at found (lt_test index layout.config.indexes (index_in layout why (Protect aim index root steps at) post d r)) h.at_in
+base_even layout why (Reload parent index slot era steps) post found d r h q =
+    and_right_false (found == parent + 1) (is_odd layout.config (events.Held index slot (bump steps)))
+    (ap not (both (nat_lt index layout.config.indexes) (nat_le slot layout.config.slots) (lt_test index layout.config.indexes (index_in layout why (Reload parent index slot era steps) post d r)) (le_test slot layout.config.slots h.1)))
+base_even layout why (Clear index) post found d r h q = cleared_even layout index (stands post index) (q index)
+base_even layout why Release post found d r h q = cleared_even layout 2 (stands post 2) (q 2)
+base_even layout why base post found d r h q = refl
+
+-- a step
+abbrev StepIn : Layout → Post → List Event → Type 0
+StepIn layout post told = PostIn layout post × (all_of (finds_in layout.config) told ≡ true)
+
+quiet_in : (c : Config) (event : Event) → is_quiet event ≡ true → finds_in c event ≡ true
+quiet_in c (events.Held index slot steps) h = absurd (cc)
+quiet_in c (events.Null index steps) h = absurd (cc)
+quiet_in c (events.Clear index slot) h = absurd (cc)
+quiet_in c event h = refl
+
+clear_in : (layout : Layout) (scheme : SchemeKind) (post : Post) (index : ℕ) → PostIn layout post → StepIn layout (clear_post scheme post index) (clear_told scheme post index)
+clear_in layout He post index q = (q, refl)
+clear_in layout Ibr post index q = (withdrawn_slots layout post index q, stood_in layout index (stands post index) (q index))
+clear_in layout Wfe post index q = (q, refl)
+
+in_closed : (layout : Layout) → Closed (StepIn layout)
+in_closed layout = record {
+  calm = λ post told more q h. (h.0, of_along (finds_in layout.config) told more h.1 (of_weaker is_quiet (finds_in layout.config) more (quiet_in layout.config) q));
+  clears = λ post told index h. let c = clear_in layout (scheme_of post) post index h.0 in (c.0, of_along (finds_in layout.config) told (clear_told (scheme_of post) post index) h.1 c.1);
+}
+
+phase_in : (w : World) (i : ℕ) (phase : Phase) → is_valid w.layout ≡ true → Eras w → Slots w → PhaseFits w.layout (w.seat i).post phase → PhaseIn w.layout (w.seat i).desk phase
+    → First (StepIn w.layout) phase (counted (w.seat i).post) (found (phase_move phase (counted (w.seat i).post)) (w.mem (place_in (phase_move phase (counted (w.seat i).post)))))
+phase_in w i Idle d e s f h = ((s.seats i).post, refl)
+phase_in w i (Runs why base) d e s f h =
+    let post : Post = counted (w.seat i).post in
+    let run = run_counted w.layout why base (w.seat i).post f in
+    let there : ℕ = found (phase_move (Runs why base) post) (w.mem (place_in (phase_move (Runs why base) post))) in (
+      (machine_slots w.layout w.mem (record { told = told_of w d e; links = s.words }) why base post run h.1 (s.seats i).post).post,
+      none_odd w.layout.config (machine.after base post there).told (base_any (is_odd w.layout.config) base post there (odd_calm w.layout.config) ∙ base_even w.layout why base post there d run h.1 (s.seats i).post),
+    )
+phase_in w i (Scans later (ReadGuard number)) d e s f h = ((s.seats i).post, refl)
+phase_in w i (Scans later (GiveBack place slot)) d e s f h = ((s.seats i).post, refl)
+phase_in w i (Works work) d e s f h = ((s.seats i).post, refl)
+
+pub step_finds : (w : World) (i : ℕ) → is_valid w.layout ≡ true → Seats w → Eras w → Slots w → all_of (finds_in w.layout.config) (told_in w i) ≡ true
+step_finds w i d a e s =
+    let there : First (StepIn w.layout) (w.seat i).phase (counted (w.seat i).post) (finds w i) =
+    subst (λ (x : ℕ). First (StepIn w.layout) (w.seat i).phase (counted (w.seat i).post) x) (finds_counted w i) (phase_in w i (w.seat i).phase d e s (a.fits i).phase (s.seats i).phase) in
+    (step_goes (StepIn w.layout) (in_closed w.layout) (w.seat i).phase (counted (w.seat i).post) (w.seat i).desk (finds w i) there).1

@@ -1,0 +1,10 @@
+pub mod Full
+pub mod Helped
+pub mod Intervals
+pub mod Kept
+pub mod Moved
+pub mod PutThenGet
+pub mod Queued
+pub mod Readers
+pub mod Spent
+pub mod Wrong

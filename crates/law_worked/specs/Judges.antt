@@ -1,0 +1,195 @@
+-- The laws on records by name, and how each judges an entry: those that each sentence of a law is, and three that each history keeps
+-- besides.
+use Rattle.std.specs.Prelude.{ℕ, zero, suc, ◌&&◌, Bool, true, List, [], ◌∷◌, Option, Some, None}
+use Rattle.wfe_core.specs.words.declared.config.Config.{Config}
+use Rattle.wfe_core.specs.words.declared.config.SchemeKind.{SchemeKind}
+use Rattle.wfe_core.specs.words.declared.config.SchemeKind.TheVariants.{He, Ibr, Wfe}
+use Rattle.wfe_core.specs.defs.declared.event.Event.{Event}
+use Rattle.wfe_core.specs.defs.declared.event.Event.TheVariants as events
+use Rattle.laws.specs.AnswerLaw as answers
+use Rattle.laws.specs.EraLaw as eras
+use Rattle.laws.specs.HistoryHolds.{lone_ok}
+use Rattle.laws.specs.HistoryTable.{guards_ok, ranges_ok}
+use Rattle.laws.specs.HistoryTurns.{open_ok}
+use Rattle.laws.specs.HoldLaw as holds
+use Rattle.laws.specs.MapLaw.{map_ok}
+use Rattle.laws.specs.NoReuse.{reuse_ok}
+use Rattle.laws.specs.Once as once
+use Rattle.laws.specs.QueueLaw.{empty_ok, queue_ok}
+use Rattle.laws.specs.ScanLaw.{blocks_ok, read_ok, room_ok, scan_ok}
+use Rattle.laws.specs.Standing as standing
+use Rattle.laws.specs.StateAt.{standing_of}
+use Rattle.laws.specs.StepLaw as steps
+use Rattle.model_history.specs.Record.{Past, Test}
+use Rattle.model_history.specs.Record.Past.{Then}
+
+-- the laws on records, each under the name that it has in the record of its law, or a name for it where another law has that name
+pub data Law : Type 0 where
+  Calls : Law
+  Clears : Law
+  Indexes : Law
+  Reuse : Law
+  Free : Law
+  Placing : Law
+  Order : Law
+  Nexts : Law
+  Retiring : Law
+  Backs : Law
+  Blocks : Law
+  Reads : Law
+  Due : Law
+  Room : Law
+  Eras : Law
+  Moves : Law
+  Births : Law
+  Retires : Law
+  Current : Law
+  Single : Law
+  Rising : Law
+  Guards : Law
+  Throughout : Law
+  Sources : Law
+  Finds : Law
+  Gots : Law
+  Links : Law
+  Behind : Law
+  Bare : Law
+  Rests : Law
+  Map : Law
+  Values : Law
+  Emptied : Law
+  Steps : Law
+  Withdrawals : Law
+  Tries : Law
+  Raises : Law
+  Asks : Law
+  CallSteps : Law
+  Told : Law
+  Reasons : Law
+  Full : Law
+  Lacks : Law
+  Counted : Law
+  Refusals : Law
+  Clock : Law
+  Repeats : Law
+  Alone : Law
+  Named : Law
+  Ranges : Law
+
+-- the row that an event gives, or tells unused or back
+abbrev pub freed : Event → Option ℕ
+freed (events.Give slot birth) = Some slot
+freed (events.Unused slot) = Some slot
+freed (events.Back slot) = Some slot
+freed event = None
+
+-- no row is freed or given that stands at an index of these seats
+abbrev pub unheld : ℕ → ℕ → Test
+unheld s zero p i e = true
+unheld s (suc k) p i e = reuse_ok k 0 s p i e && reuse_ok k 1 s p i e && reuse_ok k 2 s p i e && unheld s k p i e
+
+abbrev pub unheld_if : Option ℕ → ℕ → Test
+unheld_if None seats p i e = true
+unheld_if (Some s) seats p i e = unheld s seats p i e
+
+-- what stands at an index is held
+abbrev rows_held : Config → (k j : ℕ) → List ℕ → Past → Bool
+rows_held c k j [] p = true
+rows_held c k j (s ∷ rows) p = holds.is_held c k j s p && rows_held c k j rows p
+
+abbrev pub all_held : Config → ℕ → Past → Bool
+all_held c zero p = true
+all_held c (suc k) p = rows_held c k 0 (standing_of k 0 p) p && rows_held c k 1 (standing_of k 1 p) p && rows_held c k 2 (standing_of k 2 p) p && all_held c k p
+
+-- only these events change what stands, what is taken, and what is published
+abbrev pub held_by : Config → Event → Past → Bool
+held_by c (events.Held index slot steps) p = all_held c c.seats p
+held_by c (events.Reserve guard span) p = all_held c c.seats p
+held_by c (events.Give slot birth) p = all_held c c.seats p
+held_by c (events.Unused slot) p = all_held c c.seats p
+held_by c (events.Retire slot birth retire) p = all_held c c.seats p
+held_by c (events.Back slot) p = all_held c c.seats p
+held_by c e p = true
+
+-- so it is with this row, and with each one before it
+abbrev all_rows : (ℕ → Test) → ℕ → Test
+all_rows ok zero p i e = ok 0 p i e
+all_rows ok (suc s) p i e = ok (suc s) p i e && all_rows ok s p i e
+
+-- what is asked of one scheme alone
+abbrev steps_by : SchemeKind → ℕ → Test
+steps_by Wfe tries p i e = steps.steps_ok tries p i e
+steps_by He tries p i e = true
+steps_by Ibr tries p i e = true
+
+abbrev withdrawals_by : SchemeKind → Test
+withdrawals_by Wfe p i e = steps.withdraw_ok p i e
+withdrawals_by He p i e = true
+withdrawals_by Ibr p i e = true
+
+abbrev tries_by : SchemeKind → Test
+tries_by He p i e = steps.tries_ok p i e
+tries_by Ibr p i e = true
+tries_by Wfe p i e = true
+
+abbrev raises_by : SchemeKind → Test
+raises_by Ibr p i e = steps.raise_ok p i e
+raises_by He p i e = true
+raises_by Wfe p i e = true
+
+abbrev asks_by : SchemeKind → ℕ → Test
+asks_by Wfe tries p i e = steps.ask_ok tries 0 p i e && steps.ask_ok tries 1 p i e && steps.ask_ok tries 2 p i e
+asks_by He tries p i e = true
+asks_by Ibr tries p i e = true
+
+abbrev pub test_of : Config → Law → Test
+test_of c Calls p i e = open_ok p i e
+test_of c Clears p i e = standing.clears_ok p i e
+test_of c Indexes p i e = standing.indexes_ok p i e
+test_of c Reuse p i e = unheld_if (freed e) c.seats p i e
+test_of c Free p i e = once.free_ok c.slots p i e
+test_of c Placing p i e = once.placing_ok p i e
+test_of c Order p i e = once.order_ok c.slots p i e
+test_of c Nexts p i e = once.nexts_ok c.slots p i e
+test_of c Retiring p i e = once.retiring_ok p i e
+test_of c Backs p i e = once.backs_ok p i e
+test_of c Blocks p i e = scan_ok c p i e
+test_of c Reads p i e = read_ok p i e
+test_of c Due p i e = blocks_ok c p i e
+test_of c Room p i e = all_rows (room_ok c) c.slots p i e
+test_of c Eras p i e = eras.era_ok c.last_era p i e
+test_of c Moves p i e = eras.moves_ok c p i e
+test_of c Births p i e = eras.birth_ok p i e
+test_of c Retires p i e = eras.retire_ok p i e
+test_of c Current p i e = eras.current_ok p i e
+test_of c Single p i e = eras.single_ok c.scheme p i e
+test_of c Rising p i e = eras.rising_ok c.scheme p i e
+test_of c Guards p i e = eras.guard_ok c.scheme p i e
+test_of c Throughout p i e = held_by c e (Then p i e)
+test_of c Sources p i e = holds.sources_ok c p i e
+test_of c Finds p i e = holds.finds_ok p i e
+test_of c Gots p i e = holds.gots_ok p i e
+test_of c Links p i e = holds.links_ok c.slots p i e
+test_of c Behind p i e = holds.behind_ok c.slots p i e
+test_of c Bare p i e = holds.bare_ok p i e
+test_of c Rests p i e = holds.rests_ok c.scheme p i e
+test_of c Map p i e = map_ok c.buckets p i e
+test_of c Values p i e = queue_ok p i e
+test_of c Emptied p i e = empty_ok p i e
+test_of c Steps p i e = steps_by c.scheme c.tries p i e
+test_of c Withdrawals p i e = withdrawals_by c.scheme p i e
+test_of c Tries p i e = tries_by c.scheme p i e
+test_of c Raises p i e = raises_by c.scheme p i e
+test_of c Asks p i e = asks_by c.scheme c.tries p i e
+test_of c CallSteps p i e = steps.end_ok c p i e
+test_of c Told p i e = answers.answers_ok c.buckets p i e
+test_of c Reasons p i e = answers.reasons_ok c p i e
+test_of c Full p i e = all_rows (answers.full_ok c) c.slots p i e
+test_of c Lacks p i e = answers.lacks_ok c p i e
+test_of c Counted p i e = answers.retires_ok p i e
+test_of c Refusals p i e = answers.refuses_ok p i e
+test_of c Clock p i e = answers.clocks_ok c p i e
+test_of c Repeats p i e = answers.repeats_ok c p i e
+test_of c Alone p i e = lone_ok p i e
+test_of c Named p i e = guards_ok c p i e
+test_of c Ranges p i e = ranges_ok c p i e

@@ -1,0 +1,217 @@
+-- What stands at an index of a seat in each history, where one row does at most, and what protections find.
+use Rattle.std.specs.Prelude.{Bool, List, None, Option, Some, false, if◌then◌else◌, is_none, is_some, not, true, ℕ, ◌&&◌, ◌==◌, ◌||◌, ◌≡◌}
+use Rattle.model_record.specs.Record.{EachEntry, Past, Test, begins, held_since, tells}
+use Rattle.model_record.specs.defs.Entry.{Entry}
+use Rattle.model_record.specs.defs.declared.call.Call.TheVariants as calls
+use Rattle.model_record.specs.defs.declared.call.Call.{Call}
+use Rattle.model_record.specs.defs.declared.event.Event.TheVariants as events
+use Rattle.model_record.specs.defs.declared.event.Guard.TheVariants.{Helper, Index, Whole}
+use Rattle.model_record.specs.defs.declared.event.Root.TheVariants as roots
+use Rattle.model_record.specs.defs.declared.lifetime.Interval.{Interval}
+use Rattle.wfe_words.specs.declared.config.Config.{Config}
+use Rattle.wfe_words.specs.declared.config.SchemeKind.TheVariants.{He, Ibr, Wfe}
+use Rattle.wfe_words.specs.declared.config.SchemeKind.{SchemeKind}
+use Rattle.laws.specs.HoldLaw.{finds_ok, has_had, is_held, is_last}
+use Rattle.laws.specs.NoReuse.{is_reuse}
+use Rattle.laws.specs.Once.{is_slot}
+use Rattle.laws.specs.StateAt.{began_of, bucket_at, head_at, is_row, next_at, null_of, row_at, stood_at, tail_at, value_of}
+
+-- the entry does not reuse row s, or the row does not stand at index j of seat k
+abbrev pub reuse_ok : ℕ → ℕ → ℕ → Test
+reuse_ok k j s p i e = not (is_row s (stood_at k j p) && is_reuse s e)
+
+abbrev pub ReuseLaw : Past → Type 0
+ReuseLaw r = (k j s : ℕ) → EachEntry (reuse_ok k j s) r
+
+-- at a Clear of a seat the row stands at that index of the seat
+abbrev pub clears_ok : Test
+clears_ok p i (events.Clear index slot) = is_row slot (stood_at i index p)
+clears_ok p i event = true
+
+abbrev pub ClearLaw : Past → Type 0
+ClearLaw r = EachEntry clears_ok r
+
+-- a hold protects at index 2, a dequeue at 0 and 1, and all others that protect at 0
+abbrev pub protects_at : Option Call → ℕ → Bool
+protects_at (Some (calls.Get key)) index = index == 0
+protects_at (Some (calls.Put key value)) index = index == 0
+protects_at (Some (calls.Remove key)) index = index == 0
+protects_at (Some (calls.Enqueue value)) index = index == 0
+protects_at (Some calls.Dequeue) index = index == 0 || index == 1
+protects_at (Some (calls.Hold key)) index = index == 2
+protects_at call index = false
+
+-- a call clears where it protects, and a release at index 2
+abbrev pub clears_at : Option Call → ℕ → Bool
+clears_at (Some calls.Release) index = index == 2
+clears_at call index = protects_at call index
+
+-- So index 2 is held only in a hold and cleared only in a hold or a release, and index 1 is used only in a dequeue.
+abbrev pub indexes_ok : Test
+indexes_ok p i (events.Held index slot steps) = protects_at (began_of i p) index
+indexes_ok p i (events.Null index steps) = protects_at (began_of i p) index
+indexes_ok p i (events.Clear index slot) = clears_at (began_of i p) index
+indexes_ok p i event = true
+
+abbrev pub IndexLaw : Past → Type 0
+IndexLaw r = EachEntry indexes_ok r
+
+-- where a seat tells at an index that a row stands, or that there is none, nothing stands at that index of the seat
+abbrev pub lone_ok : Test
+lone_ok p i (events.Held index slot steps) = is_none (stood_at i index p)
+lone_ok p i (events.Null index steps) = is_none (stood_at i index p)
+lone_ok p i event = true
+
+abbrev pub LoneLaw : Past → Type 0
+LoneLaw r = EachEntry lone_ok r
+
+-- wherever the record is cut, a row that stands at an index of a seat is taken, and the guard of that index publishes an interval that
+-- meets the row's life
+abbrev pub HeldThroughout : Config → Past → Type 0
+HeldThroughout config r =
+    (before : Past) (later : List Entry) (k j s : ℕ)
+    → r ≡ tells before later
+    → stood_at k j before ≡ Some s
+    → is_held config k j s before ≡ true
+
+-- so it is with each row that is told to stand, and where it is told that there is none, but for index 1, where a dequeue follows
+-- the next link of the head's row
+abbrev pub sources_ok : Config → Test
+sources_ok c p i (events.Held index slot steps) = index == 1 || has_had c i p (began_of i p) (Some slot)
+sources_ok c p i (events.Null index steps) = index == 1 || has_had c i p (began_of i p) None
+sources_ok c p i event = true
+
+abbrev pub SourceLaw : Config → Past → Type 0
+SourceLaw c r = EachEntry (sources_ok c) r
+
+abbrev pub FindLaw : Past → Type 0
+FindLaw r = EachEntry finds_ok r
+
+abbrev pub stands_as : (row stood : Option ℕ) → Bool
+stands_as None stood = false
+stands_as (Some slot) stood = is_row slot stood
+
+-- a get that tells version 0 has found none; where it tells a later version, the row of that version stands at its index 0
+abbrev pub got_right : (b version i : ℕ) → Past → Bool
+got_right b version i p = if version == 0 then null_of i p else stands_as (row_at b version p) (stood_at i 0 p)
+
+abbrev pub gots_ok : Test
+gots_ok p i (events.Got bucket version key value) = got_right bucket version i p
+gots_ok p i event = true
+
+abbrev pub GotLaw : Past → Type 0
+GotLaw r = EachEntry gots_ok r
+
+abbrev pub is_dequeue : Option Call → Bool
+is_dequeue (Some calls.Dequeue) = true
+is_dequeue call = false
+
+-- the row that a root had, if it had one, stands
+abbrev pub stands_for : (had stood : Option ℕ) → Bool
+stands_for None stood = true
+stands_for (Some slot) stood = is_row slot stood
+
+-- Where a seat links a row at a bucket's root, at the head or at the tail, the row that the root had stands at its index 0, and
+-- where it links one at a next link, the row whose link it is. What the head is linked to stands at its index 1, and so does what
+-- a dequeue links the tail to.
+abbrev pub links_ok : (slots : ℕ) → Test
+links_ok slots p i (events.Link (roots.Bucket bucket) slot) = stands_for (bucket_at bucket p) (stood_at i 0 p)
+links_ok slots p i (events.Link (roots.Next parent) slot) = is_row parent (stood_at i 0 p)
+links_ok slots p i (events.Link roots.Head slot) = is_row (head_at slots p) (stood_at i 0 p) && is_row slot (stood_at i 1 p)
+links_ok slots p i (events.Link roots.Tail slot) =
+    is_row (tail_at slots p) (stood_at i 0 p) && (not (is_dequeue (began_of i p)) || is_row slot (stood_at i 1 p))
+links_ok slots p i event = true
+
+abbrev pub LinkLaw : (slots : ℕ) → Past → Type 0
+LinkLaw slots r = EachEntry (links_ok slots) r
+
+-- Where a seat tells at index 1 that a row stands, the row that the head has stands at its index 0, and where it tells at index 1
+-- that there is none, some row stands at its index 0.
+abbrev pub follows_ok : (slots : ℕ) → Test
+follows_ok slots p i (events.Held index slot steps) = not (index == 1) || is_row (head_at slots p) (stood_at i 0 p)
+follows_ok slots p i (events.Null index steps) = not (index == 1) || is_some (stood_at i 0 p)
+follows_ok slots p i event = true
+
+abbrev pub FollowLaw : (slots : ℕ) → Past → Type 0
+FollowLaw slots r = EachEntry (follows_ok slots) r
+
+-- so it was with the row that stands, at a position of the call of seat i
+abbrev pub was_last : (slots i : ℕ) → Past → (stood : Option ℕ) → Bool
+was_last slots i p None = false
+was_last slots i p (Some row) = held_since (begins i) (is_last slots row) p
+
+-- Where a seat tells at index 1 that a row stands, it is the next row of the row that the head has. Where it tells there that there
+-- is none, some row stands at its index 0, and no row was next to that while the head had it, at a position of the call.
+abbrev pub behind_ok : (slots : ℕ) → Test
+behind_ok slots p i (events.Held index slot steps) = not (index == 1) || is_slot slot (next_at (head_at slots p) p)
+behind_ok slots p i (events.Null index steps) = not (index == 1) || was_last slots i p (stood_at i 0 p)
+behind_ok slots p i event = true
+
+abbrev pub BehindLaw : (slots : ℕ) → Past → Type 0
+BehindLaw slots r = EachEntry (behind_ok slots) r
+
+-- at an End of a seat nothing stands at its index j, but for index 2
+abbrev pub bare_ok : ℕ → Test
+bare_ok j p i (events.End steps answer) = is_none (stood_at i j p) || j == 2
+bare_ok j p i event = true
+
+abbrev pub BareLaw : Past → Type 0
+BareLaw r = (j : ℕ) → EachEntry (bare_ok j) r
+
+-- an interval is published exactly where a row stands
+abbrev pub is_alike : Option Interval → Option ℕ → Bool
+is_alike None None = true
+is_alike (Some span) (Some slot) = true
+is_alike span slot = false
+
+-- the helper word of seat i and its index words 0 and 1 publish nothing, and its index word 2 where a row stands there
+abbrev pub words_rest : ℕ → Past → Bool
+words_rest i p =
+    is_none (value_of (Helper i) p)
+    && (is_none (value_of (Index i 0) p)
+    && (is_none (value_of (Index i 1) p)
+    && is_alike (value_of (Index i 2) p) (stood_at i 2 p)))
+
+-- under 2GE the seat's interval word publishes where a row stands at index 2
+abbrev pub guards_rest : SchemeKind → ℕ → Past → Bool
+guards_rest He i p = words_rest i p
+guards_rest Ibr i p = is_alike (value_of (Whole i) p) (stood_at i 2 p)
+guards_rest Wfe i p = words_rest i p
+
+-- so it is where a call of the seat ends
+abbrev pub rests_ok : SchemeKind → Test
+rests_ok scheme p i (events.End steps answer) = guards_rest scheme i p
+rests_ok scheme p i event = true
+
+abbrev pub RestLaw : SchemeKind → Past → Type 0
+RestLaw scheme r = EachEntry (rests_ok scheme) r
+
+-- A row stands at an index of a seat from the Held that tells so to the Clear. While it does, it is not used again.
+pub record HistoryStands (r : Past) : Type 0 where
+  -- no entry gives a row, or says that it is unused or back, while it stands at an index of a seat
+  pub reuse : ReuseLaw r
+  -- a seat tells that a row stands at an index no more only where the row stands there
+  pub clears : ClearLaw r
+  -- only holds and releases use index 2, and only dequeues index 1
+  pub indexes : IndexLaw r
+
+-- What stands is covered, and was there to be found.
+pub record HistoryHolds (config : Config) (r : Past) : Type 0 where
+  -- at each position what stands is taken, and the guard of its index publishes an interval that meets its life
+  pub throughout : HeldThroughout config r
+  -- what a call holds at its root, or that there is nothing, the root had at a position of the call
+  pub sources : SourceLaw config r
+  -- where a call ends it has held the row of its root, or told that there is none
+  pub finds : FindLaw r
+  -- a get tells a version whose row stands, or that it has found none
+  pub gots : GotLaw r
+  -- the row that a link replaces, or behind which it links, stands at index 0, and the head's next row at index 1
+  pub links : LinkLaw config.slots r
+  -- where a row is held at index 1 the head's row stands at index 0, and where there is none some row does
+  pub follows : FollowLaw config.slots r
+  -- what is held at index 1 is the next row of the head's row; where nothing is, the head's row had no next one at a position of the call
+  pub behind : BehindLaw config.slots r
+  -- where a call ends nothing stands at an index of its seat but 2
+  pub bare : BareLaw r
+  -- where a call ends its seat's guards publish nothing, but for what is held on
+  pub rests : RestLaw config.scheme r

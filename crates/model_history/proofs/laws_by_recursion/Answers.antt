@@ -1,8 +1,0 @@
-use Rattle.model_history.proofs.Entries.{entries_of_each, each_of_entries}
-use Rattle.model_history.proofs.laws_by_recursion.Goals as goal
-
-pub returns-clause-published : goal.returns-clause-published
-returns-clause-published c = entries_of_each
-
-pub returns-clause-recursive : goal.returns-clause-recursive
-returns-clause-recursive c = each_of_entries

@@ -1,0 +1,2 @@
+pub use Rattle.wfe_defs.proofs as defs
+pub mod Entries

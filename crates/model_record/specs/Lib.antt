@@ -1,0 +1,3 @@
+pub use Rattle.wfe_defs.specs as defs
+pub mod Record
+pub mod Turns

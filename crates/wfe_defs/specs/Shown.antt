@@ -1,0 +1,51 @@
+-- What a guard publishes, as reclamation needs it: which lives it keeps.
+use Rattle.std.specs.Prelude.{Bool, false, List, [], ◌∷◌, Option, Some, None, ◌||◌, map}
+use Rattle.wfe_defs.specs.Meets.{meets}
+use Rattle.wfe_defs.specs.declared.event.Event.{Event}
+use Rattle.wfe_defs.specs.declared.event.Event.TheVariants as events
+use Rattle.wfe_defs.specs.declared.event.Guard.{Guard}
+use Rattle.wfe_defs.specs.declared.lifetime.Interval.{Interval}
+use Rattle.wfe_defs.specs.declared.lifetime.Lifetime.{Lifetime}
+
+-- what a guard publishes: nothing, or an interval of eras
+pub data Shown : Type 0 where
+  Nothing : Shown
+  Eras : (span : Interval) → Shown
+
+-- whether it keeps a life: nothing keeps none, and eras keep the lives that meet them
+abbrev pub keeps : Lifetime → Shown → Bool
+keeps life Nothing = false
+keeps life (Eras span) = meets life span
+
+-- an interval, or none, as what a guard publishes
+abbrev pub shown : Option Interval → Shown
+shown None = Nothing
+shown (Some span) = Eras span
+
+-- the interval that is published
+abbrev pub eras_of : Shown → Option Interval
+eras_of Nothing = None
+eras_of (Eras span) = Some span
+
+-- what an event says that a guard publishes from now on
+abbrev pub told_value : Event → Option (Guard × Shown)
+told_value (events.Reserve guard span) = Some (guard, shown span)
+told_value event = None
+
+-- what an event says that a scan read of a guard
+abbrev pub seen_value : Event → Option (Guard × Shown)
+seen_value (events.Read guard span) = Some (guard, shown span)
+seen_value event = None
+
+-- a guard that a scan read, and what it published
+abbrev pub Seen : Type 0
+Seen = Guard × Shown
+
+-- what a scan has read, from intervals
+abbrev pub seen_all : List (Guard × Option Interval) → List Seen
+seen_all read = map (λ (x : Guard × Option Interval). (x.0, shown x.1)) read
+
+-- something that was read keeps the life
+abbrev pub keeps_any : Lifetime → List Seen → Bool
+keeps_any life [] = false
+keeps_any life (seen ∷ read) = keeps life seen.1 || keeps_any life read
