@@ -1,4 +1,5 @@
 pub mod Boxes
+pub mod Emits
 pub mod Hearing
 pub mod Puts
 pub mod Stops

@@ -7,7 +7,6 @@ use Rattle.wfe_server_out.specs.Heard.{Hears, Seen}
 use Rattle.wfe_server_out.specs.PutOut.{PutsOut, PutsSome, FailsToWrite, FailsToTell}
 use Rattle.wfe_server_out.proofs.Texts.{heard_of-append}
 use Rattle.wfe_server_out.proofs.Hearing.{hears_along}
-use Rattle.wfe_server_out.proofs.Puts.{puts_then_some, puts_some_more}
 
 -- a longer front of the pieces
 front_along : (xs whole rest ys : List Piece) (piece : Piece) → ys ≡ whole ++ piece ∷ rest → xs ++ ys ≡ (xs ++ whole) ++ piece ∷ rest
@@ -18,7 +17,7 @@ rest_along : (xs whole rest ys : List Piece) (piece : Piece) → xs ≡ whole ++
 rest_along xs whole rest ys piece split = ap (λ (t : List Piece). t ++ ys) split ∙ append_assoc whole (piece ∷ rest) ys
 
 -- the pieces up to the one in which the work ends, and the rest
-split_after : (xs whole rest : List Piece) (piece : Piece) → xs ≡ whole ++ piece ∷ rest → xs ≡ (whole ++ piece ∷ []) ++ rest
+pub split_after : (xs whole rest : List Piece) (piece : Piece) → xs ≡ whole ++ piece ∷ rest → xs ≡ (whole ++ piece ∷ []) ++ rest
 split_after xs whole rest piece split = split ∙ sym (append_assoc whole (piece ∷ []) rest)
 
 -- pieces are put out, and then a write fails in one of which each watcher has heard
@@ -48,10 +47,3 @@ fails_to_tell seen old mid new a b c whole rest out piece split one part kept = 
   heard = one.heard;
   part = part.heard;
 }
-
--- a part of one piece after whole ones, and before the rest
-pub puts_within : {W : Type 0} (seen : Seen W) (old mid new : Option (List ℕ)) (a b c : List W) (whole rest out : List Piece) (piece : Piece) → out ≡ whole ++ piece ∷ rest →
-    PutsOut seen old mid a b whole → PutsSome seen mid new b c (piece ∷ []) → PutsSome seen old new a c out
-puts_within seen old mid new a b c whole rest out piece split one part =
-    subst (PutsSome seen old new a c) (sym (split_after out whole rest piece split))
-    (puts_some_more seen old new a c (whole ++ piece ∷ []) rest (puts_then_some seen old mid new a b c whole (piece ∷ []) one part))

@@ -1,3 +1,4 @@
+pub mod Emits
 pub mod Heard
 pub mod Pieces
 pub mod PutOut

@@ -4,10 +4,11 @@ ghost use Rattle.std.specs.Io.KnownBytes.{Appends, Keeps};
 ghost use Rattle.wfe_outside.specs.defs.Entry.{entry};
 ghost use Rattle.wfe_outside.specs.Faults.{Rose};
 ghost use Rattle.wfe_outside.specs.Watched.{Grows};
+ghost use Rattle.wfe_server_out.specs.Emits.{Emits};
 ghost use Rattle.wfe_server_out.specs.Heard.{Hears, HearsSome, boxed};
 ghost use Rattle.wfe_server_out.specs.Pieces.{Told as told_piece, text_of, told_pieces};
 ghost use Rattle.wfe_server_out.specs.Some.{AppendsSome};
-ghost use Rattle.wfe_server_out.specs.PutOut.{PutsOut, PutsSome, FailsToWrite, FailsToTell};
+ghost use Rattle.wfe_server_out.specs.PutOut.{FailsToWrite, FailsToTell};
 
 use crate::Fault;
 use crate::write::put_line;
@@ -60,10 +61,7 @@ pub fn tell<K: Sink>(
     seat: u32,
     event: &Event,
 ) -> Result<(), Fault>
-    ensures put { OnOk result (PutsOut (boxed stands) (K.written sink.old) (K.written sink.new) watchers.old watchers.new (told_piece (entry seat event.now) ∷ [])) }
-    ensures some { OnErr result (PutsSome (boxed stands) (K.written sink.old) (K.written sink.new) watchers.old watchers.new (told_piece (entry seat event.now) ∷ [])) }
-    ensures later { K.faults sink.old ≤ K.faults sink.new }
-    ensures cause { IfErr result (λ fault. fault ≡ Fault.Write → Rose K.may_stand (K.faults sink.old) (K.faults sink.new)) }
+    ensures emits { Emits (boxed stands) K.written K.faults K.may_stand result sink.old sink.new watchers.old watchers.new (told_piece (entry seat event.now) ∷ []) }
     ensures heard_before { IfErr result (λ fault. fault ≡ Fault.Write → Hears (boxed stands) watchers.old watchers.new (entry seat event.now ∷ [])) }
     ensures unwritten { IfErr result (λ fault. fault ≡ Fault.Memory → Keeps (K.written sink.old) (K.written sink.new)) }
     ensures needs_a_watcher { IfErr result (λ fault. fault ≡ Fault.Memory → 0 < length watchers.old) }
@@ -80,10 +78,7 @@ pub fn tell_all<K: Sink>(
     seat: u32,
     told: &Told,
 ) -> Result<(), Fault>
-    ensures put { OnOk result (PutsOut (boxed stands) (K.written sink.old) (K.written sink.new) watchers.old watchers.new (told_pieces seat told.now)) }
-    ensures some { OnErr result (PutsSome (boxed stands) (K.written sink.old) (K.written sink.new) watchers.old watchers.new (told_pieces seat told.now)) }
-    ensures later { K.faults sink.old ≤ K.faults sink.new }
-    ensures cause { IfErr result (λ fault. fault ≡ Fault.Write → Rose K.may_stand (K.faults sink.old) (K.faults sink.new)) }
+    ensures emits { Emits (boxed stands) K.written K.faults K.may_stand result sink.old sink.new watchers.old watchers.new (told_pieces seat told.now) }
     ensures heard_before { IfErr result (λ fault. fault ≡ Fault.Write → FailsToWrite (boxed stands) (K.written sink.old) (K.written sink.new) watchers.old watchers.new (told_pieces seat told.now)) }
     ensures unwritten { IfErr result (λ fault. fault ≡ Fault.Memory → FailsToTell (boxed stands) (K.written sink.old) (K.written sink.new) watchers.old watchers.new (told_pieces seat told.now)) }
     ensures needs_a_watcher { IfErr result (λ fault. fault ≡ Fault.Memory → 0 < length watchers.old) }

@@ -1,4 +1,5 @@
 // A table that takes the lines of a trace.
+ghost use Rattle.wfe_server_out.specs.Emits.{Emits};
 ghost use Rattle.wfe_server_out.specs.Heard.{boxed};
 ghost use Rattle.std.specs.Prelude.{◌≡◌, ◌<◌, ◌≤◌, IfErr, IfOk, None, OnErr, OnOk, [], ◌∷◌, false, length, true};
 ghost use Rattle.wfe_core.specs.Locals.{busy_in};
@@ -12,7 +13,6 @@ ghost use Rattle.wfe_server_out.specs.Pieces.{text_of, told_pieces};
 ghost use Rattle.wfe_server_out.specs.Pieces.{Told as told_piece};
 ghost use Rattle.std.specs.Io.KnownBytes.{Appends};
 ghost use Rattle.wfe_server_replay.specs.Trace.{is_refused};
-ghost use Rattle.wfe_server_out.specs.PutOut.{PutsOut, PutsSome};
 ghost use Rattle.wfe_server_out.specs.Some.{AppendsSome};
 ghost use Rattle.wfe_trace.specs.Body.{IsCommandWithin};
 ghost use Rattle.wfe_trace.specs.words.Config.{bad_field};
@@ -89,10 +89,7 @@ impl<E: Engine> Play<E> {
         ensures after { self.new ≡ unit_made self.old seat }
         ensures table { self.new.table.layout ≡ self.old.table.layout }
         ensures falls { units_left self.new.table seat < units_left self.old.table seat }
-        ensures put { OnOk result (PutsOut (boxed stands) (K.written sink.old) (K.written sink.new) watchers.old watchers.new (unit_out self.old seat)) }
-        ensures some { OnErr result (PutsSome (boxed stands) (K.written sink.old) (K.written sink.new) watchers.old watchers.new (unit_out self.old seat)) }
-        ensures later { K.faults sink.old ≤ K.faults sink.new }
-        ensures cause { IfErr result (λ fault. fault ≡ Fault.Write → Rose K.may_stand (K.faults sink.old) (K.faults sink.new)) }
+        ensures emits { Emits (boxed stands) K.written K.faults K.may_stand result sink.old sink.new watchers.old watchers.new (unit_out self.old seat) }
     {
         told.clear();
         let _ = self.engine.unit(seat, told);
@@ -110,10 +107,7 @@ impl<E: Engine> Play<E> {
         requires { seat < self.old.table.layout.config.seats }
         ensures after { OnOk result (self.new ≡ units_made call_most seat self.old) }
         ensures table { self.new.table.layout ≡ self.old.table.layout }
-        ensures put { OnOk result (PutsOut (boxed stands) (K.written sink.old) (K.written sink.new) watchers.old watchers.new (units_out call_most seat self.old)) }
-        ensures some { OnErr result (PutsSome (boxed stands) (K.written sink.old) (K.written sink.new) watchers.old watchers.new (units_out call_most seat self.old)) }
-        ensures later { K.faults sink.old ≤ K.faults sink.new }
-        ensures cause { IfErr result (λ fault. fault ≡ Fault.Write → Rose K.may_stand (K.faults sink.old) (K.faults sink.new)) }
+        ensures emits { Emits (boxed stands) K.written K.faults K.may_stand result sink.old sink.new watchers.old watchers.new (units_out call_most seat self.old) }
     {
         let mut told = Told::new();
         while self.busy(seat) {
@@ -133,10 +127,7 @@ impl<E: Engine> Play<E> {
         requires { seat < self.old.table.layout.config.seats }
         ensures after { OnOk result (self.new ≡ units_made units seat self.old) }
         ensures table { self.new.table.layout ≡ self.old.table.layout }
-        ensures put { OnOk result (PutsOut (boxed stands) (K.written sink.old) (K.written sink.new) watchers.old watchers.new (units_out units seat self.old)) }
-        ensures some { OnErr result (PutsSome (boxed stands) (K.written sink.old) (K.written sink.new) watchers.old watchers.new (units_out units seat self.old)) }
-        ensures later { K.faults sink.old ≤ K.faults sink.new }
-        ensures cause { IfErr result (λ fault. fault ≡ Fault.Write → Rose K.may_stand (K.faults sink.old) (K.faults sink.new)) }
+        ensures emits { Emits (boxed stands) K.written K.faults K.may_stand result sink.old sink.new watchers.old watchers.new (units_out units seat self.old) }
     {
         let mut told = Told::new();
         for _ in 0..units {
@@ -156,10 +147,8 @@ impl<E: Engine> Play<E> {
     ) -> Result<(), Fault>
         ensures after { OnOk result (self.new ≡ seats_run self.old.table.layout.config.seats self.old) }
         ensures table { self.new.table.layout ≡ self.old.table.layout }
-        ensures put { OnOk result (PutsOut (boxed stands) (K.written sink.old) (K.written sink.new) watchers.old watchers.new (seats_out self.old.table.layout.config.seats self.old)) }
-        ensures some { OnErr result (PutsSome (boxed stands) (K.written sink.old) (K.written sink.new) watchers.old watchers.new (seats_out self.old.table.layout.config.seats self.old)) }
-        ensures later { K.faults sink.old ≤ K.faults sink.new }
-        ensures cause { IfErr result (λ fault. fault ≡ Fault.Write → Rose K.may_stand (K.faults sink.old) (K.faults sink.new)) }
+        ensures emits { Emits (boxed stands) K.written K.faults K.may_stand result sink.old sink.new watchers.old watchers.new
+            (seats_out self.old.table.layout.config.seats self.old) }
     {
         for seat in 0..self.seats {
             self.run(seat, sink, watchers)?;
@@ -191,10 +180,8 @@ impl<E: Engine> Play<E> {
         requires free { is_playing seat self.old ≡ false }
         ensures after { OnOk result (self.new ≡ started self.old seat call) }
         ensures table { self.new.table.layout ≡ self.old.table.layout }
-        ensures put { OnOk result (PutsOut (boxed stands) (K.written sink.old) (K.written sink.new) watchers.old watchers.new (told_piece (entry seat (Event.Begin call)) ∷ [])) }
-        ensures some { OnErr result (PutsSome (boxed stands) (K.written sink.old) (K.written sink.new) watchers.old watchers.new (told_piece (entry seat (Event.Begin call)) ∷ [])) }
-        ensures later { K.faults sink.old ≤ K.faults sink.new }
-        ensures cause { IfErr result (λ fault. fault ≡ Fault.Write → Rose K.may_stand (K.faults sink.old) (K.faults sink.new)) }
+        ensures emits { Emits (boxed stands) K.written K.faults K.may_stand result sink.old sink.new watchers.old watchers.new
+            (told_piece (entry seat (Event.Begin call)) ∷ []) }
     {
         self.engine.start(seat, call);
         tell(sink, watchers, seat, &Event::Begin { call })
@@ -211,10 +198,7 @@ impl<E: Engine> Play<E> {
         requires free { is_refused player command self.old ≡ false }
         ensures after { OnOk result (self.new ≡ played command self.old) }
         ensures table { self.new.table.layout ≡ self.old.table.layout }
-        ensures put { OnOk result (PutsOut (boxed stands) (K.written sink.old) (K.written sink.new) watchers.old watchers.new (played_out command self.old)) }
-        ensures some { OnErr result (PutsSome (boxed stands) (K.written sink.old) (K.written sink.new) watchers.old watchers.new (played_out command self.old)) }
-        ensures later { K.faults sink.old ≤ K.faults sink.new }
-        ensures cause { IfErr result (λ fault. fault ≡ Fault.Write → Rose K.may_stand (K.faults sink.old) (K.faults sink.new)) }
+        ensures emits { Emits (boxed stands) K.written K.faults K.may_stand result sink.old sink.new watchers.old watchers.new (played_out command self.old) }
     {
         match command {
             Command::Call { seat, call } => self.start(seat, call, sink, watchers),

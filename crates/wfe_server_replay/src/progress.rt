@@ -1,13 +1,13 @@
 // A trace as its bytes come, and the table that takes its lines.
+ghost use Rattle.wfe_server_out.specs.Emits.{Emits};
 ghost use Rattle.wfe_server_out.specs.Heard.{boxed};
-ghost use Rattle.std.specs.Prelude.{◌≡◌, ◌≤◌, ◌<◌, length, OnOk, OnErr, IfOk, IfErr, MatchResult, None, Some, Ok, Err, [], ◌∷◌, true};
+ghost use Rattle.std.specs.Prelude.{◌≡◌, ◌≤◌, ◌<◌, length, OnOk, IfOk, IfErr, MatchResult, None, Some, Ok, Err, [], ◌∷◌, true};
 ghost use Rattle.wfe_outside.specs.Faults.{Rose};
 ghost use Rattle.wfe_server_replay.specs.Opening.{FitsTable, ItemFits, MayPlay, MayTake};
 ghost use Rattle.wfe_server_replay.specs.Playing.{player};
 ghost use Rattle.wfe_server_replay.specs.Sunk.{Took, outside};
 ghost use Rattle.wfe_server_replay.specs.Trace.{Progress, progress_start, bad_line, is_refused_in, command_taken, out_in, item_taken, out_by, refuses as does_refuse, line_item, line_read, after_line, line_output, byte_refused, counted, after_byte, byte_output, after_bytes, bytes_output, after_last, last_output, at_end, finished};
 ghost use Rattle.wfe_server_out.specs.Pieces.{Text};
-ghost use Rattle.wfe_server_out.specs.PutOut.{PutsOut, PutsSome};
 ghost use Rattle.wfe_trace.specs.Good.{is_body};
 ghost use Rattle.wfe_trace.specs.Record.{header_line};
 ghost use Rattle.wfe_trace.specs.declared.item.Mode.TheVariants.{Replay};
@@ -100,10 +100,8 @@ impl<E: Engine> Work<E> {
         requires body { is_body self.old.reading.stage ≡ true }
         requires seats { config.seats ≡ self.old.reading.config.seats }
         ensures after { OnOk result (self.new ≡ record self.old { engine = Some (player.opened version config) }) }
-        ensures put { OnOk result (PutsOut (boxed stands) (K.written sink.old) (K.written sink.new) watchers.old watchers.new (Text (header_line version config) ∷ [])) }
-        ensures some { OnErr result (PutsSome (boxed stands) (K.written sink.old) (K.written sink.new) watchers.old watchers.new (Text (header_line version config) ∷ [])) }
-        ensures later { K.faults sink.old ≤ K.faults sink.new }
-        ensures cause { IfErr result (λ fault. fault ≡ Fault.Write → Rose K.may_stand (K.faults sink.old) (K.faults sink.new)) }
+        ensures emits { Emits (boxed stands) K.written K.faults K.may_stand result sink.old sink.new watchers.old watchers.new
+            (Text (header_line version config) ∷ []) }
     {
         let _ = watchers;
         self.play = Some(Play::open(alloc, config)?);
@@ -133,10 +131,8 @@ impl<E: Engine> Work<E> {
     ) -> Result<(), Fault>
         requires { MayPlay command self.old.engine }
         ensures after { OnOk result (self.new ≡ command_taken player self.old command self.old.engine) }
-        ensures put { OnOk result (PutsOut (boxed stands) (K.written sink.old) (K.written sink.new) watchers.old watchers.new (out_in player command self.old.engine)) }
-        ensures some { OnErr result (PutsSome (boxed stands) (K.written sink.old) (K.written sink.new) watchers.old watchers.new (out_in player command self.old.engine)) }
-        ensures later { K.faults sink.old ≤ K.faults sink.new }
-        ensures cause { IfErr result (λ fault. fault ≡ Fault.Write → Rose K.may_stand (K.faults sink.old) (K.faults sink.new)) }
+        ensures emits { Emits (boxed stands) K.written K.faults K.may_stand result sink.old sink.new watchers.old watchers.new
+            (out_in player command self.old.engine) }
     {
         self.ended = matches!(command, Command::End);
         if let Some(play) = &mut self.play {
@@ -155,10 +151,7 @@ impl<E: Engine> Work<E> {
     ) -> Result<(), Fault>
         requires { MayTake self.old item }
         ensures after { OnOk result (self.new ≡ item_taken player self.old item) }
-        ensures put { OnOk result (PutsOut (boxed stands) (K.written sink.old) (K.written sink.new) watchers.old watchers.new (out_by player self.old item)) }
-        ensures some { OnErr result (PutsSome (boxed stands) (K.written sink.old) (K.written sink.new) watchers.old watchers.new (out_by player self.old item)) }
-        ensures later { K.faults sink.old ≤ K.faults sink.new }
-        ensures cause { IfErr result (λ fault. fault ≡ Fault.Write → Rose K.may_stand (K.faults sink.old) (K.faults sink.new)) }
+        ensures emits { Emits (boxed stands) K.written K.faults K.may_stand result sink.old sink.new watchers.old watchers.new (out_by player self.old item) }
     {
         match item {
             Item::Setting => Ok(()),

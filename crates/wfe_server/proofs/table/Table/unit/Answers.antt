@@ -12,7 +12,7 @@ pub returns-clause-err : goal.returns-clause-err
 returns-clause-err g c =
     let u = c.unit.ensures.unit in
     let e : told_pieces c.args.seat c.unit.new.told ≡ unit_out c.args.self.now.played c.args.seat = ap (told_pieces c.args.seat) u.told_is ∙ ap (λ (s : Tally). unit_out s.played c.args.seat) c.self.view_is in
-    told_err _ _ _ _ _ c.tell_all.result _ _ e c.tell_all.ensures.some
+    told_err _ _ _ _ _ c.tell_all.result _ _ e c.tell_all.ensures.emits.some
 
 pub returns-clause-after : goal.returns-clause-after
 returns-clause-after g c =
@@ -23,4 +23,4 @@ pub returns-clause-ok : goal.returns-clause-ok
 returns-clause-ok g c =
     let u = c.unit.ensures.unit in
     let e : told_pieces c.args.seat c.unit.new.told ≡ unit_out c.args.self.now.played c.args.seat = ap (told_pieces c.args.seat) u.told_is ∙ ap (λ (s : Tally). unit_out s.played c.args.seat) c.self.view_is in
-    told_ok _ _ _ _ _ _ _ c.tell_all.result _ _ e (subst (λ (s : Tally). Gains Counts s.summary c.count_all.new.self (heard_of (told_pieces c.args.seat c.unit.new.told))) c.self.view_is c.count_all.ensures) c.tell_all.ensures.put
+    told_ok _ _ _ _ _ _ _ c.tell_all.result _ _ e (subst (λ (s : Tally). Gains Counts s.summary c.count_all.new.self (heard_of (told_pieces c.args.seat c.unit.new.told))) c.self.view_is c.count_all.ensures) c.tell_all.ensures.emits.put
