@@ -1,0 +1,10 @@
+-- So far the first words, each as it starts.
+use Rattle.std.proofs.Common.{length, slice_index, ℕ, ◌<◌, ◌≡◌}
+use Rattle.wfe_core.specs.words.Place.{start_at}
+use Rattle.wfe_drive_table.proofs.table.start_words.Given as goal
+
+abbrev pub invariant-loop-word : goal.invariant-loop-word
+invariant-loop-word l = record {
+  count : length l.words.items ≡ l.word;
+  starts : (word : ℕ) → word < l.word → slice_index l.words.items word ≡ start_at l.layout word;
+}

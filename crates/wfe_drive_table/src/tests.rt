@@ -1,0 +1,106 @@
+// What no clause says: that the words are had where there is memory, with the published start words of
+// a small table; and that atomic steps, which the proofs trust, do when they run what plain words do.
+ghost use Rattle.std.specs.Prelude.{◌≡◌, ◌<◌, IfOk, IsTrue, length, slice_index};
+ghost use Rattle.wfe_core.specs.words.Place.{is_valid};
+ghost use Rattle.wfe_drive_cells.specs.Memory.{HoldsStart};
+ghost use Rattle.wfe_drive_cells.specs.Operations.{word_in};
+
+use crate::TableCells;
+use std::alloc::Global;
+use std::process::Abort;
+use std::test::Fail;
+use wfe_core::{Config, Layout, NoMemory, Op, SchemeKind};
+use wfe_drive_cells::{Cells, MakeCells, PlainCells};
+
+// A table of sixty words.
+const SMALL: Config = Config {
+    scheme: SchemeKind::Wfe,
+    seats: 1,
+    indexes: 3,
+    slots: 2,
+    buckets: 1,
+    tries: 1,
+    every: 1,
+    last_era: 9,
+    last_version: 9,
+    pairs: 6,
+};
+
+fn made<C: MakeCells>(alloc: Global, layout: Layout) -> Result<C, NoMemory>
+    requires { IsTrue (is_valid layout) }
+    ensures { IfOk result (λ cells. HoldsStart layout (C.words cells)) }
+{
+    C::make(alloc, layout)
+}
+
+fn load<C: Cells>(cells: &mut C, word: u32) -> u64
+    requires { word < length (C.words cells.old) }
+    ensures word { result ≡ slice_index (C.words cells.old) word }
+    ensures stays { C.words cells.new ≡ C.words cells.old }
+{
+    cells.perform(0, Op::Load { word })
+}
+
+// Performs an operation on two of sixty words, looks that both answer the same, and then at each word.
+fn perform_on_both<R: Abort, A: Cells, B: Cells>(rt: &R, one: &mut A, other: &mut B, op: Op) -> u64
+    requires within { word_in op < 60 }
+    requires one { length (A.words one.old) ≡ 60 }
+    requires other { length (B.words other.old) ≡ 60 }
+    ensures one { length (A.words one.new) ≡ 60 }
+    ensures other { length (B.words other.new) ≡ 60 }
+{
+    let answer = one.perform(0, op);
+    assert_eq!(rt; other.perform(0, op), answer);
+    for word in 0..60 {
+        assert_eq!(rt; load(other, word), load(one, word), "at {word}");
+    }
+    answer
+}
+
+#[test]
+fn cells_start_as_their_layout_says(rt: HostRuntime) -> Result<(), Fail> {
+    let layout = Layout::new(SMALL)?;
+    assert_eq!(rt; layout.words(), 60);
+    let mut cells: TableCells = made(rt.alloc(), layout)?;
+    for word in 0..layout.words() {
+        let start = match word {
+            0 => 1,
+            8 | 9 => 3,
+            10 => 0xffff_ffff_ffff_fffc,
+            13 => 0x1_0000_0000,
+            _ => 0,
+        };
+        assert_eq!(rt; load(&mut cells, word), start, "at {word}");
+    }
+    Ok(())
+}
+
+#[test]
+fn each_operation_does_what_it_does_on_plain_words(rt: HostRuntime) -> Result<(), Fail> {
+    let layout = Layout::new(SMALL)?;
+    assert_eq!(rt; layout.words(), 60);
+    let mut plain: PlainCells = made(rt.alloc(), layout)?;
+    let mut table: TableCells = made(rt.alloc(), layout)?;
+    let storing = Op::Store { word: 7, value: 12 };
+    assert_eq!(rt; perform_on_both(&rt, &mut plain, &mut table, storing), 0);
+    let loading = Op::Load { word: 7 };
+    assert_eq!(rt; perform_on_both(&rt, &mut plain, &mut table, loading), 12);
+    let failing = Op::Cas {
+        word: 7,
+        old: 11,
+        new: 5,
+    };
+    assert_eq!(rt; perform_on_both(&rt, &mut plain, &mut table, failing), 12);
+    let working = Op::Cas {
+        word: 7,
+        old: 12,
+        new: 6,
+    };
+    assert_eq!(rt; perform_on_both(&rt, &mut plain, &mut table, working), 12);
+    let setting = Op::Or { word: 7, bits: 9 };
+    assert_eq!(rt; perform_on_both(&rt, &mut plain, &mut table, setting), 6);
+    let keeping = Op::And { word: 7, bits: 13 };
+    assert_eq!(rt; perform_on_both(&rt, &mut plain, &mut table, keeping), 15);
+    assert_eq!(rt; perform_on_both(&rt, &mut plain, &mut table, loading), 13);
+    Ok(())
+}
