@@ -14,7 +14,7 @@ use Rattle.wfe_core.specs.World.{is_busy}
 use Rattle.wfe_server_replay.specs.history.History.{Item, world_of}
 use Rattle.wfe_server_out.specs.Pieces.{Piece, heard_of}
 use Rattle.wfe_server_out.proofs.Texts.{heard_of-append}
-use Rattle.wfe_server_replay.specs.Given.{AreTaken, Given, IsTaken, all_items, given_out, given_record, given_world, items, items_of, layout_of, line_pieces, no_lines, past_entries, with_line}
+use Rattle.wfe_server_replay.specs.Given.{AreTaken, Given, IsTaken, given_out, given_record, given_world, items, layout_of, line_pieces, no_lines, past_entries, with_line}
 use Rattle.wfe_server_replay.specs.Playing.{Played, opened, played, played_out}
 use Rattle.wfe_server_replay.proofs.Lines.{Good, Taken, good-opened, played_of, taken, with_lines, with_lines-first, with_no_lines, all_items-more}
 use Rattle.wfe_server_replay.proofs.Runs.{runs_end}

@@ -1,11 +1,11 @@
 -- Units of a seat, lines of a turn and turns, one after the other.
-use Rattle.std.proofs.Common.{Bool, List, [], ap, append-nil, append_assoc, arith, false, if◌then◌else◌, refl, subst, suc, sym, true, zero, ℕ, ◌*◌, ◌+◌, ◌++◌, ◌-◌, ◌<◌, ◌≤◌, ◌∙◌, ◌≡◌, ◌∷◌}
+use Rattle.std.proofs.Common.{List, [], ap, append-nil, append_assoc, arith, false, refl, subst, suc, sym, true, ℕ, ◌*◌, ◌+◌, ◌++◌, ◌-◌, ◌<◌, ◌≤◌, ◌∙◌, ◌≡◌, ◌∷◌}
 use Rattle.std.specs.Prelude.{Err, Ok, OnErr, OnOk, Result}
 use Rattle.rand_core.specs.Steps.{first_words}
 use Rattle.rand_pcg.specs.Lcg.{Lcg}
 use Rattle.rand_pcg.specs.Pcg.{pcg32}
 use Rattle.wfe_trace.specs.words.declared.layout.Layout.{Layout}
-use Rattle.wfe_outside.specs.defs.Entry.{Entry, entry}
+use Rattle.wfe_outside.specs.defs.Entry.{entry}
 use Rattle.wfe_outside.specs.defs.declared.command.Command.{Command}
 use Rattle.wfe_outside.specs.defs.declared.command.Command.TheVariants as commands
 use Rattle.wfe_outside.specs.defs.declared.event.Event.TheVariants as events

@@ -1,7 +1,6 @@
 -- A table that takes the lines of a generated trace, with the numbers of the events that it told.
 use Rattle.std.specs.Prelude.{List, [], ◌++◌, ◌∷◌}
 use Rattle.wfe_outside.specs.defs.declared.command.Command.{Command}
-use Rattle.wfe_outside.specs.defs.Entry.{Entry}
 use Rattle.wfe_server_replay.specs.drive_cells.Unit.{TableView}
 use Rattle.wfe_server_out.specs.Heard.{Gains, Hears, Seen}
 use Rattle.wfe_server_out.specs.Pieces.{Piece, heard_of}

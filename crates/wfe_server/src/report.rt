@@ -1,10 +1,8 @@
 // The lines of a summary, to a sink.
-ghost use Rattle.std.specs.Prelude.{◌≡◌, ◌<◌, ◌≤◌, [], codes, get_or, length, OnOk, OnErr};
-ghost use Rattle.std.specs.Io.KnownBytes.{Appends};
+ghost use Rattle.std.specs.Prelude.{◌≡◌, ◌<◌, ◌≤◌, [], get_or, length};
 ghost use Rattle.wfe_server.specs.Report.{summary_lines, named, report};
 ghost use Rattle.wfe_server_replay.specs.Watched.{watch_text};
-ghost use Rattle.wfe_outside.specs.Faults.{Rose};
-ghost use Rattle.wfe_server_out.specs.Some.{AppendsSome};
+ghost use Rattle.wfe_server_out.specs.Emits.{Writes};
 ghost use Rattle.wfe_trace.specs.Record.{count_line};
 
 use crate::summary::Summary;
@@ -36,10 +34,7 @@ fn count_at(summary: &Summary, place: usize) -> (&'static [u8], u64)
 // Writes the line of a number.
 fn put_count<K: Sink>(name: &[u8], number: u64, sink: &mut K) -> Result<(), Failed>
     requires { length name.now ≤ 20 }
-    ensures wrote { OnOk result (Appends (K.written sink.old) (K.written sink.new) (count_line name.now number)) }
-    ensures some { OnErr result (AppendsSome (K.written sink.old) (K.written sink.new) (count_line name.now number)) }
-    ensures later { K.faults sink.old ≤ K.faults sink.new }
-    ensures cause { OnErr result (Rose K.may_stand (K.faults sink.old) (K.faults sink.new)) }
+    ensures { Writes K.written K.faults K.may_stand result sink.old sink.new (count_line name.now number) }
 {
     let mut line = Line::new();
     print_count(name, number, &mut line);
@@ -48,10 +43,7 @@ fn put_count<K: Sink>(name: &[u8], number: u64, sink: &mut K) -> Result<(), Fail
 
 // Writes the lines of the numbers.
 fn put_counts<K: Sink>(summary: &Summary, sink: &mut K) -> Result<(), Failed>
-    ensures wrote { OnOk result (Appends (K.written sink.old) (K.written sink.new) (summary_lines summary.now)) }
-    ensures some { OnErr result (AppendsSome (K.written sink.old) (K.written sink.new) (summary_lines summary.now)) }
-    ensures later { K.faults sink.old ≤ K.faults sink.new }
-    ensures cause { OnErr result (Rose K.may_stand (K.faults sink.old) (K.faults sink.new)) }
+    ensures { Writes K.written K.faults K.may_stand result sink.old sink.new (summary_lines summary.now) }
 {
     for place in 0..10 {
         let (name, number) = count_at(summary, place);
@@ -66,10 +58,7 @@ pub fn put_report<K: Sink>(
     watchers: &[Box<dyn Watcher>],
     sink: &mut K,
 ) -> Result<(), Failed>
-    ensures wrote { OnOk result (Appends (K.written sink.old) (K.written sink.new) (report summary.now (watch_text shown shows watchers.now))) }
-    ensures some { OnErr result (AppendsSome (K.written sink.old) (K.written sink.new) (report summary.now (watch_text shown shows watchers.now))) }
-    ensures later { K.faults sink.old ≤ K.faults sink.new }
-    ensures cause { OnErr result (Rose K.may_stand (K.faults sink.old) (K.faults sink.new)) }
+    ensures { Writes K.written K.faults K.may_stand result sink.old sink.new (report summary.now (watch_text shown shows watchers.now)) }
 {
     put_counts(summary, sink)?;
     put_watched(sink, watchers)?;

@@ -2,10 +2,11 @@
 use Rattle.std.proofs.Common.{[], ℕ, ◌≡◌, ◌++◌, Bool, List, Option, Result, Ok, Err, arith, subst, sym}
 use Rattle.wfe_outside.proofs.Rising.{rose_earlier}
 use Rattle.wfe_server_out.specs.declared.fault.Fault.{Fault}
-use Rattle.wfe_server_out.specs.Emits.{Emits}
-use Rattle.wfe_server_out.specs.Heard.{Seen}
-use Rattle.wfe_server_out.specs.Pieces.{Piece}
-use Rattle.wfe_server_out.proofs.Puts.{puts_along, puts_none, puts_some_more, puts_then_some}
+use Rattle.wfe_server_out.specs.Emits.{Emits, Writes}
+use Rattle.wfe_server_out.specs.Heard.{Hears, Seen}
+use Rattle.wfe_server_out.specs.Pieces.{Piece, heard_of, text_of}
+use Rattle.wfe_server_out.proofs.Hearing.{hears_none}
+use Rattle.wfe_server_out.proofs.Puts.{puts_along, puts_lines_some, puts_none, puts_some_more, puts_then_some}
 
 -- nothing is done
 pub emits_none : {K W T : Type 0} {seen : Seen W} {written : K → Option (List ℕ)} {faults : K → ℕ} {may_stand : Bool} {x : T} {sink : K} {watchers : List W} → Emits seen written faults may_stand (Ok x) sink sink watchers watchers []
@@ -45,3 +46,13 @@ emits_then one two = one_then _ one two
 pub emits_within : {K W T U V : Type 0} {seen : Seen W} {written : K → Option (List ℕ)} {faults : K → ℕ} {may_stand : Bool} {x : T} {fault : Fault} {result : Result V Fault} {old mid new : K} {before between after : List W} {xs ys out : List Piece} (rest : List Piece) →
     result ≡ Err fault → out ≡ (xs ++ ys) ++ rest → Emits seen written faults may_stand (Ok x) old mid before between xs → Emits {T = U} seen written faults may_stand (Err fault) mid new between after ys → Emits seen written faults may_stand result old new before after out
 emits_within rest came split one two = emits_fault came (emits_of (sym split) (emits_more rest (emits_then one two)))
+
+text_only : {K W T : Type 0} {seen : Seen W} {written : K → Option (List ℕ)} {faults : K → ℕ} {may_stand : Bool} (result : Result T Fault) {old new : K} {watchers : List W} {out : List Piece} → heard_of out ≡ [] →
+    Writes written faults may_stand result old new (text_of out) → Emits seen written faults may_stand result old new watchers watchers out
+text_only (Ok x) none one = record { put = record { wrote = one.wrote; heard = subst (Hears _ _ _) (sym none) (hears_none _ _) }; some = tt; later = one.later; cause = tt }
+text_only (Err fault) none one = record { put = tt; some = puts_lines_some _ _ _ _ _ none one.some; later = one.later; cause = λ at_write. one.cause }
+
+-- a text is written, and no watcher hears of it
+pub emits_text : {K W T : Type 0} {seen : Seen W} {written : K → Option (List ℕ)} {faults : K → ℕ} {may_stand : Bool} {result : Result T Fault} {old new : K} {watchers : List W} {out : List Piece} → heard_of out ≡ [] →
+    Writes written faults may_stand result old new (text_of out) → Emits seen written faults may_stand result old new watchers watchers out
+emits_text none one = text_only _ none one

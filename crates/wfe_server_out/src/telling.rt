@@ -1,13 +1,11 @@
 // Each watcher is told an event, and then its line is written.
-ghost use Rattle.std.specs.Prelude.{◌≡◌, ◌≤◌, ◌<◌, [], ◌∷◌, length, OnOk, OnErr, IfErr};
-ghost use Rattle.std.specs.Io.KnownBytes.{Appends, Keeps};
+ghost use Rattle.std.specs.Prelude.{◌≡◌, ◌<◌, [], ◌∷◌, length, OnOk, OnErr, IfErr};
+ghost use Rattle.std.specs.Io.KnownBytes.{Keeps};
 ghost use Rattle.wfe_outside.specs.defs.Entry.{entry};
-ghost use Rattle.wfe_outside.specs.Faults.{Rose};
 ghost use Rattle.wfe_outside.specs.Watched.{Grows};
-ghost use Rattle.wfe_server_out.specs.Emits.{Emits};
+ghost use Rattle.wfe_server_out.specs.Emits.{Emits, Writes};
 ghost use Rattle.wfe_server_out.specs.Heard.{Hears, HearsSome, boxed};
 ghost use Rattle.wfe_server_out.specs.Pieces.{Told as told_piece, text_of, told_pieces};
-ghost use Rattle.wfe_server_out.specs.Some.{AppendsSome};
 ghost use Rattle.wfe_server_out.specs.PutOut.{FailsToWrite, FailsToTell};
 
 use crate::Fault;
@@ -43,10 +41,7 @@ fn tell_watchers(
 
 // Writes the line of an event.
 fn put_event<K: Sink>(sink: &mut K, seat: u32, event: &Event) -> Result<(), Failed>
-    ensures wrote { OnOk result (Appends (K.written sink.old) (K.written sink.new) (text_of (told_piece (entry seat event.now) ∷ []))) }
-    ensures some { OnErr result (AppendsSome (K.written sink.old) (K.written sink.new) (text_of (told_piece (entry seat event.now) ∷ []))) }
-    ensures later { K.faults sink.old ≤ K.faults sink.new }
-    ensures cause { OnErr result (Rose K.may_stand (K.faults sink.old) (K.faults sink.new)) }
+    ensures { Writes K.written K.faults K.may_stand result sink.old sink.new (text_of (told_piece (entry seat event.now) ∷ [])) }
 {
     let mut line = Line::new();
     print_event(seat, event, &mut line);

@@ -1,20 +1,13 @@
 -- The lines and the sums of a table of counts, seat by seat.
-use Rattle.std.proofs.Common.{List, [], ap, append-nil, append_assoc, arith, drop, length, length-set, refl, subst, sym, take, ℕ, ◌++◌, ◌+◌, ◌-◌, ◌<◌, ◌∙◌, ◌≡◌, ◌∷◌}
-use Rattle.std.proofs.lemmas.List.{drop_more, take_more}
+use Rattle.std.proofs.Common.{List, [], ap, append-nil, arith, drop, length, length-set, refl, sym, take, ℕ, ◌++◌, ◌+◌, ◌-◌, ◌<◌, ◌≤◌, ◌∙◌, ◌≡◌, ◌∷◌}
+use Rattle.std.proofs.lemmas.List.{drop_all, drop_more, take_more}
 use Rattle.std.proofs.lemmas.List.Sums.{sum_by-append}
 use Rattle.std.proofs.lemmas.Option.{slice_get_within, get_or_from_slice_get}
-use Rattle.std.specs.Prelude.{Err, Ok, OnErr, OnOk, Option, Result, Some, min, slice_get, sum_by, ◌^◌}
+use Rattle.std.specs.Prelude.{Some, min, slice_get, sum_by, ◌^◌}
 use Rattle.wfe_outside.specs.defs.declared.event.Event.{Event}
 use Rattle.wfe_outside.specs.declared.watcher.WatchRow.{WatchRow}
-use Rattle.std.specs.Io.KnownBytes.{Appends}
-use Rattle.std.proofs.KnownBytes.{Appends-trans}
-use Rattle.wfe_server_out.specs.Heard.{Hears, Seen}
-use Rattle.wfe_server_out.specs.Pieces.{Piece, Text, heard_of, text_of}
-use Rattle.wfe_server_out.specs.PutOut.{PutsOut, PutsSome}
-use Rattle.wfe_server_out.proofs.Hearing.{hears_none}
-use Rattle.wfe_server_out.proofs.Puts.{puts_lines_some}
-use Rattle.wfe_server_out.specs.Some.{AppendsSome}
-use Rattle.wfe_server_out.proofs.Texts.{AppendsSome-first, AppendsSome-then, text_of-append}
+use Rattle.wfe_server_out.specs.Pieces.{Text, heard_of, text_of}
+use Rattle.wfe_server_out.proofs.Texts.{text_of-append}
 use Rattle.wfe_watch.specs.Counts.{row_at, row_of}
 use Rattle.wfe_watch.specs.Garbage.{garbage_after, with_garbage}
 use Rattle.wfe_server_replay.specs.Playing.{Played}
@@ -32,6 +25,10 @@ counted_more rows seat told place event more e m =
     ap (counted_all rows seat) (drop_more told place event within)
     ∙ ap (λ (x : Event). counted_all (garbage_after rows seat x) seat (drop (place + 1) told)) (get_or_from_slice_get told place event event e)
     ∙ ap (λ (r : List WatchRow). counted_all r seat (drop (place + 1) told)) (sym m)
+
+-- no seat is left
+pub lines_over : (rows : List WatchRow) (seat : ℕ) → length rows ≤ seat → text_of (seat_lines seat (drop seat rows)) ≡ []
+lines_over rows seat past = ap (λ (r : List WatchRow). text_of (seat_lines seat r)) (drop_all seat rows past)
 
 -- the line of the next seat, and those after it
 pub lines_more : (rows : List WatchRow) (seat : ℕ) (row : WatchRow) → seat < length rows → row ≡ row_at rows seat
@@ -53,58 +50,18 @@ total_more count rows place row sum within e s =
     capped_sum (sum_by count (take place rows)) (count row) sum s
     ∙ ap (λ (n : ℕ). min n (2 ^ 64 - 1)) (sym (ap (sum_by count) (take_more rows place (row_of 0 0 0) within) ∙ sum_more count (take place rows) (row_at rows place) ∙ ap (λ (r : WatchRow). sum_by count (take place rows) + count r) (sym e)))
 
--- the lines so far, and the next one
-pub written_more : (old mid new : Option (List ℕ)) (rows : List WatchRow) (seat : ℕ) (row : WatchRow) (front : List ℕ) → seat < length rows → row ≡ row_at rows seat → text_of (seat_lines 0 rows) ≡ front ++ text_of (seat_lines seat (drop seat rows))
-    → Appends old mid front → Appends mid new (seat_line seat row)
-    → (more : List ℕ) × (text_of (seat_lines 0 rows) ≡ more ++ text_of (seat_lines (seat + 1) (drop (seat + 1) rows))) × Appends old new more
-written_more old mid new rows seat row front within e all wrote line = (
-  front ++ seat_line seat row,
-  all ∙ ap (λ (rest : List ℕ). front ++ rest) (lines_more rows seat row within e) ∙ sym (append_assoc front (seat_line seat row) (text_of (seat_lines (seat + 1) (drop (seat + 1) rows)))),
-  Appends-trans old mid new front (seat_line seat row) wrote line,
-)
-
-pub written_part : (old mid new : Option (List ℕ)) (rows : List WatchRow) (seat : ℕ) (row : WatchRow) (front : List ℕ) → seat < length rows → row ≡ row_at rows seat → text_of (seat_lines 0 rows) ≡ front ++ text_of (seat_lines seat (drop seat rows))
-    → Appends old mid front → AppendsSome mid new (seat_line seat row) → AppendsSome old new (text_of (seat_lines 0 rows))
-written_part old mid new rows seat row front within e all wrote part =
-    subst (AppendsSome old new) (sym (all ∙ ap (λ (rest : List ℕ). front ++ rest) (lines_more rows seat row within e)))
-    (AppendsSome-then old mid new front _ wrote (AppendsSome-first mid new (seat_line seat row) (text_of (seat_lines (seat + 1) (drop (seat + 1) rows))) part))
-
 -- the table's text: the lines of the seats, and the line of all
-pub table_text : (rows : List WatchRow) → text_of (table_pieces rows) ≡ text_of (seat_lines 0 rows) ++ total_line rows
+table_text : (rows : List WatchRow) → text_of (table_pieces rows) ≡ text_of (seat_lines 0 rows) ++ total_line rows
 table_text rows = text_of-append (seat_lines 0 rows) (Text (total_line rows) ∷ []) ∙ ap (λ (t : List ℕ). text_of (seat_lines 0 rows) ++ t) (append-nil (total_line rows))
 
 -- the table of a play, whose counts these are
-pub table_some : (old new : Option (List ℕ)) (s t : Played) → s ≡ t → AppendsSome old new (text_of (seat_lines 0 s.garbage)) → AppendsSome old new (text_of (table_pieces t.garbage))
-table_some old new s t e part =
-    subst (λ (p : Played). AppendsSome old new (text_of (table_pieces p.garbage))) e
-    (subst (AppendsSome old new) (sym (table_text s.garbage)) (AppendsSome-first old new (text_of (seat_lines 0 s.garbage)) (total_line s.garbage) part))
-
-pub table_part : (old mid new : Option (List ℕ)) (s t : Played) → s ≡ t → Appends old mid (text_of (seat_lines 0 s.garbage)) → AppendsSome mid new (total_line s.garbage) → AppendsSome old new (text_of (table_pieces t.garbage))
-table_part old mid new s t e wrote part =
-    subst (λ (p : Played). AppendsSome old new (text_of (table_pieces p.garbage))) e
-    (subst (AppendsSome old new) (sym (table_text s.garbage)) (AppendsSome-then old mid new (text_of (seat_lines 0 s.garbage)) (total_line s.garbage) wrote part))
-
-pub table_whole : (old mid new : Option (List ℕ)) (s t : Played) → s ≡ t → Appends old mid (text_of (seat_lines 0 s.garbage)) → Appends mid new (total_line s.garbage) → Appends old new (text_of (table_pieces t.garbage))
-table_whole old mid new s t e wrote last =
-    subst (λ (p : Played). Appends old new (text_of (table_pieces p.garbage))) e
-    (subst (Appends old new) (sym (table_text s.garbage)) (Appends-trans old mid new (text_of (seat_lines 0 s.garbage)) (total_line s.garbage) wrote last))
+pub table_is : (s t : Played) → s ≡ t → text_of (seat_lines 0 s.garbage) ++ total_line s.garbage ≡ text_of (table_pieces t.garbage)
+table_is s t e = sym (table_text s.garbage) ∙ ap (λ (p : Played). text_of (table_pieces p.garbage)) e
 
 -- no watcher is told of a table
 heard_none : (seat : ℕ) (rows : List WatchRow) (last : List ℕ) → heard_of (seat_lines seat rows ++ Text last ∷ []) ≡ []
 heard_none seat [] last = refl
 heard_none seat (row ∷ rows) last = heard_none (seat + 1) rows last
 
-pub puts_table : {W : Type 0} (seen : Seen W) (old new : Option (List ℕ)) (ws : List W) (rows : List WatchRow) → Appends old new (text_of (table_pieces rows)) → PutsOut seen old new ws ws (table_pieces rows)
-puts_table seen old new ws rows wrote = record { wrote = wrote; heard = subst (Hears seen ws ws) (sym (heard_none 0 rows (total_line rows))) (hears_none seen ws) }
-
-pub puts_table_some : {W : Type 0} (seen : Seen W) (old new : Option (List ℕ)) (ws : List W) (rows : List WatchRow) → AppendsSome old new (text_of (table_pieces rows)) → PutsSome seen old new ws ws (table_pieces rows)
-puts_table_some seen old new ws rows wrote = puts_lines_some seen old new ws (table_pieces rows) (heard_none 0 rows (total_line rows)) wrote
-
--- written, or in part, by another name of what a line puts out
-pub ok_table : {T E W : Type 0} (seen : Seen W) (old new : Option (List ℕ)) (ws : List W) (r : Result T E) (rows : List WatchRow) (out : List Piece) → table_pieces rows ≡ out → OnOk r (Appends old new (text_of (table_pieces rows))) → OnOk r (PutsOut seen old new ws ws out)
-ok_table seen old new ws (Ok x) rows out e wrote = subst (PutsOut seen old new ws ws) e (puts_table seen old new ws rows wrote)
-ok_table seen old new ws (Err x) rows out e wrote = tt
-
-pub err_table : {T E W : Type 0} (seen : Seen W) (old new : Option (List ℕ)) (ws : List W) (r : Result T E) (rows : List WatchRow) (out : List Piece) → table_pieces rows ≡ out → OnErr r (AppendsSome old new (text_of (table_pieces rows))) → OnErr r (PutsSome seen old new ws ws out)
-err_table seen old new ws (Ok x) rows out e wrote = tt
-err_table seen old new ws (Err x) rows out e wrote = subst (PutsSome seen old new ws ws) e (puts_table_some seen old new ws rows wrote)
+pub table_quiet : (rows : List WatchRow) → heard_of (table_pieces rows) ≡ []
+table_quiet rows = heard_none 0 rows (total_line rows)

@@ -1,27 +1,10 @@
 -- The lines of watchers, row by row and watcher by watcher.
-use Rattle.std.proofs.Common.{List, [], ap, append-nil, append_assoc, arith, drop, get_or, length, refl, subst, sym, ℕ, ◌++◌, ◌+◌, ◌<◌, ◌≤◌, ◌∙◌, ◌≡◌}
+use Rattle.std.proofs.Common.{List, [], ap, arith, drop, get_or, length, refl, subst, sym, ℕ, ◌++◌, ◌+◌, ◌<◌, ◌≤◌, ◌∙◌, ◌≡◌}
 use Rattle.std.proofs.lemmas.List.{drop_all, drop_more}
 use Rattle.std.proofs.lemmas.List.FromFn.{get_or-map-range_with_len, length-map-range_with_len}
-use Rattle.std.proofs.KnownBytes.{Appends-trans}
-use Rattle.std.specs.Io.KnownBytes.{Appends}
-use Rattle.std.specs.Prelude.{Option}
 use Rattle.wfe_outside.specs.declared.watcher.WatchRow.{WatchRow}
-use Rattle.wfe_server_out.specs.Some.{AppendsSome}
-use Rattle.wfe_server_out.proofs.Texts.{AppendsSome-first, AppendsSome-then}
 use Rattle.wfe_trace.specs.Record.{watch_line}
 use Rattle.wfe_server_replay.specs.Watched.{rows_of, rows_text, watch_from}
-use Rattle.wfe_server_out.proofs.Written.{Wrote}
-
-pub fronts_more : (old mid new : Option (List ℕ)) (all line rest more : List ℕ) → rest ≡ line ++ more → Wrote old mid all rest → Appends mid new line → Wrote old new all more
-fronts_more old mid new all line rest more e f wrote = record {
-  front = f.front ++ line;
-  split = f.split ∙ ap (λ (t : List ℕ). f.front ++ t) e ∙ sym (append_assoc f.front line more);
-  wrote = Appends-trans old mid new f.front line f.wrote wrote;
-}
-
-pub fronts_part : (old mid new : Option (List ℕ)) (all line rest more : List ℕ) → rest ≡ line ++ more → Wrote old mid all rest → AppendsSome mid new line → AppendsSome old new all
-fronts_part old mid new all line rest more e f part =
-    subst (AppendsSome old new) (sym (f.split ∙ ap (λ (t : List ℕ). f.front ++ t) e)) (AppendsSome-then old mid new f.front (line ++ more) f.wrote (AppendsSome-first mid new line more part))
 
 -- the next row of a watcher
 pub row_next : {W : Type 0} (shown : W → ℕ) (shows : W → ℕ → WatchRow) (watcher : W) (place row : ℕ) (r : WatchRow) → row < shown watcher → r ≡ shows watcher row
@@ -41,10 +24,12 @@ watcher_next rows place watchers w within e =
     ap (watch_from rows place) (drop_more watchers place w within)
     ∙ ap (λ x. rows_text place (rows x) ++ watch_from rows (place + 1) (drop (place + 1) watchers)) (sym e)
 
--- all rows are written
-pub rows_written : {W : Type 0} (shown : W → ℕ) (shows : W → ℕ → WatchRow) (old new : Option (List ℕ)) (all : List ℕ) (watcher : W) (place row : ℕ) → shown watcher ≤ row
-    → Wrote old new all (rows_text place (drop row (rows_of shown shows watcher))) → Appends old new all
-rows_written shown shows old new all watcher place row past f =
+-- no row is left
+pub rows_over : {W : Type 0} (shown : W → ℕ) (shows : W → ℕ → WatchRow) (watcher : W) (place row : ℕ) → shown watcher ≤ row → rows_text place (drop row (rows_of shown shows watcher)) ≡ []
+rows_over shown shows watcher place row past =
     let many : length (rows_of shown shows watcher) ≡ shown watcher = length-map-range_with_len (shows watcher) 0 (shown watcher) in
-    let none : drop row (rows_of shown shows watcher) ≡ [] = drop_all row (rows_of shown shows watcher) (subst (λ (n : ℕ). n ≤ row) (sym many) past) in
-    subst (Appends old new) (sym (f.split ∙ ap (λ (rows : List WatchRow). f.front ++ rows_text place rows) none ∙ append-nil f.front)) f.wrote
+    ap (rows_text place) (drop_all row (rows_of shown shows watcher) (subst (λ (n : ℕ). n ≤ row) (sym many) past))
+
+-- no watcher is left
+pub watchers_over : {W : Type 0} (rows : W → List WatchRow) (place : ℕ) (watchers : List W) → length watchers ≤ place → watch_from rows place (drop place watchers) ≡ []
+watchers_over rows place watchers past = ap (watch_from rows place) (drop_all place watchers past)

@@ -1,19 +1,14 @@
 // A table that takes the lines of a trace.
-ghost use Rattle.wfe_server_out.specs.Emits.{Emits};
+ghost use Rattle.wfe_server_out.specs.Emits.{Emits, Writes};
 ghost use Rattle.wfe_server_out.specs.Heard.{boxed};
-ghost use Rattle.std.specs.Prelude.{◌≡◌, ◌<◌, ◌≤◌, IfErr, IfOk, None, OnErr, OnOk, [], ◌∷◌, false, length, true};
-ghost use Rattle.wfe_core.specs.Locals.{busy_in};
-ghost use Rattle.wfe_drive.specs.drive_cells.Unit.{seat_at};
+ghost use Rattle.std.specs.Prelude.{◌≡◌, ◌<◌, IfErr, IfOk, None, OnOk, [], ◌∷◌, false, length, true};
 ghost use Rattle.wfe_drive.specs.Reached.{units_left};
 ghost use Rattle.wfe_outside.specs.defs.Entry.{entry};
-ghost use Rattle.wfe_outside.specs.Faults.{Rose};
 ghost use Rattle.wfe_server_replay.specs.Counts.{back_in_all, counted_all, retired_in_all, seat_line, seat_lines, table_pieces, total_line};
 ghost use Rattle.wfe_server_replay.specs.Playing.{Played, call_most, is_playing, opened, played, played_out, player, seats_out, seats_run, started, unit_made, unit_out, units_made, units_out};
-ghost use Rattle.wfe_server_out.specs.Pieces.{text_of, told_pieces};
+ghost use Rattle.wfe_server_out.specs.Pieces.{text_of};
 ghost use Rattle.wfe_server_out.specs.Pieces.{Told as told_piece};
-ghost use Rattle.std.specs.Io.KnownBytes.{Appends};
 ghost use Rattle.wfe_server_replay.specs.Trace.{is_refused};
-ghost use Rattle.wfe_server_out.specs.Some.{AppendsSome};
 ghost use Rattle.wfe_trace.specs.Body.{IsCommandWithin};
 ghost use Rattle.wfe_trace.specs.words.Config.{bad_field};
 
@@ -158,10 +153,8 @@ impl<E: Engine> Play<E> {
 
     // Writes the table of counts.
     fn put_table<K: Sink>(&self, sink: &mut K) -> Result<(), Fault>
-        ensures wrote { OnOk result (Appends (K.written sink.old) (K.written sink.new) (text_of (table_pieces self.now.garbage))) }
-        ensures some { OnErr result (AppendsSome (K.written sink.old) (K.written sink.new) (text_of (table_pieces self.now.garbage))) }
-        ensures later { K.faults sink.old ≤ K.faults sink.new }
-        ensures cause { IfErr result (λ fault. (fault ≡ Fault.Write) × Rose K.may_stand (K.faults sink.old) (K.faults sink.new)) }
+        ensures writes { Writes K.written K.faults K.may_stand result sink.old sink.new (text_of (table_pieces self.now.garbage)) }
+        ensures fault { IfErr result (λ fault. fault ≡ Fault.Write) }
     {
         put_seats(&self.garbage, self.seats, sink)?;
         put_total(&self.garbage, sink)?;
@@ -221,10 +214,7 @@ fn count_all(garbage: &mut GarbageCounter, seat: u32, told: &Told)
 
 // Writes the line of a seat.
 fn put_seat<K: Sink>(seat: u32, row: WatchRow, sink: &mut K) -> Result<(), Failed>
-    ensures wrote { OnOk result (Appends (K.written sink.old) (K.written sink.new) (seat_line seat row)) }
-    ensures some { OnErr result (AppendsSome (K.written sink.old) (K.written sink.new) (seat_line seat row)) }
-    ensures later { K.faults sink.old ≤ K.faults sink.new }
-    ensures cause { OnErr result (Rose K.may_stand (K.faults sink.old) (K.faults sink.new)) }
+    ensures { Writes K.written K.faults K.may_stand result sink.old sink.new (seat_line seat row) }
 {
     let mut line = Line::new();
     let waiting = row.b.saturating_sub(row.c);
@@ -235,10 +225,7 @@ fn put_seat<K: Sink>(seat: u32, row: WatchRow, sink: &mut K) -> Result<(), Faile
 // Writes the lines of the seats.
 fn put_seats<K: Sink>(garbage: &GarbageCounter, seats: u32, sink: &mut K) -> Result<(), Failed>
     requires { length garbage.now ≡ seats }
-    ensures wrote { OnOk result (Appends (K.written sink.old) (K.written sink.new) (text_of (seat_lines 0 garbage.now))) }
-    ensures some { OnErr result (AppendsSome (K.written sink.old) (K.written sink.new) (text_of (seat_lines 0 garbage.now))) }
-    ensures later { K.faults sink.old ≤ K.faults sink.new }
-    ensures cause { OnErr result (Rose K.may_stand (K.faults sink.old) (K.faults sink.new)) }
+    ensures { Writes K.written K.faults K.may_stand result sink.old sink.new (text_of (seat_lines 0 garbage.now)) }
 {
     for seat in 0..seats {
         put_seat(seat, garbage.row(seat as u64), sink)?;
@@ -262,10 +249,7 @@ fn totals(garbage: &GarbageCounter) -> (u64, u64)
 
 // Writes the line of all seats together.
 fn put_total<K: Sink>(garbage: &GarbageCounter, sink: &mut K) -> Result<(), Failed>
-    ensures wrote { OnOk result (Appends (K.written sink.old) (K.written sink.new) (total_line garbage.now)) }
-    ensures some { OnErr result (AppendsSome (K.written sink.old) (K.written sink.new) (total_line garbage.now)) }
-    ensures later { K.faults sink.old ≤ K.faults sink.new }
-    ensures cause { OnErr result (Rose K.may_stand (K.faults sink.old) (K.faults sink.new)) }
+    ensures { Writes K.written K.faults K.may_stand result sink.old sink.new (total_line garbage.now) }
 {
     let (retired, back) = totals(garbage);
     let mut line = Line::new();

@@ -1,9 +1,7 @@
 // The rows of the watchers, as the last lines of a record print them.
-ghost use Rattle.std.specs.Prelude.{◌≡◌, ◌≤◌, ◌<◌, OnErr, OnOk};
-ghost use Rattle.std.specs.Io.KnownBytes.{Appends};
-ghost use Rattle.wfe_outside.specs.Faults.{Rose};
+ghost use Rattle.std.specs.Prelude.{◌≡◌, ◌<◌};
 ghost use Rattle.wfe_server_replay.specs.Watched.{rows_of, rows_text, watch_text};
-ghost use Rattle.wfe_server_out.specs.Some.{AppendsSome};
+ghost use Rattle.wfe_server_out.specs.Emits.{Writes};
 ghost use Rattle.wfe_trace.specs.Record.{watch_line};
 
 use wfe_outside::{Failed, Sink, WatchRow, Watcher};
@@ -12,10 +10,7 @@ use wfe_trace::{Line, print_watch};
 
 // Writes the line of a row.
 fn put_row<K: Sink>(sink: &mut K, place: u64, row: WatchRow) -> Result<(), Failed>
-    ensures wrote { OnOk result (Appends (K.written sink.old) (K.written sink.new) (watch_line place row.a row.b row.c)) }
-    ensures some { OnErr result (AppendsSome (K.written sink.old) (K.written sink.new) (watch_line place row.a row.b row.c)) }
-    ensures later { K.faults sink.old ≤ K.faults sink.new }
-    ensures cause { OnErr result (Rose K.may_stand (K.faults sink.old) (K.faults sink.new)) }
+    ensures { Writes K.written K.faults K.may_stand result sink.old sink.new (watch_line place row.a row.b row.c) }
 {
     let mut line = Line::new();
     print_watch(place, row.a, row.b, row.c, &mut line);
@@ -39,10 +34,7 @@ fn row_in(watcher: &Box<dyn Watcher>, place: u64) -> WatchRow
 
 // Writes the rows of a watcher.
 fn put_rows<K: Sink>(sink: &mut K, place: u64, watcher: &Box<dyn Watcher>) -> Result<(), Failed>
-    ensures wrote { OnOk result (Appends (K.written sink.old) (K.written sink.new) (rows_text place (rows_of shown shows watcher.now))) }
-    ensures some { OnErr result (AppendsSome (K.written sink.old) (K.written sink.new) (rows_text place (rows_of shown shows watcher.now))) }
-    ensures later { K.faults sink.old ≤ K.faults sink.new }
-    ensures cause { OnErr result (Rose K.may_stand (K.faults sink.old) (K.faults sink.new)) }
+    ensures { Writes K.written K.faults K.may_stand result sink.old sink.new (rows_text place (rows_of shown shows watcher.now)) }
 {
     for row in 0..count_in(watcher) {
         put_row(sink, place, row_in(watcher, row))?;
@@ -52,10 +44,7 @@ fn put_rows<K: Sink>(sink: &mut K, place: u64, watcher: &Box<dyn Watcher>) -> Re
 
 /// Writes the rows of all watchers, each with the watcher's place in the list.
 pub fn put_watched<K: Sink>(sink: &mut K, watchers: &[Box<dyn Watcher>]) -> Result<(), Failed>
-    ensures wrote { OnOk result (Appends (K.written sink.old) (K.written sink.new) (watch_text shown shows watchers.now)) }
-    ensures some { OnErr result (AppendsSome (K.written sink.old) (K.written sink.new) (watch_text shown shows watchers.now)) }
-    ensures later { K.faults sink.old ≤ K.faults sink.new }
-    ensures cause { OnErr result (Rose K.may_stand (K.faults sink.old) (K.faults sink.new)) }
+    ensures { Writes K.written K.faults K.may_stand result sink.old sink.new (watch_text shown shows watchers.now) }
 {
     for place in 0..watchers.len() {
         put_rows(sink, place as u64, &watchers[place])?;

@@ -3,10 +3,15 @@ use Rattle.std.proofs.lemmas.List.{take_rest}
 use Rattle.wfe_server_out.proofs.Texts.{AppendsSome-front, Appends-front, on_err}
 use Rattle.wfe_server_out.proofs.write.write_all.Goals as goal
 
-pub returns-in_err-count-clause-some : goal.returns-in_err-count-clause-some
-returns-in_err-count-clause-some g c =
+pub returns-in_err-count : goal.returns-in_err-count
+returns-in_err-count g c =
     let front = c.loop-rest.invariant.written in
-    on_err c.from_residual.result (AppendsSome-front _ _ _ _ front.0 _ front.1 front.2 c.in_err-count.ensures.bytes)
+    record {
+      wrote = search rules;
+      some = on_err c.from_residual.result (AppendsSome-front _ _ _ _ front.0 _ front.1 front.2 c.in_err-count.ensures.bytes);
+      later = search rules;
+      cause = search rules;
+    }
 
 pub loop-rest-preserved : goal.loop-rest-preserved
 loop-rest-preserved g c =

@@ -1,13 +1,11 @@
-use Rattle.std.proofs.Common.{drop, ◌≤◌}
+use Rattle.std.proofs.Common.{drop}
 use Rattle.wfe_server_replay.specs.Watched.{rows_of, watch_from}
 use Rattle.wfe_server_replay.proofs.watched.put_watched.Given as goal
 use Rattle.wfe_server_out.proofs.Written.{Wrote}
 
 -- the rows of the watchers before this one are written
 abbrev pub invariant-loop-place : goal.invariant-loop-place
-invariant-loop-place g l = record {
-  fronts : Wrote (g.K.Sink.written l.fn.sink) (g.K.Sink.written l.sink)
-      (watch_from (rows_of (λ b. (goal.Watcher-dyn g (b.vtable, b.value)).shown b.value) (λ b. (goal.Watcher-dyn g (b.vtable, b.value)).shows b.value)) 0 l.watchers)
-      (watch_from (rows_of (λ b. (goal.Watcher-dyn g (b.vtable, b.value)).shown b.value) (λ b. (goal.Watcher-dyn g (b.vtable, b.value)).shows b.value)) l.place (drop l.place l.watchers));
-  later : g.K.Sink.faults l.fn.sink ≤ g.K.Sink.faults l.sink;
-}
+invariant-loop-place g l =
+    Wrote g.K.Sink.written g.K.Sink.faults g.K.Sink.may_stand l.fn.sink l.sink
+    (watch_from (rows_of (λ b. (goal.Watcher-dyn g (b.vtable, b.value)).shown b.value) (λ b. (goal.Watcher-dyn g (b.vtable, b.value)).shows b.value)) 0 l.watchers)
+    (watch_from (rows_of (λ b. (goal.Watcher-dyn g (b.vtable, b.value)).shown b.value) (λ b. (goal.Watcher-dyn g (b.vtable, b.value)).shows b.value)) l.place (drop l.place l.watchers))

@@ -1,7 +1,9 @@
-use Rattle.std.proofs.Common.{rules, subst}
-use Rattle.wfe_server_out.specs.Some.{AppendsSome}
-use Rattle.wfe_server_out.proofs.Puts.{puts_some_none, puts_text_some}
+use Rattle.std.proofs.Common.{append-nil, refl, rules, sym, Err, ◌≡◌, ◌∙◌}
+use Rattle.wfe_server_out.specs.declared.fault.Fault.TheVariants as faults
+use Rattle.wfe_server_out.proofs.Emits.{emits_text}
+use Rattle.wfe_server_out.proofs.Puts.{puts_some_none}
 use Rattle.wfe_server_out.proofs.Texts.{on_err}
+use Rattle.wfe_server_out.proofs.Written.{writes_fault, writes_of}
 use Rattle.wfe_server_replay.proofs.progress.Work.open.Goals as goal
 
 pub returns-in_err-open-clause-emits : goal.returns-in_err-open-clause-emits
@@ -13,9 +15,6 @@ returns-in_err-open-clause-emits g c = record {
 }
 
 pub returns-in_err-put_line-clause-emits : goal.returns-in_err-put_line-clause-emits
-returns-in_err-put_line-clause-emits g c = record {
-  put = search rules;
-  some = on_err c.from_residual-in_err-put_line.result (puts_text_some _ _ _ _ _ (subst (AppendsSome _ _) c.print_header.ensures.text c.in_err-put_line.ensures.some));
-  later = search rules;
-  cause = search rules;
-}
+returns-in_err-put_line-clause-emits g c =
+    let came : c.from_residual-in_err-put_line.result ≡ Err faults.Write = search rules in
+    emits_text refl (writes_fault came (writes_of (c.print_header.ensures.text ∙ sym (append-nil _)) c.in_err-put_line.ensures))
