@@ -11,8 +11,9 @@ ghost use Rattle.wfe_server.specs.server_replay.Watched.{watch_text};
 use std::alloc::Global;
 use std::thread::Threads;
 use wfe_cli_job::{Job, job_of};
+use wfe_drive_table::TableCells;
 use wfe_outside::{Sink, Source, Watcher};
-use wfe_server::{PlainCells, Rig, generate, replay};
+use wfe_server::{Rig, generate, replay};
 use wfe_server_out::write_all;
 use wfe_trace::Status;
 
@@ -49,9 +50,9 @@ fn perform<S: Source, K: Sink>(
     ensures write { result ≡ Status.WriteFault → Rose K.may_stand (K.faults sink.old) (K.faults sink.new) }
 {
     match job {
-        Job::Replay => replay::<Rig<PlainCells>, S, K>(alloc, source, sink, watchers),
+        Job::Replay => replay::<Rig<TableCells>, S, K>(alloc, source, sink, watchers),
         Job::Generate { seed, turns } => {
-            generate::<Rig<PlainCells>, K>(alloc, seed, turns, sink, watchers)
+            generate::<Rig<TableCells>, K>(alloc, seed, turns, sink, watchers)
         }
     }
 }
