@@ -1,6 +1,8 @@
 -- What a piece of work put out: to a sink, and to watchers.
 use Rattle.wfe_server_out.specs.Heard.{Hears, Seen}
-use Rattle.std.specs.Prelude.{Err, List, Ok, Option, Result, ℕ, ◌++◌, ◌≡◌, ◌⊎◌}
+use Rattle.std.specs.Prelude.{Bool, Err, IfErr, List, Ok, Option, Result, ℕ, ◌++◌, ◌≡◌, ◌≤◌, ◌⊎◌}
+use Rattle.wfe_outside.specs.Faults.{Rose}
+use Rattle.wfe_server_out.specs.declared.fault.Fault.TheVariants as fault_kinds
 use Rattle.wfe_server_out.specs.Pieces.{Piece, heard_of}
 use Rattle.wfe_server_out.specs.PutOut.{PutsOut, PutsSome}
 use Rattle.wfe_trace.specs.declared.reason.BadLine.{BadLine}
@@ -33,6 +35,12 @@ StopsAt seen (stops.Fault fault) verdict old new out = PutsPart seen old new out
 abbrev pub Took : {W T : Type 0} → Seen W → Result T Stop → Result (Progress Played) BadLine → Progress Played → Outside W → Outside W → List Piece → Type 0
 Took seen (Ok x) verdict now old new out = (verdict ≡ Ok now) × Puts seen old new out
 Took seen (Err stop) verdict now old new out = StopsAt seen stop verdict old new out
+
+-- The same, by what is seen of the sink. The count of failed writes did not fall, and where a write is the fault, it rose.
+pub record Takes {K W T : Type 0} (seen : Seen W) (written : K → Option (List ℕ)) (faults : K → ℕ) (may_stand : Bool) (result : Result T Stop) (old new : K) (before after : List W) (verdict : Result (Progress Played) BadLine) (now : Progress Played) (out : List Piece) : Type 0 where
+  pub took : Took seen result verdict now (outside (written old) before) (outside (written new) after) out
+  pub later : faults old ≤ faults new
+  pub cause : IfErr result (λ stop. stop ≡ stops.Fault fault_kinds.Write → Rose may_stand (faults old) (faults new))
 
 -- All lines of a trace were put out, and the work stopped in the lines after them: the first bad byte or the end had been read, and each watcher has heard the whole record.
 pub record StopsAfter {W : Type 0} (seen : Seen W) (found : Type 0) (lines last : List Piece) (old new : Outside W) : Type 0 where

@@ -1,11 +1,10 @@
 // A trace as its bytes come, and the table that takes its lines.
 ghost use Rattle.wfe_server_out.specs.Emits.{Emits};
 ghost use Rattle.wfe_server_out.specs.Heard.{boxed};
-ghost use Rattle.std.specs.Prelude.{◌≡◌, ◌≤◌, ◌<◌, length, OnOk, IfOk, IfErr, MatchResult, None, Some, Ok, Err, [], ◌∷◌, true};
-ghost use Rattle.wfe_outside.specs.Faults.{Rose};
+ghost use Rattle.std.specs.Prelude.{◌≡◌, ◌<◌, length, OnOk, IfOk, MatchResult, None, Some, Ok, Err, [], ◌∷◌, true};
 ghost use Rattle.wfe_server_replay.specs.Opening.{FitsTable, ItemFits, MayPlay, MayTake};
 ghost use Rattle.wfe_server_replay.specs.Playing.{player};
-ghost use Rattle.wfe_server_replay.specs.Sunk.{Took, outside};
+ghost use Rattle.wfe_server_replay.specs.Sunk.{Takes};
 ghost use Rattle.wfe_server_replay.specs.Trace.{Progress, progress_start, bad_line, is_refused_in, command_taken, out_in, item_taken, out_by, refuses as does_refuse, line_item, line_read, after_line, line_output, byte_refused, counted, after_byte, byte_output, after_bytes, bytes_output, after_last, last_output, at_end, finished};
 ghost use Rattle.wfe_server_out.specs.Pieces.{Text};
 ghost use Rattle.wfe_trace.specs.Good.{is_body};
@@ -193,9 +192,8 @@ impl<E: Engine> Work<E> {
         sink: &mut K,
         watchers: &mut [Box<dyn Watcher>],
     ) -> Result<(), Stop>
-        ensures took { Took (boxed stands) result (after_line player self.old) self.new (outside (K.written sink.old) watchers.old) (outside (K.written sink.new) watchers.new) (line_output player self.old) }
-        ensures later { K.faults sink.old ≤ K.faults sink.new }
-        ensures cause { IfErr result (λ stop. stop ≡ Stop.Fault Fault.Write → Rose K.may_stand (K.faults sink.old) (K.faults sink.new)) }
+        ensures { Takes (boxed stands) K.written K.faults K.may_stand result sink.old sink.new watchers.old watchers.new
+            (after_line player self.old) self.new (line_output player self.old) }
     {
         let item = match self.read() {
             Ok(item) => item,
@@ -223,9 +221,8 @@ impl<E: Engine> Work<E> {
         sink: &mut K,
         watchers: &mut [Box<dyn Watcher>],
     ) -> Result<(), Stop>
-        ensures took { Took (boxed stands) result (after_byte player self.old byte) self.new (outside (K.written sink.old) watchers.old) (outside (K.written sink.new) watchers.new) (byte_output player self.old byte) }
-        ensures later { K.faults sink.old ≤ K.faults sink.new }
-        ensures cause { IfErr result (λ stop. stop ≡ Stop.Fault Fault.Write → Rose K.may_stand (K.faults sink.old) (K.faults sink.new)) }
+        ensures { Takes (boxed stands) K.written K.faults K.may_stand result sink.old sink.new watchers.old watchers.new
+            (after_byte player self.old byte) self.new (byte_output player self.old byte) }
     {
         if let Some(reason) = self.refused(byte) {
             return Err(Stop::Bad {
@@ -248,9 +245,8 @@ impl<E: Engine> Work<E> {
         sink: &mut K,
         watchers: &mut [Box<dyn Watcher>],
     ) -> Result<(), Stop>
-        ensures took { Took (boxed stands) result (after_bytes player (Ok self.old) bytes.now) self.new (outside (K.written sink.old) watchers.old) (outside (K.written sink.new) watchers.new) (bytes_output player (Ok self.old) bytes.now) }
-        ensures later { K.faults sink.old ≤ K.faults sink.new }
-        ensures cause { IfErr result (λ stop. stop ≡ Stop.Fault Fault.Write → Rose K.may_stand (K.faults sink.old) (K.faults sink.new)) }
+        ensures { Takes (boxed stands) K.written K.faults K.may_stand result sink.old sink.new watchers.old watchers.new
+            (after_bytes player (Ok self.old) bytes.now) self.new (bytes_output player (Ok self.old) bytes.now) }
     {
         for byte in bytes {
             match self.take_byte(alloc, *byte, sink, watchers) {
@@ -268,9 +264,8 @@ impl<E: Engine> Work<E> {
         sink: &mut K,
         watchers: &mut [Box<dyn Watcher>],
     ) -> Result<(), Stop>
-        ensures took { Took (boxed stands) result (after_last player self.old) self.new (outside (K.written sink.old) watchers.old) (outside (K.written sink.new) watchers.new) (last_output player self.old) }
-        ensures later { K.faults sink.old ≤ K.faults sink.new }
-        ensures cause { IfErr result (λ stop. stop ≡ Stop.Fault Fault.Write → Rose K.may_stand (K.faults sink.old) (K.faults sink.new)) }
+        ensures { Takes (boxed stands) K.written K.faults K.may_stand result sink.old sink.new watchers.old watchers.new
+            (after_last player self.old) self.new (last_output player self.old) }
     {
         if self.line.is_empty() {
             return Ok(());
@@ -296,9 +291,8 @@ impl<E: Engine> Work<E> {
         sink: &mut K,
         watchers: &mut [Box<dyn Watcher>],
     ) -> Result<(), Stop>
-        ensures took { Took (boxed stands) result (finished player self.old) self.new (outside (K.written sink.old) watchers.old) (outside (K.written sink.new) watchers.new) (last_output player self.old) }
-        ensures later { K.faults sink.old ≤ K.faults sink.new }
-        ensures cause { IfErr result (λ stop. stop ≡ Stop.Fault Fault.Write → Rose K.may_stand (K.faults sink.old) (K.faults sink.new)) }
+        ensures { Takes (boxed stands) K.written K.faults K.may_stand result sink.old sink.new watchers.old watchers.new
+            (finished player self.old) self.new (last_output player self.old) }
     {
         match self.take_last(alloc, sink, watchers) {
             Ok(()) => {}
