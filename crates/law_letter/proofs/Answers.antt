@@ -1,9 +1,7 @@
 -- What calls answer, from what histories keep.
-use Rattle.std.proofs.Common.{ℕ, ◌≡◌, Bool, true, false, refl, sym, arith, None, Some, Option, subst, ◌∙◌, ap, ◌+◌, ◌-◌, ◌≤◌, ◌<◌, List, [], ◌∷◌, ◌++◌, length}
-use Rattle.std.proofs.lemmas.Bool.Decides.{nat_tests}
-use Rattle.std.specs.Prelude.{◌==◌, if◌then◌else◌, ◌&&◌, ◌||◌, not, is_none, nat_lt, nat_le, ◌%◌}
-use Rattle.laws.proofs.records.Entries.{each_of_entries, entries_of_each}
-use Rattle.laws.proofs.records.defs.Facts.{both, first_of, rest_of, number_is, same_number}
+use Rattle.std.proofs.Common.{ℕ, ◌≡◌, Bool, true, false, refl, sym, arith, None, Some, Option, ◌∙◌, ap, ◌+◌, ◌-◌, List, [], ◌∷◌, ◌++◌, length}
+use Rattle.std.specs.Prelude.{◌==◌, if◌then◌else◌, ◌&&◌, ◌||◌, not, nat_lt, nat_le, ◌%◌}
+use Rattle.laws.proofs.records.defs.Facts.{both, first_of, rest_of}
 use Rattle.laws.specs.AnswerLaw as weak
 use Rattle.laws.specs.AnswerLaw.{suits, same_event}
 use Rattle.laws.specs.HistoryAnswers as strong
@@ -14,15 +12,15 @@ use Rattle.laws.specs.HistoryScans.{count_ok, answers_scan}
 use Rattle.laws.specs.HistoryTurns.{open_ok}
 use Rattle.laws.specs.QueueLaw.{empty_ok}
 use Rattle.laws.specs.ScanLaw.{guards, is_scan_call}
-use Rattle.laws.specs.StateAt.{began_by, began_of, call_of, is_open, opened_by, seen, times, told_of, with_told, stood_at, stands, is_bare, is_row, was_empty, has_told, is_dequeue, is_read, is_back, list_of, count_of, changed_of, had_version, is_there, pairs_at, bucket_of}
-use Rattle.laws.specs.defs.Events.{is_null, is_held}
+use Rattle.laws.specs.StateAt.{began_of, call_of, is_open, seen, times, told_of, with_told, was_empty, has_told, is_dequeue, is_read, is_back, list_of, changed_of, had_version, is_there, pairs_at, bucket_of}
+use Rattle.laws.specs.defs.Events.{is_null}
 use Rattle.laws.specs.defs.declared.call.Answer.{Answer}
 use Rattle.laws.specs.defs.declared.call.Answer.TheVariants as answers
 use Rattle.laws.specs.defs.declared.call.Call.{Call}
 use Rattle.laws.specs.defs.declared.call.Call.TheVariants as calls
 use Rattle.laws.specs.defs.declared.event.Event.{Event}
 use Rattle.laws.specs.defs.declared.event.Event.TheVariants as events
-use Rattle.laws.specs.records.Record.{Past, Each, told_since, begins, own}
+use Rattle.laws.specs.records.Record.{Past, Each}
 use Rattle.laws.specs.records.Record.Past.{Start, Then}
 use Rattle.laws.specs.words.declared.config.Config.{Config}
 use Rattle.law_letter.proofs.Each.{each_weaker, counted_by, times_seen}

@@ -1,5 +1,5 @@
 -- What calls answer of the clock, how a call that finds no room has sought one, and how often calls begin anew.
-use Rattle.std.proofs.Common.{ℕ, ◌≡◌, Bool, true, false, refl, sym, arith, None, Some, Option, subst, ◌∙◌, ap, ◌+◌, ◌-◌, ◌≤◌, ◌<◌, List, [], ◌∷◌}
+use Rattle.std.proofs.Common.{ℕ, ◌≡◌, Bool, true, false, refl, sym, arith, ◌∙◌, ap, ◌+◌, ◌-◌, ◌<◌, List, ◌∷◌}
 use Rattle.std.proofs.lemmas.Bool.Decides.{nat_tests}
 use Rattle.std.specs.Prelude.{◌==◌, if◌then◌else◌, ◌&&◌, ◌||◌, not, is_none, nat_lt, nat_le, ◌%◌}
 use Rattle.laws.proofs.records.defs.Facts.{both, first_of, rest_of, number_is}
@@ -8,14 +8,12 @@ use Rattle.laws.specs.AnswerLaw.{from_of, moves_of, moves_before}
 use Rattle.laws.specs.HistoryAnswers as strong
 use Rattle.laws.specs.HistoryAnswers.{plain_clock, plain_clock_by, is_era}
 use Rattle.laws.specs.HistoryEras.{may_move, plain_moves_ok}
-use Rattle.laws.specs.HistoryScans.{Course, Search, search_by, search_of, no_search, moved_course, plain_tally, plain_by, first_course, retired_course, read_course, seeks_row}
+use Rattle.laws.specs.HistoryScans.{Course, Search, search_by, search_of, no_search, moved_course, plain_tally, plain_by, read_course}
 use Rattle.laws.specs.HistoryScans.Course.{Plain, Advancing, MayScan, MustScan, Reading}
 use Rattle.laws.specs.ScanLaw.{guards, blocks_of}
 use Rattle.laws.specs.StateAt.{began_of, clock_of, finds_of, has_told, is_among, is_give, is_read, seen, taken_since, times}
 use Rattle.laws.specs.defs.declared.call.Answer.{Answer}
 use Rattle.laws.specs.defs.declared.call.Answer.TheVariants as answers
-use Rattle.laws.specs.defs.declared.call.Call.{Call}
-use Rattle.laws.specs.defs.declared.call.Call.TheVariants as calls
 use Rattle.laws.specs.defs.declared.call.ClockMove.{ClockMove}
 use Rattle.laws.specs.defs.declared.call.ClockMove.TheVariants as moves
 use Rattle.laws.specs.defs.declared.event.Event.{Event}
@@ -23,7 +21,7 @@ use Rattle.laws.specs.defs.declared.event.Event.TheVariants as events
 use Rattle.laws.specs.records.Record.{Past, Each}
 use Rattle.laws.specs.records.Record.Past.{Start, Then}
 use Rattle.laws.specs.words.declared.config.Config.{Config}
-use Rattle.law_letter.proofs.Each.{each_weaker, each_three, counted_by, times_seen, related}
+use Rattle.law_letter.proofs.Each.{each_weaker, counted_by, times_seen, related}
 use Rattle.law_letter.proofs.Held.{all_right}
 use Rattle.law_letter.proofs.Scans.{Courses, before_last, reads_begun}
 

@@ -2,7 +2,7 @@
 use Rattle.std.proofs.Common.{ℕ, ◌≡◌, Bool, true, false, refl, None, Some, Option, ◌<◌}
 use Rattle.std.specs.Prelude.{◌==◌, ◌&&◌, ◌||◌, not, nat_le, nat_lt, if◌then◌else◌}
 use Rattle.laws.proofs.records.Entries.{each_of_entries, entries_of_each}
-use Rattle.laws.proofs.records.defs.Facts.{both, first_of, rest_of}
+use Rattle.laws.proofs.records.defs.Facts.{both, rest_of}
 use Rattle.laws.specs.EraLaw as weak
 use Rattle.laws.specs.EraLaw.{EraLaw, is_one_era, span_rises, moves_ok}
 use Rattle.laws.specs.HistoryEras as strong
@@ -18,7 +18,7 @@ use Rattle.laws.specs.defs.declared.event.Guard.TheVariants.{Helper, Index, Whol
 use Rattle.laws.specs.defs.declared.lifetime.Interval.{Interval}
 use Rattle.laws.specs.records.Record.{Past, Each, EachEntry, own}
 use Rattle.laws.specs.records.Record.Past.{Start, Then}
-use Rattle.laws.specs.words.Schemes.{has_one_interval, is_ibr, is_wfe, publishes_eras}
+use Rattle.laws.specs.words.Schemes.{has_one_interval, is_wfe, publishes_eras}
 use Rattle.laws.specs.words.declared.config.Config.{Config}
 use Rattle.laws.specs.words.declared.config.SchemeKind.{SchemeKind}
 use Rattle.laws.specs.words.declared.config.SchemeKind.TheVariants.{He, Ibr, Wfe}

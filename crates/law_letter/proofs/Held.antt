@@ -1,29 +1,28 @@
 -- The laws on what stands, from those of histories, in which one row stands at an index at most.
-use Rattle.std.proofs.Common.{ℕ, ◌≡◌, Bool, true, false, refl, sym, arith, List, [], ◌∷◌, None, Some, Option, subst, ◌∙◌, ap, ◌+◌, ◌<◌}
+use Rattle.std.proofs.Common.{ℕ, ◌≡◌, Bool, true, false, refl, sym, arith, None, Some, Option, subst, ◌∙◌, ap, ◌+◌}
 use Rattle.std.proofs.lemmas.Bool.Decides.{nat_tests}
-use Rattle.std.specs.Prelude.{◌==◌, if◌then◌else◌, ◌&&◌, ◌||◌, not, is_none, nat_lt, is_some}
+use Rattle.std.specs.Prelude.{◌==◌, if◌then◌else◌, ◌&&◌, ◌||◌, not, is_none, nat_lt}
 use Rattle.laws.proofs.records.Entries.{each_before, each_of_entries, entries_of_each}
-use Rattle.laws.proofs.records.defs.Facts.{both, first_of, rest_of, number_is}
+use Rattle.laws.proofs.records.defs.Facts.{both, number_is}
 use Rattle.laws.specs.HistoryHolds as strong
 use Rattle.laws.specs.HistoryHolds.{HistoryHolds, HistoryStands, clears_ok, protects_at, clears_at}
 use Rattle.laws.specs.HoldLaw as weak
 use Rattle.laws.specs.HoldLaw.{HoldLaw, has_had}
 use Rattle.laws.specs.HistoryHolds.{LoneLaw, lone_ok}
 use Rattle.laws.specs.Once.{is_slot}
-use Rattle.laws.specs.NoReuse.{NoReuse, is_reuse, reuse_ok}
+use Rattle.laws.specs.NoReuse.{NoReuse, reuse_ok}
 use Rattle.laws.specs.Standing.{Standing, may_hold, may_miss, may_clear}
 use Rattle.laws.specs.Standing as standing
-use Rattle.laws.specs.StateAt.{standing_of, stood_at, is_row, stands, is_bare, began_of, null_of, null_by, seen, has_told, row_at, value_of, bucket_at, head_at, tail_at, is_dequeue, next_at}
-use Rattle.laws.specs.defs.Entry.{Entry}
+use Rattle.laws.specs.StateAt.{stood_at, is_row, began_of, null_of, null_by, seen, has_told, row_at, value_of, bucket_at, head_at, tail_at, next_at}
 use Rattle.laws.specs.defs.Events.{is_null}
 use Rattle.laws.specs.defs.declared.call.Call.{Call}
 use Rattle.laws.specs.defs.declared.call.Call.TheVariants as calls
 use Rattle.laws.specs.defs.declared.event.Event.{Event}
 use Rattle.laws.specs.defs.declared.event.Event.TheVariants as events
-use Rattle.laws.specs.defs.declared.event.Guard.TheVariants.{Helper, Index, Whole}
+use Rattle.laws.specs.defs.declared.event.Guard.TheVariants.{Index, Whole}
 use Rattle.laws.specs.defs.declared.event.Root.TheVariants as roots
 use Rattle.laws.specs.defs.declared.lifetime.Interval.{Interval}
-use Rattle.laws.specs.records.Record.{Past, Each, tells, held_since, begins}
+use Rattle.laws.specs.records.Record.{Past, Each, held_since, begins}
 use Rattle.laws.specs.records.Record.Past.{Start, Then}
 use Rattle.laws.specs.words.declared.config.Config.{Config}
 use Rattle.laws.specs.words.declared.config.SchemeKind.{SchemeKind}

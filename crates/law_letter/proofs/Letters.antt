@@ -1,5 +1,4 @@
 -- The laws follow from what each history keeps.
-use Rattle.std.proofs.Common.{ℕ, ◌≡◌, ◌≤◌}
 use Rattle.laws.proofs.records.Entries.{each_of_entries, entries_of_each}
 use Rattle.laws.specs.AnswerLaw as answers
 use Rattle.laws.specs.AnswerLaw.{AnswerLaw}
@@ -7,16 +6,16 @@ use Rattle.laws.specs.HistoryAnswers as told
 use Rattle.laws.specs.HistoryAnswers.{HistoryAnswers}
 use Rattle.laws.specs.HistoryEras.{plain_moves_ok}
 use Rattle.laws.specs.HistoryHolds.{clears_ok}
-use Rattle.laws.specs.HistoryRows.{single_ok, once_ok}
+use Rattle.laws.specs.HistoryRows.{single_ok}
 use Rattle.laws.specs.HistoryScans as scans
 use Rattle.laws.specs.HistoryScans.{HistoryScans, plain_scans_ok, count_ok}
 use Rattle.laws.specs.HistorySteps as steps
 use Rattle.laws.specs.HistoryTurns.{open_ok}
 use Rattle.laws.specs.HistoryHolds.{lone_ok}
 use Rattle.laws.specs.QueueLaw.{empty_ok}
-use Rattle.laws.specs.ScanLaw.{ScanLaw, blocks_ok, room_ok, guards}
+use Rattle.laws.specs.ScanLaw.{ScanLaw, blocks_ok, room_ok}
 use Rattle.laws.specs.StepLaw as counts
-use Rattle.laws.specs.records.Record.{Past, Each}
+use Rattle.laws.specs.records.Record.{Past}
 use Rattle.laws.specs.records.Turns.{History}
 use Rattle.laws.specs.words.declared.config.Config.{Config}
 use Rattle.law_letter.proofs.Answers.{answers_kept, reasons_kept, empty_kept, retires_kept, refuses_kept}

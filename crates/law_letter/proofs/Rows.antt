@@ -1,13 +1,12 @@
 -- The way of a row from free to free, from what histories keep: a call tells unused only the row in its hand.
-use Rattle.std.proofs.Common.{ℕ, ◌≡◌, Bool, true, false, refl, sym, arith, None, Some, Option, subst, ◌∙◌, ap}
-use Rattle.std.proofs.lemmas.Bool.Decides.{nat_tests}
-use Rattle.std.specs.Prelude.{◌==◌, if◌then◌else◌, ◌&&◌, ◌||◌, not, is_none}
+use Rattle.std.proofs.Common.{ℕ, ◌≡◌, true, false, refl, Some}
+use Rattle.std.specs.Prelude.{◌==◌, is_none}
 use Rattle.laws.proofs.records.Entries.{each_of_entries, entries_of_each}
-use Rattle.laws.proofs.records.defs.Facts.{both, first_of, rest_of, number_is, same_number}
+use Rattle.laws.proofs.records.defs.Facts.{first_of, rest_of, number_is, same_number}
 use Rattle.laws.specs.HistoryRows as strong
 use Rattle.laws.specs.HistoryRows.{HistoryRows, once_ok, is_in_hand}
-use Rattle.laws.specs.Once.{Once, Grant, no_grant, granted_by, linked_to, may_link, is_placed, places_right, placing_ok, grant_of, free_ok, backs_ok, nexts_ok, retiring_ok, is_slot}
-use Rattle.laws.specs.StateAt.{Given, given_by, given_of, is_row, taken_at, has_slot, list_of, was_given, next_at, seen}
+use Rattle.laws.specs.Once.{Once, Grant, no_grant, granted_by, linked_to, may_link, is_placed, places_right, placing_ok, free_ok, backs_ok, nexts_ok}
+use Rattle.laws.specs.StateAt.{Given, given_by, taken_at, has_slot, list_of, was_given, next_at}
 use Rattle.laws.specs.StateAt.Given.{Without, InHand, Placed}
 use Rattle.laws.specs.defs.declared.event.Event.{Event}
 use Rattle.laws.specs.defs.declared.event.Event.TheVariants as events

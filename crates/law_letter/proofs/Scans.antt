@@ -1,17 +1,17 @@
 -- Which calls scan and move the clock, from the courses that histories take: a call retires one row at most.
-use Rattle.std.proofs.Common.{ℕ, ◌≡◌, Bool, true, false, refl, sym, arith, None, Some, Option, subst, ◌∙◌, ap, ◌+◌, ◌-◌, ◌≤◌, ◌<◌, zero, suc}
+use Rattle.std.proofs.Common.{ℕ, ◌≡◌, Bool, true, false, refl, sym, arith, None, Some, Option, ap, ◌+◌, ◌-◌, ◌≤◌, ◌<◌}
 use Rattle.std.proofs.lemmas.Bool.Decides.{nat_tests}
 use Rattle.std.specs.Prelude.{◌==◌, if◌then◌else◌, ◌&&◌, ◌||◌, not, is_none, nat_lt, nat_le, ◌%◌}
-use Rattle.laws.proofs.records.defs.Facts.{both, first_of, rest_of, number_is, false_of_not}
-use Rattle.laws.specs.EraLaw.{is_of_advance, moves_right, moves_ok}
-use Rattle.laws.specs.HistoryEras.{may_move, move_right, plain_moves_ok}
+use Rattle.laws.proofs.records.defs.Facts.{first_of, rest_of, number_is, false_of_not}
+use Rattle.laws.specs.EraLaw.{is_of_advance, moves_ok}
+use Rattle.laws.specs.HistoryEras.{may_move, plain_moves_ok}
 use Rattle.laws.specs.HistoryRows.{cuts_one, single_ok}
 use Rattle.laws.specs.HistoryScans as strong
 use Rattle.laws.specs.HistoryScans.{Course, Tally, first_course, moved_course, read_course, retired_course, plain_by, plain_tally, no_tally, may_read, is_settled, scan_right, plain_scans_ok, Search, search_by, search_of, no_search, seeks_row}
 use Rattle.laws.specs.HistoryScans.Course.{Plain, Advancing, MayScan, MustScan, Reading}
 use Rattle.laws.specs.HistoryTurns.{open_ok}
-use Rattle.laws.specs.ScanLaw.{Blocks, no_blocks, begun_block, retired_block, blocks_by, blocks_of, guards, is_given_one, is_scan_call, may_scan, may_begin, is_scanned, blocks_right, blocks_ok, seeks_room, room_ok, one_block, due_block}
-use Rattle.laws.specs.StateAt.{began_by, began_of, is_open, opened_by, retires_by, retires_of, seen, was_taken}
+use Rattle.laws.specs.ScanLaw.{Blocks, begun_block, blocks_by, blocks_of, guards, is_given_one, is_scan_call, may_begin, is_scanned, blocks_ok, seeks_room, room_ok, due_block}
+use Rattle.laws.specs.StateAt.{began_by, began_of, is_open, opened_by, retires_by, retires_of, was_taken}
 use Rattle.laws.specs.defs.declared.call.Call.{Call}
 use Rattle.laws.specs.defs.declared.call.Call.TheVariants as calls
 use Rattle.laws.specs.defs.declared.event.Event.{Event}

@@ -1,8 +1,7 @@
 -- Where a row is held only at an index at which nothing stands, and cleared only where it stands, one row stands there at most.
-use Rattle.std.proofs.Common.{ℕ, ◌≡◌, Bool, true, false, refl, sym, arith, List, [], ◌∷◌, None, Some, Option}
-use Rattle.std.proofs.lemmas.Bool.Decides.{nat_tests}
-use Rattle.std.specs.Prelude.{◌==◌, if◌then◌else◌, ◌&&◌, ◌||◌, not, is_none}
-use Rattle.laws.proofs.records.defs.Facts.{same_number, number_is}
+use Rattle.std.proofs.Common.{ℕ, ◌≡◌, Bool, true, false, refl, List, [], ◌∷◌, None, Some, Option}
+use Rattle.std.specs.Prelude.{◌==◌, if◌then◌else◌, ◌||◌, is_none}
+use Rattle.laws.proofs.records.defs.Facts.{number_is}
 use Rattle.laws.specs.HistoryHolds.{clears_ok}
 use Rattle.laws.specs.HistoryHolds.{lone_ok}
 use Rattle.laws.specs.StateAt.{standing_by, standing_of, stood_by, stood_at, is_row, is_one_of, without_row, stands, is_bare, is_empty}

@@ -1,5 +1,5 @@
 -- The steps of protections and calls, from what histories keep.
-use Rattle.std.proofs.Common.{ℕ, ◌≡◌, Bool, true, false, refl, None, Some, Option, ◌+◌, arith}
+use Rattle.std.proofs.Common.{ℕ, ◌≡◌, Bool, true, false, refl, None, Some, Option, arith}
 use Rattle.std.proofs.lemmas.Bool.Decides.{nat_tests}
 use Rattle.std.specs.Prelude.{◌==◌, ◌||◌, nat_le, not, if◌then◌else◌}
 use Rattle.laws.specs.HistorySteps as strong

@@ -1,5 +1,5 @@
 -- The laws follow from what each history keeps.
-use Rattle.std.specs.Prelude.{ℕ, ◌≡◌, ◌<◌, true}
+use Rattle.std.specs.Prelude.{◌≡◌, ◌<◌, true}
 use Rattle.laws.specs.Histories.{Histories}
 use Rattle.laws.specs.HistoryTurns.{OpenLaw}
 use Rattle.laws.specs.Laws.{Laws}

@@ -1,5 +1,5 @@
 -- Records that a sentence on answers refuses. Each is refused by the laws that are named, and by no other.
-use Rattle.std.specs.Prelude.{List, [], ◌∷◌, None, Some, map, ◌≡◌}
+use Rattle.std.specs.Prelude.{List, [], ◌∷◌, Some, map, ◌≡◌}
 use Rattle.wfe_core.specs.defs.declared.call.Answer.TheVariants as answers
 use Rattle.wfe_core.specs.defs.declared.call.Call.TheVariants as calls
 use Rattle.wfe_core.specs.defs.declared.call.ClockMove.TheVariants as moves

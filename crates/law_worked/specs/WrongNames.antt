@@ -1,5 +1,5 @@
 -- Records that name what the table does not have. Each is refused by the laws that are named, and by no other.
-use Rattle.std.specs.Prelude.{List, [], ◌∷◌, None, Some, map, ◌≡◌}
+use Rattle.std.specs.Prelude.{List, [], ◌∷◌, map, ◌≡◌}
 use Rattle.wfe_core.specs.defs.declared.event.Event.TheVariants as events
 use Rattle.wfe_core.specs.defs.declared.event.Guard.TheVariants as guards
 use Rattle.wfe_core.specs.Guards.{from_to}

@@ -1,5 +1,5 @@
 -- Records that a sentence on calls, on what stands or on the way of rows refuses. Each is refused by the laws that are named, and by no other.
-use Rattle.std.specs.Prelude.{List, [], ◌∷◌, None, Some, map, ◌≡◌}
+use Rattle.std.specs.Prelude.{List, [], ◌∷◌, None, map, ◌≡◌}
 use Rattle.wfe_core.specs.defs.declared.call.Call.TheVariants as calls
 use Rattle.wfe_core.specs.defs.declared.event.Event.TheVariants as events
 use Rattle.wfe_core.specs.defs.declared.event.Guard.TheVariants as guards

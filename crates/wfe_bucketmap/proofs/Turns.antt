@@ -10,7 +10,7 @@ use Rattle.wfe_core.specs.Phases.{Base, Ending, Outcome, Ends}
 use Rattle.wfe_core.specs.Desks.{Desk}
 use Rattle.wfe_core.specs.Rounds.{scheme_of, index_of, clearing, closed}
 use Rattle.wfe_core.specs.Steps.{phase_turn, resume, resumed}
-use Rattle.wfe_call_rounds.specs.Rounds.{CloseAt, CloseTurn, close_from, close_step, close_phase, is_again, then_at, then_close}
+use Rattle.wfe_call_rounds.specs.Rounds.{CloseAt, close_from, close_step, close_phase, is_again, then_close}
 use Rattle.wfe_call_rounds.specs.Steps.{Steps}
 use Rattle.wfe_call_rounds.proofs.Model.{clearing_at}
 use Rattle.wfe_call_rounds.proofs.Taken.{closes_step, closed_step, then_over}

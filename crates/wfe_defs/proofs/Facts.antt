@@ -1,5 +1,5 @@
 -- Tests of numbers, and of two tests at once.
-use Rattle.std.proofs.Common.{ℕ, ◌≡◌, Bool, true, false, refl, arith, List, ◌++◌, ◌+◌, ◌≤◌, sym, ◌∙◌, ◌<◌, None, ap, suc, inl, ◌⊎◌, inr, ◌/◌}
+use Rattle.std.proofs.Common.{ℕ, ◌≡◌, Bool, true, false, refl, arith, List, ◌+◌, ◌≤◌, sym, ◌∙◌, ◌<◌, None, ap, suc, inl, ◌⊎◌, inr, ◌/◌}
 use Rattle.std.proofs.lemmas.Bool.Decides.{nat_tests}
 use Rattle.std.specs.Prelude.{◌==◌, ◌&&◌, Option, not, ◌||◌, nat_lt, if◌then◌else◌, slice_index, slice_set, length, ◌-◌, is_none, ◌*◌, nat_le}
 use Rattle.std.proofs.lemmas.List.{get_or-set_same}

@@ -3,7 +3,7 @@ use Rattle.std.proofs.Common.{Bool, List, [], ap, arith, length, refl, subst, sy
 use Rattle.std.proofs.lemmas.Bool.Decides.{nat_tests}
 use Rattle.std.proofs.lemmas.List.{ext_get_or, get_or_past, length-set}
 use Rattle.std.proofs.lemmas.List.FromFn.{get_or-map-range_with_len, length-map-range_with_len, map-range_with_len_more}
-use Rattle.std.specs.Prelude.{Option, map, nat_lt, not, ◌&&◌}
+use Rattle.std.specs.Prelude.{Option, map, nat_lt}
 use Rattle.std.specs.List.{range_with_len}
 use Rattle.wfe_core.specs.words.Place.{is_valid, start_at, words}
 use Rattle.wfe_core.specs.words.declared.layout.Layout.{Layout}
@@ -33,7 +33,7 @@ use Rattle.law_answers.proofs.inv.Inv.Reached.{inv_reached}
 use Rattle.law_answers.specs.Heard.{IsCounted}
 use Rattle.law_answers.proofs.Turns.Counted.{histories_count}
 use Rattle.wfe_drive.specs.Reached.{IsReached, first_table, units_left}
-use Rattle.wfe_core.proofs.Facts.{fits_free, fits_busy, lt_test as below}
+use Rattle.wfe_core.proofs.Facts.{fits_free, fits_busy}
 
 -- one item more
 -- an item that fits is done

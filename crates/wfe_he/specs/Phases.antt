@@ -1,5 +1,4 @@
 -- Where a protection of Hazard Eras stands, as a phase of the model.
-use Rattle.std.specs.Prelude.{ℕ}
 use Rattle.wfe_core.specs.Phases.{Alone, Endless, ProtectAt, Base}
 use Rattle.wfe_core.specs.Phases.Base.{Protect, Clear}
 use Rattle.wfe_core.specs.Phases.ProtectAt.{LoadClock, PublishEra, LoadLink, CheckClock}

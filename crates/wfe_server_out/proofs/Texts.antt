@@ -1,7 +1,7 @@
 -- The bytes and entries of pieces in a row, and bytes of which a part is written.
 use Rattle.std.proofs.Common.{◌≡◌, ◌+◌, ℕ, List, [], ◌∷◌, ◌++◌, length, take, drop, min, slice_get, Option, Some, Result, Ok, Err, OnErr, IfErr, refl, sym, ap, ◌∙◌, subst, append_assoc, arith, take-append-drop}
 use Rattle.std.specs.Io.KnownBytes.{Appends, Keeps}
-use Rattle.std.proofs.KnownBytes.{Appends-nil, Appends-trans, Appends-kept}
+use Rattle.std.proofs.KnownBytes.{Appends-trans, Appends-kept}
 use Rattle.std.proofs.Math.Seq.{take-append-add, take-length}
 use Rattle.std.proofs.lemmas.List.{take-append-le, take_min, take_more}
 use Rattle.std.proofs.lemmas.Option.{slice_get_within, get_or_from_slice_get}
@@ -42,9 +42,6 @@ pub told_pieces-split : (seat : ℕ) (events : List Event) (k : ℕ) (event : Ev
 told_pieces-split seat events k event at =
     ap (told_pieces seat) (sym (take-append-drop (k + 1) events) ∙ ap (λ (t : List Event). t ++ drop (k + 1) events) (take_at events k event at) ∙ append_assoc (take k events) (event ∷ []) (drop (k + 1) events))
     ∙ told_pieces-append seat (take k events) (event ∷ drop (k + 1) events)
-
-pub AppendsSome-none : (old : Option (List ℕ)) (bytes : List ℕ) → AppendsSome old old bytes
-AppendsSome-none old bytes = (0, Appends-nil old)
 
 -- all of it is a part
 pub AppendsSome-all : (old new : Option (List ℕ)) (bytes : List ℕ) → Appends old new bytes → AppendsSome old new bytes

@@ -4,7 +4,7 @@ use Rattle.std.proofs.lemmas.Bool.Decides.{nat_tests}
 use Rattle.std.specs.Prelude.{◌==◌, ◌&&◌, not}
 use Rattle.wfe_core.specs.words.Packed.{read_request}
 use Rattle.wfe_core.specs.words.Place.{is_valid}
-use Rattle.wfe_core.specs.words.Place.Place.{Clock, Request}
+use Rattle.wfe_core.specs.words.Place.Place.{Clock}
 use Rattle.wfe_core.specs.words.declared.layout.Layout.{Layout}
 use Rattle.wfe_core.proofs.words.Parts.{read_request-answered}
 use Rattle.wfe_core.specs.defs.declared.call.Call.{Call}
@@ -23,7 +23,6 @@ use Rattle.wfe_core.specs.World.{World, start, begin, step, finds, is_busy}
 use Rattle.inv_all.proofs.shapes.Frame.{seat_stays, begin_stays, begin_begins}
 use Rattle.inv_all.specs.shapes.Seats.{Seats}
 use Rattle.inv_all.proofs.requests.Answering.{heard, word_by_open}
-use Rattle.inv_all.proofs.requests.Kept.{idle_of}
 use Rattle.inv_all.specs.requests.Deals.{is_quiet, is_open, asked_at, answered_with}
 use Rattle.inv_all.specs.requests.NextDeals.{next_deals}
 use Rattle.inv_all.specs.requests.Roles.{knows}
@@ -35,7 +34,7 @@ use Rattle.inv_all.proofs.covers.Held.{finds_at}
 use Rattle.inv_all.specs.covers.Tries.{starts_base, is_start}
 use Rattle.inv_all.specs.links.Tracked.{opened_by}
 use Rattle.inv_all.specs.links.Origins.{OriginsNeeds}
-use Rattle.inv_all.proofs.links.Origins.Opened.{fit_of, knows_of, open_back, stepped_by}
+use Rattle.inv_all.proofs.links.Origins.Opened.{knows_of, open_back, stepped_by}
 use Rattle.law_eras.proofs.Current.Ages.{protect_since, PhaseSince, HeardSince}
 use Rattle.law_eras.proofs.Current.Answers.{DealSince, base_helps, HelpSince, Answers, phase_kept, checks, turn_checked, checked_since}
 use Rattle.inv_all.proofs.requests.Known.{stands_as, own_word}

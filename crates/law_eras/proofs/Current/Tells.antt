@@ -1,5 +1,5 @@
 -- What a step tells of eras: those that its seat had in hand.
-use Rattle.std.proofs.Common.{ℕ, ◌≡◌, ◌≤◌, ◌+◌, Bool, true, false, List, [], ◌∷◌, ◌++◌, Option, Some, None, refl, sym, subst}
+use Rattle.std.proofs.Common.{ℕ, ◌≡◌, ◌≤◌, Bool, true, false, List, [], ◌∷◌, ◌++◌, Option, Some, None, refl, sym, subst}
 use Rattle.std.specs.Prelude.{◌==◌, if◌then◌else◌, not, ◌&&◌}
 use Rattle.wfe_core.specs.words.Place.Place.{Clock}
 use Rattle.wfe_core.specs.words.declared.layout.Layout.{Layout}

@@ -14,7 +14,7 @@ use Rattle.inv_all.specs.rows.Hands.{row_move}
 use Rattle.inv_all.specs.history.Record.{Past, Each, tells_of}
 use Rattle.inv_all.specs.history.Record.Past.{Then}
 use Rattle.inv_all.proofs.history.Entries.{entries_of_each}
-use Rattle.inv_all.specs.history.History.{Item, Begins, Steps, Made, fits, done, made_of, first_made, record_of}
+use Rattle.inv_all.specs.history.History.{Item, Begins, Steps, Made, done, made_of, first_made, record_of}
 use Rattle.inv_all.proofs.history.Along.{Steady, items_keep}
 use Rattle.inv_all.specs.ends.Told.{move_of}
 use Rattle.inv_all.proofs.ends.Told.Births.{retires_given}

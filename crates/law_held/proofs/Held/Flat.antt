@@ -9,7 +9,6 @@ use Rattle.wfe_core.specs.defs.declared.event.Event.TheVariants as events
 use Rattle.wfe_core.specs.defs.declared.event.Guard.{Guard}
 use Rattle.wfe_core.specs.defs.declared.lifetime.Interval.{Interval}
 use Rattle.wfe_core.proofs.Facts.{first_of, rest_of, implies_or, or_left_true}
-use Rattle.law_places.specs.inv.ends.Standing as told
 use Rattle.laws.specs.HoldLaw.{is_held}
 use Rattle.law_places.specs.inv.history.Record.{Past, Test, Each, tells_of}
 use Rattle.law_places.specs.inv.history.Record.Past.{Then}

@@ -1,5 +1,5 @@
 -- What a step clears stood where it is told.
-use Rattle.std.proofs.Common.{ℕ, ◌≡◌, ◌<◌, ◌≤◌, ◌+◌, ◌-◌, Bool, true, false, List, [], ◌∷◌, ◌++◌, length, Option, Some, None, refl, sym, ap, ◌∙◌, subst, arith}
+use Rattle.std.proofs.Common.{ℕ, ◌≡◌, ◌<◌, ◌+◌, ◌-◌, Bool, true, false, List, [], ◌∷◌, ◌++◌, length, Option, Some, None, refl, sym, ap, ◌∙◌, subst, arith}
 use Rattle.std.proofs.lemmas.Bool.Decides.{nat_tests}
 use Rattle.std.specs.List.{list_any}
 use Rattle.std.specs.Prelude.{◌==◌, ◌&&◌, ◌||◌, not, if◌then◌else◌}
@@ -11,7 +11,6 @@ use Rattle.wfe_core.specs.defs.declared.event.Event.{Event}
 use Rattle.wfe_core.specs.defs.declared.event.Event.TheVariants as events
 use Rattle.wfe_core.specs.defs.declared.event.Root.{Root}
 use Rattle.wfe_core.specs.defs.declared.event.Root.TheVariants as roots
-use Rattle.wfe_core.proofs.Ranges.{bounds_of}
 use Rattle.wfe_core.specs.declared.post.Post.{Post}
 use Rattle.wfe_core.specs.Calls.{Why, Phase, Idle, Runs, Scans, Works, ScanAt, ReadGuard, GiveBack}
 use Rattle.wfe_core.specs.Machine as machine
@@ -29,7 +28,6 @@ use Rattle.law_places.proofs.inv.ends.Ends.Stood.{clear_calm}
 use Rattle.law_places.proofs.inv.ends.Ends.Tests.{at_shows, base_shows, base_any}
 use Rattle.law_places.specs.inv.shapes.Seats.{Seats}
 use Rattle.law_places.specs.inv.history.History.{record_of, world_of}
-use Rattle.law_places.proofs.inv.Inv.Shapes.{index_in}
 use Rattle.law_places.specs.inv.history.Record.{Past, Each, tells_of}
 use Rattle.law_places.specs.inv.history.Record.Past.{Then}
 use Rattle.laws.proofs.Tells.{AllRight}
@@ -40,7 +38,6 @@ use Rattle.law_places.proofs.inv.history.Passes.{is_quiet, all_quiet, Closed, Fi
 use Rattle.law_places.specs.inv.ends.Stands.{is_clear}
 use Rattle.law_held.specs.Records.{RecordsClearRows}
 use Rattle.law_held.proofs.Roots.Ways.{Along, record_each, answers_of}
-use Rattle.law_places.proofs.inv.handover.Asks.{run_of}
 use Rattle.wfe_core.proofs.Lists.{or_left, or_right}
 
 -- at one index: what is cleared there stood there

@@ -1,49 +1,23 @@
 -- Where the next links of the queue's rows lead by the record is where their words lead.
-use Rattle.std.proofs.Common.{ℕ, ◌≡◌, ◌+◌, ◌-◌, Bool, true, false, List, [], ◌∷◌, Option, None, refl, sym, ap, ◌∙◌, subst, arith, ◌⊎◌, inl, inr}
-use Rattle.std.proofs.lemmas.Bool.Decides.{nat_tests}
-use Rattle.std.specs.Prelude.{◌==◌, if◌then◌else◌}
-use Rattle.wfe_core.specs.words.Place.{Place, has}
+use Rattle.std.proofs.Common.{ℕ, ◌≡◌, true, None, refl, sym, ap, ◌∙◌, ◌⊎◌, inl, inr}
+use Rattle.wfe_core.specs.words.Place.{has}
 use Rattle.wfe_core.specs.words.Place.Place.{Row}
 use Rattle.wfe_core.specs.words.declared.layout.Layout.{Layout}
-use Rattle.wfe_core.specs.defs.declared.event.Event.{Event}
-use Rattle.wfe_core.specs.defs.declared.event.Event.TheVariants as events
-use Rattle.wfe_core.specs.defs.declared.lifetime.Lifetime.{Lifetime}
-use Rattle.wfe_core.specs.declared.post.Post.{Post}
-use Rattle.wfe_core.specs.Memory.{written}
-use Rattle.wfe_core.specs.Locals.{told_end}
-use Rattle.wfe_core.specs.Posts.{counted}
-use Rattle.wfe_core.specs.Steps.{phase_move}
 use Rattle.wfe_core.specs.World.{World, start, step, finds, told_in}
-use Rattle.wfe_core.specs.Calls.{EnqueueKept, LoadVersion, LoadCount, LoadKey, LoadValue, ExchangeRoot, LoadNumber, LoadNext, PassTail, ExchangeNext, ExchangeTail, LoadTail, SwingTail, TakeNumber, TakeValue, ExchangeHead, Getting, Changing, Enqueuing, Dequeuing, ReadGuard, GiveBack, Phase, Idle, Runs, Scans, Works, CallOutcome, GoesOn, Answers}
-use Rattle.wfe_core.proofs.Facts.{same_number, if_same}
+use Rattle.wfe_core.proofs.Facts.{if_same}
 use Rattle.law_places.specs.inv.requests.Views.{View as Asked}
 use Rattle.law_places.specs.inv.rows.Agree.{first_rows, rows_after}
 use Rattle.law_places.specs.inv.rows.Chain.{first_line, line_after}
-use Rattle.law_places.specs.inv.rows.Hands.{hand_in, holds_slot, is_right, row_move}
-use Rattle.law_places.specs.inv.rows.Queue.{Line, is_past, line_move, moved_line, Joins, Keeps}
-use Rattle.law_places.specs.inv.rows.Rows.{Status, Hand, View, RowMove, made, names, status_in}
-use Rattle.law_places.specs.inv.rows.Rows.Hand.{Taken}
-use Rattle.law_places.specs.inv.rows.Rows.Status.{Free, Claimed, Born, Linked, InQueue, Cut, Sealed, Listed}
-use Rattle.law_places.specs.inv.rows.Rows.RowMove.{Stays, Claims, Bears, Drops, Links, Replaces, Appends, Pops, Reads, Seals, Lists, Returns}
-use Rattle.law_places.proofs.inv.rows.Fits.{MoveFits}
-use Rattle.law_places.proofs.inv.rows.Went.{WalksIn}
-use Rattle.law_places.proofs.inv.covers.Kept.{before_at}
+use Rattle.law_places.specs.inv.rows.Queue.{Line}
+use Rattle.law_places.specs.inv.rows.Rows.{View}
 use Rattle.law_places.specs.inv.history.Record.{Past, tells_of}
 use Rattle.law_places.specs.inv.history.Record.Past.{Start}
 use Rattle.law_places.specs.inv.Known.{Known}
-use Rattle.law_places.specs.inv.ends.Told.{row_events, birth_in, move_of}
-use Rattle.laws.proofs.Along.{along}
-use Rattle.laws.specs.StateAt.{next_by, next_at}
-use Rattle.law_places.proofs.Placing.Comes.{agree_of, shape_in}
-use Rattle.law_places.proofs.Placing.Fronts.{queued_front}
-use Rattle.law_places.proofs.Placing.Marks.{is_marked, marks}
-use Rattle.law_places.proofs.Ordering.Nexts.{Here, next_moved, joined_next, link_next, taken_next, linked_next}
-use Rattle.law_places.proofs.Ordering.Ordered.{word_of, whole_comes}
-use Rattle.law_places.proofs.Placing.Shapes.{Claiming, Shape}
-use Rattle.law_places.proofs.Ordering.Linked.{is_new, Joining, claims, joins_by, new_past, new_still, queued_none, none_moved, lined_by, joins_new, here_of, next_comes, claimed_by, new_by, joins_null, join_moved, new_apart, claimed_none, claims_slot, fresh_step, new_before}
-use Rattle.law_places.proofs.inv.rows.Queued.{finds_phase}
-use Rattle.law_places.proofs.inv.Inv.Whole.{covers_of}
-use Rattle.law_places.proofs.inv.rows.Runs.{taken_slot}
+use Rattle.law_places.specs.inv.ends.Told.{move_of}
+use Rattle.laws.specs.StateAt.{next_at}
+use Rattle.law_places.proofs.Ordering.Nexts.{next_moved}
+use Rattle.law_places.proofs.Ordering.Ordered.{word_of}
+use Rattle.law_places.proofs.Ordering.Linked.{is_new, Joining, lined_by, joins_new, here_of, next_comes, joins_null, join_moved, fresh_step, new_before}
 
 -- what is known of the next links by the record
 pub record Nexts (w : World) (v : View) (l : Line) (p : Past) : Type 0 where

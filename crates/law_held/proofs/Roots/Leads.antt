@@ -4,24 +4,16 @@ use Rattle.wfe_core.specs.words.Place.{Place, is_valid}
 use Rattle.wfe_core.specs.words.Place.Place.{Head, Tail, Bucket}
 use Rattle.wfe_core.specs.words.declared.layout.Layout.{Layout}
 use Rattle.wfe_core.specs.defs.declared.call.Call.{Call}
-use Rattle.wfe_core.specs.defs.declared.event.Event.{Event}
-use Rattle.wfe_core.specs.defs.declared.event.Event.TheVariants as events
-use Rattle.wfe_core.specs.declared.post.Post.{Post}
-use Rattle.wfe_core.specs.Calls.{CallOutcome, GoesOn, Answers}
-use Rattle.wfe_core.specs.Locals.{told_end}
 use Rattle.wfe_core.specs.World.{World, is_busy, step, told_in}
-use Rattle.law_places.proofs.inv.covers.Kept.{before_at}
-use Rattle.law_places.specs.inv.history.History.{Item, Begins, Steps, Made, fits, done, first_made, record_of, world_of}
+use Rattle.law_places.specs.inv.history.History.{Item, Begins, Steps, Made, done, first_made, record_of, world_of}
 use Rattle.law_places.proofs.inv.history.Along.{Steady, items_keep}
 use Rattle.law_places.specs.inv.Known.{Known}
 use Rattle.law_places.proofs.inv.Inv.Begun.{known_start, known_begin}
 use Rattle.law_places.proofs.inv.Inv.Kept.{known_kept, asked_next}
 use Rattle.law_places.specs.inv.history.Record.{Past, tells_of}
-use Rattle.laws.proofs.Along.{along}
 use Rattle.laws.specs.StateAt.{tail_by, tail_at, bucket_at, head_at}
 use Rattle.law_places.proofs.Placing.Comes.{agree_of}
-use Rattle.law_places.proofs.Placing.Marks.{is_marked}
-use Rattle.law_places.proofs.Ordering.Nexts.{Here, tail_moved}
+use Rattle.law_places.proofs.Ordering.Nexts.{tail_moved}
 use Rattle.law_places.proofs.Ordering.Ordered.{word_of, Roots, roots_step, whole_comes}
 use Rattle.law_places.specs.inv.requests.Views.{View as Asked}
 use Rattle.law_places.proofs.inv.requests.Kept.{requests_begin, requests_start}
@@ -29,7 +21,6 @@ use Rattle.law_places.specs.inv.rows.Agree.{first_rows, rows_after}
 use Rattle.law_places.specs.inv.rows.Chain.{first_line, line_after}
 use Rattle.law_places.specs.inv.rows.Queue.{Line}
 use Rattle.law_places.specs.inv.rows.Rows.{View}
-use Rattle.law_places.proofs.inv.Inv.Whole.{covers_of}
 use Rattle.law_places.proofs.Ordering.Linked.{here_of, tail_end, tail_still}
 
 pub record Leads (slots : ℕ) (mem : Place → ℕ) (p : Past) : Type 0 where

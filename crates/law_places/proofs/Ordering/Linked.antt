@@ -38,7 +38,7 @@ use Rattle.inv_all.proofs.covers.Kept.{before_at}
 use Rattle.inv_all.specs.history.Record.{Past, Each, tells_of}
 use Rattle.inv_all.specs.history.Record.Past.{Then}
 use Rattle.inv_all.proofs.history.Entries.{entries_of_each}
-use Rattle.inv_all.specs.history.History.{Begins, Steps, Made, fits, done, first_made, record_of}
+use Rattle.inv_all.specs.history.History.{Begins, Steps, Made, done, first_made, record_of}
 use Rattle.inv_all.proofs.history.Along.{Steady, items_keep}
 use Rattle.inv_all.specs.Known.{Known}
 use Rattle.inv_all.proofs.Inv.Begun.{known_start, known_begin}

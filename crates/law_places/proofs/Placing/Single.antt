@@ -1,18 +1,16 @@
 -- A call retires one row at most: what it has retired and what it still has to are no more than its answer says.
-use Rattle.std.proofs.Common.{ℕ, ◌≡◌, ◌+◌, Bool, true, false, List, [], ◌∷◌, length, Option, Some, None, refl, sym, ap, ◌∙◌, subst, arith}
-use Rattle.std.proofs.lemmas.Bool.Decides.{nat_tests}
-use Rattle.std.specs.Prelude.{◌==◌, ◌&&◌, nat_lt, if◌then◌else◌, not}
+use Rattle.std.proofs.Common.{ℕ, ◌≡◌, ◌+◌, Bool, true, false, List, [], ◌∷◌, Option, Some, None, refl, sym, ap, ◌∙◌, subst, arith}
+use Rattle.std.specs.Prelude.{◌==◌, ◌&&◌, nat_lt, if◌then◌else◌}
 use Rattle.wfe_core.specs.defs.declared.call.Answer.{Answer}
 use Rattle.wfe_core.specs.defs.declared.call.Answer.TheVariants as answers
 use Rattle.wfe_core.specs.defs.declared.call.Call.{Call}
 use Rattle.wfe_core.specs.defs.declared.call.Call.TheVariants as calls
 use Rattle.wfe_core.specs.defs.declared.event.Event.{Event}
 use Rattle.wfe_core.specs.defs.declared.event.Event.TheVariants as events
-use Rattle.wfe_core.specs.defs.declared.event.Root.TheVariants as roots
 use Rattle.wfe_core.specs.declared.post.Post.{Post}
-use Rattle.wfe_core.specs.Calls.{Phase, Idle, Runs, Scans, Works, Why, Opens, FollowsHead, Fills, ClearsNext, Clears, Finishes, GivesUp, Retires, Tidies, Advances, Releases, Next, Again, MakeRoom, Answering, Retiring, AfterScan, Answered, Repeated, Counted, Work, Getting, Changing, Enqueuing, Dequeuing, EnqueueKept, EnqueueAt, LoadNumber, LoadNext, PassTail, ExchangeNext, ExchangeTail}
+use Rattle.wfe_core.specs.Calls.{Phase, Idle, Runs, Scans, Works, Why, Opens, FollowsHead, Fills, ClearsNext, Clears, Finishes, GivesUp, Retires, Tidies, Advances, Releases, Next, Again, MakeRoom, Answering, Retiring, AfterScan, Answered, Repeated, Counted, Getting, Changing, Enqueuing, Dequeuing, EnqueueKept, EnqueueAt, LoadNumber, LoadNext, PassTail, ExchangeNext, ExchangeTail}
 use Rattle.wfe_core.proofs.Facts.{first_of, rest_of, both}
-use Rattle.inv_all.specs.rows.Rows.{Hand, RowMove}
+use Rattle.inv_all.specs.rows.Rows.{RowMove}
 use Rattle.inv_all.specs.rows.Rows.RowMove.{Stays, Claims, Bears, Drops, Links, Replaces, Appends, Pops, Reads, Seals, Lists, Returns}
 use Rattle.inv_all.specs.history.Record.{Past, Each}
 use Rattle.inv_all.specs.history.Record.Past.{Start, Then}
@@ -22,7 +20,7 @@ use Rattle.laws.proofs.Tells.{AllRight, OfKind}
 use Rattle.laws.specs.HistoryAnswers.{owes}
 use Rattle.laws.specs.HistoryRows.{cuts_one, single_ok}
 use Rattle.laws.specs.StateAt.{began_by, began_of, retires_by, retires_of, seen}
-use Rattle.law_answers.proofs.AnswersTold.Owed.{owed, next_owed, later_owed, why_owed, work_owed, enqueue_owed}
+use Rattle.law_answers.proofs.AnswersTold.Owed.{owed, next_owed, later_owed, why_owed, enqueue_owed}
 use Rattle.law_places.proofs.Placing.Marks.{is_marked}
 use Rattle.law_places.proofs.Placing.Moved.{said_by}
 use Rattle.law_places.proofs.Placing.Shapes.{Shape, is_change_of, is_passing}

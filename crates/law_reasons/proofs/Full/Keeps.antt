@@ -27,7 +27,7 @@ use Rattle.law_scans.specs.inv.rows.Rows.{is_taken}
 use Rattle.law_scans.specs.inv.history.Record.{Past, Each, begins, own, held_since, tells_of}
 use Rattle.law_scans.specs.inv.history.Record.Past.{Start, Then}
 use Rattle.law_scans.proofs.inv.history.Entries.{entries_of_each}
-use Rattle.law_scans.specs.inv.history.History.{Item, Begins, Steps, Made, fits, done, made_of, first_made, record_of}
+use Rattle.law_scans.specs.inv.history.History.{Item, Begins, Steps, Made, done, made_of, first_made, record_of}
 use Rattle.law_scans.proofs.inv.history.Along.{Steady, items_keep}
 use Rattle.laws.specs.StateAt.{taken_at, began_of, is_mark, taken_since, was_taken}
 use Rattle.laws.proofs.Along.{along}

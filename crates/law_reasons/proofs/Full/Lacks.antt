@@ -1,8 +1,7 @@
 -- That a call lacks nothing but a row, where it decides that one is to be filled; and that this lasts until the call ends.
-use Rattle.std.proofs.Common.{ℕ, zero, suc, ◌≡◌, ◌≤◌, ◌<◌, ◌%◌, Bool, true, false, List, [], length, take, Option, Some, None, refl, sym, ap, ◌∙◌, subst, arith}
+use Rattle.std.proofs.Common.{ℕ, zero, suc, ◌≡◌, ◌≤◌, ◌<◌, ◌%◌, Bool, true, false, List, [], length, Option, Some, None, refl, sym, ap, ◌∙◌, subst, arith}
 use Rattle.std.proofs.lemmas.Bool.Decides.{nat_tests}
-use Rattle.std.proofs.lemmas.List.{length-append, take-append-le}
-use Rattle.std.specs.Prelude.{◌==◌, ◌&&◌, ◌||◌, nat_le, nat_lt, not, is_some, if◌then◌else◌}
+use Rattle.std.specs.Prelude.{◌==◌, ◌&&◌, ◌||◌, nat_lt, not, is_some, if◌then◌else◌}
 use Rattle.wfe_core.specs.words.Place.Place.{Row}
 use Rattle.wfe_core.specs.words.declared.config.Config.{Config}
 use Rattle.wfe_core.specs.words.declared.layout.Layout.{Layout}
@@ -22,10 +21,10 @@ use Rattle.wfe_core.specs.Phases.{Base, Outcome, Goes, Ends}
 use Rattle.wfe_core.specs.Phases.Ending.{Done, Protected, Followed, Allocated, Retired, Clocked}
 use Rattle.wfe_core.specs.Calls.{Task, Gets, Changes, Holds, Enqueues, Dequeues, Opens, EnqueueKept, LoadCount, LoadValue, LoadNext, Changing, Enqueuing, Phase, Idle, Runs, Scans, Works}
 use Rattle.wfe_core.specs.World.{World, finds}
-use Rattle.wfe_core.proofs.Facts.{same_number, both, first_of, rest_of, below_unless, true_of_not, or_left_true, same_both, lt_test_2}
+use Rattle.wfe_core.proofs.Facts.{same_number, both, below_unless, true_of_not, or_left_true, same_both, lt_test_2}
 use Rattle.law_scans.proofs.answers.AnswersTold.Owed.{Serves, call_for}
 use Rattle.law_scans.proofs.inv.covers.Held.{finds_at}
-use Rattle.laws.specs.StateAt.{was_current, bucket_of, changes_of, count_of, queued_of, begun_at, had_version, is_there, pairs_at}
+use Rattle.laws.specs.StateAt.{was_current, bucket_of, count_of, queued_of, is_there, pairs_at}
 use Rattle.law_scans.specs.inv.history.Record.{Past, begins, held_since}
 use Rattle.law_scans.specs.inv.contents.Reads.{numbers_in}
 use Rattle.law_scans.specs.inv.requests.Views.{View as Asked}

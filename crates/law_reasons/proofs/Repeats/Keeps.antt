@@ -38,7 +38,7 @@ use Rattle.law_scans.specs.inv.history.Record.{Past, Each, begins, tells_of, val
 use Rattle.law_scans.specs.inv.history.Record.Past.{Start, Then}
 use Rattle.laws.specs.StateAt.{began_of, finds_of, tails_of}
 use Rattle.law_scans.proofs.inv.history.Entries.{entries_of_each}
-use Rattle.law_scans.specs.inv.history.History.{Begins, Steps, Made, fits, done, first_made, record_of}
+use Rattle.law_scans.specs.inv.history.History.{Begins, Steps, Made, done, first_made, record_of}
 use Rattle.law_scans.proofs.inv.history.Along.{Steady, items_keep}
 use Rattle.law_scans.proofs.inv.history.AllOf.{all_of}
 use Rattle.law_scans.proofs.inv.Machines.{is_within, within_of}

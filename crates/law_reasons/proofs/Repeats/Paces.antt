@@ -13,7 +13,6 @@ use Rattle.wfe_core.specs.Posts.{stands}
 use Rattle.wfe_core.specs.Steps as steps
 use Rattle.wfe_core.specs.World.{World, begin, step, is_busy}
 use Rattle.law_scans.proofs.inv.shapes.Frame.{begin_stays, begin_begins}
-use Rattle.law_scans.proofs.inv.Inv.Whole.{origins_need}
 use Rattle.law_scans.specs.inv.Known.{Known}
 use Rattle.law_scans.proofs.inv.contents.Items.Gives.{items_count}
 use Rattle.law_scans.proofs.answers.AnswersTold.Owed.{Serves}
@@ -26,7 +25,7 @@ use Rattle.law_scans.specs.inv.requests.Standing.{Requests}
 use Rattle.law_scans.specs.inv.requests.Views.{View as Asked}
 use Rattle.law_scans.specs.inv.steps_left.Losses.{Losses}
 use Rattle.law_scans.proofs.inv.steps_left.Rounds.Paced.{round_paced}
-use Rattle.law_scans.specs.inv.steps_left.Rounds.{Rounds, RoundsNeeds}
+use Rattle.law_scans.specs.inv.steps_left.Rounds.{Rounds}
 use Rattle.law_scans.specs.inv.steps_left.Tallies.{Tally, tally, phase_paced, phase_good}
 use Rattle.law_scans.specs.inv.rows.Chain.{line_after, queue_of}
 use Rattle.law_scans.specs.inv.rows.Queue.{Line}

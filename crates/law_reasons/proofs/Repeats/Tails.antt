@@ -2,7 +2,7 @@
 use Rattle.std.proofs.Common.{ℕ, ◌≡◌, ◌+◌, ◌-◌, Bool, true, false, List, [], ◌∷◌, ◌++◌, refl, sym, ap, ◌∙◌, subst, arith}
 use Rattle.std.proofs.lemmas.Bool.Decides.{nat_tests}
 use Rattle.std.specs.Prelude.{◌==◌, if◌then◌else◌}
-use Rattle.wfe_core.specs.words.Place.{Place, same}
+use Rattle.wfe_core.specs.words.Place.{Place}
 use Rattle.wfe_core.specs.words.Place.Place.{Head, Tail, Bucket, Row}
 use Rattle.wfe_core.specs.defs.declared.event.Event.{Event}
 use Rattle.wfe_core.specs.defs.declared.event.Event.TheVariants as events
@@ -15,20 +15,16 @@ use Rattle.wfe_core.specs.Change.{told_change, changed_bucket}
 use Rattle.wfe_core.specs.Enqueue.{told_link}
 use Rattle.wfe_core.specs.Memory as memory
 use Rattle.wfe_core.specs.Memory.{written}
-use Rattle.wfe_core.specs.Machine.{base_move}
-use Rattle.wfe_core.specs.Phases.{Base}
-use Rattle.wfe_core.specs.Phases.Base.{Write}
 use Rattle.wfe_core.specs.Posts.{counted}
 use Rattle.wfe_core.specs.Steps.{phase_move}
-use Rattle.wfe_core.specs.WriteRow.{row_word}
-use Rattle.wfe_core.specs.Calls.{ChangeKept, EnqueueKept, LoadVersion, LoadCount, LoadKey, LoadValue, ExchangeRoot, LoadNumber, LoadNext, PassTail, ExchangeNext, ExchangeTail, LoadTail, SwingTail, TakeNumber, TakeValue, ExchangeHead, Getting, Changing, Enqueuing, Dequeuing, GetAt, FindVersion, FindCount, FindKey, FindValue, ReadGuard, GiveBack, Why, Phase, Idle, Runs, Scans, Works, CallOutcome, GoesOn, Answers}
+use Rattle.wfe_core.specs.Calls.{ChangeKept, EnqueueKept, LoadVersion, LoadCount, LoadKey, LoadValue, ExchangeRoot, LoadNumber, LoadNext, PassTail, ExchangeNext, ExchangeTail, LoadTail, SwingTail, TakeNumber, TakeValue, ExchangeHead, Getting, Changing, Enqueuing, Dequeuing, ReadGuard, GiveBack, Phase, Idle, Runs, Scans, Works, CallOutcome, GoesOn, Answers}
 use Rattle.law_scans.specs.inv.rows.Hands.{row_move, hand_in, is_right}
 use Rattle.law_scans.specs.inv.rows.Queue.{Line, line_move, moved_line}
 use Rattle.law_scans.specs.inv.rows.Rows.{View, RowMove}
 use Rattle.law_scans.specs.inv.rows.Rows.RowMove.{Stays, Claims, Bears, Drops, Links, Replaces, Appends, Pops, Reads, Seals, Lists, Returns}
-use Rattle.law_scans.proofs.inv.rows.Own.{unlinked_tail, base_links}
-use Rattle.law_scans.proofs.inv.rows.Went.{LineIn, born_unlined}
-use Rattle.law_scans.proofs.inv.rows.Words.{put_other, missed}
+use Rattle.law_scans.proofs.inv.rows.Own.{unlinked_tail}
+use Rattle.law_scans.proofs.inv.rows.Went.{born_unlined}
+use Rattle.law_scans.proofs.inv.rows.Words.{missed}
 use Rattle.law_scans.specs.inv.ends.Told.{row_events, birth_in}
 use Rattle.laws.proofs.Along.{along}
 use Rattle.laws.specs.StateAt.{tails_by, tails_of}
@@ -38,16 +34,13 @@ use Rattle.law_scans.proofs.places.Ordering.Ordered.{whole_comes}
 use Rattle.wfe_core.specs.Locals.{told_end}
 use Rattle.wfe_core.specs.World.{World, step, told_in}
 use Rattle.law_scans.specs.inv.Known.{Known}
-use Rattle.law_scans.proofs.inv.covers.Kept.{before_at}
 use Rattle.law_scans.specs.inv.requests.Views.{View as Asked}
 use Rattle.law_scans.proofs.inv.rows.Steps.{of_taken}
-use Rattle.law_scans.specs.inv.rows.Chain.{line_after, queue_of}
+use Rattle.law_scans.specs.inv.rows.Chain.{line_after}
 use Rattle.law_scans.specs.inv.history.Record.{Past, tells_of}
 use Rattle.law_scans.proofs.places.Ordering.Nexts.{Here, run_tail, get_tail, cas_other, swung}
 use Rattle.law_scans.proofs.inv.steps_left.Rounds.Worlds.{next_number, other_number, tail_apart}
-use Rattle.law_scans.specs.inv.rows.Queue.LineMove.{Joins, Keeps}
 use Rattle.law_scans.proofs.inv.rows.Queued.{finds_phase}
-use Rattle.law_scans.proofs.inv.Inv.Whole.{covers_of}
 use Rattle.law_scans.proofs.places.Ordering.Linked.{here_of}
 use Rattle.law_scans.proofs.inv.rows.Runs.{taken_slot}
 use Rattle.wfe_core.proofs.Facts.{same_both, number_is}

@@ -24,7 +24,7 @@ use Rattle.inv_all.specs.history.Record.Past.{Then}
 use Rattle.inv_all.proofs.history.Entries.{entries_of_each}
 use Rattle.inv_all.specs.history.History.{Begins, Steps, Made, done, first_made, record_of}
 use Rattle.inv_all.proofs.history.Along.{Steady, items_keep}
-use Rattle.inv_all.specs.ends.Births.{Given, GivenNeeds, given_by, given_all}
+use Rattle.inv_all.specs.ends.Births.{Given, given_by, given_all}
 use Rattle.wfe_core.specs.defs.Events.{is_of_rows}
 use Rattle.inv_all.specs.ends.Told.{row_events, birth_in, move_of}
 use Rattle.inv_all.proofs.ends.Told.Births.{given_start, given_begin, given_kept, retires_given}
@@ -33,7 +33,6 @@ use Rattle.laws.specs.StateAt.{born_by, birth_of}
 use Rattle.laws.specs.HistoryEras.{birth_ok}
 use Rattle.law_reuse.specs.Records.{RecordsKeepBirths}
 use Rattle.laws.proofs.Along.{Single, OfKind, single_each}
-use Rattle.inv_all.proofs.Inv.Whole.{covers_of}
 use Rattle.law_reuse.proofs.Holding.Holds.{given_need}
 
 -- what is told of births

@@ -36,7 +36,6 @@ use Rattle.inv_all.proofs.history.Along.{Steady, items_keep}
 use Rattle.inv_all.specs.Known.{Known}
 use Rattle.inv_all.proofs.Inv.Begun.{known_start, known_begin}
 use Rattle.inv_all.proofs.Inv.Kept.{known_kept, asked_next}
-use Rattle.inv_all.proofs.Inv.Rows.{covers_need}
 use Rattle.wfe_core.specs.defs.Events.{is_of_rows}
 use Rattle.inv_all.specs.ends.Told.{of_rows, row_events, birth_in, move_of}
 use Rattle.inv_all.proofs.ends.Told.Rows.{rows_told}

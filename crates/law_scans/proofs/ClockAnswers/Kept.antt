@@ -17,7 +17,7 @@ use Rattle.law_places.proofs.inv.shapes.Frame.{seat_stays, begin_stays, begin_be
 use Rattle.law_places.specs.inv.history.Record.{Past, Each, tells_of}
 use Rattle.law_places.specs.inv.history.Record.Past.{Then}
 use Rattle.law_places.proofs.inv.history.Entries.{entries_of_each}
-use Rattle.law_places.specs.inv.history.History.{Made, fits, first_made, record_of}
+use Rattle.law_places.specs.inv.history.History.{Made, first_made, record_of}
 use Rattle.law_places.proofs.inv.history.Along.{Steady, items_keep}
 use Rattle.laws.proofs.Along.{along}
 use Rattle.law_places.proofs.inv.history.AllOf.{all_of}

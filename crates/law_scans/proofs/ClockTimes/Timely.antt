@@ -19,7 +19,7 @@ use Rattle.law_places.proofs.inv.shapes.Frame.{seat_stays, begin_stays, begin_be
 use Rattle.law_places.specs.inv.history.Record.{Past, Each, tells_of}
 use Rattle.law_places.specs.inv.history.Record.Past.{Then}
 use Rattle.law_places.proofs.inv.history.Entries.{entries_of_each}
-use Rattle.law_places.specs.inv.history.History.{Item, Begins, Steps, Made, fits, done, done_if, did, made_from, made_of, first_made, record_of}
+use Rattle.law_places.specs.inv.history.History.{Item, Begins, Steps, Made, fits, done, done_if, did, made_from, first_made, record_of}
 use Rattle.law_places.proofs.inv.history.Along.{item_keeps, made_snoc}
 use Rattle.law_places.proofs.inv.history.AllOf.{all_of, of_along}
 use Rattle.law_places.proofs.answers.AnswersTold.Answering.{owes_of}
@@ -40,8 +40,7 @@ use Rattle.wfe_core.specs.Allocate as allocates
 use Rattle.wfe_core.proofs.Facts.{both, first_of, rest_of, both_below}
 use Rattle.law_places.proofs.inv.covers.Held.{stepped_phase}
 use Rattle.laws.proofs.Tells.{tells_both}
-use Rattle.laws.specs.StateAt.{ticked_by, clock_of}
-use Rattle.law_eras.proofs.EraLaw.Keeps.{record_clock}
+use Rattle.laws.specs.StateAt.{clock_of}
 use Rattle.law_scans.specs.Outcomes.{clock_tally}
 use Rattle.laws.specs.AnswerLaw.{from_by, from_of}
 use Rattle.laws.specs.HistoryAnswers.{time_fits, answer_time, times_ok}

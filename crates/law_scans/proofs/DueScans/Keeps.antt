@@ -29,7 +29,7 @@ use Rattle.law_places.specs.inv.rows.Rows.{View}
 use Rattle.law_places.specs.inv.history.Record.{Past, Each, EachEntry, tells_of}
 use Rattle.law_places.specs.inv.history.Record.Past.{Then}
 use Rattle.law_places.proofs.inv.history.Entries.{entries_of_each}
-use Rattle.law_places.specs.inv.history.History.{Item, Begins, Steps, Made, fits, done, made_of, first_made, record_of}
+use Rattle.law_places.specs.inv.history.History.{Item, Begins, Steps, Made, done, made_of, first_made, record_of}
 use Rattle.law_places.proofs.inv.history.Along.{Steady, items_keep}
 use Rattle.law_places.specs.inv.Known.{Known}
 use Rattle.law_places.proofs.inv.Inv.Begun.{known_start, known_begin}

@@ -1,5 +1,5 @@
 -- What a step tells of helper words and of its seat's index words comes where it may.
-use Rattle.std.proofs.Common.{ℕ, ◌≡◌, ◌+◌, Bool, true, false, List, [], ◌∷◌, ◌++◌, Option, Some, None, refl, ◌∙◌, subst}
+use Rattle.std.proofs.Common.{ℕ, ◌≡◌, Bool, true, false, List, [], ◌∷◌, ◌++◌, Option, Some, None, refl, ◌∙◌, subst}
 use Rattle.std.proofs.lemmas.Bool.{or_left, or_right}
 use Rattle.std.specs.Prelude.{◌==◌, ◌&&◌, ◌||◌, if◌then◌else◌, not}
 use Rattle.wfe_core.specs.words.Packed.{reservation_word}
@@ -23,7 +23,7 @@ use Rattle.wfe_core.specs.Phases.ProtectAt.{PublishEra, PublishHelper, TakeAnswe
 use Rattle.wfe_core.specs.Phases.MoveAt.{ShowEra, HandOver, HideEra, HideLate}
 use Rattle.wfe_core.specs.Phases.Base.{Begin, Protect, Clear, Finish, Release, Move}
 use Rattle.wfe_core.specs.Calls.{Task, Gets, Changes, Holds, Enqueues, Dequeues, AfterScan, Answered, Repeated, Counted, Why, Opens, FollowsHead, Fills, ClearsNext, Clears, Finishes, GivesUp, Retires, Tidies, Advances, Releases}
-use Rattle.wfe_core.proofs.Facts.{same_number, both, first_of, rest_of}
+use Rattle.wfe_core.proofs.Facts.{same_number, first_of, rest_of}
 use Rattle.law_turns.specs.inv.shapes.Seats.{Shaped, kind_of, suits, index_by}
 use Rattle.law_turns.specs.inv.history.Record.{Past, Test, Each, tells_of}
 use Rattle.law_turns.specs.inv.history.Record.Past.{Then}

@@ -34,7 +34,7 @@ use Rattle.law_turns.specs.inv.history.Record.{Past, Test, Each, tells_of}
 use Rattle.law_turns.specs.inv.history.Record.Past.{Then}
 use Rattle.law_turns.specs.inv.history.Turns as schedule
 use Rattle.law_turns.specs.inv.history.Turns.{record_of}
-use Rattle.law_turns.specs.inv.history.Turns.History.{Starts, Turns}
+use Rattle.law_turns.specs.inv.history.Turns.History.{Starts}
 use Rattle.law_turns.specs.answers.Heard.{IsCounted}
 use Rattle.law_turns.proofs.answers.OneStep.Along.{Around, Kept, history_keeps}
 use Rattle.law_turns.proofs.answers.Turns.Counted.{histories_count}

@@ -19,7 +19,7 @@ use Rattle.wfe_core.specs.Rounds.{scheme_of, clearing_next}
 use Rattle.wfe_core.specs.Steps as steps
 use Rattle.wfe_core.specs.World.{World, begin, step, finds, is_busy, told_in}
 use Rattle.wfe_core.specs.Phases.{ProtectAt, Base, Turn, Ending, Outcome, Goes, Ends}
-use Rattle.wfe_core.specs.Phases.ProtectAt.{LoadClock, LoadWithin, WithdrawRequest, WithdrawHelper}
+use Rattle.wfe_core.specs.Phases.ProtectAt.{LoadClock, LoadWithin}
 use Rattle.wfe_core.specs.Phases.Base.{Protect, Reload}
 use Rattle.wfe_core.specs.Phases.Ending.{Done, Protected, Followed, Allocated, Retired, Clocked}
 use Rattle.wfe_core.specs.Calls.{Again, Why, Opens, FollowsHead, Fills, ClearsNext, Clears, Finishes, GivesUp, Retires, Tidies, Advances, Releases, ReadGuard, GiveBack, Phase, Idle, Runs, Scans, Works, CallTurn}
@@ -38,7 +38,7 @@ use Rattle.law_turns.specs.inv.history.Turns.{record_of}
 use Rattle.law_turns.specs.inv.history.Turns.History.{Starts, Turns}
 use Rattle.law_turns.specs.inv.history.History.{Begins, Steps, Made, done}
 use Rattle.law_turns.specs.inv.history.History as histories
-use Rattle.law_turns.specs.inv.requests.Parents.{OutcomeStands, protect_stands, base_stands, why_stands, phase_stands}
+use Rattle.law_turns.specs.inv.requests.Parents.{OutcomeStands, why_stands, phase_stands}
 use Rattle.law_turns.proofs.inv.requests.Standings.{machine_stands}
 use Rattle.law_turns.proofs.inv.covers.Held.{stepped_post, stepped_phase}
 use Rattle.law_turns.specs.inv.Inv.{Inv}

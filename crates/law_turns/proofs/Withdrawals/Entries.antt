@@ -32,7 +32,7 @@ use Rattle.inv_all.specs.history.Record.{Past, Test, Each, tells_of}
 use Rattle.inv_all.specs.history.Record.Past.{Start, Then}
 use Rattle.inv_all.specs.history.Turns as schedule
 use Rattle.inv_all.specs.history.Turns.{record_of}
-use Rattle.inv_all.specs.history.Turns.History.{Blank, Starts, Turns}
+use Rattle.inv_all.specs.history.Turns.History.{Starts, Turns}
 use Rattle.inv_all.proofs.history.AllOf.{all_of}
 use Rattle.inv_all.proofs.history.Entries.{entries_of_each}
 use Rattle.inv_all.proofs.history.MayTell.{Passes, Tells, base_all, base_helper, base_shows, same_span, step_all}
