@@ -13,7 +13,7 @@ use Rattle.inv_all.proofs.history.Entries.{entries_of_each}
 use Rattle.inv_all.specs.history.Heard.{heard_of}
 use Rattle.law_answers.proofs.Turns.Counted.{histories_count}
 use Rattle.laws.specs.StateAt.{is_open, opened_by}
-use Rattle.laws.specs.HistoryTurns.{open_ok}
+use Rattle.laws.specs.Standing.{open_ok}
 use Rattle.law_answers.specs.Records.{RecordsOpenCalls}
 
 -- a seat tells an event of its own

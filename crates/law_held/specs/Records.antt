@@ -3,7 +3,7 @@ use Rattle.std.specs.Prelude.{List, true, ◌≡◌}
 use Rattle.wfe_core.specs.words.Place.{is_valid}
 use Rattle.wfe_core.specs.words.declared.layout.Layout.{Layout}
 use Rattle.law_places.specs.inv.history.History.{Item, record_of}
-use Rattle.laws.specs.HistoryHolds.{HeldThroughout, SourceLaw, FindLaw, GotLaw, LinkLaw, FollowLaw, BehindLaw, RestLaw}
+use Rattle.laws.specs.HistoryHolds.{StoodThroughout, SourceLaw, FindLaw, GotLaw, LinkLaw, FollowLaw, BehindLaw, RestLaw}
 use Rattle.laws.specs.HistoryHolds.{LoneLaw}
 use Rattle.laws.specs.HistoryHolds.{ClearLaw, IndexLaw}
 
@@ -17,7 +17,7 @@ RecordsUseIndexes = (layout : Layout) (items : List Item) → is_valid layout �
 
 -- each history's record keeps it, whatever calls begin and whichever seats make their steps
 abbrev pub RecordsHoldThroughout : Type 0
-RecordsHoldThroughout = (layout : Layout) (items : List Item) → is_valid layout ≡ true → HeldThroughout layout.config (record_of layout items)
+RecordsHoldThroughout = (layout : Layout) (items : List Item) → is_valid layout ≡ true → StoodThroughout layout.config (record_of layout items)
 
 -- each history's record keeps it, whatever calls begin and whichever seats make their steps
 abbrev pub RecordsFindSources : Type 0

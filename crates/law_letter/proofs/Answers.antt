@@ -9,7 +9,7 @@ use Rattle.laws.specs.HistoryHolds.{clears_ok}
 use Rattle.laws.specs.HistoryHolds.{lone_ok}
 use Rattle.law_letter.proofs.Stands.{stands_one, bare_one}
 use Rattle.laws.specs.HistoryScans.{count_ok, answers_scan}
-use Rattle.laws.specs.HistoryTurns.{open_ok}
+use Rattle.laws.specs.Standing.{open_ok}
 use Rattle.laws.specs.QueueLaw.{empty_ok}
 use Rattle.laws.specs.ScanLaw.{guards, is_scan_call}
 use Rattle.laws.specs.StateAt.{began_of, call_of, is_open, seen, times, told_of, with_told, was_empty, has_told, is_dequeue, is_read, is_back, list_of, changed_of, had_version, is_there, pairs_at, bucket_of}

@@ -1,8 +1,8 @@
 -- What calls answer of the clock, how a call that finds no room has sought one, and how often calls begin anew.
 use Rattle.std.proofs.Common.{ℕ, ◌≡◌, Bool, true, false, refl, sym, arith, ◌∙◌, ap, ◌+◌, ◌-◌, ◌<◌, List, ◌∷◌}
 use Rattle.std.proofs.lemmas.Bool.Decides.{nat_tests}
-use Rattle.std.specs.Prelude.{◌==◌, if◌then◌else◌, ◌&&◌, ◌||◌, not, is_none, nat_lt, nat_le, ◌%◌}
-use Rattle.laws.proofs.records.defs.Facts.{both, first_of, rest_of, number_is}
+use Rattle.std.specs.Prelude.{◌==◌, if◌then◌else◌, ◌&&◌, not, is_none, nat_lt, nat_le, ◌%◌}
+use Rattle.laws.proofs.records.defs.Facts.{both, first_of, rest_of, or_left_true, number_is}
 use Rattle.laws.specs.AnswerLaw as weak
 use Rattle.laws.specs.AnswerLaw.{from_of, moves_of, moves_before}
 use Rattle.laws.specs.HistoryAnswers as strong
@@ -54,10 +54,6 @@ moved_awaits MayScan h = refl
 moved_awaits (MustScan moves) h = refl
 moved_awaits (Reading reads) h = absurd (cc)
 
-among_first : (same rest : Bool) → same ≡ true → (same || rest) ≡ true
-among_first true rest h = refl
-among_first false rest h = absurd (cc)
-
 read_awaits : (course : Course) → awaits (read_course course) ≡ true → ⊥
 read_awaits Plain h = cc
 read_awaits Advancing h = cc
@@ -73,7 +69,7 @@ ClockAfter config i p event =
     ClockAgrees (plain_by config.every event (plain_tally config.every i p)).course (plain_clock_by config.every event (plain_clock config.every i p)) (weak.clock_by config.every event (weak.clock_tally config.every i p))
 
 era_eras : (era : ℕ) (eras : List ℕ) (e : ℕ) (reads : Bool) → reads ≡ false → (era == e) ≡ true → is_among e (if reads then eras else era ∷ eras) ≡ true
-era_eras era eras e reads r h = rw r (among_first (era == e) (is_among e eras) h)
+era_eras era eras e reads r h = rw r (or_left_true (era == e) (is_among e eras) h)
 
 own_clock : (config : Config) (i : ℕ) (p : Past) (event : Event) → plain_moves_ok config p i event ≡ true → Clock config i p → ClockAfter config i p event
 own_clock config i p (events.Begin call) m a = record { counts = a.counts; due = refl; none = λ e. refl; some = λ era e. absurd (cc); reads = λ e. refl }

@@ -2,7 +2,7 @@
 use Rattle.std.proofs.Common.{ℕ, ◌≡◌, Bool, true, false, refl, None, Some, Option, ◌<◌}
 use Rattle.std.specs.Prelude.{◌==◌, ◌&&◌, ◌||◌, not, nat_le, nat_lt, if◌then◌else◌}
 use Rattle.laws.proofs.records.Entries.{each_of_entries, entries_of_each}
-use Rattle.laws.proofs.records.defs.Facts.{both, rest_of}
+use Rattle.laws.proofs.records.defs.Facts.{both, or_more, rest_of}
 use Rattle.laws.specs.EraLaw as weak
 use Rattle.laws.specs.EraLaw.{EraLaw, is_one_era, span_rises, moves_ok}
 use Rattle.laws.specs.HistoryEras as strong
@@ -94,14 +94,10 @@ no_helper He there grows h = refl
 no_helper Ibr there grows h = absurd (cc)
 no_helper Wfe there grows h = refl
 
-last_true : (a b : Bool) → b ≡ true → (a || b) ≡ true
-last_true true b h = refl
-last_true false b h = h
-
 guard_rises : (config : Config) (guard : Guard) (p : Past) (i : ℕ) (span : Option Interval) → is_guard config guard ≡ true → strong.span_rises p i (events.Reserve guard span) ≡ true → (not (has_one_interval config.scheme) || span_rises (value_of guard p) span) ≡ true
 guard_rises config (Helper seat) p i span g h = no_helper config.scheme (nat_lt seat config.seats) (span_rises (value_of (Helper seat) p) span) g
 guard_rises config (Index seat index) p i span g h = no_index config.scheme (nat_lt seat config.seats && nat_lt index config.indexes) (span_rises (value_of (Index seat index) p) span) g
-guard_rises config (Whole seat) p i span g h = last_true (not (has_one_interval config.scheme)) (span_rises (value_of (Whole seat) p) span) (rises_of (value_of (Whole seat) p) span h)
+guard_rises config (Whole seat) p i span g h = or_more (not (has_one_interval config.scheme)) (span_rises (value_of (Whole seat) p) span) (rises_of (value_of (Whole seat) p) span h)
 
 rising_part : (config : Config) (p : Past) (i : ℕ) (event : Event) → guards_ok config p i event ≡ true → strong.span_rises p i event ≡ true → weak.rising_ok config.scheme p i event ≡ true
 rising_part config p i (events.Reserve guard span) g h = guard_rises config guard p i span g h

@@ -1,9 +1,10 @@
 -- The laws on what stands, from those of histories, in which one row stands at an index at most.
-use Rattle.std.proofs.Common.{ℕ, ◌≡◌, Bool, true, false, refl, sym, arith, None, Some, Option, subst, ◌∙◌, ap, ◌+◌}
+use Rattle.std.proofs.Common.{ℕ, ◌≡◌, Bool, true, false, refl, sym, arith, None, Some, Option, subst, ◌∙◌, ◌+◌}
 use Rattle.std.proofs.lemmas.Bool.Decides.{nat_tests}
 use Rattle.std.specs.Prelude.{◌==◌, if◌then◌else◌, ◌&&◌, ◌||◌, not, is_none, nat_lt}
 use Rattle.laws.proofs.records.Entries.{each_before, each_of_entries, entries_of_each}
-use Rattle.laws.proofs.records.defs.Facts.{both, number_is}
+use Rattle.laws.proofs.records.defs.Facts.{both, or_along}
+use Rattle.laws.proofs.Along.{row_of}
 use Rattle.laws.specs.HistoryHolds as strong
 use Rattle.laws.specs.HistoryHolds.{HistoryHolds, HistoryStands, clears_ok, protects_at, clears_at}
 use Rattle.laws.specs.HoldLaw as weak
@@ -95,15 +96,11 @@ standing_kept r l h =
     }
 
 -- a row that stands is the one
-row_is : (s : ℕ) (x : Option ℕ) → is_row s x ≡ true → x ≡ Some s
-row_is s None h = absurd (cc)
-row_is s (Some slot) h = ap Some (sym (number_is s slot h))
-
-throughout_part : (config : Config) (r : Past) → LoneLaw r → HistoryStands r → strong.HeldThroughout config r → weak.HeldThroughout config r
+throughout_part : (config : Config) (r : Past) → LoneLaw r → HistoryStands r → strong.StoodThroughout config r → weak.HeldThroughout config r
 throughout_part config r l h t before later k j s cut g =
     let a : Each lone_ok before = each_before lone_ok before later (subst (Each lone_ok) cut (each_of_entries lone_ok r l)) in
     let b : Each clears_ok before = each_before clears_ok before later (subst (Each clears_ok) cut (each_of_entries clears_ok r h.clears)) in
-    t before later k j s cut (row_is s (stood_at k j before) (sym (stands_one k j s before a b) ∙ g))
+    t before later k j s cut (row_of s (stood_at k j before) (sym (stands_one k j s before a b) ∙ g))
 
 source_by : (index : ℕ) (had : Bool) → (index == 1 || had) ≡ true → (not (weak.is_of_root index) || had) ≡ true
 source_by index had h = grind (arith, nat_tests)
@@ -177,15 +174,11 @@ last_by slots i p (Some row) h = or_true (held_since (begins i) (weak.is_last sl
     or_true true e = refl
     or_true false e = e
 
-last_or : (a b c : Bool) → (b ≡ true → c ≡ true) → (a || b) ≡ true → (a || c) ≡ true
-last_or true b c f h = refl
-last_or false b c f h = f h
-
 behind_part : (slots : ℕ) (p : Past) (i : ℕ) (event : Event) → Each lone_ok p → Each clears_ok p → strong.follows_ok slots p i event ≡ true → strong.behind_ok slots p i event ≡ true → weak.behind_ok slots p i event ≡ true
 behind_part slots p i (events.Held index slot steps) l c f h =
     rw (stands_one i 0 (head_at slots p) p l c) (both_or (not (index == 1)) (is_row (head_at slots p) (stood_at i 0 p)) (is_slot slot (next_at (head_at slots p) p)) f h)
 behind_part slots p i (events.Null index steps) l c f h =
-    rw (one_stands i 0 p l c) (last_or (not (index == 1)) (strong.was_last slots i p (stood_at i 0 p)) (weak.was_last slots i p (one_row (stood_at i 0 p))) (last_by slots i p (stood_at i 0 p)) h)
+    rw (one_stands i 0 p l c) (or_along (not (index == 1)) (strong.was_last slots i p (stood_at i 0 p)) (weak.was_last slots i p (one_row (stood_at i 0 p))) (last_by slots i p (stood_at i 0 p)) h)
 behind_part slots p i event l c f h = refl
 
 bare_by : (zero one : Bool) → (zero || false) ≡ true → (one || false) ≡ true → (zero && one) ≡ true

@@ -10,7 +10,7 @@ use Rattle.laws.specs.HistoryRows.{single_ok}
 use Rattle.laws.specs.HistoryScans as scans
 use Rattle.laws.specs.HistoryScans.{HistoryScans, plain_scans_ok, count_ok}
 use Rattle.laws.specs.HistorySteps as steps
-use Rattle.laws.specs.HistoryTurns.{open_ok}
+use Rattle.laws.specs.Standing.{open_ok}
 use Rattle.laws.specs.HistoryHolds.{lone_ok}
 use Rattle.laws.specs.QueueLaw.{empty_ok}
 use Rattle.laws.specs.ScanLaw.{ScanLaw, blocks_ok, room_ok}

@@ -9,7 +9,7 @@ use Rattle.laws.specs.HistoryRows.{cuts_one, single_ok}
 use Rattle.laws.specs.HistoryScans as strong
 use Rattle.laws.specs.HistoryScans.{Course, Tally, first_course, moved_course, read_course, retired_course, plain_by, plain_tally, no_tally, may_read, is_settled, scan_right, plain_scans_ok, Search, search_by, search_of, no_search, seeks_row}
 use Rattle.laws.specs.HistoryScans.Course.{Plain, Advancing, MayScan, MustScan, Reading}
-use Rattle.laws.specs.HistoryTurns.{open_ok}
+use Rattle.laws.specs.Standing.{open_ok}
 use Rattle.laws.specs.ScanLaw.{Blocks, begun_block, blocks_by, blocks_of, guards, is_given_one, is_scan_call, may_begin, is_scanned, blocks_ok, seeks_room, room_ok, due_block}
 use Rattle.laws.specs.StateAt.{began_by, began_of, is_open, opened_by, retires_by, retires_of, was_taken}
 use Rattle.laws.specs.defs.declared.call.Call.{Call}

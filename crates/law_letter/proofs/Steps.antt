@@ -1,7 +1,8 @@
 -- The steps of protections and calls, from what histories keep.
 use Rattle.std.proofs.Common.{ℕ, ◌≡◌, Bool, true, false, refl, None, Some, Option, arith}
 use Rattle.std.proofs.lemmas.Bool.Decides.{nat_tests}
-use Rattle.std.specs.Prelude.{◌==◌, ◌||◌, nat_le, not, if◌then◌else◌}
+use Rattle.std.specs.Prelude.{◌==◌, nat_le, not, if◌then◌else◌}
+use Rattle.laws.proofs.records.defs.Facts.{or_more}
 use Rattle.laws.specs.HistorySteps as strong
 use Rattle.laws.specs.HistorySteps.{is_era_spent}
 use Rattle.laws.specs.StateAt.{began_of, backs_of}
@@ -47,11 +48,7 @@ ends_kept config r h = each_weaker (strong.end_ok config) (weak.end_ok config) (
 
 -- a helper word that is the seat's own
 ask_part : (tries j : ℕ) (p : Past) (i : ℕ) (event : Event) → strong.asks_ok tries j p i event ≡ true → weak.ask_ok tries j p i event ≡ true
-ask_part tries j p i (events.Reserve (Helper k) (Some span)) h = last_true (not (k == i)) (weak.has_tried tries i j p) h
-  where
-    last_true : (a b : Bool) → b ≡ true → (a || b) ≡ true
-    last_true true b h = refl
-    last_true false b h = h
+ask_part tries j p i (events.Reserve (Helper k) (Some span)) h = or_more (not (k == i)) (weak.has_tried tries i j p) h
 ask_part tries j p i event h = refl
 
 pub asks_kept : (tries j : ℕ) (r : Past) → Each (strong.asks_ok tries j) r → Each (weak.ask_ok tries j) r

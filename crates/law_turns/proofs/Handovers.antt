@@ -35,11 +35,10 @@ use Rattle.laws.specs.HistoryTurns.{event_handed, events_handed, handed_right}
 use Rattle.law_turns.specs.Records.{HandoversMeet}
 use Rattle.wfe_core.specs.defs.declared.event.Event.TheVariants as events
 use Rattle.wfe_core.specs.Machine as machine
-use Rattle.wfe_core.proofs.Facts.{both, first_of, rest_of, number_is}
+use Rattle.wfe_core.proofs.Facts.{both, first_of, rest_of, number_is, or_more}
 use Rattle.inv_all.specs.history.Turns as schedule
 use Rattle.wfe_core.specs.words.Place.{Place as places}
 use Rattle.inv_all.proofs.history.AllOf.{all_of, of_weaker}
-use Rattle.wfe_core.proofs.Lists.{or_more}
 
 handed_all : (i : ℕ) (x : ℕ → ℕ → ℕ) (told : List Event) → all_of (event_handed i x) told ≡ true → events_handed i x told ≡ true
 handed_all i x [] h = refl

@@ -10,7 +10,7 @@ use Rattle.laws.specs.AnswerLaw as answers
 use Rattle.laws.specs.EraLaw as eras
 use Rattle.laws.specs.HistoryHolds.{lone_ok}
 use Rattle.laws.specs.HistoryTable.{guards_ok, ranges_ok}
-use Rattle.laws.specs.HistoryTurns.{open_ok}
+use Rattle.laws.specs.Standing.{open_ok}
 use Rattle.laws.specs.HoldLaw as holds
 use Rattle.laws.specs.MapLaw.{map_ok}
 use Rattle.laws.specs.NoReuse.{reuse_ok}

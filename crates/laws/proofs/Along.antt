@@ -1,9 +1,9 @@
 -- What a record says after all that a step tells: of rows, only the events of rows count.
-use Rattle.std.proofs.Common.{ℕ, ◌≡◌, Bool, true, false, List, [], ◌∷◌, refl, ap, ◌∙◌, arith}
+use Rattle.std.proofs.Common.{ℕ, ◌≡◌, Bool, true, false, List, [], ◌∷◌, refl, ap, sym, Option, None, Some, ◌∙◌, arith}
 use Rattle.std.proofs.lemmas.Bool.Decides.{nat_tests}
 use Rattle.std.specs.List.{filter}
 use Rattle.std.specs.Prelude.{◌==◌}
-use Rattle.model_record.proofs.defs.Facts.{same_number}
+use Rattle.model_record.proofs.defs.Facts.{same_number, number_is}
 use Rattle.model_record.specs.Record.{Past, Test, Each, tells_of}
 use Rattle.model_record.specs.Record.Past.{Then}
 use Rattle.model_record.specs.defs.Events.{is_of_rows}
@@ -12,7 +12,11 @@ use Rattle.model_record.specs.defs.declared.event.Event.TheVariants as events
 use Rattle.model_record.specs.defs.declared.event.Guard.{Guard}
 use Rattle.model_record.specs.defs.declared.event.Guard.TheVariants.{Helper, Index, Whole}
 use Rattle.model_record.specs.defs.declared.lifetime.Lifetime.{Lifetime}
-use Rattle.laws.specs.StateAt.{taken_by, taken_at, retired_by, retired_at, list_by, list_of, cut_by, cut_at, same_guard, is_index_word}
+use Rattle.laws.specs.StateAt.{is_row, taken_by, taken_at, retired_by, retired_at, list_by, list_of, cut_by, cut_at, same_guard, is_index_word}
+
+pub row_of : (s : ℕ) (x : Option ℕ) → is_row s x ≡ true → x ≡ Some s
+row_of s None h = absurd (cc)
+row_of s (Some slot) h = ap Some (sym (number_is s slot h))
 
 abbrev pub along : {X : Type 0} → (Event → X → X) → List Event → X → X
 along f [] x = x

@@ -14,7 +14,7 @@ use Rattle.wfe_words.specs.declared.config.SchemeKind.{SchemeKind}
 use Rattle.laws.specs.HoldLaw.{finds_ok, has_had, is_held, is_last}
 use Rattle.laws.specs.NoReuse.{is_reuse}
 use Rattle.laws.specs.Once.{is_slot}
-use Rattle.laws.specs.StateAt.{began_of, bucket_at, head_at, is_row, next_at, null_of, row_at, stood_at, tail_at, value_of}
+use Rattle.laws.specs.StateAt.{began_of, bucket_at, head_at, is_dequeue, is_row, next_at, null_of, row_at, stood_at, tail_at, value_of}
 
 -- the entry does not reuse row s, or the row does not stand at index j of seat k
 abbrev pub reuse_ok : ℕ → ℕ → ℕ → Test
@@ -67,8 +67,8 @@ LoneLaw r = EachEntry lone_ok r
 
 -- wherever the record is cut, a row that stands at an index of a seat is taken, and the guard of that index publishes an interval that
 -- meets the row's life
-abbrev pub HeldThroughout : Config → Past → Type 0
-HeldThroughout config r =
+abbrev pub StoodThroughout : Config → Past → Type 0
+StoodThroughout config r =
     (before : Past) (later : List Entry) (k j s : ℕ)
     → r ≡ tells before later
     → stood_at k j before ≡ Some s
@@ -101,10 +101,6 @@ gots_ok p i event = true
 
 abbrev pub GotLaw : Past → Type 0
 GotLaw r = EachEntry gots_ok r
-
-abbrev pub is_dequeue : Option Call → Bool
-is_dequeue (Some calls.Dequeue) = true
-is_dequeue call = false
 
 -- the row that a root had, if it had one, stands
 abbrev pub stands_for : (had stood : Option ℕ) → Bool
@@ -198,7 +194,7 @@ pub record HistoryStands (r : Past) : Type 0 where
 -- What stands is covered, and was there to be found.
 pub record HistoryHolds (config : Config) (r : Past) : Type 0 where
   -- at each position what stands is taken, and the guard of its index publishes an interval that meets its life
-  pub throughout : HeldThroughout config r
+  pub throughout : StoodThroughout config r
   -- what a call holds at its root, or that there is nothing, the root had at a position of the call
   pub sources : SourceLaw config r
   -- where a call ends it has held the row of its root, or told that there is none

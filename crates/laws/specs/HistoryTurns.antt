@@ -1,12 +1,13 @@
 -- The law of schedules as turns and records show it: what a turn may tell, and what its numbers count.
 use Rattle.std.specs.Prelude.{Bool, List, [], false, if◌then◌else◌, nat_le, nat_lt, not, true, ℕ, ◌&&◌, ◌+◌, ◌==◌, ◌||◌, ◌∷◌}
-use Rattle.model_record.specs.Record.{EachEntry, Past, Test, tells_of}
+use Rattle.model_record.specs.Record.{EachEntry, Past, tells_of}
 use Rattle.model_record.specs.Turns.History.{Blank, Starts, Turns}
 use Rattle.model_record.specs.Turns.{History, record_of, turns_of}
 use Rattle.model_record.specs.defs.declared.event.Event.TheVariants as events
 use Rattle.model_record.specs.defs.declared.event.Event.{Event}
 use Rattle.model_record.specs.defs.declared.event.Guard.TheVariants.{Index}
-use Rattle.laws.specs.StateAt.{is_open, reserves_of, told}
+use Rattle.laws.specs.Standing.{open_ok}
+use Rattle.laws.specs.StateAt.{reserves_of}
 
 -- an event that changes or reads a word of the table
 abbrev pub is_atomic : Event → Bool
@@ -32,11 +33,7 @@ one_atomic (event ∷ told) = if is_atomic event then none_atomic told else one_
 abbrev pub one_step : History → ℕ → List Event → Bool
 one_step h i told = one_atomic told
 
--- a call begins where its seat is in none, and all else is told in a call
-abbrev pub open_ok : Test
-open_ok p i (events.Begin call) = not (is_open i p)
-open_ok p i event = is_open i p
-
+-- calls begin and end in turn at each seat
 abbrev pub OpenLaw : Past → Type 0
 OpenLaw r = EachEntry open_ok r
 

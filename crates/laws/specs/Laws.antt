@@ -3,7 +3,7 @@ use Rattle.model_record.specs.Record.{Past, EachEntry}
 use Rattle.wfe_words.specs.declared.config.Config.{Config}
 use Rattle.laws.specs.AnswerLaw.{AnswerLaw}
 use Rattle.laws.specs.EraLaw.{EraLaw}
-use Rattle.laws.specs.HistoryTurns.{open_ok}
+use Rattle.laws.specs.Standing.{open_ok}
 use Rattle.laws.specs.HoldLaw.{HoldLaw}
 use Rattle.laws.specs.MapLaw.{MapLaw}
 use Rattle.laws.specs.NoReuse.{NoReuse}

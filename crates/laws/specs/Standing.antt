@@ -1,10 +1,15 @@
--- What stands: where a seat may clear, and which calls use which indexes.
-use Rattle.std.specs.Prelude.{ℕ, Bool, false, true, Option, Some, ◌==◌, if◌then◌else◌}
+-- Calls and what stands: calls in turn, where a seat may clear, and which calls use which indexes.
+use Rattle.std.specs.Prelude.{ℕ, Bool, false, true, Option, Some, ◌==◌, if◌then◌else◌, not}
 use Rattle.model_record.specs.Record.{Test, EachEntry, Past}
 use Rattle.model_record.specs.defs.declared.call.Call.{Call}
 use Rattle.model_record.specs.defs.declared.call.Call.TheVariants as calls
 use Rattle.model_record.specs.defs.declared.event.Event.TheVariants as events
-use Rattle.laws.specs.StateAt.{stands, began_of, is_dequeue}
+use Rattle.laws.specs.StateAt.{stands, began_of, is_dequeue, is_open}
+
+-- a call begins where its seat is in none, and all else is told in a call
+abbrev pub open_ok : Test
+open_ok p i (events.Begin call) = not (is_open i p)
+open_ok p i event = is_open i p
 
 -- at a Clear of a seat the row stands at that index of the seat
 abbrev pub clears_ok : Test

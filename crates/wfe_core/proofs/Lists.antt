@@ -6,6 +6,7 @@ use Rattle.std.proofs.lemmas.List.Folds.{list_any-append}
 use Rattle.std.proofs.lemmas.Map.Steps.{length-le_from_distinct_below}
 use Rattle.std.specs.Prelude.{◌==◌}
 use Rattle.std.specs.List.{IsDistinct, AllByRecursion, list_any, remove}
+use Rattle.wfe_defs.proofs.Facts.{or_more, or_along}
 use Rattle.wfe_defs.specs.declared.lifetime.Lifetime.{Lifetime}
 use Rattle.wfe_core.specs.CallReady.{slots_of, NotListed}
 use Rattle.wfe_core.specs.Held.{ListFits}
@@ -20,14 +21,6 @@ or_left false b h = refl
 pub or_right : (a b : Bool) → (a || b) ≡ false → b ≡ false
 or_right true b h = absurd (grind arith)
 or_right false b h = h
-
-pub or_more : (a b : Bool) → b ≡ true → (a || b) ≡ true
-or_more true b h = refl
-or_more false b h = h
-
-pub or_along : (a b c : Bool) → (b ≡ true → c ≡ true) → (a || b) ≡ true → (a || c) ≡ true
-or_along true b c f h = refl
-or_along false b c f h = f h
 
 apart_push : (x y : ℕ) (xs : List ℕ) → AllByRecursion (λ z. (x == z) ≡ false) xs → (x == y) ≡ false → AllByRecursion (λ z. (x == z) ≡ false) (xs ++ y ∷ [])
 apart_push x y [] h e = (e, tt)

@@ -72,6 +72,18 @@ false_is_true b e h = sym e ∙ h
 pub false_not_true : (b : Bool) → b ≡ false → b ≡ true → ⊥
 false_not_true b h k = cc
 
+pub or_more : (a b : Bool) → b ≡ true → (a || b) ≡ true
+or_more true b h = refl
+or_more false b h = h
+
+pub or_along : (a b c : Bool) → (b ≡ true → c ≡ true) → (a || b) ≡ true → (a || c) ≡ true
+or_along true b c f h = refl
+or_along false b c f h = f h
+
+pub not_or_false : (a b : Bool) → (not a || b) ≡ false → (a ≡ true) × (b ≡ false)
+not_or_false true b h = (refl, h)
+not_or_false false b h = absurd (cc)
+
 pub and_true : (a : Bool) → a ≡ true → (a && true) ≡ true
 and_true true h = refl
 and_true false h = absurd (cc)

@@ -29,6 +29,23 @@ pub trait MakeCells: Cells + Sized {
         ensures { IfOk result (λ cells. HoldsStart layout (Self.words cells)) };
 }
 
+/// The layout's words by number, each as it starts, in a list.
+pub fn start_words(alloc: Global, layout: Layout) -> Result<Vec<u64>, NoMemory>
+    requires { IsTrue (is_valid layout) }
+    ensures { IfOk result (λ words. HoldsStart layout words.items) }
+{
+    let count = layout.words();
+    let Ok(mut words) = Vec::with_capacity(alloc, count as usize) else {
+        return Err(NoMemory);
+    };
+    for word in 0..count {
+        if words.push(layout.start(word)).is_err() {
+            return Err(NoMemory);
+        }
+    }
+    Ok(words)
+}
+
 /// Words in a list, which one owner has. It is seen as that list.
 #[derive(Drop)]
 pub struct PlainCells {
@@ -76,15 +93,8 @@ impl Cells for PlainCells {
 
 impl MakeCells for PlainCells {
     fn make(alloc: Global, layout: Layout) -> Result<PlainCells, NoMemory> {
-        let count = layout.words();
-        let Ok(mut words) = Vec::with_capacity(alloc, count as usize) else {
-            return Err(NoMemory);
-        };
-        for word in 0..count {
-            if words.push(layout.start(word)).is_err() {
-                return Err(NoMemory);
-            }
-        }
-        Ok(PlainCells { words })
+        Ok(PlainCells {
+            words: start_words(alloc, layout)?,
+        })
     }
 }

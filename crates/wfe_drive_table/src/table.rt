@@ -1,13 +1,11 @@
 // Words in an atomic table, whose one handle knows them all. (The table's own crate calls a handle a seat.)
-ghost use Rattle.std.specs.Prelude.{◌≡◌, IfOk, IsTrue};
-ghost use Rattle.wfe_core.specs.words.Place.{is_valid};
-ghost use Rattle.wfe_drive_cells.specs.Memory.{HoldsStart};
+ghost use Rattle.std.specs.Prelude.{◌≡◌};
 
 use atomic_table::{Play, Seat, Table, TableRule};
 use std::alloc::Global;
 use std::marker::Model;
 use wfe_core::{Layout, NoMemory, Op};
-use wfe_drive_cells::{Cells, MakeCells};
+use wfe_drive_cells::{Cells, MakeCells, start_words};
 
 // What a handle knows: the words by number. Proofs alone speak of it, and no value is made.
 #[derive(Drop)]
@@ -114,23 +112,6 @@ impl Cells for TableCells {
             Op::And { word, bits } => shared.fetch_and::<AndStep>(handle, word as usize, bits),
         }
     }
-}
-
-// The words of a table at its start, in a list.
-fn start_words(alloc: Global, layout: Layout) -> Result<Vec<u64>, NoMemory>
-    requires { IsTrue (is_valid layout) }
-    ensures { IfOk result (λ words. HoldsStart layout words.items) }
-{
-    let count = layout.words();
-    let Ok(mut words) = Vec::with_capacity(alloc, count as usize) else {
-        return Err(NoMemory);
-    };
-    for word in 0..count {
-        if words.push(layout.start(word)).is_err() {
-            return Err(NoMemory);
-        }
-    }
-    Ok(words)
 }
 
 impl MakeCells for TableCells {

@@ -3,7 +3,7 @@ ghost use Rattle.std.specs.Prelude.{◌≡◌, ◌≤◌, ◌<◌, ◌+◌, ◌-
 ghost use Rattle.std.specs.Io.{ReadsAtMost, WritesAtMost};
 ghost use Rattle.std.specs.Io.KnownBytes.{ReadConsumes, WriteAppends};
 ghost use Rattle.wfe_outside.specs.Faults.{Rose, one_more};
-ghost use Rattle.wfe_outside.specs.Memory.{Reader, Writer, is_named, is_next_named, has_no_room};
+ghost use Rattle.wfe_outside.specs.Memory.{Reader, Writer, is_next_named, has_no_room};
 
 use crate::{Failed, Sink, Source};
 use std::alloc::Global;
@@ -126,9 +126,9 @@ impl Source for CleanSource {
     }
 }
 
-/// A sink in memory with room for so many bytes. The calls whose numbers, from 1, are listed fail,
-/// and so does a write of a piece with bytes where no room is left. It may fail without end, so its
-/// counts stand still at the greatest number of 64 bits.
+/// A sink in memory with room for so many bytes. The calls whose numbers, from 1, are listed fail (no
+/// number of 64 bits names one after the last), and so does a write of a piece with bytes where no room
+/// is left. It may fail without end, so its counts stand still at the greatest number of 64 bits.
 #[derive(Drop)]
 pub struct MemSink {
     bytes: Vec<u8>,
@@ -187,14 +187,15 @@ impl Sink for MemSink {
         ensures bytes { WriteAppends (Some self.old.written) (Some self.new.written) result piece.now }
         ensures later { self.old.faults ≤ self.new.faults }
         ensures cause { OnErr result (Rose true self.old.faults self.new.faults) }
-        ensures fails_where_named_or_full { is_err result ≡ (is_named self.old.fails (one_more self.old.calls) || has_no_room self.old piece.now) }
+        ensures fails_where_named_or_full { is_err result ≡ (is_next_named self.old.fails self.old.calls || has_no_room self.old piece.now) }
         ensures takes_all_it_can { IfOk result (λ count. count ≡ min (length piece.now) (self.old.room - length self.old.written)) }
         ensures after { IfOk result (λ count. self.new ≡ record self.old { written = self.old.written ++ take count piece.now; calls = one_more self.old.calls }) }
         ensures after_failing { OnErr result (self.new ≡ record self.old { calls = one_more self.old.calls; faults = one_more self.old.faults }) }
     {
+        let named = self.calls < u64::MAX && self.fails.contains(&(1 + self.calls));
         self.calls = self.calls.saturating_add(1);
         let count = piece.len().min(self.room - self.bytes.len());
-        if self.fails.contains(&self.calls) || (count == 0 && !piece.is_empty()) {
+        if named || (count == 0 && !piece.is_empty()) {
             self.faults = self.faults.saturating_add(1);
             return Err(Failed);
         }

@@ -6,7 +6,7 @@ use Rattle.std.proofs.lemmas.Option.{slice_get_within, get_or_from_slice_get}
 use Rattle.std.specs.Prelude.{Some, min, slice_get, sum_by, ◌^◌}
 use Rattle.wfe_outside.specs.defs.declared.event.Event.{Event}
 use Rattle.wfe_outside.specs.declared.watcher.WatchRow.{WatchRow}
-use Rattle.wfe_server_out.specs.Pieces.{Text, heard_of, text_of}
+use Rattle.wfe_server_out.specs.Pieces.{Text, text_of}
 use Rattle.wfe_server_out.proofs.Texts.{text_of-append}
 use Rattle.wfe_watch.specs.Counts.{row_at, row_of}
 use Rattle.wfe_watch.specs.Garbage.{garbage_after, with_garbage}
@@ -57,11 +57,3 @@ table_text rows = text_of-append (seat_lines 0 rows) (Text (total_line rows) ∷
 -- the table of a play, whose counts these are
 pub table_is : (s t : Played) → s ≡ t → text_of (seat_lines 0 s.garbage) ++ total_line s.garbage ≡ text_of (table_pieces t.garbage)
 table_is s t e = sym (table_text s.garbage) ∙ ap (λ (p : Played). text_of (table_pieces p.garbage)) e
-
--- no watcher is told of a table
-heard_none : (seat : ℕ) (rows : List WatchRow) (last : List ℕ) → heard_of (seat_lines seat rows ++ Text last ∷ []) ≡ []
-heard_none seat [] last = refl
-heard_none seat (row ∷ rows) last = heard_none (seat + 1) rows last
-
-pub table_quiet : (rows : List WatchRow) → heard_of (table_pieces rows) ≡ []
-table_quiet rows = heard_none 0 rows (total_line rows)

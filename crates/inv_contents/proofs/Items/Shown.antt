@@ -9,7 +9,7 @@ use Rattle.inv_rows.specs.words.Place.Place.{Row}
 use Rattle.inv_rows.specs.model.Book.{Book}
 use Rattle.inv_rows.specs.model.Phases.{Base}
 use Rattle.inv_rows.specs.model.Calls.{EnqueueKept, Task, Gets, Changes, Holds, Enqueues, Dequeues, Why, Opens, FollowsHead, Fills, EnqueueAt, LoadNumber, LoadNext, PassTail, ExchangeNext, ExchangeTail, DequeueAt, LoadTail, SwingTail, TakeNumber, TakeValue, ExchangeHead, Work, Getting, Changing, Enqueuing, Dequeuing, Phase, Idle, Runs, Scans, Works}
-use Rattle.inv_rows.proofs.model.Facts.{number_is, or_left_true}
+use Rattle.inv_rows.proofs.model.Facts.{number_is, or_left_true, or_more}
 use Rattle.inv_rows.specs.Rows.{View}
 use Rattle.inv_rows.specs.Queue.{Line, moved_line, stands_on}
 use Rattle.inv_rows.specs.Queue.LineMove.{Joins}
@@ -18,7 +18,6 @@ use Rattle.inv_contents.specs.Stands.{nexts_in}
 use Rattle.inv_contents.specs.Reads.{value_under, numbers_in, values_in, Reads}
 use Rattle.inv_contents.specs.Items.{Shown}
 use Rattle.inv_contents.proofs.Items.Rows.{Lower}
-use Rattle.inv_rows.proofs.model.Lists.{or_more}
 
 -- values that were queued stay under their numbers
 pub value_stays : (queued : List ℕ) (value n : ℕ) → 0 < n → n ≤ length queued → value_under (queued ++ value ∷ []) n ≡ value_under queued n

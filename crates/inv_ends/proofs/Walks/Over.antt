@@ -31,8 +31,7 @@ use Rattle.inv_handover.specs.covers.words.Place.{is_valid}
 use Rattle.inv_handover.specs.covers.words.Place.Place.{Index, Request}
 use Rattle.std.specs.Prelude.{length, nat_lt, if◌then◌else◌, ◌==◌, ◌&&◌, ◌||◌}
 use Rattle.inv_handover.proofs.requests.Handing.{mark_few, asked_bits}
-use Rattle.inv_handover.proofs.covers.model.Facts.{first_of, number_is, same_test, no_truth_2}
-use Rattle.inv_handover.proofs.covers.model.Lists.{or_along}
+use Rattle.inv_handover.proofs.covers.model.Facts.{first_of, number_is, same_test, no_truth_2, or_along}
 
 -- a deal that is not pending, and which this tag is no answer of
 pub quiet_done : (t j : ℕ) (d : Deal) → is_quiet d ≡ true → done_at t j d ≡ false

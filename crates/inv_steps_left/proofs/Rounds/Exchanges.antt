@@ -10,8 +10,7 @@ use Rattle.inv_steps_left.proofs.Rounds.Counts.{book_grows, tally_of}
 use Rattle.inv_steps_left.proofs.Rounds.Grows.{Grows}
 use Rattle.inv_contents.specs.rows.Queue.{Line}
 use Rattle.std.specs.Prelude.{List, length, nat_le, if◌then◌else◌, ◌==◌, ◌||◌}
-use Rattle.inv_contents.proofs.model.Facts.{same_or, number_is}
-use Rattle.inv_contents.proofs.model.Lists.{or_more}
+use Rattle.inv_contents.proofs.model.Facts.{same_or, number_is, or_more}
 
 above : (n m : ℕ) → n + 1 ≤ m → nat_le (n + 1) m ≡ true
 above n m h = grind (arith, nat_tests, h)

@@ -17,8 +17,7 @@ use Rattle.inv_steps_left.specs.Tallies.{Since, Tally, bucket_good, dequeue_pace
 use Rattle.std.specs.Prelude.{nat_le, ◌==◌, ◌||◌, ◌%◌, not}
 use Rattle.inv_contents.specs.defs.declared.event.Root.TheVariants as roots
 use Rattle.inv_contents.specs.defs.declared.event.Root.{Root}
-use Rattle.inv_contents.proofs.model.Facts.{first_of, rest_of, both}
-use Rattle.inv_contents.proofs.model.Lists.{or_more}
+use Rattle.inv_contents.proofs.model.Facts.{first_of, rest_of, both, or_more}
 
 -- counts never fall; where a root, the tail or the head is another, the count of it has risen, and so where a row is linked
 pub record Grows (t u : Tally) : Type 0 where

@@ -32,13 +32,12 @@ use Rattle.inv_all.specs.requests.Standing.{Requests}
 use Rattle.inv_all.specs.requests.Views.{View as Asked, Role as role}
 use Rattle.inv_all.proofs.handover.Shown.{helper_shows}
 use Rattle.wfe_core.specs.Links.{link_number}
-use Rattle.wfe_core.proofs.Facts.{first_of, both, rest_of, number_is, false_not_true}
+use Rattle.wfe_core.proofs.Facts.{first_of, both, rest_of, number_is, false_not_true, or_more}
 use Rattle.inv_all.specs.covers.Covers.{eras_shown}
 use Rattle.laws.specs.StateAt.{reserved_by, value_of, seat_of}
 use Rattle.laws.specs.EraLaw.{same_interval, guard_ok}
 use Rattle.law_eras.proofs.EraLaw.Dates.{is_dated, later_undated}
 use Rattle.inv_all.proofs.requests.Known.{stands_as}
-use Rattle.wfe_core.proofs.Lists.{or_more}
 use Rattle.inv_all.proofs.history.MayTell.{Tells, may_store, base_helper, base_index, base_whole, base_shows, hands, same_span, span_of, is_find, shape_of}
 
 abbrev pub is_reserve : Event → Bool

@@ -33,7 +33,7 @@ use Rattle.wfe_core.specs.Phases.ProtectAt.{PublishEra, LoadLink, CheckClock, Pu
 use Rattle.wfe_core.specs.Phases.Base.{Begin, Protect, Reload, Allocate, Write, Retire, Move}
 use Rattle.wfe_core.specs.Phases.Ending.{Followed}
 use Rattle.wfe_core.specs.Calls.{Why, Phase, Idle, Runs, Scans, Works}
-use Rattle.wfe_core.proofs.Facts.{first_of, rest_of, then_of}
+use Rattle.wfe_core.proofs.Facts.{first_of, rest_of, then_of, or_more}
 use Rattle.law_places.proofs.inv.history.MayTell.{concluded_told}
 use Rattle.law_places.specs.inv.links.Origins.{ends_at}
 use Rattle.law_places.specs.inv.shapes.Frame.{Onward, Grows, Owes, Moves, Passed}
@@ -50,7 +50,6 @@ use Rattle.laws.proofs.Tells.{seen_tells, seen_stays, seen_other}
 use Rattle.law_places.proofs.inv.ends.Told.Rows.{own_told, own_post, step_adds}
 use Rattle.law_places.proofs.inv.ends.Told.Turns.{Adds, is_later}
 use Rattle.laws.specs.StateAt.{null_by, null_of}
-use Rattle.wfe_core.proofs.Lists.{or_more}
 
 -- where an answer was taken whose link is null, index 0 was told null
 abbrev pub nulled_at : ProtectAt → Bool → Bool

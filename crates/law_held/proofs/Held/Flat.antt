@@ -8,7 +8,7 @@ use Rattle.wfe_core.specs.defs.declared.event.Event.{Event}
 use Rattle.wfe_core.specs.defs.declared.event.Event.TheVariants as events
 use Rattle.wfe_core.specs.defs.declared.event.Guard.{Guard}
 use Rattle.wfe_core.specs.defs.declared.lifetime.Interval.{Interval}
-use Rattle.wfe_core.proofs.Facts.{first_of, rest_of, implies_or, or_left_true}
+use Rattle.wfe_core.proofs.Facts.{first_of, rest_of, implies_or, or_left_true, or_more}
 use Rattle.laws.specs.HoldLaw.{is_held}
 use Rattle.law_places.specs.inv.history.Record.{Past, Test, Each, tells_of}
 use Rattle.law_places.specs.inv.history.Record.Past.{Then}
@@ -17,7 +17,6 @@ use Rattle.laws.proofs.Tells.{tells_both}
 use Rattle.laws.specs.StateAt.{stood_at, is_row}
 use Rattle.wfe_core.specs.defs.Events.{is_held as event_is_held}
 use Rattle.law_places.proofs.inv.contents.Stands.Rounds.{is_clear}
-use Rattle.wfe_core.proofs.Lists.{or_more}
 
 -- an event that changes nothing of guards, lives and taken rows
 abbrev pub is_flat : Event → Bool

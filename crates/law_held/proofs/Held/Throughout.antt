@@ -39,7 +39,8 @@ use Rattle.law_places.specs.inv.history.Record.{Past, Each, EachEntry, tells_of}
 use Rattle.law_places.proofs.inv.history.Entries.{entries_of_each}
 use Rattle.law_places.proofs.inv.history.AllOf.{all_of, of_along}
 use Rattle.laws.specs.StateAt.{stood_at, is_row}
-use Rattle.law_places.proofs.reuse.Reuse.Keeps.{record_stands, row_of}
+use Rattle.law_places.proofs.reuse.Reuse.Keeps.{record_stands}
+use Rattle.laws.proofs.Along.{row_of}
 use Rattle.law_held.proofs.Roots.Ways.{Turning}
 use Rattle.law_places.proofs.inv.ends.Told.Rows.{own_told, own_post, step_adds}
 use Rattle.law_places.proofs.inv.ends.Told.Turns.{Adds, is_later}

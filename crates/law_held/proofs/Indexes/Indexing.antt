@@ -1,7 +1,7 @@
 -- A step protects and clears only at indexes of its call.
 use Rattle.std.proofs.Common.{ℕ, ◌≡◌, ◌-◌, ◌+◌, Bool, true, false, List, [], ◌∷◌, Option, Some, None, refl, sym, ap, ◌∙◌, subst}
 use Rattle.std.specs.List.{list_any}
-use Rattle.std.specs.Prelude.{◌==◌, ◌||◌, not, nat_lt, if◌then◌else◌}
+use Rattle.std.specs.Prelude.{◌==◌, not, nat_lt, if◌then◌else◌}
 use Rattle.wfe_core.specs.defs.Shown.{Seen}
 use Rattle.wfe_core.specs.defs.declared.call.Call.{Call}
 use Rattle.wfe_core.specs.defs.declared.event.Event.{Event}
@@ -26,7 +26,7 @@ use Rattle.wfe_core.specs.Rounds.{index_of}
 use Rattle.wfe_core.specs.Scan as scan
 use Rattle.wfe_core.specs.Steps as steps
 use Rattle.wfe_core.specs.World.{World, finds, told_in}
-use Rattle.wfe_core.proofs.Facts.{both, first_of, rest_of, and_right_false}
+use Rattle.wfe_core.proofs.Facts.{both, first_of, rest_of, not_or_false, and_right_false}
 use Rattle.law_places.proofs.inv.ends.Ends.Tests.{Calm, at_shows, base_shows, base_any}
 use Rattle.law_places.specs.inv.shapes.Seats.{Seats, Shaped, suits, kind_of, protects, reloads, clears, releases, index_by}
 use Rattle.law_places.specs.inv.history.History.{record_of, world_of}
@@ -50,14 +50,10 @@ is_odd call event = not (fits call event)
 odd_calm : (call : Call) → Calm (is_odd call)
 odd_calm call = record { reserve = λ g x. refl; read = λ g x. refl; era = λ e. refl; give = λ a b. refl; unused = λ a. refl; retire = λ a b r. refl; back = λ a. refl }
 
-fit_of : (a b : Bool) → (not a || b) ≡ false → (a ≡ true) × (b ≡ false)
-fit_of true b h = (refl, h)
-fit_of false b h = absurd (cc)
-
 none_odd : (call : Call) (told : List Event) → list_any (is_odd call) told ≡ false → Fit call told
 none_odd call [] h = refl
 none_odd call (event ∷ told) h =
-    let q = fit_of (fits call event) (list_any (is_odd call) told) h in
+    let q = not_or_false (fits call event) (list_any (is_odd call) told) h in
     both (fits call event) (all_of (fits call) told) q.0 (none_odd call told q.1)
 
 -- a machine

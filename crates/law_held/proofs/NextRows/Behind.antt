@@ -17,7 +17,7 @@ use Rattle.wfe_core.specs.Phases.{Aim, ProtectAt, Base}
 use Rattle.wfe_core.specs.Phases.Base.{Protect, Reload}
 use Rattle.wfe_core.specs.Calls.{Gets, Changes, Holds, Enqueues, Dequeues, Why, Opens, FollowsHead, Phase, Idle, Runs, Scans, Works}
 use Rattle.wfe_core.specs.World.{World, finds, is_busy, told_in}
-use Rattle.wfe_core.proofs.Facts.{same_number, first_of, rest_of}
+use Rattle.wfe_core.proofs.Facts.{same_number, first_of, rest_of, or_more}
 use Rattle.law_places.specs.inv.shapes.Seats.{Seats, Run, root_by}
 use Rattle.law_places.specs.inv.history.History.{Item, Begins, Steps, Made, fits, done_if, made_of, first_made}
 use Rattle.law_places.proofs.inv.history.Along.{begins_right, low_seat, paths_keep}
@@ -48,7 +48,6 @@ use Rattle.laws.specs.HoldLaw.{is_last}
 use Rattle.law_held.proofs.NextRows.Nexts.{Nexts, nexts_step, nexts_first}
 use Rattle.law_places.proofs.inv.links.Origins.Ends.{found_clock}
 use Rattle.law_places.proofs.inv.handover.Asks.{run_of}
-use Rattle.wfe_core.proofs.Lists.{or_more}
 
 -- where a next link is null, the head had its row and no row was next to it, at a position of the seat's call
 abbrev pub had_none : ℕ → Past → ℕ → Root → ℕ → Bool

@@ -26,7 +26,7 @@ use Rattle.wfe_core.specs.Phases.{Aim, ProtectAt, Base, Turn, goes}
 use Rattle.wfe_core.specs.Phases.ProtectAt.{PublishEra, CheckClock, PublishHelper, CheckOwnClock, AnswerOwn, TakeAnswer, WithdrawHelper, CheckUpper, RaiseUpper}
 use Rattle.wfe_core.specs.Phases.Base.{Protect, Reload, Clear, Release}
 use Rattle.wfe_core.specs.Calls.{Task, Gets, Changes, Holds, Enqueues, Dequeues, ReadGuard, GiveBack, Why, Opens, FollowsHead, Phase, Idle, Runs, Scans, Works}
-use Rattle.wfe_core.proofs.Facts.{same_number, both, and_right_false, number_is}
+use Rattle.wfe_core.proofs.Facts.{same_number, both, and_right_false, number_is, or_more}
 use Rattle.law_places.proofs.inv.history.MayTell.{concluded_told}
 use Rattle.law_places.proofs.inv.covers.Held.{finds_at}
 use Rattle.law_places.proofs.inv.ends.Ends.Tests.{Calm, at_shows, base_shows, base_any}
@@ -57,7 +57,7 @@ use Rattle.law_held.proofs.NextRows.Nexts.{Nexts}
 use Rattle.law_turns.proofs.TurnCounts.Tried.{is_follow}
 use Rattle.law_places.proofs.inv.handover.Asks.{run_of}
 use Rattle.law_places.proofs.Ordering.Linked.{row_is}
-use Rattle.wfe_core.proofs.Lists.{or_left, or_right, or_more}
+use Rattle.wfe_core.proofs.Lists.{or_left, or_right}
 
 -- what is told of protections at index 1
 abbrev pub is_one : Event → Bool

@@ -14,7 +14,7 @@ use Rattle.wfe_core.specs.Desks.{Desk, noting}
 use Rattle.wfe_core.specs.Locals.{Local, busy_in, settled_by, begun, begun_post, told_by, told_end, rounds_told, turn}
 use Rattle.wfe_core.specs.Posts.{counted}
 use Rattle.wfe_core.specs.World.{World, begin, step, finds, is_busy, told_in}
-use Rattle.wfe_core.proofs.Facts.{first_of, rest_of, or_left_true}
+use Rattle.wfe_core.proofs.Facts.{first_of, rest_of, or_left_true, or_more}
 use Rattle.law_places.proofs.inv.ends.Ends.Tests.{Calm, step_any}
 use Rattle.law_places.specs.inv.shapes.Frame.{phase_left}
 use Rattle.law_places.specs.inv.shapes.Seats.{Seats}
@@ -38,7 +38,6 @@ use Rattle.law_held.specs.Records.{RecordsFindRoots}
 use Rattle.law_held.proofs.Roots.Early.{is_early, is_rooting, Fate, RunFits, phase_fate, first_early}
 use Rattle.law_held.proofs.Roots.Ways.{record_each, answers_of}
 use Rattle.law_places.proofs.inv.handover.Asks.{run_of}
-use Rattle.wfe_core.proofs.Lists.{or_more}
 
 rooted_stays : (event : Event) (x : Bool) → is_within event ≡ true → x ≡ true → rooted_by event x ≡ true
 rooted_stays (events.Begin call) x w h = absurd (cc)

@@ -21,7 +21,7 @@ use Rattle.wfe_core.specs.Phases.Base.{Protect, Reload, Clear, Release}
 use Rattle.wfe_core.specs.Posts.{stands, counted, upper}
 use Rattle.wfe_core.specs.Protect.{told_held}
 use Rattle.wfe_core.specs.World.{World, finds, told_in}
-use Rattle.wfe_core.proofs.Facts.{same_number, and_right_false, number_is}
+use Rattle.wfe_core.proofs.Facts.{same_number, and_right_false, number_is, or_more}
 use Rattle.law_places.proofs.inv.ends.Ends.Tests.{at_shows, base_shows, base_any}
 use Rattle.law_places.specs.inv.shapes.Seats.{ToFollow, Shaped, suits, kind_of}
 use Rattle.law_places.specs.inv.history.History.{record_of, world_of}
@@ -45,7 +45,7 @@ use Rattle.law_turns.proofs.TurnCounts.Tried.{is_follow}
 use Rattle.law_places.proofs.inv.ends.Ends.Stood.{is_standing, standing_calm}
 use Rattle.law_held.proofs.NextRows.Following.{is_one, no_reload, why_one, later_one, at_one, cleared_one, one_calm}
 use Rattle.law_held.proofs.Indexes.Clears.{row_there}
-use Rattle.wfe_core.proofs.Lists.{or_left, or_right, or_more}
+use Rattle.wfe_core.proofs.Lists.{or_left, or_right}
 
 -- nothing is told at index 1
 other_ok : (slots : ℕ) (p : Past) (i : ℕ) (event : Event) → is_one event ≡ false → follows_ok slots p i event ≡ true

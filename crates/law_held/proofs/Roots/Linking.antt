@@ -19,11 +19,11 @@ use Rattle.wfe_core.specs.Locals.{told_end, turn}
 use Rattle.wfe_core.specs.Posts.{stands, counted}
 use Rattle.wfe_core.specs.World.{World, finds, told_in}
 use Rattle.wfe_core.specs.Calls.{ChangeKept, EnqueueKept, LoadVersion, LoadCount, LoadKey, LoadValue, ExchangeRoot, LoadNumber, LoadNext, PassTail, ExchangeNext, ExchangeTail, LoadTail, SwingTail, TakeNumber, TakeValue, ExchangeHead, Getting, Changing, Enqueuing, Dequeuing, Phase, Idle, Runs, Scans, Works, CallTurn, CallOutcome, GoesOn, Answers}
-use Rattle.wfe_core.proofs.Facts.{same_number, both, first_of, rest_of, number_is}
+use Rattle.wfe_core.proofs.Facts.{same_number, both, first_of, rest_of, number_is, or_more}
 use Rattle.law_places.specs.inv.history.Record.{Past, Each, tells_of}
 use Rattle.law_places.specs.inv.history.Record.Past.{Then}
 use Rattle.law_places.specs.inv.history.History.{Item, record_of, world_of}
-use Rattle.laws.specs.StateAt.{stood_at, is_row, began_of, tail_at, bucket_at, head_at}
+use Rattle.laws.specs.StateAt.{stood_at, is_dequeue, is_row, began_of, tail_at, bucket_at, head_at}
 use Rattle.law_places.proofs.reuse.Reuse.Keeps.{record_stands}
 use Rattle.law_places.specs.inv.contents.Stands.{Stood}
 use Rattle.law_places.proofs.inv.history.AllOf.{all_of, of_weaker}
@@ -32,13 +32,12 @@ use Rattle.law_places.proofs.Placing.Fronts.{linked_front, queued_front, taken_f
 use Rattle.law_places.proofs.Placing.Marks.{is_common, ordered, InOrder, tells, step_order}
 use Rattle.law_places.proofs.Ordering.Ordered.{word_of, head_is}
 use Rattle.laws.proofs.Tells.{tells_both}
-use Rattle.laws.specs.HistoryHolds.{is_dequeue, stands_for, links_ok}
+use Rattle.laws.specs.HistoryHolds.{stands_for, links_ok}
 use Rattle.law_held.specs.Records.{RecordsLinkHeld}
 use Rattle.law_held.proofs.Roots.Leads.{Leads, leads_of}
 use Rattle.law_held.proofs.Roots.Ways.{Turning, record_each, answers_of}
 use Rattle.law_places.proofs.inv.rows.Queued.{finds_phase}
 use Rattle.law_held.proofs.Indexes.Clears.{row_there}
-use Rattle.wfe_core.proofs.Lists.{or_more}
 
 -- an event that is no link
 abbrev is_unlinked : Event → Bool

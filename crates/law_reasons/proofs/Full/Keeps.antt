@@ -19,7 +19,7 @@ use Rattle.wfe_core.specs.Calls.{AfterScan, Answered, Repeated, Counted, ScanAt,
 use Rattle.wfe_core.specs.Locals.{Local, begun, begun_post, told_end, turn}
 use Rattle.wfe_core.specs.Posts.{counted}
 use Rattle.wfe_core.specs.World.{World, begin, step, finds, is_busy, told_in}
-use Rattle.wfe_core.proofs.Facts.{both, first_of, rest_of, or_left_true, same_test}
+use Rattle.wfe_core.proofs.Facts.{both, first_of, rest_of, or_left_true, same_test, or_more}
 use Rattle.law_scans.proofs.inv.covers.Held.{stepped_phase}
 use Rattle.law_scans.specs.inv.shapes.Frame.{phase_left}
 use Rattle.law_scans.proofs.inv.shapes.Frame.{seat_stays, begin_stays, begin_begins}
@@ -57,7 +57,6 @@ use Rattle.law_reasons.proofs.Full.Sees.{Sees, step_sees, begin_sees, first_sees
 use Rattle.law_reasons.proofs.Full.Since.{first_walks, held_now, held_others, held_tells, is_scanning, others_begin, others_own, scan_walks, told_unread, walk_more, within_call}
 use Rattle.law_reasons.proofs.Full.Ties.{AnswerFits, FullFits, LaterFits, Now, OutFits, PhaseFits, reads_at}
 use Rattle.law_scans.proofs.ClockAnswers.Kept.{fronts}
-use Rattle.wfe_core.proofs.Lists.{or_more}
 use Rattle.law_scans.proofs.inv.Outcomes.Ended.{seen_taken}
 
 -- what a record says of a call

@@ -21,7 +21,7 @@ use Rattle.wfe_core.specs.Phases.{Base, Outcome, Goes, Ends}
 use Rattle.wfe_core.specs.Phases.Ending.{Done, Protected, Followed, Allocated, Retired, Clocked}
 use Rattle.wfe_core.specs.Calls.{Task, Gets, Changes, Holds, Enqueues, Dequeues, Opens, EnqueueKept, LoadCount, LoadValue, LoadNext, Changing, Enqueuing, Phase, Idle, Runs, Scans, Works}
 use Rattle.wfe_core.specs.World.{World, finds}
-use Rattle.wfe_core.proofs.Facts.{same_number, both, below_unless, true_of_not, or_left_true, same_both, lt_test_2}
+use Rattle.wfe_core.proofs.Facts.{same_number, both, below_unless, true_of_not, or_left_true, same_both, lt_test_2, or_more}
 use Rattle.law_scans.proofs.answers.AnswersTold.Owed.{Serves, call_for}
 use Rattle.law_scans.proofs.inv.covers.Held.{finds_at}
 use Rattle.laws.specs.StateAt.{was_current, bucket_of, count_of, queued_of, is_there, pairs_at}
@@ -37,7 +37,6 @@ use Rattle.laws.specs.AnswerLaw.{any_up_to, put_at, remove_at, has_number, lacks
 use Rattle.law_reasons.proofs.Full.Lands.{PhaseSure}
 use Rattle.law_reasons.proofs.Full.Since.{held_now}
 use Rattle.law_reasons.proofs.Full.Ties.{Now, OutcomeSure}
-use Rattle.wfe_core.proofs.Lists.{or_more}
 
 any_by : (test : ℕ → Bool) (n m : ℕ) (last : Bool) → (n == suc m) ≡ last → n ≤ suc m → test n ≡ true → (n ≤ m → any_up_to test m ≡ true) → any_up_to test (suc m) ≡ true
 any_by test n m true e l h f = let q : n ≡ suc m = grind (arith, nat_tests) in or_left_true (test (suc m)) (any_up_to test m) (subst (λ (k : ℕ). test k ≡ true) q h)

@@ -17,7 +17,7 @@ use Rattle.wfe_core.specs.Posts.{stands}
 use Rattle.wfe_core.specs.Rounds.{begin_base, begin_span, release_base, round, round_by, scheme_of}
 use Rattle.wfe_core.specs.Scan as scan
 use Rattle.wfe_core.specs.Steps as steps
-use Rattle.wfe_core.proofs.Facts.{both, first_of, rest_of, or_left_true}
+use Rattle.wfe_core.proofs.Facts.{both, first_of, rest_of, or_left_true, or_more}
 use Rattle.law_scans.specs.inv.shapes.Frame.{phase_left}
 use Rattle.law_scans.specs.inv.history.Record.{Past, Test, begins, own, held_since, tells_of}
 use Rattle.law_scans.specs.inv.history.Record.Past.{Start, Then}
@@ -27,7 +27,6 @@ use Rattle.law_scans.specs.inv.ends.Walks.{WalkPhase}
 use Rattle.wfe_core.specs.words.declared.config.SchemeKind.{SchemeKind}
 use Rattle.wfe_core.specs.words.declared.config.SchemeKind.TheVariants.{He, Ibr, Wfe}
 use Rattle.laws.specs.StateAt.{is_mark}
-use Rattle.wfe_core.proofs.Lists.{or_more}
 
 -- at this position
 pub held_now : (test : Test) (f : Past → Bool) (p : Past) → f p ≡ true → held_since test f p ≡ true

@@ -1,7 +1,7 @@
 -- The indexes and rows at which protections are told to end, and those that are cleared, are those of the table.
 use Rattle.std.proofs.Common.{ℕ, ◌≡◌, ◌≤◌, ◌+◌, ◌-◌, Bool, true, false, List, [], ◌∷◌, Option, Some, None, refl, ap, ◌∙◌, subst}
 use Rattle.std.specs.List.{list_any}
-use Rattle.std.specs.Prelude.{◌==◌, ◌&&◌, ◌||◌, not, nat_le, nat_lt, if◌then◌else◌}
+use Rattle.std.specs.Prelude.{◌==◌, ◌&&◌, not, nat_le, nat_lt, if◌then◌else◌}
 use Rattle.wfe_core.specs.words.Place.{is_valid}
 use Rattle.wfe_core.specs.words.declared.config.Config.{Config}
 use Rattle.wfe_core.specs.words.declared.config.SchemeKind.{SchemeKind}
@@ -23,7 +23,7 @@ use Rattle.wfe_core.specs.Protect.{told_held}
 use Rattle.wfe_core.specs.Rounds.{scheme_of, clear_post, clear_told}
 use Rattle.wfe_core.specs.Steps.{phase_move}
 use Rattle.wfe_core.specs.World.{World, finds, told_in}
-use Rattle.wfe_core.proofs.Facts.{both, and_true, and_right_false, first_of, le_test, lt_test}
+use Rattle.wfe_core.proofs.Facts.{both, not_or_false, and_true, and_right_false, first_of, le_test, lt_test}
 use Rattle.law_scans.specs.inv.shapes.Eras.{Eras}
 use Rattle.law_scans.specs.inv.shapes.Seats.{PhaseFits, Run, Seats}
 use Rattle.law_scans.specs.inv.shapes.Slots.{BaseIn, PhaseIn, PostIn, ProtectIn, StandsIn, Slots}
@@ -50,13 +50,9 @@ is_odd c event = not (finds_in c event)
 odd_calm : (c : Config) → Calm (is_odd c)
 odd_calm c = record { reserve = λ g x. refl; read = λ g x. refl; era = λ e. refl; give = λ a b. refl; unused = λ a. refl; retire = λ a b r. refl; back = λ a. refl }
 
-even_of : (a b : Bool) → (not a || b) ≡ false → (a ≡ true) × (b ≡ false)
-even_of true b h = (refl, h)
-even_of false b h = absurd (cc)
-
 none_odd : (c : Config) (told : List Event) → list_any (is_odd c) told ≡ false → all_of (finds_in c) told ≡ true
 none_odd c [] h = refl
-none_odd c (event ∷ told) h = let q = even_of (finds_in c event) (list_any (is_odd c) told) h in both (finds_in c event) (all_of (finds_in c) told) q.0 (none_odd c told q.1)
+none_odd c (event ∷ told) h = let q = not_or_false (finds_in c event) (list_any (is_odd c) told) h in both (finds_in c event) (all_of (finds_in c) told) q.0 (none_odd c told q.1)
 
 -- a machine
 one_even : (c : Config) (event : Event) → finds_in c event ≡ true → list_any (is_odd c) (event ∷ []) ≡ false

@@ -1,5 +1,5 @@
 -- The record of each history keeps the law on reuse.
-use Rattle.std.proofs.Common.{ℕ, zero, suc, ◌≡◌, ◌<◌, Bool, true, false, List, [], ◌∷◌, length, Option, Some, None, refl, sym, ap, ◌∙◌, subst, arith}
+use Rattle.std.proofs.Common.{ℕ, zero, suc, ◌≡◌, ◌<◌, Bool, true, false, List, [], ◌∷◌, length, Option, None, refl, sym, ap, ◌∙◌, subst, arith}
 use Rattle.std.proofs.lemmas.Bool.Decides.{nat_tests}
 use Rattle.std.specs.Prelude.{◌==◌, ◌&&◌, not, if◌then◌else◌}
 use Rattle.wfe_core.specs.words.Place.{is_valid}
@@ -32,6 +32,7 @@ use Rattle.inv_all.proofs.Inv.Kept.{inv_kept}
 use Rattle.inv_all.proofs.Inv.Shapes.{index_in}
 use Rattle.laws.specs.HistoryHolds.{reuse_ok}
 use Rattle.laws.specs.NoReuse.{is_reuse}
+use Rattle.laws.proofs.Along.{row_of}
 use Rattle.law_reuse.specs.Reuse.{reuses}
 use Rattle.laws.specs.StateAt.{stood_by, stood_at, is_row}
 use Rattle.law_reuse.specs.Records.{RecordsKeepReuse, RecordStands}
@@ -145,10 +146,6 @@ protects_free s (Runs why (Retire at)) post found h = absurd (cc)
 protects_free s (Runs why (Move at)) post found h = absurd (cc)
 protects_free s (Scans later at) post found h = absurd (cc)
 protects_free s (Works work) post found h = absurd (cc)
-
-pub row_of : (s : ℕ) (x : Option ℕ) → is_row s x ≡ true → x ≡ Some s
-row_of s None h = absurd (cc)
-row_of s (Some slot) h = let one : s ≡ slot = grind (arith, nat_tests) in ap Some (sym one)
 
 step_each : (w : World) (i k j s : ℕ) (p : Past) (none : Bool) → phase_holds_none (w.seat i).phase ≡ none → Inv w → stood_at k j p ≡ stands (w.seat k).post j → Each (reuse_ok k j s) p → Each (reuse_ok k j s) (tells_of p i (told_in w i))
 step_each w i k j s p true e a h g =

@@ -2,7 +2,7 @@ use Rattle.std.proofs.Common.{ap, sym}
 use Rattle.wfe_outside.specs.defs.declared.command.Command.{Command}
 use Rattle.wfe_server_out.proofs.Emits.{emits_of, emits_text}
 use Rattle.wfe_server_replay.specs.Playing.{played_out}
-use Rattle.wfe_server_replay.proofs.Tables.{table_quiet}
+use Rattle.wfe_server_replay.proofs.Entries.{heard_of-table_pieces}
 use Rattle.wfe_server_replay.proofs.play.Play.perform.Goals as goal
 
 pub returns-in-Call-clause-emits : goal.returns-in-Call-clause-emits
@@ -18,4 +18,4 @@ pub returns-in-End-clause-emits : goal.returns-in-End-clause-emits
 returns-in-End-clause-emits g c = emits_of (ap (λ (command : Command). played_out command c.args.self.now) (sym c.in-End.is)) c.finish.ensures.emits
 
 pub returns-in-Table-clause-emits : goal.returns-in-Table-clause-emits
-returns-in-Table-clause-emits g c = emits_of (ap (λ (command : Command). played_out command c.args.self.now) (sym c.in-Table.is)) (emits_text (table_quiet c.args.self.now.garbage) c.put_table.ensures.writes)
+returns-in-Table-clause-emits g c = emits_of (ap (λ (command : Command). played_out command c.args.self.now) (sym c.in-Table.is)) (emits_text (heard_of-table_pieces c.args.self.now.garbage) c.put_table.ensures.writes)

@@ -1,7 +1,7 @@
 -- The words so far are the first ones, each as it starts.
 use Rattle.std.proofs.Common.{length, slice_index, ℕ, ◌<◌, ◌≡◌}
 use Rattle.wfe_core.specs.words.Place.{start_at}
-use Rattle.wfe_drive_cells.proofs.cells.PlainCellsMakeCells.make.Given as goal
+use Rattle.wfe_drive_cells.proofs.cells.start_words.Given as goal
 
 abbrev pub invariant-loop-word : goal.invariant-loop-word
 invariant-loop-word l = record {
