@@ -4,6 +4,3 @@
 mod job;
 
 pub use job::{Job, job_of};
-
-#[cfg(test)]
-mod tests;

@@ -1,5 +1,5 @@
-//! Tests of whole commands over memory: worked traces, bad and hostile input, sources and sinks that
-//! fail, and generated traces.
+//! Tests of whole commands over memory: worked traces, bad and hostile input, and sources and sinks that
+//! fail.
 #![tactic(auto)]
 
 #[cfg(test)]

@@ -1,7 +1,5 @@
 // Whole replays over memory: worked records, bad input, and sources and sinks that fail.
-mod generated;
 mod hostile;
-mod long;
 
 use std::process::Abort;
 use std::test::Fail;
@@ -533,6 +531,21 @@ fn a_dequeue_that_is_overtaken_begins_anew(rt: HostRuntime) -> Result<(), Fail> 
             b"1 clear 0 8\n",
             b"1 end 42 taken 2 6 moved 3\n",
         ],
+    )
+}
+
+#[test]
+fn a_generated_trace_without_turns_counts_nothing(rt: HostRuntime) -> Result<(), Fail> {
+    let source = MemSource::new(rt.alloc(), b"", &[1])?;
+    let want =
+        b"units 0\ncalls 0\nputs 0\nremoved 0\ngots 0\nqueued 0\ntaken 0\nretired 0\nback 0\nclock 1\ndone\n";
+    run_is(
+        &rt,
+        &["gen", "1", "0"],
+        source,
+        (4096, &[]),
+        (Status::Done, want),
+        0,
     )
 }
 

@@ -30,6 +30,3 @@ pub use wfe_words::{
     Config, Layout, Life, Link, Request, Reservation, SchemeKind, Span, life_word, link_word,
     read_life, read_request, read_reservation, request_word, reservation_word, span_word,
 };
-
-#[cfg(test)]
-mod tests;

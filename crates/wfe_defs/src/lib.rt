@@ -6,8 +6,6 @@ mod command;
 mod event;
 mod fold;
 mod lifetime;
-#[cfg(test)]
-mod tests;
 
 pub use call::{Answer, Call, ClockMove};
 pub use command::Command;

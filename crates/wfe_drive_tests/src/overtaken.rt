@@ -1,6 +1,7 @@
 // A protection of Wait-Free Eras that moves of the clock overtake, at known places.
-use crate::bench::Part::{Begins, Ends, Goes, Makes};
-use crate::bench::{Bench, play_parts};
+use crate::Bench;
+use crate::parts::Part::{Begins, Ends, Goes, Makes};
+use crate::parts::play_parts;
 use std::process::Abort;
 use std::test::Fail;
 use wfe_core::{Answer, Call, ClockMove, Config, Event, Guard, Interval, SchemeKind};

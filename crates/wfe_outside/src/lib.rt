@@ -6,8 +6,6 @@ mod count;
 mod memory;
 mod real;
 mod stream;
-#[cfg(test)]
-mod tests;
 mod watcher;
 
 pub use count::CountSink;

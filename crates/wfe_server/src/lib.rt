@@ -6,9 +6,7 @@ mod generator;
 mod report;
 mod summary;
 mod table;
-#[cfg(test)]
-mod tests;
 mod turn;
 
 pub use generator::generate;
-pub use wfe_server_replay::{PlainCells, Rig, replay};
+pub use wfe_server_replay::{Rig, replay};

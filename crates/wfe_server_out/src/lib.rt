@@ -4,8 +4,6 @@
 
 mod fault;
 mod telling;
-#[cfg(test)]
-mod tests;
 mod write;
 
 pub use fault::Fault;

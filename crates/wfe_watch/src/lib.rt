@@ -4,8 +4,6 @@
 
 mod garbage;
 mod keys;
-#[cfg(test)]
-mod tests;
 
 pub use garbage::GarbageCounter;
 pub use keys::KeyCounter;

@@ -13,6 +13,3 @@ pub use packed::{
     Life, Link, Request, Reservation, Span, life_word, link_word, read_life, read_link,
     read_request, read_reservation, read_span, request_word, reservation_word, span_word,
 };
-
-#[cfg(test)]
-mod tests;

@@ -1,7 +1,7 @@
 // Words as they come from a command line.
-use crate::{Job, job_of};
 use std::alloc::Global;
 use std::test::Fail;
+use wfe_cli_job::{Job, job_of};
 
 // The job that the words ask for.
 fn asked(alloc: Global, words: &[&str]) -> Result<Option<Job>, Fail> {

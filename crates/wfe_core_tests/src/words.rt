@@ -2,9 +2,13 @@
 ghost use Rattle.std.specs.Prelude.{IsTrue};
 ghost use Rattle.wfe_words.specs.Place.{is_valid};
 
-use super::*;
 use std::alloc::{AllocError, Global};
 use std::test::Fail;
+use wfe_words::{
+    BadConfig, Config, Field, Layout, Life, Link, Request, Reservation, SchemeKind, Span,
+    life_word, link_word, read_life, read_link, read_request, read_reservation, read_span,
+    request_word, reservation_word, span_word,
+};
 
 const SMALL: Config = Config {
     scheme: SchemeKind::He,
@@ -20,7 +24,7 @@ const SMALL: Config = Config {
 };
 
 // The number of each place, group by group.
-#[tactic(auto, using(crate::proofs::Bounds::bounds))]
+#[tactic(auto, using(wfe_words::proofs::Bounds::bounds))]
 fn numbers(alloc: Global, layout: &Layout) -> Result<Vec<u32>, AllocError>
     requires { IsTrue (is_valid layout.now) }
 {

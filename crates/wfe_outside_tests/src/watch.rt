@@ -1,9 +1,9 @@
 // Both counters over short lists of events, and behind boxes, as a run has them.
-use crate::{GarbageCounter, KeyCounter};
 use std::alloc::{AllocError, Global};
 use std::test::Fail;
 use wfe_defs::Event;
 use wfe_outside::{WatchRow, Watcher};
+use wfe_watch::{GarbageCounter, KeyCounter};
 
 fn put(key: u64) -> Event {
     Event::Put {

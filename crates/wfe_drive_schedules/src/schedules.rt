@@ -1,11 +1,11 @@
 // Random schedules of random calls on small tables, and what a plain check says of their records.
-use crate::bench::Bench;
 use crate::watch::{Breach, Watch};
 use rand_core::utils::NextWord;
 use rand_pcg::Pcg32;
 use std::process::Abort;
 use std::test::Fail;
 use wfe_core::{Call, Config, Event, Guard, Interval, SchemeKind};
+use wfe_drive_tests::Bench;
 
 /// How many turns a schedule has.
 const TURNS: u32 = 3_000;

@@ -1,13 +1,14 @@
 // Generated traces: that each run gives the same summary, and that its counts are those of the record
 // that a replay prints of the same lines.
-use crate::replays::{joined, run_words};
 use rand_core::utils::NextWord;
 use rand_pcg::Lcg64Xsh32;
 use std::process::Abort;
 use std::test::Fail;
-use std::thread::Threads;
-use wfe_outside::{MemSink, MemSource};
+use wfe_drive_table::TableCells;
+use wfe_outside::{MemSink, MemSource, Watcher};
+use wfe_server::{Rig, generate, replay};
 use wfe_trace::Status;
+use wfe_watch::KeyCounter;
 
 const SETTING: &[u8] =
     b"wfe 1\nscheme wfe\nseats 4\nindexes 3\nslots 4096\nbuckets 16\ntries 4\nevery 8\nlast_era 4294967295\nlast_version 281474976710656\nbegin\n";
@@ -15,14 +16,26 @@ const SETTING: &[u8] =
 // Bytes that a sink of these tests takes.
 const ROOM: usize = 4_194_304;
 
-// What `gen` prints of a seed and so many turns.
-fn summary<R: Threads + Sync + Abort + AllocGlobal>(
+// What is written of a trace from a seed with so many turns, with one watcher that counts keys or with
+// none.
+fn summary<R: Abort + AllocGlobal>(
     rt: &R,
-    seed: &str,
-    turns: &str,
+    seed: u64,
+    turns: u64,
+    watched: bool,
 ) -> Result<MemSink, Fail> {
-    let source = MemSource::new(rt.alloc(), b"", &[1])?;
-    let (status, sink) = run_words(rt, &["gen", seed, turns], source, (ROOM, &[]))?;
+    let mut sink = MemSink::new(rt.alloc(), ROOM, &[])?;
+    let mut watchers: Vec<Box<dyn Watcher>> = Vec::new(rt.alloc());
+    if watched {
+        watchers.push(Box::new(rt.alloc(), KeyCounter::new(rt.alloc()))?)?;
+    }
+    let status = generate::<Rig<TableCells>, MemSink>(
+        rt.alloc(),
+        seed,
+        turns,
+        &mut sink,
+        &mut watchers,
+    );
     assert_eq!(rt; status, Status::Done);
     Ok(sink)
 }
@@ -45,7 +58,7 @@ fn lines_of<R: AllocGlobal>(rt: &R, a: u32, b: u32) -> Result<String, Fail> {
 // A generated trace as text.
 fn trace_of<R: AllocGlobal>(rt: &R, seed: u64, turns: u64) -> Result<Vec<u8>, Fail> {
     let mut words = Lcg64Xsh32::new(seed, 0);
-    let mut trace = joined(rt, &[SETTING])?;
+    let mut trace = Vec::from_slice(rt.alloc(), SETTING)?;
     for _ in 0..turns {
         let a = words.next_word();
         let b = words.next_word();
@@ -68,7 +81,7 @@ fn count_of(record: &[u8], kind: &[u8]) -> u64 {
 
 #[test]
 fn no_turns_count_nothing(rt: HostRuntime) -> Result<(), Fail> {
-    let sink = summary(&rt, "1", "0")?;
+    let sink = summary(&rt, 1, 0, false)?;
     let want =
         b"units 0\ncalls 0\nputs 0\nremoved 0\ngots 0\nqueued 0\ntaken 0\nretired 0\nback 0\nclock 1\ndone\n";
     assert_eq!(rt; sink.bytes(), want.as_slice());
@@ -77,8 +90,8 @@ fn no_turns_count_nothing(rt: HostRuntime) -> Result<(), Fail> {
 
 #[test]
 fn each_run_of_a_seed_prints_the_same(rt: HostRuntime) -> Result<(), Fail> {
-    let first = summary(&rt, "7", "20000")?;
-    let again = summary(&rt, "7", "20000")?;
+    let first = summary(&rt, 7, 20_000, true)?;
+    let again = summary(&rt, 7, 20_000, true)?;
     assert_eq!(rt; first.bytes(), again.bytes());
     let second_line = first.bytes().split(|byte| *byte == b'\n').nth(1);
     assert_eq!(rt; second_line, Some(b"calls 20000".as_slice()));
@@ -87,10 +100,17 @@ fn each_run_of_a_seed_prints_the_same(rt: HostRuntime) -> Result<(), Fail> {
 
 #[test]
 fn a_summary_counts_the_lines_of_the_record(rt: HostRuntime) -> Result<(), Fail> {
-    let sink = summary(&rt, "7", "300")?;
+    let sink = summary(&rt, 7, 300, false)?;
     let trace = trace_of(&rt, 7, 300)?;
-    let source = MemSource::new(rt.alloc(), &trace, &[])?;
-    let (status, record) = run_words(&rt, &["replay"], source, (ROOM, &[]))?;
+    let mut source = MemSource::new(rt.alloc(), &trace, &[])?;
+    let mut record = MemSink::new(rt.alloc(), ROOM, &[])?;
+    let mut watchers: Vec<Box<dyn Watcher>> = Vec::new(rt.alloc());
+    let status = replay::<Rig<TableCells>, MemSource, MemSink>(
+        rt.alloc(),
+        &mut source,
+        &mut record,
+        &mut watchers,
+    );
     assert_eq!(rt; status, Status::Done);
     let kinds: [(&str, &str); 8] = [
         ("calls", "begin"),

@@ -3,12 +3,12 @@
 ghost use Rattle.std.specs.Prelude.{◌≡◌, length, slice_index_or};
 ghost use Rattle.wfe_outside.specs.declared.watcher.WatchRow.{WatchRow};
 
-use crate::{Fault, put_line, tell, tell_all, write_all};
 use std::marker::Model;
 use std::process::Abort;
 use std::test::Fail;
 use wfe_core::Told;
 use wfe_outside::{Event, Failed, MemSink, NoMemory, Sink, WatchRow, Watcher};
+use wfe_server_out::{Fault, put_line, tell, tell_all, write_all};
 use wfe_trace::{Line, print_event};
 
 /// Keeps the seat and the era of each event that it hears, with room for so many.

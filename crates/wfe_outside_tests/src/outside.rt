@@ -1,8 +1,10 @@
 // Sources and sinks at work, by small tables; the adapters over readers and writers of their own.
-use crate::{CleanSource, CountSink, Failed, MemSink, MemSource, Sink, Source, StdSink, StdSource};
 use std::io;
 use std::io::{Read, Write};
 use std::test::Fail;
+use wfe_outside::{
+    CleanSource, CountSink, Failed, MemSink, MemSource, Sink, Source, StdSink, StdSource,
+};
 
 /// A reader and a writer that never work.
 #[derive(Drop)]

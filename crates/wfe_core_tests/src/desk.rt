@@ -1,8 +1,11 @@
 // That the calls that take memory succeed, and what a seat keeps by known values.
 ghost use Rattle.std.specs.Prelude.{◌≡◌};
 
-use super::*;
 use std::test::Fail;
+use wfe_core::{
+    Desk, Post, ProtectEnd, RetireList, Told, hold, index_word, link_word_number, one_era,
+    protect_end, root_at,
+};
 use wfe_defs::{Answer, Event, Guard, Interval, Lifetime, Root};
 use wfe_words::{Config, Layout, SchemeKind};
 

@@ -1,5 +1,5 @@
-// Published values of the two tests that this crate computes.
-use crate::{Change, Interval, Lifetime, fold_bucket, meets};
+// Published values of the two tests that `wfe_defs` computes.
+use wfe_defs::{Change, Interval, Lifetime, fold_bucket, meets};
 
 #[test]
 fn a_life_meets_the_intervals_that_have_an_era_of_it(rt: HostRuntime) {

@@ -1,10 +1,15 @@
 // The longest trace, from a source that keeps none of it.
-use crate::replays::{HEADER, SETTING, joined, replay_is};
 use std::process::Abort;
 use std::test::Fail;
-use std::thread::Threads;
-use wfe_outside::{Failed, Source};
+use wfe_drive_table::TableCells;
+use wfe_outside::{Failed, MemSink, Source, Watcher};
+use wfe_server::{Rig, replay};
 use wfe_trace::{Reason, Status};
+
+const SETTING: &[u8] =
+    b"wfe 1\nscheme he\nseats 1\nindexes 3\nslots 8\nbuckets 1\ntries 2\nevery 1\nlast_era 100\nlast_version 100\nbegin\n";
+
+const HEADER: &[u8] = b"record 1 he 1 3 8 1 2 1 100 100\n";
 
 const LINE: &[u8] = b"0 run\n";
 
@@ -53,21 +58,32 @@ impl Source for Repeats {
     }
 }
 
-// Wants a trace of so many lines to end with this status, and to write this after the header.
-fn expect<R: Threads + Sync + Abort + AllocGlobal>(
+// Wants a trace of so many lines to end with this status, and to write the header and this.
+fn expect<R: Abort + AllocGlobal>(
     rt: &R,
     lines: usize,
     last: &'static [u8],
     status: Status,
     output: &[u8],
 ) -> Result<(), Fail> {
-    let source = Repeats {
+    let mut source = Repeats {
         given: 0,
         lines,
         last,
     };
-    let want = joined(rt, &[HEADER, output])?;
-    replay_is(rt, source, status, &want, lines)
+    let mut sink = MemSink::new(rt.alloc(), 4096, &[])?;
+    let mut watchers: Vec<Box<dyn Watcher>> = Vec::new(rt.alloc());
+    let found = replay::<Rig<TableCells>, Repeats, MemSink>(
+        rt.alloc(),
+        &mut source,
+        &mut sink,
+        &mut watchers,
+    );
+    assert_eq!(rt; found, status, "{lines} lines");
+    let mut want = Vec::from_slice(rt.alloc(), HEADER)?;
+    want.extend_from_slice(output)?;
+    assert_eq!(rt; sink.bytes(), want.as_slice(), "{lines} lines");
+    Ok(())
 }
 
 #[test]
