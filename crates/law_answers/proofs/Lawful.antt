@@ -1,3 +1,4 @@
+pub mod Books
 pub mod Counts
 pub mod Current
 pub mod Gots

@@ -1,16 +1,18 @@
 -- What the record and the turns of each history keep, whatever calls begin and whichever seats make their steps.
-use Rattle.std.specs.Prelude.{List, true, ◌≡◌}
+use Rattle.std.specs.Prelude.{List, true, ℕ, ◌≡◌}
+use Rattle.wfe_core.specs.World.{World}
 use Rattle.wfe_core.specs.words.Place.{is_valid}
 use Rattle.wfe_core.specs.words.Schemes.{is_wfe}
 use Rattle.wfe_core.specs.words.declared.layout.Layout.{Layout}
 use Rattle.inv_all.specs.history.Heard.{heard_of}
-use Rattle.inv_all.specs.history.History.{Item, record_of}
-use Rattle.inv_all.specs.history.Record.{EachEntry}
+use Rattle.inv_all.specs.history.History.{Item, record_of, world_of}
+use Rattle.inv_all.specs.history.Record.{EachEntry, Past}
 use Rattle.inv_all.specs.history.Turns.{EachTurn}
 use Rattle.laws.specs.HistoryAnswers.{AnswersLaw}
 use Rattle.laws.specs.QueueLaw.{queue_ok}
 use Rattle.laws.specs.HistoryTurns.{one_step, OpenLaw}
 use Rattle.laws.specs.HistorySteps.{NumberLaw}
+use Rattle.laws.specs.StateAt.{changes_of, queued_of, taken_of}
 
 -- each history's record keeps it, whatever calls begin and whichever seats make their steps
 abbrev pub RecordsKeepQueue : Type 0
@@ -31,3 +33,13 @@ TurnsTellOne = (layout : Layout) (items : List Item) → is_valid layout ≡ tru
 -- each history's record keeps it, whatever calls begin and whichever seats make their steps
 abbrev pub RecordsOpenCalls : Type 0
 RecordsOpenCalls = (layout : Layout) (items : List Item) → is_valid layout ≡ true → OpenLaw (record_of layout items)
+
+-- the book has of the map and of the queue what the record says
+pub record IsBooked (w : World) (p : Past) : Type 0 where
+  pub changes : (b : ℕ) → changes_of b p ≡ w.book.changes b
+  pub queued : queued_of p ≡ w.book.queued
+  pub taken : taken_of p ≡ w.book.taken
+
+-- so it is with each history
+abbrev pub RecordBooks : Type 0
+RecordBooks = (layout : Layout) (items : List Item) → is_valid layout ≡ true → IsBooked (world_of layout items) (record_of layout items)

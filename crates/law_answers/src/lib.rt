@@ -5,7 +5,7 @@
 
 ghost use Rattle.law_answers.specs.Heard.{HistoriesCount};
 ghost use Rattle.law_answers.specs.MapKept.{RecordsKeepMap};
-ghost use Rattle.law_answers.specs.Records.{RecordsKeepAnswers, RecordsKeepQueue, RecordsKeepSteps, RecordsOpenCalls, TurnsTellOne};
+ghost use Rattle.law_answers.specs.Records.{RecordBooks, RecordsKeepAnswers, RecordsKeepQueue, RecordsKeepSteps, RecordsOpenCalls, TurnsTellOne};
 
 /// Under Wait-Free Eras each protection tells the row that it holds, or null, within
 /// `3 * tries + 12` of its steps, and one that follows the head's next link within three more.
@@ -50,4 +50,10 @@ pub fn turns_tell_one()
 /// which its End closes.
 pub fn records_open_calls()
     ensures { RecordsOpenCalls }
+{}
+
+/// The changes of each bucket, the values queued and how many of them were taken are in the book what
+/// they are by the record.
+pub fn record_books()
+    ensures { RecordBooks }
 {}

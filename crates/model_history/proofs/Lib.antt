@@ -5,3 +5,4 @@ pub mod Along
 pub mod History
 pub mod MayTell
 pub mod Passes
+pub mod Snoc

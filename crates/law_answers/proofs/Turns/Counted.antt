@@ -115,7 +115,8 @@ record Keeps (n : ℕ) (made : Made) (h : schedule.History) : Type 0 where
   timed : (k : ℕ) → Timed made.world h k
   counts : schedule.CountsTurns h
 
-first_busy : (call : Call) (l : Local) → busy_in (first_phase call (begun_post l.post)) ≡ true
+-- a call that begins is under way
+pub first_busy : (call : Call) (l : Local) → busy_in (first_phase call (begun_post l.post)) ≡ true
 first_busy call l = phase_busy call (first_phase call (begun_post l.post)) (first_serves call (begun_post l.post))
 
 none_yet : (count left : ℕ) → count ≡ 0 → left < 2 ^ 62 → count + left < 2 ^ 62
