@@ -1,0 +1,14 @@
+pub use Rattle.law_answers.proofs.inv as inv
+pub use Rattle.law_answers.proofs.history as history
+pub use Rattle.wfe_drive_cells.proofs as drive_cells
+pub mod Allowed
+pub mod Ending
+pub mod Joining
+pub mod Making
+pub mod Numbers
+pub mod Operations
+pub mod Kept
+pub mod Seated
+pub mod Slots
+pub mod Standing
+pub mod Sums

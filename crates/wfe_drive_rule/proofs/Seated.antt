@@ -1,0 +1,63 @@
+-- A handle that has made a step stands where its past leaves it.
+use Rattle.std.proofs.Common.{List, [], ap, arith, false, refl, subst, sym, true, ℕ, ◌++◌, ◌<◌, ◌∙◌, ◌∷◌, ◌≡◌}
+use Rattle.std.specs.Prelude.{None, Option, Some}
+use Rattle.atomic_table.specs.Table.{rest}
+use Rattle.wfe_core.specs.words.declared.layout.Layout.{Layout}
+use Rattle.wfe_core.specs.words.Place.{words}
+use Rattle.wfe_core.specs.words.Place.Place.{Clock}
+use Rattle.wfe_core.specs.defs.declared.call.Call.{Call}
+use Rattle.wfe_core.specs.Locals.{Local, after, busy_in}
+use Rattle.wfe_core.specs.World.{World, finds}
+use Rattle.wfe_core.proofs.CallFrames.{stays_in_place}
+use Rattle.wfe_core.proofs.words.Numbers.{number_below}
+use Rattle.law_answers.specs.history.History.{Item, Steps, world_of}
+use Rattle.law_answers.proofs.Turns.Counted.{first_busy}
+use Rattle.law_answers.proofs.inv.requests.Turns.{upd_here}
+use Rattle.wfe_drive_rule.specs.Handles.{IsSeated, IsTracked}
+use Rattle.wfe_drive_rule.specs.Moves.{Told, with_own}
+use Rattle.wfe_drive_rule.specs.Views.{Handle, Track, call_in, entered, own, seat_of, standing}
+use Rattle.wfe_drive_rule.proofs.Allowed.{entered_same}
+use Rattle.law_answers.proofs.history.Snoc.{one_step}
+
+-- there is a word to load
+pub some_words : (layout : Layout) (count : ℕ) → count ≡ words layout → 0 < count
+some_words layout count e = omega (arith, e, number_below layout Clock refl)
+
+-- the slot that a seated handle has
+pub first_slot : (slots : List (ℕ × Option Call)) (slot : ℕ) (call : Option Call) → slots ≡ (slot, call) ∷ [] → (old : Option Call) × (slots ≡ (slot, old) ∷ rest slots)
+first_slot slots slot call e = (call, e ∙ ap (λ (r : List (ℕ × Option Call)). (slot, call) ∷ r) (sym (ap rest e)))
+
+pub put_slot : (slots : List (ℕ × Option Call)) (slot : ℕ) (call new : Option Call) → slots ≡ (slot, call) ∷ [] → (slot, new) ∷ rest slots ≡ (slot, new) ∷ []
+put_slot slots slot call new e = ap (λ (s : List (ℕ × Option Call)). (slot, new) ∷ rest s) e
+
+-- so a seat at rest has none in its slot
+pub resting_slot : (l : Local) (call : Option Call) → busy_in (entered l call).phase ≡ false → call ≡ None
+resting_slot l None e = refl
+resting_slot l (Some call) e = absurd (cc (first_busy call l))
+
+tracked_on : (layout : Layout) (handle : Handle) (found : ℕ) (items : List Item) → IsTracked layout (own handle.0) → busy_in (standing handle).phase ≡ true → (world_of layout items).seat (seat_of (own handle.0)) ≡ standing handle → found ≡ finds (world_of layout items) (seat_of (own handle.0))
+    → IsTracked layout (record { local = after (standing handle) found; past = items ++ Steps (seat_of (own handle.0)) ∷ [] })
+tracked_on layout handle found items t busy e f =
+    let i : ℕ = seat_of (own handle.0) in
+    let l : Local = standing handle in
+    let w : World = world_of layout items in
+    let later : List Item = items ++ Steps i ∷ [] in
+    let before = entered_same (own handle.0).local (call_in handle.1) in
+    let place = stays_in_place.steps l found in
+    let number : (after l found).post.seat ≡ i = place.seat ∙ before.seat in
+    let here : (world_of layout later).seat i ≡ after l found =
+    ap (λ (v : World). v.seat i) (one_step layout items i t.seat (ap (λ (k : Local). busy_in k.phase) e ∙ busy)) ∙ upd_here w.seat i (after (w.seat i) (finds w i)) ∙ ap (λ (k : Local). after k (finds w i)) e ∙ ap (after l) (sym f) in
+    record {
+      valid = t.valid;
+      seat = subst (λ (k : ℕ). k < layout.config.seats) (sym number) t.seat;
+      layout_is = place.layout ∙ before.layout ∙ t.layout_is;
+      stood = ap (world_of layout later).seat number ∙ here;
+    }
+
+pub seated_on : (layout : Layout) (slot found : ℕ) (handle later : Handle) → IsSeated layout slot handle → busy_in (standing handle).phase ≡ true → Told layout handle found later.0 → later.1 ≡ (slot, None) ∷ [] → IsSeated layout slot later
+seated_on layout slot found handle later seated busy told empty =
+    let y : Track = record { local = after (standing handle) found; past = told.items ++ Steps (seat_of (own handle.0)) ∷ [] } in
+    let t : IsTracked layout y = tracked_on layout handle found told.items seated.tracked busy told.stands told.found_is in
+    let number : seat_of y ≡ seat_of (own handle.0) = (stays_in_place.steps (standing handle) found).seat ∙ (entered_same (own handle.0).local (call_in handle.1)).seat in
+    let base : IsSeated layout slot (with_own handle.0 y, (slot, None) ∷ []) = record { one = refl; tracked = t; holds = seated.holds; number = seated.number ∙ sym number; slots = refl; begins = λ call e. absurd (cc) } in
+    subst (λ v. IsSeated layout slot (v, later.1)) (sym told.to) (subst (λ s. IsSeated layout slot (with_own handle.0 y, s)) (sym empty) base)

@@ -1,0 +1,51 @@
+-- What holds of a table's handles between two of its steps.
+use Rattle.std.specs.Prelude.{All, Some, [], false, true, ℕ, ◌<◌, ◌∷◌, ◌≡◌}
+use Rattle.atomic_table.specs.Seated.{TableId}
+use Rattle.wfe_core.specs.words.Place.{is_valid, words}
+use Rattle.wfe_core.specs.words.declared.layout.Layout.{Layout}
+use Rattle.wfe_core.specs.defs.declared.call.Call.{Call}
+use Rattle.wfe_core.specs.Locals.{busy_in}
+use Rattle.law_answers.specs.history.History.{world_of}
+use Rattle.wfe_drive_rule.specs.Views.{Handle, Track, call_in, own, seat_of, standing}
+
+-- the table has the words of the layout, and a slot for each seat
+pub record IsSized (table : TableId) (layout : Layout) : Type 0 where
+  pub words_are : table.words ≡ words layout
+  pub slots_are : table.slots ≡ layout.config.seats
+
+-- a seat of the table, which stands where its past leaves it
+pub record IsTracked (layout : Layout) (track : Track) : Type 0 where
+  pub valid : is_valid layout ≡ true
+  pub seat : seat_of track < layout.config.seats
+  pub layout_is : track.local.post.layout ≡ layout
+  pub stood : (world_of layout track.past).seat (seat_of track) ≡ track.local
+
+-- a handle of one seat, which has the seat's slot; the slot holds a call only while none is under way
+pub record IsSeated (layout : Layout) (slot : ℕ) (handle : Handle) : Type 0 where
+  pub one : handle.0.tracks ≡ own handle.0 ∷ []
+  pub tracked : IsTracked layout (own handle.0)
+  pub holds : handle.0.holds ≡ true
+  pub number : slot ≡ seat_of (own handle.0)
+  pub slots : handle.1 ≡ (slot, call_in handle.1) ∷ []
+  pub begins : (call : Call) → call_in handle.1 ≡ Some call → busy_in (own handle.0).local.phase ≡ false
+
+-- a handle of one seat, without its slot
+pub record IsBare (layout : Layout) (handle : Handle) : Type 0 where
+  pub one : handle.0.tracks ≡ own handle.0 ∷ []
+  pub tracked : IsTracked layout (own handle.0)
+  pub holds : handle.0.holds ≡ false
+  pub slots : handle.1 ≡ []
+
+-- no call of the handle's own seat is under way, and none has begun
+abbrev pub IsResting : Handle → Type 0
+IsResting handle = busy_in (standing handle).phase ≡ false
+
+-- no call of the seat is under way
+abbrev pub IsIdle : Track → Type 0
+IsIdle track = busy_in track.local.phase ≡ false
+
+-- a handle without a slot, all of whose seats are between calls
+pub record IsGathered (handle : Handle) : Type 0 where
+  pub idle : All IsIdle handle.0.tracks
+  pub holds : handle.0.holds ≡ false
+  pub slots : handle.1 ≡ []

@@ -1,0 +1,63 @@
+-- What a handle learns by a step of its seat, and how handles take and give their slots, are made and are joined.
+use Rattle.std.specs.Prelude.{List, None, Option, [], false, true, ℕ, ◌++◌, ◌+◌, ◌∷◌, ◌≡◌}
+use Rattle.atomic_table.specs.Table.{Step}
+use Rattle.wfe_core.specs.words.declared.layout.Layout.{Layout}
+use Rattle.wfe_core.specs.defs.declared.call.Call.{Call}
+use Rattle.wfe_core.specs.Locals.{after, asks}
+use Rattle.wfe_core.specs.World.{finds}
+use Rattle.wfe_drive_cells.specs.Operations.{answer_of}
+use Rattle.law_answers.specs.history.History.{Item, Steps, world_of}
+use Rattle.wfe_drive_rule.specs.Views.{Handle, Track, View, bare_view, fresh_track, own, seat_of, standing}
+
+-- the view with another own seat, and no other
+abbrev pub with_own : View → Track → View
+with_own view track = record { made = view.made; tracks = track ∷ []; holds = view.holds }
+
+-- a step of the handle's seat that answered `found`
+pub record Told (layout : Layout) (handle : Handle) (found : ℕ) (view : View) : Type 0 where
+  -- the history so far, which begins with the seat's past
+  pub items : List Item
+  pub more : List Item
+  pub begins : items ≡ (own handle.0).past ++ more
+  -- the seat stands in its World with its call begun, and the step found what that World's seat finds
+  pub stands : (world_of layout items).seat (seat_of (own handle.0)) ≡ standing handle
+  pub found_is : found ≡ finds (world_of layout items) (seat_of (own handle.0))
+  -- the seat is then where that leaves it, and its past is that history with the step
+  pub to : view ≡ with_own handle.0 (record { local = after (standing handle) found; past = items ++ Steps (seat_of (own handle.0)) ∷ [] })
+
+-- a handle's step, by what it found in the word
+pub record Stepped (handle : Handle) (word : ℕ) (later : Handle) : Type 0 where
+  pub told : Told (own handle.0).local.post.layout handle (answer_of (asks (standing handle)) word) later.0
+  pub slots : later.1 ≡ handle.1
+
+-- one step of the table, of whichever kind
+abbrev pub StepsOnce : Step (Option Call) → Handle → ℕ → Handle → Type 0
+StepsOnce step = Stepped
+
+-- the view of a handle that has its slot
+abbrev pub slotted : View → View
+slotted view = record { made = view.made; tracks = view.tracks; holds = true }
+
+-- the slot of the own seat's number is taken, and holds no call
+abbrev pub Takes : Step (Option Call) → Handle → ℕ → Handle → Type 0
+Takes step handle word later = later ≡ (slotted handle.0, (seat_of (own handle.0), None) ∷ [])
+
+-- the view of a handle without its slot
+abbrev pub bared : View → View
+bared view = record { made = view.made; tracks = view.tracks; holds = false }
+
+-- the slot is given back
+abbrev pub Gives : Step (Option Call) → Handle → ℕ → Handle → Type 0
+Gives step handle word later = later ≡ (bared handle.0, [])
+
+-- the handle that counts has counted one seat more
+abbrev pub one_more : View → View
+one_more view = record { made = view.made + 1; tracks = view.tracks; holds = view.holds }
+
+-- a handle of the next seat
+abbrev pub newcomer : View → View
+newcomer view = bare_view 0 (fresh_track (own view).local.post.layout view.made)
+
+-- a handle takes in another, and its seats come after its own
+abbrev pub taken_in : View → View → View
+taken_in view other = record { made = view.made + other.made; tracks = view.tracks ++ other.tracks; holds = false }

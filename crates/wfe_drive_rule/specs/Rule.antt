@@ -1,0 +1,77 @@
+-- The rule of the shared table: a history comes to the World that words and views show.
+use Rattle.std.specs.Prelude.{All, List, None, Option, count_by, if◌then◌else◌, length, nat_lt, sum_by, true, ℕ, ◌++◌, ◌<◌, ◌==◌, ◌≡◌, ◌≤◌, ◌⊎◌}
+use mathlib.Core.Option.{some}
+use mathlib.Core.Option.{Option as Home}
+use lib.ListN.{get_elem?}
+use Rattle.atomic_table.specs.Table.{State}
+use Rattle.wfe_core.specs.words.Place.{is_valid, words}
+use Rattle.wfe_core.specs.words.declared.layout.Layout.{Layout}
+use Rattle.wfe_core.specs.defs.declared.call.Call.{Call}
+use Rattle.wfe_core.specs.Locals.{fresh}
+use Rattle.wfe_drive_cells.specs.Memory.{memory}
+use Rattle.law_answers.specs.history.History.{Item, world_of}
+use Rattle.wfe_drive_rule.specs.Views.{Track, View, seat_of}
+
+-- how many of these tracks are the seat's
+abbrev pub times : ℕ → List Track → ℕ
+times seat tracks = count_by (λ track. seat_of track == seat) tracks
+
+-- how many of the view's tracks are the seat's
+abbrev pub had : ℕ → View → ℕ
+had seat view = times seat view.tracks
+
+-- the same of a view that has taken its slot, and 0 of another
+abbrev pub taken : ℕ → View → ℕ
+taken seat view = if view.holds then times seat view.tracks else 0
+
+-- how many tracks the view has in all
+abbrev pub size : View → ℕ
+size view = length view.tracks
+
+-- how many seats it says were made
+abbrev pub counted : View → ℕ
+counted view = view.made
+
+-- the seat stands in the World that a history comes to as its own last step left it
+pub record Follows (layout : Layout) (items : List Item) (track : Track) : Type 0 where
+  -- the seat's past begins the history
+  pub more : List Item
+  pub begins : items ≡ track.past ++ more
+  -- the seat stands where its past left it, in the World of that past and in that of the history
+  pub stood : (world_of layout track.past).seat (seat_of track) ≡ track.local
+  pub stands : (world_of layout items).seat (seat_of track) ≡ track.local
+
+-- the seats that were made are those below the count, each in one place
+pub record Numbered (layout : Layout) (views : List View) (made : ℕ) : Type 0 where
+  -- some seats were made, and no more than the table has
+  pub some_made : 1 ≤ made
+  pub most : made ≤ layout.config.seats
+  -- each number below the count has one place in one view, and no view has another
+  pub once : (seat : ℕ) → sum_by (had seat) views ≡ (if nat_lt seat made then 1 else 0)
+  pub all : sum_by size views ≡ made
+  -- just one view says the count, since each says that or 0
+  pub says : (id : ℕ) (view : View) → get_elem? views id ≡ some view → (view.made ≡ 0) ⊎ (view.made ≡ made)
+  pub sum : sum_by counted views ≡ made
+
+-- what holds of words, slots and views between any two steps of the table
+pub record Rules (layout : Layout) (list : List ℕ) (homes : List (Home (Option Call))) (views : List View) : Type 0 where
+  -- the setting is valid
+  pub valid : is_valid layout ≡ true
+  -- there are as many words as the layout has
+  pub count : length list ≡ words layout
+  -- calls began and steps were made, so that the words are the memory of the World that they come to
+  pub items : List Item
+  pub mem : (world_of layout items).mem ≡ memory layout list
+  -- each seat of a view stands in that World as the view says, and its past begins these items
+  pub tracks : (id : ℕ) (view : View) → get_elem? views id ≡ some view → All (Follows layout items) view.tracks
+  -- a seat that no view has has made no call
+  pub unmade : (seat : ℕ) → sum_by (had seat) views ≡ 0 → (world_of layout items).seat seat ≡ fresh layout seat
+  -- the seats that were made are numbered, and one view says how many they are
+  pub made : ℕ
+  pub numbers : Numbered layout views made
+  -- each slot that no view has taken is at home, and holds no call
+  pub home : (seat : ℕ) → seat < layout.config.seats → sum_by (taken seat) views ≡ 0 → get_elem? homes seat ≡ some (some None)
+
+-- the same of the table as plain data
+abbrev pub Holds : Layout → State (Option Call) View → Type 0
+Holds layout state = Rules layout state.words state.homes state.views

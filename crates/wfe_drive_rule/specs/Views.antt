@@ -1,0 +1,81 @@
+-- What a handle of the shared table knows: a seat with its past, and the seats that it has taken in.
+use Rattle.std.specs.Prelude.{Bool, List, None, Option, Some, [], false, ℕ, ◌∷◌}
+use Rattle.atomic_table.specs.Table.{Me}
+use Rattle.wfe_core.specs.words.declared.config.SchemeKind.TheVariants.{He}
+use Rattle.wfe_core.specs.words.declared.layout.Layout.{Layout}
+use Rattle.wfe_core.specs.defs.declared.call.Call.{Call}
+use Rattle.wfe_core.specs.Locals.{Local, begun, fresh}
+use Rattle.law_answers.specs.history.History.{Begins, Item}
+
+-- a seat's local state, and the history up to its own last step
+pub record Track : Type 0 where
+  pub local : Local
+  pub past : List Item
+
+-- how many seats were made, and 0 where the handle does not say; the seats that it has, its own first and after it those that
+-- it has taken in; and whether it has its own seat's slot
+pub record View : Type 0 where
+  pub made : ℕ
+  pub tracks : List Track
+  pub holds : Bool
+
+-- a handle: what it knows, and the slots that it has. A slot may hold a call, which has begun and has made no step yet
+abbrev pub Handle : Type 0
+Handle = Me (Option Call) View
+
+-- the seat's number
+abbrev pub seat_of : Track → ℕ
+seat_of track = track.local.post.seat
+
+-- a seat that has made no call
+abbrev pub fresh_track : Layout → ℕ → Track
+fresh_track layout seat = record { local = fresh layout seat; past = [] }
+
+-- a handle of one seat, without its slot
+abbrev pub bare_view : ℕ → Track → View
+bare_view made track = record { made = made; tracks = track ∷ []; holds = false }
+
+-- the first handle, which counts the seats that are made
+abbrev pub first_view : Layout → View
+first_view layout = bare_view 1 (fresh_track layout 0)
+
+-- what is left of a handle that another has taken in
+abbrev pub spent : View
+spent = record { made = 0; tracks = []; holds = false }
+
+-- a seat of no table, for a spent handle
+abbrev pub no_track : Track
+no_track =
+    fresh_track
+    (record {
+      config = record { scheme = He; seats = 0; indexes = 0; slots = 0; buckets = 0; tries = 0; every = 0; last_era = 0; last_version = 0; pairs = 0 };
+    })
+    0
+
+-- the first of these tracks
+abbrev pub first_of : List Track → Track
+first_of [] = no_track
+first_of (track ∷ tracks) = track
+
+-- the handle's own seat
+abbrev pub own : View → Track
+own view = first_of view.tracks
+
+-- the call in the first of these slots
+abbrev pub call_in : List (ℕ × Option Call) → Option Call
+call_in [] = None
+call_in (slot ∷ slots) = slot.1
+
+-- the seat with the call of its slot begun
+abbrev pub entered : Local → Option Call → Local
+entered local None = local
+entered local (Some call) = begun local call
+
+-- the item by which that call begins
+abbrev pub entry : ℕ → Option Call → List Item
+entry seat None = []
+entry seat (Some call) = Begins seat call ∷ []
+
+-- where the handle's own seat stands
+abbrev pub standing : Handle → Local
+standing handle = entered (own handle.0).local (call_in handle.1)

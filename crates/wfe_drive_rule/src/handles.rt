@@ -1,0 +1,63 @@
+// How handles of the shared table are made, take and give their slots, and are joined.
+ghost use Rattle.std.specs.Prelude.{[], ◌∷◌, ◌≡◌, ◌≤◌, ◌<◌, None};
+ghost use Rattle.wfe_drive_rule.specs.Handles.{IsBare, IsGathered, IsIdle, IsResting, IsSeated, IsSized, IsTracked};
+ghost use Rattle.wfe_drive_rule.specs.Moves.{bared, one_more, slotted, taken_in};
+ghost use Rattle.wfe_drive_rule.specs.Views.{bare_view, fresh_track, own, seat_of};
+
+use crate::rule::{GiveSlot, Handle, Ledger, OneMore, TakeIn, TakeSlot};
+
+/// A handle of one seat more, out of the handle that counts them. The new seat's number is the count so
+/// far, which is below the number of seats of the table, and it has made no call.
+pub fn split(table: &Ledger, handle: &mut Handle) -> Handle
+    requires ids { handle.old.table_id ≡ table.now.table_id }
+    requires sized { IsSized table.now.table_id table.now.key }
+    requires tracked { IsTracked table.now.key (own handle.old.me.0) }
+    requires counts { 1 ≤ handle.old.me.0.made }
+    requires room { handle.old.me.0.made < table.now.key.config.seats }
+    ensures ids { (handle.new.table_id ≡ handle.old.table_id) × (handle.new.id ≡ handle.old.id) × (result.table_id ≡ handle.old.table_id) }
+    ensures handle { handle.new.me ≡ (one_more handle.old.me.0, handle.old.me.1) }
+    ensures made { result.me ≡ (bare_view 0 (fresh_track table.now.key handle.old.me.0.made), []) }
+    ensures bare { IsBare table.now.key result.me }
+{
+    table.split_seat::<OneMore>(handle)
+}
+
+/// A handle takes its seat's slot, whose number is the seat's. The slot holds no call.
+pub fn take_slot(table: &Ledger, handle: &mut Handle, slot: usize)
+    requires ids { handle.old.table_id ≡ table.now.table_id }
+    requires sized { IsSized table.now.table_id table.now.key }
+    requires bare { IsBare table.now.key handle.old.me }
+    requires number { slot ≡ seat_of (own handle.old.me.0) }
+    ensures ids { (handle.new.table_id ≡ handle.old.table_id) × (handle.new.id ≡ handle.old.id) }
+    ensures taken { handle.new.me ≡ (slotted handle.old.me.0, (slot, None) ∷ []) }
+    ensures seated { IsSeated table.now.key slot handle.new.me }
+    ensures resting { IsIdle (own handle.old.me.0) → IsResting handle.new.me }
+{
+    table.load::<TakeSlot>(handle, 0);
+}
+
+/// A handle gives its slot back, where its seat is between calls.
+pub fn give_slot(table: &Ledger, handle: &mut Handle, slot: usize)
+    requires ids { handle.old.table_id ≡ table.now.table_id }
+    requires sized { IsSized table.now.table_id table.now.key }
+    requires seated { IsSeated table.now.key slot handle.old.me }
+    requires resting { IsResting handle.old.me }
+    ensures ids { (handle.new.table_id ≡ handle.old.table_id) × (handle.new.id ≡ handle.old.id) }
+    ensures given { handle.new.me ≡ (bared handle.old.me.0, []) }
+    ensures gathered { IsGathered handle.new.me }
+{
+    table.load::<GiveSlot>(handle, 0);
+}
+
+/// A handle takes in another, where the seats of both are between calls. The other's seats come after
+/// its own, in their order.
+pub fn take_in(table: &Ledger, handle: &mut Handle, other: Handle)
+    requires ids { (handle.old.table_id ≡ table.now.table_id) × (other.table_id ≡ table.now.table_id) }
+    requires sized { IsSized table.now.table_id table.now.key }
+    requires gathered { IsGathered handle.old.me × IsGathered other.me }
+    ensures ids { (handle.new.table_id ≡ handle.old.table_id) × (handle.new.id ≡ handle.old.id) }
+    ensures joined { handle.new.me ≡ (taken_in handle.old.me.0 other.me.0, []) }
+    ensures gathered { IsGathered handle.new.me }
+{
+    table.join_seat::<TakeIn>(handle, other);
+}

@@ -1,0 +1,18 @@
+//! The shared table as threads have it: an atomic table under the rule that a history comes to the
+//! World that its words and the views of its handles show, the steps of seats on it, and the making
+//! and joining of handles.
+#![tactic(auto)]
+
+mod facts;
+mod handles;
+mod rule;
+mod steps;
+mod table;
+#[cfg(test)]
+mod tests;
+
+pub use facts::{handles_end, handles_stand_in_histories, tables_follow_histories};
+pub use handles::{give_slot, split, take_in, take_slot};
+pub use rule::{Handle, HandleView, HistoryRule, Ledger, OwnedLedger};
+pub use steps::{begin, step};
+pub use table::{close, finish, open};

@@ -1,0 +1,88 @@
+// The rule of the shared table, and what its steps tell. (The table's own crate calls a handle a seat.)
+use atomic_table::{Join, Play, Split, TableRule};
+use std::alloc::Global;
+use std::marker::Model;
+use wfe_core::{Call, Layout};
+
+/// The words that threads share, with a slot for each seat.
+pub type Ledger = atomic_table::Shared<Option<Call>, HandleView, Layout, HistoryRule>;
+
+/// The same with its memory.
+pub type OwnedLedger = atomic_table::Table<Option<Call>, HandleView, Layout, HistoryRule, Global>;
+
+/// What a thread makes the steps of a seat with. It takes no bytes, and may go to another thread.
+pub type Handle = atomic_table::Seat<Option<Call>, HandleView>;
+
+/// What a handle knows. Proofs alone speak of it, and no value is made.
+#[derive(Drop)]
+pub struct HandleView;
+
+impl Model for HandleView {
+    ghost use Rattle.wfe_drive_rule.specs.Views.{View, spent};
+
+    ghost Value = { View };
+
+    ghost view = { λ _. spent };
+}
+
+/// A history comes to the World that the words and the views show.
+pub struct HistoryRule;
+
+impl TableRule<Option<Call>, HandleView, Layout> for HistoryRule {
+    ghost use Rattle.wfe_drive_rule.specs.Rule.{Holds};
+    ghost use Rattle.wfe_drive_rule.specs.Views.{first_view};
+
+    ghost holds = { Holds };
+
+    ghost first = { first_view };
+}
+
+// A seat makes a step, of whichever kind.
+pub(crate) struct OneStep;
+
+impl Play<Option<Call>, HandleView> for OneStep {
+    ghost use Rattle.wfe_drive_rule.specs.Moves.{StepsOnce};
+
+    ghost then = { StepsOnce };
+}
+
+// A handle takes its slot.
+pub(crate) struct TakeSlot;
+
+impl Play<Option<Call>, HandleView> for TakeSlot {
+    ghost use Rattle.wfe_drive_rule.specs.Moves.{Takes};
+
+    ghost then = { Takes };
+}
+
+// A handle gives its slot back.
+pub(crate) struct GiveSlot;
+
+impl Play<Option<Call>, HandleView> for GiveSlot {
+    ghost use Rattle.wfe_drive_rule.specs.Moves.{Gives};
+
+    ghost then = { Gives };
+}
+
+// One seat more is made.
+pub(crate) struct OneMore;
+
+impl Split<HandleView> for OneMore {
+    ghost use Rattle.wfe_drive_rule.specs.Moves.{newcomer, one_more};
+
+    ghost left = { one_more };
+
+    ghost right = { newcomer };
+}
+
+// One handle takes in another.
+pub(crate) struct TakeIn;
+
+impl Join<HandleView> for TakeIn {
+    ghost use Rattle.wfe_drive_rule.specs.Moves.{taken_in};
+    ghost use Rattle.wfe_drive_rule.specs.Views.{spent};
+
+    ghost both = { taken_in };
+
+    ghost spent = { spent };
+}

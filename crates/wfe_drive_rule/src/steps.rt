@@ -1,0 +1,67 @@
+// A seat's steps on the shared table, and the beginning of its calls.
+ghost use Rattle.std.specs.Prelude.{◌≡◌, None, true};
+ghost use Rattle.wfe_core.specs.Locals.{after, asks, begun, busy_in};
+ghost use Rattle.wfe_drive_rule.specs.Handles.{IsResting, IsSeated, IsSized};
+ghost use Rattle.wfe_drive_rule.specs.Moves.{Told};
+ghost use Rattle.wfe_drive_rule.specs.Views.{call_in, own, seat_of, standing};
+
+use crate::rule::{Handle, Ledger, OneStep};
+use wfe_core::{Call, Op};
+
+/// A call of the handle's seat begins, where none is under way. No word changes: the seat's slot,
+/// whose number is the seat's, holds the call until its first step.
+pub fn begin(table: &Ledger, handle: &mut Handle, slot: usize, call: Call)
+    requires ids { handle.old.table_id ≡ table.now.table_id }
+    requires seated { IsSeated table.now.key slot handle.old.me }
+    requires resting { IsResting handle.old.me }
+    ensures ids { (handle.new.table_id ≡ handle.old.table_id) × (handle.new.id ≡ handle.old.id) }
+    ensures seated { IsSeated table.now.key slot handle.new.me }
+    ensures view { handle.new.me.0 ≡ handle.old.me.0 }
+    ensures begins { standing handle.new.me ≡ begun (standing handle.old.me) call }
+{
+    table.exchange(handle, slot, Some(call));
+}
+
+/// The next step of the handle's seat, whose call is under way: one atomic step on one word. It
+/// answers the word before, and 0 for a store.
+pub fn step(table: &Ledger, handle: &mut Handle, slot: usize, op: Op) -> u64
+    requires ids { handle.old.table_id ≡ table.now.table_id }
+    requires sized { IsSized table.now.table_id table.now.key }
+    requires seated { IsSeated table.now.key slot handle.old.me }
+    requires busy { busy_in (standing handle.old.me).phase ≡ true }
+    requires asks { op ≡ asks (standing handle.old.me) }
+    ensures ids { (handle.new.table_id ≡ handle.old.table_id) × (handle.new.id ≡ handle.old.id) }
+    ensures seated { IsSeated table.now.key slot handle.new.me }
+    ensures slot { call_in handle.new.me.1 ≡ None }
+    ensures stands { standing handle.new.me ≡ after (standing handle.old.me) result }
+    ensures told { Told table.now.key handle.old.me result handle.new.me.0 }
+{
+    let found = perform(table, handle, op);
+    table.exchange(handle, slot, None);
+    found
+}
+
+// The atomic step alone: the slot is as it was.
+fn perform(table: &Ledger, handle: &mut Handle, op: Op) -> u64
+    requires ids { handle.old.table_id ≡ table.now.table_id }
+    requires sized { IsSized table.now.table_id table.now.key }
+    requires seated { IsSeated table.now.key (seat_of (own handle.old.me.0)) handle.old.me }
+    requires busy { busy_in (standing handle.old.me).phase ≡ true }
+    requires asks { op ≡ asks (standing handle.old.me) }
+    ensures ids { (handle.new.table_id ≡ handle.old.table_id) × (handle.new.id ≡ handle.old.id) }
+    ensures slots { handle.new.me.1 ≡ handle.old.me.1 }
+    ensures told { Told table.now.key handle.old.me result handle.new.me.0 }
+{
+    match op {
+        Op::Load { word } => table.load::<OneStep>(handle, word as usize),
+        Op::Store { word, value } => {
+            table.store::<OneStep>(handle, word as usize, value);
+            0
+        }
+        Op::Cas { word, old, new } => {
+            table.compare_exchange::<OneStep>(handle, word as usize, old, new)
+        }
+        Op::Or { word, bits } => table.fetch_or::<OneStep>(handle, word as usize, bits),
+        Op::And { word, bits } => table.fetch_and::<OneStep>(handle, word as usize, bits),
+    }
+}
