@@ -1,0 +1,4 @@
+pub mod Groups
+pub mod Histories
+pub mod Makes
+pub mod Plain

@@ -1,0 +1,71 @@
+// The steps of a call, one operation after another, from its beginning to its answer.
+ghost use Rattle.std.specs.Prelude.{◌≡◌, true};
+ghost use Rattle.laws.specs.AnswerLaw.{suits};
+ghost use Rattle.wfe_core.specs.Calls.{Idle};
+ghost use Rattle.wfe_core.specs.DeskHeld.{HasRoom};
+ghost use Rattle.wfe_core.specs.Frames.{SamePlace};
+ghost use Rattle.wfe_core.specs.Locals.{busy_in};
+ghost use Rattle.wfe_drive_call.specs.Called.{Called, Here, Makes, at_phase};
+ghost use Rattle.wfe_drive_call.specs.Ran.{Answered};
+
+use crate::Words;
+use wfe_call_any::{HeCall, IbrCall, WfeCall};
+use wfe_core::{Answer, Call, CallMachine, Desk, Post, SchemeKind, Told};
+
+/// Makes a whole call of the seat of this post and desk on its words, and answers as the call does.
+/// No call of the seat may be under way. Each operation is the one that the call's state asks for,
+/// and the answer is one that the call may have. It takes no memory, and every call ends.
+pub fn drive_call<W: Words>(words: &mut W, post: &mut Post, desk: &mut Desk, call: Call) -> Answer
+    requires valid { W.valid words.old }
+    requires here { Here (W.at words.old) (at_phase Idle post.old desk.old) }
+    requires room { HasRoom desk.old post.old.layout }
+    ensures valid { W.valid words.new }
+    ensures same { W.same words.old words.new }
+    ensures here { Here (W.at words.new) (at_phase Idle post.new desk.new) }
+    ensures room { HasRoom desk.new post.new.layout }
+    ensures place { SamePlace post.old post.new }
+    ensures suits { suits call result ≡ true }
+    ensures called { Called call result (W.at words.old) (W.at words.new)
+        (W.stands words.old) (W.stands words.new)
+        (at_phase Idle post.old desk.old) (at_phase Idle post.new desk.new) }
+{
+    words.start(call);
+    post.steps = 0;
+    desk.notes.clear();
+    let layout = post.layout;
+    match layout.config().scheme {
+        SchemeKind::He => drive(words, HeCall::begin(layout, call), post, desk),
+        SchemeKind::Ibr => drive(words, IbrCall::begin(layout, call), post, desk),
+        SchemeKind::Wfe => drive(words, WfeCall::begin(layout, call), post, desk),
+    }
+}
+
+/// Makes the steps of a call that has begun, until it answers.
+fn drive<W: Words, M: CallMachine>(
+    words: &mut W,
+    mut machine: M,
+    post: &mut Post,
+    desk: &mut Desk,
+) -> Answer
+    requires valid { W.valid words.old }
+    requires here { Here (W.at words.old) (at_phase (M.phase machine post.old) post.old desk.old) }
+    requires busy { busy_in (M.phase machine post.old) ≡ true }
+    requires suits { M.suits post.old.layout.config.scheme }
+    requires room { HasRoom desk.old post.old.layout }
+    ensures valid { W.valid words.new }
+    ensures same { W.same words.old words.new }
+    ensures room { HasRoom desk.new post.new.layout }
+    ensures made { Makes (λ ops l m. Answered l ops result m) (W.at words.old) (W.at words.new)
+        (W.stands words.old) (W.stands words.new)
+        (at_phase (M.phase machine post.old) post.old desk.old) (at_phase Idle post.new desk.new) }
+{
+    let mut told = Told::new();
+    loop {
+        let op = machine.next_op(post, desk);
+        let found = words.perform(op);
+        told.clear();
+        if let Some(answer) = machine.take(post, desk, found, &mut told) {
+            return answer;
+        }
+    }
+}
