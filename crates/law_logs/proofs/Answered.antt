@@ -1,0 +1,98 @@
+-- What an answer says stays so in a later record, and by lower counts at the call's beginning.
+use Rattle.std.proofs.Common.{ℕ, ◌≡◌, ◌≤◌, ◌<◌, ◌-◌, List, Option, length, sym, ap, ◌∙◌, arith}
+use Rattle.wfe_core.specs.defs.Pairs.{Pair, changed, pairs_after, value_in}
+use Rattle.wfe_core.specs.defs.declared.call.Answer.{Answer}
+use Rattle.wfe_core.specs.defs.declared.call.Answer.TheVariants as answers
+use Rattle.wfe_core.specs.defs.declared.call.Call.{Call}
+use Rattle.wfe_core.specs.defs.declared.call.Call.TheVariants as calls
+use Rattle.wfe_core.specs.defs.declared.fold.Change.{Change}
+use Rattle.wfe_core.specs.defs.declared.fold.Change.TheVariants as changes
+use Rattle.wfe_core.specs.words.declared.config.Config.{Config}
+use Rattle.laws.specs.StateAt.{bucket_of, count_of, pairs_at, queued_of, value_at}
+use Rattle.std.specs.Prelude.{is_some}
+use Rattle.law_scans.specs.inv.history.Record.{Past}
+use Rattle.law_logs.specs.Answered.{IsAbsent, IsDone, IsFull, IsGot, IsKept, IsLast, IsMet, IsQueued, IsSpent, IsTaken, Says}
+use Rattle.law_logs.specs.Versions.{AtMost, Counts}
+use Rattle.law_logs.proofs.Grows.{Grows, more_count, more_queued, same_changes, same_queued}
+
+pub pairs_on : (b version : ℕ) (p q : Past) → Grows p q → version ≤ count_of b p → pairs_at b version q ≡ pairs_at b version p
+pairs_on b version p q g h = ap pairs_after (same_changes b version p q g h)
+
+pub value_on : (b version key : ℕ) (p q : Past) → Grows p q → version ≤ count_of b p → value_at b version key q ≡ value_at b version key p
+value_on b version key p q g h = ap (λ (ps : List Pair). value_in ps key) (pairs_on b version p q g h)
+
+pub met_on : (low from : Counts) (p q : Past) (b version : ℕ) → AtMost low from → Grows p q → IsMet from p b version → IsMet low q b version
+met_on low from p q b version a g s = let l = a.versions b in let m = more_count b p q g in record { since = omega (arith, l, s.since); until = omega (arith, m, s.until) }
+
+pub got_on : (low from : Counts) (p q : Past) (b key version : ℕ) (value : Option ℕ) → AtMost low from → Grows p q → IsGot from p b key version value → IsGot low q b key version value
+got_on low from p q b key version value a g s = record { met = met_on low from p q b version a g s.met; value_is = s.value_is ∙ sym (value_on b version key p q g s.met.until) }
+
+done_on : (c : Config) (low from : Counts) (p q : Past) (b key : ℕ) (change : Change) (version : ℕ) → AtMost low from → Grows p q → IsDone c from p b key change version → IsDone c low q b key change version
+done_on c low from p q b key change version a g s =
+    let l = a.versions b in
+    let u : version ≤ count_of b p = s.met.until in
+    let before : version - 1 ≤ count_of b p = omega (arith, u) in
+    record {
+      met = met_on low from p q b version a g s.met;
+      later = omega (arith, l, s.later);
+      most = s.most;
+      pairs = pairs_on b version p q g u ∙ s.pairs ∙ ap (λ (ps : List Pair). changed ps change) (sym (pairs_on b (version - 1) p q g before));
+      value_is = value_on b version key p q g u ∙ s.value_is;
+    }
+
+full_on : (c : Config) (low from : Counts) (p q : Past) (b key version : ℕ) → AtMost low from → Grows p q → IsFull c from p b key version → IsFull c low q b key version
+full_on c low from p q b key version a g s = record {
+  met = met_on low from p q b version a g s.met;
+  early = s.early;
+  room = ap (λ (ps : List Pair). length ps) (pairs_on b version p q g s.met.until) ∙ s.room;
+  value_is = value_on b version key p q g s.met.until ∙ s.value_is;
+}
+
+absent_on : (low from : Counts) (p q : Past) (b key version : ℕ) → AtMost low from → Grows p q → IsAbsent from p b key version → IsAbsent low q b key version
+absent_on low from p q b key version a g s = record { met = met_on low from p q b version a g s.met; value_is = value_on b version key p q g s.met.until ∙ s.value_is }
+
+spent_on : (c : Config) (low from : Counts) (p q : Past) (b version : ℕ) → AtMost low from → Grows p q → IsSpent c from p b version → IsSpent c low q b version
+spent_on c low from p q b version a g s = record { met = met_on low from p q b version a g s.met; final = s.final }
+
+kept_on : (c : Config) (low from : Counts) (p q : Past) (b key version : ℕ) → AtMost low from → Grows p q → IsKept c from p b key version → IsKept c low q b key version
+kept_on c low from p q b key version a g s = record {
+  spent = spent_on c low from p q b version a g s.spent;
+  there = ap (λ (x : Option ℕ). is_some x) (value_on b version key p q g s.spent.met.until) ∙ s.there;
+}
+
+queued_on : (c : Config) (low from : Counts) (p q : Past) (value number : ℕ) → AtMost low from → Grows p q → IsQueued c from p value number → IsQueued c low q value number
+queued_on c low from p q value number a g s =
+    let m = more_queued p q g in
+    let within : number - 1 < length (queued_of p) = omega (arith, s.since, s.until) in
+    record { since = omega (arith, a.queued, s.since); until = omega (arith, m, s.until); most = s.most; value_is = s.value_is ∙ sym (same_queued (number - 1) p q g within) }
+
+last_on : (c : Config) (low from : Counts) (p q : Past) (number : ℕ) → AtMost low from → Grows p q → IsLast c from p number → IsLast c low q number
+last_on c low from p q number a g s = let m = more_queued p q g in record { since = omega (arith, a.queued, s.since); until = omega (arith, m, s.until); final = s.final }
+
+pub taken_on : (low from : Counts) (p q : Past) (number value : ℕ) → AtMost low from → Grows p q → IsTaken from p number value → IsTaken low q number value
+taken_on low from p q number value a g s =
+    let m = more_queued p q g in
+    let within : number - 1 < length (queued_of p) = omega (arith, s.since, s.queued) in
+    record {
+      since = omega (arith, a.taken, s.since);
+      until = omega (arith, g.taken, s.until);
+      queued = omega (arith, m, s.queued);
+      value_is = s.value_is ∙ sym (same_queued (number - 1) p q g within);
+    }
+
+none_on : (low from : ℕ) → low ≤ from → from ≡ 0 → low ≡ 0
+none_on low from h e = omega (arith, h, e)
+
+pub says_on : (c : Config) (low from : Counts) (p q : Past) (call : Call) (answer : Answer) → AtMost low from → Grows p q → Says c from p call answer → Says c low q call answer
+says_on c low from p q (calls.Get key) (answers.Got version value) a g s = got_on low from p q (bucket_of c.buckets key) key version value a g s
+says_on c low from p q (calls.Put key value) (answers.Done version clock) a g s = done_on c low from p q (bucket_of c.buckets key) key (changes.Put key value) version a g s
+says_on c low from p q (calls.Put key value) (answers.BucketFull version) a g s = full_on c low from p q (bucket_of c.buckets key) key version a g s
+says_on c low from p q (calls.Put key value) (answers.Spent version) a g s = spent_on c low from p q (bucket_of c.buckets key) version a g s
+says_on c low from p q (calls.Remove key) (answers.Done version clock) a g s = done_on c low from p q (bucket_of c.buckets key) key (changes.Removed key) version a g s
+says_on c low from p q (calls.Remove key) (answers.Absent version) a g s = absent_on low from p q (bucket_of c.buckets key) key version a g s
+says_on c low from p q (calls.Remove key) (answers.Spent version) a g s = kept_on c low from p q (bucket_of c.buckets key) key version a g s
+says_on c low from p q (calls.Enqueue value) (answers.Queued number) a g s = queued_on c low from p q value number a g s
+says_on c low from p q (calls.Enqueue value) (answers.Spent number) a g s = last_on c low from p q number a g s
+says_on c low from p q calls.Dequeue (answers.Taken number value clock) a g s = taken_on low from p q number value a g s
+says_on c low from p q (calls.Hold key) answers.Nothing a g s = none_on (low.versions (bucket_of c.buckets key)) (from.versions (bucket_of c.buckets key)) (a.versions (bucket_of c.buckets key)) s
+says_on c low from p q call answer a g s = tt

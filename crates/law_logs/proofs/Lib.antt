@@ -1,0 +1,14 @@
+pub mod Along
+pub mod Answered
+pub mod Begins
+pub mod Counts
+pub mod Cuts
+pub mod Grows
+pub mod Heard
+pub mod Knows
+pub mod LastScans
+pub mod Ledgers
+pub mod Meets
+pub mod Notes
+pub mod Records
+pub mod Says

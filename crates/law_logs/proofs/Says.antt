@@ -1,0 +1,143 @@
+-- Where a call ends, its answer says what is so: by what the call has told, and by its reason.
+use Rattle.std.proofs.Common.{ℕ, ◌≡◌, ◌≤◌, ◌<◌, ◌+◌, ◌-◌, true, List, [], ◌∷◌, length, take, get_or, Option, Some, None, refl, ap, ◌∙◌, arith}
+use Rattle.std.proofs.lemmas.List.{take_more}
+use Rattle.std.specs.Prelude.{◌==◌, ◌&&◌, ◌||◌, not, nat_le, nat_lt, is_some}
+use Rattle.std.proofs.lemmas.Bool.Decides.{nat_tests}
+use Rattle.wfe_core.proofs.Facts.{first_of, rest_of, number_is, le_of_test, same_number}
+use Rattle.laws.proofs.records.defs.Values.{pairs_from-append, value_in-changed}
+use Rattle.wfe_core.specs.defs.Events.{is_null}
+use Rattle.wfe_core.specs.defs.Pairs.{Pair, changed, pairs_after, value_in, value_after}
+use Rattle.wfe_core.specs.defs.declared.call.Answer.{Answer}
+use Rattle.wfe_core.specs.defs.declared.call.Answer.TheVariants as answers
+use Rattle.wfe_core.specs.defs.declared.call.Call.{Call}
+use Rattle.wfe_core.specs.defs.declared.call.Call.TheVariants as calls
+use Rattle.wfe_core.specs.defs.declared.event.Event.{Event}
+use Rattle.wfe_core.specs.defs.declared.event.Event.TheVariants as events
+use Rattle.wfe_core.specs.defs.declared.fold.Change.{Change}
+use Rattle.wfe_core.specs.defs.declared.fold.Change.TheVariants as changes
+use Rattle.wfe_core.specs.words.declared.config.Config.{Config}
+use Rattle.laws.specs.HistoryAnswers.{owes, reason, same_told}
+use Rattle.laws.specs.StateAt.{begun_at, bucket_of, changes_of, count_of, had_version, has_told, is_there, pairs_at, queued_of, value_at, was_current}
+use Rattle.law_scans.specs.inv.history.Record.{Past}
+use Rattle.law_logs.specs.Answered.{IsAbsent, IsDone, IsFull, IsGot, IsKept, IsLast, IsQueued, IsSpent, Says, value_left}
+use Rattle.law_logs.specs.Versions.{AtMost, Counts, counts_of}
+use Rattle.law_logs.proofs.Counts.{begun_counts}
+use Rattle.law_logs.proofs.Heard.{AllHeard, ChangeHeard, QueuedHeard, heard_one, met_now, same_got, same_put, same_queued_event, same_removed, same_taken}
+
+none_of : (x : Option ℕ) → not (is_some x) ≡ true → x ≡ None
+none_of None h = refl
+none_of (Some n) h = absurd (cc)
+
+lt_of_test : (n most : ℕ) → nat_lt n most ≡ true → n < most
+lt_of_test n most h = grind (arith, nat_tests)
+
+-- a change of its key leaves its value
+put_left : (before : Option ℕ) (key value : ℕ) → value_after before (changes.Put key value) key ≡ Some value
+put_left before key value = rw (same_number key) refl
+
+removed_left : (before : Option ℕ) (key : ℕ) → value_after before (changes.Removed key) key ≡ None
+removed_left before key = rw (same_number key) refl
+
+-- the pairs of a version, by its change
+pairs_made : (b version : ℕ) (p : Past) (change : Change) → 0 < version → version ≤ count_of b p → get_or (changes_of b p) (version - 1) change ≡ change → pairs_at b version p ≡ changed (pairs_at b (version - 1) p) change
+pairs_made b version p change low most here =
+    let cs : List Change = changes_of b p in
+    let within : version - 1 < length cs = omega (arith, low, most) in
+    let next : version ≡ version - 1 + 1 = omega (arith, low) in
+    ap (λ (v : ℕ). pairs_after (take v cs)) next
+    ∙ ap pairs_after (take_more cs (version - 1) change within)
+    ∙ pairs_from-append [] (take (version - 1) cs) (get_or cs (version - 1) change ∷ [])
+    ∙ ap (λ (c : Change). changed (pairs_after (take (version - 1) cs)) c) here
+
+done_now : (c : Config) (from : Counts) (p : Past) (b key version : ℕ) (change : Change) → ChangeHeard c.buckets from p b key version change → ((before : Option ℕ) → value_after before change key ≡ value_left change) → nat_le version c.last_version ≡ true → IsDone c from p b key change version
+done_now c from p b key version change h left most =
+    let low : 0 < version = omega (arith, h.later) in
+    let made : pairs_at b version p ≡ changed (pairs_at b (version - 1) p) change = pairs_made b version p change low h.met.until h.here in
+    record {
+      met = h.met;
+      later = h.later;
+      most = le_of_test version c.last_version most;
+      pairs = made;
+      value_is = ap (λ (ps : List Pair). value_in ps key) made ∙ value_in-changed (pairs_at b (version - 1) p) change key ∙ left (value_at b (version - 1) key p);
+    }
+
+put_now : (c : Config) (k : ℕ) (p : Past) (told : List Event) (key value version : ℕ) → same_told told (events.Put (bucket_of c.buckets key) version key value ∷ []) ≡ true → AllHeard c.buckets (begun_counts k p) p told → nat_le version c.last_version ≡ true
+    → IsDone c (begun_counts k p) p (bucket_of c.buckets key) key (changes.Put key value) version
+put_now c k p told key value version s a most =
+    let b : ℕ = bucket_of c.buckets key in
+    done_now c (begun_counts k p) p b key version (changes.Put key value) (heard_one c.buckets (begun_counts k p) p (events.Put b version key value) told (same_put b version key value) s a) (λ before. put_left before key value) most
+
+remove_now : (c : Config) (k : ℕ) (p : Past) (told : List Event) (key version : ℕ) → same_told told (events.Removed (bucket_of c.buckets key) version key ∷ []) ≡ true → AllHeard c.buckets (begun_counts k p) p told → nat_le version c.last_version ≡ true
+    → IsDone c (begun_counts k p) p (bucket_of c.buckets key) key (changes.Removed key) version
+remove_now c k p told key version s a most =
+    let b : ℕ = bucket_of c.buckets key in
+    done_now c (begun_counts k p) p b key version (changes.Removed key) (heard_one c.buckets (begun_counts k p) p (events.Removed b version key) told (same_removed b version key) s a) (λ before. removed_left before key) most
+
+got_now : (c : Config) (k : ℕ) (p : Past) (told : List Event) (key version : ℕ) (value : Option ℕ) → same_told told (events.Got (bucket_of c.buckets key) version key value ∷ []) ≡ true → AllHeard c.buckets (begun_counts k p) p told → IsGot (begun_counts k p) p (bucket_of c.buckets key) key version value
+got_now c k p told key version value s a =
+    let b : ℕ = bucket_of c.buckets key in
+    (heard_one c.buckets (begun_counts k p) p (events.Got b version key value) told (same_got b version key value) s a).got
+
+full_now : (c : Config) (k b key version : ℕ) (p : Past) → (was_current k b version p && (nat_lt version c.last_version && (length (pairs_at b version p) == c.pairs && not (is_there b version key p)))) ≡ true → IsFull c (begun_counts k p) p b key version
+full_now c k b key version p h =
+    let r = rest_of (was_current k b version p) (nat_lt version c.last_version && (length (pairs_at b version p) == c.pairs && not (is_there b version key p))) h in
+    let s = rest_of (nat_lt version c.last_version) (length (pairs_at b version p) == c.pairs && not (is_there b version key p)) r in
+    record {
+      met = met_now k b version p (first_of (was_current k b version p) (nat_lt version c.last_version && (length (pairs_at b version p) == c.pairs && not (is_there b version key p))) h);
+      early = lt_of_test version c.last_version (first_of (nat_lt version c.last_version) (length (pairs_at b version p) == c.pairs && not (is_there b version key p)) r);
+      room = number_is (length (pairs_at b version p)) c.pairs (first_of (length (pairs_at b version p) == c.pairs) (not (is_there b version key p)) s);
+      value_is = none_of (value_at b version key p) (rest_of (length (pairs_at b version p) == c.pairs) (not (is_there b version key p)) s);
+    }
+
+absent_now : (k b key version : ℕ) (p : Past) → (was_current k b version p && not (is_there b version key p)) ≡ true → IsAbsent (begun_counts k p) p b key version
+absent_now k b key version p h = record {
+  met = met_now k b version p (first_of (was_current k b version p) (not (is_there b version key p)) h);
+  value_is = none_of (value_at b version key p) (rest_of (was_current k b version p) (not (is_there b version key p)) h);
+}
+
+spent_now : (c : Config) (k b version : ℕ) (p : Past) → (version == c.last_version) ≡ true → (version == count_of b p) ≡ true → AtMost (begun_counts k p) (counts_of p) → IsSpent c (begun_counts k p) p b version
+spent_now c k b version p f h low =
+    let e = number_is version (count_of b p) h in
+    let l = low.versions b in
+    record { met = record { since = omega (arith, e, l); until = omega (arith, e) }; final = number_is version c.last_version f }
+
+spent_put : (c : Config) (k b version : ℕ) (p : Past) → (version == c.last_version && version == count_of b p) ≡ true → AtMost (begun_counts k p) (counts_of p) → IsSpent c (begun_counts k p) p b version
+spent_put c k b version p h low = spent_now c k b version p (first_of (version == c.last_version) (version == count_of b p) h) (rest_of (version == c.last_version) (version == count_of b p) h) low
+
+spent_remove : (c : Config) (k b key version : ℕ) (p : Past) → (version == c.last_version && (version == count_of b p && is_there b version key p)) ≡ true → AtMost (begun_counts k p) (counts_of p) → IsKept c (begun_counts k p) p b key version
+spent_remove c k b key version p h low =
+    let r = rest_of (version == c.last_version) (version == count_of b p && is_there b version key p) h in
+    record {
+      spent = spent_now c k b version p (first_of (version == c.last_version) (version == count_of b p && is_there b version key p) h) (first_of (version == count_of b p) (is_there b version key p) r) low;
+      there = rest_of (version == count_of b p) (is_there b version key p) r;
+    }
+
+queued_now : (c : Config) (from : Counts) (p : Past) (number value : ℕ) → nat_le number c.last_version ≡ true → QueuedHeard from p number value → IsQueued c from p value number
+queued_now c from p number value most h = record { since = h.since; until = h.until; most = le_of_test number c.last_version most; value_is = h.value_is }
+
+last_now : (c : Config) (k number : ℕ) (p : Past) → (number == c.last_version && number == length (queued_of p)) ≡ true → AtMost (begun_counts k p) (counts_of p) → IsLast c (begun_counts k p) p number
+last_now c k number p h low =
+    let e = number_is number (length (queued_of p)) (rest_of (number == c.last_version) (number == length (queued_of p)) h) in
+    record { since = omega (arith, low.queued, e); until = omega (arith, e); final = number_is number c.last_version (first_of (number == c.last_version) (number == length (queued_of p)) h) }
+
+-- by call and answer
+pub says_now : (c : Config) (k : ℕ) (p : Past) (call : Call) (answer : Answer) (told : List Event) → same_told told (owes c.buckets call answer) ≡ true → reason c k p (Some call) answer ≡ true → AtMost (begun_counts k p) (counts_of p) → AllHeard c.buckets (begun_counts k p) p told
+    → Says c (begun_counts k p) p call answer
+says_now c k p (calls.Get key) (answers.Got version value) told s r low a = got_now c k p told key version value s a
+says_now c k p (calls.Put key value) (answers.Done version clock) told s r low a =
+    let b : ℕ = bucket_of c.buckets key in
+    put_now c k p told key value version s a (first_of (nat_le version c.last_version) (had_version b (version - 1) p && (is_there b (version - 1) key p || nat_lt (length (pairs_at b (version - 1) p)) c.pairs)) r)
+says_now c k p (calls.Put key value) (answers.BucketFull version) told s r low a = full_now c k (bucket_of c.buckets key) key version p r
+says_now c k p (calls.Put key value) (answers.Spent version) told s r low a = spent_put c k (bucket_of c.buckets key) version p r low
+says_now c k p (calls.Remove key) (answers.Done version clock) told s r low a =
+    let b : ℕ = bucket_of c.buckets key in
+    remove_now c k p told key version s a (first_of (nat_le version c.last_version) (had_version b (version - 1) p && is_there b (version - 1) key p) r)
+says_now c k p (calls.Remove key) (answers.Absent version) told s r low a = absent_now k (bucket_of c.buckets key) key version p r
+says_now c k p (calls.Remove key) (answers.Spent version) told s r low a = spent_remove c k (bucket_of c.buckets key) key version p r low
+says_now c k p (calls.Enqueue value) (answers.Queued number) told s r low a = queued_now c (begun_counts k p) p number value r (heard_one c.buckets (begun_counts k p) p (events.Queued number value) told (same_queued_event number value) s a)
+says_now c k p (calls.Enqueue value) (answers.Spent number) told s r low a = last_now c k number p r low
+says_now c k p calls.Dequeue (answers.Taken number value clock) told s r low a = heard_one c.buckets (begun_counts k p) p (events.Taken number value) told (same_taken number value) s a
+says_now c k p (calls.Hold key) answers.Nothing told s r low a =
+    let b : ℕ = bucket_of c.buckets key in
+    number_is (begun_at k b p) 0 (rest_of (has_told k (is_null 2) p) (begun_at k b p == 0) r)
+says_now c k p call answer told s r low a = tt

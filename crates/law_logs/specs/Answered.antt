@@ -1,0 +1,94 @@
+-- What a call's answer says of the map and of the queue, by the counts where the call began and a record that has its end.
+use Rattle.std.specs.Prelude.{ℕ, ◌≡◌, ◌≤◌, ◌<◌, ◌-◌, length, slice_index_or, Option, None, Some, true}
+use Rattle.wfe_core.specs.defs.Pairs.{changed}
+use Rattle.wfe_core.specs.defs.declared.call.Answer.{Answer}
+use Rattle.wfe_core.specs.defs.declared.call.Answer.TheVariants as answers
+use Rattle.wfe_core.specs.defs.declared.call.Call.{Call}
+use Rattle.wfe_core.specs.defs.declared.call.Call.TheVariants as calls
+use Rattle.wfe_core.specs.defs.declared.fold.Change.{Change}
+use Rattle.wfe_core.specs.defs.declared.fold.Change.TheVariants as changes
+use Rattle.wfe_core.specs.words.declared.config.Config.{Config}
+use Rattle.laws.specs.StateAt.{bucket_of, count_of, is_there, pairs_at, queued_of, taken_of, value_at}
+use Rattle.law_scans.specs.inv.history.Record.{Past}
+use Rattle.law_logs.specs.Versions.{Counts}
+
+-- a version that bucket b had at a position from the beginning on
+pub record IsMet (from : Counts) (last : Past) (b version : ℕ) : Type 0 where
+  pub since : from.versions b ≤ version
+  pub until : version ≤ count_of b last
+
+-- what a get tells is its key's value at such a version
+pub record IsGot (from : Counts) (last : Past) (b key version : ℕ) (value : Option ℕ) : Type 0 where
+  pub met : IsMet from last b version
+  pub value_is : value ≡ value_at b version key last
+
+-- the value that a change leaves its key
+abbrev pub value_left : Change → Option ℕ
+value_left (changes.Put key value) = Some value
+value_left (changes.Removed key) = None
+
+-- a change that is done made the pairs of this version from those of the version before
+pub record IsDone (c : Config) (from : Counts) (last : Past) (b key : ℕ) (change : Change) (version : ℕ) : Type 0 where
+  pub met : IsMet from last b version
+  pub later : from.versions b < version
+  pub most : version ≤ c.last_version
+  pub pairs : pairs_at b version last ≡ changed (pairs_at b (version - 1) last) change
+  pub value_is : value_at b version key last ≡ value_left change
+
+-- at such a version, which was not the last, the row had no room and the key was not there
+pub record IsFull (c : Config) (from : Counts) (last : Past) (b key version : ℕ) : Type 0 where
+  pub met : IsMet from last b version
+  pub early : version < c.last_version
+  pub room : length (pairs_at b version last) ≡ c.pairs
+  pub value_is : value_at b version key last ≡ None
+
+-- at such a version the key was not there
+pub record IsAbsent (from : Counts) (last : Past) (b key version : ℕ) : Type 0 where
+  pub met : IsMet from last b version
+  pub value_is : value_at b version key last ≡ None
+
+-- the bucket had the last version that is allowed
+pub record IsSpent (c : Config) (from : Counts) (last : Past) (b version : ℕ) : Type 0 where
+  pub met : IsMet from last b version
+  pub final : version ≡ c.last_version
+
+-- and there the key was
+pub record IsKept (c : Config) (from : Counts) (last : Past) (b key version : ℕ) : Type 0 where
+  pub spent : IsSpent c from last b version
+  pub there : is_there b version key last ≡ true
+
+-- the value was queued under this number since the beginning
+pub record IsQueued (c : Config) (from : Counts) (last : Past) (value number : ℕ) : Type 0 where
+  pub since : from.queued < number
+  pub until : number ≤ length (queued_of last)
+  pub most : number ≤ c.last_version
+  pub value_is : value ≡ slice_index_or (queued_of last) (number - 1) 0
+
+-- as many values were queued as there are numbers
+pub record IsLast (c : Config) (from : Counts) (last : Past) (number : ℕ) : Type 0 where
+  pub since : from.queued ≤ number
+  pub until : number ≤ length (queued_of last)
+  pub final : number ≡ c.last_version
+
+-- the value that was queued under this number was taken since the beginning
+pub record IsTaken (from : Counts) (last : Past) (number value : ℕ) : Type 0 where
+  pub since : from.taken < number
+  pub until : number ≤ taken_of last
+  pub queued : number ≤ length (queued_of last)
+  pub value_is : value ≡ slice_index_or (queued_of last) (number - 1) 0
+
+-- by call and answer
+abbrev pub Says : Config → Counts → Past → Call → Answer → Type 0
+Says c from last (calls.Get key) (answers.Got version value) = IsGot from last (bucket_of c.buckets key) key version value
+Says c from last (calls.Put key value) (answers.Done version clock) = IsDone c from last (bucket_of c.buckets key) key (changes.Put key value) version
+Says c from last (calls.Put key value) (answers.BucketFull version) = IsFull c from last (bucket_of c.buckets key) key version
+Says c from last (calls.Put key value) (answers.Spent version) = IsSpent c from last (bucket_of c.buckets key) version
+Says c from last (calls.Remove key) (answers.Done version clock) = IsDone c from last (bucket_of c.buckets key) key (changes.Removed key) version
+Says c from last (calls.Remove key) (answers.Absent version) = IsAbsent from last (bucket_of c.buckets key) key version
+Says c from last (calls.Remove key) (answers.Spent version) = IsKept c from last (bucket_of c.buckets key) key version
+Says c from last (calls.Enqueue value) (answers.Queued number) = IsQueued c from last value number
+Says c from last (calls.Enqueue value) (answers.Spent number) = IsLast c from last number
+Says c from last calls.Dequeue (answers.Taken number value clock) = IsTaken from last number value
+-- a hold that finds nothing found a bucket that had not been changed
+Says c from last (calls.Hold key) answers.Nothing = from.versions (bucket_of c.buckets key) ≡ 0
+Says c from last call answer = Unit {0}

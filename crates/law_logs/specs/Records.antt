@@ -1,0 +1,170 @@
+-- What the record of each history says of the logs, the book and the scans of seats, and what the answers in a log say of the record.
+use Rattle.std.specs.Prelude.{ℕ, ◌≡◌, ◌==◌, ◌-◌, true, false, if◌then◌else◌, List, [], ◌∷◌, ◌++◌, Option, None, Some}
+use Rattle.wfe_core.specs.Desks.{Notes, noted}
+use Rattle.wfe_core.specs.Guards.{guards}
+use Rattle.wfe_core.specs.Locals.{Group, Local, turn}
+use Rattle.wfe_core.specs.World.{World, is_busy}
+use Rattle.wfe_core.specs.defs.Entry.{Entry}
+use Rattle.wfe_core.specs.defs.declared.call.Answer.TheVariants as answers
+use Rattle.wfe_core.specs.defs.declared.call.Call.TheVariants as calls
+use Rattle.wfe_core.specs.defs.declared.call.Call.{Call}
+use Rattle.wfe_core.specs.defs.declared.call.ClockMove.{ClockMove}
+use Rattle.wfe_core.specs.defs.declared.event.Event.TheVariants as events
+use Rattle.wfe_core.specs.words.Place.{is_valid}
+use Rattle.wfe_core.specs.words.declared.config.Config.{Config}
+use Rattle.wfe_core.specs.words.declared.layout.Layout.{Layout}
+use Rattle.laws.specs.StateAt.{began_of, bucket_of, is_open, read_of, value_at}
+use Rattle.law_scans.specs.inv.history.History.{Item, record_of, world_of}
+use Rattle.law_scans.specs.inv.history.Record.{Past, tells}
+use Rattle.law_scans.specs.inv.history.Record.Past.{Then}
+use Rattle.law_logs.specs.Answered.{Says}
+use Rattle.law_logs.specs.Ledgers.{log_of, notes_of}
+use Rattle.law_logs.specs.Versions.{AtMost, counts_of, met_by, met_in, seen_in}
+
+-- a turn leaves the notes as they were: what it tells is noted where the seat is settled
+abbrev pub TurnsLeaveNotes : Type 0
+TurnsLeaveNotes = (l : Local) (found : ℕ) → (turn l found).desk.notes ≡ l.desk.notes
+
+-- what the record says of seat k is so: the calls that it has ended, the notes of its last call, whether it is in one, and in which
+pub record IsLogged (w : World) (p : Past) (k : ℕ) : Type 0 where
+  pub log : log_of k p ≡ (w.seat k).log
+  pub notes : notes_of k p ≡ (w.seat k).desk.notes
+  pub busy : is_open k p ≡ is_busy w k
+  pub call : is_busy w k ≡ true → began_of k p ≡ Some (w.seat k).call
+
+abbrev pub RecordsKeepLogs : Type 0
+RecordsKeepLogs = (layout : Layout) (items : List Item) (k : ℕ) → is_valid layout ≡ true → IsLogged (world_of layout items) (record_of layout items) k
+
+-- what a seat keeps of its last scan is what it has read of its last block of guards by the record
+abbrev pub RecordReads : Type 0
+RecordReads =
+    (layout : Layout) (items : List Item) (k : ℕ)
+    → is_valid layout ≡ true
+    → read_of (guards layout.config) k (record_of layout items) ≡ ((world_of layout items).seat k).desk.report.read
+
+-- a later record begins with an earlier one
+pub record IsBeginning (first last : Past) : Type 0 where
+  pub later : List Entry
+  pub cut : last ≡ tells first later
+
+abbrev pub RecordsGrow : Type 0
+RecordsGrow = (layout : Layout) (items more : List Item) → IsBeginning (record_of layout items) (record_of layout (items ++ more))
+
+-- a group of a log is an End of the record, at a position where the log was what comes before the group in it
+pub record IsEnded (k : ℕ) (r : Past) (before : List Group) (group : Group) : Type 0 where
+  pub at : Past
+  pub later : List Entry
+  pub cut : r ≡ tells (Then at k (events.End group.notes.steps group.answer)) later
+  pub log : log_of k at ≡ before
+  pub call : began_of k at ≡ Some group.call
+  pub notes : group.notes ≡ noted (notes_of k at) (events.End group.notes.steps group.answer)
+
+-- of each record
+abbrev pub LogsAreCut : Type 0
+LogsAreCut = (k : ℕ) (r : Past) (before later : List Group) (group : Group) → log_of k r ≡ before ++ group ∷ later → IsEnded k r before group
+
+-- the call of a position had begun where the log was the same, and its seat in none
+pub record IsBegun (k : ℕ) (at : Past) (call : Call) : Type 0 where
+  pub from : Past
+  pub until : List Entry
+  pub cut : at ≡ tells (Then from k (events.Begin call)) until
+  pub idle : is_open k from ≡ false
+  pub log : log_of k from ≡ log_of k at
+
+-- A call that has ended. By the counts where it began: what its answer says, at its end and in the record; and its seat had met nothing
+-- beyond them. At its end the seat has met nothing beyond the counts there, and no less than before.
+pub record IsAnswered (c : Config) (k : ℕ) (r : Past) (before : List Group) (group : Group) : Type 0 where
+  pub end : IsEnded k r before group
+  pub begun : IsBegun k end.at group.call
+  pub said : Says c (counts_of begun.from) end.at group.call group.answer
+  pub says : Says c (counts_of begun.from) r group.call group.answer
+  pub before_it : AtMost (met_in c.buckets before) (counts_of begun.from)
+  pub after_it : AtMost (met_in c.buckets (before ++ group ∷ [])) (counts_of end.at)
+  pub rises : AtMost (met_in c.buckets before) (met_in c.buckets (before ++ group ∷ []))
+
+-- so with each call in the log of a seat
+abbrev pub LogsAnswer : Type 0
+LogsAnswer =
+    (layout : Layout) (items : List Item) (k : ℕ) (before later : List Group) (group : Group)
+    → is_valid layout ≡ true
+    → ((world_of layout items).seat k).log ≡ before ++ group ∷ later
+    → IsAnswered layout.config k (record_of layout items) before group
+
+-- the first call that a seat ends after a World in which it is in none, by the counts in that World's record
+abbrev pub CallsAnswer : Type 0
+CallsAnswer =
+    (layout : Layout) (items more : List Item) (k : ℕ) (later : List Group) (group : Group)
+    → is_valid layout ≡ true
+    → is_busy (world_of layout items) k ≡ false
+    → ((world_of layout (items ++ more)).seat k).log ≡ ((world_of layout items).seat k).log ++ group ∷ later
+    → Says layout.config (counts_of (record_of layout items)) (record_of layout (items ++ more)) group.call group.answer
+
+-- a hold that finds nothing: its seat had seen no version of that bucket
+abbrev pub HoldsSeeNothing : Type 0
+HoldsSeeNothing =
+    (layout : Layout) (items : List Item) (k : ℕ) (before later : List Group) (key : ℕ) (notes : Notes)
+    → is_valid layout ≡ true
+    → ((world_of layout items).seat k).log ≡ before ++ record { call = calls.Hold key; answer = answers.Nothing; notes = notes } ∷ later
+    → seen_in layout.config.buckets (bucket_of layout.config.buckets key) before ≡ 0
+
+-- the group stands in the log
+pub record IsIn (log : List Group) (group : Group) : Type 0 where
+  pub before : List Group
+  pub later : List Group
+  pub cut : log ≡ before ++ group ∷ later
+
+-- A get at the version of a change that is done, of the same seat or of another, tells what the change left: its own key's value, or
+-- none where it was removed, and for another key what the version before had.
+pub record ChangesAreRead : Type 0 where
+  pub puts :
+      (layout : Layout) (items : List Item) (k m : ℕ) (key value other version : ℕ) (clock : ClockMove) (found : Option ℕ) (put get : Notes)
+      → is_valid layout ≡ true
+      → bucket_of layout.config.buckets other ≡ bucket_of layout.config.buckets key
+      → IsIn ((world_of layout items).seat k).log (record { call = calls.Put key value; answer = answers.Done version clock; notes = put })
+      → IsIn ((world_of layout items).seat m).log (record { call = calls.Get other; answer = answers.Got version found; notes = get })
+      → found ≡ (if key == other then Some value else value_at (bucket_of layout.config.buckets key) (version - 1) other (record_of layout items))
+  pub removes :
+      (layout : Layout) (items : List Item) (k m : ℕ) (key other version : ℕ) (clock : ClockMove) (found : Option ℕ) (removal get : Notes)
+      → is_valid layout ≡ true
+      → bucket_of layout.config.buckets other ≡ bucket_of layout.config.buckets key
+      → IsIn ((world_of layout items).seat k).log (record { call = calls.Remove key; answer = answers.Done version clock; notes = removal })
+      → IsIn ((world_of layout items).seat m).log (record { call = calls.Get other; answer = answers.Got version found; notes = get })
+      → found ≡ (if key == other then None else value_at (bucket_of layout.config.buckets key) (version - 1) other (record_of layout items))
+
+-- two gets of a key at one version, of one seat or of two, tell the same
+abbrev pub GetsAgree : Type 0
+GetsAgree =
+    (layout : Layout) (items : List Item) (k m : ℕ) (key version : ℕ) (found again : Option ℕ) (one two : Notes)
+    → is_valid layout ≡ true
+    → IsIn ((world_of layout items).seat k).log (record { call = calls.Get key; answer = answers.Got version found; notes = one })
+    → IsIn ((world_of layout items).seat m).log (record { call = calls.Get key; answer = answers.Got version again; notes = two })
+    → found ≡ again
+
+-- the log of a seat begins with what it was after the first items
+pub record Extends (first last : List Group) : Type 0 where
+  pub more : List Group
+  pub cut : last ≡ first ++ more
+
+abbrev pub LogsGrow : Type 0
+LogsGrow =
+    (layout : Layout) (items more : List Item) (k : ℕ)
+    → is_valid layout ≡ true
+    → Extends ((world_of layout items).seat k).log ((world_of layout (items ++ more)).seat k).log
+
+-- what a log has met, with one call more
+abbrev pub LogsExtend : Type 0
+LogsExtend = (buckets : ℕ) (log : List Group) (group : Group) → met_in buckets (log ++ group ∷ []) ≡ met_by buckets group.call group.answer (met_in buckets log)
+
+-- what a seat has met is no more than the record counts
+abbrev pub LogsMeet : Type 0
+LogsMeet =
+    (layout : Layout) (items : List Item) (k : ℕ)
+    → is_valid layout ≡ true
+    → AtMost (met_in layout.config.buckets ((world_of layout items).seat k).log) (counts_of (record_of layout items))
+
+-- and it never falls
+abbrev pub LogsRise : Type 0
+LogsRise =
+    (layout : Layout) (items more : List Item) (k : ℕ)
+    → is_valid layout ≡ true
+    → AtMost (met_in layout.config.buckets ((world_of layout items).seat k).log) (met_in layout.config.buckets ((world_of layout (items ++ more)).seat k).log)
