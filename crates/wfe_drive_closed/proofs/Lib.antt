@@ -1,0 +1,13 @@
+pub use Rattle.law_answers.proofs.inv as inv
+pub use Rattle.law_answers.proofs.history as history
+pub use Rattle.wfe_drive_cells.proofs as drive_cells
+pub mod Books
+pub mod Bounds
+pub mod Buckets
+pub mod Closing
+pub mod Fillings
+pub mod Items
+pub mod Line
+pub mod Numbers
+pub mod Places
+pub mod Used
