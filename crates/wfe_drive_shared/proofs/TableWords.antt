@@ -1,0 +1,49 @@
+-- What a step of a handle's seat gives the words of its call.
+use Rattle.std.proofs.Common.{List, [], ap, arith, true, ℕ, ◌++◌, ◌+◌, ◌<◌, ◌∙◌, ◌∷◌, ◌≡◌}
+use Rattle.std.proofs.lemmas.List.{append_assoc}
+use Rattle.std.specs.Prelude.{None, ◌-◌, ◌^◌}
+use Rattle.wfe_core.specs.words.declared.layout.Layout.{Layout}
+use Rattle.wfe_core.specs.Locals.{Local, after, busy_in}
+use Rattle.wfe_drive_rule.specs.history.History.{Item, Steps}
+use Rattle.wfe_drive_call.specs.Comes.{Comes, Given}
+use Rattle.wfe_drive_call.proofs.Histories.{few_steps, settles}
+use Rattle.wfe_drive_rule.specs.Handles.{IsSeated}
+use Rattle.wfe_drive_rule.specs.Moves.{Told}
+use Rattle.wfe_drive_rule.specs.Views.{Handle, Track, call_in, entered, own, seat_of, standing}
+use Rattle.wfe_drive_rule.proofs.Standing.{handles_stand, steps_tell}
+
+-- a history comes to the state at which a handle's seat stands, with the call of its slot begun
+pub comes_standing : (layout : Layout) (slot : ℕ) (handle : Handle) → IsSeated layout slot handle → Comes (standing handle)
+comes_standing layout slot handle s =
+    let t = handles_stand layout slot handle s in
+    record { items = (own handle.0).past ++ t.more; valid = t.comes.valid; below = t.comes.seat; stands = t.comes.stands }
+
+pub record StepMade (me later : Handle) (found : ℕ) : Type 0 where
+  pub given : Given (standing me) found
+  pub next : standing later ≡ after (standing me) found
+  pub more : List Item
+  pub grows : (own later.0).past ≡ (own me.0).past ++ more
+  pub falls : 2 ^ 62 - (standing later).post.steps < 2 ^ 62 - (standing me).post.steps
+
+falls_by : (old new : ℕ) → old < 2 ^ 62 → new ≡ old + 1 → 2 ^ 62 - new < 2 ^ 62 - old
+falls_by old new few one = omega arith
+
+pub step_made : (layout : Layout) (slot found : ℕ) (me later : Handle) → IsSeated layout slot me → busy_in (standing me).phase ≡ true → Told layout me found later.0 → call_in later.1 ≡ None → StepMade me later found
+step_made layout slot found me later s busy told empty =
+    let o : Track = own me.0 in
+    let l : Local = standing me in
+    let c : Comes l = comes_standing layout slot me s in
+    let t = steps_tell layout slot me found later.0 told s in
+    let c2 : Comes l = record { items = told.items; valid = t.comes.valid; below = t.comes.seat; stands = t.comes.stands } in
+    let g : Given l found = record { comes = c2; found = t.found_is } in
+    let y : Track = record { local = after l found; past = told.items ++ Steps (seat_of o) ∷ [] } in
+    let now : own later.0 ≡ y = ap own told.to in
+    let next : standing later ≡ after l found = ap (entered (own later.0).local) empty ∙ ap (λ (t : Track). t.local) now in
+    let one : (standing later).post.steps ≡ l.post.steps + 1 = ap (λ (k : Local). k.post.steps) next ∙ (settles l found g busy).counts in
+    record {
+      given = g;
+      next = next;
+      more = told.more ++ Steps (seat_of o) ∷ [];
+      grows = ap (λ (t : Track). t.past) now ∙ ap (λ (p : List Item). p ++ Steps (seat_of o) ∷ []) told.begins ∙ append_assoc o.past told.more (Steps (seat_of o) ∷ []);
+      falls = falls_by l.post.steps (standing later).post.steps (few_steps l c busy) one;
+    }

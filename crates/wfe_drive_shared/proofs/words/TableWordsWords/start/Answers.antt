@@ -1,0 +1,11 @@
+use Rattle.std.proofs.Common.{◌∙◌}
+use Rattle.wfe_drive_shared.proofs.TableWords.{comes_standing}
+use Rattle.wfe_drive_shared.proofs.words.TableWordsWords.start.Goals as goal
+
+pub returns-clause-valid : goal.returns-clause-valid
+returns-clause-valid c = record {
+  ids = c.begin.ensures.ids.0 ∙ c.requires.valid.ids;
+  sized = c.requires.valid.sized;
+  seated = c.begin.ensures.seated;
+  comes = comes_standing _ _ _ c.begin.ensures.seated;
+}

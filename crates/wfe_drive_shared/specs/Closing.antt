@@ -1,0 +1,35 @@
+-- What a shared table leaves when it is closed, and what comes back where it is not.
+use Rattle.std.specs.Prelude.{All, List, false, length, ℕ, ◌<◌, ◌≡◌, ◌≤◌}
+use Rattle.wfe_core.specs.words.declared.layout.Layout.{Layout}
+use Rattle.wfe_core.specs.World.{is_busy}
+use Rattle.wfe_drive_closed.specs.Closing.{IsClosed, Reaches}
+use Rattle.wfe_drive_closed.specs.Contents.{IsRead}
+use Rattle.wfe_drive_closed.specs.declared.closed.Closed.{Closed}
+use Rattle.wfe_drive_rule.specs.Rule.{Follows}
+use Rattle.wfe_drive_rule.specs.Views.{Track}
+use Rattle.wfe_drive_rule.specs.history.History.{Item, record_of, world_of}
+use Rattle.wfe_drive_shared.specs.Public.{SeatNow, TableNow}
+use Rattle.wfe_drive_shared.specs.declared.close.CloseError.{CloseError}
+use Rattle.wfe_drive_shared.specs.declared.close.CloseError.TheVariants as errors
+
+abbrev pub track_of : SeatNow → Track
+track_of seat = seat.track
+
+pub record IsLeft (layout : Layout) (tracks : List Track) (closed : Closed) : Type 0 where
+  -- the words of the table at its end, and a history that comes to them
+  pub list : List ℕ
+  pub items : List Item
+  pub reaches : Reaches layout list items
+  -- the seats are all that the table has; each stands in that World as it did when it was handed in, its past begins that history,
+  -- and no call is under way
+  pub all : length tracks ≡ layout.config.seats
+  pub follow : All (Follows layout items) tracks
+  pub idle : (seat : ℕ) → is_busy (world_of layout items) seat ≡ false
+  -- what is answered is what the words show, and what the record of that history says
+  pub read : IsRead layout list closed
+  pub closed_is : IsClosed layout (record_of layout items) closed
+
+-- fewer seats than the table has; or enough of them, and memory ran out
+abbrev pub IsHandedBack : TableNow → List SeatNow → CloseError → Type 0
+IsHandedBack shared seats (errors.SeatMissing table handed place) = (length seats < shared.layout.config.seats) × (place ≡ length seats) × (table ≡ shared) × (handed.items ≡ seats)
+IsHandedBack shared seats (errors.NoMemory table handed) = (shared.layout.config.seats ≤ length seats) × (table ≡ shared) × (handed.items ≡ seats)

@@ -1,0 +1,180 @@
+// A seat of the shared table, in the hands of one thread at a time.
+ghost use Rattle.std.specs.Prelude.{◌≡◌, ◌<◌, ◌∷◌, [], IfOk, true, Some, None};
+ghost use Rattle.wfe_core.specs.words.Place.{is_valid};
+ghost use Rattle.wfe_core.specs.Held.{notes_of, report_of};
+ghost use Rattle.law_logs.specs.Versions.{met_by, met_in, seen_in, version_told};
+ghost use Rattle.wfe_drive_rule.specs.Handles.{IsGathered, IsResting, IsSeated, IsSized};
+ghost use Rattle.wfe_drive_rule.specs.Views.{fresh_track, own, seat_of};
+ghost use Rattle.wfe_drive_shared.specs.Calls.{IsMade};
+ghost use Rattle.wfe_drive_shared.specs.Public.{SeatNow};
+ghost use Rattle.wfe_drive_shared.specs.Sound.{IsMet};
+
+use crate::list::zeros;
+use crate::words::TableWords;
+use std::alloc::Global;
+use std::marker::Model;
+use wfe_core::{Answer, Call, Desk, Layout, NoMemory, Notes, Post, RetireList, ScanReport};
+use wfe_drive_call::drive_call;
+use wfe_drive_rule::{Handle, Ledger, give_slot};
+
+/// A seat of a shared table, with which one thread makes calls. It may move to another thread. It is
+/// seen as the table that it is of, its local state, and the history up to its own last step; of these
+/// only the state's post and desk, and a version for each bucket, are there when the program runs.
+#[derive(Drop)]
+pub struct Seat {
+    pub(crate) handle: Handle,
+    post: Post,
+    desk: Desk,
+    // By bucket, the version that a call of this seat told last.
+    seen: Vec<u64>,
+}
+
+impl Model for Seat {
+    ghost use Rattle.wfe_drive_rule.specs.Views.{own};
+    ghost use Rattle.wfe_drive_shared.specs.Public.{SeatNow};
+    ghost use Rattle.wfe_drive_shared.specs.Sound.{IsSound};
+
+    ghost Value = { SeatNow };
+
+    ghost view = { λ s. record { table = s.handle.table_id; track = own s.handle.me.0 } };
+
+    ghost invariant = { IsSound };
+}
+
+impl Seat {
+    // A seat that has made no call, with its handle.
+    pub(crate) fn new(
+        alloc: Global,
+        handle: Handle,
+        number: u32,
+        layout: Layout,
+    ) -> Result<Seat, NoMemory>
+        requires valid { is_valid layout ≡ true }
+        requires number { number < layout.config.seats }
+        requires seated { IsSeated layout number handle.me }
+        requires resting { IsResting handle.me }
+        requires fresh { own handle.me.0 ≡ fresh_track layout number }
+        ensures { IfOk result (λ seat. seat ≡ record { table = handle.table_id; track = fresh_track layout number }) }
+    {
+        Ok(Seat {
+            handle,
+            post: Post::new(number, layout),
+            desk: Desk::new(alloc, layout)?,
+            seen: zeros(alloc, layout.config().buckets)?,
+        })
+    }
+
+    // Makes a whole call on the table that the seat is of.
+    pub(crate) fn make(&mut self, ledger: &Ledger, call: Call) -> Answer
+        requires table { self.old.table ≡ ledger.now.table_id }
+        requires layout { self.old.track.local.post.layout ≡ ledger.now.key }
+        requires sized { IsSized ledger.now.table_id ledger.now.key }
+        ensures table { self.new.table ≡ self.old.table }
+        ensures layout { self.new.track.local.post.layout ≡ self.old.track.local.post.layout }
+        ensures made { IsMade ledger.now.key self.old self.new call result }
+    {
+        let answer = {
+            let slot = self.post.seat as usize;
+            let handle = &mut self.handle;
+            let mut words = TableWords {
+                ledger,
+                handle,
+                slot,
+            };
+            drive_call(&mut words, &mut self.post, &mut self.desk, call)
+        };
+        meet(&mut self.seen, self.post.layout, call, answer);
+        answer
+    }
+
+    // The handle alone, without its slot.
+    pub(crate) fn bare(self, ledger: &Ledger) -> Handle
+        requires table { self.table ≡ ledger.now.table_id }
+        requires layout { self.track.local.post.layout ≡ ledger.now.key }
+        requires sized { IsSized ledger.now.table_id ledger.now.key }
+        ensures ids { result.table_id ≡ self.table }
+        ensures gathered { IsGathered result.me }
+        ensures track { result.me.0.tracks ≡ self.track ∷ [] }
+    {
+        let Seat {
+            mut handle,
+            post,
+            desk: _,
+            seen: _,
+        } = self;
+        give_slot(ledger, &mut handle, post.seat as usize);
+        handle
+    }
+
+    /// The seat's number, from 0.
+    pub fn number(&self) -> u32
+        ensures { result ≡ seat_of self.now.track }
+    {
+        self.post.seat
+    }
+
+    /// The greatest version that a call of this seat has answered for the bucket, the number of a
+    /// refused change of a bucket at its last version included; 0 before the first.
+    pub fn seen(&self, bucket: u32) -> u64
+        requires { bucket < self.now.track.local.post.layout.config.buckets }
+        ensures { result ≡ seen_in self.now.track.local.post.layout.config.buckets bucket self.now.track.local.log }
+    {
+        self.seen[bucket as usize]
+    }
+
+    /// What the seat's last call did.
+    pub fn notes(&self) -> &Notes
+        ensures { notes_of result.now ≡ self.now.track.local.desk.notes }
+    {
+        &self.desk.notes
+    }
+
+    /// What the seat's last scan read and did.
+    pub fn report(&self) -> &ScanReport
+        ensures { report_of result.now ≡ self.now.track.local.desk.report }
+    {
+        &self.desk.report
+    }
+
+    /// The rows that the seat has retired and not given back.
+    pub fn list(&self) -> &RetireList
+        ensures { result.now.lives ≡ self.now.track.local.desk.list }
+    {
+        &self.desk.list
+    }
+}
+
+// The key of a call whose answer tells a version of the key's bucket, and that version.
+fn version_told(call: Call, answer: Answer) -> Option<(u64, u64)>
+    ensures { result ≡ version_told call answer }
+{
+    match call {
+        Call::Get { key } => match answer {
+            Answer::Got { version, .. } => Some((key, version)),
+            _ => None,
+        },
+        Call::Put { key, .. } => match answer {
+            Answer::Done { version, .. } | Answer::BucketFull { version } => Some((key, version)),
+            Answer::Spent { number } => Some((key, number)),
+            _ => None,
+        },
+        Call::Remove { key } => match answer {
+            Answer::Done { version, .. } | Answer::Absent { version } => Some((key, version)),
+            Answer::Spent { number } => Some((key, number)),
+            _ => None,
+        },
+        _ => None,
+    }
+}
+
+// The versions seen, with the answer of one call more.
+fn meet(seen: &mut Vec<u64>, layout: Layout, call: Call, answer: Answer)
+    requires valid { is_valid layout ≡ true }
+    requires met { (met : _) × IsMet layout.config.buckets met seen.old.items }
+    ensures met { (met : _) → IsMet layout.config.buckets met seen.old.items → IsMet layout.config.buckets (met_by layout.config.buckets call answer met) seen.new.items }
+{
+    if let Some((key, version)) = version_told(call, answer) {
+        let bucket = key % layout.config().buckets as u64;
+        seen[bucket as usize] = version;
+    }
+}
