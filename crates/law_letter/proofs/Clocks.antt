@@ -1,7 +1,7 @@
 -- What calls answer of the clock, how a call that finds no room has sought one, and how often calls begin anew.
 use Rattle.std.proofs.Common.{ℕ, ◌≡◌, Bool, true, false, refl, sym, arith, ◌∙◌, ap, ◌+◌, ◌-◌, ◌<◌, List, ◌∷◌}
 use Rattle.std.proofs.lemmas.Bool.Decides.{nat_tests}
-use Rattle.std.specs.Prelude.{◌==◌, if◌then◌else◌, ◌&&◌, ◌||◌, not, is_none, nat_lt, nat_le, ◌%◌}
+use Rattle.std.specs.Prelude.{◌==◌, if◌then◌else◌, ◌&&◌, not, is_none, nat_lt, nat_le, ◌%◌}
 use Rattle.laws.proofs.records.defs.Facts.{both, first_of, rest_of, or_left_true, number_is}
 use Rattle.laws.specs.AnswerLaw as weak
 use Rattle.laws.specs.AnswerLaw.{from_of, moves_of, moves_before}

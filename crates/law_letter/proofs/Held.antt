@@ -1,9 +1,9 @@
 -- The laws on what stands, from those of histories, in which one row stands at an index at most.
-use Rattle.std.proofs.Common.{ℕ, ◌≡◌, Bool, true, false, refl, sym, arith, None, Some, Option, subst, ◌∙◌, ap, ◌+◌}
+use Rattle.std.proofs.Common.{ℕ, ◌≡◌, Bool, true, false, refl, sym, arith, None, Some, Option, subst, ◌∙◌, ◌+◌}
 use Rattle.std.proofs.lemmas.Bool.Decides.{nat_tests}
 use Rattle.std.specs.Prelude.{◌==◌, if◌then◌else◌, ◌&&◌, ◌||◌, not, is_none, nat_lt}
 use Rattle.laws.proofs.records.Entries.{each_before, each_of_entries, entries_of_each}
-use Rattle.laws.proofs.records.defs.Facts.{both, or_along, number_is}
+use Rattle.laws.proofs.records.defs.Facts.{both, or_along}
 use Rattle.laws.proofs.Along.{row_of}
 use Rattle.laws.specs.HistoryHolds as strong
 use Rattle.laws.specs.HistoryHolds.{HistoryHolds, HistoryStands, clears_ok, protects_at, clears_at}

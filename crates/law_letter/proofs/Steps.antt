@@ -1,7 +1,7 @@
 -- The steps of protections and calls, from what histories keep.
 use Rattle.std.proofs.Common.{ℕ, ◌≡◌, Bool, true, false, refl, None, Some, Option, arith}
 use Rattle.std.proofs.lemmas.Bool.Decides.{nat_tests}
-use Rattle.std.specs.Prelude.{◌==◌, ◌||◌, nat_le, not, if◌then◌else◌}
+use Rattle.std.specs.Prelude.{◌==◌, nat_le, not, if◌then◌else◌}
 use Rattle.laws.proofs.records.defs.Facts.{or_more}
 use Rattle.laws.specs.HistorySteps as strong
 use Rattle.laws.specs.HistorySteps.{is_era_spent}

@@ -1,6 +1,6 @@
 -- The law of schedules as turns and records show it: what a turn may tell, and what its numbers count.
 use Rattle.std.specs.Prelude.{Bool, List, [], false, if◌then◌else◌, nat_le, nat_lt, not, true, ℕ, ◌&&◌, ◌+◌, ◌==◌, ◌||◌, ◌∷◌}
-use Rattle.model_record.specs.Record.{EachEntry, Past, Test, tells_of}
+use Rattle.model_record.specs.Record.{EachEntry, Past, tells_of}
 use Rattle.model_record.specs.Turns.History.{Blank, Starts, Turns}
 use Rattle.model_record.specs.Turns.{History, record_of, turns_of}
 use Rattle.model_record.specs.defs.declared.event.Event.TheVariants as events
