@@ -1,9 +1,10 @@
 -- The seats of a new table, made one after another.
-use Rattle.std.proofs.Common.{List, [], ap, ap₂, arith, sym, zero, suc, ℕ, ◌++◌, ◌+◌, ◌-◌, ◌≡◌, ◌≤◌, ◌∙◌, ◌∷◌}
+use Rattle.std.proofs.Common.{All, List, [], ap, ap₂, arith, refl, suc, sym, zero, ℕ, ◌++◌, ◌+◌, ◌-◌, ◌∙◌, ◌∷◌, ◌≡◌, ◌≤◌}
+use Rattle.std.proofs.lemmas.List.Elements.{All-map, All-same}
 use Rattle.std.proofs.lemmas.List.FromFn.{map-range_with_len_more}
 use Rattle.std.specs.Prelude.{map}
 use Rattle.std.specs.List.{range_with_len}
-use Rattle.wfe_drive_shared.specs.Public.{SeatNow, TableNow, new_seat}
+use Rattle.wfe_drive_shared.specs.Public.{IsOf, SeatNow, TableNow, new_seat, new_seats}
 
 one_later : (number : ℕ) → 1 ≤ number → (number + 1) - 1 ≡ (number - 1) + 1
 one_later number some = omega (some, arith)
@@ -22,3 +23,9 @@ seats_all shared seats zero seat count some is e f = absurd (omega (some, arith)
 seats_all shared seats (suc number) seat count some is e f =
     let less : suc number - 1 ≡ number = omega arith in
     ap₂ (λ (x : SeatNow) (xs : List SeatNow). x ∷ xs) f (e ∙ ap (λ (n : ℕ). map (new_seat shared) (range_with_len 1 n)) less) ∙ ap (λ (n : ℕ). map (new_seat shared) (range_with_len 0 n)) is
+
+-- each seat of a new table is that table's
+pub seats_of : (shared : TableNow) (seats : List SeatNow) → seats ≡ new_seats shared → All (λ seat. IsOf seat shared) seats
+seats_of shared seats e =
+    All-same (λ seat. IsOf seat shared) seats (new_seats shared) e
+    (All-map (λ seat. IsOf seat shared) (new_seat shared) (range_with_len 0 shared.layout.config.seats) (λ k d h. record { table = refl; layout = refl }))

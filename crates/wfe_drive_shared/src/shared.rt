@@ -47,6 +47,7 @@ impl Shared {
     /// call. A number outside its range is refused, the first of them by name.
     pub fn new(alloc: Global, config: Config) -> Result<(Shared, Vec<Seat>), MakeError>
         ensures made { IfOk result (λ r. (layout_of config ≡ Ok r.0.layout) × (r.1.items ≡ new_seats r.0)) }
+        ensures of { IfOk result (λ r. All (λ seat. IsOf seat r.0) r.1.items) }
         ensures refused { IfErr result (IsRefused config) }
     {
         let layout = match Layout::new(config) {
@@ -61,7 +62,8 @@ impl Shared {
 
     fn of_layout(alloc: Global, layout: Layout) -> Result<(Shared, Vec<Seat>), NoMemory>
         requires valid { is_valid layout ≡ true }
-        ensures { IfOk result (λ r. (r.0.layout ≡ layout) × (r.1.items ≡ new_seats r.0)) }
+        ensures made { IfOk result (λ r. (r.0.layout ≡ layout) × (r.1.items ≡ new_seats r.0)) }
+        ensures of { IfOk result (λ r. All (λ seat. IsOf seat r.0) r.1.items) }
     {
         let (ledger, mut first) = open(alloc, layout)?;
         let count = layout.config().seats;

@@ -5,7 +5,7 @@ use Rattle.wfe_core.proofs.Ranges.{bounds_of}
 use Rattle.wfe_drive_rule.specs.Moves.{one_more}
 use Rattle.wfe_drive_rule.specs.Views.{Handle, fresh_track}
 use Rattle.wfe_drive_shared.specs.Public.{SeatNow, TableNow, new_seat}
-use Rattle.wfe_drive_shared.proofs.Seats.{seats_all, seats_more}
+use Rattle.wfe_drive_shared.proofs.Seats.{seats_all, seats_more, seats_of}
 use Rattle.wfe_drive_shared.proofs.shared.Shared.of_layout.Goals as goal
 
 pub loop-number-preserved : goal.loop-number-preserved
@@ -30,4 +30,5 @@ returns c =
     let count = ap (λ (config : Config). config.seats) c.config-count.ensures in
     let all : c.loop-number.number ≡ c.args.layout.config.seats = omega (arith, c.loop-number.auto.number-end, c.loop-number-test.false, count, (bounds_of c.args.layout c.requires.valid).seats) in
     let items : c.insert.new.self.items ≡ c.in_ok-seat-2.seat ∷ c.loop-number.seats.items = search rules in
-    (refl, items ∙ seats_all shared c.loop-number.seats.items c.loop-number.number c.in_ok-seat-2.seat c.args.layout.config.seats i.some all i.seats seat)
+    let made = items ∙ seats_all shared c.loop-number.seats.items c.loop-number.number c.in_ok-seat-2.seat c.args.layout.config.seats i.some all i.seats seat in
+    record { made = (refl, made); of = seats_of shared c.insert.new.self.items made }
