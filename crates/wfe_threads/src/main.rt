@@ -1,0 +1,117 @@
+//! Threads on one shared table, as a user of the library writes them. Each thread makes ten thousand
+//! calls with a seat of its own, and what is printed is the same in whatever order the threads took
+//! their steps.
+#![tactic(auto)]
+
+mod report;
+mod tally;
+mod worker;
+
+ghost use Rattle.std.specs.Prelude.{All, IfOk};
+ghost use Rattle.wfe_drive_shared.specs.Public.{IsOf};
+
+use report::{Ended, print_report};
+use std::alloc::Global;
+use std::process::ExitCode;
+use std::thread;
+use std::thread::Threads;
+use tally::{BUCKETS, Tally};
+use wfe_drive_shared::{Config, SchemeKind, Seat, Shared};
+use worker::{PAIRS, TRIES, Worker};
+
+const NO_MEMORY: &str = "memory ran out";
+
+// Rows are fewer than those that the workers take in all, so that rows have to be used again.
+fn setting(seats: u32) -> Config {
+    Config {
+        scheme: SchemeKind::Wfe,
+        seats,
+        indexes: 3,
+        slots: 4_096,
+        buckets: BUCKETS as u32,
+        tries: TRIES,
+        every: 8,
+        last_era: 4_294_967_295,
+        last_version: 281_474_976_710_656,
+        pairs: PAIRS,
+    }
+}
+
+// Each seat goes to a thread, and comes back with its worker once all calls are made.
+fn work<R: Threads + Sync>(
+    rt: &R,
+    shared: &Shared,
+    seats: Vec<Seat>,
+) -> Result<Vec<Worker>, &'static str>
+    requires of { All (λ seat. IsOf seat shared.now) seats.items }
+    ensures of { IfOk result (λ workers. All (λ worker. IsOf worker.seat shared.now) workers.items) }
+{
+    let done = thread::map_vec(
+        rt,
+        seats,
+        &|seat: Seat| -> Worker
+            requires { IsOf seat shared.now }
+            ensures { IsOf result.seat shared.entry.now }
+        {
+            let mut worker = Worker::new(seat);
+            worker.work(shared);
+            worker
+        },
+    );
+    match done {
+        Ok(workers) => Ok(workers),
+        Err(_) => Err(NO_MEMORY),
+    }
+}
+
+// The seats, each after a last scan, with what all workers counted, and the rows that are retired still.
+fn hand_back(
+    alloc: Global,
+    shared: &Shared,
+    mut workers: Vec<Worker>,
+) -> Result<(Vec<Seat>, Tally, u64), &'static str>
+    requires of { All (λ worker. IsOf worker.seat shared.now) workers.items }
+    ensures of { IfOk result (λ r. All (λ seat. IsOf seat shared.now) r.0.items) }
+{
+    let mut seats = Vec::new(alloc);
+    let mut tally = Tally::none();
+    let mut retired = 0u64;
+    while let Some(worker) = workers.pop() {
+        let mut seat = worker.seat;
+        tally.add(&worker.tally);
+        shared.scan(&mut seat);
+        retired = retired.saturating_add(seat.list().len() as u64);
+        if seats.push(seat).is_err() {
+            return Err(NO_MEMORY);
+        }
+    }
+    Ok((seats, tally, retired))
+}
+
+// A table with so many seats, from its making to its end.
+fn run<R: Threads + Sync + Print + AllocGlobal>(rt: &R, count: u32) -> Result<(), &'static str> {
+    let alloc = rt.alloc();
+    let Ok((shared, seats)) = Shared::new(alloc, setting(count)) else {
+        return Err("no table was made");
+    };
+    let workers = work(rt, &shared, seats)?;
+    let (seats, tally, retired) = hand_back(alloc, &shared, workers)?;
+    let Ok(closed) = shared.close(alloc, seats) else {
+        return Err("the table was not closed");
+    };
+    let ended = Ended::new(tally, retired, &closed);
+    if print_report(rt, count, &ended).is_err() {
+        return Err("standard output failed");
+    }
+    ended.judge()
+}
+
+fn main(rt: HostRuntime) -> ExitCode {
+    for count in [2, 4] {
+        if let Err(fault) = run(&rt, count) {
+            let _ = eprintln!(rt; "{fault}");
+            return ExitCode::FAILURE;
+        }
+    }
+    ExitCode::SUCCESS
+}
