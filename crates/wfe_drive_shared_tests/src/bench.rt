@@ -1,0 +1,186 @@
+// A shared table with its seats, in the hands of a test, and whole calls on it.
+ghost use Rattle.std.specs.Prelude.{All, IfOk, IfSome};
+ghost use Rattle.wfe_drive_shared.specs.Public.{IsOf};
+
+use std::alloc::Global;
+use std::test::Fail;
+use wfe_drive_shared::{
+    Answer, Call, Closed, Config, Done, Empty, EnqueueRefusal, PutRefusal, Queued, RemoveRefusal,
+    SchemeKind, Seat, Shared, Taken,
+};
+
+/// A table and its seats, in number order. Each method tests what the table needs of its caller, and
+/// does nothing where that does not hold.
+#[derive(Drop)]
+pub struct Bench {
+    shared: Shared,
+    seats: Vec<Seat>,
+    ghost of: { All (λ seat. IsOf seat shared) seats.items },
+}
+
+/// A new table and its seats, which are that table's.
+pub fn open_table(alloc: Global, config: Config) -> Result<(Shared, Vec<Seat>), Fail>
+    ensures { IfOk result (λ r. All (λ seat. IsOf seat r.0) r.1.items) }
+{
+    Ok(Shared::new(alloc, config)?)
+}
+
+/// A seat in a list, where there is memory for it.
+#[tactic(auto, using(crate::proofs::NewSeats::one_of))]
+pub fn alone(alloc: Global, shared: &Shared, seat: Seat) -> Option<Vec<Seat>>
+    requires { IsOf seat shared.now }
+    ensures { IfSome result (λ seats. All (λ seat. IsOf seat shared.now) seats.items) }
+{
+    let mut seats = Vec::new(alloc);
+    match seats.push(seat) {
+        Ok(()) => Some(seats),
+        Err(_) => None,
+    }
+}
+
+/// Two seats in a list, where there is memory for it.
+pub fn both(alloc: Global, shared: &Shared, first: Seat, second: Seat) -> Option<Vec<Seat>>
+    requires first { IsOf first shared.now }
+    requires second { IsOf second shared.now }
+    ensures { IfSome result (λ seats. All (λ seat. IsOf seat shared.now) seats.items) }
+{
+    let mut seats = alone(alloc, shared, first)?;
+    match seats.push(second) {
+        Ok(()) => Some(seats),
+        Err(_) => None,
+    }
+}
+
+impl Bench {
+    /// A table at its start.
+    pub fn new(alloc: Global, config: Config) -> Result<Bench, Fail> {
+        let (shared, seats) = open_table(alloc, config)?;
+        Ok(Bench { shared, seats })
+    }
+
+    /// The table's scheme.
+    pub fn scheme(&self) -> SchemeKind {
+        self.shared.layout().config().scheme
+    }
+
+    /// The seat of this number.
+    pub fn seat(&self, number: usize) -> Option<&Seat> {
+        self.seats.get(number)
+    }
+
+    /// The version of the bucket that the seat has seen last.
+    pub fn seen(&self, number: usize, bucket: u32) -> Option<u64> {
+        if number >= self.seats.len() {
+            return None;
+        }
+        seen(&self.shared, &self.seats[number], bucket)
+    }
+
+    /// Makes a whole call of the seat.
+    pub fn make(&mut self, number: usize, call: Call) -> Option<Answer> {
+        if number >= self.seats.len() {
+            return None;
+        }
+        Some(make(&self.shared, &mut self.seats[number], call))
+    }
+
+    /// Ends the table with all of its seats.
+    pub fn close(self, alloc: Global) -> Option<Closed> {
+        let Bench { shared, seats } = self;
+        shared.close(alloc, seats).ok()
+    }
+}
+
+fn seen(shared: &Shared, seat: &Seat, bucket: u32) -> Option<u64>
+    requires { IsOf seat.now shared.now }
+{
+    if bucket >= shared.layout().config().buckets {
+        return None;
+    }
+    Some(seat.seen(bucket))
+}
+
+/// Makes a whole call of a seat of the table.
+pub fn make(shared: &Shared, seat: &mut Seat, call: Call) -> Answer
+    requires { IsOf seat.old shared.now }
+    ensures { IsOf seat.new shared.now }
+{
+    match call {
+        Call::Get { key } => {
+            let got = shared.get(seat, key);
+            Answer::Got {
+                version: got.version,
+                value: got.value,
+            }
+        }
+        Call::Put { key, value } => put_answer(shared.put(seat, key, value)),
+        Call::Remove { key } => remove_answer(shared.remove(seat, key)),
+        Call::Enqueue { value } => enqueue_answer(shared.enqueue(seat, value)),
+        Call::Dequeue => dequeue_answer(shared.dequeue(seat)),
+        Call::Hold { key } => hold_answer(shared.hold(seat, key)),
+        Call::Release => {
+            shared.release(seat);
+            Answer::Released
+        }
+        Call::Advance => Answer::Clock {
+            outcome: shared.advance(seat),
+        },
+        Call::Scan => {
+            let scanned = shared.scan(seat);
+            Answer::Scanned {
+                kept: scanned.kept,
+                back: scanned.back,
+            }
+        }
+    }
+}
+
+fn put_answer(answer: Result<Done, PutRefusal>) -> Answer {
+    match answer {
+        Ok(Done { version, clock }) => Answer::Done { version, clock },
+        Err(PutRefusal::Full) => Answer::Full,
+        Err(PutRefusal::BucketFull { version }) => Answer::BucketFull { version },
+        Err(PutRefusal::Spent { number }) => Answer::Spent { number },
+    }
+}
+
+fn remove_answer(answer: Result<Done, RemoveRefusal>) -> Answer {
+    match answer {
+        Ok(Done { version, clock }) => Answer::Done { version, clock },
+        Err(RemoveRefusal::Absent { version }) => Answer::Absent { version },
+        Err(RemoveRefusal::Spent { number }) => Answer::Spent { number },
+        Err(RemoveRefusal::Full) => Answer::Full,
+    }
+}
+
+fn enqueue_answer(answer: Result<Queued, EnqueueRefusal>) -> Answer {
+    match answer {
+        Ok(Queued { number }) => Answer::Queued { number },
+        Err(EnqueueRefusal::Spent { number }) => Answer::Spent { number },
+        Err(EnqueueRefusal::Full) => Answer::Full,
+    }
+}
+
+fn dequeue_answer(answer: Result<Taken, Empty>) -> Answer {
+    match answer {
+        Ok(
+            Taken {
+                number,
+                value,
+                clock,
+            },
+        ) => Answer::Taken {
+            number,
+            value,
+            clock,
+        },
+        Err(Empty) => Answer::Empty,
+    }
+}
+
+fn hold_answer(answer: Option<u32>) -> Answer {
+    match answer {
+        Some(slot) => Answer::Holding { slot },
+        None => Answer::Nothing,
+    }
+}
