@@ -5,7 +5,7 @@ use rand_pcg::Pcg32;
 use std::process::Abort;
 use std::test::Fail;
 use wfe_core::{Call, Config, Event, Guard, Interval, SchemeKind};
-use wfe_drive_tests::Bench;
+use wfe_drive_bench::Bench;
 
 /// How many turns a schedule has.
 const TURNS: u32 = 3_000;

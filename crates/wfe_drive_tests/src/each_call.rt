@@ -1,12 +1,12 @@
 // What each call answers and in how many steps, once at each of its ends, with no other call under way.
 // Each count is that of the steps as the calls are described: the loads and stores of the protection,
 // of the row, of the claim, of the clearing, and of retirement, move and scan where they are due.
-use crate::Bench;
 use crate::parts::Part::{Begins, Ends, Goes, Makes};
 use crate::parts::{Part, play_parts};
 use std::process::Abort;
 use std::test::Fail;
 use wfe_core::{Answer, Call, ClockMove, Config, SchemeKind};
+use wfe_drive_bench::Bench;
 
 const HE: SchemeKind = SchemeKind::He;
 

@@ -1,14 +1,10 @@
 //! Tests of the rig at work, unit by unit: what its calls answer and in how many steps, and a protection
-//! that moves of the clock overtake, alone and within a call. The rig in the hands of a test is public,
-//! for tests of other crates.
+//! that moves of the clock overtake, alone and within a call.
 #![tactic(auto)]
 
-mod bench;
 #[cfg(test)]
 mod each_call;
 #[cfg(test)]
 mod overtaken;
 #[cfg(test)]
 mod parts;
-
-pub use bench::Bench;

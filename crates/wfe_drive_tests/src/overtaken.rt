@@ -1,10 +1,10 @@
 // A protection of Wait-Free Eras that moves of the clock overtake, at known places.
-use crate::Bench;
 use crate::parts::Part::{Begins, Ends, Goes, Makes};
 use crate::parts::play_parts;
 use std::process::Abort;
 use std::test::Fail;
 use wfe_core::{Answer, Call, ClockMove, Config, Event, Guard, Interval, SchemeKind};
+use wfe_drive_bench::Bench;
 
 // Two seats of Wait-Free Eras that try once.
 const PAIR: Config = Config {

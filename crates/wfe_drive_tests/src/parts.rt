@@ -1,8 +1,8 @@
 // Schedules in parts, and what each part has to come to.
-use crate::Bench;
 use std::process::Abort;
 use std::test::Fail;
 use wfe_core::{Answer, Call};
+use wfe_drive_bench::Bench;
 
 /// A part of a schedule.
 #[derive(Clone, Copy)]

@@ -1,9 +1,6 @@
-//! Tests of what meets the outside: sources and sinks, watchers, lines put out, and the words of a
-//! command.
+//! Tests of what meets the outside: sources and sinks, watchers, and lines put out.
 #![tactic(auto)]
 
-#[cfg(test)]
-mod job;
 #[cfg(test)]
 mod out;
 #[cfg(test)]

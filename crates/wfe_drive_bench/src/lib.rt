@@ -1,0 +1,6 @@
+//! The rig in the hands of a test, with the record of what its units told.
+#![tactic(auto)]
+
+mod bench;
+
+pub use bench::Bench;
