@@ -10,7 +10,7 @@ use std::alloc::Global;
 use std::test::Fail;
 use wfe_core::{Config, Layout, NoMemory, SchemeKind};
 
-// A table of sixty words: row 0 begins at word 14, and the one claim word is word 10.
+// A table of sixty words: the first row begins at word 14, and the one claim word is word 10.
 const SMALL: Config = Config {
     scheme: SchemeKind::Wfe,
     seats: 1,

@@ -131,7 +131,8 @@ fn a_closed_table_shows_pairs_queue_and_rows_in_use(rt: HostRuntime) -> Result<(
         expect_bucket(&rt, &closed, 0, 1, &[(4, 40)]);
         expect_bucket(&rt, &closed, 1, 2, &[(7, 70), (3, 30)]);
         assert_eq!(rt; closed.queue.as_slice(), [(2, 6), (3, 7)].as_slice());
-        // Row 0 and the queue's first row went back; row 3 is the queue's dummy.
+        // The row that the second put replaced and the queue's first dummy went back. In use stay
+        // a row for each bucket, the dummy that the dequeue left, and two items.
         assert_eq!(rt; closed.used.as_slice(), [1, 2, 3, 4, 5].as_slice());
     }
     Ok(())

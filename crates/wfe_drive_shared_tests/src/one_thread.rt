@@ -97,7 +97,7 @@ fn the_row_before_goes_back_within_its_put(rt: HostRuntime) -> Result<(), Fail> 
     play_on(&rt, single(HE), &parts)
 }
 
-// Begins with row 0, which seat 1 holds in era 1.
+// Begins with a bucket at its first version, whose row seat 1 holds in era 1.
 fn held_row<R: Abort + AllocGlobal>(rt: &R, scheme: SchemeKind) -> Result<Bench, Fail> {
     let mut bench = Bench::new(rt.alloc(), double(scheme))?;
     let parts = [
