@@ -1,5 +1,5 @@
 -- What an answer says stays so in a later record, and by lower counts at the call's beginning.
-use Rattle.std.proofs.Common.{ℕ, ◌≡◌, ◌≤◌, ◌<◌, ◌-◌, List, Option, length, sym, ap, ◌∙◌, arith}
+use Rattle.std.proofs.Common.{ℕ, ◌≡◌, ◌≤◌, ◌<◌, ◌-◌, ◌++◌, List, Option, length, sym, ap, ◌∙◌, arith}
 use Rattle.wfe_core.specs.defs.Pairs.{Pair, changed, pairs_after, value_in}
 use Rattle.wfe_core.specs.defs.declared.call.Answer.{Answer}
 use Rattle.wfe_core.specs.defs.declared.call.Answer.TheVariants as answers
@@ -10,10 +10,11 @@ use Rattle.wfe_core.specs.defs.declared.fold.Change.TheVariants as changes
 use Rattle.wfe_core.specs.words.declared.config.Config.{Config}
 use Rattle.laws.specs.StateAt.{bucket_of, count_of, pairs_at, queued_of, value_at}
 use Rattle.std.specs.Prelude.{is_some}
-use Rattle.law_scans.specs.inv.history.Record.{Past}
-use Rattle.law_logs.specs.Answered.{IsAbsent, IsDone, IsFull, IsGot, IsKept, IsLast, IsMet, IsQueued, IsSpent, IsTaken, Says}
-use Rattle.law_logs.specs.Versions.{AtMost, Counts}
-use Rattle.law_logs.proofs.Grows.{Grows, more_count, more_queued, same_changes, same_queued}
+use Rattle.inv_all.specs.history.Record.{Past, tells}
+use Rattle.law_logs.specs.Answered.{IsAbsent, IsDone, IsEmpty, IsFull, IsGot, IsKept, IsLast, IsMet, IsQueued, IsRow, IsSpent, IsTaken, Says}
+use Rattle.law_logs.specs.Versions.{AtMost, Counts, counts_of}
+use Rattle.law_logs.proofs.Counts.{most_along}
+use Rattle.law_logs.proofs.Grows.{Grows, more_count, more_queued, same_changes, same_queued, same_row, tells_along}
 
 pub pairs_on : (b version : ℕ) (p q : Past) → Grows p q → version ≤ count_of b p → pairs_at b version q ≡ pairs_at b version p
 pairs_on b version p q g h = ap pairs_after (same_changes b version p q g h)
@@ -80,6 +81,20 @@ taken_on low from p q number value a g s =
       value_is = s.value_is ∙ sym (same_queued (number - 1) p q g within);
     }
 
+pub empty_on : (low from : Counts) (p q : Past) → AtMost low from → Grows p q → IsEmpty from p → IsEmpty low q
+empty_on low from p q a g s =
+    let e = g.entries in
+    record {
+      at = s.at;
+      later = s.later ++ e.0;
+      cut = e.1 ∙ ap (λ (x : Past). tells x e.0) s.cut ∙ sym (tells_along s.later e.0 s.at);
+      since = most_along low from (counts_of s.at) a s.since;
+      all = s.all;
+    }
+
+pub row_on : (low from : Counts) (p q : Past) (b slot : ℕ) → AtMost low from → Grows p q → IsRow from p b slot → IsRow low q b slot
+row_on low from p q b slot a g s = record { version = s.version; met = met_on low from p q b s.version a g s.met; row_is = same_row b s.version p q g s.met.until ∙ s.row_is }
+
 none_on : (low from : ℕ) → low ≤ from → from ≡ 0 → low ≡ 0
 none_on low from h e = omega (arith, h, e)
 
@@ -94,5 +109,7 @@ says_on c low from p q (calls.Remove key) (answers.Spent version) a g s = kept_o
 says_on c low from p q (calls.Enqueue value) (answers.Queued number) a g s = queued_on c low from p q value number a g s
 says_on c low from p q (calls.Enqueue value) (answers.Spent number) a g s = last_on c low from p q number a g s
 says_on c low from p q calls.Dequeue (answers.Taken number value clock) a g s = taken_on low from p q number value a g s
+says_on c low from p q calls.Dequeue answers.Empty a g s = empty_on low from p q a g s
+says_on c low from p q (calls.Hold key) (answers.Holding slot) a g s = row_on low from p q (bucket_of c.buckets key) slot a g s
 says_on c low from p q (calls.Hold key) answers.Nothing a g s = none_on (low.versions (bucket_of c.buckets key)) (from.versions (bucket_of c.buckets key)) (a.versions (bucket_of c.buckets key)) s
 says_on c low from p q call answer a g s = tt

@@ -1,6 +1,6 @@
 -- What is known of a seat at each position of a record that keeps the laws: what its call has told is so, and its log has met nothing
 -- beyond what was counted where the call began.
-use Rattle.std.proofs.Common.{ℕ, ◌≡◌, Bool, true, false, List, [], ◌∷◌, ◌++◌, Option, Some, None, refl, sym, ap, ◌∙◌, subst}
+use Rattle.std.proofs.Common.{ℕ, ◌≡◌, ◌≤◌, Bool, true, false, List, [], ◌∷◌, ◌++◌, Option, Some, None, refl, sym, ap, ◌∙◌, subst}
 use Rattle.std.specs.Prelude.{◌==◌}
 use Rattle.wfe_core.proofs.Facts.{rest_of, number_is, same_number}
 use Rattle.wfe_core.specs.Desks.{noted}
@@ -11,24 +11,27 @@ use Rattle.wfe_core.specs.defs.declared.event.Event.{Event}
 use Rattle.wfe_core.specs.defs.declared.event.Event.TheVariants as events
 use Rattle.wfe_core.specs.words.declared.config.Config.{Config}
 use Rattle.laws.proofs.Tells.{seen_other, seen_own}
-use Rattle.laws.specs.AnswerLaw.{suits}
+use Rattle.laws.specs.AnswerLaw.{full_ok, suits}
 use Rattle.laws.specs.HistoryAnswers.{answer_right, answers_ok, owes, reason, reasons_ok, same_told}
+use Rattle.laws.specs.HistoryHolds.{sources_ok}
+use Rattle.laws.specs.Once.{order_ok}
 use Rattle.laws.specs.Standing.{open_ok}
 use Rattle.laws.specs.MapLaw.{map_ok}
 use Rattle.laws.specs.QueueLaw.{queue_ok}
 use Rattle.laws.specs.StateAt.{began_of, is_open, told_of, with_told, opened_by}
-use Rattle.law_scans.specs.inv.history.Record.{Past, Each, begins}
-use Rattle.law_scans.specs.inv.history.Record.Past.{Start, Then}
-use Rattle.law_scans.proofs.inv.Machines.{is_within}
-use Rattle.law_logs.specs.Answered.{Says}
+use Rattle.inv_all.specs.history.Record.{Past, Each, begins}
+use Rattle.inv_all.specs.history.Record.Past.{Start, Then}
+use Rattle.inv_all.proofs.Machines.{is_within}
+use Rattle.law_logs.specs.Answered.{Says, SaysOfRows}
 use Rattle.law_logs.specs.Ledgers.{Ledger, left_by, ledger_by, ledger_of, log_of, no_ledger, notes_of}
 use Rattle.law_logs.specs.Versions.{AtMost, Counts, counts_of, met_in}
-use Rattle.law_logs.proofs.Counts.{begun_counts, most_along, most_grows, most_same}
+use Rattle.law_logs.proofs.Counts.{begun_counts, begun_most, begun_unless, most_along, most_grows, most_same}
 use Rattle.law_logs.proofs.Grows.{grows_entry}
 use Rattle.law_logs.proofs.Heard.{AllHeard, all_on, heard_now, told_more}
+use Rattle.law_logs.proofs.Holds.{told_row}
 use Rattle.law_logs.proofs.Ledgers.{ledger_began}
 use Rattle.law_logs.proofs.Meets.{Rises, call_rises, logs_extend}
-use Rattle.law_logs.proofs.Says.{says_now}
+use Rattle.law_logs.proofs.Says.{rows_now, says_now}
 
 -- the laws that a record keeps, by recursion
 pub record Lawful (c : Config) (r : Past) : Type 0 where
@@ -37,12 +40,23 @@ pub record Lawful (c : Config) (r : Past) : Type 0 where
   pub map : Each (map_ok c.buckets) r
   pub reasons : Each (reasons_ok c) r
   pub queue : Each queue_ok r
+  pub order : Each (order_ok c.slots) r
+  pub sources : Each (sources_ok c) r
+  pub full : (s : ℕ) → s ≤ c.slots → Each (full_ok c s) r
 
 pub lawful_before : (c : Config) (p : Past) (i : ℕ) (event : Event) → Lawful c (Then p i event) → Lawful c p
-lawful_before c p i event l = record { open_calls = l.open_calls.1; told = l.told.1; map = l.map.1; reasons = l.reasons.1; queue = l.queue.1 }
+lawful_before c p i event l = record {
+  open_calls = l.open_calls.1;
+  told = l.told.1;
+  map = l.map.1;
+  reasons = l.reasons.1;
+  queue = l.queue.1;
+  order = l.order.1;
+  sources = l.sources.1;
+  full = λ s low. (l.full s low).1;
+}
 
 pub record Knows (n k : ℕ) (p : Past) : Type 0 where
-  pub low : AtMost (begun_counts k p) (counts_of p)
   pub met : AtMost (met_in n (log_of k p)) (counts_of p)
   pub before : is_open k p ≡ true → AtMost (met_in n (log_of k p)) (begun_counts k p)
   pub heard : AllHeard n (begun_counts k p) p (told_of k p)
@@ -57,7 +71,6 @@ knows_inner : (n k i : ℕ) (p : Past) (event : Event) → Inner k i p event →
 knows_inner n k i p event q h g =
     let up : AtMost (counts_of p) (counts_of (Then p i event)) = most_grows p (Then p i event) (grows_entry p i event) in
     record {
-      low = subst (λ (x : Counts). AtMost x (counts_of (Then p i event))) (sym q.begun) (most_along (begun_counts k p) (counts_of p) (counts_of (Then p i event)) g.low up);
       met = subst (λ (x : List Group). AtMost (met_in n x) (counts_of (Then p i event))) (sym q.log) (most_along (met_in n (log_of k p)) (counts_of p) (counts_of (Then p i event)) g.met up);
       before = λ o. subst (λ (x : List Group). AtMost (met_in n x) (begun_counts k (Then p i event))) (sym q.log)
           (subst (λ (x : Counts). AtMost (met_in n (log_of k p)) x) (sym q.begun) (g.before (sym q.opened ∙ o)));
@@ -65,9 +78,6 @@ knows_inner n k i p event q h g =
     }
 
 -- of another seat
-begun_unless : (k i : ℕ) (p : Past) (event : Event) → begins k p i event ≡ false → begun_counts k (Then p i event) ≡ begun_counts k p
-begun_unless k i p event e = rw e refl
-
 other_begins : (k i : ℕ) (p : Past) (event : Event) → (k == i) ≡ false → begins k p i event ≡ false
 other_begins k i p (events.Begin call) e = e
 other_begins k i p event e = refl
@@ -106,7 +116,6 @@ knows_begin n k p call g =
     let l : log_of k (Then p k (events.Begin call)) ≡ log_of k p = own_log k p (events.Begin call) in
     let b = own_begun k p call in
     record {
-      low = subst (λ (x : Counts). AtMost x (counts_of p)) (sym b) (most_same (counts_of p));
       met = subst (λ (x : List Group). AtMost (met_in n x) (counts_of p)) (sym l) g.met;
       before = λ o. subst (λ (x : List Group). AtMost (met_in n x) (begun_counts k (Then p k (events.Begin call)))) (sym l) (subst (λ (x : Counts). AtMost (met_in n (log_of k p)) x) (sym b) g.met);
       heard = subst (λ (x : List Event). AllHeard n (begun_counts k (Then p k (events.Begin call))) (Then p k (events.Begin call)) x) (sym (own_told k p (events.Begin call))) tt;
@@ -117,17 +126,20 @@ pub record Answers (c : Config) (k steps : ℕ) (p : Past) (answer : Answer) : T
   pub call : Call
   pub began : began_of k p ≡ Some call
   pub says : Says c (begun_counts k p) p call answer
+  pub rows : SaysOfRows c k p call answer
 
-answers_by : (c : Config) (k steps : ℕ) (p : Past) (answer : Answer) (began : Option Call) → began_of k p ≡ began → answer_right c.buckets began (told_of k p) answer ≡ true → reason c k p began answer ≡ true → Knows c.buckets k p → Answers c k steps p answer
-answers_by c k steps p answer None e h r g = absurd (cc)
-answers_by c k steps p answer (Some call) e h r g = record {
+answers_by : (c : Config) (k steps : ℕ) (p : Past) (answer : Answer) (began : Option Call) → began_of k p ≡ began → answer_right c.buckets began (told_of k p) answer ≡ true → reason c k p began answer ≡ true → Lawful c (Then p k (events.End steps answer)) → Knows c.buckets k p → Answers c k steps p answer
+answers_by c k steps p answer None e h r l g = absurd (cc)
+answers_by c k steps p answer (Some call) e h r l g = record {
   call = call;
   began = e;
-  says = says_now c k p call answer (told_of k p) (rest_of (suits call answer) (same_told (told_of k p) (owes c.buckets call answer)) h) r g.low g.heard;
+  says = says_now c k p call answer (told_of k p) (rest_of (suits call answer) (same_told (told_of k p) (owes c.buckets call answer)) h) r (begun_most k p) g.heard
+      (λ key slot same held. told_row c k p key slot l.order.1 l.sources.1 (e ∙ ap (λ (x : Call). Some x) same) held);
+  rows = rows_now c k steps p call answer r (λ s low. (l.full s low).0);
 }
 
 pub answers_of : (c : Config) (k steps : ℕ) (p : Past) (answer : Answer) → Lawful c (Then p k (events.End steps answer)) → Knows c.buckets k p → Answers c k steps p answer
-answers_of c k steps p answer l g = answers_by c k steps p answer (began_of k p) refl l.told.0 l.reasons.0 g
+answers_of c k steps p answer l g = answers_by c k steps p answer (began_of k p) refl l.told.0 l.reasons.0 l g
 
 -- the log has one group more
 pub end_log : (c : Config) (k steps : ℕ) (p : Past) (answer : Answer) (a : Answers c k steps p answer) → log_of k (Then p k (events.End steps answer)) ≡ log_of k p ++ record { call = a.call; answer = answer; notes = noted (notes_of k p) (events.End steps answer) } ∷ []
@@ -138,7 +150,7 @@ pub end_rises : (c : Config) (k steps : ℕ) (p : Past) (answer : Answer) → La
 end_rises c k steps p answer l g a =
     let log : List Group = log_of k p in
     let group : Group = record { call = a.call; answer = answer; notes = noted (notes_of k p) (events.End steps answer) } in
-    let r = call_rises c (begun_counts k p) p a.call answer (met_in c.buckets log) a.says (g.before l.open_calls.0) g.low in
+    let r = call_rises c (begun_counts k p) p a.call answer (met_in c.buckets log) a.says (g.before l.open_calls.0) (begun_most k p) in
     subst (λ (x : List Group). Rises (met_in c.buckets log) (met_in c.buckets x) (counts_of p)) (sym (end_log c k steps p answer a))
     (subst (λ (x : Counts). Rises (met_in c.buckets log) x (counts_of p)) (sym (logs_extend c.buckets log group)) r)
 
@@ -147,7 +159,6 @@ knows_end c k steps p answer l g =
     let e : Event = events.End steps answer in
     let r = end_rises c k steps p answer l g (answers_of c k steps p answer l g) in
     record {
-      low = g.low;
       met = r.high;
       before = λ o. let closed : false ≡ true = sym (own_open k p e) ∙ o in absurd (cc);
       heard = subst (λ (x : List Event). AllHeard c.buckets (begun_counts k p) (Then p k e) x) (sym (own_told k p e)) (all_on c.buckets (begun_counts k p) (begun_counts k p) p (Then p k e) (told_of k p) (most_same (begun_counts k p)) (grows_entry p k e) g.heard);
@@ -174,7 +185,7 @@ knows_more c k p event h l g =
     knows_inner n k k p event (inner_own k p event h)
     (subst (λ (x : List Event). AllHeard n (begun_counts k p) (Then p k event) x) (sym (own_told k p event))
     (told_more n (begun_counts k p) (Then p k event) (told_of k p) event (inner_within event h) (all_on n (begun_counts k p) (begun_counts k p) p (Then p k event) (told_of k p) (most_same (begun_counts k p)) (grows_entry p k event) g.heard)
-    (heard_now n k p event l.map.0 l.queue.0 g.low)))
+    (heard_now n k p event l.map.0 l.queue.0 (begun_most k p))))
     g
 
 knows_own : (c : Config) (k : ℕ) (p : Past) (event : Event) → Lawful c (Then p k event) → Knows c.buckets k p → Knows c.buckets k (Then p k event)
@@ -189,5 +200,5 @@ knows_entry c k i p event true e l g =
 knows_entry c k i p event false e l g = knows_other c.buckets k i p event e g
 
 pub knows : (c : Config) (k : ℕ) (p : Past) → Lawful c p → Knows c.buckets k p
-knows c k Start l = record { low = most_same (counts_of Start); met = most_same (counts_of Start); before = λ o. absurd (cc); heard = tt }
+knows c k Start l = record { met = most_same (counts_of Start); before = λ o. absurd (cc); heard = tt }
 knows c k (Then p i event) l = knows_entry c k i p event (k == i) refl l (knows c k p (lawful_before c p i event l))

@@ -5,10 +5,12 @@ pub mod Counts
 pub mod Cuts
 pub mod Grows
 pub mod Heard
+pub mod Holds
 pub mod Knows
 pub mod LastScans
 pub mod Ledgers
 pub mod Meets
 pub mod Notes
 pub mod Records
+pub mod Roots
 pub mod Says

@@ -9,7 +9,7 @@ use Rattle.wfe_core.specs.defs.declared.call.Call.{Call}
 use Rattle.wfe_core.specs.defs.declared.call.Call.TheVariants as calls
 use Rattle.wfe_core.specs.words.declared.config.Config.{Config}
 use Rattle.laws.specs.StateAt.{bucket_of, count_of, queued_of, taken_of}
-use Rattle.law_scans.specs.inv.history.Record.{Past}
+use Rattle.inv_all.specs.history.Record.{Past}
 use Rattle.law_logs.specs.Answered.{IsMet, Says}
 use Rattle.law_logs.specs.Records.{LogsExtend}
 use Rattle.law_logs.specs.Versions.{AtMost, Counts, counts_of, met_by, met_from, no_counts, number_by, number_queued, number_taken, version_by, version_told}

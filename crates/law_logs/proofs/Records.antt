@@ -14,17 +14,24 @@ use Rattle.wfe_core.specs.defs.declared.event.Event.TheVariants as events
 use Rattle.wfe_core.specs.words.Place.{is_valid}
 use Rattle.wfe_core.specs.words.declared.config.Config.{Config}
 use Rattle.wfe_core.specs.words.declared.layout.Layout.{Layout}
+use Rattle.laws.specs.HistoryAnswers.{full_ok}
+use Rattle.laws.specs.HistoryHolds.{sources_ok}
+use Rattle.laws.specs.Once.{order_ok}
 use Rattle.laws.specs.StateAt.{began_of, bucket_of, count_of, pairs_at, value_at}
+use Rattle.law_letter.proofs.Clocks.{full_kept}
+use Rattle.law_reasons.proofs.Full.Keeps.{records_keep_full}
 use Rattle.law_reasons.proofs.Reasons.Keeps.{records_keep_reasons}
-use Rattle.law_scans.proofs.answers.AnswersTold.Answering.{records_keep_answers}
-use Rattle.law_scans.proofs.answers.Lawful.Maps.{records_keep_map}
-use Rattle.law_scans.proofs.answers.Lawful.Queues.{records_keep_queue}
-use Rattle.law_scans.proofs.answers.OpenCalls.{records_open_calls}
-use Rattle.law_scans.proofs.inv.history.Entries.{each_of_entries}
-use Rattle.law_scans.specs.inv.history.History.{Item, record_of, world_of}
-use Rattle.law_scans.specs.inv.history.Record.{Past, tells}
-use Rattle.law_scans.specs.inv.history.Record.Past.{Then}
-use Rattle.law_logs.specs.Answered.{IsDone, IsGot, Says}
+use Rattle.law_held.proofs.Roots.Sources.{records_find_sources}
+use Rattle.law_held.proofs.places.Ordering.Ordered.{records_keep_order}
+use Rattle.law_held.proofs.places.answers.AnswersTold.Answering.{records_keep_answers}
+use Rattle.law_held.proofs.places.answers.Lawful.Maps.{records_keep_map}
+use Rattle.law_held.proofs.places.answers.Lawful.Queues.{records_keep_queue}
+use Rattle.law_held.proofs.places.answers.OpenCalls.{records_open_calls}
+use Rattle.inv_all.proofs.history.Entries.{each_of_entries}
+use Rattle.inv_all.specs.history.History.{Item, record_of, world_of}
+use Rattle.inv_all.specs.history.Record.{Past, tells}
+use Rattle.inv_all.specs.history.Record.Past.{Then}
+use Rattle.law_logs.specs.Answered.{IsDone, IsGot, Says, SaysOfRows}
 use Rattle.law_logs.specs.Ledgers.{log_of, notes_of}
 use Rattle.law_logs.specs.Records.{CallsAnswer, ChangesAreRead, GetsAgree, HoldsSeeNothing, IsAnswered, IsEnded, LogsAnswer, LogsGrow, LogsMeet, LogsRise}
 use Rattle.law_logs.proofs.Begins.{Began, began_at}
@@ -45,6 +52,9 @@ lawful layout items d = record {
   map = each_of_entries _ (record_of layout items) (records_keep_map layout items d);
   reasons = each_of_entries _ (record_of layout items) (records_keep_reasons layout items d);
   queue = each_of_entries _ (record_of layout items) (records_keep_queue layout items d);
+  order = each_of_entries (order_ok layout.config.slots) (record_of layout items) (records_keep_order layout items d).each;
+  sources = each_of_entries (sources_ok layout.config) (record_of layout items) (records_find_sources layout items d);
+  full = λ s low. full_kept layout.config s (record_of layout items) (each_of_entries (full_ok layout.config s) (record_of layout items) (records_keep_full layout items d s low));
 }
 
 -- a call that a record has ended
@@ -72,6 +82,7 @@ answered c k r before group l e =
     let b : Began k e.at group.call = began_at k e.at group.call m.open_calls.1 m.open_calls.0 e.call in
     let one : a.call ≡ group.call = call_is (began_of k e.at) a.call group.call a.began e.call in
     let said : Says c (counts_of b.is.from) e.at group.call group.answer = subst (λ (x : Counts). Says c x e.at group.call group.answer) b.counts (subst (λ (x : Call). Says c (begun_counts k e.at) e.at x group.answer) one a.says) in
+    let rows : SaysOfRows c k e.at group.call group.answer = subst (λ (x : Call). SaysOfRows c k e.at x group.answer) one a.rows in
     let grows : Grows e.at r = subst (λ (x : Past). Grows e.at x) (sym e.cut) (grows_along e.at there (tells there e.later) (grows_entry e.at k event) (grows_tells e.later there)) in
     let rises : Rises (met_in n (log_of k e.at)) (met_in n (log_of k there)) (counts_of e.at) = end_rises c k steps e.at group.answer m g a in
     let both : Rises (met_in n before) (met_in n (before ++ group ∷ [])) (counts_of e.at) =
@@ -81,6 +92,7 @@ answered c k r before group l e =
       begun = b.is;
       said = said;
       says = says_on c (counts_of b.is.from) (counts_of b.is.from) e.at r group.call group.answer (most_same (counts_of b.is.from)) grows said;
+      rows = rows;
       before_it = subst (λ (x : List Group). AtMost (met_in n x) (counts_of b.is.from)) e.log (subst (λ (x : Counts). AtMost (met_in n (log_of k e.at)) x) b.counts (g.before m.open_calls.0));
       after_it = both.high;
       rises = both.low;

@@ -1,11 +1,12 @@
--- Where a call ends, its answer says what is so: by what the call has told, and by its reason.
-use Rattle.std.proofs.Common.{ℕ, ◌≡◌, ◌≤◌, ◌<◌, ◌+◌, ◌-◌, true, List, [], ◌∷◌, length, take, get_or, Option, Some, None, refl, ap, ◌∙◌, arith}
+-- Where a call ends, its answer says what is so: by what the call has told, by its reason, and by what its hold has found.
+use Rattle.std.proofs.Common.{ℕ, ◌≡◌, ◌≤◌, ◌<◌, ◌+◌, ◌-◌, ◌⊎◌, inl, inr, true, false, List, [], ◌∷◌, length, take, get_or, Option, Some, None, refl, sym, ap, ◌∙◌, subst, arith}
 use Rattle.std.proofs.lemmas.List.{take_more}
 use Rattle.std.specs.Prelude.{◌==◌, ◌&&◌, ◌||◌, not, nat_le, nat_lt, is_some}
 use Rattle.std.proofs.lemmas.Bool.Decides.{nat_tests}
-use Rattle.wfe_core.proofs.Facts.{first_of, rest_of, number_is, le_of_test, same_number}
+use Rattle.wfe_core.proofs.Facts.{either_true, false_of_not, first_of, rest_of, number_is, le_of_test, same_number}
+use Rattle.laws.proofs.Along.{row_of}
 use Rattle.laws.proofs.records.defs.Values.{pairs_from-append, value_in-changed}
-use Rattle.wfe_core.specs.defs.Events.{is_null}
+use Rattle.wfe_core.specs.defs.Events.{is_held, is_null}
 use Rattle.wfe_core.specs.defs.Pairs.{Pair, changed, pairs_after, value_in, value_after}
 use Rattle.wfe_core.specs.defs.declared.call.Answer.{Answer}
 use Rattle.wfe_core.specs.defs.declared.call.Answer.TheVariants as answers
@@ -16,12 +17,17 @@ use Rattle.wfe_core.specs.defs.declared.event.Event.TheVariants as events
 use Rattle.wfe_core.specs.defs.declared.fold.Change.{Change}
 use Rattle.wfe_core.specs.defs.declared.fold.Change.TheVariants as changes
 use Rattle.wfe_core.specs.words.declared.config.Config.{Config}
+use Rattle.laws.specs.AnswerLaw.{full_ok}
 use Rattle.laws.specs.HistoryAnswers.{owes, reason, same_told}
-use Rattle.laws.specs.StateAt.{begun_at, bucket_of, changes_of, count_of, had_version, has_told, is_there, pairs_at, queued_of, value_at, was_current}
-use Rattle.law_scans.specs.inv.history.Record.{Past}
-use Rattle.law_logs.specs.Answered.{IsAbsent, IsDone, IsFull, IsGot, IsKept, IsLast, IsQueued, IsSpent, Says, value_left}
+use Rattle.laws.specs.ScanLaw.{guards}
+use Rattle.laws.specs.StateAt.{all_taken, begun_at, bucket_of, changes_of, count_of, had_version, has_told, is_give, is_read, is_row, is_there, pairs_at, queued_of, stood_at, taken_of, taken_since, times, value_at, was_current, was_empty}
+use Rattle.inv_all.specs.history.Record.{Past, begins}
+use Rattle.inv_all.specs.history.Record.Past.{Start, Then}
+use Rattle.law_logs.specs.Answered.{IsAbsent, IsCrowded, IsDone, IsEmpty, IsFull, IsGot, IsKept, IsLast, IsQueued, IsRow, IsSpent, Says, SaysOfRows, value_left}
 use Rattle.law_logs.specs.Versions.{AtMost, Counts, counts_of}
-use Rattle.law_logs.proofs.Counts.{begun_counts}
+use Rattle.law_logs.proofs.Answered.{empty_on}
+use Rattle.law_logs.proofs.Counts.{begun_counts, begun_most, begun_unless, most_same}
+use Rattle.law_logs.proofs.Grows.{grows_entry}
 use Rattle.law_logs.proofs.Heard.{AllHeard, ChangeHeard, QueuedHeard, heard_one, met_now, same_got, same_put, same_queued_event, same_removed, same_taken}
 
 none_of : (x : Option ℕ) → not (is_some x) ≡ true → x ≡ None
@@ -120,24 +126,66 @@ last_now c k number p h low =
     let e = number_is number (length (queued_of p)) (rest_of (number == c.last_version) (number == length (queued_of p)) h) in
     record { since = omega (arith, low.queued, e); until = omega (arith, e); final = number_is number c.last_version (first_of (number == c.last_version) (number == length (queued_of p)) h) }
 
+-- where a call finds the queue empty, it was so at a position of the call
+empty_entry : (k i : ℕ) (p : Past) (event : Event) → (all_taken (Then p i event) ≡ true) ⊎ ((not (begins k p i event) && was_empty k p) ≡ true) → (was_empty k p ≡ true → IsEmpty (begun_counts k p) p) → IsEmpty (begun_counts k (Then p i event)) (Then p i event)
+empty_entry k i p event (inl h) f = record {
+  at = Then p i event;
+  later = [];
+  cut = refl;
+  since = begun_most k (Then p i event);
+  all = number_is (taken_of (Then p i event)) (length (queued_of (Then p i event))) h;
+}
+empty_entry k i p event (inr h) f =
+    let e : begins k p i event ≡ false = false_of_not (begins k p i event) (first_of (not (begins k p i event)) (was_empty k p) h) in
+    subst (λ (x : Counts). IsEmpty x (Then p i event)) (sym (begun_unless k i p event e))
+    (empty_on (begun_counts k p) (begun_counts k p) p (Then p i event) (most_same (begun_counts k p)) (grows_entry p i event) (f (rest_of (not (begins k p i event)) (was_empty k p) h)))
+
+empty_now : (k : ℕ) (p : Past) → was_empty k p ≡ true → IsEmpty (begun_counts k p) p
+empty_now k Start h = record { at = Start; later = []; cut = refl; since = most_same (counts_of Start); all = refl }
+empty_now k (Then p i event) h =
+    empty_entry k i p event (either_true (all_taken (Then p i event)) (not (begins k p i event) && was_empty k p) h) (empty_now k p)
+
 -- by call and answer
 pub says_now : (c : Config) (k : ℕ) (p : Past) (call : Call) (answer : Answer) (told : List Event) → same_told told (owes c.buckets call answer) ≡ true → reason c k p (Some call) answer ≡ true → AtMost (begun_counts k p) (counts_of p) → AllHeard c.buckets (begun_counts k p) p told
-    → Says c (begun_counts k p) p call answer
-says_now c k p (calls.Get key) (answers.Got version value) told s r low a = got_now c k p told key version value s a
-says_now c k p (calls.Put key value) (answers.Done version clock) told s r low a =
+    → ((key slot : ℕ) → call ≡ calls.Hold key → has_told k (is_held 2 slot) p ≡ true → IsRow (begun_counts k p) p (bucket_of c.buckets key) slot) → Says c (begun_counts k p) p call answer
+says_now c k p (calls.Get key) (answers.Got version value) told s r low a f = got_now c k p told key version value s a
+says_now c k p (calls.Put key value) (answers.Done version clock) told s r low a f =
     let b : ℕ = bucket_of c.buckets key in
     put_now c k p told key value version s a (first_of (nat_le version c.last_version) (had_version b (version - 1) p && (is_there b (version - 1) key p || nat_lt (length (pairs_at b (version - 1) p)) c.pairs)) r)
-says_now c k p (calls.Put key value) (answers.BucketFull version) told s r low a = full_now c k (bucket_of c.buckets key) key version p r
-says_now c k p (calls.Put key value) (answers.Spent version) told s r low a = spent_put c k (bucket_of c.buckets key) version p r low
-says_now c k p (calls.Remove key) (answers.Done version clock) told s r low a =
+says_now c k p (calls.Put key value) (answers.BucketFull version) told s r low a f = full_now c k (bucket_of c.buckets key) key version p r
+says_now c k p (calls.Put key value) (answers.Spent version) told s r low a f = spent_put c k (bucket_of c.buckets key) version p r low
+says_now c k p (calls.Remove key) (answers.Done version clock) told s r low a f =
     let b : ℕ = bucket_of c.buckets key in
     remove_now c k p told key version s a (first_of (nat_le version c.last_version) (had_version b (version - 1) p && is_there b (version - 1) key p) r)
-says_now c k p (calls.Remove key) (answers.Absent version) told s r low a = absent_now k (bucket_of c.buckets key) key version p r
-says_now c k p (calls.Remove key) (answers.Spent version) told s r low a = spent_remove c k (bucket_of c.buckets key) key version p r low
-says_now c k p (calls.Enqueue value) (answers.Queued number) told s r low a = queued_now c (begun_counts k p) p number value r (heard_one c.buckets (begun_counts k p) p (events.Queued number value) told (same_queued_event number value) s a)
-says_now c k p (calls.Enqueue value) (answers.Spent number) told s r low a = last_now c k number p r low
-says_now c k p calls.Dequeue (answers.Taken number value clock) told s r low a = heard_one c.buckets (begun_counts k p) p (events.Taken number value) told (same_taken number value) s a
-says_now c k p (calls.Hold key) answers.Nothing told s r low a =
+says_now c k p (calls.Remove key) (answers.Absent version) told s r low a f = absent_now k (bucket_of c.buckets key) key version p r
+says_now c k p (calls.Remove key) (answers.Spent version) told s r low a f = spent_remove c k (bucket_of c.buckets key) key version p r low
+says_now c k p (calls.Enqueue value) (answers.Queued number) told s r low a f = queued_now c (begun_counts k p) p number value r (heard_one c.buckets (begun_counts k p) p (events.Queued number value) told (same_queued_event number value) s a)
+says_now c k p (calls.Enqueue value) (answers.Spent number) told s r low a f = last_now c k number p r low
+says_now c k p calls.Dequeue (answers.Taken number value clock) told s r low a f = heard_one c.buckets (begun_counts k p) p (events.Taken number value) told (same_taken number value) s a
+says_now c k p calls.Dequeue answers.Empty told s r low a f = empty_now k p (first_of (was_empty k p) (has_told k (is_null 1) p) r)
+says_now c k p (calls.Hold key) (answers.Holding slot) told s r low a f = f key slot refl (first_of (has_told k (is_held 2 slot) p) (is_row slot (stood_at k 2 p)) r)
+says_now c k p (calls.Hold key) answers.Nothing told s r low a f =
     let b : ℕ = bucket_of c.buckets key in
     number_is (begun_at k b p) 0 (rest_of (has_told k (is_null 2) p) (begun_at k b p == 0) r)
-says_now c k p call answer told s r low a = tt
+says_now c k p call answer told s r low a f = tt
+
+-- what it says of rows
+crowded_now : (c : Config) (k : ℕ) (p : Past) → ((s : ℕ) → s ≤ c.slots → (not (has_told k is_give p) && (times k is_read p == guards c && taken_since c.slots k s p)) ≡ true) → IsCrowded c k p
+crowded_now c k p f =
+    let one = f 0 (omega arith) in
+    let rest = rest_of (not (has_told k is_give p)) (times k is_read p == guards c && taken_since c.slots k 0 p) one in
+    record {
+      given = false_of_not (has_told k is_give p) (first_of (not (has_told k is_give p)) (times k is_read p == guards c && taken_since c.slots k 0 p) one);
+      reads = number_is (times k is_read p) (guards c) (first_of (times k is_read p == guards c) (taken_since c.slots k 0 p) rest);
+      taken = λ s low. rest_of (times k is_read p == guards c) (taken_since c.slots k s p) (rest_of (not (has_told k is_give p)) (times k is_read p == guards c && taken_since c.slots k s p) (f s low));
+    }
+
+pub rows_now : (c : Config) (k steps : ℕ) (p : Past) (call : Call) (answer : Answer) → reason c k p (Some call) answer ≡ true → ((s : ℕ) → s ≤ c.slots → full_ok c s p k (events.End steps answer) ≡ true) → SaysOfRows c k p call answer
+rows_now c k steps p (calls.Put key value) answers.Full r f = crowded_now c k p f
+rows_now c k steps p (calls.Remove key) answers.Full r f = crowded_now c k p f
+rows_now c k steps p (calls.Enqueue value) answers.Full r f = crowded_now c k p f
+rows_now c k steps p (calls.Hold key) (answers.Holding slot) r f = record {
+  told = first_of (has_told k (is_held 2 slot) p) (is_row slot (stood_at k 2 p)) r;
+  stands = row_of slot (stood_at k 2 p) (rest_of (has_told k (is_held 2 slot) p) (is_row slot (stood_at k 2 p)) r);
+}
+rows_now c k steps p call answer r f = tt

@@ -1,5 +1,8 @@
--- What a call's answer says of the map and of the queue, by the counts where the call began and a record that has its end.
-use Rattle.std.specs.Prelude.{ℕ, ◌≡◌, ◌≤◌, ◌<◌, ◌-◌, length, slice_index_or, Option, None, Some, true}
+-- What a call's answer says of the map and of the queue, by the counts where the call began and a record that has its end; and what it
+-- says of rows, at its end.
+use Rattle.std.specs.Prelude.{ℕ, ◌≡◌, ◌≤◌, ◌<◌, ◌-◌, List, length, slice_index_or, Option, None, Some, true, false}
+use Rattle.wfe_core.specs.defs.Entry.{Entry}
+use Rattle.wfe_core.specs.defs.Events.{is_held}
 use Rattle.wfe_core.specs.defs.Pairs.{changed}
 use Rattle.wfe_core.specs.defs.declared.call.Answer.{Answer}
 use Rattle.wfe_core.specs.defs.declared.call.Answer.TheVariants as answers
@@ -8,9 +11,10 @@ use Rattle.wfe_core.specs.defs.declared.call.Call.TheVariants as calls
 use Rattle.wfe_core.specs.defs.declared.fold.Change.{Change}
 use Rattle.wfe_core.specs.defs.declared.fold.Change.TheVariants as changes
 use Rattle.wfe_core.specs.words.declared.config.Config.{Config}
-use Rattle.laws.specs.StateAt.{bucket_of, count_of, is_there, pairs_at, queued_of, taken_of, value_at}
-use Rattle.law_scans.specs.inv.history.Record.{Past}
-use Rattle.law_logs.specs.Versions.{Counts}
+use Rattle.laws.specs.ScanLaw.{guards}
+use Rattle.laws.specs.StateAt.{bucket_of, count_of, has_told, is_give, is_read, is_there, pairs_at, queued_of, row_at, stood_at, taken_of, taken_since, times, value_at}
+use Rattle.inv_all.specs.history.Record.{Past, tells}
+use Rattle.law_logs.specs.Versions.{AtMost, Counts, counts_of}
 
 -- a version that bucket b had at a position from the beginning on
 pub record IsMet (from : Counts) (last : Past) (b version : ℕ) : Type 0 where
@@ -77,6 +81,20 @@ pub record IsTaken (from : Counts) (last : Past) (number value : ℕ) : Type 0 w
   pub queued : number ≤ length (queued_of last)
   pub value_is : value ≡ slice_index_or (queued_of last) (number - 1) 0
 
+-- at a position since the beginning all that was queued was taken
+pub record IsEmpty (from : Counts) (last : Past) : Type 0 where
+  pub at : Past
+  pub later : List Entry
+  pub cut : last ≡ tells at later
+  pub since : AtMost from (counts_of at)
+  pub all : taken_of at ≡ length (queued_of at)
+
+-- the slot is that of the bucket's row at a version that it had since the beginning
+pub record IsRow (from : Counts) (last : Past) (b slot : ℕ) : Type 0 where
+  pub version : ℕ
+  pub met : IsMet from last b version
+  pub row_is : row_at b version last ≡ Some slot
+
 -- by call and answer
 abbrev pub Says : Config → Counts → Past → Call → Answer → Type 0
 Says c from last (calls.Get key) (answers.Got version value) = IsGot from last (bucket_of c.buckets key) key version value
@@ -89,6 +107,28 @@ Says c from last (calls.Remove key) (answers.Spent version) = IsKept c from last
 Says c from last (calls.Enqueue value) (answers.Queued number) = IsQueued c from last value number
 Says c from last (calls.Enqueue value) (answers.Spent number) = IsLast c from last number
 Says c from last calls.Dequeue (answers.Taken number value clock) = IsTaken from last number value
+Says c from last calls.Dequeue answers.Empty = IsEmpty from last
+Says c from last (calls.Hold key) (answers.Holding slot) = IsRow from last (bucket_of c.buckets key) slot
 -- a hold that finds nothing found a bucket that had not been changed
 Says c from last (calls.Hold key) answers.Nothing = from.versions (bucket_of c.buckets key) ≡ 0
 Says c from last call answer = Unit {0}
+
+-- the call told that the row stands at index 2 of its seat, and it stands there
+pub record IsStanding (k : ℕ) (at : Past) (slot : ℕ) : Type 0 where
+  pub told : has_told k (is_held 2 slot) at ≡ true
+  pub stands : stood_at k 2 at ≡ Some slot
+
+-- The call was given no row, and has read each guard once. Since the last row that went back then, or since the last guard that it
+-- read, each row was taken at a position.
+pub record IsCrowded (c : Config) (k : ℕ) (at : Past) : Type 0 where
+  pub given : has_told k is_give at ≡ false
+  pub reads : times k is_read at ≡ guards c
+  pub taken : (s : ℕ) → s ≤ c.slots → taken_since c.slots k s at ≡ true
+
+-- what an answer says of rows, at the position where the call of seat k ends: only there, since a row that stands may be let go later
+abbrev pub SaysOfRows : Config → ℕ → Past → Call → Answer → Type 0
+SaysOfRows c k at (calls.Put key value) answers.Full = IsCrowded c k at
+SaysOfRows c k at (calls.Remove key) answers.Full = IsCrowded c k at
+SaysOfRows c k at (calls.Enqueue value) answers.Full = IsCrowded c k at
+SaysOfRows c k at (calls.Hold key) (answers.Holding slot) = IsStanding k at slot
+SaysOfRows c k at call answer = Unit {0}

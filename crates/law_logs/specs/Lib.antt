@@ -1,4 +1,4 @@
-pub use Rattle.law_scans.specs.inv as inv
+pub use Rattle.inv_all.specs as inv
 pub mod Answered
 pub mod Ledgers
 pub mod Records

@@ -14,10 +14,10 @@ use Rattle.wfe_core.specs.words.Place.{is_valid}
 use Rattle.wfe_core.specs.words.declared.config.Config.{Config}
 use Rattle.wfe_core.specs.words.declared.layout.Layout.{Layout}
 use Rattle.laws.specs.StateAt.{began_of, bucket_of, is_open, read_of, value_at}
-use Rattle.law_scans.specs.inv.history.History.{Item, record_of, world_of}
-use Rattle.law_scans.specs.inv.history.Record.{Past, tells}
-use Rattle.law_scans.specs.inv.history.Record.Past.{Then}
-use Rattle.law_logs.specs.Answered.{Says}
+use Rattle.inv_all.specs.history.History.{Item, record_of, world_of}
+use Rattle.inv_all.specs.history.Record.{Past, tells}
+use Rattle.inv_all.specs.history.Record.Past.{Then}
+use Rattle.law_logs.specs.Answered.{Says, SaysOfRows}
 use Rattle.law_logs.specs.Ledgers.{log_of, notes_of}
 use Rattle.law_logs.specs.Versions.{AtMost, counts_of, met_by, met_in, seen_in}
 
@@ -72,12 +72,13 @@ pub record IsBegun (k : ℕ) (at : Past) (call : Call) : Type 0 where
   pub log : log_of k from ≡ log_of k at
 
 -- A call that has ended. By the counts where it began: what its answer says, at its end and in the record; and its seat had met nothing
--- beyond them. At its end the seat has met nothing beyond the counts there, and no less than before.
+-- beyond them. At its end: what the answer says of rows; and the seat has met nothing beyond the counts there, and no less than before.
 pub record IsAnswered (c : Config) (k : ℕ) (r : Past) (before : List Group) (group : Group) : Type 0 where
   pub end : IsEnded k r before group
   pub begun : IsBegun k end.at group.call
   pub said : Says c (counts_of begun.from) end.at group.call group.answer
   pub says : Says c (counts_of begun.from) r group.call group.answer
+  pub rows : SaysOfRows c k end.at group.call group.answer
   pub before_it : AtMost (met_in c.buckets before) (counts_of begun.from)
   pub after_it : AtMost (met_in c.buckets (before ++ group ∷ [])) (counts_of end.at)
   pub rises : AtMost (met_in c.buckets before) (met_in c.buckets (before ++ group ∷ []))

@@ -35,7 +35,8 @@ pub fn logs_are_cut()
 
 /// Each call in a seat's log: its answer says what is so of its bucket or of the queue, at a version
 /// or number no older than those where it began; and what its seat had met before is no newer than
-/// these.
+/// these. Where it ends, the row that a hold answers stands at index 2 of its seat. A call that is
+/// answered Full was given no row and has read each guard, and since then each row was taken.
 pub fn logs_answer()
     ensures { LogsAnswer }
 {}

@@ -1,0 +1,148 @@
+//! The words of a table, and what a seat keeps between its calls.
+
+use std::sync::atomic::{AtomicU64, Ordering::SeqCst};
+
+/// Protections of a seat.
+pub const INDEXES: usize = 3;
+/// Rows beside the queue's dummy.
+pub const SLOTS: usize = 4_096;
+/// Buckets of the map.
+pub const BUCKETS: usize = 64;
+/// Failed tries before a reader asks for help.
+pub const TRIES: u32 = 4;
+/// Retirements of a seat before it moves the clock and scans.
+pub const EVERY: u64 = 8;
+/// Keys of a bucket.
+pub const PAIRS: u64 = 6;
+/// Where the clock stops.
+pub const LAST_ERA: u64 = 4_294_967_295;
+/// Where a bucket, or the queue, takes no more changes.
+pub const LAST_VERSION: u64 = 281_474_976_710_656;
+
+const CLAIMS: usize = SLOTS / 64 + 1;
+const PLACES: usize = 3 + 2 * PAIRS as usize;
+
+/// The words.
+pub struct Table {
+    words: Box<[AtomicU64]>,
+    pub seats: usize,
+}
+
+impl Table {
+    pub fn new(seats: usize) -> Table {
+        let mut table = Table {
+            words: Box::new([]),
+            seats,
+        };
+        let count = table.row(SLOTS + 1, 0);
+        table.words = (0..count).map(|_| AtomicU64::new(0)).collect();
+        table.store(table.clock(), 1);
+        table.store(table.head(), SLOTS as u64 + 1);
+        table.store(table.tail(), SLOTS as u64 + 1);
+        table.store(table.claim(SLOTS), u64::MAX << (SLOTS % 64));
+        table.store(table.life(SLOTS), 1 << 32);
+        table
+    }
+
+    pub fn clock(&self) -> usize {
+        0
+    }
+
+    pub fn helper(&self, seat: usize) -> usize {
+        1 + seat
+    }
+
+    pub fn index(&self, seat: usize, index: usize) -> usize {
+        1 + self.seats + seat * INDEXES + index
+    }
+
+    pub fn interval(&self, seat: usize) -> usize {
+        1 + self.seats * (1 + INDEXES) + seat
+    }
+
+    pub fn request(&self, seat: usize) -> usize {
+        1 + self.seats * (2 + INDEXES) + seat
+    }
+
+    pub fn bucket(&self, bucket: usize) -> usize {
+        1 + self.seats * (3 + INDEXES) + bucket
+    }
+
+    pub fn head(&self) -> usize {
+        self.bucket(BUCKETS)
+    }
+
+    pub fn tail(&self) -> usize {
+        self.head() + 1
+    }
+
+    pub fn claim(&self, slot: usize) -> usize {
+        self.head() + 2 + slot / 64
+    }
+
+    pub fn life(&self, slot: usize) -> usize {
+        self.head() + 2 + CLAIMS + slot
+    }
+
+    pub fn row(&self, slot: usize, place: usize) -> usize {
+        self.head() + 2 + CLAIMS + SLOTS + 1 + slot * PLACES + place
+    }
+
+    pub fn load(&self, word: usize) -> u64 {
+        self.words[word].load(SeqCst)
+    }
+
+    pub fn store(&self, word: usize, value: u64) {
+        self.words[word].store(value, SeqCst);
+    }
+
+    /// The word before: the exchange was made where it is `old`.
+    pub fn exchange(&self, word: usize, old: u64, new: u64) -> u64 {
+        match self.words[word].compare_exchange(old, new, SeqCst, SeqCst) {
+            Ok(found) | Err(found) => found,
+        }
+    }
+
+    pub fn or(&self, word: usize, bits: u64) -> u64 {
+        self.words[word].fetch_or(bits, SeqCst)
+    }
+
+    pub fn and(&self, word: usize, bits: u64) -> u64 {
+        self.words[word].fetch_and(bits, SeqCst)
+    }
+}
+
+/// A retired row with its eras.
+#[derive(Clone, Copy)]
+pub struct Lifetime {
+    pub slot: usize,
+    pub birth: u64,
+    pub retire: u64,
+}
+
+/// A thread's place in the table.
+pub struct Seat {
+    pub number: usize,
+    pub cursor: usize,
+    pub tags: [u64; INDEXES],
+    /// The interval that is published under 2GE.
+    pub span: Option<(u64, u64)>,
+    pub retired: u64,
+    pub list: Vec<Lifetime>,
+    /// What the last scan read.
+    pub report: Vec<(u64, u64)>,
+}
+
+impl Seat {
+    pub fn new(number: usize, seats: usize) -> Seat {
+        Seat {
+            number,
+            cursor: 0,
+            tags: [0; INDEXES],
+            span: None,
+            retired: 0,
+            list: Vec::with_capacity(SLOTS + 1),
+            report: Vec::with_capacity(seats * (1 + INDEXES)),
+        }
+    }
+}
