@@ -36,6 +36,7 @@ pub struct ChangeBucket<S: Scheme> {
 
 impl<S: Scheme> ChangeBucket<S> {
     /// The call that makes this change, before its first step.
+    #[inline(always)]
     pub fn new(change: Change) -> ChangeBucket<S>
         ensures { (post : ModelPost) → ⟦<ChangeBucket<S> as CallMachine>⟧.phase result post ≡ round (Changes (record { change = change; taken = None; walked = false; link = 0; version = 0; pairs = [] })) post }
     {
@@ -53,6 +54,7 @@ impl<S: Scheme> ChangeBucket<S> {
     }
 
     // The root of the bucket.
+    #[inline(always)]
     fn root(&self, post: &Post) -> Root
         requires { IsValid post.now }
         ensures root { result ≡ root_of (Changes (kept_of self.now.kept)) post.now }
@@ -63,6 +65,7 @@ impl<S: Scheme> ChangeBucket<S> {
 
     // A round is over: another begins, at once or after a scan, or the call answers. A row that was not
     // linked is given up first.
+    #[inline(always)]
     fn closed(&mut self, ending: ChangeEnd) -> Option<Answer>
         ensures steps { (post : ModelPost) (desk : ModelDesk) (told : List Event) → post.layout.config.scheme ≡ S.kind → Steps (model_closed (Changes (kept_of self.old.kept)) (next_of ending) post desk told) post desk told result (change_phase ⟦<S as Rounds>⟧.all_phases (kept_of self.new.kept) self.new.at post) }
         ensures kept { self.new.kept ≡ self.old.kept }
@@ -91,6 +94,7 @@ impl<S: Scheme> ChangeBucket<S> {
     }
 
     // A round ends: index 0 is cleared, and then comes what the scheme ends with.
+    #[inline(always)]
     fn close(&mut self, ending: ChangeEnd, post: &mut Post, told: &mut Told) -> Option<Answer>
         requires valid { IsValid post.old }
         requires scheme { post.old.layout.config.scheme ≡ S.kind }
@@ -108,6 +112,7 @@ impl<S: Scheme> ChangeBucket<S> {
     }
 
     // The root is protected: the row is read, or there is none yet.
+    #[inline(always)]
     fn reach(&mut self, end: ProtectEnd, post: &mut Post, told: &mut Told) -> Option<Answer>
         requires valid { IsValid post.old }
         requires scheme { post.old.layout.config.scheme ≡ S.kind }
@@ -131,6 +136,7 @@ impl<S: Scheme> ChangeBucket<S> {
     }
 
     // The row is written: the next version, and the pairs.
+    #[inline(always)]
     fn write(&mut self, slot: u32)
         requires { self.old.kept.version + 1 < 18446744073709551616 }
         ensures phase { (post : ModelPost) → change_phase ⟦<S as Rounds>⟧.all_phases (kept_of self.new.kept) self.new.at post ≡ Runs (Fills (Changes (kept_of self.old.kept))) (writing slot (new_row (kept_of self.old.kept))) }
@@ -145,6 +151,7 @@ impl<S: Scheme> ChangeBucket<S> {
     }
 
     // A step of the work leads on.
+    #[inline(always)]
     fn lead(&mut self, step: Changed, post: &mut Post, told: &mut Told) -> Option<Answer>
         requires valid { IsValid post.old }
         requires scheme { post.old.layout.config.scheme ≡ S.kind }
@@ -170,6 +177,7 @@ impl<S: Scheme> ChangeBucket<S> {
     }
 
     // A walk for a row is over. Where it has failed for the first time, a scan may make room.
+    #[inline(always)]
     fn allocated(&mut self, end: AllocateEnd, post: &mut Post, told: &mut Told) -> Option<Answer>
         requires valid { IsValid post.old }
         requires scheme { post.old.layout.config.scheme ≡ S.kind }
@@ -193,6 +201,7 @@ impl<S: Scheme> ChangeBucket<S> {
     }
 
     // The row is written: it is to be linked.
+    #[inline(always)]
     fn written(&mut self) -> Option<Answer>
         ensures { (post : ModelPost) (desk : ModelDesk) (told : List Event) → Steps (written_row (Changes (kept_of self.old.kept)) post desk told) post desk told result (change_phase ⟦<S as Rounds>⟧.all_phases (kept_of self.new.kept) self.new.at post) }
     {
@@ -205,6 +214,7 @@ impl<S: Scheme> ChangeBucket<S> {
     }
 
     // The first step of a round.
+    #[inline(always)]
     fn start(&mut self, post: &mut Post, desk: &Desk, found: u64, told: &mut Told) -> Option<Answer>
         requires valid { IsValid post.old }
         requires scheme { post.old.layout.config.scheme ≡ S.kind }
@@ -225,6 +235,7 @@ impl<S: Scheme> ChangeBucket<S> {
     }
 
     // A step, with its events besides End.
+    #[inline(always)]
     fn step(
         &mut self,
         post: &mut Post,
@@ -246,10 +257,10 @@ impl<S: Scheme> ChangeBucket<S> {
         ensures notes { (desk_of desk.new).notes ≡ (desk_of desk.old).notes }
         ensures most { length told.new ≤ 4 }
     {
-        let root = self.root(post);
         match &mut self.at {
             State::Starts => self.start(post, desk, found, told),
             State::Opens(opening) => {
+                let root = Root::Bucket(self.kept.bucket(post));
                 let end = take_open::<S>(opening, 0, root, post, found, told)?;
                 self.reach(end, post, told)
             }
@@ -291,6 +302,7 @@ impl<S: Scheme> ChangeBucket<S> {
 }
 
 // How a round ends in which no row was free: the second walk of a call answers.
+#[inline(always)]
 fn no_room(walked: bool) -> ChangeEnd
     ensures { next_of result ≡ model_no_room walked }
 {
@@ -309,6 +321,7 @@ impl<S: Scheme> CallMachine for ChangeBucket<S> {
 
     ghost phase = { λ m post. change_phase ⟦<S as Rounds>⟧.all_phases (kept_of m.kept) m.at post };
 
+    #[inline(always)]
     fn next_op(&self, post: &Post, _desk: &Desk) -> Op {
         match &self.at {
             State::Starts => open::<S>(post, 0, self.root(post)).next_op(post),
@@ -323,6 +336,7 @@ impl<S: Scheme> CallMachine for ChangeBucket<S> {
         }
     }
 
+    #[inline(always)]
     fn take(
         &mut self,
         post: &mut Post,

@@ -48,6 +48,7 @@ pub enum ChangeEnd {
 
 impl ChangeEnd {
     // Another round comes at once.
+    #[inline(always)]
     pub fn is_again(&self) -> bool
         ensures { result ≡ is_again (next_of self.now) }
     {
@@ -65,6 +66,7 @@ pub enum Changed {
 
 impl ChangeAt {
     // The operation of the step.
+    #[inline(always)]
     pub fn next_op(&self, kept: &Kept, post: &Post) -> Op
         requires valid { IsValid post.now }
         requires fits { ChangeFits post.now (kept_of kept.now) }
@@ -93,6 +95,7 @@ impl ChangeAt {
     }
 
     // What the word that was found leads to. An exchange is told.
+    #[inline(always)]
     pub fn take(self, kept: &mut Kept, post: &Post, found: u64, told: &mut Told) -> Changed
         requires valid { IsValid post.now }
         requires fits { ChangeFits post.now (kept_of kept.old) }
@@ -130,6 +133,7 @@ impl ChangeAt {
 
 impl Kept {
     // The root was protected with this link: what was read of another row is forgotten.
+    #[inline(always)]
     pub fn protected(&mut self, link: u64)
         ensures { kept_of self.new ≡ at_link (kept_of self.old) link }
     {
@@ -139,6 +143,7 @@ impl Kept {
     }
 
     // The bucket that is changed.
+    #[inline(always)]
     pub fn bucket(&self, post: &Post) -> u32
         requires { IsValid post.now }
         ensures bucket { result ≡ changed_bucket (kept_of self.now) post.now }
@@ -149,6 +154,7 @@ impl Kept {
     }
 
     // The next pair is read, if there is one.
+    #[inline(always)]
     fn read(&mut self, slot: u32, count: u32, post: &Post) -> Changed
         requires valid { IsValid post.now }
         requires fits { ChangeFits post.now (kept_of self.old) }
@@ -162,6 +168,7 @@ impl Kept {
     }
 
     // The row is read: the change is refused, or made in the pairs of a new row.
+    #[inline(always)]
     pub fn decide(&mut self, post: &Post) -> Changed
         requires valid { IsValid post.now }
         requires fits { ChangeFits post.now (kept_of self.old) }
@@ -178,6 +185,7 @@ impl Kept {
     }
 
     // Why the change is refused, if it is.
+    #[inline(always)]
     fn refusal(&self, post: &Post) -> Option<Answer>
         requires { IsValid post.now }
         ensures { result ≡ refusal post.now.layout.config (kept_of self.now).version (kept_of self.now).pairs (kept_of self.now).change }
@@ -207,6 +215,7 @@ impl Kept {
     }
 
     // The change is made in the pairs.
+    #[inline(always)]
     fn change(&mut self)
         requires { length (changed (kept_of self.old).pairs (kept_of self.old).change) ≤ 14 }
         ensures { kept_of self.new ≡ with_change (kept_of self.old) }
@@ -218,6 +227,7 @@ impl Kept {
     }
 
     // The root leads to the new row: that is told, and the row that it led to before is cut.
+    #[inline(always)]
     fn linked(&mut self, slot: u32, post: &Post, told: &mut Told) -> Changed
         requires valid { IsValid post.now }
         requires fits { ChangeFits post.now (kept_of self.old) }
@@ -249,6 +259,7 @@ impl Kept {
 }
 
 // The key of a change.
+#[inline(always)]
 fn key_in(change: &Change) -> u64
     ensures { result ≡ key_of change.now }
 {
@@ -259,6 +270,7 @@ fn key_in(change: &Change) -> u64
 }
 
 // The event of a change at a version.
+#[inline(always)]
 fn change_event(change: &Change, bucket: u32, version: u64) -> Event
     ensures { result ≡ told_change bucket version change.now }
 {

@@ -16,6 +16,7 @@ pub struct Put<S: Scheme> {
 
 impl<S: Scheme> Put<S> {
     /// A put of this value under this key that has made no step.
+    #[inline(always)]
     pub fn new(key: u64, value: u64) -> Put<S>
         ensures { (post : ModelPost) → ⟦<Put<S> as CallMachine>⟧.phase result post ≡ first_phase (calls.Put key value) post }
     {
@@ -30,10 +31,12 @@ impl<S: Scheme> CallMachine for Put<S> {
 
     ghost phase = { λ m post. ⟦<ChangeBucket<S> as CallMachine>⟧.phase m.change post };
 
+    #[inline(always)]
     fn next_op(&self, post: &Post, desk: &Desk) -> Op {
         self.change.next_op(post, desk)
     }
 
+    #[inline(always)]
     fn take(
         &mut self,
         post: &mut Post,

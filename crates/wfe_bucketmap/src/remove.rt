@@ -16,6 +16,7 @@ pub struct Remove<S: Scheme> {
 
 impl<S: Scheme> Remove<S> {
     /// A remove of this key that has made no step.
+    #[inline(always)]
     pub fn new(key: u64) -> Remove<S>
         ensures { (post : ModelPost) → ⟦<Remove<S> as CallMachine>⟧.phase result post ≡ first_phase (calls.Remove key) post }
     {
@@ -30,10 +31,12 @@ impl<S: Scheme> CallMachine for Remove<S> {
 
     ghost phase = { λ m post. ⟦<ChangeBucket<S> as CallMachine>⟧.phase m.change post };
 
+    #[inline(always)]
     fn next_op(&self, post: &Post, desk: &Desk) -> Op {
         self.change.next_op(post, desk)
     }
 
+    #[inline(always)]
     fn take(
         &mut self,
         post: &mut Post,

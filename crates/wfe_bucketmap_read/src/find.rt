@@ -42,6 +42,7 @@ pub enum Found {
 
 impl Find {
     // The operation of the step.
+    #[inline(always)]
     pub fn next_op(&self, post: &Post) -> Op
         requires valid { IsValid post.now }
         requires ready { get_ready (find_of self.now) post.now }
@@ -59,6 +60,7 @@ impl Find {
     }
 
     // What the word that was found leads to.
+    #[inline(always)]
     pub fn take(self, post: &Post, key: u64, found: u64) -> Found
         requires valid { IsValid post.now }
         requires ready { get_ready (find_of self) post.now }
@@ -95,6 +97,7 @@ impl Find {
 }
 
 // The key of a pair, if there is one.
+#[inline(always)]
 fn key_at(slot: u32, version: u64, count: u32, pair: u32) -> Found
     ensures { found_of result ≡ pair_by slot version count pair }
 {

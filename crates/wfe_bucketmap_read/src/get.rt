@@ -29,6 +29,7 @@ pub struct Get<S: Scheme> {
 
 impl<S: Scheme> Get<S> {
     /// A get of this key that has made no step.
+    #[inline(always)]
     pub fn new(key: u64) -> Get<S>
         ensures { (post : Post) → ⟦<Get<S> as CallMachine>⟧.phase result post ≡ round (Gets key) post }
     {
@@ -38,17 +39,8 @@ impl<S: Scheme> Get<S> {
         }
     }
 
-    // The root of the key's bucket.
-    fn root(&self, post: &Post) -> Root
-        requires { IsValid post.now }
-        ensures root { result ≡ root_of (Gets self.now.key) post.now }
-        ensures there { RootFits post.now.layout result }
-    {
-        let buckets = post.layout.config().buckets as u64;
-        Root::Bucket((self.key % buckets) as u32)
-    }
-
     // A step, with its events besides End. The desk is what it was.
+    #[inline(always)]
     fn step(&mut self, post: &mut Post, desk: &Desk, found: u64, told: &mut Told) -> Option<Answer>
         requires valid { IsValid post.old }
         requires scheme { post.old.layout.config.scheme ≡ S.kind }
@@ -58,9 +50,9 @@ impl<S: Scheme> Get<S> {
         ensures steps { Steps (phase_turn (get_phase ⟦<S as Rounds>⟧.all_phases self.old.key self.old.at post.old) post.old (desk_of desk.now) found) post.new (desk_of desk.now) told.new result (get_phase ⟦<S as Rounds>⟧.all_phases self.new.key self.new.at post.new) }
         ensures seat { SameSeat post.old post.new told.new 4 }
     {
-        let root = self.root(post);
         match &mut self.at {
             GetAt::Starts => {
+                let root = root_for(self.key, post);
                 let mut opening = open::<S>(post, 0, root);
                 let end = take_open::<S>(&mut opening, 0, root, post, found, told);
                 self.at = GetAt::Opens(opening);
@@ -70,6 +62,7 @@ impl<S: Scheme> Get<S> {
                 }
             }
             GetAt::Opens(opening) => {
+                let root = root_for(self.key, post);
                 let end = take_open::<S>(opening, 0, root, post, found, told)?;
                 self.reach(end, post, desk, told)
             }
@@ -97,6 +90,7 @@ impl<S: Scheme> Get<S> {
     }
 
     // The protection has ended: the row is read, or there is none.
+    #[inline(always)]
     fn reach(
         &mut self,
         end: ProtectEnd,
@@ -120,6 +114,7 @@ impl<S: Scheme> Get<S> {
     }
 
     // The value is known: it is told, and the round ends.
+    #[inline(always)]
     fn got(
         &mut self,
         version: u64,
@@ -157,6 +152,17 @@ impl<S: Scheme> Get<S> {
     }
 }
 
+// The root of the key's bucket.
+#[inline(always)]
+fn root_for(key: u64, post: &Post) -> Root
+    requires { IsValid post.now }
+    ensures root { result ≡ root_of (Gets key) post.now }
+    ensures there { RootFits post.now.layout result }
+{
+    let buckets = post.layout.config().buckets as u64;
+    Root::Bucket((key % buckets) as u32)
+}
+
 impl<S: Scheme> CallMachine for Get<S> {
     ghost use Rattle.wfe_bucketmap_read.specs.Gets.{get_phase};
 
@@ -164,15 +170,17 @@ impl<S: Scheme> CallMachine for Get<S> {
 
     ghost phase = { λ m post. get_phase ⟦<S as Rounds>⟧.all_phases m.key m.at post };
 
+    #[inline(always)]
     fn next_op(&self, post: &Post, _desk: &Desk) -> Op {
         match &self.at {
-            GetAt::Starts => open::<S>(post, 0, self.root(post)).next_op(post),
+            GetAt::Starts => open::<S>(post, 0, root_for(self.key, post)).next_op(post),
             GetAt::Opens(opening) => opening.next_op(post),
             GetAt::Finds(find) => find.next_op(post),
             GetAt::Closes { closing, .. } => closing.next_op(post),
         }
     }
 
+    #[inline(always)]
     fn take(
         &mut self,
         post: &mut Post,

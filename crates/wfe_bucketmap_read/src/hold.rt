@@ -26,6 +26,7 @@ pub struct Hold<S: Scheme> {
 
 impl<S: Scheme> Hold<S> {
     /// A hold of this key's row that has made no step.
+    #[inline(always)]
     pub fn new(key: u64) -> Hold<S>
         ensures { (post : Post) → ⟦<Hold<S> as CallMachine>⟧.phase result post ≡ holding key post (stands post 2) }
     {
@@ -35,17 +36,8 @@ impl<S: Scheme> Hold<S> {
         }
     }
 
-    // The root of the key's bucket.
-    fn root(&self, post: &Post) -> Root
-        requires { IsValid post.now }
-        ensures root { result ≡ root_of (Holds self.now.key) post.now }
-        ensures there { RootFits post.now.layout result }
-    {
-        let buckets = post.layout.config().buckets as u64;
-        Root::Bucket((self.key % buckets) as u32)
-    }
-
     // The protection has ended: the row is held, or there is none, and the round ends.
+    #[inline(always)]
     fn reach(
         &mut self,
         end: ProtectEnd,
@@ -72,6 +64,7 @@ impl<S: Scheme> Hold<S> {
     }
 
     // The first step of the round.
+    #[inline(always)]
     fn start(&mut self, post: &mut Post, desk: &Desk, found: u64, told: &mut Told) -> Option<Answer>
         requires valid { IsValid post.old }
         requires scheme { post.old.layout.config.scheme ≡ S.kind }
@@ -81,7 +74,7 @@ impl<S: Scheme> Hold<S> {
         ensures steps { Steps (phase_turn (round (Holds self.old.key) post.old) post.old (desk_of desk.now) found) post.new (desk_of desk.now) told.new result (hold_phase ⟦<S as Rounds>⟧.all_phases S.Release.phase self.new.key self.new.at post.new) }
         ensures seat { SameSeat post.old post.new told.new 4 }
     {
-        let root = self.root(post);
+        let root = root_for(self.key, post);
         let mut opening = open::<S>(post, 2, root);
         let end = take_open::<S>(&mut opening, 2, root, post, found, told);
         self.at = HoldAt::Opens(opening);
@@ -92,6 +85,7 @@ impl<S: Scheme> Hold<S> {
     }
 
     // A step of the release of what was held before.
+    #[inline(always)]
     fn release(
         &mut self,
         mut machine: S::Release,
@@ -120,6 +114,7 @@ impl<S: Scheme> Hold<S> {
     }
 
     // The first step of the call.
+    #[inline(always)]
     fn begin(&mut self, post: &mut Post, desk: &Desk, found: u64, told: &mut Told) -> Option<Answer>
         requires valid { IsValid post.old }
         requires scheme { post.old.layout.config.scheme ≡ S.kind }
@@ -136,6 +131,7 @@ impl<S: Scheme> Hold<S> {
     }
 
     // A step, with its events besides End. The desk is what it was.
+    #[inline(always)]
     fn step(&mut self, post: &mut Post, desk: &Desk, found: u64, told: &mut Told) -> Option<Answer>
         requires valid { IsValid post.old }
         requires scheme { post.old.layout.config.scheme ≡ S.kind }
@@ -145,7 +141,6 @@ impl<S: Scheme> Hold<S> {
         ensures steps { Steps (phase_turn (hold_phase ⟦<S as Rounds>⟧.all_phases S.Release.phase self.old.key self.old.at post.old) post.old (desk_of desk.now) found) post.new (desk_of desk.now) told.new result (hold_phase ⟦<S as Rounds>⟧.all_phases S.Release.phase self.new.key self.new.at post.new) }
         ensures seat { SameSeat post.old post.new told.new 4 }
     {
-        let root = self.root(post);
         match &mut self.at {
             HoldAt::Starts => self.begin(post, desk, found, told),
             HoldAt::Releases(machine) => {
@@ -155,6 +150,7 @@ impl<S: Scheme> Hold<S> {
             }
             HoldAt::Rounds => self.start(post, desk, found, told),
             HoldAt::Opens(opening) => {
+                let root = root_for(self.key, post);
                 let end = take_open::<S>(opening, 2, root, post, found, told)?;
                 self.reach(end, post, desk, told)
             }
@@ -168,6 +164,17 @@ impl<S: Scheme> Hold<S> {
     }
 }
 
+// The root of the key's bucket.
+#[inline(always)]
+fn root_for(key: u64, post: &Post) -> Root
+    requires { IsValid post.now }
+    ensures root { result ≡ root_of (Holds key) post.now }
+    ensures there { RootFits post.now.layout result }
+{
+    let buckets = post.layout.config().buckets as u64;
+    Root::Bucket((key % buckets) as u32)
+}
+
 impl<S: Scheme> CallMachine for Hold<S> {
     ghost use Rattle.wfe_bucketmap_read.specs.Holds.{hold_phase};
 
@@ -175,19 +182,21 @@ impl<S: Scheme> CallMachine for Hold<S> {
 
     ghost phase = { λ m post. hold_phase ⟦<S as Rounds>⟧.all_phases S.Release.phase m.key m.at post };
 
+    #[inline(always)]
     fn next_op(&self, post: &Post, _desk: &Desk) -> Op {
         match &self.at {
             HoldAt::Starts => match post.standing[2] {
                 Some(_) => S::release().next_op(post),
-                None => open::<S>(post, 2, self.root(post)).next_op(post),
+                None => open::<S>(post, 2, root_for(self.key, post)).next_op(post),
             },
             HoldAt::Releases(machine) => machine.next_op(post),
-            HoldAt::Rounds => open::<S>(post, 2, self.root(post)).next_op(post),
+            HoldAt::Rounds => open::<S>(post, 2, root_for(self.key, post)).next_op(post),
             HoldAt::Opens(opening) => opening.next_op(post),
             HoldAt::Closes(closing) => closing.next_op(post),
         }
     }
 
+    #[inline(always)]
     fn take(
         &mut self,
         post: &mut Post,

@@ -6,3 +6,6 @@ mod scheme_calls;
 
 pub use running::{CallOf, Running, begin_call};
 pub use scheme_calls::{HeCall, IbrCall, WfeCall};
+pub use wfe_bucketmap::{Advance, Get, He, Hold, Ibr, Put, Release, Remove, Scheme, Wfe};
+pub use wfe_msqueue::{Dequeue, Enqueue};
+pub use wfe_scan::Scan;

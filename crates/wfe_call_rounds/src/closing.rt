@@ -17,6 +17,7 @@ pub enum Closing<C: Machine<End = ()>, F: Machine<End = ()>> {
 
 impl<C: Machine<End = ()>, F: Machine<End = ()>> Closing<C, F> {
     /// The operation that the round asks for.
+    #[inline(always)]
     pub fn next_op(&self, post: &Post) -> Op
         requires valid { IsValid post.now }
         requires ready { IsReady (close_base (close_at C.phase F.phase self.now)) post.now }
@@ -30,6 +31,7 @@ impl<C: Machine<End = ()>, F: Machine<End = ()>> Closing<C, F> {
 }
 
 // What the scheme ends with, unless another round comes at once.
+#[inline(always)]
 fn finish<S: Scheme>(post: &Post, again: bool) -> Option<Closing<S::Clear, S::Finish>>
     requires { IsValid post.now }
     ensures { closings_of ⟦<S as Rounds>⟧.all_phases result ≡ (finish_from S.kind again post.now []).at }
@@ -45,6 +47,7 @@ fn finish<S: Scheme>(post: &Post, again: bool) -> Option<Closing<S::Clear, S::Fi
 
 /// Begins to end a round: an index of the seat is cleared. None where the round is over at once.
 /// Where another round comes at once, what the scheme ends with is left out.
+#[inline(always)]
 pub fn close<S: Scheme>(
     post: &mut Post,
     told: &mut Told,
@@ -70,6 +73,7 @@ pub fn close<S: Scheme>(
 }
 
 /// Takes what the operation of an ending round found. Whether the round is over.
+#[inline(always)]
 pub fn take_close<S: Scheme>(
     closing: &mut Closing<S::Clear, S::Finish>,
     again: bool,

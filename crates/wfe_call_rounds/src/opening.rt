@@ -20,6 +20,7 @@ pub enum Opening<B: Machine<End = ()>, P: Machine<End = ProtectEnd>> {
 
 impl<B: Machine<End = ()>, P: Machine<End = ProtectEnd>> Opening<B, P> {
     /// The operation that the round asks for.
+    #[inline(always)]
     pub fn next_op(&self, post: &Post) -> Op
         requires valid { IsValid post.now }
         requires ready { IsReady (opening_base B.phase P.phase self.now) post.now }
@@ -33,6 +34,7 @@ impl<B: Machine<End = ()>, P: Machine<End = ProtectEnd>> Opening<B, P> {
 }
 
 /// Begins a round that protects a root at an index of the seat.
+#[inline(always)]
 pub fn open<S: Scheme>(post: &Post, index: u32, root: Root) -> Opening<S::Begin, S::Protect>
     requires layout { is_valid post.now.layout ≡ true }
     requires there { RootFits post.now.layout root }
@@ -45,6 +47,7 @@ pub fn open<S: Scheme>(post: &Post, index: u32, root: Root) -> Opening<S::Begin,
 }
 
 /// Takes what the operation of a beginning round found. It answers where the root is protected.
+#[inline(always)]
 pub fn take_open<S: Scheme>(
     opening: &mut Opening<S::Begin, S::Protect>,
     index: u32,

@@ -195,6 +195,7 @@ impl Notes {
     }
 
     /// Notes the events of a step, in order. It takes no memory.
+    #[inline(always)]
     pub fn note_all(&mut self, told: &Told)
         requires room { length self.old.back + length told.now ≤ self.old.room }
         requires few { length self.old.back + length told.now < 2 ^ 32 }
@@ -207,6 +208,7 @@ impl Notes {
     }
 
     /// Notes an event of the call. It takes no memory.
+    #[inline(always)]
     pub fn note(&mut self, event: &Event)
         requires room { length self.old.back < self.old.room }
         requires few { length self.old.back < 2 ^ 32 }
@@ -268,6 +270,7 @@ impl Desk {
 
     /// Tells the answer, where a call has ended, and notes what the step has told. It takes no
     /// memory.
+    #[inline(always)]
     pub fn settle(&mut self, post: &Post, told: &mut Told, answer: Option<Answer>)
         requires few { length told.old < 8 }
         requires room { length self.old.notes.back + 8 ≤ self.old.notes.room }

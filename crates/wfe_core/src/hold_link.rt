@@ -11,6 +11,7 @@ use wfe_defs::{Event, Interval, Root};
 use wfe_words::{Reservation, reservation_word};
 
 /// The interval of one era; era 0 publishes nothing.
+#[inline(always)]
 pub fn one_era(era: u32) -> Option<Interval>
     ensures { result ≡ era_span era }
 {
@@ -21,6 +22,7 @@ pub fn one_era(era: u32) -> Option<Interval>
 }
 
 /// The word with which one of the seat's indexes publishes an era, under the index's tag.
+#[inline(always)]
 pub fn index_word(post: &Post, index: u32, era: u32) -> u64
     requires valid { IsValid post.now }
     requires index { IndexFits post.now index }
@@ -33,6 +35,7 @@ pub fn index_word(post: &Post, index: u32, era: u32) -> u64
 }
 
 /// How a protection ends that found this link under this era.
+#[inline(always)]
 pub fn protect_end(post: &Post, link: u32, era: u32) -> ProtectEnd
     requires { LinkFits post.now link }
     ensures value { result ≡ end_of link era }
@@ -50,6 +53,7 @@ pub fn protect_end(post: &Post, link: u32, era: u32) -> ProtectEnd
 
 /// Tells what a protection found in its n-th step, and lets the row stand. The row of a next link
 /// stands only once it was followed.
+#[inline(always)]
 pub fn hold(post: &mut Post, told: &mut Told, index: u32, root: Root, link: u32, n: u64)
     requires valid { IsValid post.old }
     requires index { IndexFits post.old index }

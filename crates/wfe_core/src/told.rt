@@ -51,6 +51,7 @@ impl Told {
     }
 
     /// Adds an event at the end.
+    #[inline(always)]
     pub fn push(&mut self, event: Event)
         requires { length self.old < 8 }
         ensures { self.new ≡ self.old ++ event ∷ [] }

@@ -5,11 +5,14 @@ ghost use Rattle.wfe_core.specs.Calls.{Idle};
 ghost use Rattle.wfe_core.specs.DeskHeld.{HasRoom};
 ghost use Rattle.wfe_core.specs.Frames.{SamePlace};
 ghost use Rattle.wfe_core.specs.Locals.{busy_in};
+ghost use Rattle.wfe_core.specs.Steps.{first_phase};
 ghost use Rattle.wfe_drive_call.specs.Called.{Called, Here, Makes, at_phase};
 ghost use Rattle.wfe_drive_call.specs.Ran.{Answered};
 
 use crate::Words;
-use wfe_call_any::{HeCall, IbrCall, WfeCall};
+use wfe_call_any::{
+    Advance, Dequeue, Enqueue, Get, He, Hold, Ibr, Put, Release, Remove, Scan, Scheme, Wfe,
+};
 use wfe_core::{Answer, Call, CallMachine, Desk, Post, SchemeKind, Told};
 
 /// Makes a whole call of the seat of this post and desk on its words, and answers as the call does.
@@ -32,24 +35,60 @@ pub fn drive_call<W: Words>(words: &mut W, post: &mut Post, desk: &mut Desk, cal
     words.start(call);
     post.steps = 0;
     desk.notes.clear();
-    let layout = post.layout;
-    match layout.config().scheme {
-        SchemeKind::He => drive(words, HeCall::begin(layout, call), post, desk),
-        SchemeKind::Ibr => drive(words, IbrCall::begin(layout, call), post, desk),
-        SchemeKind::Wfe => drive(words, WfeCall::begin(layout, call), post, desk),
+    match post.layout.config().scheme {
+        SchemeKind::He => drive_under::<W, He>(words, post, desk, call),
+        SchemeKind::Ibr => drive_under::<W, Ibr>(words, post, desk, call),
+        SchemeKind::Wfe => drive_under::<W, Wfe>(words, post, desk, call),
     }
 }
 
-/// Makes the steps of a call that has begun, until it answers.
+/// Makes the steps of a call that has begun, under the table's scheme. Each kind of call has a loop of
+/// its own, so that none of its steps asks which call it is of.
+fn drive_under<W: Words, S: Scheme>(
+    words: &mut W,
+    post: &mut Post,
+    desk: &mut Desk,
+    call: Call,
+) -> Answer
+    requires valid { W.valid words.old }
+    requires scheme { post.old.layout.config.scheme ≡ S.kind }
+    requires here { Here (W.at words.old) (at_phase (first_phase call post.old) post.old desk.old) }
+    requires room { HasRoom desk.old post.old.layout }
+    ensures valid { W.valid words.new }
+    ensures same { W.same words.old words.new }
+    ensures room { HasRoom desk.new post.new.layout }
+    ensures made { Makes (λ ops l m. Answered l ops result m) (W.at words.old) (W.at words.new)
+        (W.stands words.old) (W.stands words.new)
+        (at_phase (first_phase call post.old) post.old desk.old) (at_phase Idle post.new desk.new) }
+{
+    match call {
+        Call::Get { key } => drive(words, Get::<S>::new(key), post, desk, call),
+        Call::Put { key, value } => drive(words, Put::<S>::new(key, value), post, desk, call),
+        Call::Remove { key } => drive(words, Remove::<S>::new(key), post, desk, call),
+        Call::Enqueue { value } => drive(words, Enqueue::<S>::new(value), post, desk, call),
+        Call::Dequeue => drive(words, Dequeue::<S>::new(), post, desk, call),
+        Call::Hold { key } => drive(words, Hold::<S>::new(key), post, desk, call),
+        Call::Release => drive(words, Release::<S>::new(), post, desk, call),
+        Call::Advance => drive(words, Advance::<S>::new(), post, desk, call),
+        Call::Scan => {
+            let layout = post.layout;
+            drive(words, Scan::new(layout), post, desk, call)
+        }
+    }
+}
+
+/// Makes the steps of a call from its machine's first, until it answers.
 fn drive<W: Words, M: CallMachine>(
     words: &mut W,
     mut machine: M,
     post: &mut Post,
     desk: &mut Desk,
+    _call: Call,
 ) -> Answer
     requires valid { W.valid words.old }
-    requires here { Here (W.at words.old) (at_phase (M.phase machine post.old) post.old desk.old) }
+    requires first { M.phase machine post.old ≡ first_phase _call post.old }
     requires busy { busy_in (M.phase machine post.old) ≡ true }
+    requires here { Here (W.at words.old) (at_phase (first_phase _call post.old) post.old desk.old) }
     requires suits { M.suits post.old.layout.config.scheme }
     requires room { HasRoom desk.old post.old.layout }
     ensures valid { W.valid words.new }
@@ -57,7 +96,7 @@ fn drive<W: Words, M: CallMachine>(
     ensures room { HasRoom desk.new post.new.layout }
     ensures made { Makes (λ ops l m. Answered l ops result m) (W.at words.old) (W.at words.new)
         (W.stands words.old) (W.stands words.new)
-        (at_phase (M.phase machine post.old) post.old desk.old) (at_phase Idle post.new desk.new) }
+        (at_phase (first_phase _call post.old) post.old desk.old) (at_phase Idle post.new desk.new) }
 {
     let mut told = Told::new();
     loop {

@@ -1,5 +1,5 @@
 // A seat's steps on the shared table, and the beginning of its calls.
-ghost use Rattle.std.specs.Prelude.{◌≡◌, None, true};
+ghost use Rattle.std.specs.Prelude.{◌≡◌, None, false, true};
 ghost use Rattle.wfe_core.specs.Locals.{after, asks, begun, busy_in};
 ghost use Rattle.wfe_drive_rule.specs.Handles.{IsResting, IsSeated, IsSized};
 ghost use Rattle.wfe_drive_rule.specs.Moves.{Told};
@@ -23,13 +23,15 @@ pub fn begin(table: &Ledger, handle: &mut Handle, slot: usize, call: Call)
 }
 
 /// The next step of the handle's seat, whose call is under way: one atomic step on one word. It
-/// answers the word before, and 0 for a store.
-pub fn step(table: &Ledger, handle: &mut Handle, slot: usize, op: Op) -> u64
+/// answers the word before, and 0 for a store. At the call's first step the slot is emptied too; at
+/// the others nothing else is written.
+pub fn step(table: &Ledger, handle: &mut Handle, slot: usize, op: Op, first: bool) -> u64
     requires ids { handle.old.table_id ≡ table.now.table_id }
     requires sized { IsSized table.now.table_id table.now.key }
     requires seated { IsSeated table.now.key slot handle.old.me }
     requires busy { busy_in (standing handle.old.me).phase ≡ true }
     requires asks { op ≡ asks (standing handle.old.me) }
+    requires later { first ≡ false → call_in handle.old.me.1 ≡ None }
     ensures ids { (handle.new.table_id ≡ handle.old.table_id) × (handle.new.id ≡ handle.old.id) }
     ensures seated { IsSeated table.now.key slot handle.new.me }
     ensures slot { call_in handle.new.me.1 ≡ None }
@@ -37,7 +39,9 @@ pub fn step(table: &Ledger, handle: &mut Handle, slot: usize, op: Op) -> u64
     ensures told { Told table.now.key handle.old.me result handle.new.me.0 }
 {
     let found = perform(table, handle, op);
-    table.exchange(handle, slot, None);
+    if first {
+        table.exchange(handle, slot, None);
+    }
     found
 }
 

@@ -43,7 +43,7 @@ fn advance(table: &Ledger, handle: &mut Handle, slot: usize, layout: Layout) -> 
 {
     let clock = layout.clock();
     begin(table, handle, slot, Call::Advance);
-    let era = step(table, handle, slot, Op::Load { word: clock });
+    let era = step(table, handle, slot, Op::Load { word: clock }, true);
     if era >= layout.config().last_era as u64 {
         return None;
     }
@@ -52,7 +52,7 @@ fn advance(table: &Ledger, handle: &mut Handle, slot: usize, layout: Layout) -> 
         old: era,
         new: era + 1,
     };
-    let found = step(table, handle, slot, next);
+    let found = step(table, handle, slot, next, false);
     Some((era, found))
 }
 
@@ -121,8 +121,8 @@ fn advance_together(
     let last = layout.config().last_era as u64;
     begin(table, one, 0, Call::Advance);
     begin(table, other, 1, Call::Advance);
-    let era = step(table, one, 0, Op::Load { word: clock });
-    let late = step(table, other, 1, Op::Load { word: clock });
+    let era = step(table, one, 0, Op::Load { word: clock }, true);
+    let late = step(table, other, 1, Op::Load { word: clock }, true);
     if era >= last || late >= last {
         return None;
     }
@@ -131,13 +131,13 @@ fn advance_together(
         old: era,
         new: era + 1,
     };
-    let found = step(table, one, 0, next);
+    let found = step(table, one, 0, next, false);
     let next = Op::Cas {
         word: clock,
         old: late,
         new: late + 1,
     };
-    let missed = step(table, other, 1, next);
+    let missed = step(table, other, 1, next, false);
     Some((found, missed))
 }
 

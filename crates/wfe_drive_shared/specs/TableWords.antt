@@ -1,12 +1,12 @@
 -- What holds of a seat's words on the shared table between their steps, and what the steps of a call leave.
 use Rattle.std.proofs.Common.{ap, refl, subst, sym, ◌∙◌}
 use Rattle.std.proofs.lemmas.List.{append-nil, append_assoc}
-use Rattle.std.specs.Prelude.{List, [], ◌++◌, ◌≡◌}
+use Rattle.std.specs.Prelude.{List, None, [], false, ◌++◌, ◌≡◌}
 use Rattle.wfe_core.specs.Locals.{Local}
 use Rattle.wfe_drive_rule.specs.history.History.{Item}
 use Rattle.wfe_drive_call.specs.Comes.{Comes}
 use Rattle.wfe_drive_rule.specs.Handles.{IsSeated, IsSized}
-use Rattle.wfe_drive_rule.specs.Views.{own, standing}
+use Rattle.wfe_drive_rule.specs.Views.{call_in, own, standing}
 use Rattle.wfe_drive_shared.specs.declared.words.TableWords.{TableWords}
 
 -- the handle is one of the table, and has its own seat with its slot
@@ -16,6 +16,8 @@ pub record IsFit (w : TableWords) : Type 0 where
   pub seated : IsSeated w.ledger.now.key w.slot w.handle.now.me
   -- a history comes to the state at which its seat stands
   pub comes : Comes (standing w.handle.now.me)
+  -- its slot holds a call at most until the call's first step
+  pub later : w.first ≡ false → call_in w.handle.now.me.1 ≡ None
 
 -- the second is the first some steps later: the same handle on the same table, and the seat's past has only grown
 pub record IsLater (v w : TableWords) : Type 0 where

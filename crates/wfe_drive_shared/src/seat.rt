@@ -80,6 +80,7 @@ impl Seat {
                 ledger,
                 handle,
                 slot,
+                first: true,
             };
             drive_call(&mut words, &mut self.post, &mut self.desk, call)
         };

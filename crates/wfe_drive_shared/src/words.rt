@@ -9,6 +9,8 @@ pub(crate) struct TableWords<'a> {
     pub(crate) ledger: &'a Ledger,
     pub(crate) handle: &'a mut Handle,
     pub(crate) slot: usize,
+    /// Whether the call has made no step yet.
+    pub(crate) first: bool,
 }
 
 impl<'a> Words for TableWords<'a> {
@@ -33,10 +35,13 @@ impl<'a> Words for TableWords<'a> {
     ghost comes = { comes_by };
 
     fn start(&mut self, call: Call) {
+        self.first = true;
         begin(self.ledger, self.handle, self.slot, call);
     }
 
     fn perform(&mut self, op: Op) -> u64 {
-        step(self.ledger, self.handle, self.slot, op)
+        let first = self.first;
+        self.first = false;
+        step(self.ledger, self.handle, self.slot, op, first)
     }
 }

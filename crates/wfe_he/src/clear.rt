@@ -13,6 +13,7 @@ pub struct HeClear {
 }
 
 impl HeClear {
+    #[inline(always)]
     pub fn new(index: u32) -> HeClear
         ensures { clear_phase result ≡ Clear index }
     {
@@ -30,6 +31,7 @@ impl Machine for HeClear {
 
     ghost ending = { λ _. Done };
 
+    #[inline(always)]
     fn next_op(&self, post: &Post) -> Op {
         Op::Store {
             word: post.layout.index(post.seat, self.index),
@@ -37,6 +39,7 @@ impl Machine for HeClear {
         }
     }
 
+    #[inline(always)]
     fn take(&mut self, post: &mut Post, _found: u64, told: &mut Told) -> Option<()> {
         let index = self.index;
         if let Some(slot) = post.standing[index as usize] {

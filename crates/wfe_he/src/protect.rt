@@ -34,6 +34,7 @@ pub struct HeProtect {
 
 impl HeProtect {
     /// A protection of the link in this word, which is a root or the next link of a row that stands.
+    #[inline(always)]
     pub fn new(post: &Post, index: u32, word: u32) -> HeProtect
         requires layout { is_valid post.now.layout ≡ true }
         requires there { RootFits post.now.layout (root_of post.now.layout word) }
@@ -59,6 +60,7 @@ impl Machine for HeProtect {
 
     ghost ending = { λ e. Protected e };
 
+    #[inline(always)]
     fn next_op(&self, post: &Post) -> Op {
         match self.at {
             At::LoadClock | At::CheckClock { .. } => Op::Load {
@@ -74,6 +76,7 @@ impl Machine for HeProtect {
         }
     }
 
+    #[inline(always)]
     fn take(&mut self, post: &mut Post, found: u64, told: &mut Told) -> Option<ProtectEnd> {
         self.steps = self.steps.saturating_add(1);
         match self.at {

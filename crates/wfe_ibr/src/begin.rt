@@ -20,6 +20,7 @@ pub struct IbrBegin {
 }
 
 impl IbrBegin {
+    #[inline(always)]
     pub fn new() -> IbrBegin
         ensures { begin_phase result ≡ Begin LoadLower }
     {
@@ -39,6 +40,7 @@ impl Machine for IbrBegin {
 
     ghost ending = { λ _. Done };
 
+    #[inline(always)]
     fn next_op(&self, post: &Post) -> Op {
         match self.at {
             BeginAt::LoadLower => Op::Load {
@@ -51,6 +53,7 @@ impl Machine for IbrBegin {
         }
     }
 
+    #[inline(always)]
     fn take(&mut self, post: &mut Post, found: u64, told: &mut Told) -> Option<()> {
         match self.at {
             BeginAt::LoadLower => {

@@ -33,6 +33,7 @@ pub struct IbrProtect {
 }
 
 // The ends of an interval; where none stands, 0.
+#[inline(always)]
 fn lower(span: Option<Interval>) -> u32
     ensures { result ≡ lower_of span }
 {
@@ -42,6 +43,7 @@ fn lower(span: Option<Interval>) -> u32
     }
 }
 
+#[inline(always)]
 fn upper(span: Option<Interval>) -> u32
     ensures { result ≡ upper_of span }
 {
@@ -53,6 +55,7 @@ fn upper(span: Option<Interval>) -> u32
 
 impl IbrProtect {
     /// A protection of the link in this word, which is a root or the next link of a row that stands.
+    #[inline(always)]
     pub fn new(post: &Post, index: u32, word: u32) -> IbrProtect
         requires layout { is_valid post.now.layout ≡ true }
         requires there { RootFits post.now.layout (root_of post.now.layout word) }
@@ -78,6 +81,7 @@ impl Machine for IbrProtect {
 
     ghost ending = { λ e. Protected e };
 
+    #[inline(always)]
     fn next_op(&self, post: &Post) -> Op {
         match self.at {
             At::LoadWithin => Op::Load {
@@ -96,6 +100,7 @@ impl Machine for IbrProtect {
         }
     }
 
+    #[inline(always)]
     fn take(&mut self, post: &mut Post, found: u64, told: &mut Told) -> Option<ProtectEnd> {
         self.steps = self.steps.saturating_add(1);
         match self.at {

@@ -10,6 +10,7 @@ use wfe_core::{Event, Guard, Machine, Op, Post, Told};
 pub struct IbrFinish {}
 
 impl IbrFinish {
+    #[inline(always)]
     pub fn new() -> IbrFinish
         ensures { finish_phase result ≡ Finish }
     {
@@ -27,6 +28,7 @@ impl Machine for IbrFinish {
 
     ghost ending = { λ _. Done };
 
+    #[inline(always)]
     fn next_op(&self, post: &Post) -> Op {
         Op::Store {
             word: post.layout.interval(post.seat),
@@ -34,6 +36,7 @@ impl Machine for IbrFinish {
         }
     }
 
+    #[inline(always)]
     fn take(&mut self, post: &mut Post, _found: u64, told: &mut Told) -> Option<()> {
         post.span = None;
         told.push(Event::Reserve {
@@ -49,6 +52,7 @@ impl Machine for IbrFinish {
 pub struct IbrRelease {}
 
 impl IbrRelease {
+    #[inline(always)]
     pub fn new() -> IbrRelease
         ensures { release_phase result ≡ Release }
     {
@@ -66,6 +70,7 @@ impl Machine for IbrRelease {
 
     ghost ending = { λ _. Done };
 
+    #[inline(always)]
     fn next_op(&self, post: &Post) -> Op {
         Op::Store {
             word: post.layout.interval(post.seat),
@@ -73,6 +78,7 @@ impl Machine for IbrRelease {
         }
     }
 
+    #[inline(always)]
     fn take(&mut self, post: &mut Post, _found: u64, told: &mut Told) -> Option<()> {
         if let Some(slot) = post.standing[2] {
             told.push(Event::Clear { index: 2, slot });

@@ -29,6 +29,7 @@ impl<S: Scheme> Follow<S> {
     /// A follow that has made no step, of the next link of the parent, a row that stands at another
     /// index of the seat. The root, by its word's number, is the queue's head, which has that number at
     /// each step, as the layout stays the same.
+    #[inline(always)]
     pub fn new(post: &Post, root: u32, parent: u32, index: u32) -> Follow<S>
         requires valid { IsValid post.now }
         requires head { root ≡ number post.now.layout Head }
@@ -55,6 +56,7 @@ impl<S: Scheme> Machine for Follow<S> {
 
     ghost ending = { λ e. Followed e };
 
+    #[inline(always)]
     fn next_op(&self, post: &Post) -> Op {
         match &self.at {
             At::Protecting(protect) => protect.next_op(post),
@@ -64,6 +66,7 @@ impl<S: Scheme> Machine for Follow<S> {
         }
     }
 
+    #[inline(always)]
     fn take(&mut self, post: &mut Post, found: u64, told: &mut Told) -> Option<FollowEnd> {
         self.steps = self.steps.saturating_add(1);
         match &mut self.at {

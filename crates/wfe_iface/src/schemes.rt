@@ -49,22 +49,27 @@ impl Scheme for He {
 
     ghost released = { λ e. refl };
 
+    #[inline(always)]
     fn begin(_post: &Post) -> Option<IbrBegin> {
         None
     }
 
+    #[inline(always)]
     fn protect(post: &Post, index: u32, word: u32) -> HeProtect {
         HeProtect::new(post, index, word)
     }
 
+    #[inline(always)]
     fn clear(_post: &mut Post, index: u32, _told: &mut Told) -> Option<HeClear> {
         Some(HeClear::new(index))
     }
 
+    #[inline(always)]
     fn finish(_post: &Post) -> Option<IbrFinish> {
         None
     }
 
+    #[inline(always)]
     fn release() -> HeClear {
         HeClear::new(2)
     }
@@ -101,6 +106,7 @@ impl Scheme for Ibr {
 
     ghost released = { λ e. refl };
 
+    #[inline(always)]
     fn begin(post: &Post) -> Option<IbrBegin> {
         match post.span {
             Some(_) => None,
@@ -108,10 +114,12 @@ impl Scheme for Ibr {
         }
     }
 
+    #[inline(always)]
     fn protect(post: &Post, index: u32, word: u32) -> IbrProtect {
         IbrProtect::new(post, index, word)
     }
 
+    #[inline(always)]
     fn clear(post: &mut Post, index: u32, told: &mut Told) -> Option<HeClear> {
         if let Some(slot) = post.standing[index as usize] {
             told.push(Event::Clear { index, slot });
@@ -120,6 +128,7 @@ impl Scheme for Ibr {
         None
     }
 
+    #[inline(always)]
     fn finish(post: &Post) -> Option<IbrFinish> {
         if post.standing[2].is_some() {
             return None;
@@ -127,6 +136,7 @@ impl Scheme for Ibr {
         Some(IbrFinish::new())
     }
 
+    #[inline(always)]
     fn release() -> IbrRelease {
         IbrRelease::new()
     }
@@ -163,22 +173,27 @@ impl Scheme for Wfe {
 
     ghost released = { λ e. refl };
 
+    #[inline(always)]
     fn begin(_post: &Post) -> Option<IbrBegin> {
         None
     }
 
+    #[inline(always)]
     fn protect(post: &Post, index: u32, word: u32) -> WfeProtect {
         WfeProtect::new(post, index, word)
     }
 
+    #[inline(always)]
     fn clear(_post: &mut Post, index: u32, _told: &mut Told) -> Option<HeClear> {
         Some(HeClear::new(index))
     }
 
+    #[inline(always)]
     fn finish(_post: &Post) -> Option<IbrFinish> {
         None
     }
 
+    #[inline(always)]
     fn release() -> HeClear {
         HeClear::new(2)
     }

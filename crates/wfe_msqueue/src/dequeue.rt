@@ -35,6 +35,7 @@ pub struct Dequeue<S: Scheme> {
 
 impl<S: Scheme> Dequeue<S> {
     /// A dequeue that has made no step.
+    #[inline(always)]
     pub fn new() -> Dequeue<S>
         ensures { (post : ModelPost) → ⟦<Dequeue<S> as CallMachine>⟧.phase result post ≡ round Dequeues post }
     {
@@ -42,6 +43,7 @@ impl<S: Scheme> Dequeue<S> {
     }
 
     // A round is over: another begins, or the call answers, or the row that was cut is retired.
+    #[inline(always)]
     fn closed(&mut self, ending: DequeueEnd) -> Option<Answer>
         ensures { (post : ModelPost) (desk : ModelDesk) (told : List Event) → Steps (model_closed Dequeues (next_of ending) post desk told) post desk told result (dequeue_phase ⟦<S as Rounds>⟧.all_phases ⟦<Follow<S> as Machine>⟧.phase self.new.at post) }
     {
@@ -63,6 +65,7 @@ impl<S: Scheme> Dequeue<S> {
     }
 
     // A round ends: index 0 is cleared, and then comes what the scheme ends with.
+    #[inline(always)]
     fn close(&mut self, ending: DequeueEnd, post: &mut Post, told: &mut Told) -> Option<Answer>
         requires valid { IsValid post.old }
         requires scheme { post.old.layout.config.scheme ≡ S.kind }
@@ -80,6 +83,7 @@ impl<S: Scheme> Dequeue<S> {
     }
 
     // A round ends: index 1 is cleared first.
+    #[inline(always)]
     fn clear_next(&mut self, ending: DequeueEnd, post: &mut Post, told: &mut Told) -> Option<Answer>
         requires valid { IsValid post.old }
         requires scheme { post.old.layout.config.scheme ≡ S.kind }
@@ -97,6 +101,7 @@ impl<S: Scheme> Dequeue<S> {
     }
 
     // The head is protected, and leads to a row.
+    #[inline(always)]
     fn reach(&mut self, end: ProtectEnd, post: &mut Post, told: &mut Told) -> Option<Answer>
         requires valid { IsValid post.old }
         requires scheme { post.old.layout.config.scheme ≡ S.kind }
@@ -114,6 +119,7 @@ impl<S: Scheme> Dequeue<S> {
     }
 
     // A step of the work leads on.
+    #[inline(always)]
     fn lead(&mut self, step: Dequeued, post: &mut Post, told: &mut Told) -> Option<Answer>
         requires valid { IsValid post.old }
         requires scheme { post.old.layout.config.scheme ≡ S.kind }
@@ -138,6 +144,7 @@ impl<S: Scheme> Dequeue<S> {
 
     // The protection of the row after the head's is over: the tail lags, or the row is read, or there
     // is none.
+    #[inline(always)]
     fn followed(
         &mut self,
         head: u32,
@@ -163,6 +170,7 @@ impl<S: Scheme> Dequeue<S> {
     }
 
     // The first step of a round.
+    #[inline(always)]
     fn start(&mut self, post: &mut Post, desk: &Desk, found: u64, told: &mut Told) -> Option<Answer>
         requires valid { IsValid post.old }
         requires scheme { post.old.layout.config.scheme ≡ S.kind }
@@ -182,6 +190,7 @@ impl<S: Scheme> Dequeue<S> {
     }
 
     // A step, with its events besides End.
+    #[inline(always)]
     fn step(
         &mut self,
         post: &mut Post,
@@ -244,6 +253,7 @@ impl<S: Scheme> Dequeue<S> {
 }
 
 // The work once the row after the head's is held: a tail that lags is moved on first.
+#[inline(always)]
 fn after_follow(head: u32, tail: u64, next: u32) -> DequeueAt
     ensures { (post : ModelPost) (desk : ModelDesk) (told : List Event) → followed_row head next post desk told (tail == head + 1) ≡ led (Goes result) post desk told }
 {
@@ -260,6 +270,7 @@ impl<S: Scheme> CallMachine for Dequeue<S> {
 
     ghost phase = { λ m post. dequeue_phase ⟦<S as Rounds>⟧.all_phases ⟦<Follow<S> as Machine>⟧.phase m.at post };
 
+    #[inline(always)]
     fn next_op(&self, post: &Post, _desk: &Desk) -> Op {
         match &self.at {
             State::Starts => open::<S>(post, 0, Root::Head).next_op(post),
@@ -272,6 +283,7 @@ impl<S: Scheme> CallMachine for Dequeue<S> {
         }
     }
 
+    #[inline(always)]
     fn take(
         &mut self,
         post: &mut Post,

@@ -50,6 +50,7 @@ pub enum DequeueEnd {
 
 impl DequeueEnd {
     // Another round comes at once.
+    #[inline(always)]
     pub fn is_again(&self) -> bool
         ensures { result ≡ is_again (next_of self.now) }
     {
@@ -67,6 +68,7 @@ pub enum Dequeued {
 
 impl DequeueAt {
     // The operation of the step.
+    #[inline(always)]
     pub fn next_op(&self, post: &Post) -> Op
         requires valid { IsValid post.now }
         requires ready { dequeue_ready (at_of self.now) post.now }
@@ -96,6 +98,7 @@ impl DequeueAt {
     }
 
     // What the word that was found leads to. An exchange is told.
+    #[inline(always)]
     pub fn take(self, post: &Post, found: u64, told: &mut Told) -> Dequeued
         requires ready { dequeue_ready (at_of self) post.now }
         requires empty { told.old ≡ [] }
@@ -143,6 +146,7 @@ impl DequeueAt {
 }
 
 // Tells that the head has passed a row, and that the item after it is taken.
+#[inline(always)]
 fn tell_taken(told: &mut Told, head: u32, next: u32, number: u64, value: u64)
     requires { told.old ≡ [] }
     ensures { told.new ≡ LinkTold Head next ∷ CutTold head ∷ TakenTold number value ∷ [] }

@@ -36,6 +36,7 @@ pub struct Enqueue<S: Scheme> {
 
 impl<S: Scheme> Enqueue<S> {
     /// An enqueue of the value that has made no step.
+    #[inline(always)]
     pub fn new(value: u64) -> Enqueue<S>
         ensures { (post : ModelPost) → ⟦<Enqueue<S> as CallMachine>⟧.phase result post ≡ round (Enqueues (record { value = value; taken = None; walked = false; tail = 0; number = 0 })) post }
     {
@@ -53,6 +54,7 @@ impl<S: Scheme> Enqueue<S> {
 
     // A round is over: another begins, at once or after a scan, or the call answers. A row that was not
     // linked is given up first.
+    #[inline(always)]
     fn closed(&mut self, ending: EnqueueEnd) -> Option<Answer>
         ensures steps { (post : ModelPost) (desk : ModelDesk) (told : List Event) → post.layout.config.scheme ≡ S.kind → Steps (model_closed (Enqueues (kept_of self.old.kept)) (next_of ending) post desk told) post desk told result (enqueue_phase ⟦<S as Rounds>⟧.all_phases (kept_of self.new.kept) self.new.at post) }
         ensures kept { self.new.kept ≡ self.old.kept }
@@ -77,6 +79,7 @@ impl<S: Scheme> Enqueue<S> {
     }
 
     // A round ends: index 0 is cleared, and then comes what the scheme ends with.
+    #[inline(always)]
     fn close(&mut self, ending: EnqueueEnd, post: &mut Post, told: &mut Told) -> Option<Answer>
         requires valid { IsValid post.old }
         requires scheme { post.old.layout.config.scheme ≡ S.kind }
@@ -94,6 +97,7 @@ impl<S: Scheme> Enqueue<S> {
     }
 
     // The tail is protected, and leads to a row.
+    #[inline(always)]
     fn reach(&mut self, end: ProtectEnd, post: &mut Post, told: &mut Told) -> Option<Answer>
         requires valid { IsValid post.old }
         requires scheme { post.old.layout.config.scheme ≡ S.kind }
@@ -112,6 +116,7 @@ impl<S: Scheme> Enqueue<S> {
     }
 
     // The row is written: the next number, and the value.
+    #[inline(always)]
     fn write(&mut self, slot: u32)
         requires { self.old.kept.number + 1 < 18446744073709551616 }
         ensures phase { (post : ModelPost) → enqueue_phase ⟦<S as Rounds>⟧.all_phases (kept_of self.new.kept) self.new.at post ≡ Runs (Fills (Enqueues (kept_of self.old.kept))) (writing slot (new_item (kept_of self.old.kept))) }
@@ -124,6 +129,7 @@ impl<S: Scheme> Enqueue<S> {
     }
 
     // A step of the work leads on.
+    #[inline(always)]
     fn lead(&mut self, step: Enqueued, post: &mut Post, told: &mut Told) -> Option<Answer>
         requires valid { IsValid post.old }
         requires scheme { post.old.layout.config.scheme ≡ S.kind }
@@ -149,6 +155,7 @@ impl<S: Scheme> Enqueue<S> {
     }
 
     // A walk for a row is over. Where it has failed for the first time, a scan may make room.
+    #[inline(always)]
     fn allocated(&mut self, end: AllocateEnd, post: &mut Post, told: &mut Told) -> Option<Answer>
         requires valid { IsValid post.old }
         requires scheme { post.old.layout.config.scheme ≡ S.kind }
@@ -172,6 +179,7 @@ impl<S: Scheme> Enqueue<S> {
     }
 
     // The row is written: it is to be linked.
+    #[inline(always)]
     fn written(&mut self) -> Option<Answer>
         ensures { (post : ModelPost) (desk : ModelDesk) (told : List Event) → Steps (written_row (Enqueues (kept_of self.old.kept)) post desk told) post desk told result (enqueue_phase ⟦<S as Rounds>⟧.all_phases (kept_of self.new.kept) self.new.at post) }
     {
@@ -184,6 +192,7 @@ impl<S: Scheme> Enqueue<S> {
     }
 
     // The first step of a round.
+    #[inline(always)]
     fn start(&mut self, post: &mut Post, desk: &Desk, found: u64, told: &mut Told) -> Option<Answer>
         requires valid { IsValid post.old }
         requires scheme { post.old.layout.config.scheme ≡ S.kind }
@@ -203,6 +212,7 @@ impl<S: Scheme> Enqueue<S> {
     }
 
     // A step, with its events besides End.
+    #[inline(always)]
     fn step(
         &mut self,
         post: &mut Post,
@@ -263,6 +273,7 @@ impl<S: Scheme> Enqueue<S> {
 }
 
 // How a round ends in which no row was free: the second walk of a call answers.
+#[inline(always)]
 fn no_room(walked: bool) -> EnqueueEnd
     ensures { next_of result ≡ model_no_room walked }
 {
@@ -281,6 +292,7 @@ impl<S: Scheme> CallMachine for Enqueue<S> {
 
     ghost phase = { λ m post. enqueue_phase ⟦<S as Rounds>⟧.all_phases (kept_of m.kept) m.at post };
 
+    #[inline(always)]
     fn next_op(&self, post: &Post, _desk: &Desk) -> Op {
         match &self.at {
             State::Starts => open::<S>(post, 0, Root::Tail).next_op(post),
@@ -294,6 +306,7 @@ impl<S: Scheme> CallMachine for Enqueue<S> {
         }
     }
 
+    #[inline(always)]
     fn take(
         &mut self,
         post: &mut Post,

@@ -45,6 +45,7 @@ pub enum EnqueueEnd {
 
 impl EnqueueEnd {
     // Another round comes at once.
+    #[inline(always)]
     pub fn is_again(&self) -> bool
         ensures { result ≡ is_again (next_of self.now) }
     {
@@ -62,6 +63,7 @@ pub enum Enqueued {
 
 impl EnqueueAt {
     // The operation of the step.
+    #[inline(always)]
     pub fn next_op(&self, kept: &Kept, post: &Post) -> Op
         requires valid { IsValid post.now }
         requires fits { EnqueueFits post.now (kept_of kept.now) }
@@ -94,6 +96,7 @@ impl EnqueueAt {
     }
 
     // What the word that was found leads to. An exchange is told.
+    #[inline(always)]
     pub fn take(self, kept: &mut Kept, post: &Post, found: u64, told: &mut Told) -> Enqueued
         requires valid { IsValid post.now }
         requires fits { EnqueueFits post.now (kept_of kept.old) }
@@ -144,6 +147,7 @@ impl EnqueueAt {
 }
 
 // Tells that the tail's row leads to the new one, and that the item has the next number.
+#[inline(always)]
 fn tell_queued(told: &mut Told, kept: &Kept, slot: u32)
     requires empty { told.old ≡ [] }
     requires number { kept.now.number + 1 < 18446744073709551616 }

@@ -27,6 +27,7 @@ pub struct Allocate {
 impl Allocate {
     /// An allocation of a seat that has made no step. The walk begins at the seat's cursor, which the
     /// machine reads from the post that its first step is given; it keeps nothing of this one.
+    #[inline(always)]
     pub fn new(post: &Post) -> Allocate
         ensures { allocate_phase result ≡ Allocating LoadBirth }
     {
@@ -44,6 +45,7 @@ impl Machine for Allocate {
 
     ghost ending = { λ end. Allocated end };
 
+    #[inline(always)]
     fn next_op(&self, post: &Post) -> Op {
         match self.at {
             At::LoadBirth => Op::Load {
@@ -60,6 +62,7 @@ impl Machine for Allocate {
         }
     }
 
+    #[inline(always)]
     fn take(&mut self, post: &mut Post, found: u64, told: &mut Told) -> Option<AllocateEnd> {
         let slots = post.layout.config().slots;
         match self.at {

@@ -13,6 +13,7 @@ pub struct GiveUp {
 
 impl GiveUp {
     /// The giving up of the row at this slot.
+    #[inline(always)]
     pub fn new(slot: u32) -> GiveUp
         ensures { give_up_phase result ≡ GivingUp slot }
     {
@@ -31,6 +32,7 @@ impl Machine for GiveUp {
 
     ghost ending = { λ _. Done };
 
+    #[inline(always)]
     fn next_op(&self, post: &Post) -> Op {
         Op::And {
             word: post.layout.claim(self.slot),
@@ -38,6 +40,7 @@ impl Machine for GiveUp {
         }
     }
 
+    #[inline(always)]
     fn take(&mut self, _post: &mut Post, _found: u64, told: &mut Told) -> Option<()> {
         told.push(Event::Unused { slot: self.slot });
         Some(())

@@ -24,6 +24,7 @@ pub enum Row {
 
 impl Row {
     // The places of the first and the last word that are written.
+    #[inline(always)]
     fn first(&self) -> u32
         ensures { result ≡ first_written (row_of self.now) }
     {
@@ -33,6 +34,7 @@ impl Row {
         }
     }
 
+    #[inline(always)]
     fn last(&self) -> u32
         requires few { pair_count self.now ≤ 14 }
         ensures { result ≡ last_written (row_of self.now) }
@@ -44,6 +46,7 @@ impl Row {
     }
 
     // The word at a place.
+    #[inline(always)]
     fn word(&self, place: u32) -> u64
         requires few { pair_count self.now ≤ 14 }
         requires from { first_written (row_of self.now) ≤ place }
@@ -73,6 +76,7 @@ impl Row {
 }
 
 // The words of pairs: keys and values by turns.
+#[inline(always)]
 fn pair_word(pairs: &[(u64, u64)], word: u32) -> u64
     requires { word < 2 * length pairs.now }
     ensures { result ≡ model_pair_word pairs.now (word + 3) }
@@ -95,6 +99,7 @@ impl WriteRow {
     ghost use Rattle.wfe_slots.specs.Writes.{write_phase};
 
     /// The first word of this row's writing, in the row at this slot.
+    #[inline(always)]
     pub fn new(slot: u32, row: Row) -> WriteRow
         requires few { pair_count row ≤ 14 }
         ensures { write_phase result ≡ writing slot (row_of row) }
@@ -117,6 +122,7 @@ impl Machine for WriteRow {
 
     ghost ending = { λ _. Done };
 
+    #[inline(always)]
     fn next_op(&self, post: &Post) -> Op {
         Op::Store {
             word: post.layout.row(self.slot, self.place),
@@ -124,6 +130,7 @@ impl Machine for WriteRow {
         }
     }
 
+    #[inline(always)]
     fn take(&mut self, _post: &mut Post, _found: u64, _told: &mut Told) -> Option<()> {
         if self.place == self.row.last() {
             return Some(());

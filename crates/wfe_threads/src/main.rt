@@ -22,9 +22,9 @@ use worker::{PAIRS, TRIES, Worker};
 const NO_MEMORY: &str = "memory ran out";
 
 // Rows are fewer than those that the workers take in all, so that rows have to be used again.
-fn setting(seats: u32) -> Config {
+fn setting(scheme: SchemeKind, seats: u32) -> Config {
     Config {
-        scheme: SchemeKind::Wfe,
+        scheme,
         seats,
         indexes: 3,
         slots: 4_096,
@@ -42,6 +42,7 @@ fn work<R: Threads + Sync>(
     rt: &R,
     shared: &Shared,
     seats: Vec<Seat>,
+    bounded: bool,
 ) -> Result<Vec<Worker>, &'static str>
     requires of { All (λ seat. IsOf seat shared.now) seats.items }
     ensures of { IfOk result (λ workers. All (λ worker. IsOf worker.seat shared.now) workers.items) }
@@ -53,7 +54,7 @@ fn work<R: Threads + Sync>(
             requires { IsOf seat shared.now }
             ensures { IsOf result.seat shared.entry.now }
         {
-            let mut worker = Worker::new(seat);
+            let mut worker = Worker::new(seat, bounded);
             worker.work(shared);
             worker
         },
@@ -89,28 +90,35 @@ fn hand_back(
 }
 
 // A table with so many seats, from its making to its end.
-fn run<R: Threads + Sync + Print + AllocGlobal>(rt: &R, count: u32) -> Result<(), &'static str> {
+fn run<R: Threads + Sync + Print + AllocGlobal>(
+    rt: &R,
+    scheme: SchemeKind,
+    count: u32,
+) -> Result<(), &'static str> {
     let alloc = rt.alloc();
-    let Ok((shared, seats)) = Shared::new(alloc, setting(count)) else {
+    let Ok((shared, seats)) = Shared::new(alloc, setting(scheme, count)) else {
         return Err("no table was made");
     };
-    let workers = work(rt, &shared, seats)?;
+    let bounded = scheme == SchemeKind::Wfe;
+    let workers = work(rt, &shared, seats, bounded)?;
     let (seats, tally, retired) = hand_back(alloc, &shared, workers)?;
     let Ok(closed) = shared.close(alloc, seats) else {
         return Err("the table was not closed");
     };
     let ended = Ended::new(tally, retired, &closed);
-    if print_report(rt, count, &ended).is_err() {
+    if print_report(rt, scheme, count, &ended).is_err() {
         return Err("standard output failed");
     }
     ended.judge()
 }
 
 fn main(rt: HostRuntime) -> ExitCode {
-    for count in [2, 4] {
-        if let Err(fault) = run(&rt, count) {
-            let _ = eprintln!(rt; "{fault}");
-            return ExitCode::FAILURE;
+    for scheme in [SchemeKind::He, SchemeKind::Ibr, SchemeKind::Wfe] {
+        for count in [2, 4] {
+            if let Err(fault) = run(&rt, scheme, count) {
+                let _ = eprintln!(rt; "{fault}");
+                return ExitCode::FAILURE;
+            }
         }
     }
     ExitCode::SUCCESS

@@ -3,7 +3,7 @@
 use crate::tally::{BUCKETS, Tally, Values};
 use crate::worker::{GET_STEPS, HOLD_STEPS};
 use std::io;
-use wfe_drive_shared::Closed;
+use wfe_drive_shared::{Closed, SchemeKind};
 
 /// What the workers counted beside what the closed table holds.
 #[derive(Clone, Copy)]
@@ -96,10 +96,15 @@ impl Ended {
 }
 
 /// Prints what must come out of so many workers' calls.
-pub fn print_report<R: Print>(rt: &R, workers: u32, ended: &Ended) -> io::Result<()> {
+pub fn print_report<R: Print>(
+    rt: &R,
+    scheme: SchemeKind,
+    workers: u32,
+    ended: &Ended,
+) -> io::Result<()> {
     let tally = &ended.tally;
     let calls = tally.calls;
-    println!(rt; "{workers} threads, {calls} calls")?;
+    println!(rt; "{scheme:?}: {workers} threads, {calls} calls")?;
     for bucket in 0..BUCKETS {
         let (changes, version) = (tally.changes[bucket], ended.versions[bucket]);
         println!(rt; "bucket {bucket}: {changes} changes, version {version}")?;
@@ -109,9 +114,12 @@ pub fn print_report<R: Print>(rt: &R, workers: u32, ended: &Ended) -> io::Result
     let queue = ended.left.count.saturating_add(1);
     println!(rt; "rows: {rows} of buckets, {queue} of the queue, {retired} retired, {used} taken")?;
     let (wrong, refused, long) = (tally.wrong, tally.refused, tally.long);
-    let (get, hold) = (GET_STEPS, HOLD_STEPS);
     println!(rt; "answers that were wrong: {wrong}, refused: {refused}")?;
-    println!(rt; "gets over {get} steps and holds over {hold} steps: {long}")
+    if scheme == SchemeKind::Wfe {
+        let (get, hold) = (GET_STEPS, HOLD_STEPS);
+        println!(rt; "gets over {get} steps and holds over {hold} steps: {long}")?;
+    }
+    Ok(())
 }
 
 // Which values were left depends on the order of the threads: what they and the taken ones add up to

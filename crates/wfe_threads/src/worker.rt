@@ -23,16 +23,19 @@ pub struct Worker {
     pub seat: Seat,
     /// What was counted of its calls.
     pub tally: Tally,
+    /// Whether the scheme bounds the steps of its gets and holds.
+    bounded: bool,
 }
 
 impl Worker {
     /// A worker that has made no call.
-    pub fn new(seat: Seat) -> Worker
+    pub fn new(seat: Seat, bounded: bool) -> Worker
         ensures { result.seat ≡ seat }
     {
         Worker {
             seat,
             tally: Tally::none(),
+            bounded,
         }
     }
 
@@ -130,12 +133,23 @@ impl Worker {
         u64::from(self.seat.number()) % WORKERS as u64
     }
 
+    // The call that was made last, of at most so many steps where the scheme bounds them.
+    fn count(&mut self, most: u64)
+        ensures { self.new.seat ≡ self.old.seat }
+    {
+        if self.bounded {
+            self.tally.call_within(self.seat.notes().steps, most);
+        } else {
+            self.tally.call();
+        }
+    }
+
     fn get(&mut self, shared: &Shared, key: u64) -> Got
         requires of { IsOf self.old.seat shared.now }
         ensures of { IsOf self.new.seat shared.now }
     {
         let got = shared.get(&mut self.seat, key);
-        self.tally.call_within(self.seat.notes().steps, GET_STEPS);
+        self.count(GET_STEPS);
         got
     }
 
@@ -199,7 +213,7 @@ impl Worker {
         ensures of { IsOf self.new.seat shared.now }
     {
         let slot = shared.hold(&mut self.seat, key);
-        self.tally.call_within(self.seat.notes().steps, HOLD_STEPS);
+        self.count(HOLD_STEPS);
         self.tally.judge(slot.is_some());
     }
 

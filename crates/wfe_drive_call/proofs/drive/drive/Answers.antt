@@ -1,10 +1,12 @@
 -- Each operation is the one that the call's state asks for, whichever state that is.
-use Rattle.std.proofs.Common.{rules, List, ℕ}
+use Rattle.std.proofs.Common.{rules, List, ap, subst, sym, ℕ, ◌≡◌}
 use Rattle.wfe_core.specs.declared.op.Op.{Op}
 use Rattle.wfe_core.specs.Calls.{Phase}
 use Rattle.wfe_core.specs.Locals.{Local}
+use Rattle.wfe_core.specs.Steps.{first_phase}
 use Rattle.wfe_drive_cells.specs.Unit.{SeatView}
-use Rattle.wfe_drive_call.specs.Called.{Here, at_phase}
+use Rattle.wfe_drive_call.specs.Called.{Here, Makes, at_phase}
+use Rattle.wfe_drive_call.specs.Ran.{Ran}
 use Rattle.wfe_drive_call.specs.Readiness.{MayTake}
 use Rattle.wfe_drive_call.proofs.Makes.{asks_at, here_after, makes_answer, makes_more, makes_none, may_ask_at, takes_at, took_busy}
 use Rattle.wfe_drive_call.proofs.drive.drive.Goals as goal
@@ -13,8 +15,13 @@ pub loop-answer-init : goal.loop-answer-init
 loop-answer-init g c =
     let at : Local → Type 0 = g.W.Words.at c.args.words.now in
     let stands : List (Op × ℕ) → Type 0 = g.W.Words.stands c.args.words.now in
-    let seat : SeatView = at_phase (g.M.CallMachine.phase c.args.machine c.args.post.now) c.args.post.now c.args.desk.now in
-    let h : Here at seat = c.requires.here in
+    let phase : Phase = g.M.CallMachine.phase c.args.machine c.args.post.now in
+    let seat : SeatView = at_phase phase c.args.post.now c.args.desk.now in
+    let begins : Phase = first_phase c.args._call c.args.post.now in
+    let first : SeatView = at_phase begins c.args.post.now c.args.desk.now in
+    let e : begins ≡ phase = sym c.requires.first in
+    let same : first ≡ seat = ap (λ (phase : Phase). at_phase phase c.args.post.now c.args.desk.now) e in
+    let h : Here at seat = subst (Here at) same c.requires.here in
     record {
       valid = c.requires.valid;
       same = g.W.Words.same_self c.args.words.now;
@@ -23,7 +30,7 @@ loop-answer-init g c =
       ready = may_ask_at h.local seat (g.W.Words.comes c.args.words.now h.local c.requires.valid h.there) h.is;
       suits = c.requires.suits;
       room = c.requires.room;
-      made = makes_none at stands seat;
+      made = subst (λ (v : SeatView). Makes (λ ops l m. Ran l ops m) at at stands stands v seat) (sym same) (makes_none at stands seat);
     }
 
 pub perform-found-requires-clause-asks : goal.perform-found-requires-clause-asks
@@ -45,7 +52,7 @@ returns-in-Some-clause-same g c = g.W.Words.same_on _ _ _ c.loop-answer.invarian
 
 pub returns-in-Some-clause-made : goal.returns-in-Some-clause-made
 returns-in-Some-clause-made g c =
-    let first : SeatView = at_phase (g.M.CallMachine.phase c.args.machine c.args.post.now) c.args.post.now c.args.desk.now in
+    let first : SeatView = at_phase (first_phase c.args._call c.args.post.now) c.args.post.now c.args.desk.now in
     let seat : SeatView = at_phase (g.M.CallMachine.phase c.loop-answer.machine c.loop-answer.post) c.loop-answer.post c.loop-answer.desk in
     let i = c.loop-answer.invariant in
     let s = c.perform-found.ensures in
@@ -54,7 +61,7 @@ returns-in-Some-clause-made g c =
 
 pub loop-answer-preserved : goal.loop-answer-preserved
 loop-answer-preserved g c =
-    let first : SeatView = at_phase (g.M.CallMachine.phase c.args.machine c.args.post.now) c.args.post.now c.args.desk.now in
+    let first : SeatView = at_phase (first_phase c.args._call c.args.post.now) c.args.post.now c.args.desk.now in
     let seat : SeatView = at_phase (g.M.CallMachine.phase c.loop-answer.machine c.loop-answer.post) c.loop-answer.post c.loop-answer.desk in
     let before : Local → Type 0 = g.W.Words.at c.loop-answer.words in
     let later : Local → Type 0 = g.W.Words.at c.perform-found.new.self in

@@ -1,6 +1,7 @@
 use Rattle.std.proofs.Common.{true, ◌≡◌}
 use Rattle.wfe_core.specs.DeskHeld.{HasRoom}
 use Rattle.wfe_core.specs.Locals.{busy_in}
+use Rattle.wfe_core.specs.Steps.{first_phase}
 use Rattle.wfe_drive_call.specs.Called.{Here, Makes, at_phase}
 use Rattle.wfe_drive_call.specs.Ran.{Ran}
 use Rattle.wfe_drive_call.specs.Readiness.{MayAsk}
@@ -20,7 +21,7 @@ invariant-loop-answer g l =
       suits : g.M.CallMachine.suits l.post.layout.config.scheme;
       room : HasRoom l.desk l.post.layout;
       made : Makes (λ ops k m. Ran k ops m) (words.at l.fn.words) (words.at l.words) (words.stands l.fn.words) (words.stands l.words)
-          (at_phase (phase l.fn.machine l.fn.post) l.fn.post l.fn.desk) (at_phase (phase l.machine l.post) l.post l.desk);
+          (at_phase (first_phase l.fn._call l.fn.post) l.fn.post l.fn.desk) (at_phase (phase l.machine l.post) l.post l.desk);
     }
 
 abbrev pub decreases-loop-answer : goal.decreases-loop-answer

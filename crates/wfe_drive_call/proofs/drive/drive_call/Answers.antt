@@ -1,5 +1,5 @@
 -- A call that begins is the machine's at its first step, and what the machine has made the call has made.
-use Rattle.std.proofs.Common.{ap, sym, ◌∙◌, ◌≡◌}
+use Rattle.std.proofs.Common.{ap, refl, sym, ◌∙◌, ◌≡◌}
 use Rattle.wfe_core.specs.words.declared.config.Config.{Config}
 use Rattle.wfe_core.specs.words.declared.config.SchemeKind.TheVariants as kinds
 use Rattle.wfe_core.specs.Calls.{Idle}
@@ -18,15 +18,15 @@ returns-in-He g c =
     let desk : HeldDesk = record c.args.desk.now { notes = c.clear.new.self } in
     let cleared : desk_of desk ≡ record (desk_of c.args.desk.now) { notes = no_notes } = ap (λ (notes : Notes). let held : Desk = record (desk_of c.args.desk.now) { notes = notes } in held) c.clear.ensures.empty in
     let called =
-    called_by (words.at c.args.words.now) (words.at c.start.new.self) (words.at c.drive.new.words) (words.stands c.args.words.now) (words.stands c.start.new.self) (words.stands c.drive.new.words) c.args.call c.drive.result c.args.post.now c.args.desk.now desk _
-    (at_phase Idle c.drive.new.post c.drive.new.desk) c.start.ensures.at c.start.ensures.stands (c.begin.ensures.phase (begun_post c.args.post.now) kind) cleared c.drive.ensures.made in
-    let over : Over (words.at c.drive.new.words) c.args.call c.drive.result c.args.post.now c.drive.new.post c.drive.new.desk =
-    over_by (words.at c.args.words.now) (words.at c.drive.new.words) (words.stands c.args.words.now) (words.stands c.drive.new.words) c.args.call c.drive.result c.args.post.now c.args.desk.now c.drive.new.post c.drive.new.desk c.requires.here called in
+    called_by (words.at c.args.words.now) (words.at c.start.new.self) (words.at c.drive_under.new.words) (words.stands c.args.words.now) (words.stands c.start.new.self) (words.stands c.drive_under.new.words) c.args.call c.drive_under.result c.args.post.now c.args.desk.now desk _
+    (at_phase Idle c.drive_under.new.post c.drive_under.new.desk) c.start.ensures.at c.start.ensures.stands refl cleared c.drive_under.ensures.made in
+    let over : Over (words.at c.drive_under.new.words) c.args.call c.drive_under.result c.args.post.now c.drive_under.new.post c.drive_under.new.desk =
+    over_by (words.at c.args.words.now) (words.at c.drive_under.new.words) (words.stands c.args.words.now) (words.stands c.drive_under.new.words) c.args.call c.drive_under.result c.args.post.now c.args.desk.now c.drive_under.new.post c.drive_under.new.desk c.requires.here called in
     record {
-      valid = c.drive.ensures.valid;
-      same = words.same_on _ _ _ c.start.ensures.same c.drive.ensures.same;
+      valid = c.drive_under.ensures.valid;
+      same = words.same_on _ _ _ c.start.ensures.same c.drive_under.ensures.same;
       here = over.here;
-      room = c.drive.ensures.room;
+      room = c.drive_under.ensures.room;
       place = over.place;
       suits = over.suits;
       called = called;
@@ -39,15 +39,15 @@ returns-in-Ibr g c =
     let desk : HeldDesk = record c.args.desk.now { notes = c.clear.new.self } in
     let cleared : desk_of desk ≡ record (desk_of c.args.desk.now) { notes = no_notes } = ap (λ (notes : Notes). let held : Desk = record (desk_of c.args.desk.now) { notes = notes } in held) c.clear.ensures.empty in
     let called =
-    called_by (words.at c.args.words.now) (words.at c.start.new.self) (words.at c.drive-in-Ibr.new.words) (words.stands c.args.words.now) (words.stands c.start.new.self) (words.stands c.drive-in-Ibr.new.words) c.args.call c.drive-in-Ibr.result c.args.post.now c.args.desk.now desk _
-    (at_phase Idle c.drive-in-Ibr.new.post c.drive-in-Ibr.new.desk) c.start.ensures.at c.start.ensures.stands (c.begin-in-Ibr.ensures.phase (begun_post c.args.post.now) kind) cleared c.drive-in-Ibr.ensures.made in
-    let over : Over (words.at c.drive-in-Ibr.new.words) c.args.call c.drive-in-Ibr.result c.args.post.now c.drive-in-Ibr.new.post c.drive-in-Ibr.new.desk =
-    over_by (words.at c.args.words.now) (words.at c.drive-in-Ibr.new.words) (words.stands c.args.words.now) (words.stands c.drive-in-Ibr.new.words) c.args.call c.drive-in-Ibr.result c.args.post.now c.args.desk.now c.drive-in-Ibr.new.post c.drive-in-Ibr.new.desk c.requires.here called in
+    called_by (words.at c.args.words.now) (words.at c.start.new.self) (words.at c.drive_under-in-Ibr.new.words) (words.stands c.args.words.now) (words.stands c.start.new.self) (words.stands c.drive_under-in-Ibr.new.words) c.args.call c.drive_under-in-Ibr.result c.args.post.now c.args.desk.now desk _
+    (at_phase Idle c.drive_under-in-Ibr.new.post c.drive_under-in-Ibr.new.desk) c.start.ensures.at c.start.ensures.stands refl cleared c.drive_under-in-Ibr.ensures.made in
+    let over : Over (words.at c.drive_under-in-Ibr.new.words) c.args.call c.drive_under-in-Ibr.result c.args.post.now c.drive_under-in-Ibr.new.post c.drive_under-in-Ibr.new.desk =
+    over_by (words.at c.args.words.now) (words.at c.drive_under-in-Ibr.new.words) (words.stands c.args.words.now) (words.stands c.drive_under-in-Ibr.new.words) c.args.call c.drive_under-in-Ibr.result c.args.post.now c.args.desk.now c.drive_under-in-Ibr.new.post c.drive_under-in-Ibr.new.desk c.requires.here called in
     record {
-      valid = c.drive-in-Ibr.ensures.valid;
-      same = words.same_on _ _ _ c.start.ensures.same c.drive-in-Ibr.ensures.same;
+      valid = c.drive_under-in-Ibr.ensures.valid;
+      same = words.same_on _ _ _ c.start.ensures.same c.drive_under-in-Ibr.ensures.same;
       here = over.here;
-      room = c.drive-in-Ibr.ensures.room;
+      room = c.drive_under-in-Ibr.ensures.room;
       place = over.place;
       suits = over.suits;
       called = called;
@@ -60,15 +60,15 @@ returns-in-Wfe g c =
     let desk : HeldDesk = record c.args.desk.now { notes = c.clear.new.self } in
     let cleared : desk_of desk ≡ record (desk_of c.args.desk.now) { notes = no_notes } = ap (λ (notes : Notes). let held : Desk = record (desk_of c.args.desk.now) { notes = notes } in held) c.clear.ensures.empty in
     let called =
-    called_by (words.at c.args.words.now) (words.at c.start.new.self) (words.at c.drive-in-Wfe.new.words) (words.stands c.args.words.now) (words.stands c.start.new.self) (words.stands c.drive-in-Wfe.new.words) c.args.call c.drive-in-Wfe.result c.args.post.now c.args.desk.now desk _
-    (at_phase Idle c.drive-in-Wfe.new.post c.drive-in-Wfe.new.desk) c.start.ensures.at c.start.ensures.stands (c.begin-in-Wfe.ensures.phase (begun_post c.args.post.now) kind) cleared c.drive-in-Wfe.ensures.made in
-    let over : Over (words.at c.drive-in-Wfe.new.words) c.args.call c.drive-in-Wfe.result c.args.post.now c.drive-in-Wfe.new.post c.drive-in-Wfe.new.desk =
-    over_by (words.at c.args.words.now) (words.at c.drive-in-Wfe.new.words) (words.stands c.args.words.now) (words.stands c.drive-in-Wfe.new.words) c.args.call c.drive-in-Wfe.result c.args.post.now c.args.desk.now c.drive-in-Wfe.new.post c.drive-in-Wfe.new.desk c.requires.here called in
+    called_by (words.at c.args.words.now) (words.at c.start.new.self) (words.at c.drive_under-in-Wfe.new.words) (words.stands c.args.words.now) (words.stands c.start.new.self) (words.stands c.drive_under-in-Wfe.new.words) c.args.call c.drive_under-in-Wfe.result c.args.post.now c.args.desk.now desk _
+    (at_phase Idle c.drive_under-in-Wfe.new.post c.drive_under-in-Wfe.new.desk) c.start.ensures.at c.start.ensures.stands refl cleared c.drive_under-in-Wfe.ensures.made in
+    let over : Over (words.at c.drive_under-in-Wfe.new.words) c.args.call c.drive_under-in-Wfe.result c.args.post.now c.drive_under-in-Wfe.new.post c.drive_under-in-Wfe.new.desk =
+    over_by (words.at c.args.words.now) (words.at c.drive_under-in-Wfe.new.words) (words.stands c.args.words.now) (words.stands c.drive_under-in-Wfe.new.words) c.args.call c.drive_under-in-Wfe.result c.args.post.now c.args.desk.now c.drive_under-in-Wfe.new.post c.drive_under-in-Wfe.new.desk c.requires.here called in
     record {
-      valid = c.drive-in-Wfe.ensures.valid;
-      same = words.same_on _ _ _ c.start.ensures.same c.drive-in-Wfe.ensures.same;
+      valid = c.drive_under-in-Wfe.ensures.valid;
+      same = words.same_on _ _ _ c.start.ensures.same c.drive_under-in-Wfe.ensures.same;
       here = over.here;
-      room = c.drive-in-Wfe.ensures.room;
+      room = c.drive_under-in-Wfe.ensures.room;
       place = over.place;
       suits = over.suits;
       called = called;

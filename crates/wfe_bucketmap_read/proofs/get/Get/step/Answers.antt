@@ -19,10 +19,10 @@ returns-in-None-clause-steps g c =
     let next = opening_of phases c.take_open-end.new.opening in
     let before = get_phase phases key c.args.self.now.at c.args.post.now in
     let stands : before ≡ Runs (Opens (Gets key)) base =
-    rw c.in-Starts.is (starts_at (Gets key) g.S.Scheme.kind c.args.post.now c.root-root.result base c.requires.scheme c.root-root.ensures.root c.open-opening.ensures)
+    rw c.in-Starts.is (starts_at (Gets key) g.S.Scheme.kind c.args.post.now c.root_for-root.result base c.requires.scheme c.root_for-root.ensures.root c.open-opening.ensures)
     in
     steps_along before (Runs (Opens (Gets key)) base) c.args.post.now c.take_open-end.new.post (desk_of c.args.desk.now) c.take_open-end.new.told c.args.found None (Runs (Opens (Gets key)) next) stands (
-    opens_step (Gets key) g.S.Scheme.kind c.root-root.result base next c.args.post.now c.take_open-end.new.post (desk_of c.args.desk.now) c.take_open-end.new.told c.args.found c.requires.scheme c.root-root.ensures.root c.take_open-end.ensures.post c.take_open-end.ensures.told c.in-None.ensures.next
+    opens_step (Gets key) g.S.Scheme.kind c.root_for-root.result base next c.args.post.now c.take_open-end.new.post (desk_of c.args.desk.now) c.take_open-end.new.told c.args.found c.requires.scheme c.root_for-root.ensures.root c.take_open-end.ensures.post c.take_open-end.ensures.told c.in-None.ensures.next
     )
 
 pub returns-in-Some-clause-steps : goal.returns-in-Some-clause-steps
@@ -32,7 +32,7 @@ returns-in-Some-clause-steps g c =
     let base = opening_of phases c.open-opening.result in
     let before = get_phase phases key c.args.self.now.at c.args.post.now in
     let stands : before ≡ Runs (Opens (Gets key)) base =
-    rw c.in-Starts.is (starts_at (Gets key) g.S.Scheme.kind c.args.post.now c.root-root.result base c.requires.scheme c.root-root.ensures.root c.open-opening.ensures)
+    rw c.in-Starts.is (starts_at (Gets key) g.S.Scheme.kind c.args.post.now c.root_for-root.result base c.requires.scheme c.root_for-root.ensures.root c.open-opening.ensures)
     in
     let last = get_phase phases c.reach.new.self.key c.reach.new.self.at c.reach.new.post in
     steps_along before (Runs (Opens (Gets key)) base) c.args.post.now c.reach.new.post (desk_of c.args.desk.now) c.reach.new.told c.args.found c.reach.result last stands (

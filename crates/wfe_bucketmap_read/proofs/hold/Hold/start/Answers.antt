@@ -15,7 +15,7 @@ returns-in-Some-clause-steps g c =
     let task = Holds c.args.self.now.key in
     let base = opening_of phases c.open-opening.result in
     let stands : round task c.args.post.now ≡ Runs (Opens task) base =
-    starts_at task g.S.Scheme.kind c.args.post.now c.root-root.result base c.requires.scheme c.root-root.ensures.root c.open-opening.ensures
+    starts_at task g.S.Scheme.kind c.args.post.now c.root_for-root.result base c.requires.scheme c.root_for-root.ensures.root c.open-opening.ensures
     in
     let last = hold_phase phases g.S.Release.Machine.phase c.reach.new.self.key c.reach.new.self.at c.reach.new.post in
     steps_along (round task c.args.post.now) (Runs (Opens task) base) c.args.post.now c.reach.new.post (desk_of c.args.desk.now) c.reach.new.told c.args.found c.reach.result last stands (
@@ -28,8 +28,8 @@ returns-in-None-clause-steps g c =
     let base = opening_base g.S.Begin.Machine.phase g.S.Protect.Machine.phase c.open-opening.result in
     let next = opening_base g.S.Begin.Machine.phase g.S.Protect.Machine.phase c.take_open-end.new.opening in
     let stands : round task c.args.post.now ≡ Runs (Opens task) base =
-    starts_at task g.S.Scheme.kind c.args.post.now c.root-root.result base c.requires.scheme c.root-root.ensures.root c.open-opening.ensures
+    starts_at task g.S.Scheme.kind c.args.post.now c.root_for-root.result base c.requires.scheme c.root_for-root.ensures.root c.open-opening.ensures
     in
     steps_along (round task c.args.post.now) (Runs (Opens task) base) c.args.post.now c.take_open-end.new.post (desk_of c.args.desk.now) c.take_open-end.new.told c.args.found None (Runs (Opens task) next) stands (
-    opens_step task g.S.Scheme.kind c.root-root.result base next c.args.post.now c.take_open-end.new.post (desk_of c.args.desk.now) c.take_open-end.new.told c.args.found c.requires.scheme c.root-root.ensures.root c.take_open-end.ensures.post c.take_open-end.ensures.told c.in-None.ensures.next
+    opens_step task g.S.Scheme.kind c.root_for-root.result base next c.args.post.now c.take_open-end.new.post (desk_of c.args.desk.now) c.take_open-end.new.told c.args.found c.requires.scheme c.root_for-root.ensures.root c.take_open-end.ensures.post c.take_open-end.ensures.told c.in-None.ensures.next
     )

@@ -8,4 +8,5 @@ returns-clause-valid c = record {
   sized = c.requires.valid.sized;
   seated = c.begin.ensures.seated;
   comes = comes_standing _ _ _ c.begin.ensures.seated;
+  later = λ e. absurd (cc e);
 }
