@@ -1,5 +1,5 @@
 // A shared table with its seats, in the hands of a test, and whole calls on it.
-ghost use Rattle.std.specs.Prelude.{All, IfOk, IfSome};
+ghost use Rattle.std.specs.Prelude.{All, IfOk};
 ghost use Rattle.wfe_drive_shared.specs.Public.{IsOf};
 
 use std::alloc::Global;
@@ -25,32 +25,6 @@ pub fn open_table(alloc: Global, config: Config) -> Result<(Shared, Vec<Seat>), 
     Ok(Shared::new(alloc, config)?)
 }
 
-/// A seat in a list, where there is memory for it.
-#[tactic(auto, using(crate::proofs::NewSeats::one_of))]
-pub fn alone(alloc: Global, shared: &Shared, seat: Seat) -> Option<Vec<Seat>>
-    requires { IsOf seat shared.now }
-    ensures { IfSome result (λ seats. All (λ seat. IsOf seat shared.now) seats.items) }
-{
-    let mut seats = Vec::new(alloc);
-    match seats.push(seat) {
-        Ok(()) => Some(seats),
-        Err(_) => None,
-    }
-}
-
-/// Two seats in a list, where there is memory for it.
-pub fn both(alloc: Global, shared: &Shared, first: Seat, second: Seat) -> Option<Vec<Seat>>
-    requires first { IsOf first shared.now }
-    requires second { IsOf second shared.now }
-    ensures { IfSome result (λ seats. All (λ seat. IsOf seat shared.now) seats.items) }
-{
-    let mut seats = alone(alloc, shared, first)?;
-    match seats.push(second) {
-        Ok(()) => Some(seats),
-        Err(_) => None,
-    }
-}
-
 impl Bench {
     /// A table at its start.
     pub fn new(alloc: Global, config: Config) -> Result<Bench, Fail> {
@@ -68,14 +42,6 @@ impl Bench {
         self.seats.get(number)
     }
 
-    /// The version of the bucket that the seat has seen last.
-    pub fn seen(&self, number: usize, bucket: u32) -> Option<u64> {
-        if number >= self.seats.len() {
-            return None;
-        }
-        seen(&self.shared, &self.seats[number], bucket)
-    }
-
     /// Makes a whole call of the seat.
     pub fn make(&mut self, number: usize, call: Call) -> Option<Answer> {
         if number >= self.seats.len() {
@@ -91,17 +57,7 @@ impl Bench {
     }
 }
 
-fn seen(shared: &Shared, seat: &Seat, bucket: u32) -> Option<u64>
-    requires { IsOf seat.now shared.now }
-{
-    if bucket >= shared.layout().config().buckets {
-        return None;
-    }
-    Some(seat.seen(bucket))
-}
-
-/// Makes a whole call of a seat of the table.
-pub fn make(shared: &Shared, seat: &mut Seat, call: Call) -> Answer
+fn make(shared: &Shared, seat: &mut Seat, call: Call) -> Answer
     requires { IsOf seat.old shared.now }
     ensures { IsOf seat.new shared.now }
 {

@@ -1,5 +1,5 @@
-//! Tests of the shared table: what its calls answer and in how many steps, what a seat shows of its
-//! calls, and what a table that is closed holds.
+//! Tests of the shared table: what its calls answer and in how many steps, and what a table that is
+//! closed holds. How a table is made and what its seats show is tested in `wfe_drive_seats_tests`.
 #![tactic(auto)]
 
 #[cfg(test)]
@@ -10,5 +10,3 @@ mod closing;
 mod one_thread;
 #[cfg(test)]
 mod parts;
-#[cfg(test)]
-mod seats;

@@ -200,6 +200,11 @@ fn changes_go_on_once_the_clock_has_stopped(rt: HostRuntime) -> Result<(), Fail>
     play_on(&rt, config, &parts)
 }
 
+// How many rows went back in seat 0's last call before it was given one.
+fn early(bench: &Bench) -> Option<u32> {
+    Some(bench.seat(0)?.notes().early)
+}
+
 #[test]
 fn a_full_table_recovers_once_the_row_is_released(rt: HostRuntime) -> Result<(), Fail> {
     let config = Config {
@@ -222,8 +227,22 @@ fn a_full_table_recovers_once_the_row_is_released(rt: HostRuntime) -> Result<(),
     ];
     play(&rt, &mut bench, &parts);
     // The first of the two rows went back before it was given again.
-    assert_eq!(rt; bench.seat(0).map(|seat| seat.notes().early), Some(1));
+    assert_eq!(rt; early(&bench), Some(1));
     Ok(())
+}
+
+// The put of one key more, after so many.
+fn filling<'a>(place: u32, back: &'a [u32]) -> Part<'a>
+    requires some { 0 < place }
+    requires few { place < 6 }
+{
+    let birth = if place == 1 { 1 } else { place - 1 };
+    let steps = 24 + 4 * place as u64;
+    let key = place as u64 + 1;
+    makes(0, put(key, 10 * key), steps, done(key, moved(place + 1)))
+        .gives(place, place)
+        .retires(place - 1, birth, place)
+        .takes_back(back)
 }
 
 #[test]
@@ -235,15 +254,7 @@ fn a_full_bucket_takes_no_other_key(rt: HostRuntime) -> Result<(), Fail> {
         &[makes(0, put(1, 10), 13, done(1, STILL)).gives(0, 1)],
     );
     for place in 1..6 {
-        let birth = if place == 1 { 1 } else { place - 1 };
-        let steps = 24 + 4 * place as u64;
-        let key = place as u64 + 1;
-        let back = [place - 1];
-        let part = makes(0, put(key, 10 * key), steps, done(key, moved(place + 1)))
-            .gives(place, place)
-            .retires(place - 1, birth, place)
-            .takes_back(&back);
-        play(&rt, &mut bench, &[part]);
+        play(&rt, &mut bench, &[filling(place, &[place - 1])]);
     }
     let parts = [
         makes(0, put(7, 70), 19, Answer::BucketFull { version: 6 }),

@@ -63,21 +63,20 @@ pub fn play<R: Abort>(rt: &R, bench: &mut Bench, parts: &[Part]) {
     let scheme = bench.scheme();
     for (place, part) in parts.iter().enumerate() {
         let answer = bench.make(part.seat, part.call);
-        assert_eq!(rt; answer, Some(part.answer), "call {place} under {scheme:?}");
         let Some(seat) = bench.seat(part.seat) else {
             panic!(rt; "call {place} is of no seat")
         };
         let notes = seat.notes();
-        assert_eq!(rt; notes.steps, part.steps, "call {place} under {scheme:?}");
-        assert_eq!(rt; notes.given, part.given, "call {place} under {scheme:?}");
-        assert_eq!(rt;
+        let came = (
+            notes.steps,
+            notes.given,
             notes.retired,
-            part.retired,
-            "call {place} under {scheme:?}"
-        );
-        assert_eq!(rt;
             notes.back.as_slice(),
-            part.back,
+        );
+        let want = (part.steps, part.given, part.retired, part.back);
+        assert_eq!(rt;
+            (answer, came),
+            (Some(part.answer), want),
             "call {place} under {scheme:?}"
         );
     }
