@@ -19,6 +19,7 @@ use std::{env, thread};
 use wfe_drive_shared::{Config, SchemeKind, Seat, Shared};
 
 const NO_MEMORY: &str = "memory ran out";
+
 const USAGE: &str = "usage: wfe_speed he|ibr|wfe reads|mixed|puts|pairs THREADS CALLS";
 
 /// What is to be run.
