@@ -8,7 +8,7 @@ The plain program is `bench/plain`, built here with `rustc` at its highest level
 (`reads`), nine gets and a put (`mixed`), puts alone (`puts`), and an enqueue and a dequeue by turns (`pairs`), under
 each scheme. A time is the best of the repeats, in which the programs take turns, without what a run of one call takes.
 Ratios are to one thread of the same program, and to the plain program at the same work, scheme and threads; of puts,
-also to the plain program's map on epochs. With --profile it counts instructions a step on one thread with callgrind.
+also to the plain program's map on epochs. With --profile it counts instructions a call on one thread with callgrind.
 """
 import argparse
 import os

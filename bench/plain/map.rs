@@ -1,6 +1,6 @@
 //! The bucket map: each change links a whole new row.
 
-use crate::reclaim::{allocate, give_up, retire, scan};
+use crate::reclaim::{Room, find_room, refuse, retire};
 use crate::schemes::Scheme;
 use crate::table::{BUCKETS, LAST_VERSION, PAIRS, Seat, Table};
 
@@ -85,15 +85,6 @@ impl Pairs {
     }
 }
 
-fn refuse<S: Scheme>(table: &Table, seat: &mut Seat, taken: Option<usize>) -> Option<u64> {
-    S::clear(table, seat, 0);
-    S::finish(table, seat);
-    if let Some(slot) = taken {
-        give_up(table, slot);
-    }
-    None
-}
-
 /// The version of the change, or none where it was refused.
 pub fn put<S: Scheme>(table: &Table, seat: &mut Seat, key: u64, value: u64) -> Option<u64> {
     let mut taken = None;
@@ -105,16 +96,10 @@ pub fn put<S: Scheme>(table: &Table, seat: &mut Seat, key: u64, value: u64) -> O
         if row.version == LAST_VERSION || !row.set(key, value) {
             return refuse::<S>(table, seat, taken);
         }
-        taken = taken.or_else(|| allocate(table, seat));
-        let Some(slot) = taken else {
-            refuse::<S>(table, seat, None);
-            if scanned {
-                return None;
-            }
-            S::move_clock(table, seat);
-            scan::<S>(table, seat);
-            scanned = true;
-            continue;
+        let slot = match find_room::<S>(table, seat, &mut taken, &mut scanned) {
+            Room::Row(slot) => slot,
+            Room::Again => continue,
+            Room::Full => return refuse::<S>(table, seat, None),
         };
         row.write(table, slot);
         let found = table.exchange(root(table, key), link, slot as u64 + 1);

@@ -1,6 +1,6 @@
 //! The Michael-Scott queue.
 
-use crate::reclaim::{allocate, give_up, retire, scan};
+use crate::reclaim::{Room, find_room, refuse, retire};
 use crate::schemes::Scheme;
 use crate::table::{LAST_VERSION, Seat, Table};
 
@@ -22,16 +22,10 @@ pub fn enqueue<S: Scheme>(table: &Table, seat: &mut Seat, value: u64) -> Option<
         if number == LAST_VERSION {
             return refuse::<S>(table, seat, taken);
         }
-        taken = taken.or_else(|| allocate(table, seat));
-        let Some(new) = taken else {
-            refuse::<S>(table, seat, None);
-            if scanned {
-                return None;
-            }
-            S::move_clock(table, seat);
-            scan::<S>(table, seat);
-            scanned = true;
-            continue;
+        let new = match find_room::<S>(table, seat, &mut taken, &mut scanned) {
+            Room::Row(slot) => slot,
+            Room::Again => continue,
+            Room::Full => return refuse::<S>(table, seat, None),
         };
         table.store(table.row(new, 0), 0);
         table.store(table.row(new, 1), number + 1);
@@ -44,15 +38,6 @@ pub fn enqueue<S: Scheme>(table: &Table, seat: &mut Seat, value: u64) -> Option<
         }
         S::clear(table, seat, 0);
     }
-}
-
-fn refuse<S: Scheme>(table: &Table, seat: &mut Seat, taken: Option<usize>) -> Option<u64> {
-    S::clear(table, seat, 0);
-    S::finish(table, seat);
-    if let Some(slot) = taken {
-        give_up(table, slot);
-    }
-    None
 }
 
 fn clear_both<S: Scheme>(table: &Table, seat: &mut Seat) {

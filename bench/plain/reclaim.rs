@@ -30,6 +30,48 @@ pub fn give_up(table: &Table, slot: usize) {
     table.and(table.claim(slot), !(1 << (slot % 64)));
 }
 
+/// What a call that needs a row has come to.
+pub enum Room {
+    /// It has this row.
+    Row(usize),
+    /// It has scanned, and begins anew.
+    Again,
+    /// No row was free after a scan either.
+    Full,
+}
+
+/// The row that the call has taken, or a free one. Where none is free for the first time in the call, its
+/// round ends, the clock is moved, and the list is scanned.
+pub fn find_room<S: Scheme>(
+    table: &Table,
+    seat: &mut Seat,
+    taken: &mut Option<usize>,
+    scanned: &mut bool,
+) -> Room {
+    *taken = taken.or_else(|| allocate(table, seat));
+    if let Some(slot) = *taken {
+        return Room::Row(slot);
+    }
+    if *scanned {
+        return Room::Full;
+    }
+    refuse::<S>(table, seat, None);
+    S::move_clock(table, seat);
+    scan::<S>(table, seat);
+    *scanned = true;
+    Room::Again
+}
+
+/// A round ends that has changed nothing, and a row that the call has taken goes back.
+pub fn refuse<S: Scheme>(table: &Table, seat: &mut Seat, taken: Option<usize>) -> Option<u64> {
+    S::clear(table, seat, 0);
+    S::finish(table, seat);
+    if let Some(slot) = taken {
+        give_up(table, slot);
+    }
+    None
+}
+
 /// A row that was cut goes to the seat's list. Each so many retirements the clock is moved and the list
 /// scanned.
 pub fn retire<S: Scheme>(table: &Table, seat: &mut Seat, slot: usize) {

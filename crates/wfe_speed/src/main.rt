@@ -16,7 +16,7 @@ use std::process::ExitCode;
 use std::rt::Env;
 use std::thread::Threads;
 use std::{env, thread};
-use wfe_drive_shared::{Config, SchemeKind, Seat, Shared};
+use wfe_drive_shared::{Config, MakeError, SchemeKind, Seat, Shared};
 
 const NO_MEMORY: &str = "memory ran out";
 
@@ -110,8 +110,10 @@ fn fill(shared: &Shared, mut seats: Vec<Seat>) -> Result<Vec<Seat>, &'static str
 
 // How many calls were refused.
 fn run<R: Threads + Sync + AllocGlobal>(rt: &R, job: Job) -> Result<u64, &'static str> {
-    let Ok((shared, seats)) = Shared::new(rt.alloc(), setting(job)) else {
-        return Err("no table was made");
+    let (shared, seats) = match Shared::new(rt.alloc(), setting(job)) {
+        Ok(made) => made,
+        Err(MakeError::BadConfig { .. }) => return Err("THREADS is from 1 to 64"),
+        Err(MakeError::NoMemory) => return Err(NO_MEMORY),
     };
     let seats = fill(&shared, seats)?;
     let mut sum = 0u64;
@@ -136,8 +138,10 @@ fn main(rt: HostRuntime) -> ExitCode {
     match run(&rt, job) {
         Ok(refused) => {
             let calls = u64::from(job.threads).saturating_mul(job.calls);
-            let _ = println!(&rt; "{calls} calls, {refused} refused");
-            ExitCode::SUCCESS
+            match println!(&rt; "{calls} calls, {refused} refused") {
+                Ok(()) => ExitCode::SUCCESS,
+                Err(_) => ExitCode::FAILURE,
+            }
         }
         Err(fault) => {
             let _ = eprintln!(&rt; "{fault}");
