@@ -1,2 +1,7 @@
+pub use Rattle.law_held.specs as held
+pub use Rattle.law_steps.specs.inv as inv
+pub use Rattle.law_letter.specs as letter
+pub use Rattle.law_reasons.specs as reasons
+pub use Rattle.law_steps.specs as steps
 pub mod Schedule
 pub mod Whole

@@ -1,5 +1,5 @@
 -- The laws on the clock at the positions of a call, over records: which eras a call gives, retires and publishes.
-use Rattle.inv_all.specs.history.Record.{Past, Test, value_since}
+use Rattle.law_reuse.specs.inv.history.Record.{Past, Test, value_since}
 use Rattle.laws.specs.StateAt.{clock_of, was_clock}
 use Rattle.std.specs.Prelude.{nat_le, ℕ, ◌≡◌, ◌&&◌}
 

@@ -3,7 +3,7 @@ use Rattle.std.specs.Prelude.{List, true, ◌≡◌}
 use Rattle.wfe_core.specs.words.Place.{is_valid}
 use Rattle.wfe_core.specs.words.Place.Place.{Clock}
 use Rattle.wfe_core.specs.words.declared.layout.Layout.{Layout}
-use Rattle.inv_all.specs.history.History.{Item, record_of, world_of}
+use Rattle.law_reuse.specs.inv.history.History.{Item, record_of, world_of}
 use Rattle.laws.specs.HistoryEras.{ClockLaw, GuardLaw, BirthsCurrent, RetiresCurrent, ReservesCurrent}
 use Rattle.laws.specs.StateAt.{clock_of}
 use Rattle.laws.specs.HistoryTable.{GuardsOfTable}

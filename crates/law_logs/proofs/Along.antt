@@ -11,9 +11,9 @@ use Rattle.wfe_core.specs.defs.declared.event.Event.{Event}
 use Rattle.wfe_core.specs.defs.declared.event.Event.TheVariants as events
 use Rattle.wfe_core.specs.words.declared.config.Config.{Config}
 use Rattle.laws.specs.StateAt.{is_open}
-use Rattle.inv_all.specs.history.Record.{Past, tells}
-use Rattle.inv_all.specs.history.Record.Past.{Then}
-use Rattle.inv_all.proofs.history.Entries.{each_before}
+use Rattle.law_all.specs.inv.history.Record.{Past, tells}
+use Rattle.law_all.specs.inv.history.Record.Past.{Then}
+use Rattle.law_all.proofs.inv.history.Entries.{each_before}
 use Rattle.law_logs.specs.Answered.{Says}
 use Rattle.law_logs.specs.Ledgers.{log_of, notes_of}
 use Rattle.law_logs.specs.Versions.{AtMost, Counts, counts_of, met_in}

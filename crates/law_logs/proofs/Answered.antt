@@ -10,7 +10,7 @@ use Rattle.wfe_core.specs.defs.declared.fold.Change.TheVariants as changes
 use Rattle.wfe_core.specs.words.declared.config.Config.{Config}
 use Rattle.laws.specs.StateAt.{bucket_of, count_of, pairs_at, queued_of, value_at}
 use Rattle.std.specs.Prelude.{is_some}
-use Rattle.inv_all.specs.history.Record.{Past, tells}
+use Rattle.law_all.specs.inv.history.Record.{Past, tells}
 use Rattle.law_logs.specs.Answered.{IsAbsent, IsDone, IsEmpty, IsFull, IsGot, IsKept, IsLast, IsMet, IsQueued, IsRow, IsSpent, IsTaken, Says}
 use Rattle.law_logs.specs.Versions.{AtMost, Counts, counts_of}
 use Rattle.law_logs.proofs.Counts.{most_along}

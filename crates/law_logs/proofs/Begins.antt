@@ -8,9 +8,9 @@ use Rattle.wfe_core.specs.defs.declared.event.Event.{Event}
 use Rattle.wfe_core.specs.defs.declared.event.Event.TheVariants as events
 use Rattle.laws.specs.Standing.{open_ok}
 use Rattle.laws.specs.StateAt.{began_of, is_open}
-use Rattle.inv_all.specs.history.Record.{Past, Each}
-use Rattle.inv_all.specs.history.Record.Past.{Start, Then}
-use Rattle.law_held.proofs.places.answers.AnswersTold.Answering.{own_began}
+use Rattle.law_all.specs.inv.history.Record.{Past, Each}
+use Rattle.law_all.specs.inv.history.Record.Past.{Start, Then}
+use Rattle.law_all.proofs.held.places.answers.AnswersTold.Answering.{own_began}
 use Rattle.law_logs.specs.Records.{IsBegun}
 use Rattle.law_logs.specs.Versions.{counts_of}
 use Rattle.law_logs.proofs.Counts.{begun_counts}

@@ -11,8 +11,8 @@ use Rattle.wfe_core.specs.defs.declared.call.Call.{Call}
 use Rattle.wfe_core.specs.defs.declared.event.Event.{Event}
 use Rattle.wfe_core.specs.defs.declared.event.Event.TheVariants as events
 use Rattle.laws.proofs.Tells.{seen_other, seen_own}
-use Rattle.inv_all.specs.history.Record.{Past, tells}
-use Rattle.inv_all.specs.history.Record.Past.{Start, Then}
+use Rattle.law_all.specs.inv.history.Record.{Past, tells}
+use Rattle.law_all.specs.inv.history.Record.Past.{Start, Then}
 use Rattle.law_logs.specs.Ledgers.{Ledger, left_by, ledger_by, ledger_of, log_of, no_ledger, notes_of}
 use Rattle.law_logs.specs.Records.{Extends, IsEnded, LogsAreCut}
 use Rattle.law_logs.proofs.Grows.{snoc_tells}

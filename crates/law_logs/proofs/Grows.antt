@@ -10,10 +10,10 @@ use Rattle.wfe_core.specs.defs.declared.event.Event.TheVariants as events
 use Rattle.wfe_core.specs.defs.declared.fold.Change.{Change}
 use Rattle.wfe_core.specs.defs.declared.fold.Change.TheVariants as the_changes
 use Rattle.laws.specs.StateAt.{bucket_at, changes_of, count_of, queued_of, row_at, taken_of, with_change}
-use Rattle.inv_all.specs.history.History.{Item, Begins, Steps, Made, did, done_if, fits, first_made, made_from, made_of}
-use Rattle.inv_all.specs.history.Record.{Past, tells, tells_of}
-use Rattle.inv_all.specs.history.Record.Past.{Then}
-use Rattle.inv_all.proofs.Finish.{made_along}
+use Rattle.law_all.specs.inv.history.History.{Item, Begins, Steps, Made, did, done_if, fits, first_made, made_from, made_of}
+use Rattle.law_all.specs.inv.history.Record.{Past, tells, tells_of}
+use Rattle.law_all.specs.inv.history.Record.Past.{Then}
+use Rattle.law_all.proofs.inv.Finish.{made_along}
 use Rattle.law_logs.specs.Records.{IsBeginning, RecordsGrow}
 
 -- a later position, and what it has of the map and of the queue

@@ -13,9 +13,9 @@ use Rattle.laws.specs.HistoryAnswers.{same_told}
 use Rattle.laws.specs.MapLaw.{map_ok}
 use Rattle.laws.specs.QueueLaw.{queue_ok}
 use Rattle.laws.specs.StateAt.{begun_at, bucket_of, changes_of, count_of, queued_of, same_value, taken_of, value_at, was_current, with_told}
-use Rattle.inv_all.specs.history.Record.{Past}
-use Rattle.inv_all.specs.history.Record.Past.{Then}
-use Rattle.inv_all.proofs.Machines.{is_within}
+use Rattle.law_all.specs.inv.history.Record.{Past}
+use Rattle.law_all.specs.inv.history.Record.Past.{Then}
+use Rattle.law_all.proofs.inv.Machines.{is_within}
 use Rattle.law_logs.specs.Answered.{IsGot, IsMet, IsTaken}
 use Rattle.law_logs.specs.Versions.{AtMost, Counts, counts_of}
 use Rattle.law_logs.proofs.Answered.{got_on, met_on, taken_on}

@@ -14,8 +14,8 @@ use Rattle.laws.specs.HistoryHolds.{sources_ok}
 use Rattle.laws.specs.HoldLaw.{has_had}
 use Rattle.laws.specs.Once.{order_ok}
 use Rattle.laws.specs.StateAt.{began_of, bucket_at, bucket_of, count_of, has_told, row_at, same_value}
-use Rattle.inv_all.specs.history.Record.{Past, Each, begins, held_since, own, told_since}
-use Rattle.inv_all.specs.history.Record.Past.{Start, Then}
+use Rattle.law_all.specs.inv.history.Record.{Past, Each, begins, held_since, own, told_since}
+use Rattle.law_all.specs.inv.history.Record.Past.{Start, Then}
 use Rattle.law_logs.specs.Answered.{IsRow}
 use Rattle.law_logs.specs.Versions.{Counts}
 use Rattle.law_logs.proofs.Answered.{row_on}

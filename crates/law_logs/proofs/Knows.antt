@@ -19,9 +19,9 @@ use Rattle.laws.specs.Standing.{open_ok}
 use Rattle.laws.specs.MapLaw.{map_ok}
 use Rattle.laws.specs.QueueLaw.{queue_ok}
 use Rattle.laws.specs.StateAt.{began_of, is_open, told_of, with_told, opened_by}
-use Rattle.inv_all.specs.history.Record.{Past, Each, begins}
-use Rattle.inv_all.specs.history.Record.Past.{Start, Then}
-use Rattle.inv_all.proofs.Machines.{is_within}
+use Rattle.law_all.specs.inv.history.Record.{Past, Each, begins}
+use Rattle.law_all.specs.inv.history.Record.Past.{Start, Then}
+use Rattle.law_all.proofs.inv.Machines.{is_within}
 use Rattle.law_logs.specs.Answered.{Says, SaysOfRows}
 use Rattle.law_logs.specs.Ledgers.{Ledger, left_by, ledger_by, ledger_of, log_of, no_ledger, notes_of}
 use Rattle.law_logs.specs.Versions.{AtMost, Counts, counts_of, met_in}
@@ -89,7 +89,7 @@ other_inner k i p event e = record {
   opened = rw e refl;
 }
 
-other_told : (k i : ℕ) (p : Past) (event : Event) → (k == i) ≡ false → told_of k (Then p i event) ≡ told_of k p
+pub other_told : (k i : ℕ) (p : Past) (event : Event) → (k == i) ≡ false → told_of k (Then p i event) ≡ told_of k p
 other_told k i p event e = rw e refl
 
 knows_other : (n k i : ℕ) (p : Past) (event : Event) → (k == i) ≡ false → Knows n k p → Knows n k (Then p i event)
@@ -105,7 +105,7 @@ own_log k p event = ap (λ (x : Ledger). x.log) (seen_own ledger_by no_ledger k 
 pub own_open : (k : ℕ) (p : Past) (event : Event) → is_open k (Then p k event) ≡ opened_by event (is_open k p)
 own_open k p event = rw (same_number k) refl
 
-own_told : (k : ℕ) (p : Past) (event : Event) → told_of k (Then p k event) ≡ with_told event (told_of k p)
+pub own_told : (k : ℕ) (p : Past) (event : Event) → told_of k (Then p k event) ≡ with_told event (told_of k p)
 own_told k p event = rw (same_number k) refl
 
 pub own_begun : (k : ℕ) (p : Past) (call : Call) → begun_counts k (Then p k (events.Begin call)) ≡ counts_of p

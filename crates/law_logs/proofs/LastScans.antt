@@ -18,25 +18,25 @@ use Rattle.wfe_core.specs.defs.declared.event.Event.TheVariants as events
 use Rattle.wfe_core.specs.defs.declared.lifetime.Lifetime.{Lifetime}
 use Rattle.wfe_core.specs.words.declared.layout.Layout.{Layout}
 use Rattle.laws.specs.StateAt.{read_by, read_of}
-use Rattle.inv_all.specs.Inv.{Inv}
-use Rattle.inv_all.specs.covers.Covers.{is_fresh}
-use Rattle.inv_all.specs.history.History.{Made, first_made}
-use Rattle.inv_all.specs.history.Record.{Past, tells_of}
-use Rattle.inv_all.specs.history.Record.Past.{Then}
-use Rattle.inv_all.specs.shapes.Frame.{phase_left}
-use Rattle.inv_all.specs.shapes.Seats.{scan_fits}
-use Rattle.inv_all.proofs.Inv.Begun.{inv_start, inv_begin}
-use Rattle.inv_all.proofs.Inv.Kept.{inv_kept}
-use Rattle.inv_all.proofs.covers.Begun.{first_begins}
-use Rattle.inv_all.proofs.covers.Fresh.{round_fresh}
-use Rattle.inv_all.proofs.covers.Held.{settled_phase}
-use Rattle.inv_all.proofs.history.AllOf.{all_of}
-use Rattle.inv_all.proofs.history.Along.{Steady, items_keep}
-use Rattle.inv_all.proofs.shapes.Frame.{seat_stays, seat_steps, begin_stays, begin_begins}
-use Rattle.law_held.proofs.reuse.Blocks.Calm.{read_other, read_own, run_fresh, run_report, told_same, unread_same, work_report, works_fresh}
-use Rattle.law_held.proofs.reuse.Blocks.Keeps.{ScanFits, after_desk, scans_fit}
-use Rattle.law_held.proofs.reuse.Blocks.Placed.{Placed, PlacedAt, scan_event, scan_placed, scan_reads, scan_tells}
-use Rattle.law_held.proofs.reuse.Once.Calm.{is_unread, run_unread, work_unread}
+use Rattle.law_all.specs.inv.Inv.{Inv}
+use Rattle.law_all.specs.inv.covers.Covers.{is_fresh}
+use Rattle.law_all.specs.inv.history.History.{Made, first_made}
+use Rattle.law_all.specs.inv.history.Record.{Past, tells_of}
+use Rattle.law_all.specs.inv.history.Record.Past.{Then}
+use Rattle.law_all.specs.inv.shapes.Frame.{phase_left}
+use Rattle.law_all.specs.inv.shapes.Seats.{scan_fits}
+use Rattle.law_all.proofs.inv.Inv.Begun.{inv_start, inv_begin}
+use Rattle.law_all.proofs.inv.Inv.Kept.{inv_kept}
+use Rattle.law_all.proofs.inv.covers.Begun.{first_begins}
+use Rattle.law_all.proofs.inv.covers.Fresh.{round_fresh}
+use Rattle.law_all.proofs.inv.covers.Held.{settled_phase}
+use Rattle.law_all.proofs.inv.history.AllOf.{all_of}
+use Rattle.law_all.proofs.inv.history.Along.{Steady, items_keep}
+use Rattle.law_all.proofs.inv.shapes.Frame.{seat_stays, seat_steps, begin_stays, begin_begins}
+use Rattle.law_all.proofs.held.reuse.Blocks.Calm.{read_other, read_own, run_fresh, run_report, told_same, unread_same, work_report, works_fresh}
+use Rattle.law_all.proofs.held.reuse.Blocks.Keeps.{ScanFits, after_desk, scans_fit}
+use Rattle.law_all.proofs.held.reuse.Blocks.Placed.{Placed, PlacedAt, scan_event, scan_placed, scan_reads, scan_tells}
+use Rattle.law_all.proofs.held.reuse.Once.Calm.{is_unread, run_unread, work_unread}
 use Rattle.law_logs.specs.Records.{RecordReads}
 
 -- nothing was read yet, or a whole block

@@ -17,18 +17,18 @@ use Rattle.wfe_core.specs.words.declared.layout.Layout.{Layout}
 use Rattle.laws.proofs.Along.{along}
 use Rattle.laws.proofs.Tells.{seen_own, seen_stays, seen_tells}
 use Rattle.laws.specs.StateAt.{began_by, began_of, is_open, opened_by, seen}
-use Rattle.inv_all.specs.history.History.{Made, first_made, made_of}
-use Rattle.inv_all.specs.history.Record.{Past, tells_of}
-use Rattle.inv_all.specs.history.Record.Past.{Start, Then}
-use Rattle.inv_all.proofs.Machines.{is_within, within_of}
-use Rattle.inv_all.proofs.history.AllOf.{all_of}
-use Rattle.inv_all.proofs.history.Along.{Steady, items_keep}
-use Rattle.inv_all.proofs.shapes.Frame.{seat_stays, seat_steps, begin_stays, begin_begins}
-use Rattle.law_held.proofs.places.answers.AnswersTold.Answering as answering
-use Rattle.law_held.proofs.places.answers.AnswersTold.Answering.{first_all, owes_of}
-use Rattle.law_held.proofs.places.answers.AnswersTold.Owed as owed
-use Rattle.law_held.proofs.places.answers.AnswersTold.Owed.{OutServes, Owes, Serves}
-use Rattle.law_held.proofs.places.answers.AnswersTold.Owing.{first_serves}
+use Rattle.law_all.specs.inv.history.History.{Made, first_made, made_of}
+use Rattle.law_all.specs.inv.history.Record.{Past, tells_of}
+use Rattle.law_all.specs.inv.history.Record.Past.{Start, Then}
+use Rattle.law_all.proofs.inv.Machines.{is_within, within_of}
+use Rattle.law_all.proofs.inv.history.AllOf.{all_of}
+use Rattle.law_all.proofs.inv.history.Along.{Steady, items_keep}
+use Rattle.law_all.proofs.inv.shapes.Frame.{seat_stays, seat_steps, begin_stays, begin_begins}
+use Rattle.law_all.proofs.held.places.answers.AnswersTold.Answering as answering
+use Rattle.law_all.proofs.held.places.answers.AnswersTold.Answering.{first_all, owes_of}
+use Rattle.law_all.proofs.held.places.answers.AnswersTold.Owed as owed
+use Rattle.law_all.proofs.held.places.answers.AnswersTold.Owed.{OutServes, Owes, Serves}
+use Rattle.law_all.proofs.held.places.answers.AnswersTold.Owing.{first_serves}
 use Rattle.law_logs.specs.Ledgers.{Ledger, ledger_by, ledger_of, no_ledger}
 use Rattle.law_logs.specs.Records.{RecordsKeepLogs}
 use Rattle.law_logs.proofs.Notes.{turns_leave_notes}

@@ -1,3 +1,4 @@
+pub use Rattle.law_all.proofs.held as held
 pub mod Along
 pub mod Answered
 pub mod Begins
@@ -13,4 +14,5 @@ pub mod Meets
 pub mod Notes
 pub mod Records
 pub mod Roots
+pub mod Runs
 pub mod Says

@@ -9,7 +9,7 @@ use Rattle.wfe_core.specs.defs.declared.call.Call.{Call}
 use Rattle.wfe_core.specs.defs.declared.call.Call.TheVariants as calls
 use Rattle.wfe_core.specs.words.declared.config.Config.{Config}
 use Rattle.laws.specs.StateAt.{bucket_of, count_of, queued_of, taken_of}
-use Rattle.inv_all.specs.history.Record.{Past}
+use Rattle.law_all.specs.inv.history.Record.{Past}
 use Rattle.law_logs.specs.Answered.{IsMet, Says}
 use Rattle.law_logs.specs.Records.{LogsExtend}
 use Rattle.law_logs.specs.Versions.{AtMost, Counts, counts_of, met_by, met_from, no_counts, number_by, number_queued, number_taken, version_by, version_told}
@@ -25,7 +25,7 @@ some_is : {X : Type 0} (x y : X) → ◌≡◌ {A = Option X} (Some x) (Some y) 
 some_is x y h = cc
 
 -- a version that is told was there since the beginning
-version_met : (c : Config) (from : Counts) (p : Past) (call : Call) (answer : Answer) (told : ℕ × ℕ) → version_told call answer ≡ Some told → Says c from p call answer → IsMet from p (bucket_of c.buckets told.0) told.1
+pub version_met : (c : Config) (from : Counts) (p : Past) (call : Call) (answer : Answer) (told : ℕ × ℕ) → version_told call answer ≡ Some told → Says c from p call answer → IsMet from p (bucket_of c.buckets told.0) told.1
 version_met c from p (calls.Get key) (answers.Got version value) told e s = subst (λ (x : ℕ × ℕ). IsMet from p (bucket_of c.buckets x.0) x.1) (some_is (key, version) told e) s.met
 version_met c from p (calls.Put key value) (answers.Done version clock) told e s = subst (λ (x : ℕ × ℕ). IsMet from p (bucket_of c.buckets x.0) x.1) (some_is (key, version) told e) s.met
 version_met c from p (calls.Put key value) (answers.BucketFull version) told e s = subst (λ (x : ℕ × ℕ). IsMet from p (bucket_of c.buckets x.0) x.1) (some_is (key, version) told e) s.met

@@ -15,7 +15,7 @@ use Rattle.wfe_core.specs.declared.post.Post.{Post}
 use Rattle.wfe_core.specs.defs.Shown.{shown}
 use Rattle.wfe_core.specs.defs.declared.event.Event.{Event}
 use Rattle.wfe_core.specs.defs.declared.event.Event.TheVariants as events
-use Rattle.law_held.proofs.reuse.Once.Desks.{left_at, left_desk, resumed_desk, work_desk}
+use Rattle.law_all.proofs.held.reuse.Once.Desks.{left_at, left_desk, resumed_desk, work_desk}
 use Rattle.law_logs.specs.Records.{TurnsLeaveNotes}
 
 ending_notes : (why : Why) (ending : Ending) (desk : Desk) → (left_desk why ending desk).notes ≡ desk.notes

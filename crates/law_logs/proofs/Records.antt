@@ -18,19 +18,19 @@ use Rattle.laws.specs.HistoryAnswers.{full_ok}
 use Rattle.laws.specs.HistoryHolds.{sources_ok}
 use Rattle.laws.specs.Once.{order_ok}
 use Rattle.laws.specs.StateAt.{began_of, bucket_of, count_of, pairs_at, value_at}
-use Rattle.law_letter.proofs.Clocks.{full_kept}
-use Rattle.law_reasons.proofs.Full.Keeps.{records_keep_full}
-use Rattle.law_reasons.proofs.Reasons.Keeps.{records_keep_reasons}
-use Rattle.law_held.proofs.Roots.Sources.{records_find_sources}
-use Rattle.law_held.proofs.places.Ordering.Ordered.{records_keep_order}
-use Rattle.law_held.proofs.places.answers.AnswersTold.Answering.{records_keep_answers}
-use Rattle.law_held.proofs.places.answers.Lawful.Maps.{records_keep_map}
-use Rattle.law_held.proofs.places.answers.Lawful.Queues.{records_keep_queue}
-use Rattle.law_held.proofs.places.answers.OpenCalls.{records_open_calls}
-use Rattle.inv_all.proofs.history.Entries.{each_of_entries}
-use Rattle.inv_all.specs.history.History.{Item, record_of, world_of}
-use Rattle.inv_all.specs.history.Record.{Past, tells}
-use Rattle.inv_all.specs.history.Record.Past.{Then}
+use Rattle.law_all.proofs.letter.Clocks.{full_kept}
+use Rattle.law_all.proofs.reasons.Full.Keeps.{records_keep_full}
+use Rattle.law_all.proofs.reasons.Reasons.Keeps.{records_keep_reasons}
+use Rattle.law_all.proofs.held.Roots.Sources.{records_find_sources}
+use Rattle.law_all.proofs.held.places.Ordering.Ordered.{records_keep_order}
+use Rattle.law_all.proofs.held.places.answers.AnswersTold.Answering.{records_keep_answers}
+use Rattle.law_all.proofs.held.places.answers.Lawful.Maps.{records_keep_map}
+use Rattle.law_all.proofs.held.places.answers.Lawful.Queues.{records_keep_queue}
+use Rattle.law_all.proofs.held.places.answers.OpenCalls.{records_open_calls}
+use Rattle.law_all.proofs.inv.history.Entries.{each_of_entries}
+use Rattle.law_all.specs.inv.history.History.{Item, record_of, world_of}
+use Rattle.law_all.specs.inv.history.Record.{Past, tells}
+use Rattle.law_all.specs.inv.history.Record.Past.{Then}
 use Rattle.law_logs.specs.Answered.{IsDone, IsGot, Says, SaysOfRows}
 use Rattle.law_logs.specs.Ledgers.{log_of, notes_of}
 use Rattle.law_logs.specs.Records.{CallsAnswer, ChangesAreRead, GetsAgree, HoldsSeeNothing, IsAnswered, IsEnded, LogsAnswer, LogsGrow, LogsMeet, LogsRise}
@@ -45,7 +45,8 @@ use Rattle.law_logs.proofs.Knows.{Answers, Knows, Lawful, answers_of, end_log, e
 use Rattle.law_logs.proofs.Ledgers.{records_keep_logs}
 use Rattle.law_logs.proofs.Meets.{Rises}
 
-lawful : (layout : Layout) (items : List Item) → is_valid layout ≡ true → Lawful layout.config (record_of layout items)
+-- the laws that the record of each history keeps
+pub lawful : (layout : Layout) (items : List Item) → is_valid layout ≡ true → Lawful layout.config (record_of layout items)
 lawful layout items d = record {
   open_calls = each_of_entries _ (record_of layout items) (records_open_calls layout items d);
   told = each_of_entries _ (record_of layout items) (records_keep_answers layout items d);

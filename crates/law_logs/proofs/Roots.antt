@@ -10,8 +10,8 @@ use Rattle.wfe_core.specs.defs.declared.fold.Change.TheVariants as changes
 use Rattle.laws.specs.Once.{Due, due_at, due_cut, due_linked, meets_due, order_ok}
 use Rattle.laws.specs.Once.Due.{ChangeDue, CutDue}
 use Rattle.laws.specs.StateAt.{bucket_at, changes_of, count_of, row_at}
-use Rattle.inv_all.specs.history.Record.{Past, Each}
-use Rattle.inv_all.specs.history.Record.Past.{Start, Then}
+use Rattle.law_all.specs.inv.history.Record.{Past, Each}
+use Rattle.law_all.specs.inv.history.Record.Past.{Start, Then}
 
 -- the last entry links a row at the bucket's root
 abbrev is_linking : ℕ → Past → Bool

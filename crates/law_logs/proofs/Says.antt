@@ -21,8 +21,8 @@ use Rattle.laws.specs.AnswerLaw.{full_ok}
 use Rattle.laws.specs.HistoryAnswers.{owes, reason, same_told}
 use Rattle.laws.specs.ScanLaw.{guards}
 use Rattle.laws.specs.StateAt.{all_taken, begun_at, bucket_of, changes_of, count_of, had_version, has_told, is_give, is_read, is_row, is_there, pairs_at, queued_of, stood_at, taken_of, taken_since, times, value_at, was_current, was_empty}
-use Rattle.inv_all.specs.history.Record.{Past, begins}
-use Rattle.inv_all.specs.history.Record.Past.{Start, Then}
+use Rattle.law_all.specs.inv.history.Record.{Past, begins}
+use Rattle.law_all.specs.inv.history.Record.Past.{Start, Then}
 use Rattle.law_logs.specs.Answered.{IsAbsent, IsCrowded, IsDone, IsEmpty, IsFull, IsGot, IsKept, IsLast, IsQueued, IsRow, IsSpent, Says, SaysOfRows, value_left}
 use Rattle.law_logs.specs.Versions.{AtMost, Counts, counts_of}
 use Rattle.law_logs.proofs.Answered.{empty_on}

@@ -13,7 +13,7 @@ use Rattle.wfe_core.specs.defs.declared.fold.Change.TheVariants as changes
 use Rattle.wfe_core.specs.words.declared.config.Config.{Config}
 use Rattle.laws.specs.ScanLaw.{guards}
 use Rattle.laws.specs.StateAt.{bucket_of, count_of, has_told, is_give, is_read, is_there, pairs_at, queued_of, row_at, stood_at, taken_of, taken_since, times, value_at}
-use Rattle.inv_all.specs.history.Record.{Past, tells}
+use Rattle.law_all.specs.inv.history.Record.{Past, tells}
 use Rattle.law_logs.specs.Versions.{AtMost, Counts, counts_of}
 
 -- a version that bucket b had at a position from the beginning on

@@ -7,7 +7,7 @@ use Rattle.wfe_core.specs.defs.declared.call.Call.{Call}
 use Rattle.wfe_core.specs.defs.declared.event.Event.{Event}
 use Rattle.wfe_core.specs.defs.declared.event.Event.TheVariants as events
 use Rattle.laws.specs.StateAt.{seen}
-use Rattle.inv_all.specs.history.Record.{Past}
+use Rattle.law_all.specs.inv.history.Record.{Past}
 
 -- what a seat's entries come to: the call that it began last, the notes of that call, and the calls that it has ended, in order
 pub record Ledger : Type 0 where

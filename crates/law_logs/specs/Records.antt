@@ -14,9 +14,9 @@ use Rattle.wfe_core.specs.words.Place.{is_valid}
 use Rattle.wfe_core.specs.words.declared.config.Config.{Config}
 use Rattle.wfe_core.specs.words.declared.layout.Layout.{Layout}
 use Rattle.laws.specs.StateAt.{began_of, bucket_of, is_open, read_of, value_at}
-use Rattle.inv_all.specs.history.History.{Item, record_of, world_of}
-use Rattle.inv_all.specs.history.Record.{Past, tells}
-use Rattle.inv_all.specs.history.Record.Past.{Then}
+use Rattle.law_all.specs.inv.history.History.{Item, record_of, world_of}
+use Rattle.law_all.specs.inv.history.Record.{Past, tells}
+use Rattle.law_all.specs.inv.history.Record.Past.{Then}
 use Rattle.law_logs.specs.Answered.{Says, SaysOfRows}
 use Rattle.law_logs.specs.Ledgers.{log_of, notes_of}
 use Rattle.law_logs.specs.Versions.{AtMost, counts_of, met_by, met_in, seen_in}

@@ -6,7 +6,7 @@ use Rattle.wfe_core.specs.defs.declared.call.Answer.TheVariants as answers
 use Rattle.wfe_core.specs.defs.declared.call.Call.{Call}
 use Rattle.wfe_core.specs.defs.declared.call.Call.TheVariants as calls
 use Rattle.laws.specs.StateAt.{bucket_of, count_of, queued_of, taken_of}
-use Rattle.inv_all.specs.history.Record.{Past}
+use Rattle.law_all.specs.inv.history.Record.{Past}
 
 -- the changes of each bucket, the values queued, and how many of them were taken
 pub record Counts : Type 0 where

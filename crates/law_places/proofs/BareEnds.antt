@@ -12,18 +12,18 @@ use Rattle.wfe_core.specs.Locals.{told_by, told_end, turn}
 use Rattle.wfe_core.specs.Posts.{stands}
 use Rattle.wfe_core.specs.World.{World, finds, is_busy, step}
 use Rattle.wfe_core.proofs.Facts.{first_of, rest_of}
-use Rattle.inv_all.specs.covers.Rests.{Vacant, vacant}
-use Rattle.inv_all.proofs.covers.Held.{stepped_phase}
-use Rattle.inv_all.specs.shapes.Frame.{phase_left}
-use Rattle.inv_all.specs.Inv.{Inv}
-use Rattle.inv_all.specs.history.Record.{Past, Each, tells_of}
-use Rattle.inv_all.specs.history.Record.Past.{Then}
-use Rattle.inv_all.proofs.history.Entries.{entries_of_each}
-use Rattle.inv_all.specs.history.History.{Item, Begins, Steps, Made, fits, done, done_if, made_of, first_made, record_of, world_of}
-use Rattle.inv_all.proofs.history.Along.{begins_right, low_seat, made_snoc, paths_keep}
+use Rattle.law_answers.specs.inv.covers.Rests.{Vacant, vacant}
+use Rattle.law_answers.proofs.inv.covers.Held.{stepped_phase}
+use Rattle.law_answers.specs.inv.shapes.Frame.{phase_left}
+use Rattle.law_answers.specs.inv.Inv.{Inv}
+use Rattle.law_answers.specs.inv.history.Record.{Past, Each, tells_of}
+use Rattle.law_answers.specs.inv.history.Record.Past.{Then}
+use Rattle.law_answers.proofs.inv.history.Entries.{entries_of_each}
+use Rattle.law_answers.specs.inv.history.History.{Item, Begins, Steps, Made, fits, done, done_if, made_of, first_made, record_of, world_of}
+use Rattle.law_answers.proofs.inv.history.Along.{begins_right, low_seat, made_snoc, paths_keep}
 use Rattle.laws.specs.StateAt.{stood_at}
 use Rattle.law_reuse.proofs.Reuse.Keeps.{record_stands}
-use Rattle.inv_all.proofs.history.AllOf.{all_of}
+use Rattle.law_answers.proofs.inv.history.AllOf.{all_of}
 use Rattle.law_answers.proofs.AnswersTold.Owed.{is_open, Owes, owed}
 use Rattle.law_answers.proofs.AnswersTold.Answering.{owes_of}
 use Rattle.law_answers.proofs.AnswersTold.Answering as answering

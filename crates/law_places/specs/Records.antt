@@ -2,7 +2,7 @@
 use Rattle.std.specs.Prelude.{List, true, ◌≡◌}
 use Rattle.wfe_core.specs.words.Place.{is_valid}
 use Rattle.wfe_core.specs.words.declared.layout.Layout.{Layout}
-use Rattle.inv_all.specs.history.History.{Item, record_of}
+use Rattle.law_answers.specs.inv.history.History.{Item, record_of}
 use Rattle.laws.specs.HistoryAnswers.{RetireCounts, RefusalLaw}
 use Rattle.laws.specs.HistoryHolds.{BareLaw}
 use Rattle.laws.specs.HistoryRows.{PlacingLaw, OrderLaw, NextsLaw, RetireLaw, SingleLaw}

@@ -1,3 +1,4 @@
+pub use Rattle.inv_all.proofs as inv
 pub mod Blocks
 pub mod Holding
 pub mod Once

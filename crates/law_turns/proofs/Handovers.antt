@@ -15,30 +15,30 @@ use Rattle.wfe_core.specs.Phases.MoveAt.{HandOver}
 use Rattle.wfe_core.specs.Phases.Base.{Protect, Move}
 use Rattle.wfe_core.specs.Calls.{Why, ReadGuard, GiveBack, Phase, Idle, Runs, Scans, Works}
 use Rattle.wfe_core.specs.words.Schemes.{is_ibr}
-use Rattle.inv_all.proofs.history.Passes.{Closed, First, step_goes, scan_told}
-use Rattle.inv_all.specs.history.History.{Made}
-use Rattle.inv_all.specs.history.Turns.{EachTurn}
+use Rattle.law_answers.proofs.inv.history.Passes.{Closed, First, step_goes, scan_told}
+use Rattle.law_answers.specs.inv.history.History.{Made}
+use Rattle.law_answers.specs.inv.history.Turns.{EachTurn}
 use Rattle.law_answers.proofs.OneStep.Along.{Kept, history_keeps}
 use Rattle.law_turns.proofs.Counting.Counting.{Keeps, published, since_of, begin_kept, step_kept, first_kept}
 use Rattle.law_turns.proofs.Counting.Fits.{Fits, own, base_own, paced, taken}
-use Rattle.inv_all.proofs.history.MayTell.{Tells, may_store, base_index, hands, same_span, base_shows, base_all}
+use Rattle.law_answers.proofs.inv.history.MayTell.{Tells, may_store, base_index, hands, same_span, base_shows, base_all}
 use Rattle.law_turns.proofs.Counting.Told.{is_dull, all_dull, quiet_dull, clear_dull}
 use Rattle.wfe_core.specs.defs.declared.event.Guard.TheVariants.{Helper, Index, Whole}
 use Rattle.wfe_core.specs.Links.{link_number}
-use Rattle.inv_all.specs.Inv.{Inv}
-use Rattle.inv_all.proofs.Inv.Whole.{handover_need}
-use Rattle.inv_all.proofs.covers.Held.{finds_at}
-use Rattle.inv_all.proofs.handover.Asks.{Asker, asker, in_slow}
-use Rattle.inv_all.proofs.handover.Deals.{handed_deal}
-use Rattle.inv_all.proofs.handover.Words.{Handed}
+use Rattle.law_answers.specs.inv.Inv.{Inv}
+use Rattle.law_answers.proofs.inv.Inv.Whole.{handover_need}
+use Rattle.law_answers.proofs.inv.covers.Held.{finds_at}
+use Rattle.law_answers.proofs.inv.handover.Asks.{Asker, asker, in_slow}
+use Rattle.law_answers.proofs.inv.handover.Deals.{handed_deal}
+use Rattle.law_answers.proofs.inv.handover.Words.{Handed}
 use Rattle.laws.specs.HistoryTurns.{event_handed, events_handed, handed_right}
 use Rattle.law_turns.specs.Records.{HandoversMeet}
 use Rattle.wfe_core.specs.defs.declared.event.Event.TheVariants as events
 use Rattle.wfe_core.specs.Machine as machine
 use Rattle.wfe_core.proofs.Facts.{both, first_of, rest_of, number_is, or_more}
-use Rattle.inv_all.specs.history.Turns as schedule
+use Rattle.law_answers.specs.inv.history.Turns as schedule
 use Rattle.wfe_core.specs.words.Place.{Place as places}
-use Rattle.inv_all.proofs.history.AllOf.{all_of, of_weaker}
+use Rattle.law_answers.proofs.inv.history.AllOf.{all_of, of_weaker}
 
 handed_all : (i : ℕ) (x : ℕ → ℕ → ℕ) (told : List Event) → all_of (event_handed i x) told ≡ true → events_handed i x told ≡ true
 handed_all i x [] h = refl

@@ -1,4 +1,4 @@
-pub use Rattle.inv_all.proofs as inv
+pub use Rattle.law_answers.proofs.inv as inv
 pub use Rattle.law_answers.proofs as answers
 pub mod Counting
 pub mod Handovers

@@ -23,12 +23,12 @@ use Rattle.wfe_core.specs.Phases.Ending.{Followed}
 use Rattle.wfe_core.specs.Calls.{Task, Gets, Changes, Holds, Enqueues, Dequeues, Why, Opens, FollowsHead, ReadGuard, GiveBack, Phase, Idle, Runs, Scans, Works}
 use Rattle.wfe_core.proofs.Facts.{both, first_of, rest_of, false_not_true, and_true, three_more, le_of_test}
 use Rattle.wfe_core.specs.words.Schemes.{is_ibr, is_he}
-use Rattle.inv_all.specs.shapes.Seats.{protects, reloads, kind_of, index_by, root_by}
-use Rattle.inv_all.proofs.history.Passes.{Closed, First, step_goes}
-use Rattle.inv_all.specs.history.Turns as schedule
-use Rattle.inv_all.specs.history.Turns.History.{Blank, Turns}
-use Rattle.inv_all.specs.history.History.{Made, first_made}
-use Rattle.inv_all.specs.history.Turns.{EachTurn}
+use Rattle.law_answers.specs.inv.shapes.Seats.{protects, reloads, kind_of, index_by, root_by}
+use Rattle.law_answers.proofs.inv.history.Passes.{Closed, First, step_goes}
+use Rattle.law_answers.specs.inv.history.Turns as schedule
+use Rattle.law_answers.specs.inv.history.Turns.History.{Blank, Turns}
+use Rattle.law_answers.specs.inv.history.History.{Made, first_made}
+use Rattle.law_answers.specs.inv.history.Turns.{EachTurn}
 use Rattle.laws.specs.HistorySteps.{events_tried, tries_right}
 use Rattle.laws.specs.StepLaw.{event_tried}
 use Rattle.law_turns.specs.Records.{TriesCount}
@@ -38,10 +38,10 @@ use Rattle.law_turns.proofs.Counting.Fits.{since, tried}
 use Rattle.law_turns.proofs.Counting.Passing.{he_tried, or_he}
 use Rattle.law_turns.proofs.Counting.Protects.{Site, x_next}
 use Rattle.law_turns.proofs.Counting.Runs.{x_after, phase_x, Stage, Seat, bump_low, site_of, stage_of}
-use Rattle.inv_all.proofs.history.MayTell.{concluded_told, held_any, is_find, no_find}
+use Rattle.law_answers.proofs.inv.history.MayTell.{concluded_told, held_any, is_find, no_find}
 use Rattle.law_turns.proofs.Counting.Told.{is_dull, all_dull, quiet_dull, clear_dull, dull_unfound}
-use Rattle.inv_all.proofs.requests.Paced.{wfe_not_he}
-use Rattle.inv_all.proofs.history.AllOf.{all_of, of_weaker}
+use Rattle.law_answers.proofs.inv.requests.Paced.{wfe_not_he}
+use Rattle.law_answers.proofs.inv.history.AllOf.{all_of, of_weaker}
 
 pub unfound_one : (x : ℕ → ℕ) (event : Event) → not (is_find event) ≡ true → event_tried x event ≡ true
 unfound_one x (events.Held index slot steps) h = absurd (cc)

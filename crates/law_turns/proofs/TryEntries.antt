@@ -18,18 +18,18 @@ use Rattle.wfe_core.specs.Phases.Base.{Protect, Reload}
 use Rattle.wfe_core.specs.Posts.{counted}
 use Rattle.wfe_core.specs.World.{World, finds, told_in}
 use Rattle.wfe_core.proofs.Facts.{first_of, rest_of, same_number}
-use Rattle.inv_all.specs.history.History as histories
-use Rattle.inv_all.specs.history.History.{Item, Made, Steps, done}
-use Rattle.inv_all.specs.history.Record.{Past, Test, Each, EachEntry, tells_of}
-use Rattle.inv_all.specs.history.Record.Past.{Then}
-use Rattle.inv_all.specs.history.Turns as schedule
-use Rattle.inv_all.specs.history.Turns.{record_of}
-use Rattle.inv_all.specs.shapes.Seats.{PhaseFits, base_fits}
-use Rattle.inv_all.proofs.history.AllOf.{all_of}
-use Rattle.inv_all.proofs.history.Entries.{entries_of_each}
-use Rattle.inv_all.proofs.history.MayTell as may
-use Rattle.inv_all.proofs.history.MayTell.{Passes, is_find, is_index, no_find, no_index, step_all, stores_index}
-use Rattle.inv_all.proofs.history.Passes.{First, is_quiet}
+use Rattle.law_answers.specs.inv.history.History as histories
+use Rattle.law_answers.specs.inv.history.History.{Item, Made, Steps, done}
+use Rattle.law_answers.specs.inv.history.Record.{Past, Test, Each, EachEntry, tells_of}
+use Rattle.law_answers.specs.inv.history.Record.Past.{Then}
+use Rattle.law_answers.specs.inv.history.Turns as schedule
+use Rattle.law_answers.specs.inv.history.Turns.{record_of}
+use Rattle.law_answers.specs.inv.shapes.Seats.{PhaseFits, base_fits}
+use Rattle.law_answers.proofs.inv.history.AllOf.{all_of}
+use Rattle.law_answers.proofs.inv.history.Entries.{entries_of_each}
+use Rattle.law_answers.proofs.inv.history.MayTell as may
+use Rattle.law_answers.proofs.inv.history.MayTell.{Passes, is_find, is_index, no_find, no_index, step_all, stores_index}
+use Rattle.law_answers.proofs.inv.history.Passes.{First, is_quiet}
 use Rattle.law_answers.proofs.OneStep.Along.{Around, Kept, history_keeps}
 use Rattle.law_answers.proofs.Turns.Counted.{histories_count}
 use Rattle.law_answers.specs.Heard.{IsCounted}

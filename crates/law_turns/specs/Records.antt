@@ -3,9 +3,9 @@ use Rattle.std.specs.Prelude.{List, true, ◌≡◌, ℕ, false}
 use Rattle.wfe_core.specs.words.Place.{is_valid}
 use Rattle.wfe_core.specs.words.Schemes.{is_wfe, is_he, is_ibr}
 use Rattle.wfe_core.specs.words.declared.layout.Layout.{Layout}
-use Rattle.inv_all.specs.history.Heard.{heard_of}
-use Rattle.inv_all.specs.history.History.{Item, record_of}
-use Rattle.inv_all.specs.history.Turns.{EachTurn}
+use Rattle.law_answers.specs.inv.history.Heard.{heard_of}
+use Rattle.law_answers.specs.inv.history.History.{Item, record_of}
+use Rattle.law_answers.specs.inv.history.Turns.{EachTurn}
 use Rattle.laws.specs.HistoryTurns.{numbers_right, handed_right}
 use Rattle.laws.specs.HistorySteps.{turns_bounded, lasts_right, withdrawn_right, tries_right, found_last}
 use Rattle.laws.specs.StepLaw.{WithdrawLaw}

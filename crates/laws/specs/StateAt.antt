@@ -685,6 +685,15 @@ had_version b version p = nat_le version (count_of b p)
 abbrev pub pairs_at : ℕ → ℕ → Past → List Pair
 pairs_at b version p = pairs_after (take version (changes_of b p))
 
+-- a bucket as it is read: how often it was changed, and its pairs in order
+pub record Filling : Type 0 where
+  pub version : ℕ
+  pub pairs : List Pair
+
+-- at its last version
+abbrev pub filling_at : Past → ℕ → Filling
+filling_at p b = record { version = count_of b p; pairs = pairs_at b (count_of b p) p }
+
 -- the key is among them
 abbrev pub is_there : ℕ → ℕ → ℕ → Past → Bool
 is_there b version key p = is_some (value_at b version key p)
@@ -715,6 +724,11 @@ abbrev pub taken_of : Past → ℕ
 taken_of Start = 0
 taken_of (Then p i (events.Taken number value)) = taken_of p + 1
 taken_of (Then p i event) = taken_of p
+
+-- values with their numbers, which count up from the one after the first
+abbrev pub numbered_from : ℕ → List ℕ → List (ℕ × ℕ)
+numbered_from before [] = []
+numbered_from before (value ∷ values) = (before + 1, value) ∷ numbered_from (before + 1) values
 
 -- as many values were taken as queued
 abbrev pub all_taken : Past → Bool

@@ -4,7 +4,7 @@ use Rattle.std.proofs.Math.Seq.{take-length}
 use Rattle.std.proofs.lemmas.List.{nil_from_length}
 use Rattle.std.proofs.lemmas.List.FromFn.{fill_by_all}
 use Rattle.std.specs.Prelude.{◌==◌}
-use Rattle.laws.specs.StateAt.{changes_of}
+use Rattle.laws.specs.StateAt.{Filling, changes_of, filling_at}
 use Rattle.law_answers.specs.history.Record.{Past}
 use Rattle.law_answers.specs.inv.contents.Buckets.{BucketShows}
 use Rattle.wfe_core.proofs.Facts.{one_less_one_more, zero_of_test}
@@ -12,8 +12,7 @@ use Rattle.wfe_core.specs.World.{World}
 use Rattle.wfe_core.specs.defs.Pairs.{Pair, pairs_after}
 use Rattle.wfe_core.specs.defs.declared.fold.Change.{Change}
 use Rattle.wfe_core.specs.words.Place.Place.{Bucket}
-use Rattle.wfe_drive_closed.specs.Closing.{filling_at}
-use Rattle.wfe_drive_closed.specs.Contents.{Filling, filling_in, pair_in, pairs_in}
+use Rattle.wfe_drive_closed.specs.Contents.{filling_in, pair_in, pairs_in}
 use Rattle.wfe_drive_closed.proofs.Fillings.{filling_none, filling_some}
 
 -- a bucket after these changes

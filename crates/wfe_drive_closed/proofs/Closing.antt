@@ -2,7 +2,7 @@
 use Rattle.std.proofs.Common.{List, ap, drop, map, refl, subst, sym, ℕ, ◌-◌, ◌∙◌, ◌≡◌}
 use Rattle.std.specs.List.{range_with_len}
 use mathlib.Core.Path.{fun_ext}
-use Rattle.laws.specs.StateAt.{taken_at}
+use Rattle.laws.specs.StateAt.{Filling, numbered_from, taken_at}
 use Rattle.law_answers.specs.history.History.{Item, record_of, world_of}
 use Rattle.law_answers.specs.history.Record.{Past}
 use Rattle.law_answers.proofs.inv.Inv.Tells.{inv_shows}
@@ -13,8 +13,8 @@ use Rattle.wfe_core.specs.words.Place.{Place, row_count}
 use Rattle.wfe_core.specs.words.Place.Place.{Clock, Head}
 use Rattle.wfe_core.specs.words.declared.layout.Layout.{Layout}
 use Rattle.wfe_drive_cells.specs.Memory.{memory}
-use Rattle.wfe_drive_closed.specs.Closing.{IsClosed, IsReached, Reaches, numbered_from}
-use Rattle.wfe_drive_closed.specs.Contents.{Filling, IsRead, IsReadable, filling_in, is_used, items_after, numbers_where}
+use Rattle.wfe_drive_closed.specs.Closing.{IsClosed, IsReached, Reaches}
+use Rattle.wfe_drive_closed.specs.Contents.{IsRead, IsReadable, filling_in, is_used, items_after, numbers_where}
 use Rattle.wfe_drive_closed.specs.declared.closed.Closed.{Closed}
 use Rattle.wfe_drive_closed.proofs.Books.{history_comes}
 use Rattle.wfe_drive_closed.proofs.Bounds.{readable}

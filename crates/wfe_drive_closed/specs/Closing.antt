@@ -1,13 +1,13 @@
 -- What a table that is closed holds, by the record of a history that comes to its words.
-use Rattle.std.specs.Prelude.{List, [], drop, map, ℕ, ◌+◌, ◌≡◌, ◌∷◌}
+use Rattle.std.specs.Prelude.{List, drop, map, ℕ, ◌≡◌}
 use Rattle.std.specs.List.{range_with_len}
-use Rattle.laws.specs.StateAt.{clock_of, count_of, pairs_at, queued_of, taken_at, taken_of}
+use Rattle.laws.specs.StateAt.{clock_of, filling_at, numbered_from, queued_of, taken_at, taken_of}
 use Rattle.law_answers.specs.history.History.{Item, world_of}
 use Rattle.law_answers.specs.history.Record.{Past}
 use Rattle.wfe_core.specs.words.Place.{row_count}
 use Rattle.wfe_core.specs.words.declared.layout.Layout.{Layout}
 use Rattle.wfe_drive_cells.specs.Memory.{memory}
-use Rattle.wfe_drive_closed.specs.Contents.{Filling, IsWhole, filling_of, numbers_where}
+use Rattle.wfe_drive_closed.specs.Contents.{IsWhole, filling_of, numbers_where}
 use Rattle.wfe_drive_closed.specs.declared.closed.Closed.{Closed}
 
 -- the words are those of the World that a history of the table comes to
@@ -19,15 +19,6 @@ pub record Reaches (layout : Layout) (list : List ℕ) (items : List Item) : Typ
 pub record IsReached (layout : Layout) (list : List ℕ) : Type 0 where
   pub items : List Item
   pub reaches : Reaches layout list items
-
--- a bucket at its last version
-abbrev pub filling_at : Past → ℕ → Filling
-filling_at p bucket = record { version = count_of bucket p; pairs = pairs_at bucket (count_of bucket p) p }
-
--- values with their numbers, which count up from the one after the first
-abbrev pub numbered_from : ℕ → List ℕ → List (ℕ × ℕ)
-numbered_from before [] = []
-numbered_from before (value ∷ values) = (before + 1, value) ∷ numbered_from (before + 1) values
 
 -- the clock is that of the record; each bucket is at its last version, in the order of the buckets; the queue has each value that
 -- was queued and not taken, with its number; and the rows in use are those that are taken, rising

@@ -4,6 +4,7 @@ use Rattle.std.specs.List.{range_with_len}
 use Rattle.wfe_core.specs.Allocate.{is_claimed}
 use Rattle.wfe_core.specs.Get.{key_place, value_place}
 use Rattle.wfe_core.specs.defs.Pairs.{Pair}
+use Rattle.laws.specs.StateAt.{Filling}
 use Rattle.wfe_core.specs.words.Place.{Place, claim_word, is_valid, row_count, words}
 use Rattle.wfe_core.specs.words.Place.Place.{Bucket, Claim, Clock, Head, Row}
 use Rattle.wfe_core.specs.words.declared.layout.Layout.{Layout}
@@ -11,12 +12,7 @@ use Rattle.wfe_drive_cells.specs.Memory.{memory}
 use Rattle.wfe_drive_closed.specs.declared.closed.BucketRow.{BucketRow}
 use Rattle.wfe_drive_closed.specs.declared.closed.Closed.{Closed}
 
--- how often a bucket was changed, and its pairs in order
-pub record Filling : Type 0 where
-  pub version : ℕ
-  pub pairs : List Pair
-
--- that of a bucket as code keeps it
+-- a bucket as code keeps it
 abbrev pub filling_of : BucketRow → Filling
 filling_of row = record { version = row.version; pairs = row.pairs.items }
 

@@ -1,12 +1,14 @@
 -- What a shared table leaves when it is closed, and what comes back where it is not.
-use Rattle.std.specs.Prelude.{All, List, false, length, ℕ, ◌<◌, ◌≡◌, ◌≤◌}
+use Rattle.std.specs.Prelude.{All, Contains, List, false, length, map, ℕ, ◌<◌, ◌≡◌, ◌≤◌}
 use Rattle.wfe_core.specs.words.declared.layout.Layout.{Layout}
 use Rattle.wfe_core.specs.World.{is_busy}
+use Rattle.law_logs.specs.RunLaw.{AtClose, RunLaw}
+use Rattle.law_logs.specs.Runs.{logs_of}
 use Rattle.wfe_drive_closed.specs.Closing.{IsClosed, Reaches}
-use Rattle.wfe_drive_closed.specs.Contents.{IsRead}
+use Rattle.wfe_drive_closed.specs.Contents.{IsRead, filling_of}
 use Rattle.wfe_drive_closed.specs.declared.closed.Closed.{Closed}
 use Rattle.wfe_drive_rule.specs.Rule.{Follows}
-use Rattle.wfe_drive_rule.specs.Views.{Track}
+use Rattle.wfe_drive_rule.specs.Views.{Track, seat_of}
 use Rattle.wfe_drive_rule.specs.history.History.{Item, record_of, world_of}
 use Rattle.wfe_drive_shared.specs.Public.{SeatNow, TableNow}
 use Rattle.wfe_drive_shared.specs.declared.close.CloseError.{CloseError}
@@ -15,19 +17,26 @@ use Rattle.wfe_drive_shared.specs.declared.close.CloseError.TheVariants as error
 abbrev pub track_of : SeatNow → Track
 track_of seat = seat.track
 
+-- what is answered, as the law of runs reads it
+abbrev pub closing_of : Closed → AtClose
+closing_of closed = record { clock = closed.clock; buckets = map filling_of closed.buckets.items; queue = closed.queue.items; used = closed.used.items }
+
 pub record IsLeft (layout : Layout) (tracks : List Track) (closed : Closed) : Type 0 where
   -- the words of the table at its end, and a history that comes to them
   pub list : List ℕ
   pub items : List Item
   pub reaches : Reaches layout list items
-  -- the seats are all that the table has; each stands in that World as it did when it was handed in, its past begins that history,
+  -- the seats are all that the table has, one of each number; each stands in that World as it did when it was handed in, its past begins that history,
   -- and no call is under way
   pub all : length tracks ≡ layout.config.seats
+  pub numbers : (seat : ℕ) → seat < layout.config.seats → (track : Track) × Contains tracks track × (seat_of track ≡ seat)
   pub follow : All (Follows layout items) tracks
   pub idle : (seat : ℕ) → is_busy (world_of layout items) seat ≡ false
   -- what is answered is what the words show, and what the record of that history says
   pub read : IsRead layout list closed
   pub closed_is : IsClosed layout (record_of layout items) closed
+  -- what the calls of all seats were answered, each seat's in their order, meets the law of runs with it
+  pub run : RunLaw layout.config (logs_of layout items) (closing_of closed)
 
 -- fewer seats than the table has; or enough of them, and memory ran out
 abbrev pub IsHandedBack : TableNow → List SeatNow → CloseError → Type 0

@@ -86,7 +86,7 @@ impl Shared {
         ensures of { IsOf seat.new self.now }
         ensures made { IsMade self.now.layout seat.old seat.new (calls.Get key) (answers.Got result.version result.value) }
     {
-        match self.make(seat, Call::Get { key }) {
+        match self.call(seat, Call::Get { key }) {
             Answer::Got { version, value } => Got { version, value },
             _ => unreachable!(),
         }
@@ -100,7 +100,7 @@ impl Shared {
             (λ done. IsMade self.now.layout seat.old seat.new (calls.Put key value) (answers.Done done.version done.clock))
             (λ refusal. IsMade self.now.layout seat.old seat.new (calls.Put key value) (put_answer refusal)) }
     {
-        match self.make(seat, Call::Put { key, value }) {
+        match self.call(seat, Call::Put { key, value }) {
             Answer::Done { version, clock } => Ok(Done { version, clock }),
             Answer::Full => Err(PutRefusal::Full),
             Answer::BucketFull { version } => Err(PutRefusal::BucketFull { version }),
@@ -117,7 +117,7 @@ impl Shared {
             (λ done. IsMade self.now.layout seat.old seat.new (calls.Remove key) (answers.Done done.version done.clock))
             (λ refusal. IsMade self.now.layout seat.old seat.new (calls.Remove key) (remove_answer refusal)) }
     {
-        match self.make(seat, Call::Remove { key }) {
+        match self.call(seat, Call::Remove { key }) {
             Answer::Done { version, clock } => Ok(Done { version, clock }),
             Answer::Absent { version } => Err(RemoveRefusal::Absent { version }),
             Answer::Spent { number } => Err(RemoveRefusal::Spent { number }),
@@ -134,7 +134,7 @@ impl Shared {
             (λ queued. IsMade self.now.layout seat.old seat.new (calls.Enqueue value) (answers.Queued queued.number))
             (λ refusal. IsMade self.now.layout seat.old seat.new (calls.Enqueue value) (enqueue_answer refusal)) }
     {
-        match self.make(seat, Call::Enqueue { value }) {
+        match self.call(seat, Call::Enqueue { value }) {
             Answer::Queued { number } => Ok(Queued { number }),
             Answer::Spent { number } => Err(EnqueueRefusal::Spent { number }),
             Answer::Full => Err(EnqueueRefusal::Full),
@@ -150,7 +150,7 @@ impl Shared {
             (λ taken. IsMade self.now.layout seat.old seat.new calls.Dequeue (answers.Taken taken.number taken.value taken.clock))
             (λ _. IsMade self.now.layout seat.old seat.new calls.Dequeue answers.Empty) }
     {
-        match self.make(seat, Call::Dequeue) {
+        match self.call(seat, Call::Dequeue) {
             Answer::Taken {
                 number,
                 value,
@@ -172,7 +172,7 @@ impl Shared {
         ensures of { IsOf seat.new self.now }
         ensures made { IsMade self.now.layout seat.old seat.new (calls.Hold key) (hold_answer result) }
     {
-        match self.make(seat, Call::Hold { key }) {
+        match self.call(seat, Call::Hold { key }) {
             Answer::Holding { slot } => Some(slot),
             Answer::Nothing => None,
             _ => unreachable!(),
@@ -185,7 +185,7 @@ impl Shared {
         ensures of { IsOf seat.new self.now }
         ensures made { IsMade self.now.layout seat.old seat.new calls.Release answers.Released }
     {
-        match self.make(seat, Call::Release) {
+        match self.call(seat, Call::Release) {
             Answer::Released => {}
             _ => unreachable!(),
         }
@@ -197,7 +197,7 @@ impl Shared {
         ensures of { IsOf seat.new self.now }
         ensures made { IsMade self.now.layout seat.old seat.new calls.Advance (answers.Clock result) }
     {
-        match self.make(seat, Call::Advance) {
+        match self.call(seat, Call::Advance) {
             Answer::Clock { outcome } => outcome,
             _ => unreachable!(),
         }
@@ -209,7 +209,7 @@ impl Shared {
         ensures of { IsOf seat.new self.now }
         ensures made { IsMade self.now.layout seat.old seat.new calls.Scan (answers.Scanned result.kept result.back) }
     {
-        match self.make(seat, Call::Scan) {
+        match self.call(seat, Call::Scan) {
             Answer::Scanned { kept, back } => Scanned { kept, back },
             _ => unreachable!(),
         }

@@ -105,8 +105,8 @@ impl Shared {
         read_end(ledger, handle, layout, room)
     }
 
-    // Makes a whole call on a seat of this table.
-    pub(crate) fn make(&self, seat: &mut Seat, call: Call) -> Answer
+    /// Makes a call on a seat of this table, named by a value, and gives its answer.
+    pub fn call(&self, seat: &mut Seat, call: Call) -> Answer
         requires of { IsOf seat.old self.now }
         ensures of { IsOf seat.new self.now }
         ensures made { IsMade self.now.layout seat.old seat.new call result }

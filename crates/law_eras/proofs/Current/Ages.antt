@@ -29,12 +29,12 @@ use Rattle.wfe_core.specs.Protect as protects
 use Rattle.wfe_core.specs.Rounds.{protect_at, release_base, scheme_of}
 use Rattle.wfe_core.specs.SlowPath.{own_request, asking, answer_in, lost_turn}
 use Rattle.wfe_core.specs.WriteRow.{last_written}
-use Rattle.inv_all.specs.shapes.Frame.{Grows, Moves, Onward, Owes}
-use Rattle.inv_all.specs.shapes.Seats.{PhaseFits, PostFits}
-use Rattle.inv_all.proofs.shapes.Frame.{moves_with}
-use Rattle.inv_all.proofs.shapes.Inside.{shape_moves}
-use Rattle.inv_all.proofs.shapes.Kept.{counted_fits, run_counted}
-use Rattle.inv_all.proofs.shapes.Shapes.{shape_grows}
+use Rattle.law_reuse.specs.inv.shapes.Frame.{Grows, Moves, Onward, Owes}
+use Rattle.law_reuse.specs.inv.shapes.Seats.{PhaseFits, PostFits}
+use Rattle.law_reuse.proofs.inv.shapes.Frame.{moves_with}
+use Rattle.law_reuse.proofs.inv.shapes.Inside.{shape_moves}
+use Rattle.law_reuse.proofs.inv.shapes.Kept.{counted_fits, run_counted}
+use Rattle.law_reuse.proofs.inv.shapes.Shapes.{shape_grows}
 
 -- the eras of a phase are no earlier than this, and a retire era no earlier than the clock where the row was cut
 abbrev pub begin_since : (from : ℕ) → BeginAt → Type 0

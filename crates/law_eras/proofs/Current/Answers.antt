@@ -25,18 +25,18 @@ use Rattle.wfe_core.specs.Posts.{tag_of}
 use Rattle.wfe_core.specs.SlowPath.{own_request, asking}
 use Rattle.wfe_core.specs.Steps as steps
 use Rattle.wfe_core.specs.World.{World}
-use Rattle.inv_all.specs.shapes.Frame.{phase_left}
-use Rattle.inv_all.proofs.requests.Kept.{at_of}
-use Rattle.inv_all.specs.requests.NextDeals.{protect_deals, move_deals, base_deals, phase_deals}
-use Rattle.inv_all.specs.requests.Views.{View, Deal}
-use Rattle.inv_all.specs.requests.Views.Deal.{Quiet, Open, Answered, Passed, Taken}
-use Rattle.inv_all.proofs.covers.Fresh.{work_fresh, resume_fresh}
-use Rattle.inv_all.proofs.covers.Scans.{scan_starts}
-use Rattle.inv_all.specs.covers.Tries.{starts_base, is_start}
-use Rattle.inv_all.specs.links.Tracked.{opened_by}
-use Rattle.inv_all.specs.links.Origins.{OriginsNeeds}
-use Rattle.inv_all.proofs.links.Origins.Deals.{answered_is, passed_is}
-use Rattle.inv_all.proofs.links.Origins.Plain.{out_plain, plain_after, out_protects, protects_on}
+use Rattle.law_reuse.specs.inv.shapes.Frame.{phase_left}
+use Rattle.law_reuse.proofs.inv.requests.Kept.{at_of}
+use Rattle.law_reuse.specs.inv.requests.NextDeals.{protect_deals, move_deals, base_deals, phase_deals}
+use Rattle.law_reuse.specs.inv.requests.Views.{View, Deal}
+use Rattle.law_reuse.specs.inv.requests.Views.Deal.{Quiet, Open, Answered, Passed, Taken}
+use Rattle.law_reuse.proofs.inv.covers.Fresh.{work_fresh, resume_fresh}
+use Rattle.law_reuse.proofs.inv.covers.Scans.{scan_starts}
+use Rattle.law_reuse.specs.inv.covers.Tries.{starts_base, is_start}
+use Rattle.law_reuse.specs.inv.links.Tracked.{opened_by}
+use Rattle.law_reuse.specs.inv.links.Origins.{OriginsNeeds}
+use Rattle.law_reuse.proofs.inv.links.Origins.Deals.{answered_is, passed_is}
+use Rattle.law_reuse.proofs.inv.links.Origins.Plain.{out_plain, plain_after, out_protects, protects_on}
 use Rattle.law_eras.proofs.Current.Ages.{protect_since, base_since, PhaseSince}
 
 -- an answer's era is no earlier than this

@@ -20,25 +20,25 @@ use Rattle.wfe_core.specs.Phases.Base.{Protect, Move}
 use Rattle.wfe_core.specs.Posts.{counted, tag_of}
 use Rattle.wfe_core.specs.SlowPath.{own_request, asking, answer_in}
 use Rattle.wfe_core.specs.World.{World, start, begin, step, finds, is_busy}
-use Rattle.inv_all.proofs.shapes.Frame.{seat_stays, begin_stays, begin_begins}
-use Rattle.inv_all.specs.shapes.Seats.{Seats}
-use Rattle.inv_all.proofs.requests.Answering.{heard, word_by_open}
-use Rattle.inv_all.specs.requests.Deals.{is_quiet, is_open, asked_at, answered_with}
-use Rattle.inv_all.specs.requests.NextDeals.{next_deals}
-use Rattle.inv_all.specs.requests.Roles.{knows}
-use Rattle.inv_all.specs.requests.Standing.{request_of, Requests}
-use Rattle.inv_all.specs.requests.Views.{View, Deal, Role, Role as roles}
-use Rattle.inv_all.specs.requests.Views.Deal.{Quiet, Open, Answered, Passed, Taken}
-use Rattle.inv_all.proofs.covers.Begun.{first_begins}
-use Rattle.inv_all.proofs.covers.Held.{finds_at}
-use Rattle.inv_all.specs.covers.Tries.{starts_base, is_start}
-use Rattle.inv_all.specs.links.Tracked.{opened_by}
-use Rattle.inv_all.specs.links.Origins.{OriginsNeeds}
-use Rattle.inv_all.proofs.links.Origins.Opened.{knows_of, open_back, stepped_by}
+use Rattle.law_reuse.proofs.inv.shapes.Frame.{seat_stays, begin_stays, begin_begins}
+use Rattle.law_reuse.specs.inv.shapes.Seats.{Seats}
+use Rattle.law_reuse.proofs.inv.requests.Answering.{heard, word_by_open}
+use Rattle.law_reuse.specs.inv.requests.Deals.{is_quiet, is_open, asked_at, answered_with}
+use Rattle.law_reuse.specs.inv.requests.NextDeals.{next_deals}
+use Rattle.law_reuse.specs.inv.requests.Roles.{knows}
+use Rattle.law_reuse.specs.inv.requests.Standing.{request_of, Requests}
+use Rattle.law_reuse.specs.inv.requests.Views.{View, Deal, Role, Role as roles}
+use Rattle.law_reuse.specs.inv.requests.Views.Deal.{Quiet, Open, Answered, Passed, Taken}
+use Rattle.law_reuse.proofs.inv.covers.Begun.{first_begins}
+use Rattle.law_reuse.proofs.inv.covers.Held.{finds_at}
+use Rattle.law_reuse.specs.inv.covers.Tries.{starts_base, is_start}
+use Rattle.law_reuse.specs.inv.links.Tracked.{opened_by}
+use Rattle.law_reuse.specs.inv.links.Origins.{OriginsNeeds}
+use Rattle.law_reuse.proofs.inv.links.Origins.Opened.{knows_of, open_back, stepped_by}
 use Rattle.law_eras.proofs.Current.Ages.{protect_since, PhaseSince, HeardSince}
 use Rattle.law_eras.proofs.Current.Answers.{DealSince, base_helps, HelpSince, Answers, phase_kept, checks, turn_checked, checked_since}
-use Rattle.inv_all.proofs.requests.Known.{stands_as, own_word}
-use Rattle.inv_all.proofs.links.Origins.Kept.{idle_deal}
+use Rattle.law_reuse.proofs.inv.requests.Known.{stands_as, own_word}
+use Rattle.law_reuse.proofs.inv.links.Origins.Kept.{idle_deal}
 use Rattle.wfe_core.proofs.Facts.{not_right, first_of, same_test}
 
 -- what a mover knows of the request that it has loaded

@@ -20,28 +20,28 @@ use Rattle.wfe_core.specs.Phases.Base.{Begin, Protect, Allocate, Retire, Move}
 use Rattle.wfe_core.specs.Posts.{counted}
 use Rattle.wfe_core.specs.Steps as steps
 use Rattle.wfe_core.specs.World.{World, begin, step, finds, is_busy, told_in}
-use Rattle.inv_all.proofs.shapes.Frame.{after_seated, begun_seated, seat_stays, seat_steps, begin_stays, begin_begins}
-use Rattle.inv_all.proofs.shapes.Kept.{begun_fits}
-use Rattle.inv_all.specs.shapes.Frame.{Seated}
-use Rattle.inv_all.specs.shapes.Seats.{PostFits}
-use Rattle.inv_all.specs.requests.Views.{View as Asked}
-use Rattle.inv_all.proofs.requests.Kept.{requests_begin, requests_start}
-use Rattle.inv_all.specs.rows.Agree.{first_rows, rows_after}
-use Rattle.inv_all.specs.rows.Chain.{first_line, line_after}
-use Rattle.inv_all.specs.rows.Queue.{Line}
-use Rattle.inv_all.specs.rows.Rows.{View}
-use Rattle.inv_all.proofs.covers.Held.{finds_at}
-use Rattle.inv_all.specs.links.Origins.{OriginsNeeds}
-use Rattle.inv_all.specs.history.Record.{Past, Each, EachEntry, tells_of}
-use Rattle.inv_all.specs.history.Record.Past.{Then}
-use Rattle.inv_all.proofs.history.Entries.{entries_of_each}
-use Rattle.inv_all.specs.history.History.{Item, Begins, Steps, Made, fits, done, done_if, did, made_from, made_of, first_made, record_of}
-use Rattle.inv_all.proofs.history.Along.{begins_right, low_seat, made_snoc}
-use Rattle.inv_all.specs.Known.{Known}
-use Rattle.inv_all.proofs.Inv.Begun.{known_start, known_begin}
-use Rattle.inv_all.proofs.Inv.Kept.{known_kept, asked_next}
-use Rattle.inv_all.proofs.Inv.Whole.{origins_need}
-use Rattle.inv_all.proofs.Machines.{within_of}
+use Rattle.law_reuse.proofs.inv.shapes.Frame.{after_seated, begun_seated, seat_stays, seat_steps, begin_stays, begin_begins}
+use Rattle.law_reuse.proofs.inv.shapes.Kept.{begun_fits}
+use Rattle.law_reuse.specs.inv.shapes.Frame.{Seated}
+use Rattle.law_reuse.specs.inv.shapes.Seats.{PostFits}
+use Rattle.law_reuse.specs.inv.requests.Views.{View as Asked}
+use Rattle.law_reuse.proofs.inv.requests.Kept.{requests_begin, requests_start}
+use Rattle.law_reuse.specs.inv.rows.Agree.{first_rows, rows_after}
+use Rattle.law_reuse.specs.inv.rows.Chain.{first_line, line_after}
+use Rattle.law_reuse.specs.inv.rows.Queue.{Line}
+use Rattle.law_reuse.specs.inv.rows.Rows.{View}
+use Rattle.law_reuse.proofs.inv.covers.Held.{finds_at}
+use Rattle.law_reuse.specs.inv.links.Origins.{OriginsNeeds}
+use Rattle.law_reuse.specs.inv.history.Record.{Past, Each, EachEntry, tells_of}
+use Rattle.law_reuse.specs.inv.history.Record.Past.{Then}
+use Rattle.law_reuse.proofs.inv.history.Entries.{entries_of_each}
+use Rattle.law_reuse.specs.inv.history.History.{Item, Begins, Steps, Made, fits, done, done_if, did, made_from, made_of, first_made, record_of}
+use Rattle.law_reuse.proofs.inv.history.Along.{begins_right, low_seat, made_snoc}
+use Rattle.law_reuse.specs.inv.Known.{Known}
+use Rattle.law_reuse.proofs.inv.Inv.Begun.{known_start, known_begin}
+use Rattle.law_reuse.proofs.inv.Inv.Kept.{known_kept, asked_next}
+use Rattle.law_reuse.proofs.inv.Inv.Whole.{origins_need}
+use Rattle.law_reuse.proofs.inv.Machines.{within_of}
 use Rattle.laws.specs.StateAt.{clock_of}
 use Rattle.law_eras.proofs.EraLaw.Keeps.{record_clock}
 use Rattle.laws.specs.HistoryEras.{birth_current, retire_current, reserve_current}

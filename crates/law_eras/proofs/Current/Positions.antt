@@ -5,10 +5,10 @@ use Rattle.std.specs.Prelude.{◌==◌, ◌&&◌, ◌||◌, not, nat_le, if◌th
 use Rattle.wfe_core.specs.defs.declared.event.Event.{Event}
 use Rattle.wfe_core.specs.defs.declared.event.Event.TheVariants as events
 use Rattle.wfe_core.proofs.Facts.{first_of, rest_of, both_below}
-use Rattle.inv_all.specs.history.Record.{Past, Test, tells_of, value_since, begins, own}
-use Rattle.inv_all.specs.history.Record.Past.{Start, Then}
-use Rattle.inv_all.proofs.history.AllOf.{all_of}
-use Rattle.inv_all.proofs.Machines.{is_within}
+use Rattle.law_reuse.specs.inv.history.Record.{Past, Test, tells_of, value_since, begins, own}
+use Rattle.law_reuse.specs.inv.history.Record.Past.{Start, Then}
+use Rattle.law_reuse.proofs.inv.history.AllOf.{all_of}
+use Rattle.law_reuse.proofs.inv.Machines.{is_within}
 use Rattle.laws.specs.StateAt.{ticked_by, clock_of, was_clock, cuts}
 use Rattle.law_eras.specs.Current.{ClockBetween}
 

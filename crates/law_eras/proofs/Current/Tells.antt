@@ -20,16 +20,16 @@ use Rattle.wfe_core.specs.Posts.{counted}
 use Rattle.wfe_core.specs.Rounds.{scheme_of, clear_told}
 use Rattle.wfe_core.specs.World.{World, finds, told_in}
 use Rattle.wfe_core.proofs.Facts.{first_of, rest_of, number_is}
-use Rattle.inv_all.specs.shapes.Eras.{base_eras, PhaseEras}
-use Rattle.inv_all.specs.history.Record.{Past, Test, Each, tells_of, begins, own}
-use Rattle.inv_all.specs.history.Record.Past.{Then}
-use Rattle.inv_all.proofs.history.Passes.{is_quiet, Closed, First, scan_told, step_goes}
-use Rattle.inv_all.proofs.history.AllOf.{all_of, of_along, of_weaker}
+use Rattle.law_reuse.specs.inv.shapes.Eras.{base_eras, PhaseEras}
+use Rattle.law_reuse.specs.inv.history.Record.{Past, Test, Each, tells_of, begins, own}
+use Rattle.law_reuse.specs.inv.history.Record.Past.{Then}
+use Rattle.law_reuse.proofs.inv.history.Passes.{is_quiet, Closed, First, scan_told, step_goes}
+use Rattle.law_reuse.proofs.inv.history.AllOf.{all_of, of_along, of_weaker}
 use Rattle.laws.specs.StateAt.{clock_of, was_clock, cuts}
 use Rattle.laws.specs.EraLaw.{upper_current}
 use Rattle.law_eras.proofs.Current.Ages.{base_since, PhaseSince}
 use Rattle.law_eras.proofs.Current.Positions.{begun_at, cut_at, was_between}
-use Rattle.inv_all.proofs.history.MayTell.{Tells, Shape, Silent, Single, Clears, Takes, base_shows, span_of, is_find, shape_of, clear_all}
+use Rattle.law_reuse.proofs.inv.history.MayTell.{Tells, Shape, Silent, Single, Clears, Takes, base_shows, span_of, is_find, shape_of, clear_all}
 use Rattle.wfe_core.specs.Allocate.{is_claimed}
 use Rattle.wfe_core.specs.defs.declared.lifetime.Interval.{Interval}
 

@@ -31,19 +31,19 @@ use Rattle.wfe_core.specs.Posts.{counted, lower, upper}
 use Rattle.wfe_core.specs.Steps as steps
 use Rattle.wfe_core.specs.World.{World, step, told_in}
 use Rattle.wfe_core.specs.words.Schemes.{is_ibr}
-use Rattle.inv_all.specs.shapes.Eras.{TurnIn, SpanIn}
+use Rattle.law_reuse.specs.inv.shapes.Eras.{TurnIn, SpanIn}
 use Rattle.std.specs.List.{filter}
-use Rattle.inv_all.specs.history.Record.{Past}
-use Rattle.inv_all.specs.history.Record.Past.{Then}
+use Rattle.law_reuse.specs.inv.history.Record.{Past}
+use Rattle.law_reuse.specs.inv.history.Record.Past.{Then}
 use Rattle.laws.proofs.Along.{along, Single, OfKind, along_kind}
 use Rattle.law_eras.proofs.EraLaw.Shapes.{shape_single}
-use Rattle.inv_all.proofs.ends.Told.Rows.{own_told, step_filter}
-use Rattle.inv_all.proofs.ends.Told.Turns.{is_later}
+use Rattle.law_reuse.proofs.inv.ends.Told.Rows.{own_told, step_filter}
+use Rattle.law_reuse.proofs.inv.ends.Told.Turns.{is_later}
 use Rattle.laws.specs.StateAt.{born_by, birth_of, ticked_by, clock_of}
 use Rattle.law_reuse.proofs.Holding.Values.{Ranges}
 use Rattle.laws.specs.HistoryEras.{span_ok, era_ok}
-use Rattle.inv_all.proofs.history.MayTell.{Tells, base_shows, span_of, is_find, shape_of, base_all}
-use Rattle.inv_all.proofs.history.AllOf.{all_of}
+use Rattle.law_reuse.proofs.inv.history.MayTell.{Tells, base_shows, span_of, is_find, shape_of, base_all}
+use Rattle.law_reuse.proofs.inv.history.AllOf.{all_of}
 use Rattle.wfe_core.proofs.Facts.{first_of, rest_of, number_is}
 use Rattle.wfe_core.specs.Allocate.{is_claimed}
 

@@ -27,18 +27,18 @@ use Rattle.wfe_core.specs.World.{World, told_in, finds}
 use Rattle.wfe_core.proofs.Facts.{both, first_of, rest_of, and_true, false_of_not, lt_test, number_is}
 use Rattle.wfe_core.proofs.Ranges.{bounds_of}
 use Rattle.wfe_core.proofs.words.Schemes.{clock_eras, counts_eras, helps_eras, other_eras}
-use Rattle.inv_all.specs.covers.Held.{index_base}
-use Rattle.inv_all.specs.history.History.{Made, first_made, record_of}
-use Rattle.inv_all.specs.history.Record.{Past, Each, tells_of}
-use Rattle.inv_all.specs.history.Record.Past.{Then}
-use Rattle.inv_all.specs.shapes.Eras.{base_eras}
-use Rattle.inv_all.specs.shapes.Seats.{PhaseFits, base_fits}
-use Rattle.inv_all.proofs.Inv.Shapes.{index_in}
-use Rattle.inv_all.proofs.history.AllOf.{all_of}
-use Rattle.inv_all.proofs.history.Along.{Steady, items_keep}
-use Rattle.inv_all.proofs.history.Entries.{entries_of_each}
-use Rattle.inv_all.proofs.history.MayTell.{Tells, may_store, base_helper, base_index, base_whole, base_shows, hands, same_span, base_all, Passes, step_all}
-use Rattle.inv_all.proofs.history.Passes.{is_quiet, First}
+use Rattle.law_reuse.specs.inv.covers.Held.{index_base}
+use Rattle.law_reuse.specs.inv.history.History.{Made, first_made, record_of}
+use Rattle.law_reuse.specs.inv.history.Record.{Past, Each, tells_of}
+use Rattle.law_reuse.specs.inv.history.Record.Past.{Then}
+use Rattle.law_reuse.specs.inv.shapes.Eras.{base_eras}
+use Rattle.law_reuse.specs.inv.shapes.Seats.{PhaseFits, base_fits}
+use Rattle.law_reuse.proofs.inv.Inv.Shapes.{index_in}
+use Rattle.law_reuse.proofs.inv.history.AllOf.{all_of}
+use Rattle.law_reuse.proofs.inv.history.Along.{Steady, items_keep}
+use Rattle.law_reuse.proofs.inv.history.Entries.{entries_of_each}
+use Rattle.law_reuse.proofs.inv.history.MayTell.{Tells, may_store, base_helper, base_index, base_whole, base_shows, hands, same_span, base_all, Passes, step_all}
+use Rattle.law_reuse.proofs.inv.history.Passes.{is_quiet, First}
 use Rattle.law_reuse.proofs.Holding.Holds.{Held, begin_held, step_held, first_held, ranges_of}
 use Rattle.law_reuse.proofs.Holding.Values.{Ranges}
 use Rattle.laws.specs.HistoryTable.{is_guard, is_guarded, guards_ok}

@@ -9,15 +9,15 @@ use Rattle.wfe_core.specs.defs.declared.event.Event.{Event}
 use Rattle.wfe_core.specs.Calls.{Why, Phase, Runs}
 use Rattle.wfe_core.specs.Phases.{Base}
 use Rattle.wfe_core.specs.World.{World, finds, is_busy, step, told_in}
-use Rattle.inv_all.specs.rows.Rows.RowMove.{Lists}
-use Rattle.inv_all.specs.rows.Hands.{row_move}
-use Rattle.inv_all.specs.history.Record.{Past, Each, tells_of}
-use Rattle.inv_all.specs.history.Record.Past.{Then}
-use Rattle.inv_all.proofs.history.Entries.{entries_of_each}
-use Rattle.inv_all.specs.history.History.{Item, Begins, Steps, Made, done, made_of, first_made, record_of}
-use Rattle.inv_all.proofs.history.Along.{Steady, items_keep}
-use Rattle.inv_all.specs.ends.Told.{move_of}
-use Rattle.inv_all.proofs.ends.Told.Births.{retires_given}
+use Rattle.law_reuse.specs.inv.rows.Rows.RowMove.{Lists}
+use Rattle.law_reuse.specs.inv.rows.Hands.{row_move}
+use Rattle.law_reuse.specs.inv.history.Record.{Past, Each, tells_of}
+use Rattle.law_reuse.specs.inv.history.Record.Past.{Then}
+use Rattle.law_reuse.proofs.inv.history.Entries.{entries_of_each}
+use Rattle.law_reuse.specs.inv.history.History.{Item, Begins, Steps, Made, done, made_of, first_made, record_of}
+use Rattle.law_reuse.proofs.inv.history.Along.{Steady, items_keep}
+use Rattle.law_reuse.specs.inv.ends.Told.{move_of}
+use Rattle.law_reuse.proofs.inv.ends.Told.Births.{retires_given}
 use Rattle.laws.proofs.Along.{along, along_kind, Single, single_each}
 use Rattle.law_reuse.proofs.Holding.Holds.{Held, begin_held, step_held, first_held, given_need, ranges_of}
 use Rattle.laws.specs.StateAt.{ticked_by, clock_of}

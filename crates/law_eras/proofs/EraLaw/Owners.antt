@@ -20,25 +20,25 @@ use Rattle.wfe_core.specs.Phases.Base.{Move}
 use Rattle.wfe_core.specs.Posts.{counted}
 use Rattle.wfe_core.specs.World.{World, told_in, finds}
 use Rattle.std.specs.List.{filter}
-use Rattle.inv_all.specs.history.Record.{Past}
-use Rattle.inv_all.specs.history.Record.Past.{Then}
+use Rattle.law_reuse.specs.inv.history.Record.{Past}
+use Rattle.law_reuse.specs.inv.history.Record.Past.{Then}
 use Rattle.laws.proofs.Along.{Single, OfKind}
 use Rattle.law_eras.proofs.EraLaw.Shapes.{shape_single}
-use Rattle.inv_all.proofs.ends.Told.Rows.{own_told, step_filter}
-use Rattle.inv_all.proofs.ends.Told.Turns.{is_later}
+use Rattle.law_reuse.proofs.inv.ends.Told.Rows.{own_told, step_filter}
+use Rattle.law_reuse.proofs.inv.ends.Told.Turns.{is_later}
 use Rattle.law_reuse.proofs.Holding.Values.{Ranges}
 use Rattle.wfe_core.specs.words.Schemes.{is_wfe}
-use Rattle.inv_all.specs.requests.Standing.{Requests}
-use Rattle.inv_all.specs.requests.Views.{View as Asked, Role as role}
-use Rattle.inv_all.proofs.handover.Shown.{helper_shows}
+use Rattle.law_reuse.specs.inv.requests.Standing.{Requests}
+use Rattle.law_reuse.specs.inv.requests.Views.{View as Asked, Role as role}
+use Rattle.law_reuse.proofs.inv.handover.Shown.{helper_shows}
 use Rattle.wfe_core.specs.Links.{link_number}
 use Rattle.wfe_core.proofs.Facts.{first_of, both, rest_of, number_is, false_not_true, or_more}
-use Rattle.inv_all.specs.covers.Covers.{eras_shown}
+use Rattle.law_reuse.specs.inv.covers.Covers.{eras_shown}
 use Rattle.laws.specs.StateAt.{reserved_by, value_of, seat_of}
 use Rattle.laws.specs.EraLaw.{same_interval, guard_ok}
 use Rattle.law_eras.proofs.EraLaw.Dates.{is_dated, later_undated}
-use Rattle.inv_all.proofs.requests.Known.{stands_as}
-use Rattle.inv_all.proofs.history.MayTell.{Tells, may_store, base_helper, base_index, base_whole, base_shows, hands, same_span, span_of, is_find, shape_of}
+use Rattle.law_reuse.proofs.inv.requests.Known.{stands_as}
+use Rattle.law_reuse.proofs.inv.history.MayTell.{Tells, may_store, base_helper, base_index, base_whole, base_shows, hands, same_span, span_of, is_find, shape_of}
 
 abbrev pub is_reserve : Event → Bool
 is_reserve (events.Reserve guard span) = true

@@ -6,8 +6,8 @@ use Rattle.wfe_core.specs.Phases.{Base}
 use Rattle.wfe_core.specs.declared.post.Post.{Post}
 use Rattle.wfe_core.specs.defs.declared.event.Event.{Event}
 use Rattle.wfe_core.specs.defs.declared.event.Event.TheVariants as events
-use Rattle.inv_all.proofs.history.MayTell.{Shape, Silent, Clears, Takes, Tells, is_find}
-use Rattle.inv_all.specs.history.Record.{Past, Test}
+use Rattle.law_reuse.proofs.inv.history.MayTell.{Shape, Silent, Clears, Takes, Tells, is_find}
+use Rattle.law_reuse.specs.inv.history.Record.{Past, Test}
 use Rattle.laws.proofs.Along.{Single}
 
 -- of what a machine's step tells one event at most is of such a kind, where neither what stands no more nor what is found is

@@ -22,30 +22,30 @@ use Rattle.wfe_core.specs.Steps.{phase_move}
 use Rattle.wfe_core.specs.World.{World, step, finds, is_busy, told_in}
 use Rattle.wfe_core.specs.Calls.{ChangeKept, EnqueueKept, LoadVersion, LoadCount, LoadKey, LoadValue, ExchangeRoot, LoadNumber, LoadNext, PassTail, ExchangeNext, ExchangeTail, LoadTail, SwingTail, TakeNumber, TakeValue, ExchangeHead, Getting, Changing, Enqueuing, Dequeuing, ReadGuard, GiveBack, Phase, Idle, Runs, Scans, Works, CallTurn, CallOutcome, GoesOn, Answers}
 use Rattle.wfe_core.proofs.Facts.{same_number, both, first_of, rest_of, none_by, if_same, unless_true, same_both, number_is}
-use Rattle.inv_all.specs.requests.Views.{View as Asked}
-use Rattle.inv_all.proofs.requests.Kept.{requests_begin, requests_start}
-use Rattle.inv_all.specs.rows.Agree.{first_rows, rows_after}
-use Rattle.inv_all.specs.rows.Chain.{first_line, line_after}
-use Rattle.inv_all.specs.rows.Hands.{hand_in, holds_slot, is_right, row_move}
-use Rattle.inv_all.specs.rows.Queue.{Line, is_past, line_move, moved_line, Joins, Keeps}
-use Rattle.inv_all.specs.rows.Rows.{Status, Hand, View, RowMove, made, names, status_in, is_taken}
-use Rattle.inv_all.specs.rows.Rows.Hand.{Taken}
-use Rattle.inv_all.specs.rows.Rows.Status.{Free, Claimed, Born, Linked, InQueue, Cut, Sealed, Listed}
-use Rattle.inv_all.specs.rows.Rows.RowMove.{Stays, Claims, Bears, Drops, Links, Replaces, Appends, Pops, Reads, Seals, Lists, Returns}
-use Rattle.inv_all.proofs.rows.Fits.{MoveFits}
-use Rattle.inv_all.proofs.rows.Went.{WalksIn}
-use Rattle.inv_all.proofs.covers.Kept.{before_at}
-use Rattle.inv_all.specs.history.Record.{Past, Each, tells_of}
-use Rattle.inv_all.specs.history.Record.Past.{Then}
-use Rattle.inv_all.proofs.history.Entries.{entries_of_each}
-use Rattle.inv_all.specs.history.History.{Begins, Steps, Made, done, first_made, record_of}
-use Rattle.inv_all.proofs.history.Along.{Steady, items_keep}
-use Rattle.inv_all.specs.Known.{Known}
-use Rattle.inv_all.proofs.Inv.Begun.{known_start, known_begin}
-use Rattle.inv_all.proofs.Inv.Kept.{known_kept, asked_next}
-use Rattle.inv_all.specs.ends.Told.{row_events, birth_in, move_of}
+use Rattle.law_answers.specs.inv.requests.Views.{View as Asked}
+use Rattle.law_answers.proofs.inv.requests.Kept.{requests_begin, requests_start}
+use Rattle.law_answers.specs.inv.rows.Agree.{first_rows, rows_after}
+use Rattle.law_answers.specs.inv.rows.Chain.{first_line, line_after}
+use Rattle.law_answers.specs.inv.rows.Hands.{hand_in, holds_slot, is_right, row_move}
+use Rattle.law_answers.specs.inv.rows.Queue.{Line, is_past, line_move, moved_line, Joins, Keeps}
+use Rattle.law_answers.specs.inv.rows.Rows.{Status, Hand, View, RowMove, made, names, status_in, is_taken}
+use Rattle.law_answers.specs.inv.rows.Rows.Hand.{Taken}
+use Rattle.law_answers.specs.inv.rows.Rows.Status.{Free, Claimed, Born, Linked, InQueue, Cut, Sealed, Listed}
+use Rattle.law_answers.specs.inv.rows.Rows.RowMove.{Stays, Claims, Bears, Drops, Links, Replaces, Appends, Pops, Reads, Seals, Lists, Returns}
+use Rattle.law_answers.proofs.inv.rows.Fits.{MoveFits}
+use Rattle.law_answers.proofs.inv.rows.Went.{WalksIn}
+use Rattle.law_answers.proofs.inv.covers.Kept.{before_at}
+use Rattle.law_answers.specs.inv.history.Record.{Past, Each, tells_of}
+use Rattle.law_answers.specs.inv.history.Record.Past.{Then}
+use Rattle.law_answers.proofs.inv.history.Entries.{entries_of_each}
+use Rattle.law_answers.specs.inv.history.History.{Begins, Steps, Made, done, first_made, record_of}
+use Rattle.law_answers.proofs.inv.history.Along.{Steady, items_keep}
+use Rattle.law_answers.specs.inv.Known.{Known}
+use Rattle.law_answers.proofs.inv.Inv.Begun.{known_start, known_begin}
+use Rattle.law_answers.proofs.inv.Inv.Kept.{known_kept, asked_next}
+use Rattle.law_answers.specs.inv.ends.Told.{row_events, birth_in, move_of}
 use Rattle.laws.proofs.Along.{along}
-use Rattle.inv_all.proofs.history.AllOf.{all_of, of_weaker}
+use Rattle.law_answers.proofs.inv.history.AllOf.{all_of, of_weaker}
 use Rattle.laws.specs.StateAt.{next_by, next_at, was_given_by, was_given, tail_by, tail_at, head_at}
 use Rattle.laws.specs.HistoryRows.{nexts_ok}
 use Rattle.laws.specs.Once.{is_slot}
@@ -57,9 +57,9 @@ use Rattle.law_places.proofs.Ordering.Nexts.{Here, next_moved, tail_moved, joine
 use Rattle.law_places.proofs.Ordering.Ordered.{word_of, Roots, roots_step, whole_comes, one_row, no_row, head_is}
 use Rattle.law_places.proofs.Placing.Shapes.{Claiming, Shape}
 use Rattle.laws.proofs.Tells.{tells_both}
-use Rattle.inv_all.proofs.rows.Queued.{finds_phase}
-use Rattle.inv_all.proofs.Inv.Whole.{covers_of}
-use Rattle.inv_all.proofs.rows.Runs.{taken_slot}
+use Rattle.law_answers.proofs.inv.rows.Queued.{finds_phase}
+use Rattle.law_answers.proofs.inv.Inv.Whole.{covers_of}
+use Rattle.law_answers.proofs.inv.rows.Runs.{taken_slot}
 
 -- a row that is given and not linked
 abbrev pub is_new : Status → Bool

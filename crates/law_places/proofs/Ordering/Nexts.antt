@@ -23,25 +23,25 @@ use Rattle.wfe_core.specs.Steps.{phase_move}
 use Rattle.wfe_core.specs.WriteRow.{row_word}
 use Rattle.wfe_core.specs.Calls.{ChangeKept, EnqueueKept, LoadVersion, LoadCount, LoadKey, LoadValue, ExchangeRoot, LoadNumber, LoadNext, PassTail, ExchangeNext, ExchangeTail, LoadTail, SwingTail, TakeNumber, TakeValue, ExchangeHead, Getting, Changing, Enqueuing, Dequeuing, GetAt, FindVersion, ReadGuard, GiveBack, Why, Phase, Idle, Runs, Scans, Works}
 use Rattle.wfe_core.proofs.Facts.{same_number, same_both}
-use Rattle.inv_all.specs.rows.Agree.{Plays}
-use Rattle.inv_all.specs.rows.Hands.{row_move}
-use Rattle.inv_all.specs.rows.Queue.{Line, is_past}
-use Rattle.inv_all.specs.rows.Rows.{Status, Hand, View, RowMove, Good, names, status_in}
-use Rattle.inv_all.specs.rows.Rows.Status.{Free, Born}
-use Rattle.inv_all.specs.rows.Rows.Hand.{Taken}
-use Rattle.inv_all.specs.rows.Rows.RowMove.{Stays, Claims, Bears, Drops, Links, Replaces, Appends, Pops, Reads, Seals, Lists, Returns}
-use Rattle.inv_all.proofs.rows.Fits.{MoveFits}
-use Rattle.inv_all.proofs.rows.Own.{unlinked_row, unlinked_tail, is_write, base_links}
-use Rattle.inv_all.proofs.rows.Went.{LineIn, WalksIn, born_unlined}
-use Rattle.inv_all.proofs.rows.Words.{put_other, missed}
-use Rattle.inv_all.specs.ends.Told.{row_events, birth_in}
+use Rattle.law_answers.specs.inv.rows.Agree.{Plays}
+use Rattle.law_answers.specs.inv.rows.Hands.{row_move}
+use Rattle.law_answers.specs.inv.rows.Queue.{Line, is_past}
+use Rattle.law_answers.specs.inv.rows.Rows.{Status, Hand, View, RowMove, Good, names, status_in}
+use Rattle.law_answers.specs.inv.rows.Rows.Status.{Free, Born}
+use Rattle.law_answers.specs.inv.rows.Rows.Hand.{Taken}
+use Rattle.law_answers.specs.inv.rows.Rows.RowMove.{Stays, Claims, Bears, Drops, Links, Replaces, Appends, Pops, Reads, Seals, Lists, Returns}
+use Rattle.law_answers.proofs.inv.rows.Fits.{MoveFits}
+use Rattle.law_answers.proofs.inv.rows.Own.{unlinked_row, unlinked_tail, is_write, base_links}
+use Rattle.law_answers.proofs.inv.rows.Went.{LineIn, WalksIn, born_unlined}
+use Rattle.law_answers.proofs.inv.rows.Words.{put_other, missed}
+use Rattle.law_answers.specs.inv.ends.Told.{row_events, birth_in}
 use Rattle.laws.proofs.Along.{along}
 use Rattle.laws.specs.StateAt.{next_by, tail_by}
 use Rattle.law_places.proofs.Placing.Fronts.{linked_front, queued_front, taken_front}
 use Rattle.law_places.proofs.Placing.Marks.{marks}
 use Rattle.law_places.proofs.Ordering.Ordered.{word_of}
 use Rattle.law_places.proofs.Placing.Shapes.{why_hand}
-use Rattle.inv_all.proofs.rows.Queued.{finds_phase}
+use Rattle.law_answers.proofs.inv.rows.Queued.{finds_phase}
 
 -- events of the rows lead no next link anywhere, but that a row is given
 rows_next : (s b : ℕ) (m : RowMove) (x : Option ℕ) → ((slot : ℕ) → m ≡ Claims slot → (s == slot) ≡ false) → along (next_by s) (row_events b m) x ≡ x

@@ -17,24 +17,24 @@ use Rattle.wfe_core.specs.Memory.{upd}
 use Rattle.wfe_core.specs.Steps.{phase_move}
 use Rattle.wfe_core.specs.World.{World, finds, is_busy, told_in}
 use Rattle.wfe_core.proofs.Facts.{same_number, both, first_of, rest_of}
-use Rattle.inv_all.specs.requests.Views.{View as Asked}
-use Rattle.inv_all.proofs.requests.Kept.{requests_begin, requests_start}
-use Rattle.inv_all.specs.rows.Agree.{Agree, first_rows, rows_after}
-use Rattle.inv_all.specs.rows.Chain.{first_line, line_after}
-use Rattle.inv_all.specs.rows.Queue.{Line}
-use Rattle.inv_all.specs.rows.Rows.{RowMove, View, made}
-use Rattle.inv_all.specs.rows.Rows.RowMove.{Stays, Claims, Bears, Drops, Links, Replaces, Appends, Pops, Reads, Seals, Lists, Returns}
-use Rattle.inv_all.specs.history.Record.{Past, Each, tells_of}
-use Rattle.inv_all.specs.history.Record.Past.{Then}
-use Rattle.inv_all.proofs.history.Entries.{entries_of_each}
-use Rattle.inv_all.specs.history.History.{Begins, Steps, Made, done, first_made, record_of}
-use Rattle.inv_all.proofs.history.Along.{Steady, items_keep}
-use Rattle.inv_all.specs.Known.{Known}
-use Rattle.inv_all.proofs.Inv.Begun.{known_start, known_begin}
-use Rattle.inv_all.proofs.Inv.Kept.{known_kept, asked_next}
-use Rattle.inv_all.specs.ends.Told.{move_of}
+use Rattle.law_answers.specs.inv.requests.Views.{View as Asked}
+use Rattle.law_answers.proofs.inv.requests.Kept.{requests_begin, requests_start}
+use Rattle.law_answers.specs.inv.rows.Agree.{Agree, first_rows, rows_after}
+use Rattle.law_answers.specs.inv.rows.Chain.{first_line, line_after}
+use Rattle.law_answers.specs.inv.rows.Queue.{Line}
+use Rattle.law_answers.specs.inv.rows.Rows.{RowMove, View, made}
+use Rattle.law_answers.specs.inv.rows.Rows.RowMove.{Stays, Claims, Bears, Drops, Links, Replaces, Appends, Pops, Reads, Seals, Lists, Returns}
+use Rattle.law_answers.specs.inv.history.Record.{Past, Each, tells_of}
+use Rattle.law_answers.specs.inv.history.Record.Past.{Then}
+use Rattle.law_answers.proofs.inv.history.Entries.{entries_of_each}
+use Rattle.law_answers.specs.inv.history.History.{Begins, Steps, Made, done, first_made, record_of}
+use Rattle.law_answers.proofs.inv.history.Along.{Steady, items_keep}
+use Rattle.law_answers.specs.inv.Known.{Known}
+use Rattle.law_answers.proofs.inv.Inv.Begun.{known_start, known_begin}
+use Rattle.law_answers.proofs.inv.Inv.Kept.{known_kept, asked_next}
+use Rattle.law_answers.specs.inv.ends.Told.{move_of}
 use Rattle.laws.proofs.Along.{along, along_kind}
-use Rattle.inv_all.proofs.history.AllOf.{all_of, of_weaker}
+use Rattle.law_answers.proofs.inv.history.AllOf.{all_of, of_weaker}
 use Rattle.laws.specs.StateAt.{bucket_by, bucket_at, head_by, head_at}
 use Rattle.laws.specs.Once.{Due, NoneDue, due_linked, due_by, due_at, is_free, changes_due, meets_due, order_ok}
 use Rattle.law_places.specs.Records.{RecordsKeepOrder}

@@ -15,19 +15,19 @@ use Rattle.wfe_core.specs.Memory as memory
 use Rattle.wfe_core.specs.Posts.{counted}
 use Rattle.wfe_core.specs.Steps.{phase_move}
 use Rattle.wfe_core.specs.World.{World, step, finds, is_busy, told_in}
-use Rattle.inv_all.proofs.covers.Held.{stepped_phase}
-use Rattle.inv_all.specs.shapes.Frame.{phase_left}
-use Rattle.inv_all.specs.requests.Views.{View as Asked}
-use Rattle.inv_all.specs.rows.Agree.{Agree, rows_after}
-use Rattle.inv_all.specs.rows.Queue.{Line}
-use Rattle.inv_all.specs.rows.Rows.{Hand, RowMove, View}
-use Rattle.inv_all.specs.rows.Rows.RowMove.{Stays, Claims, Bears, Drops, Links, Replaces, Appends, Pops, Reads, Seals, Lists, Returns}
-use Rattle.inv_all.specs.contents.Told.{NextChange, TellsRight, AllRight}
-use Rattle.inv_all.specs.history.Record.{Past, tells_of}
-use Rattle.inv_all.specs.Inv.{TellsRight as StepTells}
-use Rattle.inv_all.specs.Known.{Known}
-use Rattle.inv_all.proofs.Inv.Tells.{inv_tells}
-use Rattle.inv_all.specs.ends.Told.{move_of}
+use Rattle.law_answers.proofs.inv.covers.Held.{stepped_phase}
+use Rattle.law_answers.specs.inv.shapes.Frame.{phase_left}
+use Rattle.law_answers.specs.inv.requests.Views.{View as Asked}
+use Rattle.law_answers.specs.inv.rows.Agree.{Agree, rows_after}
+use Rattle.law_answers.specs.inv.rows.Queue.{Line}
+use Rattle.law_answers.specs.inv.rows.Rows.{Hand, RowMove, View}
+use Rattle.law_answers.specs.inv.rows.Rows.RowMove.{Stays, Claims, Bears, Drops, Links, Replaces, Appends, Pops, Reads, Seals, Lists, Returns}
+use Rattle.law_answers.specs.inv.contents.Told.{NextChange, TellsRight, AllRight}
+use Rattle.law_answers.specs.inv.history.Record.{Past, tells_of}
+use Rattle.law_answers.specs.inv.Inv.{TellsRight as StepTells}
+use Rattle.law_answers.specs.inv.Known.{Known}
+use Rattle.law_answers.proofs.inv.Inv.Tells.{inv_tells}
+use Rattle.law_answers.specs.inv.ends.Told.{move_of}
 use Rattle.laws.proofs.Along.{along, along_kind}
 use Rattle.laws.specs.StateAt.{Given, Without, given_of, given_by, cuts_of, cuts_by, retires_of, retires_by, changed_of, changed_by, seen}
 use Rattle.law_places.proofs.Placing.Marks.{is_marked, marks, tells, marks_told}
@@ -35,7 +35,7 @@ use Rattle.law_places.proofs.Placing.Moved.{hand_after, hand_made, loud_by, said
 use Rattle.law_places.proofs.Placing.Shapes.{HandFits, hand_fits, is_change_of, FindsAt, Ending, Shape, shape_of}
 use Rattle.law_places.proofs.Placing.Sums.{given_kind, cuts_kind, retires_still, changed_still, loud_still, said_still, along_both}
 use Rattle.laws.proofs.Tells.{seen_tells, seen_stays}
-use Rattle.inv_all.proofs.rows.Kept.{made_hand}
+use Rattle.law_answers.proofs.inv.rows.Kept.{made_hand}
 
 -- the record says of a seat what it has in hand
 abbrev pub ComesTo : Hand → Bool → ℕ → Past → Type 0

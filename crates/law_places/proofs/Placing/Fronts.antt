@@ -29,10 +29,10 @@ use Rattle.wfe_core.specs.Rounds.{scheme_of, bucket_of, index_of, taken_of, fini
 use Rattle.wfe_core.specs.Phases.{Base, Ending, Outcome, Goes, Ends}
 use Rattle.wfe_core.specs.Phases.Ending.{Done, Protected, Followed, Allocated, Retired, Clocked}
 use Rattle.wfe_core.specs.Calls.{Task, Gets, Changes, Holds, Enqueues, Dequeues, Next, Again, MakeRoom, Answering, Retiring, AfterScan, Answered, Repeated, Counted, ChangeKept, EnqueueKept, GetAt, FindVersion, FindCount, FindKey, FindValue, ChangeAt, LoadVersion, LoadCount, LoadKey, LoadValue, ExchangeRoot, EnqueueAt, LoadNumber, LoadNext, PassTail, ExchangeNext, ExchangeTail, DequeueAt, LoadTail, SwingTail, TakeNumber, TakeValue, ExchangeHead, Work, Getting, Changing, Enqueuing, Dequeuing, ScanAt, ReadGuard, GiveBack, Why, Opens, FollowsHead, Fills, ClearsNext, Clears, Finishes, GivesUp, Retires, Tidies, Advances, Releases, Phase, Idle, Runs, Scans, Works, CallTurn, CallOutcome}
-use Rattle.inv_all.proofs.history.Passes.{scan_told}
+use Rattle.law_answers.proofs.inv.history.Passes.{scan_told}
 use Rattle.law_answers.proofs.AnswersTold.Owed.{append_none}
-use Rattle.inv_all.proofs.history.AllOf.{all_of, of_along}
-use Rattle.inv_all.proofs.history.MayTell.{clear_all}
+use Rattle.law_answers.proofs.inv.history.AllOf.{all_of, of_along}
+use Rattle.law_answers.proofs.inv.history.MayTell.{clear_all}
 
 -- what comes after
 abbrev pub is_after : Event → Bool

@@ -13,29 +13,29 @@ use Rattle.wfe_core.specs.Calls.{CallTurn, CallOutcome, GoesOn, Answers}
 use Rattle.wfe_core.specs.Locals.{Local, busy_in, told_end, turn}
 use Rattle.wfe_core.specs.World.{World, begin, step, finds, is_busy, told_in}
 use Rattle.wfe_core.proofs.Facts.{same_number, first_of, rest_of}
-use Rattle.inv_all.proofs.covers.Held.{stepped_phase}
-use Rattle.inv_all.specs.shapes.Frame.{phase_left}
-use Rattle.inv_all.proofs.shapes.Frame.{seat_stays, begin_stays}
-use Rattle.inv_all.specs.requests.Views.{View as Asked}
-use Rattle.inv_all.proofs.requests.Kept.{requests_begin, requests_start}
-use Rattle.inv_all.specs.rows.Agree.{Agree, first_rows, rows_after}
-use Rattle.inv_all.specs.rows.Chain.{first_line, line_after}
-use Rattle.inv_all.specs.rows.Hands.{hand_in}
-use Rattle.inv_all.specs.rows.Queue.{Line}
-use Rattle.inv_all.specs.rows.Rows.{Hand, RowMove, View}
-use Rattle.inv_all.specs.rows.Rows.Hand.{Empty}
-use Rattle.inv_all.specs.rows.Rows.RowMove.{Claims, Lists}
-use Rattle.inv_all.specs.history.Record.{Past, Each, tells_of}
-use Rattle.inv_all.specs.history.Record.Past.{Then}
-use Rattle.inv_all.proofs.history.Entries.{entries_of_each}
-use Rattle.inv_all.specs.history.History.{Item, Begins, Steps, Made, done, made_of, first_made, record_of}
-use Rattle.inv_all.proofs.history.Along.{Steady, items_keep}
-use Rattle.inv_all.specs.Known.{Known}
-use Rattle.inv_all.proofs.Inv.Begun.{known_start, known_begin}
-use Rattle.inv_all.proofs.Inv.Kept.{known_kept, asked_next}
-use Rattle.inv_all.specs.ends.Told.{move_of}
+use Rattle.law_answers.proofs.inv.covers.Held.{stepped_phase}
+use Rattle.law_answers.specs.inv.shapes.Frame.{phase_left}
+use Rattle.law_answers.proofs.inv.shapes.Frame.{seat_stays, begin_stays}
+use Rattle.law_answers.specs.inv.requests.Views.{View as Asked}
+use Rattle.law_answers.proofs.inv.requests.Kept.{requests_begin, requests_start}
+use Rattle.law_answers.specs.inv.rows.Agree.{Agree, first_rows, rows_after}
+use Rattle.law_answers.specs.inv.rows.Chain.{first_line, line_after}
+use Rattle.law_answers.specs.inv.rows.Hands.{hand_in}
+use Rattle.law_answers.specs.inv.rows.Queue.{Line}
+use Rattle.law_answers.specs.inv.rows.Rows.{Hand, RowMove, View}
+use Rattle.law_answers.specs.inv.rows.Rows.Hand.{Empty}
+use Rattle.law_answers.specs.inv.rows.Rows.RowMove.{Claims, Lists}
+use Rattle.law_answers.specs.inv.history.Record.{Past, Each, tells_of}
+use Rattle.law_answers.specs.inv.history.Record.Past.{Then}
+use Rattle.law_answers.proofs.inv.history.Entries.{entries_of_each}
+use Rattle.law_answers.specs.inv.history.History.{Item, Begins, Steps, Made, done, made_of, first_made, record_of}
+use Rattle.law_answers.proofs.inv.history.Along.{Steady, items_keep}
+use Rattle.law_answers.specs.inv.Known.{Known}
+use Rattle.law_answers.proofs.inv.Inv.Begun.{known_start, known_begin}
+use Rattle.law_answers.proofs.inv.Inv.Kept.{known_kept, asked_next}
+use Rattle.law_answers.specs.inv.ends.Told.{move_of}
 use Rattle.laws.proofs.Along.{along}
-use Rattle.inv_all.proofs.history.AllOf.{all_of}
+use Rattle.law_answers.proofs.inv.history.AllOf.{all_of}
 use Rattle.laws.specs.StateAt.{began_of, told_of, Given, Without, given_of, given_by, cuts_of, cuts_by, is_empty, retires_of, retires_by, changed_of, changed_by, seen}
 use Rattle.laws.specs.AnswerLaw.{retires_for}
 use Rattle.laws.specs.HistoryAnswers.{answers_ok, counts_right, retires_ok, is_change, refuses_right, refusing_ok}
@@ -52,7 +52,7 @@ use Rattle.law_places.proofs.Placing.Shapes.{Claiming, HandFits, Shape}
 use Rattle.law_places.proofs.Placing.Single.{Single, no_single, single_by, single_right, single_seen, single_each, single_kind, single_moved, OnlyFirst, phase_first}
 use Rattle.law_places.proofs.Placing.Sums.{given_kind, cuts_kind, along_both, said_told, loud_told, answer_said, answer_loud}
 use Rattle.laws.proofs.Tells.{AllRight, each_tells, right_kind, seen_tells, tells_both}
-use Rattle.inv_all.proofs.rows.Kept.{idle_hand}
+use Rattle.law_answers.proofs.inv.rows.Kept.{idle_hand}
 
 -- a call that begins has come to nothing yet
 begun_none : (busy : Bool) → Agrees Empty busy Without false false [] 0 0

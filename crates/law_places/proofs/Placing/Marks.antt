@@ -19,13 +19,13 @@ use Rattle.wfe_core.specs.Steps.{phase_turn}
 use Rattle.wfe_core.specs.Calls.{ChangeKept, EnqueueKept, LoadVersion, LoadCount, LoadKey, LoadValue, ExchangeRoot, LoadNumber, LoadNext, PassTail, ExchangeNext, ExchangeTail, LoadTail, SwingTail, TakeNumber, TakeValue, ExchangeHead, Work, Getting, Changing, Enqueuing, Dequeuing, Phase, Idle, Runs, Scans, Works, CallTurn, CallOutcome, GoesOn, Answers}
 use Rattle.wfe_core.specs.World.{World, finds}
 use Rattle.wfe_core.proofs.Facts.{first_of, rest_of}
-use Rattle.inv_all.specs.rows.Hands.{row_move}
+use Rattle.law_answers.specs.inv.rows.Hands.{row_move}
 use Rattle.wfe_core.specs.defs.Events.{is_of_rows}
-use Rattle.inv_all.specs.ends.Told.{row_events, birth_in, move_of}
-use Rattle.inv_all.proofs.ends.Told.Rows.{rows_told}
+use Rattle.law_answers.specs.inv.ends.Told.{row_events, birth_in, move_of}
+use Rattle.law_answers.proofs.inv.ends.Told.Rows.{rows_told}
 use Rattle.law_answers.proofs.AnswersTold.Owed.{append_none}
-use Rattle.inv_all.proofs.history.AllOf.{all_of, of_along, of_weaker}
-use Rattle.inv_all.proofs.Machines.{is_machine, base_machine, scan_machine}
+use Rattle.law_answers.proofs.inv.history.AllOf.{all_of, of_along, of_weaker}
+use Rattle.law_answers.proofs.inv.Machines.{is_machine, base_machine, scan_machine}
 use Rattle.law_places.proofs.Placing.Fronts.{is_after, Starts, linked_front, queued_front, taken_front, work_front, front, turn_starts}
 
 -- of rows, links and changes, or the beginning or the end of a call

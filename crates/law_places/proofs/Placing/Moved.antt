@@ -9,11 +9,11 @@ use Rattle.wfe_core.specs.declared.post.Post.{Post}
 use Rattle.wfe_core.specs.Calls.{Phase}
 use Rattle.wfe_core.specs.Memory.{upd}
 use Rattle.wfe_core.proofs.Facts.{same_number, first_of, rest_of}
-use Rattle.inv_all.specs.rows.Rows.{Hand, RowMove, View, made}
-use Rattle.inv_all.specs.rows.Rows.Hand.{Empty, New, Taken, Old, Known, Dated}
-use Rattle.inv_all.specs.rows.Rows.RowMove.{Stays, Claims, Bears, Drops, Links, Replaces, Appends, Pops, Reads, Seals, Lists, Returns}
+use Rattle.law_answers.specs.inv.rows.Rows.{Hand, RowMove, View, made}
+use Rattle.law_answers.specs.inv.rows.Rows.Hand.{Empty, New, Taken, Old, Known, Dated}
+use Rattle.law_answers.specs.inv.rows.Rows.RowMove.{Stays, Claims, Bears, Drops, Links, Replaces, Appends, Pops, Reads, Seals, Lists, Returns}
 use Rattle.laws.proofs.Along.{along}
-use Rattle.inv_all.proofs.history.AllOf.{all_of}
+use Rattle.law_answers.proofs.inv.history.AllOf.{all_of}
 use Rattle.laws.specs.StateAt.{Given, Without, InHand, Placed, given_by, without_one, is_among, cuts_by, retires_by, changed_by}
 use Rattle.laws.specs.HistoryRows.{is_without, is_in_hand, places_right}
 use Rattle.laws.specs.Once.{retires_right}

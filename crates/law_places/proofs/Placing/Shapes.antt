@@ -26,16 +26,16 @@ use Rattle.wfe_core.specs.Phases.Base.{Allocate, GiveUp, Retire}
 use Rattle.wfe_core.specs.Posts.{counted}
 use Rattle.wfe_core.specs.Steps.{phase_move, phase_turn}
 use Rattle.wfe_core.specs.Calls.{Task, Gets, Changes, Holds, Enqueues, Dequeues, ChangeKept, EnqueueKept, LoadVersion, LoadCount, LoadKey, LoadValue, ExchangeRoot, LoadNumber, LoadNext, PassTail, ExchangeNext, ExchangeTail, LoadTail, SwingTail, TakeNumber, TakeValue, ExchangeHead, Getting, Changing, Enqueuing, Dequeuing, ReadGuard, GiveBack, Why, Fills, GivesUp, Retires, Phase, Idle, Runs, Scans, Works, Answers}
-use Rattle.inv_all.specs.rows.Hands.{hand_of, hand_in, hand_why, hand_base, is_right, runs_right, is_plain, base_row, linked_row, row_move}
-use Rattle.inv_all.specs.rows.Rows.{Hand, RowMove}
-use Rattle.inv_all.specs.rows.Rows.Hand.{Empty, New, Taken, Old, Known, Dated}
-use Rattle.inv_all.specs.rows.Rows.RowMove.{Stays, Claims, Bears, Drops, Links, Replaces, Appends, Pops, Reads, Seals, Lists, Returns}
-use Rattle.inv_all.specs.ends.Told.{row_events}
+use Rattle.law_answers.specs.inv.rows.Hands.{hand_of, hand_in, hand_why, hand_base, is_right, runs_right, is_plain, base_row, linked_row, row_move}
+use Rattle.law_answers.specs.inv.rows.Rows.{Hand, RowMove}
+use Rattle.law_answers.specs.inv.rows.Rows.Hand.{Empty, New, Taken, Old, Known, Dated}
+use Rattle.law_answers.specs.inv.rows.Rows.RowMove.{Stays, Claims, Bears, Drops, Links, Replaces, Appends, Pops, Reads, Seals, Lists, Returns}
+use Rattle.law_answers.specs.inv.ends.Told.{row_events}
 use Rattle.law_answers.proofs.AnswersTold.Owed.{owed}
-use Rattle.inv_all.proofs.history.AllOf.{all_of}
+use Rattle.law_answers.proofs.inv.history.AllOf.{all_of}
 use Rattle.law_places.proofs.Placing.Fronts.{linked_front, queued_front, taken_front}
 use Rattle.law_places.proofs.Placing.Marks.{marks}
-use Rattle.inv_all.proofs.rows.Runs.{taken_slot}
+use Rattle.law_answers.proofs.inv.rows.Runs.{taken_slot}
 
 -- what a seat has in hand before a move of rows
 abbrev pub HandFits : RowMove → Hand → Type 0

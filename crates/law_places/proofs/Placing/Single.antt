@@ -10,11 +10,11 @@ use Rattle.wfe_core.specs.defs.declared.event.Event.TheVariants as events
 use Rattle.wfe_core.specs.declared.post.Post.{Post}
 use Rattle.wfe_core.specs.Calls.{Phase, Idle, Runs, Scans, Works, Why, Opens, FollowsHead, Fills, ClearsNext, Clears, Finishes, GivesUp, Retires, Tidies, Advances, Releases, Next, Again, MakeRoom, Answering, Retiring, AfterScan, Answered, Repeated, Counted, Getting, Changing, Enqueuing, Dequeuing, EnqueueKept, EnqueueAt, LoadNumber, LoadNext, PassTail, ExchangeNext, ExchangeTail}
 use Rattle.wfe_core.proofs.Facts.{first_of, rest_of, both}
-use Rattle.inv_all.specs.rows.Rows.{RowMove}
-use Rattle.inv_all.specs.rows.Rows.RowMove.{Stays, Claims, Bears, Drops, Links, Replaces, Appends, Pops, Reads, Seals, Lists, Returns}
-use Rattle.inv_all.specs.history.Record.{Past, Each}
-use Rattle.inv_all.specs.history.Record.Past.{Start, Then}
-use Rattle.inv_all.proofs.history.AllOf.{all_of, of_weaker}
+use Rattle.law_answers.specs.inv.rows.Rows.{RowMove}
+use Rattle.law_answers.specs.inv.rows.Rows.RowMove.{Stays, Claims, Bears, Drops, Links, Replaces, Appends, Pops, Reads, Seals, Lists, Returns}
+use Rattle.law_answers.specs.inv.history.Record.{Past, Each}
+use Rattle.law_answers.specs.inv.history.Record.Past.{Start, Then}
+use Rattle.law_answers.proofs.inv.history.AllOf.{all_of, of_weaker}
 use Rattle.laws.proofs.Along.{along}
 use Rattle.laws.proofs.Tells.{AllRight, OfKind}
 use Rattle.laws.specs.HistoryAnswers.{owes}

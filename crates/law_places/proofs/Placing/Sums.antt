@@ -10,8 +10,8 @@ use Rattle.wfe_core.specs.defs.declared.call.Call.TheVariants as calls
 use Rattle.wfe_core.specs.defs.declared.event.Event.{Event}
 use Rattle.wfe_core.specs.defs.declared.event.Event.TheVariants as events
 use Rattle.wfe_core.proofs.Facts.{first_of, rest_of}
-use Rattle.inv_all.specs.history.Record.{Past}
-use Rattle.inv_all.specs.history.Record.Past.{Start, Then}
+use Rattle.law_answers.specs.inv.history.Record.{Past}
+use Rattle.law_answers.specs.inv.history.Record.Past.{Start, Then}
 use Rattle.laws.proofs.Along.{along}
 use Rattle.laws.specs.StateAt.{with_told, told_of, Given, given_by, cuts_by, retires_by, changed_by, seen}
 use Rattle.laws.specs.AnswerLaw.{suits, same_event, retires_for}

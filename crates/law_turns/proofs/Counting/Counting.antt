@@ -23,29 +23,29 @@ use Rattle.wfe_core.specs.Phases.MoveAt.{HandOver}
 use Rattle.wfe_core.specs.Phases.Base.{Protect, Reload, Move}
 use Rattle.wfe_core.specs.Calls.{Why, Phase, Idle, Runs, Scans, Works, ReadGuard, GiveBack, CallTurn}
 use Rattle.wfe_core.proofs.Facts.{same_number, both, first_of, rest_of}
-use Rattle.inv_all.specs.history.Turns as schedule
-use Rattle.inv_all.specs.history.Turns.{record_of, turns_of, EachTurn}
-use Rattle.inv_all.specs.history.Turns.History.{Blank, Starts, Turns}
-use Rattle.inv_all.specs.history.History.{Begins, Steps, Made, done, first_made}
-use Rattle.inv_all.specs.shapes.Eras.{EraIn}
+use Rattle.law_answers.specs.inv.history.Turns as schedule
+use Rattle.law_answers.specs.inv.history.Turns.{record_of, turns_of, EachTurn}
+use Rattle.law_answers.specs.inv.history.Turns.History.{Blank, Starts, Turns}
+use Rattle.law_answers.specs.inv.history.History.{Begins, Steps, Made, done, first_made}
+use Rattle.law_answers.specs.inv.shapes.Eras.{EraIn}
 use Rattle.wfe_core.specs.words.Schemes.{is_ibr}
-use Rattle.inv_all.specs.shapes.Frame.{phase_left}
-use Rattle.inv_all.specs.shapes.Seats.{PostFits, PhaseFits}
-use Rattle.inv_all.proofs.shapes.Frame.{seat_stays, begin_stays, begin_begins}
-use Rattle.inv_all.specs.requests.Deals.{answered_with, in_time}
-use Rattle.inv_all.specs.requests.Standing.{Requests}
-use Rattle.inv_all.specs.requests.Views.{Deal}
-use Rattle.inv_all.specs.requests.Views.Deal.{Quiet, Open, Answered, Passed, Taken}
-use Rattle.inv_all.specs.covers.Rests.{spare}
-use Rattle.inv_all.proofs.covers.Held.{stepped_post, stepped_phase, finds_at}
-use Rattle.inv_all.proofs.handover.Asks.{Asker, asker, fits_at}
-use Rattle.inv_all.proofs.handover.Deals.{handed_deal}
-use Rattle.inv_all.proofs.handover.Words.{Handed}
-use Rattle.inv_all.specs.Inv.{Inv}
-use Rattle.inv_all.proofs.Inv.Shapes.{eras_of}
-use Rattle.inv_all.proofs.Inv.Guards.{rests_need}
-use Rattle.inv_all.proofs.Inv.Whole.{handover_need}
-use Rattle.inv_all.proofs.history.Passes.{First, step_goes}
+use Rattle.law_answers.specs.inv.shapes.Frame.{phase_left}
+use Rattle.law_answers.specs.inv.shapes.Seats.{PostFits, PhaseFits}
+use Rattle.law_answers.proofs.inv.shapes.Frame.{seat_stays, begin_stays, begin_begins}
+use Rattle.law_answers.specs.inv.requests.Deals.{answered_with, in_time}
+use Rattle.law_answers.specs.inv.requests.Standing.{Requests}
+use Rattle.law_answers.specs.inv.requests.Views.{Deal}
+use Rattle.law_answers.specs.inv.requests.Views.Deal.{Quiet, Open, Answered, Passed, Taken}
+use Rattle.law_answers.specs.inv.covers.Rests.{spare}
+use Rattle.law_answers.proofs.inv.covers.Held.{stepped_post, stepped_phase, finds_at}
+use Rattle.law_answers.proofs.inv.handover.Asks.{Asker, asker, fits_at}
+use Rattle.law_answers.proofs.inv.handover.Deals.{handed_deal}
+use Rattle.law_answers.proofs.inv.handover.Words.{Handed}
+use Rattle.law_answers.specs.inv.Inv.{Inv}
+use Rattle.law_answers.proofs.inv.Inv.Shapes.{eras_of}
+use Rattle.law_answers.proofs.inv.Inv.Guards.{rests_need}
+use Rattle.law_answers.proofs.inv.Inv.Whole.{handover_need}
+use Rattle.law_answers.proofs.inv.history.Passes.{First, step_goes}
 use Rattle.laws.specs.StateAt.{reserves_of}
 use Rattle.laws.specs.HistoryTurns.{turns_since, event_right, events_right, numbers_right}
 use Rattle.law_turns.specs.Records.{ProtectionsCount}

@@ -36,11 +36,11 @@ use Rattle.wfe_core.specs.Phases.Base.{Protect, Reload}
 use Rattle.wfe_core.specs.Phases.Ending.{Done, Protected, Followed, Allocated, Retired, Clocked}
 use Rattle.wfe_core.specs.Calls.{Task, Gets, Changes, Holds, Enqueues, Dequeues, Next, Again, MakeRoom, Answering, Retiring, AfterScan, Answered, Repeated, Counted, ChangeKept, EnqueueKept, GetAt, FindVersion, FindCount, FindKey, FindValue, ChangeAt, LoadVersion, LoadCount, LoadKey, LoadValue, ExchangeRoot, EnqueueAt, LoadNumber, LoadNext, PassTail, ExchangeNext, ExchangeTail, DequeueAt, LoadTail, SwingTail, TakeNumber, TakeValue, ExchangeHead, Work, Getting, Changing, Enqueuing, Dequeuing, ScanAt, ReadGuard, GiveBack, Why, Opens, FollowsHead, Fills, ClearsNext, Clears, Finishes, GivesUp, Retires, Tidies, Advances, Releases, Phase, Idle, Runs, Scans, Works, CallTurn}
 use Rattle.wfe_core.specs.words.Schemes.{is_ibr, is_he}
-use Rattle.inv_all.specs.shapes.Frame.{phase_left}
-use Rattle.inv_all.specs.covers.Rests.{spare, bare, beside, within, deep, vacant_later, vacant_work, vacant_released}
-use Rattle.inv_all.proofs.covers.Resting.{bare_own}
-use Rattle.inv_all.proofs.covers.Vacant.{beside_bare}
-use Rattle.inv_all.proofs.covers.Rests.{spare_bare}
+use Rattle.law_answers.specs.inv.shapes.Frame.{phase_left}
+use Rattle.law_answers.specs.inv.covers.Rests.{spare, bare, beside, within, deep, vacant_later, vacant_work, vacant_released}
+use Rattle.law_answers.proofs.inv.covers.Resting.{bare_own}
+use Rattle.law_answers.proofs.inv.covers.Vacant.{beside_bare}
+use Rattle.law_answers.proofs.inv.covers.Rests.{spare_bare}
 
 -- the indexes at which the seat surely publishes nothing
 abbrev pub free_why : Why → ℕ → Bool

@@ -28,7 +28,7 @@ use Rattle.wfe_core.specs.Phases.Base.{Protect, Clear, Move}
 use Rattle.wfe_core.specs.Calls.{Task, Gets, Changes, Holds, Enqueues, Dequeues, Why, Opens, FollowsHead}
 use Rattle.wfe_core.proofs.Facts.{same_number, both}
 use Rattle.wfe_core.specs.words.Schemes.{is_ibr, is_he}
-use Rattle.inv_all.specs.shapes.Seats.{try_fits, index_by, root_by, kind_of, protects}
+use Rattle.law_answers.specs.inv.shapes.Seats.{try_fits, index_by, root_by, kind_of, protects}
 use Rattle.laws.specs.StateAt.{reserves_by}
 use Rattle.laws.specs.HistoryTurns.{number_right}
 use Rattle.law_turns.proofs.Counting.Fits.{tried, free_why, holds_why, is_hold, Clean, since, paced, stands_taken, taken}

@@ -20,14 +20,14 @@ use Rattle.wfe_core.specs.Phases.Ending.{Protected, Followed}
 use Rattle.wfe_core.specs.Calls.{Task, Why, Opens, FollowsHead, Fills, ClearsNext, Clears, Finishes, GivesUp, Retires, Tidies, Advances, Releases}
 use Rattle.wfe_core.proofs.Facts.{both, first_of, rest_of, false_not_true, implies_or, three_more, le_one_more}
 use Rattle.wfe_core.specs.words.Schemes.{is_ibr, is_he}
-use Rattle.inv_all.specs.shapes.Seats.{protect_fits, aim_by, index_by, root_by, kind_of, protects}
+use Rattle.law_answers.specs.inv.shapes.Seats.{protect_fits, aim_by, index_by, root_by, kind_of, protects}
 use Rattle.laws.specs.HistoryTurns.{events_right}
 use Rattle.law_turns.proofs.Counting.Fits.{tried, free_why, holds_why, is_hold, Clean, since, paced, stands_taken, taken, Passes, Opened}
-use Rattle.inv_all.proofs.history.MayTell.{concluded_told}
+use Rattle.law_answers.proofs.inv.history.MayTell.{concluded_told}
 use Rattle.law_turns.proofs.Counting.Told.{held_right}
 use Rattle.law_turns.proofs.Counting.Passing.{tried_of, tried_with, tried_again, he_tried, he_first, he_publish, protect_x, turned, since_next, since_publish, publish_next, since_again, first_next, few_next, number_of, own_x, paced_trying, taken_trying, paced_lost, taken_lost, paced_answer, taken_answer, held_other, held_taken, protect_clean}
 use Rattle.law_answers.proofs.Turns.Steady.{held_same}
-use Rattle.inv_all.proofs.requests.Paced.{wfe_not_he}
+use Rattle.law_answers.proofs.inv.requests.Paced.{wfe_not_he}
 
 -- what is known of a protection that makes a step: `n` is the step's number, `count` the steps of its call before it
 pub record Site (x u : ℕ → ℕ) (buckets : ℕ) (why : Why) (aim : Aim) (index : ℕ) (root : Root) (steps n count : ℕ) (at : ProtectAt) (post : Post) : Type 0 where

@@ -27,14 +27,14 @@ use Rattle.wfe_core.specs.declared.ends.FollowEnd.TheVariants as follow_ends
 use Rattle.wfe_core.specs.Phases.Ending.{Followed}
 use Rattle.wfe_core.specs.Calls.{Task, Gets, Changes, Holds, Enqueues, Dequeues, Why, Opens, FollowsHead, Fills, ClearsNext, Clears, Finishes, GivesUp, Retires, Tidies, Advances, Releases, Next, ReadGuard, GiveBack, Phase, Idle, Runs, Scans, Works}
 use Rattle.wfe_core.proofs.Facts.{first_of, rest_of, false_not_true, and_true, le_of_test, no_truth}
-use Rattle.inv_all.specs.rows.Hands.{runs_right, task_fills}
+use Rattle.law_answers.specs.inv.rows.Hands.{runs_right, task_fills}
 use Rattle.wfe_core.specs.words.Schemes.{is_ibr, is_he}
-use Rattle.inv_all.specs.shapes.Frame.{Moves, Passed}
-use Rattle.inv_all.specs.shapes.Seats.{Kind, protect_fits, kind_of, suits, PostFits, PhaseFits, Run}
-use Rattle.inv_all.proofs.shapes.Inside.{shape_moves}
-use Rattle.inv_all.proofs.shapes.Kept.{counted_fits, run_counted}
-use Rattle.inv_all.specs.covers.Rests.{spare, bare, beside, within, deep, vacant_released}
-use Rattle.inv_all.proofs.history.Passes.{First}
+use Rattle.law_answers.specs.inv.shapes.Frame.{Moves, Passed}
+use Rattle.law_answers.specs.inv.shapes.Seats.{Kind, protect_fits, kind_of, suits, PostFits, PhaseFits, Run}
+use Rattle.law_answers.proofs.inv.shapes.Inside.{shape_moves}
+use Rattle.law_answers.proofs.inv.shapes.Kept.{counted_fits, run_counted}
+use Rattle.law_answers.specs.inv.covers.Rests.{spare, bare, beside, within, deep, vacant_released}
+use Rattle.law_answers.proofs.inv.history.Passes.{First}
 use Rattle.laws.specs.HistoryTurns.{event_right, events_right}
 use Rattle.law_turns.proofs.Counting.Fits.{free_why, holds_why, is_hold, fills_task, Clean, since, paced, taken, base_own, Fits, Passes, Resumes, Left, work_fits, scan_fits, resumed_fits}
 use Rattle.law_turns.proofs.Counting.Told.{base_rights}

@@ -16,13 +16,13 @@ use Rattle.wfe_core.specs.Protect as protects
 use Rattle.wfe_core.specs.Rounds.{scheme_of, clear_told}
 use Rattle.wfe_core.specs.Phases.{Base}
 use Rattle.wfe_core.proofs.Facts.{same_number, both, first_of, rest_of, and_true}
-use Rattle.inv_all.specs.history.Record.{Past, tells_of}
-use Rattle.inv_all.specs.history.Record.Past.{Then}
-use Rattle.inv_all.proofs.history.Passes.{is_quiet, all_quiet, Closed}
+use Rattle.law_answers.specs.inv.history.Record.{Past, tells_of}
+use Rattle.law_answers.specs.inv.history.Record.Past.{Then}
+use Rattle.law_answers.proofs.inv.history.Passes.{is_quiet, all_quiet, Closed}
 use Rattle.laws.specs.StateAt.{one_more, reserves_by, reserves_of}
 use Rattle.laws.specs.HistoryTurns.{event_right, events_right}
-use Rattle.inv_all.proofs.history.MayTell.{held_any, cleared_all, clear_all, is_find, is_index, finds, stores_index, no_find, no_index}
-use Rattle.inv_all.proofs.history.AllOf.{all_of, of_weaker, of_both}
+use Rattle.law_answers.proofs.inv.history.MayTell.{held_any, cleared_all, clear_all, is_find, is_index, finds, stores_index, no_find, no_index}
+use Rattle.law_answers.proofs.inv.history.AllOf.{all_of, of_weaker, of_both}
 
 -- along what a step tells
 abbrev pub reserved_along : (seat index : ℕ) → List Event → ℕ → ℕ

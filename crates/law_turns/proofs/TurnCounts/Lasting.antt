@@ -20,16 +20,16 @@ use Rattle.wfe_core.specs.Phases.Base.{Protect, Reload, Clear, Move}
 use Rattle.wfe_core.specs.Phases.Ending.{Done, Protected, Followed, Allocated, Retired, Clocked}
 use Rattle.wfe_core.specs.Calls.{Again, Why, FollowsHead, ClearsNext, ReadGuard, GiveBack, Phase, Idle, Runs, Scans, Works}
 use Rattle.wfe_core.proofs.Facts.{same_number, both, first_of, rest_of, false_not_true, zero_test, or_left_true}
-use Rattle.inv_all.specs.shapes.Eras.{Eras}
+use Rattle.law_answers.specs.inv.shapes.Eras.{Eras}
 use Rattle.wfe_core.specs.words.Schemes.{is_ibr, is_wfe}
-use Rattle.inv_all.specs.shapes.Frame.{Passed}
-use Rattle.inv_all.specs.shapes.Seats.{PhaseFits, Run, protect_fits, Kind, kind_of, suits, protects, reloads}
-use Rattle.inv_all.specs.history.Record.{Past, tells_of}
-use Rattle.inv_all.specs.history.Record.Past.{Then}
-use Rattle.inv_all.proofs.requests.Paced.{in_time}
-use Rattle.inv_all.specs.Inv.{Inv}
-use Rattle.inv_all.proofs.Inv.Shapes.{eras_of}
-use Rattle.inv_all.proofs.history.Passes.{First, step_goes}
+use Rattle.law_answers.specs.inv.shapes.Frame.{Passed}
+use Rattle.law_answers.specs.inv.shapes.Seats.{PhaseFits, Run, protect_fits, Kind, kind_of, suits, protects, reloads}
+use Rattle.law_answers.specs.inv.history.Record.{Past, tells_of}
+use Rattle.law_answers.specs.inv.history.Record.Past.{Then}
+use Rattle.law_answers.proofs.inv.requests.Paced.{in_time}
+use Rattle.law_answers.specs.inv.Inv.{Inv}
+use Rattle.law_answers.proofs.inv.Inv.Shapes.{eras_of}
+use Rattle.law_answers.proofs.inv.history.Passes.{First, step_goes}
 use Rattle.laws.specs.StateAt.{tried_by, tried_of, last_by, last_of}
 use Rattle.law_turns.proofs.Counting.Fits.{own, base_own, paced, taken, since}
 use Rattle.law_turns.proofs.Counting.Passing.{Apart, turned}

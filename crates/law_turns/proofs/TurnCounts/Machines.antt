@@ -23,7 +23,7 @@ use Rattle.wfe_core.specs.Phases.ProtectAt.{LoadClock, PublishEra, LoadLink, Che
 use Rattle.wfe_core.specs.Phases.Base.{Protect}
 use Rattle.wfe_core.proofs.Facts.{both, false_not_true, zero_of_test, zero_test}
 use Rattle.wfe_core.specs.words.Schemes.{is_ibr}
-use Rattle.inv_all.specs.shapes.Seats.{protect_fits}
+use Rattle.law_answers.specs.inv.shapes.Seats.{protect_fits}
 use Rattle.law_turns.proofs.Counting.Told.{index_more}
 use Rattle.laws.specs.StateAt.{tried_by}
 use Rattle.law_turns.proofs.Withdrawals.Withdrawing.{tells_link}

@@ -22,8 +22,8 @@ use Rattle.wfe_core.specs.Phases.Ending.{Done, Protected, Followed, Allocated, R
 use Rattle.wfe_core.specs.Calls.{Gets, Changes, Holds, Enqueues, Dequeues, Why, Opens, FollowsHead, Fills, ClearsNext, Clears, Finishes, GivesUp, Retires, Tidies, Advances, Releases, Phase, Runs}
 use Rattle.wfe_core.proofs.Facts.{first_of, rest_of, false_not_true, zero_of_test, zero_test, no_truth}
 use Rattle.wfe_core.specs.words.Schemes.{is_ibr}
-use Rattle.inv_all.specs.shapes.Frame.{Moves, Passed}
-use Rattle.inv_all.specs.shapes.Seats.{PostFits, PhaseFits, Run, protect_fits, Kind, kind_of, suits, protects, reloads, aim_by, index_by, root_by}
+use Rattle.law_answers.specs.inv.shapes.Frame.{Moves, Passed}
+use Rattle.law_answers.specs.inv.shapes.Seats.{PostFits, PhaseFits, Run, protect_fits, Kind, kind_of, suits, protects, reloads, aim_by, index_by, root_by}
 use Rattle.law_turns.proofs.Counting.Passing.{Apart}
 use Rattle.law_turns.proofs.Counting.Told.{all_dull, cleared_dull, index_none, index_other, base_dull}
 use Rattle.laws.specs.StateAt.{tried_by}

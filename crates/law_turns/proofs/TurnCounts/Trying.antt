@@ -18,11 +18,11 @@ use Rattle.wfe_core.specs.Phases.ProtectAt.{LoadClock, PublishEra, LoadLink, Che
 use Rattle.wfe_core.specs.Phases.Base.{Protect, Reload}
 use Rattle.wfe_core.specs.Phases.Ending.{Followed}
 use Rattle.wfe_core.proofs.Facts.{first_of, rest_of}
-use Rattle.inv_all.proofs.history.Passes.{Closed}
+use Rattle.law_answers.proofs.inv.history.Passes.{Closed}
 use Rattle.law_turns.proofs.Counting.Told.{is_dull, all_dull}
 use Rattle.laws.specs.StateAt.{tried_by, last_by}
 use Rattle.law_turns.proofs.Withdrawals.Withdrawing.{is_mute, all_mute, quiet_mute, clear_mute, tells_link}
-use Rattle.inv_all.proofs.history.AllOf.{of_weaker}
+use Rattle.law_answers.proofs.inv.history.AllOf.{of_weaker}
 
 -- along what a step tells
 abbrev pub tried_along : (seat index : ℕ) → List Event → ℕ → ℕ

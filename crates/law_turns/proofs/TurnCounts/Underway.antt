@@ -16,17 +16,17 @@ use Rattle.wfe_core.specs.Phases.Base.{Protect, Reload}
 use Rattle.wfe_core.specs.Calls.{Why, Opens, FollowsHead, Fills, ClearsNext, Clears, Finishes, GivesUp, Retires, Tidies, Advances, Releases, Phase, Idle, Runs, Scans, Works}
 use Rattle.wfe_core.proofs.Facts.{zero_of_test, le_test}
 use Rattle.wfe_core.specs.words.Schemes.{is_ibr, is_wfe}
-use Rattle.inv_all.specs.shapes.Frame.{Moves}
-use Rattle.inv_all.specs.shapes.Seats.{PostFits, PhaseFits, Run, kind_of, suits, index_by}
-use Rattle.inv_all.proofs.shapes.Frame.{seat_stays, begin_stays, begin_begins}
-use Rattle.inv_all.proofs.shapes.Inside.{shape_moves}
-use Rattle.inv_all.proofs.shapes.Kept.{begun_fits, counted_fits, run_counted}
-use Rattle.inv_all.specs.history.Record.{tells_of}
-use Rattle.inv_all.specs.history.Turns as schedule
-use Rattle.inv_all.specs.history.Turns.{record_of, EachTurn}
-use Rattle.inv_all.specs.history.Turns.History.{Blank, Starts, Turns}
-use Rattle.inv_all.specs.history.History.{Begins, Steps, Made, done, first_made}
-use Rattle.inv_all.specs.Inv.{Inv}
+use Rattle.law_answers.specs.inv.shapes.Frame.{Moves}
+use Rattle.law_answers.specs.inv.shapes.Seats.{PostFits, PhaseFits, Run, kind_of, suits, index_by}
+use Rattle.law_answers.proofs.inv.shapes.Frame.{seat_stays, begin_stays, begin_begins}
+use Rattle.law_answers.proofs.inv.shapes.Inside.{shape_moves}
+use Rattle.law_answers.proofs.inv.shapes.Kept.{begun_fits, counted_fits, run_counted}
+use Rattle.law_answers.specs.inv.history.Record.{tells_of}
+use Rattle.law_answers.specs.inv.history.Turns as schedule
+use Rattle.law_answers.specs.inv.history.Turns.{record_of, EachTurn}
+use Rattle.law_answers.specs.inv.history.Turns.History.{Blank, Starts, Turns}
+use Rattle.law_answers.specs.inv.history.History.{Begins, Steps, Made, done, first_made}
+use Rattle.law_answers.specs.inv.Inv.{Inv}
 use Rattle.laws.specs.HistoryTurns.{turns_since}
 use Rattle.law_answers.proofs.OneStep.Along.{Around, Kept, history_keeps}
 use Rattle.law_turns.proofs.Counting.Counting as counting
@@ -41,7 +41,7 @@ use Rattle.law_turns.proofs.Withdrawals.Leaving.{Left, stepped_leads, first_new}
 use Rattle.law_turns.proofs.TurnCounts.Trying.{tried_along, last_along}
 use Rattle.law_turns.proofs.TurnCounts.Tried.{why_tried, phase_tried, Stage, is_follow, run_made}
 use Rattle.law_turns.proofs.TurnCounts.Lasting.{own_told, told_comes, tried_tells, last_tells, tried_stays, last_stays, base_apart, base_era, protect_turns, reload_turns, InBound, bound, phase_turns, new_tried, out_tried}
-use Rattle.inv_all.proofs.steps_left.Rest.Falling.{wfe_plain}
+use Rattle.law_answers.proofs.inv.steps_left.Rest.Falling.{wfe_plain}
 
 -- along a history
 pub record Lasts (layout : Layout) (made : Made) (h : schedule.History) : Type 0 where

@@ -33,20 +33,20 @@ use Rattle.wfe_core.specs.Phases.MoveAt.{LoadEra, LoadRequest, ShowEra, CheckEra
 use Rattle.wfe_core.specs.Phases.Base.{Begin, Protect, Reload, Allocate, Write, Retire, Move}
 use Rattle.wfe_core.specs.Calls.{Why, Phase, Idle, Runs, Scans, Works}
 use Rattle.wfe_core.proofs.Facts.{same_number}
-use Rattle.inv_all.specs.shapes.Eras.{Eras}
-use Rattle.inv_all.proofs.shapes.Frame.{seat_stays, begin_stays, begin_begins}
-use Rattle.inv_all.proofs.shapes.Kept.{begun_fits}
-use Rattle.inv_all.specs.history.Record.{Past, tells_of}
-use Rattle.inv_all.specs.history.Record.Past.{Then}
-use Rattle.inv_all.specs.history.Turns as schedule
-use Rattle.inv_all.specs.history.Turns.{record_of, EachTurn}
-use Rattle.inv_all.specs.history.Turns.History.{Blank, Starts, Turns}
-use Rattle.inv_all.specs.history.History.{Begins, Steps, Made, done, first_made}
-use Rattle.inv_all.specs.Inv.{Inv}
-use Rattle.inv_all.proofs.Inv.Shapes.{eras_of}
-use Rattle.inv_all.proofs.history.Passes.{Closed, step_goes}
+use Rattle.law_answers.specs.inv.shapes.Eras.{Eras}
+use Rattle.law_answers.proofs.inv.shapes.Frame.{seat_stays, begin_stays, begin_begins}
+use Rattle.law_answers.proofs.inv.shapes.Kept.{begun_fits}
+use Rattle.law_answers.specs.inv.history.Record.{Past, tells_of}
+use Rattle.law_answers.specs.inv.history.Record.Past.{Then}
+use Rattle.law_answers.specs.inv.history.Turns as schedule
+use Rattle.law_answers.specs.inv.history.Turns.{record_of, EachTurn}
+use Rattle.law_answers.specs.inv.history.Turns.History.{Blank, Starts, Turns}
+use Rattle.law_answers.specs.inv.history.History.{Begins, Steps, Made, done, first_made}
+use Rattle.law_answers.specs.inv.Inv.{Inv}
+use Rattle.law_answers.proofs.inv.Inv.Shapes.{eras_of}
+use Rattle.law_answers.proofs.inv.history.Passes.{Closed, step_goes}
 use Rattle.law_answers.proofs.OneStep.Along.{Around, Kept, history_keeps}
-use Rattle.inv_all.proofs.history.MayTell.{concluded_told}
+use Rattle.law_answers.proofs.inv.history.MayTell.{concluded_told}
 use Rattle.laws.specs.StateAt.{shown_by, shown_of}
 use Rattle.laws.specs.HistorySteps.{found_shown, one_less, due_of, withdraws_first, withdraws_by, withdrawn_right}
 use Rattle.law_turns.specs.Records.{WithdrawalsFollow}

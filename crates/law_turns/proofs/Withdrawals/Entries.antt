@@ -24,19 +24,19 @@ use Rattle.wfe_core.specs.Protect as protects
 use Rattle.wfe_core.specs.Steps as steps
 use Rattle.wfe_core.specs.World.{World, finds, is_busy, told_in}
 use Rattle.wfe_core.proofs.Facts.{both, first_of, rest_of, number_is, same_number}
-use Rattle.inv_all.specs.Inv.{Inv}
-use Rattle.inv_all.specs.history.Heard.{heard_of}
-use Rattle.inv_all.specs.history.History as histories
-use Rattle.inv_all.specs.history.History.{Begins, Item, Made, Steps, done, first_made}
-use Rattle.inv_all.specs.history.Record.{Past, Test, Each, tells_of}
-use Rattle.inv_all.specs.history.Record.Past.{Start, Then}
-use Rattle.inv_all.specs.history.Turns as schedule
-use Rattle.inv_all.specs.history.Turns.{record_of}
-use Rattle.inv_all.specs.history.Turns.History.{Starts, Turns}
-use Rattle.inv_all.proofs.history.AllOf.{all_of}
-use Rattle.inv_all.proofs.history.Entries.{entries_of_each}
-use Rattle.inv_all.proofs.history.MayTell.{Passes, Tells, base_all, base_helper, base_shows, same_span, step_all}
-use Rattle.inv_all.proofs.history.Passes.{First, is_quiet}
+use Rattle.law_answers.specs.inv.Inv.{Inv}
+use Rattle.law_answers.specs.inv.history.Heard.{heard_of}
+use Rattle.law_answers.specs.inv.history.History as histories
+use Rattle.law_answers.specs.inv.history.History.{Begins, Item, Made, Steps, done, first_made}
+use Rattle.law_answers.specs.inv.history.Record.{Past, Test, Each, tells_of}
+use Rattle.law_answers.specs.inv.history.Record.Past.{Start, Then}
+use Rattle.law_answers.specs.inv.history.Turns as schedule
+use Rattle.law_answers.specs.inv.history.Turns.{record_of}
+use Rattle.law_answers.specs.inv.history.Turns.History.{Starts, Turns}
+use Rattle.law_answers.proofs.inv.history.AllOf.{all_of}
+use Rattle.law_answers.proofs.inv.history.Entries.{entries_of_each}
+use Rattle.law_answers.proofs.inv.history.MayTell.{Passes, Tells, base_all, base_helper, base_shows, same_span, step_all}
+use Rattle.law_answers.proofs.inv.history.Passes.{First, is_quiet}
 use Rattle.law_answers.proofs.OneStep.Along.{Around, Kept, history_keeps}
 use Rattle.law_answers.proofs.Turns.Counted.{histories_count}
 use Rattle.law_answers.specs.Heard.{IsCounted}

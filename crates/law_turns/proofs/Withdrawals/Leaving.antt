@@ -24,14 +24,14 @@ use Rattle.wfe_core.specs.Rounds.{scheme_of, protect_at, release_base, clear_bas
 use Rattle.wfe_core.specs.Steps as steps
 use Rattle.wfe_core.specs.World.{World, step, finds}
 use Rattle.wfe_core.specs.Calls.{Why, Phase, Idle, Runs, Scans, Works, FollowsHead, ClearsNext, Again}
-use Rattle.inv_all.specs.shapes.Frame.{Grows, Passed, phase_left}
+use Rattle.law_answers.specs.inv.shapes.Frame.{Grows, Passed, phase_left}
 use Rattle.wfe_core.specs.words.Schemes.{is_ibr}
-use Rattle.inv_all.specs.shapes.Seats.{PostFits, PhaseFits, Seats}
-use Rattle.inv_all.proofs.shapes.Inside.{shape_moves}
-use Rattle.inv_all.proofs.shapes.Kept.{counted_fits, run_counted}
-use Rattle.inv_all.proofs.shapes.Shapes.{shape_grows}
-use Rattle.inv_all.proofs.shapes.Works.{resume_left, work_left, scan_left, first_grows}
-use Rattle.inv_all.proofs.covers.Held.{stepped_phase}
+use Rattle.law_answers.specs.inv.shapes.Seats.{PostFits, PhaseFits, Seats}
+use Rattle.law_answers.proofs.inv.shapes.Inside.{shape_moves}
+use Rattle.law_answers.proofs.inv.shapes.Kept.{counted_fits, run_counted}
+use Rattle.law_answers.proofs.inv.shapes.Shapes.{shape_grows}
+use Rattle.law_answers.proofs.inv.shapes.Works.{resume_left, work_left, scan_left, first_grows}
+use Rattle.law_answers.proofs.inv.covers.Held.{stepped_phase}
 
 -- the first step of a machine
 abbrev pub begins_at : BeginAt → Bool

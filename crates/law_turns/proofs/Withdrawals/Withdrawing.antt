@@ -24,13 +24,13 @@ use Rattle.wfe_core.specs.Phases.MoveAt.{LoadEra, LoadRequest, ShowEra, LoadAske
 use Rattle.wfe_core.specs.Phases.Base.{Protect, Move}
 use Rattle.wfe_core.specs.Calls.{ReadGuard, GiveBack, Phase, Idle, Runs, Scans, Works}
 use Rattle.wfe_core.proofs.Facts.{first_of, rest_of, and_false, or_false, false_not_true}
-use Rattle.inv_all.proofs.history.Passes.{is_quiet, all_quiet, Closed, First}
+use Rattle.law_answers.proofs.inv.history.Passes.{is_quiet, all_quiet, Closed, First}
 use Rattle.laws.specs.StateAt.{shown_by}
 use Rattle.laws.specs.HistorySteps.{found_shown}
 use Rattle.laws.specs.StateAt.{is_found}
-use Rattle.inv_all.proofs.history.MayTell as may
-use Rattle.inv_all.proofs.history.MayTell.{Tells, may_store, may_publish, same_span, span_of, publishes, finds, is_find, bare, no_find, base_tells, base_all, clear_all, concluded_told}
-use Rattle.inv_all.proofs.history.AllOf.{all_of, of_weaker, of_both}
+use Rattle.law_answers.proofs.inv.history.MayTell as may
+use Rattle.law_answers.proofs.inv.history.MayTell.{Tells, may_store, may_publish, same_span, span_of, publishes, finds, is_find, bare, no_find, base_tells, base_all, clear_all, concluded_told}
+use Rattle.law_answers.proofs.inv.history.AllOf.{all_of, of_weaker, of_both}
 
 -- along what a step tells
 abbrev pub shown_along : (seat : ℕ) → List Event → Bool → Bool
