@@ -16,3 +16,4 @@ pub mod Records
 pub mod Roots
 pub mod Runs
 pub mod Says
+pub mod Steps

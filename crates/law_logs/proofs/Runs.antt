@@ -6,6 +6,7 @@ pub mod Calls
 pub mod Changes
 pub mod Clocks
 pub mod Closes
+pub mod Early
 pub mod Entries
 pub mod Eras
 pub mod Kept

@@ -1,5 +1,5 @@
 -- What the record of each history says of the logs, the book and the scans of seats, and what the answers in a log say of the record.
-use Rattle.std.specs.Prelude.{ℕ, ◌≡◌, ◌==◌, ◌-◌, true, false, if◌then◌else◌, List, [], ◌∷◌, ◌++◌, Option, None, Some}
+use Rattle.std.specs.Prelude.{ℕ, ◌≡◌, ◌==◌, ◌-◌, true, false, if◌then◌else◌, List, [], ◌∷◌, ◌++◌, length, Option, None, Some}
 use Rattle.wfe_core.specs.Desks.{Notes, noted}
 use Rattle.wfe_core.specs.Guards.{guards}
 use Rattle.wfe_core.specs.Locals.{Group, Local, turn}
@@ -14,6 +14,7 @@ use Rattle.wfe_core.specs.words.Place.{is_valid}
 use Rattle.wfe_core.specs.words.declared.config.Config.{Config}
 use Rattle.wfe_core.specs.words.declared.layout.Layout.{Layout}
 use Rattle.laws.specs.StateAt.{began_of, bucket_of, is_open, read_of, value_at}
+use Rattle.laws.specs.StepLaw.{steps_right}
 use Rattle.law_all.specs.inv.history.History.{Item, record_of, world_of}
 use Rattle.law_all.specs.inv.history.Record.{Past, tells}
 use Rattle.law_all.specs.inv.history.Record.Past.{Then}
@@ -90,6 +91,22 @@ LogsAnswer =
     → is_valid layout ≡ true
     → ((world_of layout items).seat k).log ≡ before ++ group ∷ later
     → IsAnswered layout.config k (record_of layout items) before group
+
+-- each call in the log of a seat has taken the steps that the law allows it, where so many rows went back in it as its notes tell
+abbrev pub LogsTakeFewSteps : Type 0
+LogsTakeFewSteps =
+    (layout : Layout) (items : List Item) (k : ℕ) (before later : List Group) (group : Group)
+    → is_valid layout ≡ true
+    → ((world_of layout items).seat k).log ≡ before ++ group ∷ later
+    → steps_right layout.config group.call (length group.notes.back) group.notes.steps ≡ true
+
+-- a scan answers how many rows went back in it: as many as its notes tell
+abbrev pub ScansTellBacks : Type 0
+ScansTellBacks =
+    (layout : Layout) (items : List Item) (k : ℕ) (before later : List Group) (kept back : ℕ) (notes : Notes)
+    → is_valid layout ≡ true
+    → ((world_of layout items).seat k).log ≡ before ++ record { call = calls.Scan; answer = answers.Scanned kept back; notes = notes } ∷ later
+    → length notes.back ≡ back
 
 -- the first call that a seat ends after a World in which it is in none, by the counts in that World's record
 abbrev pub CallsAnswer : Type 0

@@ -1,6 +1,7 @@
 -- What threads leave that made calls on one table at once: the calls of each seat, in their order, and the table that was closed after
 -- them. No order between calls of two seats is in it.
-use Rattle.std.specs.Prelude.{Bool, List, None, Option, Some, [], count_by, drop, false, if◌then◌else◌, is_some, length, map, nat_le, nat_lt, slice_get, slice_index_or, sum_by, take, true, ℕ, ◌%◌, ◌&&◌, ◌++◌, ◌+◌, ◌-◌, ◌<◌, ◌==◌, ◌∷◌, ◌≡◌, ◌≤◌}
+use Rattle.std.specs.Prelude.{Bool, List, None, Option, Some, [], count_by, drop, false, filter, if◌then◌else◌, is_some, length, map, nat_le, nat_lt, slice_get, slice_index_or, sum_by, take, true, ℕ, ◌%◌, ◌&&◌, ◌++◌, ◌+◌, ◌-◌, ◌<◌, ◌==◌, ◌∷◌, ◌≡◌, ◌≤◌}
+use Rattle.std.specs.List.{range_with_len}
 use Rattle.wfe_core.specs.Desks.{Notes}
 use Rattle.wfe_core.specs.Locals.{Group}
 use Rattle.wfe_core.specs.defs.Pairs.{Pair, pairs_after, value_in}
@@ -303,8 +304,9 @@ abbrev pub backs_in : ℕ → Group → ℕ
 backs_in slot group = count_by (λ other. other == slot) group.notes.back
 
 -- Each row was given as often as it was given up or went back, and once more where it is still taken; the dummy of the queue, whose
--- number is the number of slots, was taken at the start.
+-- number is the number of slots, was taken at the start. Rows that are taken are told in the order of their numbers.
 pub record RowsLaw (c : Config) (logs : List (List Group)) (closed : AtClose) : Type 0 where
+  pub used : closed.used ≡ filter (λ slot. is_among slot closed.used) (range_with_len 0 (c.slots + 1))
   pub balance :
       (slot : ℕ)
       → slot ≤ c.slots
@@ -340,8 +342,10 @@ abbrev pub list_from : List ℕ → List Group → List ℕ
 list_from list [] = list
 list_from list (group ∷ log) = list_from (list_after list group) log
 
--- What goes back is on the seat's own list, in the list's order within one scan; and a scan counts what it keeps.
+-- What goes back is on the seat's own list, in the list's order within one scan, of which a call that is given no row makes one at most;
+-- and a scan counts what it keeps.
 pub record ListsRight (before : List Group) (group : Group) : Type 0 where
+  pub plain : group.notes.given ≡ None → group.notes.early ≡ 0
   pub early : is_part_of (early_backs group.notes) (list_from [] before) ≡ true
   pub late : is_part_of (late_backs group.notes) (list_between (list_from [] before) group) ≡ true
   pub kept : (kept back : ℕ) → group.answer ≡ answers.Scanned kept back → kept ≡ length (list_after (list_from [] before) group)
@@ -370,12 +374,12 @@ era_spent move = None
 abbrev pub is_moved_to : (era : ℕ) → Group → Bool
 is_moved_to era group = has_number era (era_moved (clock_told group.answer))
 
--- Each era has one mover at most, and is at most the clock at which the table was closed; within a seat eras rise. No era is left only
--- where the clock is at the last one, and after that the seat sees no other.
+-- Each era has one mover at most, is later than the first, and is at most the clock at which the table was closed; within a seat eras rise.
+-- No era is left only where the clock is at the last one, and after that the seat sees no other.
 pub record ErasLaw (c : Config) (logs : List (List Group)) (closed : AtClose) : Type 0 where
   pub most : closed.clock ≤ c.last_era
   pub once : (era : ℕ) → total_of (is_moved_to era) logs ≤ 1
-  pub moved : (before : List Group) (group : Group) (era : ℕ) → IsCall logs before group → era_moved (clock_told group.answer) ≡ Some era → 2 ≤ era
+  pub later : (before : List Group) (group : Group) (era : ℕ) → IsCall logs before group → era_told (clock_told group.answer) ≡ Some era → 2 ≤ era
   pub seen : (before : List Group) (group : Group) (era : ℕ) → IsCall logs before group → era_told (clock_told group.answer) ≡ Some era → era ≤ closed.clock
   pub rise :
       (one two : Group) (low high : ℕ)

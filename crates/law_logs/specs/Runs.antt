@@ -10,7 +10,7 @@ use Rattle.wfe_core.specs.words.declared.layout.Layout.{Layout}
 use Rattle.laws.specs.StateAt.{changes_of, clock_of, count_of, filling_at, numbered_from, one, queued_of, taken_at, taken_of}
 use Rattle.law_all.specs.inv.history.History.{Item, record_of, world_of}
 use Rattle.law_all.specs.inv.history.Record.{Past}
-use Rattle.law_logs.specs.RunLaw.{AnswersLaw, AtClose, ErasLaw, InOrder, IsCall, ListsLaw, QueuesRight, ReadsRight, RisesLaw, RowsLaw, RunLaw, backs_in, clock_told, era_moved, era_spent, era_told, gives, is_change_of, is_moved_to, is_queued_as, is_taken_as, once_up_to, total, total_of, unuseds}
+use Rattle.law_logs.specs.RunLaw.{AnswersLaw, AtClose, ErasLaw, InOrder, IsCall, ListsLaw, QueuesRight, ReadsRight, RisesLaw, RowsLaw, RunLaw, backs_in, clock_told, era_spent, era_told, gives, is_change_of, is_moved_to, is_queued_as, is_taken_as, once_up_to, total, total_of, unuseds}
 
 -- a history whose seats are all between calls at its end
 pub record AtRest (layout : Layout) (items : List Item) : Type 0 where
@@ -63,7 +63,7 @@ RunsAgree = (layout : Layout) (items : List Item) → AtRest layout items → Ag
 -- What answers say of the clock is so by the record's clock, and within a seat eras rise.
 pub record Ticks (c : Config) (clock : ℕ) (logs : List (List Group)) : Type 0 where
   pub most : clock ≤ c.last_era
-  pub moved : (before : List Group) (group : Group) (era : ℕ) → IsCall logs before group → era_moved (clock_told group.answer) ≡ Some era → 2 ≤ era
+  pub later : (before : List Group) (group : Group) (era : ℕ) → IsCall logs before group → era_told (clock_told group.answer) ≡ Some era → 2 ≤ era
   pub seen : (before : List Group) (group : Group) (era : ℕ) → IsCall logs before group → era_told (clock_told group.answer) ≡ Some era → era ≤ clock
   pub rise :
       (one two : Group) (low high : ℕ)

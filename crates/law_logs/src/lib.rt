@@ -4,7 +4,7 @@
 #![tactic(auto)]
 
 ghost use Rattle.law_logs.specs.Runs.{RunsAddUp, RunsAgree, RunsAreLawful, RunsList, RunsTick};
-ghost use Rattle.law_logs.specs.Records.{CallsAnswer, ChangesAreRead, GetsAgree, HoldsSeeNothing, LogsAnswer, LogsAreCut, LogsExtend, LogsGrow, LogsMeet, LogsRise, RecordReads, RecordsGrow, RecordsKeepLogs, TurnsLeaveNotes};
+ghost use Rattle.law_logs.specs.Records.{CallsAnswer, ChangesAreRead, GetsAgree, HoldsSeeNothing, LogsAnswer, LogsAreCut, LogsExtend, LogsGrow, LogsMeet, LogsRise, LogsTakeFewSteps, RecordReads, RecordsGrow, RecordsKeepLogs, ScansTellBacks, TurnsLeaveNotes};
 
 /// A turn of a seat leaves the notes of its call as they were. What the turn tells is noted where the
 /// seat is settled.
@@ -41,6 +41,19 @@ pub fn logs_are_cut()
 /// answered Full was given no row and has read each guard, and since then each row was taken.
 pub fn logs_answer()
     ensures { LogsAnswer }
+{}
+
+/// Each call in a seat's log, whatever the other seats did meanwhile: a release takes one step; a call that only
+/// scans one for each guard and one for each row that its notes say went back; an advance `7 * seats + 3` at most
+/// under Wait-Free Eras, and else two at most. Under Wait-Free Eras a hold takes `3 * tries + 16` at most, and a
+/// get `3 * tries + 18` and one for each pair that a bucket may have.
+pub fn logs_take_few_steps()
+    ensures { LogsTakeFewSteps }
+{}
+
+/// A scan in a seat's log answers how many rows went back in it: as many as its notes tell.
+pub fn scans_tell_backs()
+    ensures { ScansTellBacks }
 {}
 
 /// The first call that a seat ends after a World in which it is in none: its answer says what is so,

@@ -1,6 +1,6 @@
 -- What a job does, by what the words ask for; and that nothing is done where memory runs out before.
 use Rattle.wfe_server_out.specs.Heard.{Seen}
-use Rattle.std.proofs.Common.{List, [], Option, Some, ℕ, ◌≡◌, refl}
+use Rattle.std.proofs.Common.{List, [], Option, Some, inr, ℕ, ◌≡◌, refl, sym}
 use Rattle.std.proofs.KnownBytes.{Consumes-nil}
 use Rattle.wfe_cli_job.specs.declared.job.Job.{Job}
 use Rattle.wfe_cli_job.specs.declared.job.Job.TheVariants as jobs
@@ -12,6 +12,7 @@ use Rattle.wfe_trace.specs.declared.reason.Status.{Status}
 use Rattle.wfe_trace.specs.declared.reason.Status.TheVariants as statuses
 use Rattle.wfe_server.specs.server_replay.Replay.{Replays}
 use Rattle.wfe_server.specs.server_replay.Sunk.{Outside}
+use Rattle.wfe_server_run.specs.Runs.{Runs}
 use Rattle.wfe_cli.specs.Command.{Does}
 use Rattle.wfe_cli.specs.Headline.{Keeps, Summarizes}
 use Rattle.wfe_cli.proofs.Headline.{broken_of, summarizes_of}
@@ -29,6 +30,19 @@ pub summarizes_as : {W : Type 0} (seen : Seen W) (job : Job) (a : Option Job) (s
 summarizes_as seen job a seed turns status watched before left old new e h does =
     let made : Generates seen status seed turns watched old new = rw (job_is job (jobs.Generate seed turns) a e h) at does in
     summarizes_of seen status seed turns watched old new made
+
+pub runs_as : {W : Type 0} (seen : Seen W) (job : Job) (a : Option Job) (status : Status) (watched : List ℕ) (before left : Option (List ℕ)) (old new : Outside W) →
+    Some job ≡ a → a ≡ Some jobs.Run → Does seen job status watched before left old new → Runs seen status watched before left old new
+runs_as seen job a status watched before left old new e h does = rw (job_is job jobs.Run a e h) at does
+
+-- a job that reads nothing
+pub unread_by : (job : Job) (a : Option Job) {X : Type 0} → Some job ≡ a → (a ≡ Some jobs.Replay → ⊥) → (a ≡ Some jobs.Run → ⊥) → ((seed turns : ℕ) → job ≡ jobs.Generate seed turns → X) → X
+unread_by jobs.Replay a e replays runs x = absurd (replays (sym e))
+unread_by jobs.Run a e replays runs x = absurd (runs (sym e))
+unread_by (jobs.Generate seed turns) a e replays runs x = x seed turns refl
+
+pub nothing_run : {W : Type 0} (seen : Seen W) (watched : List ℕ) (left : Option (List ℕ)) (out : Outside W) → Runs seen statuses.NoMemory watched left left out out
+nothing_run seen watched left out = ([], Consumes-nil left, inr refl)
 
 pub nothing_kept : {W : Type 0} (seen : Seen W) (watched : List ℕ) (left : Option (List ℕ)) (out : Outside W) → Keeps seen statuses.NoMemory watched left left out out
 nothing_kept seen watched left out = ([], Consumes-nil left, broken_of seen watched [] left out out (stopped_before seen watched left out))

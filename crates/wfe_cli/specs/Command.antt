@@ -13,20 +13,23 @@ use Rattle.wfe_server.specs.server_replay.Given.{Given}
 use Rattle.wfe_server.specs.server_replay.Replay.{Replays, whole}
 use Rattle.wfe_server.specs.server_replay.Sunk.{Outside}
 use Rattle.wfe_server.specs.server_replay.Trace.{Progress}
+use Rattle.wfe_server_run.specs.Runs.{Runs}
 
 -- a job that the words can ask for
 abbrev pub Allowed : Job → Type 0
 Allowed jobs.Replay = Unit {0}
+Allowed jobs.Run = Unit {0}
 Allowed (jobs.Generate seed turns) = turns ≤ most_turns
 
 -- what a job does
 abbrev pub Does : {W : Type 0} → Seen W → Job → Status → (watched : List ℕ) → Option (List ℕ) → Option (List ℕ) → Outside W → Outside W → Type 0
 Does seen jobs.Replay status watched before left old new = Replays seen status watched before left old new
+Does seen jobs.Run status watched before left old new = Runs seen status watched before left old new
 Does seen (jobs.Generate seed turns) status watched before left old new = Generates seen status seed turns watched old new
 
 -- the line that lists the commands
 abbrev pub usage_line : List ℕ
-usage_line = codes "usage: wfe replay | gen SEED N\n"
+usage_line = codes "usage: wfe replay | run | gen SEED N\n"
 
 -- the words are no command: the usage line was written, or a part of it and the sink failed, or memory ran out before
 abbrev pub Refuses : Status → Option (List ℕ) → Option (List ℕ) → Type 0

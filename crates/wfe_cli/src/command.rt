@@ -7,6 +7,7 @@ ghost use Rattle.wfe_cli_job.specs.Jobs.{asked};
 ghost use Rattle.wfe_outside.specs.Faults.{Rose};
 ghost use Rattle.wfe_server.specs.server_replay.Sunk.{outside};
 ghost use Rattle.wfe_server.specs.server_replay.Watched.{watch_text};
+ghost use Rattle.wfe_server_run.specs.Runs.{IsComplete as IsRunWhole, Runs as RunsTrace};
 
 use std::alloc::Global;
 use std::thread::Threads;
@@ -15,10 +16,11 @@ use wfe_drive_table::TableCells;
 use wfe_outside::{Sink, Source, Watcher};
 use wfe_server::{Rig, generate, replay};
 use wfe_server_out::write_all;
+use wfe_server_run::{OpenGate, run};
 use wfe_trace::Status;
 
 // The line that lists the commands.
-const USAGE: &[u8] = b"usage: wfe replay | gen SEED N\n";
+const USAGE: &[u8] = b"usage: wfe replay | run | gen SEED N\n";
 
 // Writes the line that lists the commands.
 fn refuse<K: Sink>(sink: &mut K) -> Status
@@ -34,7 +36,8 @@ fn refuse<K: Sink>(sink: &mut K) -> Status
 }
 
 // Does a job.
-fn perform<S: Source, K: Sink>(
+fn perform<R: Threads + Sync, S: Source, K: Sink>(
+    rt: &R,
     alloc: Global,
     job: Job,
     source: &mut S,
@@ -43,7 +46,7 @@ fn perform<S: Source, K: Sink>(
 ) -> Status
     requires { Allowed job }
     ensures does { Does (boxed stands) job result (watch_text shown shows watchers.new.items) (S.left source.old) (S.left source.new) (outside (K.written sink.old) watchers.old.items) (outside (K.written sink.new) watchers.new.items) }
-    ensures unread { job ≢ Job.Replay → source.new ≡ source.old }
+    ensures unread { (seed turns : ℕ) → job ≡ Job.Generate seed turns → source.new ≡ source.old }
     ensures source { S.faults source.old ≤ S.faults source.new }
     ensures sink { K.faults sink.old ≤ K.faults sink.new }
     ensures read { result ≡ Status.ReadFault → Rose S.may_stand (S.faults source.old) (S.faults source.new) }
@@ -51,6 +54,7 @@ fn perform<S: Source, K: Sink>(
 {
     match job {
         Job::Replay => replay::<Rig<TableCells>, S, K>(alloc, source, sink, watchers),
+        Job::Run => run(rt, alloc, &OpenGate, source, sink, watchers),
         Job::Generate { seed, turns } => {
             generate::<Rig<TableCells>, K>(alloc, seed, turns, sink, watchers)
         }
@@ -58,9 +62,10 @@ fn perform<S: Source, K: Sink>(
 }
 
 /// Does what the words after the program's name say. `replay` reads a trace from the source, and
-/// prints its record to the sink. `gen` makes the trace of a seed and a number of turns, and prints
-/// its summary. Any other words are answered by the line that lists the commands. Nothing is read
-/// but by `replay`.
+/// prints its record to the sink. `run` reads a trace, makes each seat's calls on a thread of its own,
+/// and prints what came of them. `gen` makes the trace of a seed and a number of turns, and prints its
+/// summary. Any other words are answered by the line that lists the commands. Nothing is read but by
+/// `replay` and `run`.
 pub fn main_call<R: Threads + Sync, S: Source, K: Sink>(
     rt: &R,
     alloc: Global,
@@ -72,13 +77,15 @@ pub fn main_call<R: Threads + Sync, S: Source, K: Sink>(
     // The words are judged first.
     ensures replays { asked (map string_bytes words.now) ≡ Some Job.Replay → Keeps (boxed stands) result (watch_text shown shows watchers.new.items) (S.left source.old) (S.left source.new) (outside (K.written sink.old) watchers.old.items) (outside (K.written sink.new) watchers.new.items) }
     ensures lawful { GivenLawful }
+    ensures runs { asked (map string_bytes words.now) ≡ Some Job.Run → RunsTrace (boxed stands) result (watch_text shown shows watchers.new.items) (S.left source.old) (S.left source.new) (outside (K.written sink.old) watchers.old.items) (outside (K.written sink.new) watchers.new.items) }
     ensures generates { (seed turns : ℕ) → asked (map string_bytes words.now) ≡ Some (Job.Generate seed turns) → Summarizes (boxed stands) result seed turns (watch_text shown shows watchers.new.items) (outside (K.written sink.old) watchers.old.items) (outside (K.written sink.new) watchers.new.items) }
     ensures refuses { asked (map string_bytes words.now) ≡ None → Refuses result (K.written sink.old) (K.written sink.new) }
-    ensures unread { asked (map string_bytes words.now) ≢ Some Job.Replay → source.new ≡ source.old }
+    ensures unread { asked (map string_bytes words.now) ≢ Some Job.Replay → asked (map string_bytes words.now) ≢ Some Job.Run → source.new ≡ source.old }
     ensures unheard { asked (map string_bytes words.now) ≡ None → watchers.new ≡ watchers.old }
 
-    // A trace in the grammar is replayed whole, and a generated one is summarized, but for a fault of the source or the sink, and for want of memory.
+    // A trace in the grammar is replayed or run whole, and a generated one is summarized, but for a fault of the source or the sink, and for want of memory.
     ensures complete { asked (map string_bytes words.now) ≡ Some Job.Replay → IsComplete result (S.left source.old) (Rose S.may_stand (S.faults source.old) (S.faults source.new)) (Rose K.may_stand (K.faults sink.old) (K.faults sink.new)) }
+    ensures run_whole { asked (map string_bytes words.now) ≡ Some Job.Run → IsRunWhole result (S.left source.old) (Rose S.may_stand (S.faults source.old) (S.faults source.new)) (Rose K.may_stand (K.faults sink.old) (K.faults sink.new)) }
     ensures generated { (seed turns : ℕ) → asked (map string_bytes words.now) ≡ Some (Job.Generate seed turns) → IsGenerated result (Rose K.may_stand (K.faults sink.old) (K.faults sink.new)) }
 
     // A fault is told only where its count rose.
@@ -87,10 +94,8 @@ pub fn main_call<R: Threads + Sync, S: Source, K: Sink>(
     ensures source { S.faults source.old ≤ S.faults source.new }
     ensures sink { K.faults sink.old ≤ K.faults sink.new }
 {
-    // One seat after the other makes its units: that takes no threads.
-    let _ = rt;
     match job_of(alloc, words) {
-        Ok(Some(job)) => perform(alloc, job, source, sink, watchers),
+        Ok(Some(job)) => perform(rt, alloc, job, source, sink, watchers),
         Ok(None) => refuse(sink),
         Err(_) => Status::NoMemory,
     }

@@ -4,3 +4,4 @@
 mod command;
 
 pub use command::{exit_number, main_call};
+pub use wfe_server_run::{Gate, OpenGate, RunRecord, run, run_threads};

@@ -5,10 +5,10 @@ use Rattle.std.specs.Str.{bytes_eq}
 use Rattle.std.specs.List.{list_any}
 use Rattle.std.proofs.lemmas.Slice.Eq.{bytes_eq-Decides}
 use Rattle.clap.specs.Words.{Text, fault_of, subcommand_of}
-use Rattle.wfe_cli_job.specs.Jobs.{asked, generate_of}
+use Rattle.wfe_cli_job.specs.Jobs.{asked, generate_of, named}
 use Rattle.wfe_cli_job.specs.Words.{begins_with_hyphen, job_of_rows, wfe_app}
 use Rattle.wfe_cli_job.proofs.Plain.{plain_word}
-use Rattle.wfe_cli_job.proofs.Reading.{IsFault, gen_alone, gen_both, gen_job, gen_seed, gen_word, no_word, other_word, replay_alone, replay_job, replay_word}
+use Rattle.wfe_cli_job.proofs.Reading.{IsFault, gen_alone, gen_both, gen_job, gen_seed, gen_word, no_word, other_word, replay_alone, replay_job, replay_word, run_alone, run_job, run_word}
 use Rattle.wfe_trace.specs.Words.{number_in}
 
 -- one of two tests holds, or neither does
@@ -25,7 +25,7 @@ hyphen_number [] h = cc
 hyphen_number (c ∷ []) h = let is : c ≡ 45 = eqb-true c 45 h in rw is refl
 hyphen_number (c ∷ d ∷ ds) h = let is : c ≡ 45 = eqb-true c 45 h in rw is refl
 
-hyphen_command : (word : Text) → begins_with_hyphen word ≡ true → (bytes_eq word (codes "replay") ≡ false) × (bytes_eq word (codes "gen") ≡ false)
+hyphen_command : (word : Text) → begins_with_hyphen word ≡ true → (named word ≡ None) × (bytes_eq word (codes "gen") ≡ false)
 hyphen_command [] h = cc
 hyphen_command (c ∷ cs) h = let is : c ≡ 45 = eqb-true c 45 h in (rw is refl, rw is refl)
 
@@ -68,6 +68,12 @@ replay_reads (a ∷ []) h = inr (replay_word a [] (plain_word a (neither _ _ h).
 replay_reads (a ∷ b ∷ []) h = inr (replay_word a (b ∷ []) (plain_word a (neither _ _ h).0), refl)
 replay_reads (a ∷ b ∷ c ∷ rest) h = inr (replay_word a (b ∷ c ∷ rest) (plain_word a (neither _ _ h).0), refl)
 
+run_reads : (rest : List Text) → list_any begins_with_hyphen rest ≡ false → Reads (codes "run" ∷ rest)
+run_reads [] h = inl (run_alone, run_job)
+run_reads (a ∷ []) h = inr (run_word a [] (plain_word a (neither _ _ h).0), refl)
+run_reads (a ∷ b ∷ []) h = inr (run_word a (b ∷ []) (plain_word a (neither _ _ h).0), refl)
+run_reads (a ∷ b ∷ c ∷ rest) h = inr (run_word a (b ∷ c ∷ rest) (plain_word a (neither _ _ h).0), refl)
+
 gen_reads : (rest : List Text) → list_any begins_with_hyphen rest ≡ false → Reads (codes "gen" ∷ rest)
 gen_reads [] h = inr (gen_alone, refl)
 gen_reads (s ∷ []) h = inr (gen_seed s (plain_word s (neither _ _ h).0), refl)
@@ -81,11 +87,11 @@ gen_reads (s ∷ t ∷ a ∷ rest) h =
     let second = neither _ _ first.1 in
     inr (gen_word s (plain_word s first.0) t (plain_word t second.0) a rest (plain_word a (neither _ _ second.1).0), refl)
 
-other_asks : (word : Text) (rest : List Text) → bytes_eq word (codes "replay") ≡ false → bytes_eq word (codes "gen") ≡ false → asked (word ∷ rest) ≡ None
-other_asks word [] r g = rw r refl
-other_asks word (a ∷ []) r g = refl
-other_asks word (a ∷ b ∷ []) r g = rw g refl
-other_asks word (a ∷ b ∷ c ∷ rest) r g = refl
+other_asks : (word : Text) (rest : List Text) → bytes_eq word (codes "replay") ≡ false → bytes_eq word (codes "run") ≡ false → bytes_eq word (codes "gen") ≡ false → asked (word ∷ rest) ≡ None
+other_asks word [] r u g = rw (r, u) refl
+other_asks word (a ∷ []) r u g = refl
+other_asks word (a ∷ b ∷ []) r u g = rw g refl
+other_asks word (a ∷ b ∷ c ∷ rest) r u g = refl
 
 -- the two texts are not one, either way around
 differ : (a b : Text) → bytes_eq a b ≡ false → bytes_eq b a ≡ false
@@ -100,23 +106,30 @@ differ a b e = go (bytes_eq b a) refl
 
 reads : (words : List Text) → list_any begins_with_hyphen words ≡ false → Reads words
 reads [] h = inr (no_word, refl)
-reads (word ∷ rest) h = named (bytes_eq (codes "replay") word) refl
+reads (word ∷ rest) h = first (bytes_eq (codes "replay") word) refl
   where
     plain : (begins_with_hyphen word ≡ false) × (list_any begins_with_hyphen rest ≡ false)
     plain = neither (begins_with_hyphen word) (list_any begins_with_hyphen rest) h
 
-    other : bytes_eq (codes "replay") word ≡ false → (b : Bool) → bytes_eq (codes "gen") word ≡ b → Reads (word ∷ rest)
-    other r true e =
+    other : bytes_eq (codes "replay") word ≡ false → bytes_eq (codes "run") word ≡ false → (b : Bool) → bytes_eq (codes "gen") word ≡ b → Reads (word ∷ rest)
+    other r u true e =
         let is : codes "gen" ≡ word = (bytes_eq-Decides (codes "gen") word).0 e in
         subst (λ (w : Text). Reads (w ∷ rest)) is (gen_reads rest plain.1)
-    other r false e =
-        inr (other_word word rest (plain_word word plain.0) r e, other_asks word rest (differ (codes "replay") word r) (differ (codes "gen") word e))
+    other r u false e =
+        let asks = other_asks word rest (differ (codes "replay") word r) (differ (codes "run") word u) (differ (codes "gen") word e) in
+        inr (other_word word rest (plain_word word plain.0) r u e, asks)
 
-    named : (b : Bool) → bytes_eq (codes "replay") word ≡ b → Reads (word ∷ rest)
-    named true e =
+    later : bytes_eq (codes "replay") word ≡ false → (b : Bool) → bytes_eq (codes "run") word ≡ b → Reads (word ∷ rest)
+    later r true e =
+        let is : codes "run" ≡ word = (bytes_eq-Decides (codes "run") word).0 e in
+        subst (λ (w : Text). Reads (w ∷ rest)) is (run_reads rest plain.1)
+    later r false e = other r e (bytes_eq (codes "gen") word) refl
+
+    first : (b : Bool) → bytes_eq (codes "replay") word ≡ b → Reads (word ∷ rest)
+    first true e =
         let is : codes "replay" ≡ word = (bytes_eq-Decides (codes "replay") word).0 e in
         subst (λ (w : Text). Reads (w ∷ rest)) is (replay_reads rest plain.1)
-    named false e = other e (bytes_eq (codes "gen") word) refl
+    first false e = later e (bytes_eq (codes "run") word) refl
 
 pub taken : (words : List Text) → list_any begins_with_hyphen words ≡ false → fault_of wfe_app words ≡ []
     → job_of_rows (subcommand_of wfe_app words) ≡ asked words

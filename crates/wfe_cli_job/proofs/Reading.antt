@@ -15,7 +15,7 @@ use Rattle.wfe_cli_job.specs.Jobs.{generate_of}
 use Rattle.wfe_cli_job.specs.declared.job.Job.TheVariants as jobs
 use Rattle.wfe_trace.specs.Words.{number_in}
 
--- the program as it is built, and its two commands
+-- the program as it is built, and its three commands
 abbrev app : App
 app = built wfe_app
 
@@ -24,6 +24,9 @@ leaf s = built_leaf (inherited (with_leaf_noted (marked_built wfe_app.top)) s)
 
 abbrev replay : Shape
 replay = leaf (new_app (codes "replay")).top
+
+abbrev run : Shape
+run = leaf (new_app (codes "run")).top
 
 abbrev gen : Shape
 gen = leaf gen_app.top
@@ -39,6 +42,10 @@ met_gen rest = sym (walk_stopped app.top.rules (names_of app) (walk_at nothing_h
 met_replay : (rest : List Text) → walk app.top.rules (names_of app) nothing_held (codes "replay" ∷ rest) ≡ left (codes "replay") rest
 unfolding clap_on_literals
 met_replay rest = sym (walk_stopped app.top.rules (names_of app) (walk_at nothing_held 1) (codes "replay") [] rest)
+
+met_run : (rest : List Text) → walk app.top.rules (names_of app) nothing_held (codes "run" ∷ rest) ≡ left (codes "run") rest
+unfolding clap_on_literals
+met_run rest = sym (walk_stopped app.top.rules (names_of app) (walk_at nothing_held 1) (codes "run") [] rest)
 
 -- the words left to a command are no fault of the program's own
 left_pass : (name : Text) (seen words : List Text) → walk_fault app.top (names_of app) (left name seen) words ≡ []
@@ -66,6 +73,11 @@ replay_fault : (rest : List Text) → fault_of wfe_app (codes "replay" ∷ rest)
 unfolding clap_on_literals
 replay_fault rest =
     ap₂ own (left_pass (codes "replay") [] rest) (met_replay rest) ∙ or_else-nil (level_fault replay [] nothing_held rest false [])
+
+run_fault : (rest : List Text) → fault_of wfe_app (codes "run" ∷ rest) ≡ level_fault run [] nothing_held rest false []
+unfolding clap_on_literals
+run_fault rest =
+    ap₂ own (left_pass (codes "run") [] rest) (met_run rest) ∙ or_else-nil (level_fault run [] nothing_held rest false [])
 
 -- ---- a command's own words
 
@@ -96,6 +108,24 @@ replay_alone = refl
 pub replay_job : job_of_rows (subcommand_of wfe_app (codes "replay" ∷ [])) ≡ Some jobs.Replay
 unfolding clap_on_literals
 replay_job = refl
+
+-- nor does `run`
+pub run_word : (word : Text) (rest : List Text) → IsPlain word → IsFault (fault_of wfe_app (codes "run" ∷ word ∷ rest))
+run_word word rest p e =
+    let all : Kinds = own_of run (or_else (UnknownArgument ∷ []) (walk_fault run [] (walk_past run.rules nothing_held 1 word) rest))
+    (walk run.rules [] nothing_held (word ∷ rest)) in
+    let is : all ≡ [] =
+    sym (ap (λ f. own_of run f (walk run.rules [] nothing_held (word ∷ rest))) (fault_next word p [] refl run nothing_held 1 rest))
+    ∙ sym (run_fault (word ∷ rest)) ∙ e in
+    cc
+
+pub run_alone : fault_of wfe_app (codes "run" ∷ []) ≡ []
+unfolding clap_on_literals
+run_alone = refl
+
+pub run_job : job_of_rows (subcommand_of wfe_app (codes "run" ∷ [])) ≡ Some jobs.Run
+unfolding clap_on_literals
+run_job = refl
 
 -- `gen` wants both words
 pub gen_alone : IsFault (fault_of wfe_app (codes "gen" ∷ []))
@@ -151,11 +181,11 @@ module _ (seed : Text) (plain : IsPlain seed) where
 
 -- ---- other words
 
-pub other_word : (word : Text) (rest : List Text) → IsPlain word → bytes_eq (codes "replay") word ≡ false → bytes_eq (codes "gen") word ≡ false
+pub other_word : (word : Text) (rest : List Text) → IsPlain word → bytes_eq (codes "replay") word ≡ false → bytes_eq (codes "run") word ≡ false → bytes_eq (codes "gen") word ≡ false
     → IsFault (fault_of wfe_app (word ∷ rest))
-other_word word rest p no_replay no_gen e =
+other_word word rest p no_replay no_run no_gen e =
     let all : Walk = walk app.top.rules (names_of app) nothing_held (word ∷ rest) in
-    let other : subcommand_met (names_of app) idle word ≡ None = rw (no_replay, no_gen) refl in
+    let other : subcommand_met (names_of app) idle word ≡ None = rw (no_replay, no_run, no_gen) refl in
     let last : Kinds = walk_fault app.top (names_of app) (walk_past app.top.rules nothing_held 1 word) rest in
     let is : own (or_else (UnknownArgument ∷ InvalidSubcommand ∷ []) last) all ≡ [] =
     sym (ap (λ f. own f all) (fault_next word p (names_of app) other app.top nothing_held 1 rest)) ∙ e in

@@ -19,10 +19,14 @@ abbrev pub generate_of : Option ℕ → Option ℕ → Option Job
 generate_of None turns = None
 generate_of (Some seed) turns = with_turns seed turns
 
--- the words are `replay` alone, or `gen` with a seed and a number of turns
+-- the job of one word
+abbrev pub named : List ℕ → Option Job
+named word = if bytes_eq word (codes "replay") then Some jobs.Replay else if bytes_eq word (codes "run") then Some jobs.Run else None
+
+-- the words are `replay` or `run` alone, or `gen` with a seed and a number of turns
 abbrev pub asked : List (List ℕ) → Option Job
 asked [] = None
-asked (word ∷ []) = if bytes_eq word (codes "replay") then Some jobs.Replay else None
+asked (word ∷ []) = named word
 asked (word ∷ seed ∷ []) = None
 asked (word ∷ seed ∷ turns ∷ []) = if bytes_eq word (codes "gen") then generate_of (number_in seed) (number_in turns) else None
 asked (word ∷ seed ∷ turns ∷ more ∷ words) = None

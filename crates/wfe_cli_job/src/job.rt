@@ -23,6 +23,8 @@ const MOST_TURNS: u64 = 100_000;
 pub enum Job {
     /// Reads a trace, and prints its record.
     Replay,
+    /// Reads a trace, makes each seat's calls on a thread of its own, and prints what came of them.
+    Run,
     /// Makes the trace of so many turns from a seed, and prints its summary.
     Generate { seed: u64, turns: u64 },
 }
@@ -47,6 +49,7 @@ fn program<'a>(alloc: Global) -> Result<Command<'a>, AllocError>
         .disable_help_subcommand(true)
         .subcommand_required(true)
         .subcommand(Command::new(alloc, "replay"))?
+        .subcommand(Command::new(alloc, "run"))?
         .subcommand(gen_command(alloc)?)
 }
 
@@ -100,6 +103,7 @@ fn job_in(matches: &ArgMatches<'_>) -> Option<Job>
 {
     match matches.subcommand() {
         Some(("replay", _)) => Some(Job::Replay),
+        Some(("run", _)) => Some(Job::Run),
         Some(("gen", words)) => generate_in(words),
         _ => None,
     }

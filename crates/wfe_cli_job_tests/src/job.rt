@@ -27,6 +27,16 @@ fn replay_stands_alone(rt: HostRuntime) -> Result<(), Fail> {
 }
 
 #[test]
+fn run_stands_alone(rt: HostRuntime) -> Result<(), Fail> {
+    let alloc = rt.alloc();
+    assert_eq!(rt; asked(alloc, &["run"])?, Some(Job::Run));
+    assert_eq!(rt; asked(alloc, &["run", "run"])?, None);
+    assert_eq!(rt; asked(alloc, &["run", "5", "20"])?, None);
+    assert_eq!(rt; asked(alloc, &["runs"])?, None);
+    Ok(())
+}
+
+#[test]
 fn gen_wants_a_seed_and_turns(rt: HostRuntime) -> Result<(), Fail> {
     let alloc = rt.alloc();
     let job = asked(alloc, &["gen", "5", "20"])?;

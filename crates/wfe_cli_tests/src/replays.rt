@@ -343,7 +343,7 @@ fn expect_answer<R: Threads + Sync + Abort + AllocGlobal>(
 
 #[test]
 fn other_words_are_answered_by_the_usage_line(rt: HostRuntime) -> Result<(), Fail> {
-    let lists: [&[&str]; 13] = [
+    let lists: [&[&str]; 14] = [
         &[],
         &[""],
         &["replays"],
@@ -351,6 +351,7 @@ fn other_words_are_answered_by_the_usage_line(rt: HostRuntime) -> Result<(), Fai
         &["-h"],
         &["check"],
         &["replay", "replay"],
+        &["run", "replay"],
         &["gen"],
         &["gen", "5"],
         &["gen", "5", "100001"],
@@ -359,10 +360,10 @@ fn other_words_are_answered_by_the_usage_line(rt: HostRuntime) -> Result<(), Fai
         &["gen", "1", "5", "2"],
     ];
     for (i, words) in lists.iter().enumerate() {
-        let usage = b"usage: wfe replay | gen SEED N\n";
+        let usage = b"usage: wfe replay | run | gen SEED N\n";
         expect_answer(&rt, words, &[], (Status::Usage, usage), i)?;
     }
-    expect_answer(&rt, &["none"], &[1], (Status::WriteFault, b""), 13)
+    expect_answer(&rt, &["none"], &[1], (Status::WriteFault, b""), 14)
 }
 
 // Where a line begins in the output, from this place on, and ends.

@@ -27,7 +27,7 @@ pub taken_word : (words : List ℕ) (i word : ℕ) → get_elem? words i ≡ som
 taken_word words i word e = let one : suc i ≡ i + 1 = omega arith in sym (one_word words i word e) ∙ ap (λ (n : ℕ). take n words) one
 
 -- the table as it is answered is the table by the record
-closing_is : (layout : Layout) (p : Past) (closed : Closed) → IsClosed layout p closed → closing_of closed ≡ at_close layout p
+pub closing_is : (layout : Layout) (p : Past) (closed : Closed) → IsClosed layout p closed → closing_of closed ≡ at_close layout p
 closing_is layout p closed h =
     let clock : closed.clock ≡ clock_of p = h.clock in
     let buckets = h.buckets in

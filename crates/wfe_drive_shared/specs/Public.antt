@@ -15,6 +15,10 @@ pub record SeatNow : Type 0 where
   pub table : TableId
   pub track : Track
 
+-- how many steps its last call took: `notes` shows it
+abbrev pub steps_of : SeatNow → ℕ
+steps_of seat = seat.track.local.desk.notes.steps
+
 -- the seat is this table's
 pub record IsOf (seat : SeatNow) (shared : TableNow) : Type 0 where
   pub table : seat.table ≡ shared.table

@@ -1,9 +1,12 @@
 // The calls on a seat, each with what its caller is given. A call takes no memory and never waits.
-ghost use Rattle.std.specs.Prelude.{◌≡◌, MatchResult};
+ghost use Rattle.std.specs.Prelude.{◌≡◌, ◌≤◌, ◌+◌, ◌*◌, if◌then◌else◌, MatchResult};
+ghost use Rattle.wfe_core.specs.Guards.{guards};
 ghost use Rattle.wfe_core.specs.defs.declared.call.Answer.TheVariants as answers;
 ghost use Rattle.wfe_core.specs.defs.declared.call.Call.TheVariants as calls;
+ghost use Rattle.wfe_core.specs.words.Schemes.{is_wfe};
+ghost use Rattle.wfe_core.specs.words.declared.config.SchemeKind.TheVariants as schemes;
 ghost use Rattle.wfe_drive_shared.specs.Calls.{IsMade, enqueue_answer, hold_answer, put_answer, remove_answer};
-ghost use Rattle.wfe_drive_shared.specs.Public.{IsOf};
+ghost use Rattle.wfe_drive_shared.specs.Public.{IsOf, steps_of};
 
 use crate::seat::Seat;
 use crate::shared::Shared;
@@ -80,11 +83,14 @@ pub enum EnqueueRefusal {
 }
 
 impl Shared {
-    /// The key's value, at a version that its bucket had during the call.
+    /// The key's value, at a version that its bucket had during the call. Whatever the other threads do, it
+    /// takes no more steps than `bound` says.
+    #[tactic(auto, using(crate::proofs::Bounded::get_bounded))]
     pub fn get(&self, seat: &mut Seat, key: u64) -> Got
         requires of { IsOf seat.old self.now }
         ensures of { IsOf seat.new self.now }
         ensures made { IsMade self.now.layout seat.old seat.new (calls.Get key) (answers.Got result.version result.value) }
+        ensures bound { self.now.layout.config.scheme ≡ schemes.Wfe → steps_of seat.new ≤ 3 * self.now.layout.config.tries + 18 + self.now.layout.config.pairs }
     {
         match self.call(seat, Call::Get { key }) {
             Answer::Got { version, value } => Got { version, value },
@@ -166,11 +172,14 @@ impl Shared {
     }
 
     /// Protects the row of the key's bucket until a release, and gives its slot, or none where the
-    /// bucket has no row. What was held before is let go.
+    /// bucket has no row. What was held before is let go. Whatever the other threads do, it takes no more
+    /// steps than `bound` says.
+    #[tactic(auto, using(crate::proofs::Bounded::hold_bounded))]
     pub fn hold(&self, seat: &mut Seat, key: u64) -> Option<u32>
         requires of { IsOf seat.old self.now }
         ensures of { IsOf seat.new self.now }
         ensures made { IsMade self.now.layout seat.old seat.new (calls.Hold key) (hold_answer result) }
+        ensures bound { self.now.layout.config.scheme ≡ schemes.Wfe → steps_of seat.new ≤ 3 * self.now.layout.config.tries + 16 }
     {
         match self.call(seat, Call::Hold { key }) {
             Answer::Holding { slot } => Some(slot),
@@ -179,11 +188,13 @@ impl Shared {
         }
     }
 
-    /// Lets go of what was held.
+    /// Lets go of what was held, in one step.
+    #[tactic(auto, using(crate::proofs::Bounded::release_bounded))]
     pub fn release(&self, seat: &mut Seat)
         requires of { IsOf seat.old self.now }
         ensures of { IsOf seat.new self.now }
         ensures made { IsMade self.now.layout seat.old seat.new calls.Release answers.Released }
+        ensures bound { steps_of seat.new ≡ 1 }
     {
         match self.call(seat, Call::Release) {
             Answer::Released => {}
@@ -191,11 +202,13 @@ impl Shared {
         }
     }
 
-    /// Tries once to move the clock.
+    /// Tries once to move the clock. Whatever the other threads do, it takes no more steps than `bound` says.
+    #[tactic(auto, using(crate::proofs::Bounded::advance_bounded))]
     pub fn advance(&self, seat: &mut Seat) -> ClockMove
         requires of { IsOf seat.old self.now }
         ensures of { IsOf seat.new self.now }
         ensures made { IsMade self.now.layout seat.old seat.new calls.Advance (answers.Clock result) }
+        ensures bound { steps_of seat.new ≤ (if is_wfe self.now.layout.config.scheme then 7 * self.now.layout.config.seats + 3 else 2) }
     {
         match self.call(seat, Call::Advance) {
             Answer::Clock { outcome } => outcome,
@@ -203,11 +216,14 @@ impl Shared {
         }
     }
 
-    /// Reads all guards, and gives back the seat's retired rows that none of them covers.
+    /// Reads all guards, and gives back the seat's retired rows that none of them covers: a step for each
+    /// guard, and one for each row.
+    #[tactic(auto, using(crate::proofs::Bounded::scan_bounded))]
     pub fn scan(&self, seat: &mut Seat) -> Scanned
         requires of { IsOf seat.old self.now }
         ensures of { IsOf seat.new self.now }
         ensures made { IsMade self.now.layout seat.old seat.new calls.Scan (answers.Scanned result.kept result.back) }
+        ensures bound { steps_of seat.new ≡ guards self.now.layout.config + result.back }
     {
         match self.call(seat, Call::Scan) {
             Answer::Scanned { kept, back } => Scanned { kept, back },

@@ -58,6 +58,16 @@ among_range test first (suc count) slot low high =
     (among_below test (first + 1) count first (omega arith))
     (λ (off : (first == slot) ≡ false). among_range test (first + 1) count slot (grind (arith, nat_tests)) (omega arith))
 
+-- a range's numbers that pass a test are those that pass one which is the same there
+same_filter : (test other : ℕ → Bool) (first count : ℕ) → ((slot : ℕ) → first ≤ slot → slot < first + count → test slot ≡ other slot)
+    → filter test (range_with_len first count) ≡ filter other (range_with_len first count)
+same_filter test other first zero h = refl
+same_filter test other first (suc count) h =
+    ap (λ (b : Bool). if b then first ∷ filter test (range_with_len (first + 1) count) else filter test (range_with_len (first + 1) count))
+    (h first (omega arith) (omega arith))
+    ∙ ap (λ (rest : List ℕ). if other first then first ∷ rest else rest)
+    (same_filter test other (first + 1) count (λ slot low high. h slot (omega arith) (omega arith)))
+
 -- the whole law, by its parts
 by_parts : RunsAddUp → RunsAgree → RunsTick → RunsList → RunsAreLawful
 by_parts add agree tick list layout items rest =
@@ -91,6 +101,9 @@ by_parts add agree tick list layout items rest =
         empty = says.empty;
       };
       rows = record {
+        used =
+            same_filter (λ (s : ℕ). taken_at layout.config.slots s p) (λ (s : ℕ). is_among s (at_close layout p).used) 0 (row_count layout)
+            (λ slot low high. sym (among_range (λ (s : ℕ). taken_at layout.config.slots s p) 0 (row_count layout) slot low high));
         balance = λ slot low.
             let used : is_among slot (at_close layout p).used ≡ taken_at layout.config.slots slot p =
             among_range (λ (s : ℕ). taken_at layout.config.slots s p) 0 (row_count layout) slot (omega arith) (omega arith) in
@@ -99,7 +112,7 @@ by_parts add agree tick list layout items rest =
             (sym used) (sums.rows slot low);
       };
       lists = list layout items rest;
-      eras = record { most = ticks.most; once = sums.eras; moved = ticks.moved; seen = ticks.seen; rise = ticks.rise; spent = ticks.spent; final = ticks.final };
+      eras = record { most = ticks.most; once = sums.eras; later = ticks.later; seen = ticks.seen; rise = ticks.rise; spent = ticks.spent; final = ticks.final };
     }
 
 pub runs_are_lawful : RunsAreLawful

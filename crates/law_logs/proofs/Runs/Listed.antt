@@ -35,6 +35,7 @@ use Rattle.law_logs.proofs.Ledgers.{ledger_began, records_keep_logs}
 use Rattle.law_logs.specs.Ledgers.{ledger_of, log_of, notes_of}
 use Rattle.law_logs.specs.Records.{IsEnded}
 use Rattle.law_logs.proofs.Runs.Calls.{log_of_seat}
+use Rattle.law_logs.proofs.Runs.Early.{ended_early}
 use Rattle.law_logs.proofs.Runs.Entries.{fresh_ok, kind_right, kinds_ok, records_keep_fresh, records_keep_kinds}
 use Rattle.law_logs.proofs.Runs.Seats.{Allowed, Deed, Seat, is_out, open_right, seat_by}
 use Rattle.law_logs.proofs.Runs.Stages.{Backs, Sound, sound_step, stage_backs}
@@ -246,6 +247,7 @@ ended_right c k r before group l e =
     let suit : suits group.call group.answer ≡ true = call_suits c.buckets (began_of k e.at) group.call (told_of k e.at) group.answer e.call m.told.0 in
     let why : reason c k e.at (Some group.call) group.answer ≡ true = subst (λ (x : Option Call). reason c k e.at x group.answer ≡ true) e.call m.reasons.0 in
     record {
+      plain = ended_early k r before group e;
       early = q.early;
       late = q.late;
       kept = λ kept back a.

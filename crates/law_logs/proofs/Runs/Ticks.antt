@@ -81,11 +81,6 @@ ordered c k r before between one two low l e b =
           (subst (SinceAt c.every k (clock_of b.from)) (sym b.cut) (since_call c.every c.last_era k b.until b.from two.call at.eras)) m.clocks.0;
     }
 
--- an era that the call has moved the clock to is one that it tells
-moved_told : (told : Option ClockMove) (era : ℕ) → era_moved told ≡ Some era → era_told told ≡ Some era
-moved_told (Some (moves.Moved era)) other e = e
-moved_told told era e = absurd (cc)
-
 -- none is told where none can be
 none_told : (told : Option ℕ) → ((era : ℕ) → told ≡ Some era → ⊥) → told ≡ None
 none_told None f = refl
@@ -106,8 +101,8 @@ runs_tick layout items rest =
     ordered c f.seat r f.before f.between one two low l f.second.end f.second.begun in
     record {
       most = most;
-      moved = λ before group era h e.
-          let a = (of_call before group h).says.later era (moved_told (clock_told group.answer) era e) in
+      later = λ before group era h e.
+          let a = (of_call before group h).says.later era e in
           omega (arith, a.0);
       seen = λ before group era h e.
           let a : Ended c r group = of_call before group h in

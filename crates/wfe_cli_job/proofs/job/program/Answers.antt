@@ -10,8 +10,11 @@ returns c =
     let replay : app_of c.new-2.result ≡ new_app (codes "replay") = search rules in
     let one : app_of c.in_ok-subcommand.field-0 ≡ with_subcommand bare_app (new_app (codes "replay")).top =
     c.in_ok-subcommand.ensures.shape (search rules) ∙ ap₂ with_subcommand bare (ap (λ (a : App). a.top) replay) in
+    let run : app_of c.new-3.result ≡ new_app (codes "run") = search rules in
+    let two : app_of c.in_ok-subcommand-2.field-0 ≡ with_subcommand (with_subcommand bare_app (new_app (codes "replay")).top) (new_app (codes "run")).top =
+    c.in_ok-subcommand-2.ensures.shape (search rules) ∙ ap₂ with_subcommand one (ap (λ (a : App). a.top) run) in
     record {
-      app = IfOk-weaker c.subcommand-2.result _ _
-          (λ command h. h.shape c.in_ok-gen_command.ensures.local ∙ ap₂ with_subcommand one (ap (λ (a : App). a.top) c.in_ok-gen_command.ensures.app))
-          c.subcommand-2.ensures;
+      app = IfOk-weaker c.subcommand-3.result _ _
+          (λ command h. h.shape c.in_ok-gen_command.ensures.local ∙ ap₂ with_subcommand two (ap (λ (a : App). a.top) c.in_ok-gen_command.ensures.app))
+          c.subcommand-3.ensures;
     }

@@ -1,0 +1,16 @@
+pub mod Crowded
+pub mod Loose
+pub mod Readers
+pub mod Refusals
+pub mod Runs
+pub mod Shared
+pub mod Spent
+pub mod Texts
+pub mod WrongAnswers
+pub mod WrongEras
+pub mod WrongLists
+pub mod WrongQueues
+pub mod WrongRises
+pub mod WrongRows
+pub mod WrongTexts
+pub mod WrongVersions

@@ -1,0 +1,27 @@
+-- Runs that the law of what rises within a seat alone refuses.
+use Rattle.std.specs.Prelude.{List, None, Some, [], ◌∷◌}
+use Rattle.wfe_core.specs.Desks.{no_notes}
+use Rattle.wfe_core.specs.defs.declared.call.Answer.TheVariants as answers
+use Rattle.wfe_core.specs.defs.declared.call.Call.TheVariants as calls
+use Rattle.law_run_worked.specs.Crowded.{crowded}
+use Rattle.law_run_worked.specs.Readers.{Bullet, Sentence}
+use Rattle.law_run_worked.specs.Refusals.{AreRefused, Wrong, wrong}
+use Rattle.law_run_worked.specs.Runs.{answering, group, in_call, then_call}
+use Rattle.law_run_worked.specs.Shared.{shared}
+
+abbrev pub wrong_rises : List Wrong
+wrong_rises =
+    -- a get answers an earlier version than its seat told before
+    wrong shared (then_call 0 (group (calls.Get 0) (answers.Got 2 (Some 99)) no_notes) ∷ []) Bullet.Rises (Sentence.NeverFall ∷ [])
+    -- a remove finds its key absent at an earlier version
+    ∷ wrong shared (answering 1 6 (answers.Absent 3) ∷ []) Bullet.Rises (Sentence.NeverFall ∷ [])
+    -- a put finds its bucket full at an earlier version
+    ∷ wrong crowded
+    (answering 0 6 (answers.Got 5 (Some 16))
+    ∷ in_call 0 6 (λ g. record g { call = calls.Get 1 }) ∷ [])
+    Bullet.Rises (Sentence.NeverFall ∷ [])
+    -- a change has a version that its seat told before
+    ∷ wrong shared (answering 0 6 (answers.Got 5 None) ∷ []) Bullet.Rises (Sentence.ChangesRise ∷ []) ∷ []
+
+abbrev pub WrongRisesRefused : Type 0
+WrongRisesRefused = AreRefused wrong_rises

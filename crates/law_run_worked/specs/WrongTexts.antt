@@ -1,0 +1,79 @@
+-- Lines that are of no run, whatever the table is that was left: a line is missing, told twice, or stands in another place, or the calls are not
+-- those of the scripts.
+use Rattle.std.specs.List.{AllByRecursion}
+use Rattle.std.specs.Prelude.{List, None, [], drop, take, ℕ, ◌++◌, ◌∷◌}
+use Rattle.wfe_core.specs.defs.declared.call.Answer.TheVariants as answers
+use Rattle.wfe_core.specs.defs.declared.call.Call.{Call}
+use Rattle.wfe_core.specs.defs.declared.call.Call.TheVariants as calls
+use Rattle.wfe_core.specs.defs.declared.call.ClockMove.TheVariants as moves
+use Rattle.wfe_core.specs.defs.declared.event.Event.{Event}
+use Rattle.wfe_core.specs.defs.declared.event.Event.TheVariants as events
+use Rattle.law_logs.specs.RunLaw.{AtClose, IsRun}
+use Rattle.law_run_worked.specs.Runs.{at_place}
+use Rattle.law_run_worked.specs.Shared.{shared_lines_0, shared_lines_1, shared_scripts, shared_setting}
+
+-- the scripts of the seats, and what each seat printed
+pub record Text : Type 0 where
+  pub scripts : List (List Call)
+  pub seats : List (List Event)
+
+abbrev shared_text : Text
+shared_text = record { scripts = shared_scripts; seats = shared_lines_0 ∷ shared_lines_1 ∷ [] }
+
+-- in the place of a seat's line these are printed; lines count from 0
+abbrev line_as : (seat place : ℕ) → List Event → Text
+line_as seat place lines = record shared_text { seats = at_place seat (λ told. at_place place (λ line. lines) told ∷ []) shared_text.seats }
+
+-- the lines are the same, and the scripts are others
+abbrev scripts_as : List (List Call) → Text
+scripts_as scripts = record shared_text { scripts = scripts }
+
+abbrev script_as : (seat : ℕ) → (List Call → List Call) → Text
+script_as seat change = scripts_as (at_place seat (λ script. change script ∷ []) shared_scripts)
+
+abbrev pub wrong_texts : List Text
+wrong_texts =
+    -- a call does not begin, and one does not end
+    line_as 0 4 []
+    ∷ line_as 0 8 []
+    -- a call begins that is not the script's
+    ∷ line_as 1 9 (events.Begin calls.Advance ∷ [])
+    -- what a call has done is not told, or twice, or with another version, or of another bucket
+    ∷ line_as 0 2 []
+    ∷ line_as 0 2 (events.Put 0 1 0 99 ∷ events.Put 0 1 0 99 ∷ [])
+    ∷ line_as 0 2 (events.Put 0 2 0 99 ∷ [])
+    ∷ line_as 0 2 (events.Put 1 1 0 99 ∷ [])
+    -- a get tells another value than it answers, and a dequeue another number
+    ∷ line_as 0 24 (events.Got 0 4 0 None ∷ [])
+    ∷ line_as 0 16 (events.Taken 2 71 ∷ [])
+    -- a refused call tells a change, and one that finds the queue empty a value
+    ∷ line_as 0 14 (events.Put 0 4 0 33 ∷ events.End 30 answers.Full ∷ [])
+    ∷ line_as 0 22 (events.Taken 2 94 ∷ events.End 11 answers.Empty ∷ [])
+    -- a row is given after the change, and one is given twice
+    ∷ line_as 0 2 (events.Put 0 1 0 99 ∷ events.Give 0 1 ∷ [])
+    ∷ line_as 0 1 (events.Give 0 1 ∷ events.Give 0 1 ∷ [])
+    -- a row is given up that was not given in the call, or before it was
+    ∷ line_as 1 27 (events.Unused 3 ∷ [])
+    ∷ line_as 1 26 (events.Unused 2 ∷ events.Give 2 4 ∷ [])
+    -- a row is retired before the change, and one is retired twice
+    ∷ line_as 0 6 (events.Retire 1 1 1 ∷ events.Removed 0 3 0 ∷ [])
+    ∷ line_as 0 7 (events.Retire 1 1 1 ∷ events.Retire 1 1 1 ∷ [])
+    -- a row goes back between the change and the row's retirement, and one goes back between two calls
+    ∷ line_as 1 17 (events.Put 0 4 0 42 ∷ events.Back 0 ∷ [])
+    ∷ line_as 0 20 (events.End 28 (answers.Taken 1 71 (moves.Other 4)) ∷ events.Back 5 ∷ [])
+    -- a line of another kind
+    ∷ line_as 1 19 (events.Era 4 ∷ events.Back 2 ∷ [])
+    -- a call of the script is not made, and one is made that is not in it
+    ∷ script_as 0 (λ script. script ++ calls.Scan ∷ [])
+    ∷ script_as 1 (λ script. take 6 script)
+    -- the calls of a script are made in another order
+    ∷ script_as 1 (λ script. calls.Put 1 54 ∷ calls.Put 2 71 ∷ drop 2 script)
+    -- a seat has no script, and a script no seat
+    ∷ scripts_as (take 1 shared_scripts)
+    ∷ scripts_as (shared_scripts ++ [] ∷ []) ∷ []
+
+abbrev pub IsNoRun : Text → Type 0
+IsNoRun text = (closed : AtClose) → IsRun shared_setting text.scripts text.seats closed → ⊥
+
+abbrev pub WrongTextsRefused : Type 0
+WrongTextsRefused = AllByRecursion IsNoRun wrong_texts

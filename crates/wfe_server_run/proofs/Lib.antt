@@ -1,0 +1,12 @@
+pub mod Begun
+pub mod Calls
+pub mod ClosedLines
+pub mod Coming
+pub mod Complete
+pub mod Parting
+pub mod Reading
+pub mod Reports
+pub mod Running
+pub mod Scripting
+pub mod Telling
+pub mod Told

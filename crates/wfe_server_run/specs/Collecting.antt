@@ -1,0 +1,40 @@
+-- What joins a trace that is read and the scripts that it gives; and how bytes of it are taken.
+use Rattle.std.specs.Prelude.{Err, None, Ok, Option, Result, Some, true, ◌≡◌}
+use Rattle.wfe_outside.specs.defs.declared.command.Command.{Command}
+use Rattle.wfe_server_replay.specs.Trace.{Progress}
+use Rattle.wfe_server_run.specs.Scripted.{Scripted}
+use Rattle.wfe_server_run.specs.declared.reader.Stop.{Stop}
+use Rattle.wfe_server_run.specs.declared.reader.Stop.TheVariants as stops
+use Rattle.wfe_trace.specs.Body.{IsCommandWithin}
+use Rattle.wfe_trace.specs.Good.{is_body}
+use Rattle.wfe_trace.specs.Reading.{Reading}
+use Rattle.wfe_trace.specs.declared.item.Item.{Item}
+use Rattle.wfe_trace.specs.declared.item.Item.TheVariants as items
+use Rattle.wfe_trace.specs.declared.reason.BadLine.{BadLine}
+use Rattle.wfe_trace.specs.words.Config.{bad_field}
+
+-- scripts are there in the body alone, and of as many seats as the setting that was read
+abbrev pub CollectsIn : Reading → Option Scripted → Type 0
+CollectsIn r None = Unit {0}
+CollectsIn r (Some s) = (is_body r.stage ≡ true) × (s.config.seats ≡ r.config.seats)
+
+-- the seat of the line has a script
+abbrev pub MayAdd : Command → Option Scripted → Type 0
+MayAdd c None = Unit {0}
+MayAdd c (Some s) = IsCommandWithin s.config.seats c
+
+-- what a line that was read says may be taken
+abbrev pub MayCollect : Progress Scripted → Item → Type 0
+MayCollect p items.Setting = Unit {0}
+MayCollect p (items.Ready version config) = (bad_field config ≡ None) × (is_body p.reading.stage ≡ true) × (config.seats ≡ p.reading.config.seats)
+MayCollect p (items.Command c) = MayAdd c p.engine
+
+-- bytes of a trace were taken up to a stop, as they are judged
+abbrev pub StopsAt : Stop → Result (Progress Scripted) BadLine → Type 0
+StopsAt (stops.Bad bad) verdict = verdict ≡ Err bad
+StopsAt stops.NoMemory verdict = Unit {0}
+
+-- bytes of a trace were taken, as they are judged
+abbrev pub Takes : {T : Type 0} → Result T Stop → Result (Progress Scripted) BadLine → Progress Scripted → Type 0
+Takes (Ok x) verdict now = verdict ≡ Ok now
+Takes (Err stop) verdict now = StopsAt stop verdict

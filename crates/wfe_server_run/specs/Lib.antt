@@ -1,0 +1,10 @@
+pub use Rattle.wfe_drive_shared.specs.history as history
+pub mod Collecting
+pub mod Comes
+pub mod Parted
+pub mod Prints
+pub mod Reads
+pub mod Runs
+pub mod Scripted
+pub mod Text
+pub mod Working

@@ -1,0 +1,17 @@
+//! Runs the calls of a trace on workers, one for each seat of a table that they share, and prints
+//! what each made and what the table holds in the end.
+#![tactic(auto)]
+
+mod events;
+mod gate;
+mod lines;
+mod reader;
+mod report;
+mod scripts;
+mod serve;
+mod threads;
+mod worker;
+
+pub use gate::{Gate, OpenGate};
+pub use serve::run;
+pub use threads::{RunRecord, run_threads};

@@ -1,0 +1,229 @@
+// A trace as its bytes come, and the scripts that its lines give.
+ghost use Rattle.std.specs.Prelude.{◌≡◌, ◌<◌, length, OnOk, IfOk, MatchResult, None, Ok, Err, Some, true};
+ghost use Rattle.wfe_server_replay.specs.Trace.{Progress, after_byte, after_bytes, after_last, after_line, at_end, bad_line, byte_refused, command_taken, counted, finished, item_taken, line_item, line_read, progress_start};
+ghost use Rattle.wfe_server_run.specs.Collecting.{MayAdd, MayCollect, Takes};
+ghost use Rattle.wfe_server_run.specs.Scripted.{no_calls, scripter};
+ghost use Rattle.wfe_trace.specs.Good.{is_body};
+ghost use Rattle.wfe_trace.specs.declared.item.Mode.TheVariants.{Run};
+ghost use Rattle.wfe_trace.specs.words.Config.{bad_field};
+
+use crate::scripts::Scripts;
+use arrayvec::ArrayVec;
+use std::alloc::Global;
+use std::marker::Model;
+use wfe_outside::{Command, NoMemory};
+use wfe_trace::{BadLine, Config, Item, Mode, Reason, TraceState, read_line};
+
+/// Why no more of a trace is taken.
+#[derive(Clone, Copy, Debug, PartialEq, Eq)]
+pub enum Stop {
+    Bad { bad: BadLine },
+    NoMemory,
+}
+
+/// A trace of which some bytes came.
+#[derive(Drop)]
+pub(crate) struct Reader {
+    state: TraceState,
+    line: ArrayVec<u8, 200>,
+    count: u32,
+    ended: bool,
+    scripts: Option<Scripts>,
+}
+
+impl Model for Reader {
+    ghost use Rattle.std.specs.Prelude.{◌≤◌};
+    ghost use Rattle.wfe_server_replay.specs.Trace.{Progress};
+    ghost use Rattle.wfe_server_run.specs.Collecting.{CollectsIn};
+    ghost use Rattle.wfe_server_run.specs.Scripted.{Scripted};
+
+    ghost Value = { Progress Scripted };
+
+    ghost view = { λ r. record { reading = r.state; line = r.line.items; count = r.count; ended = r.ended; engine = r.scripts } };
+
+    ghost invariant = { λ r. (r.count ≤ 16777216) × CollectsIn r.state r.scripts };
+}
+
+impl Reader {
+    /// No byte came.
+    pub(crate) fn new() -> Reader
+        ensures { result ≡ progress_start Mode.Run }
+    {
+        Reader {
+            state: TraceState::new(Mode::Run),
+            line: ArrayVec::new(),
+            count: 0,
+            ended: false,
+            scripts: None,
+        }
+    }
+
+    // The line under way is bad.
+    fn bad(&self, reason: Reason) -> BadLine
+        ensures { result ≡ bad_line self.now reason }
+    {
+        BadLine {
+            line: self.state.lines().saturating_add(1),
+            reason,
+        }
+    }
+
+    // Why the next byte is bad, whatever it ends.
+    fn refused(&self, byte: u8) -> Option<Reason>
+        ensures { result ≡ byte_refused self.now byte }
+    {
+        if self.count >= 16_777_216 {
+            Some(Reason::LongTrace)
+        } else if self.ended {
+            Some(Reason::AfterEnd)
+        } else if byte == b'\n' {
+            None
+        } else if self.line.len() >= 200 {
+            Some(Reason::LongLine)
+        } else {
+            None
+        }
+    }
+
+    // The setting is whole: the body begins.
+    fn open(&mut self, alloc: Global, version: u32, config: Config) -> Result<(), NoMemory>
+        requires config { bad_field config ≡ None }
+        requires body { is_body self.old.reading.stage ≡ true }
+        requires seats { config.seats ≡ self.old.reading.config.seats }
+        ensures { OnOk result (self.new ≡ record self.old { engine = Some (no_calls version config) }) }
+    {
+        self.scripts = Some(Scripts::open(alloc, version, config)?);
+        Ok(())
+    }
+
+    // Takes a line of the body: only its call, if it gives one.
+    fn take_command(&mut self, command: Command) -> Result<(), NoMemory>
+        requires { MayAdd command self.old.engine }
+        ensures { OnOk result (self.new ≡ command_taken scripter self.old command self.old.engine) }
+    {
+        self.ended = matches!(command, Command::End);
+        if let Some(scripts) = &mut self.scripts {
+            if let Command::Call { seat, call } = command {
+                scripts.add(seat, call)?;
+            }
+        }
+        Ok(())
+    }
+
+    // Takes what a line says, which was read.
+    fn take_item(&mut self, alloc: Global, item: Item) -> Result<(), NoMemory>
+        requires { MayCollect self.old item }
+        ensures { OnOk result (self.new ≡ item_taken scripter self.old item) }
+    {
+        match item {
+            Item::Setting => Ok(()),
+            Item::Ready { version, config } => self.open(alloc, version, config),
+            Item::Command { command } => self.take_command(command),
+        }
+    }
+
+    // Reads the line under way, which is whole.
+    fn read(&mut self) -> Result<Item, BadLine>
+        ensures item { result ≡ line_item scripter self.old }
+        ensures after { OnOk result (self.new ≡ line_read self.old) }
+        ensures may { IfOk result (MayCollect self.new) }
+    {
+        let item = read_line(&mut self.state, self.line.as_slice())?;
+        self.line.clear();
+        Ok(item)
+    }
+
+    // Takes the line under way, which is whole.
+    fn take_line(&mut self, alloc: Global) -> Result<(), Stop>
+        ensures { Takes result (after_line scripter self.old) self.new }
+    {
+        let item = match self.read() {
+            Ok(item) => item,
+            Err(bad) => return Err(Stop::Bad { bad }),
+        };
+        match self.take_item(alloc, item) {
+            Ok(()) => Ok(()),
+            Err(_) => Err(Stop::NoMemory),
+        }
+    }
+
+    // One more byte came.
+    fn count_byte(&mut self)
+        requires { self.old.count < 16777216 }
+        ensures { self.new ≡ counted self.old }
+    {
+        self.count += 1;
+    }
+
+    // Takes one byte of the trace.
+    fn take_byte(&mut self, alloc: Global, byte: u8) -> Result<(), Stop>
+        ensures { Takes result (after_byte scripter self.old byte) self.new }
+    {
+        if let Some(reason) = self.refused(byte) {
+            return Err(Stop::Bad {
+                bad: self.bad(reason),
+            });
+        }
+        self.count_byte();
+        if byte == b'\n' {
+            return self.take_line(alloc);
+        }
+        self.line.push(byte);
+        Ok(())
+    }
+
+    /// Takes the next bytes of the trace, up to the first that is bad.
+    pub(crate) fn take_bytes(&mut self, alloc: Global, bytes: &[u8]) -> Result<(), Stop>
+        ensures { Takes result (after_bytes scripter (Ok self.old) bytes.now) self.new }
+    {
+        for byte in bytes {
+            match self.take_byte(alloc, *byte) {
+                Ok(()) => {}
+                Err(stop) => return Err(stop),
+            }
+        }
+        Ok(())
+    }
+
+    // Takes the bytes after the last line feed, which are a line too.
+    fn take_last(&mut self, alloc: Global) -> Result<(), Stop>
+        ensures { Takes result (after_last scripter self.old) self.new }
+    {
+        if self.line.is_empty() {
+            return Ok(());
+        }
+        self.take_line(alloc)
+    }
+
+    // Whether the line `end` came.
+    fn check_end(&self) -> Result<(), BadLine>
+        ensures { MatchResult result (λ _. at_end self.now ≡ Ok self.now) (λ bad. at_end self.now ≡ Err bad) }
+    {
+        if self.ended {
+            Ok(())
+        } else {
+            Err(self.bad(Reason::NoEnd))
+        }
+    }
+
+    /// Takes the end of the input.
+    pub(crate) fn finish(&mut self, alloc: Global) -> Result<(), Stop>
+        ensures { Takes result (finished scripter self.old) self.new }
+    {
+        match self.take_last(alloc) {
+            Ok(()) => {}
+            Err(stop) => return Err(stop),
+        }
+        match self.check_end() {
+            Ok(()) => Ok(()),
+            Err(bad) => Err(Stop::Bad { bad }),
+        }
+    }
+
+    /// The scripts, where the body has begun.
+    pub(crate) fn scripts(self) -> Option<Scripts>
+        ensures { result ≡ self.engine }
+    {
+        self.scripts
+    }
+}
