@@ -5,6 +5,7 @@ use Rattle.std.specs.Prelude.{◌==◌, if◌then◌else◌}
 use Rattle.wfe_core.proofs.Facts.{number_is, rest_of}
 use Rattle.wfe_core.specs.Desks.{Notes}
 use Rattle.wfe_core.specs.Locals.{Group}
+use Rattle.wfe_core.specs.defs.declared.call.Answer.{Answer}
 use Rattle.wfe_core.specs.defs.declared.call.Answer.TheVariants as answers
 use Rattle.wfe_core.specs.defs.declared.call.Call.{Call}
 use Rattle.wfe_core.specs.defs.declared.call.Call.TheVariants as calls
@@ -58,14 +59,17 @@ group_right c k r before group law e =
     let steps : ℕ = group.notes.steps in
     let backs : backs_of k e.at ≡ length group.notes.back = sym (backs_noted k e.at) ∙ ap (λ (x : Notes). length x.back) (sym e.notes) in
     let right : began_steps c (began_of k e.at) (backs_of k e.at) steps ≡ true = law e.at k (events.End steps group.answer) e.later e.cut in
-    let called : steps_right c group.call (backs_of k e.at) steps ≡ true = subst (λ (x : Option Call). began_steps c x (backs_of k e.at) steps ≡ true) e.call right in
+    let called : steps_right c group.call (backs_of k e.at) steps ≡ true =
+    subst (λ (x : Option Call). began_steps c x (backs_of k e.at) steps ≡ true) e.call right in
     subst (λ (x : ℕ). steps_right c group.call x steps ≡ true) backs called
 
 pub logs_take_few_steps : LogsTakeFewSteps
 logs_take_few_steps layout items k before later group d h =
+    let c : Config = layout.config in
     let r : Past = record_of layout items in
-    let kept = ends_kept layout.config r (each_of_entries (strong.end_ok layout.config) r (records_keep_ends layout items d)) in
-    group_right layout.config k r before group (entries_of_each (end_ok layout.config) r kept) (logs_are_cut k r before later group ((records_keep_logs layout items k d).log ∙ h))
+    let kept = ends_kept c r (each_of_entries (strong.end_ok c) r (records_keep_ends layout items d)) in
+    let e : IsEnded k r before group = logs_are_cut k r before later group ((records_keep_logs layout items k d).log ∙ h) in
+    group_right c k r before group (entries_of_each (end_ok c) r kept) e
 
 -- the same number, as the record counts a call's entries of a kind
 count_by : (event : Event) (x : Ledger) → length (ledger_by event x).notes.back ≡ counted_by is_back event (length x.notes.back)
@@ -85,9 +89,11 @@ counts_noted k (Then p i event) = count_entry (k == i) event (ledger_of k p) (se
 scan_tells : (c : Config) (k : ℕ) (r : Past) (before : List Group) (kept back : ℕ) (notes : Notes) → EachEntry (letter.reasons_ok c) r
     → IsEnded k r before (record { call = calls.Scan; answer = answers.Scanned kept back; notes = notes }) → length notes.back ≡ back
 scan_tells c k r before kept back notes law e =
-    let right : letter.reason c k e.at (began_of k e.at) (answers.Scanned kept back) ≡ true = law e.at k (events.End notes.steps (answers.Scanned kept back)) e.later e.cut in
-    let told : letter.reason c k e.at (Some calls.Scan) (answers.Scanned kept back) ≡ true = subst (λ (x : Option Call). letter.reason c k e.at x (answers.Scanned kept back) ≡ true) e.call right in
-    let counted : back ≡ times k is_back e.at = number_is back (times k is_back e.at) (rest_of (kept == length (list_of k e.at)) (back == times k is_back e.at) told) in
+    let answer : Answer = answers.Scanned kept back in
+    let right : letter.reason c k e.at (began_of k e.at) answer ≡ true = law e.at k (events.End notes.steps answer) e.later e.cut in
+    let told : letter.reason c k e.at (Some calls.Scan) answer ≡ true = subst (λ (x : Option Call). letter.reason c k e.at x answer ≡ true) e.call right in
+    let backs : ℕ = times k is_back e.at in
+    let counted : back ≡ backs = number_is back backs (rest_of (kept == length (list_of k e.at)) (back == backs) told) in
     ap (λ (x : Notes). length x.back) e.notes ∙ counts_noted k e.at ∙ sym (times_seen is_back k e.at) ∙ sym counted
 
 pub scans_tell_backs : ScansTellBacks
@@ -99,4 +105,6 @@ scans_tell_backs layout items k before later kept back notes d h =
     let opens = each_of_entries open_ok r (records_open_calls layout items d) in
     let counts = each_of_entries (count_ok c) r (records_count_scans layout items d) in
     let each = reasons_kept c r alone clears opens counts (each_of_entries (reasons.reasons_ok c) r (records_keep_reasons layout items d)) in
-    scan_tells c k r before kept back notes (entries_of_each (letter.reasons_ok c) r each) (logs_are_cut k r before later (record { call = calls.Scan; answer = answers.Scanned kept back; notes = notes }) ((records_keep_logs layout items k d).log ∙ h))
+    let group : Group = record { call = calls.Scan; answer = answers.Scanned kept back; notes = notes } in
+    let e : IsEnded k r before group = logs_are_cut k r before later group ((records_keep_logs layout items k d).log ∙ h) in
+    scan_tells c k r before kept back notes (entries_of_each (letter.reasons_ok c) r each) e

@@ -1,4 +1,9 @@
+pub mod Getting
 pub mod Groups
 pub mod Histories
+pub mod Leading
 pub mod Makes
 pub mod Plain
+pub mod RowReads
+pub mod Tries
+pub mod Trying

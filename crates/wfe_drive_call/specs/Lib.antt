@@ -3,6 +3,7 @@ pub use Rattle.law_answers.specs.history as history
 pub use Rattle.wfe_drive_cells.specs as drive_cells
 pub mod Called
 pub mod Comes
+pub mod Path
 pub mod Plain
 pub mod Ran
 pub mod Readiness

@@ -6,10 +6,12 @@ ghost use Rattle.wfe_core.specs.DeskHeld.{HasRoom};
 ghost use Rattle.wfe_core.specs.Frames.{SamePlace};
 ghost use Rattle.wfe_core.specs.Locals.{busy_in};
 ghost use Rattle.wfe_core.specs.Steps.{first_phase};
+ghost use Rattle.wfe_core.specs.words.declared.config.SchemeKind.TheVariants.{He as HeKind};
 ghost use Rattle.wfe_drive_call.specs.Called.{Called, Here, Makes, at_phase};
 ghost use Rattle.wfe_drive_call.specs.Ran.{Answered};
 
 use crate::Words;
+use crate::get::get_he;
 use wfe_call_any::{
     Advance, Dequeue, Enqueue, Get, He, Hold, Ibr, Put, Release, Remove, Scan, Scheme, Wfe,
 };
@@ -36,9 +38,28 @@ pub fn drive_call<W: Words>(words: &mut W, post: &mut Post, desk: &mut Desk, cal
     post.steps = 0;
     desk.notes.clear();
     match post.layout.config().scheme {
-        SchemeKind::He => drive_under::<W, He>(words, post, desk, call),
+        SchemeKind::He => drive_he(words, post, desk, call),
         SchemeKind::Ibr => drive_under::<W, Ibr>(words, post, desk, call),
         SchemeKind::Wfe => drive_under::<W, Wfe>(words, post, desk, call),
+    }
+}
+
+/// Makes the steps of a call that has begun under Hazard Eras. A get makes them without a machine.
+fn drive_he<W: Words>(words: &mut W, post: &mut Post, desk: &mut Desk, call: Call) -> Answer
+    requires valid { W.valid words.old }
+    requires scheme { post.old.layout.config.scheme ≡ HeKind }
+    requires here { Here (W.at words.old) (at_phase (first_phase call post.old) post.old desk.old) }
+    requires room { HasRoom desk.old post.old.layout }
+    ensures valid { W.valid words.new }
+    ensures same { W.same words.old words.new }
+    ensures room { HasRoom desk.new post.new.layout }
+    ensures made { Makes (λ ops l m. Answered l ops result m) (W.at words.old) (W.at words.new)
+        (W.stands words.old) (W.stands words.new)
+        (at_phase (first_phase call post.old) post.old desk.old) (at_phase Idle post.new desk.new) }
+{
+    match call {
+        Call::Get { key } => get_he(words, post, desk, key),
+        _ => drive_under::<W, He>(words, post, desk, call),
     }
 }
 

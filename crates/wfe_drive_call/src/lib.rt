@@ -3,6 +3,10 @@
 
 mod drive;
 mod facts;
+mod found;
+mod get;
+mod path;
+mod protect;
 #[cfg(test)]
 mod tests;
 mod words;

@@ -5,4 +5,6 @@
 #[cfg(test)]
 mod gates;
 #[cfg(test)]
+mod long;
+#[cfg(test)]
 mod texts;

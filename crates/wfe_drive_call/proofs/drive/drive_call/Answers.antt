@@ -18,15 +18,15 @@ returns-in-He g c =
     let desk : HeldDesk = record c.args.desk.now { notes = c.clear.new.self } in
     let cleared : desk_of desk ≡ record (desk_of c.args.desk.now) { notes = no_notes } = ap (λ (notes : Notes). let held : Desk = record (desk_of c.args.desk.now) { notes = notes } in held) c.clear.ensures.empty in
     let called =
-    called_by (words.at c.args.words.now) (words.at c.start.new.self) (words.at c.drive_under.new.words) (words.stands c.args.words.now) (words.stands c.start.new.self) (words.stands c.drive_under.new.words) c.args.call c.drive_under.result c.args.post.now c.args.desk.now desk _
-    (at_phase Idle c.drive_under.new.post c.drive_under.new.desk) c.start.ensures.at c.start.ensures.stands refl cleared c.drive_under.ensures.made in
-    let over : Over (words.at c.drive_under.new.words) c.args.call c.drive_under.result c.args.post.now c.drive_under.new.post c.drive_under.new.desk =
-    over_by (words.at c.args.words.now) (words.at c.drive_under.new.words) (words.stands c.args.words.now) (words.stands c.drive_under.new.words) c.args.call c.drive_under.result c.args.post.now c.args.desk.now c.drive_under.new.post c.drive_under.new.desk c.requires.here called in
+    called_by (words.at c.args.words.now) (words.at c.start.new.self) (words.at c.drive_he.new.words) (words.stands c.args.words.now) (words.stands c.start.new.self) (words.stands c.drive_he.new.words) c.args.call c.drive_he.result c.args.post.now c.args.desk.now desk _
+    (at_phase Idle c.drive_he.new.post c.drive_he.new.desk) c.start.ensures.at c.start.ensures.stands refl cleared c.drive_he.ensures.made in
+    let over : Over (words.at c.drive_he.new.words) c.args.call c.drive_he.result c.args.post.now c.drive_he.new.post c.drive_he.new.desk =
+    over_by (words.at c.args.words.now) (words.at c.drive_he.new.words) (words.stands c.args.words.now) (words.stands c.drive_he.new.words) c.args.call c.drive_he.result c.args.post.now c.args.desk.now c.drive_he.new.post c.drive_he.new.desk c.requires.here called in
     record {
-      valid = c.drive_under.ensures.valid;
-      same = words.same_on _ _ _ c.start.ensures.same c.drive_under.ensures.same;
+      valid = c.drive_he.ensures.valid;
+      same = words.same_on _ _ _ c.start.ensures.same c.drive_he.ensures.same;
       here = over.here;
-      room = c.drive_under.ensures.room;
+      room = c.drive_he.ensures.room;
       place = over.place;
       suits = over.suits;
       called = called;
@@ -39,15 +39,15 @@ returns-in-Ibr g c =
     let desk : HeldDesk = record c.args.desk.now { notes = c.clear.new.self } in
     let cleared : desk_of desk ≡ record (desk_of c.args.desk.now) { notes = no_notes } = ap (λ (notes : Notes). let held : Desk = record (desk_of c.args.desk.now) { notes = notes } in held) c.clear.ensures.empty in
     let called =
-    called_by (words.at c.args.words.now) (words.at c.start.new.self) (words.at c.drive_under-in-Ibr.new.words) (words.stands c.args.words.now) (words.stands c.start.new.self) (words.stands c.drive_under-in-Ibr.new.words) c.args.call c.drive_under-in-Ibr.result c.args.post.now c.args.desk.now desk _
-    (at_phase Idle c.drive_under-in-Ibr.new.post c.drive_under-in-Ibr.new.desk) c.start.ensures.at c.start.ensures.stands refl cleared c.drive_under-in-Ibr.ensures.made in
-    let over : Over (words.at c.drive_under-in-Ibr.new.words) c.args.call c.drive_under-in-Ibr.result c.args.post.now c.drive_under-in-Ibr.new.post c.drive_under-in-Ibr.new.desk =
-    over_by (words.at c.args.words.now) (words.at c.drive_under-in-Ibr.new.words) (words.stands c.args.words.now) (words.stands c.drive_under-in-Ibr.new.words) c.args.call c.drive_under-in-Ibr.result c.args.post.now c.args.desk.now c.drive_under-in-Ibr.new.post c.drive_under-in-Ibr.new.desk c.requires.here called in
+    called_by (words.at c.args.words.now) (words.at c.start.new.self) (words.at c.drive_under.new.words) (words.stands c.args.words.now) (words.stands c.start.new.self) (words.stands c.drive_under.new.words) c.args.call c.drive_under.result c.args.post.now c.args.desk.now desk _
+    (at_phase Idle c.drive_under.new.post c.drive_under.new.desk) c.start.ensures.at c.start.ensures.stands refl cleared c.drive_under.ensures.made in
+    let over : Over (words.at c.drive_under.new.words) c.args.call c.drive_under.result c.args.post.now c.drive_under.new.post c.drive_under.new.desk =
+    over_by (words.at c.args.words.now) (words.at c.drive_under.new.words) (words.stands c.args.words.now) (words.stands c.drive_under.new.words) c.args.call c.drive_under.result c.args.post.now c.args.desk.now c.drive_under.new.post c.drive_under.new.desk c.requires.here called in
     record {
-      valid = c.drive_under-in-Ibr.ensures.valid;
-      same = words.same_on _ _ _ c.start.ensures.same c.drive_under-in-Ibr.ensures.same;
+      valid = c.drive_under.ensures.valid;
+      same = words.same_on _ _ _ c.start.ensures.same c.drive_under.ensures.same;
       here = over.here;
-      room = c.drive_under-in-Ibr.ensures.room;
+      room = c.drive_under.ensures.room;
       place = over.place;
       suits = over.suits;
       called = called;
