@@ -133,6 +133,18 @@ SUITS = {"put": ("done", "full", "bucket-full", "spent"), "get": ("got",), "remo
          "advance": ("still", "moved", "other", "era-spent", "clock"), "scan": ("scanned",)}
 
 
+def owed(call):
+    """What a call with this answer has told of the map or of the queue."""
+    bucket, version = str(call.bucket), call.answer[1]
+    if call.kind == "put":
+        return [bucket, version, *call.asked[1:]]
+    if call.kind == "get":
+        return [bucket, version, call.asked[1], call.answer[2]]
+    if call.kind == "remove":
+        return [bucket, version, call.asked[1]]
+    return [version, call.asked[1] if call.kind == "enq" else call.answer[2]]
+
+
 def judge_answers(setting, logs):
     last = setting["last_version"]
     for log in logs:
@@ -141,6 +153,7 @@ def judge_answers(setting, logs):
             want(call.result in SUITS[call.kind], f"an answer of its kind: {call.asked} {call.answer}")
             told = {"done": "put" if call.kind == "put" else "removed", "got": "got", "queued": "queued", "taken": "taken"}.get(call.result)
             want((call.told[0] if call.told else None) == told, f"what is answered is told: {call.asked} {call.answer} {call.told}")
+            want(call.told is None or call.told[1:] == owed(call), f"as it is answered: {call.asked} {call.answer} {call.told}")
             if call.result in ("done", "queued"):
                 want(int(call.answer[1]) <= last, "a version or number in range")
             if call.result == "bucket-full":

@@ -7,4 +7,6 @@ mod gates;
 #[cfg(test)]
 mod long;
 #[cfg(test)]
+mod many;
+#[cfg(test)]
 mod texts;
