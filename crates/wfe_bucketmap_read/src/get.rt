@@ -2,7 +2,7 @@
 ghost use Rattle.std.specs.Prelude.{◌≡◌, ◌≤◌, [], length, ℕ};
 ghost use Rattle.wfe_core.specs.defs.declared.call.Answer.TheVariants.{Got as GotAnswer};
 ghost use Rattle.wfe_core.specs.CallReady.{IsCallPlausible, IsCallReady};
-ghost use Rattle.wfe_core.specs.Calls.{Answering, Gets};
+ghost use Rattle.wfe_core.specs.Calls.{Answering, Gets, Opens, Runs};
 ghost use Rattle.wfe_core.specs.DeskHeld.{desk_of};
 ghost use Rattle.wfe_core.specs.Get.{got as model_got};
 ghost use Rattle.wfe_core.specs.Phases.Ending.{Protected};
@@ -16,7 +16,7 @@ ghost use Rattle.wfe_call_rounds.specs.Steps.{SameSeat, Steps};
 
 use crate::find::{Find, Found};
 use crate::get_at::GetAt;
-use wfe_call_rounds::{Rounds, Scheme, close, open, take_close, take_open};
+use wfe_call_rounds::{Opening, Rounds, Scheme, close, open, take_close, take_open};
 use wfe_core::{Answer, CallMachine, Desk, Event, Op, Post, ProtectEnd, Root, Told};
 
 /// Gets the value of a key: it protects the row of the key's bucket, and reads the version, the count
@@ -36,6 +36,17 @@ impl<S: Scheme> Get<S> {
         Get {
             key,
             at: GetAt::Starts,
+        }
+    }
+
+    /// A get of this key in whose round the root is being protected.
+    #[inline(always)]
+    pub fn protecting(key: u64, protect: S::Protect) -> Get<S>
+        ensures { (post : Post) → ⟦<Get<S> as CallMachine>⟧.phase result post ≡ Runs (Opens (Gets key)) (S.Protect.phase protect) }
+    {
+        Get {
+            key,
+            at: GetAt::Opens(Opening::Protects(protect)),
         }
     }
 

@@ -1,4 +1,5 @@
 // Whole replays over memory: worked records, bad input, and sources and sinks that fail.
+mod deleters;
 mod hostile;
 
 use std::process::Abort;

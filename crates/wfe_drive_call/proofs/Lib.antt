@@ -1,9 +1,1 @@
-pub mod Getting
-pub mod Groups
-pub mod Histories
-pub mod Leading
-pub mod Makes
-pub mod Plain
-pub mod RowReads
-pub mod Tries
-pub mod Trying
+pub use Rattle.wfe_drive_change.proofs.drive_words as drive_words

@@ -1,9 +1,1 @@
-pub use Rattle.law_answers.specs.inv as inv
-pub use Rattle.law_answers.specs.history as history
-pub use Rattle.wfe_drive_cells.specs as drive_cells
-pub mod Called
-pub mod Comes
-pub mod Path
-pub mod Plain
-pub mod Ran
-pub mod Readiness
+pub use Rattle.wfe_drive_change.specs.drive_words as drive_words

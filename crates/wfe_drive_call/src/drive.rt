@@ -6,20 +6,23 @@ ghost use Rattle.wfe_core.specs.DeskHeld.{HasRoom};
 ghost use Rattle.wfe_core.specs.Frames.{SamePlace};
 ghost use Rattle.wfe_core.specs.Locals.{busy_in};
 ghost use Rattle.wfe_core.specs.Steps.{first_phase};
-ghost use Rattle.wfe_core.specs.words.declared.config.SchemeKind.TheVariants.{He as HeKind};
-ghost use Rattle.wfe_drive_call.specs.Called.{Called, Here, Makes, at_phase};
-ghost use Rattle.wfe_drive_call.specs.Ran.{Answered};
+ghost use Rattle.wfe_core.specs.words.declared.config.SchemeKind.TheVariants.{He as HeKind, Ibr as IbrKind, Wfe as WfeKind};
+ghost use Rattle.wfe_core.specs.defs.declared.call.Call.TheVariants.{Get as GetCall};
+ghost use Rattle.wfe_drive_change.specs.drive_words.Called.{Called, Here, Makes, at_phase};
+ghost use Rattle.wfe_drive_change.specs.drive_words.Ran.{Answered};
 
-use crate::Words;
-use crate::get::get_he;
-use wfe_call_any::{
-    Advance, Dequeue, Enqueue, Get, He, Hold, Ibr, Put, Release, Remove, Scan, Scheme, Wfe,
+use wfe_core::{Answer, Call, CallMachine, Change, Desk, Post, SchemeKind};
+use wfe_drive_change::change_bucket;
+use wfe_drive_change::queue::on_words::{
+    Advance, Dequeue, Enqueue, Get, He, Hold, Ibr, Put, Release, Remove, Scan, Scheme, Wfe, Words,
+    drive_on, get_he, get_ibr, get_wfe,
 };
-use wfe_core::{Answer, Call, CallMachine, Desk, Post, SchemeKind, Told};
+use wfe_drive_change::queue::{dequeue_he, enqueue_he};
 
 /// Makes a whole call of the seat of this post and desk on its words, and answers as the call does.
 /// No call of the seat may be under way. Each operation is the one that the call's state asks for,
 /// and the answer is one that the call may have. It takes no memory, and every call ends.
+#[inline(always)]
 pub fn drive_call<W: Words>(words: &mut W, post: &mut Post, desk: &mut Desk, call: Call) -> Answer
     requires valid { W.valid words.old }
     requires here { Here (W.at words.old) (at_phase Idle post.old desk.old) }
@@ -39,12 +42,14 @@ pub fn drive_call<W: Words>(words: &mut W, post: &mut Post, desk: &mut Desk, cal
     desk.notes.clear();
     match post.layout.config().scheme {
         SchemeKind::He => drive_he(words, post, desk, call),
-        SchemeKind::Ibr => drive_under::<W, Ibr>(words, post, desk, call),
-        SchemeKind::Wfe => drive_under::<W, Wfe>(words, post, desk, call),
+        SchemeKind::Ibr => drive_ibr(words, post, desk, call),
+        SchemeKind::Wfe => drive_wfe(words, post, desk, call),
     }
 }
 
-/// Makes the steps of a call that has begun under Hazard Eras. A get makes them without a machine.
+/// Makes the steps of a call that has begun under Hazard Eras. A get, a put, a remove, an enqueue and a
+/// dequeue make them without a machine.
+#[inline(always)]
 fn drive_he<W: Words>(words: &mut W, post: &mut Post, desk: &mut Desk, call: Call) -> Answer
     requires valid { W.valid words.old }
     requires scheme { post.old.layout.config.scheme ≡ HeKind }
@@ -59,7 +64,86 @@ fn drive_he<W: Words>(words: &mut W, post: &mut Post, desk: &mut Desk, call: Cal
 {
     match call {
         Call::Get { key } => get_he(words, post, desk, key),
+        Call::Put { key, value } => change_bucket(words, post, desk, Change::Put { key, value }),
+        Call::Remove { key } => change_bucket(words, post, desk, Change::Removed { key }),
+        Call::Enqueue { value } => enqueue_he(words, post, desk, value),
+        Call::Dequeue => dequeue_he(words, post, desk),
         _ => drive_under::<W, He>(words, post, desk, call),
+    }
+}
+
+/// Makes the steps of a call that has begun under Wait-Free Eras. A get makes them without a machine up
+/// to its request for help, and a put and a remove make them without their machine.
+#[inline(always)]
+fn drive_wfe<W: Words>(words: &mut W, post: &mut Post, desk: &mut Desk, call: Call) -> Answer
+    requires valid { W.valid words.old }
+    requires scheme { post.old.layout.config.scheme ≡ WfeKind }
+    requires here { Here (W.at words.old) (at_phase (first_phase call post.old) post.old desk.old) }
+    requires room { HasRoom desk.old post.old.layout }
+    ensures valid { W.valid words.new }
+    ensures same { W.same words.old words.new }
+    ensures room { HasRoom desk.new post.new.layout }
+    ensures made { Makes (λ ops l m. Answered l ops result m) (W.at words.old) (W.at words.new)
+        (W.stands words.old) (W.stands words.new)
+        (at_phase (first_phase call post.old) post.old desk.old) (at_phase Idle post.new desk.new) }
+{
+    match call {
+        Call::Get { key } => get_wfe(words, post, desk, key),
+        Call::Put { key, value } => change_bucket(words, post, desk, Change::Put { key, value }),
+        Call::Remove { key } => change_bucket(words, post, desk, Change::Removed { key }),
+        _ => drive_under::<W, Wfe>(words, post, desk, call),
+    }
+}
+
+/// Makes the steps of a call that has begun under 2GE. A get of a seat that holds no row makes them
+/// without a machine.
+#[inline(always)]
+fn drive_ibr<W: Words>(words: &mut W, post: &mut Post, desk: &mut Desk, call: Call) -> Answer
+    requires valid { W.valid words.old }
+    requires scheme { post.old.layout.config.scheme ≡ IbrKind }
+    requires here { Here (W.at words.old) (at_phase (first_phase call post.old) post.old desk.old) }
+    requires room { HasRoom desk.old post.old.layout }
+    ensures valid { W.valid words.new }
+    ensures same { W.same words.old words.new }
+    ensures room { HasRoom desk.new post.new.layout }
+    ensures made { Makes (λ ops l m. Answered l ops result m) (W.at words.old) (W.at words.new)
+        (W.stands words.old) (W.stands words.new)
+        (at_phase (first_phase call post.old) post.old desk.old) (at_phase Idle post.new desk.new) }
+{
+    match call {
+        Call::Get { key } => get_free(words, post, desk, key, call),
+        _ => drive_under::<W, Ibr>(words, post, desk, call),
+    }
+}
+
+/// Makes the steps of a get under 2GE, as the seat holds a row or none.
+#[inline(always)]
+fn get_free<W: Words>(
+    words: &mut W,
+    post: &mut Post,
+    desk: &mut Desk,
+    key: u64,
+    call: Call,
+) -> Answer
+    requires valid { W.valid words.old }
+    requires get { call ≡ GetCall key }
+    requires scheme { post.old.layout.config.scheme ≡ IbrKind }
+    requires here { Here (W.at words.old) (at_phase (first_phase call post.old) post.old desk.old) }
+    requires room { HasRoom desk.old post.old.layout }
+    ensures valid { W.valid words.new }
+    ensures same { W.same words.old words.new }
+    ensures room { HasRoom desk.new post.new.layout }
+    ensures made { Makes (λ ops l m. Answered l ops result m) (W.at words.old) (W.at words.new)
+        (W.stands words.old) (W.stands words.new)
+        (at_phase (first_phase call post.old) post.old desk.old) (at_phase Idle post.new desk.new) }
+{
+    let held = post.standing[2];
+    match post.span {
+        None => match held {
+            None => get_ibr(words, post, desk, key),
+            Some(_) => drive_under::<W, Ibr>(words, post, desk, call),
+        },
+        Some(_) => drive_under::<W, Ibr>(words, post, desk, call),
     }
 }
 
@@ -99,9 +183,10 @@ fn drive_under<W: Words, S: Scheme>(
 }
 
 /// Makes the steps of a call from its machine's first, until it answers.
+#[inline(always)]
 fn drive<W: Words, M: CallMachine>(
     words: &mut W,
-    mut machine: M,
+    machine: M,
     post: &mut Post,
     desk: &mut Desk,
     _call: Call,
@@ -119,13 +204,5 @@ fn drive<W: Words, M: CallMachine>(
         (W.stands words.old) (W.stands words.new)
         (at_phase (first_phase _call post.old) post.old desk.old) (at_phase Idle post.new desk.new) }
 {
-    let mut told = Told::new();
-    loop {
-        let op = machine.next_op(post, desk);
-        let found = words.perform(op);
-        told.clear();
-        if let Some(answer) = machine.take(post, desk, found, &mut told) {
-            return answer;
-        }
-    }
+    drive_on(words, machine, post, desk)
 }

@@ -2,15 +2,6 @@
 #![tactic(auto)]
 
 mod drive;
-mod facts;
-mod found;
-mod get;
-mod path;
-mod protect;
-#[cfg(test)]
-mod tests;
-mod words;
 
 pub use drive::drive_call;
-pub use facts::{answers_leave_groups, histories_ready_seats};
-pub use words::Words;
+pub use wfe_drive_change::queue::on_words::{Words, answers_leave_groups, histories_ready_seats};

@@ -25,6 +25,7 @@ pub fn begin(table: &Ledger, handle: &mut Handle, slot: usize, call: Call)
 /// The next step of the handle's seat, whose call is under way: one atomic step on one word. It
 /// answers the word before, and 0 for a store. At the call's first step the slot is emptied too; at
 /// the others nothing else is written.
+#[inline(always)]
 pub fn step(table: &Ledger, handle: &mut Handle, slot: usize, op: Op, first: bool) -> u64
     requires ids { handle.old.table_id ≡ table.now.table_id }
     requires sized { IsSized table.now.table_id table.now.key }
@@ -46,6 +47,7 @@ pub fn step(table: &Ledger, handle: &mut Handle, slot: usize, op: Op, first: boo
 }
 
 // The atomic step alone: the slot is as it was.
+#[inline(always)]
 fn perform(table: &Ledger, handle: &mut Handle, op: Op) -> u64
     requires ids { handle.old.table_id ≡ table.now.table_id }
     requires sized { IsSized table.now.table_id table.now.key }

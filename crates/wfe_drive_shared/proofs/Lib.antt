@@ -1,4 +1,5 @@
 pub use Rattle.wfe_drive_closed.proofs as closed
+pub mod Backs
 pub mod Bounded
 pub mod Gathered
 pub mod LeftWords

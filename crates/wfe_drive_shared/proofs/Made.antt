@@ -12,7 +12,7 @@ use Rattle.law_logs.proofs.LastScans.{record_reads}
 use Rattle.law_logs.proofs.Meets.{logs_extend}
 use Rattle.law_logs.proofs.Records.{logs_answer}
 use Rattle.law_logs.proofs.held.places.Placing.Keeps.{records_refuse}
-use Rattle.wfe_drive_call.specs.Called.{Called, Ends, LeadsTo}
+use Rattle.wfe_drive_call.specs.drive_words.Called.{Called, Ends, LeadsTo}
 use Rattle.wfe_drive_rule.specs.Handles.{IsResting, IsSeated, IsTracked}
 use Rattle.wfe_drive_rule.specs.Views.{Handle, call_in, entered, own, seat_of, standing}
 use Rattle.wfe_drive_rule.specs.history.History.{Item}

@@ -5,8 +5,8 @@ use Rattle.std.specs.Prelude.{None, ◌-◌, ◌^◌}
 use Rattle.wfe_core.specs.words.declared.layout.Layout.{Layout}
 use Rattle.wfe_core.specs.Locals.{Local, after, busy_in}
 use Rattle.wfe_drive_rule.specs.history.History.{Item, Steps}
-use Rattle.wfe_drive_call.specs.Comes.{Comes, Given}
-use Rattle.wfe_drive_call.proofs.Histories.{few_steps, settles}
+use Rattle.wfe_drive_call.specs.drive_words.Comes.{Comes, Given}
+use Rattle.wfe_drive_call.proofs.drive_words.Histories.{few_steps, settles}
 use Rattle.wfe_drive_rule.specs.Handles.{IsSeated}
 use Rattle.wfe_drive_rule.specs.Moves.{Told}
 use Rattle.wfe_drive_rule.specs.Views.{Handle, Track, call_in, entered, own, seat_of, standing}

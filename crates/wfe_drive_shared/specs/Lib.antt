@@ -3,6 +3,7 @@ pub use Rattle.law_logs.specs as logs
 pub use Rattle.wfe_drive_rule.specs as rule
 pub use Rattle.wfe_drive_rule.specs.inv as inv
 pub use Rattle.wfe_drive_rule.specs.history as history
+pub mod Backs
 pub mod Calls
 pub mod Closing
 pub mod Making

@@ -5,7 +5,7 @@ use Rattle.wfe_core.specs.Calls.{Idle}
 use Rattle.wfe_core.specs.DeskHeld.{HasRoom}
 use Rattle.wfe_drive_rule.specs.drive_cells.Unit.{shown}
 use Rattle.law_logs.specs.Versions.{Counts, met_in}
-use Rattle.wfe_drive_call.specs.Called.{at_phase}
+use Rattle.wfe_drive_call.specs.drive_words.Called.{at_phase}
 use Rattle.wfe_drive_rule.specs.Handles.{IsResting, IsSeated, IsSized}
 use Rattle.wfe_drive_rule.specs.Views.{own}
 use Rattle.wfe_drive_shared.specs.declared.seat.Seat.TheInside.{Inside as SeatInside}

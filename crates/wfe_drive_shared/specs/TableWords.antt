@@ -4,7 +4,7 @@ use Rattle.std.proofs.lemmas.List.{append-nil, append_assoc}
 use Rattle.std.specs.Prelude.{List, None, [], false, ◌++◌, ◌≡◌}
 use Rattle.wfe_core.specs.Locals.{Local}
 use Rattle.wfe_drive_rule.specs.history.History.{Item}
-use Rattle.wfe_drive_call.specs.Comes.{Comes}
+use Rattle.wfe_drive_call.specs.drive_words.Comes.{Comes}
 use Rattle.wfe_drive_rule.specs.Handles.{IsSeated, IsSized}
 use Rattle.wfe_drive_rule.specs.Views.{call_in, own, standing}
 use Rattle.wfe_drive_shared.specs.declared.words.TableWords.{TableWords}

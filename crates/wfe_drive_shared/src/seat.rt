@@ -1,10 +1,12 @@
 // A seat of the shared table, in the hands of one thread at a time.
-ghost use Rattle.std.specs.Prelude.{◌≡◌, ◌<◌, ◌∷◌, [], IfOk, true, Some, None};
+ghost use Rattle.std.specs.Prelude.{◌≡◌, ◌<◌, ◌≤◌, ◌∷◌, [], All, IfOk, IfSome, true, Some, None};
 ghost use Rattle.wfe_core.specs.words.Place.{is_valid};
 ghost use Rattle.wfe_core.specs.Held.{notes_of, report_of};
 ghost use Rattle.law_logs.specs.Versions.{met_by, met_in, seen_in, version_told};
 ghost use Rattle.wfe_drive_rule.specs.Handles.{IsGathered, IsResting, IsSeated, IsSized};
 ghost use Rattle.wfe_drive_rule.specs.Views.{fresh_track, own, seat_of};
+ghost use Rattle.wfe_drive_rule.specs.history.History.{record_of};
+ghost use Rattle.wfe_drive_shared.specs.Backs.{WentBack};
 ghost use Rattle.wfe_drive_shared.specs.Calls.{IsMade};
 ghost use Rattle.wfe_drive_shared.specs.Public.{SeatNow};
 ghost use Rattle.wfe_drive_shared.specs.Sound.{IsMet};
@@ -64,8 +66,24 @@ impl Seat {
         })
     }
 
-    // Makes a whole call on the table that the seat is of.
+    // Makes a whole call on the table that the seat is of. A get is compiled apart from the others.
     pub(crate) fn make(&mut self, ledger: &Ledger, call: Call) -> Answer
+        requires table { self.old.table ≡ ledger.now.table_id }
+        requires layout { self.old.track.local.post.layout ≡ ledger.now.key }
+        requires sized { IsSized ledger.now.table_id ledger.now.key }
+        ensures table { self.new.table ≡ self.old.table }
+        ensures layout { self.new.track.local.post.layout ≡ self.old.track.local.post.layout }
+        ensures made { IsMade ledger.now.key self.old self.new call result }
+    {
+        match call {
+            Call::Get { key } => self.make_any(ledger, Call::Get { key }),
+            _ => self.make_any(ledger, call),
+        }
+    }
+
+    // Makes the call, whichever it is.
+    #[inline(always)]
+    fn make_any(&mut self, ledger: &Ledger, call: Call) -> Answer
         requires table { self.old.table ≡ ledger.now.table_id }
         requires layout { self.old.track.local.post.layout ≡ ledger.now.key }
         requires sized { IsSized ledger.now.table_id ledger.now.key }
@@ -123,9 +141,13 @@ impl Seat {
         self.seen[bucket as usize]
     }
 
-    /// What the seat's last call did.
+    /// What the seat's last call did. The slots that it names are of the table. Each that it lists as back
+    /// went back in that call, when it stood at no index of any seat.
     pub fn notes(&self) -> &Notes
-        ensures { notes_of result.now ≡ self.now.track.local.desk.notes }
+        ensures notes { notes_of result.now ≡ self.now.track.local.desk.notes }
+        ensures slots { All (λ slot. slot ≤ self.now.track.local.post.layout.config.slots) result.now.back }
+        ensures retired { IfSome result.now.retired (λ life. life.slot ≤ self.now.track.local.post.layout.config.slots) }
+        ensures back { let track = self.now.track in let layout = track.local.post.layout in All (WentBack layout.config (seat_of track) (record_of layout track.past)) result.now.back }
     {
         &self.desk.notes
     }

@@ -34,14 +34,18 @@ impl<'a> Words for TableWords<'a> {
 
     ghost comes = { comes_by };
 
+    #[inline(always)]
     fn start(&mut self, call: Call) {
         self.first = true;
         begin(self.ledger, self.handle, self.slot, call);
     }
 
+    #[inline(always)]
     fn perform(&mut self, op: Op) -> u64 {
-        let first = self.first;
-        self.first = false;
-        step(self.ledger, self.handle, self.slot, op, first)
+        if self.first {
+            self.first = false;
+            return step(self.ledger, self.handle, self.slot, op, true);
+        }
+        step(self.ledger, self.handle, self.slot, op, false)
     }
 }

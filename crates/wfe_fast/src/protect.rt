@@ -6,7 +6,7 @@ ghost use Rattle.wfe_core.specs.Links.{link_number, root_at as root_of};
 ghost use Rattle.wfe_core.specs.Machine.{protect_turn};
 ghost use Rattle.wfe_core.specs.Phases.{Alone, Failed, Goes};
 ghost use Rattle.wfe_core.specs.Phases.Base.{Protect};
-ghost use Rattle.wfe_core.specs.Phases.ProtectAt.{LoadClock, PublishEra, PublishHelper};
+ghost use Rattle.wfe_core.specs.Phases.ProtectAt.{LoadClock, PublishEra, PublishHelper, PublishRequest};
 ghost use Rattle.wfe_core.specs.Posts.{reserves_index, tag_of};
 ghost use Rattle.wfe_core.specs.Protect.{trying};
 ghost use Rattle.wfe_core.specs.Ready.{IndexFits, IsReady, LinkFits, Plausible, RootFits};
@@ -61,6 +61,18 @@ impl WfeProtect {
             root: root_at(post.layout, word),
             steps: 0,
             at: At::LoadClock,
+        }
+    }
+
+    /// A protection that has made so many steps and used up its tries: it asks for help next.
+    pub fn asking(index: u32, root: Root, steps: u64) -> WfeProtect
+        ensures { protect_phase result ≡ Protect Alone index root steps PublishRequest }
+    {
+        WfeProtect {
+            index,
+            root,
+            steps,
+            at: At::PublishRequest,
         }
     }
 

@@ -3,13 +3,16 @@
 //! their steps.
 #![tactic(auto)]
 
+mod boxes;
 mod report;
 mod tally;
 mod worker;
 
 ghost use Rattle.std.specs.Prelude.{All, IfOk};
 ghost use Rattle.wfe_drive_shared.specs.Public.{IsOf};
+ghost use Rattle.wfe_threads.specs.Works.{WorksOn};
 
+use boxes::Boxes;
 use report::{Ended, print_report};
 use std::alloc::Global;
 use std::process::ExitCode;
@@ -37,24 +40,45 @@ fn setting(scheme: SchemeKind, seats: u32) -> Config {
     }
 }
 
-// Each seat goes to a thread, and comes back with its worker once all calls are made.
-fn work<R: Threads + Sync>(
-    rt: &R,
+// A worker for each seat.
+fn hire(
+    alloc: Global,
     shared: &Shared,
-    seats: Vec<Seat>,
+    mut seats: Vec<Seat>,
     bounded: bool,
 ) -> Result<Vec<Worker>, &'static str>
     requires of { All (λ seat. IsOf seat shared.now) seats.items }
-    ensures of { IfOk result (λ workers. All (λ worker. IsOf worker.seat shared.now) workers.items) }
+    ensures works { IfOk result (λ workers. All (λ worker. WorksOn worker shared.now) workers.items) }
+{
+    let slots = shared.layout().config().slots;
+    let mut workers = Vec::new(alloc);
+    while let Some(seat) = seats.pop() {
+        let Ok(boxes) = Boxes::new(alloc, slots) else {
+            return Err(NO_MEMORY);
+        };
+        if workers.push(Worker::new(seat, boxes, bounded)).is_err() {
+            return Err(NO_MEMORY);
+        }
+    }
+    Ok(workers)
+}
+
+// Each worker goes to a thread, and comes back once all its calls are made.
+fn work<R: Threads + Sync>(
+    rt: &R,
+    shared: &Shared,
+    workers: Vec<Worker>,
+) -> Result<Vec<Worker>, &'static str>
+    requires works { All (λ worker. WorksOn worker shared.now) workers.items }
+    ensures works { IfOk result (λ workers. All (λ worker. WorksOn worker shared.now) workers.items) }
 {
     let done = thread::map_vec(
         rt,
-        seats,
-        &|seat: Seat| -> Worker
-            requires { IsOf seat shared.now }
-            ensures { IsOf result.seat shared.entry.now }
+        workers,
+        &|mut worker: Worker| -> Worker
+            requires { WorksOn worker shared.now }
+            ensures { WorksOn result shared.entry.now }
         {
-            let mut worker = Worker::new(seat, bounded);
             worker.work(shared);
             worker
         },
@@ -71,16 +95,23 @@ fn hand_back(
     shared: &Shared,
     mut workers: Vec<Worker>,
 ) -> Result<(Vec<Seat>, Tally, u64), &'static str>
-    requires of { All (λ worker. IsOf worker.seat shared.now) workers.items }
+    requires works { All (λ worker. WorksOn worker shared.now) workers.items }
     ensures of { IfOk result (λ r. All (λ seat. IsOf seat shared.now) r.0.items) }
 {
     let mut seats = Vec::new(alloc);
     let mut tally = Tally::none();
     let mut retired = 0u64;
     while let Some(worker) = workers.pop() {
-        let mut seat = worker.seat;
-        tally.add(&worker.tally);
+        let Worker {
+            mut seat,
+            mut boxes,
+            tally: counted,
+            ..
+        } = worker;
         shared.scan(&mut seat);
+        boxes.follow(&seat);
+        tally.add(&counted);
+        tally.add_boxes(&boxes);
         retired = retired.saturating_add(seat.list().len() as u64);
         if seats.push(seat).is_err() {
             return Err(NO_MEMORY);
@@ -100,7 +131,8 @@ fn run<R: Threads + Sync + Print + AllocGlobal>(
         return Err("no table was made");
     };
     let bounded = scheme == SchemeKind::Wfe;
-    let workers = work(rt, &shared, seats, bounded)?;
+    let workers = hire(alloc, &shared, seats, bounded)?;
+    let workers = work(rt, &shared, workers)?;
     let (seats, tally, retired) = hand_back(alloc, &shared, workers)?;
     let Ok(closed) = shared.close(alloc, seats) else {
         return Err("the table was not closed");

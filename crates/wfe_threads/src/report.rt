@@ -70,6 +70,18 @@ impl Ended {
             .saturating_add(self.retired)
     }
 
+    // The rows that were retired in all: each change of a bucket but the first replaces a row, and each
+    // value taken the one before it.
+    fn replaced(&self) -> u64 {
+        let mut changes = 0u64;
+        for bucket in self.tally.changes {
+            changes = changes.saturating_add(bucket);
+        }
+        changes
+            .saturating_sub(self.rows)
+            .saturating_add(self.tally.taken.count)
+    }
+
     /// What must not be, if it is.
     pub fn judge(&self) -> Result<(), &'static str> {
         let tally = &self.tally;
@@ -90,6 +102,9 @@ impl Ended {
         }
         if self.used != self.known() {
             return Err("a row is taken and nowhere");
+        }
+        if tally.made != self.replaced() || tally.freed != tally.made {
+            return Err("a box was not made or not freed");
         }
         Ok(())
     }
@@ -113,6 +128,8 @@ pub fn print_report<R: Print>(
     let (rows, retired, used) = (ended.rows, ended.retired, ended.used);
     let queue = ended.left.count.saturating_add(1);
     println!(rt; "rows: {rows} of buckets, {queue} of the queue, {retired} retired, {used} taken")?;
+    let (made, freed) = (tally.made, tally.freed);
+    println!(rt; "boxes of rows: {made} made, {freed} freed")?;
     let (wrong, refused, long) = (tally.wrong, tally.refused, tally.long);
     println!(rt; "answers that were wrong: {wrong}, refused: {refused}")?;
     if scheme == SchemeKind::Wfe {

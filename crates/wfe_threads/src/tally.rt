@@ -1,4 +1,5 @@
 // What a worker counts of its calls, and what is added up of all workers.
+use crate::boxes::Boxes;
 
 /// Buckets of the map. The first ones are for keys that one worker changes, a bucket for each worker,
 /// and the others for keys that all workers change.
@@ -69,6 +70,10 @@ pub struct Tally {
     pub refused: u64,
     /// Gets and holds that took more steps than the most that are allowed.
     pub long: u64,
+    /// Boxes that were made for rows.
+    pub made: u64,
+    /// Boxes that were freed.
+    pub freed: u64,
 }
 
 impl Tally {
@@ -85,6 +90,8 @@ impl Tally {
             wrong: 0,
             refused: 0,
             long: 0,
+            made: 0,
+            freed: 0,
         }
     }
 
@@ -146,5 +153,12 @@ impl Tally {
         self.wrong = self.wrong.saturating_add(other.wrong);
         self.refused = self.refused.saturating_add(other.refused);
         self.long = self.long.saturating_add(other.long);
+    }
+
+    /// Adds the boxes of a worker.
+    pub fn add_boxes(&mut self, boxes: &Boxes) {
+        self.made = self.made.saturating_add(boxes.made);
+        self.freed = self.freed.saturating_add(boxes.freed);
+        self.wrong = self.wrong.saturating_add(boxes.faults);
     }
 }

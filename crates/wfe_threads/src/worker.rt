@@ -1,7 +1,8 @@
 // What one thread does: rounds of calls with its seat, whose answers are judged as they come.
 ghost use Rattle.std.specs.Prelude.{◌≡◌, ◌<◌};
-ghost use Rattle.wfe_drive_shared.specs.Public.{IsOf};
+ghost use Rattle.wfe_threads.specs.Works.{WorksOn};
 
+use crate::boxes::Boxes;
 use crate::tally::{BUCKETS, SPAN, Tally, WORKERS};
 use wfe_drive_shared::{Got, Seat, Shared};
 
@@ -21,6 +22,8 @@ pub const HOLD_STEPS: u64 = 3 * TRIES as u64 + 16;
 pub struct Worker {
     /// Its place in the table.
     pub seat: Seat,
+    /// Boxes that belong to the rows that it retires.
+    pub boxes: Boxes,
     /// What was counted of its calls.
     pub tally: Tally,
     /// Whether the scheme bounds the steps of its gets and holds.
@@ -29,11 +32,13 @@ pub struct Worker {
 
 impl Worker {
     /// A worker that has made no call.
-    pub fn new(seat: Seat, bounded: bool) -> Worker
-        ensures { result.seat ≡ seat }
+    pub fn new(seat: Seat, boxes: Boxes, bounded: bool) -> Worker
+        ensures seat { result.seat ≡ seat }
+        ensures boxes { result.boxes ≡ boxes }
     {
         Worker {
             seat,
+            boxes,
             tally: Tally::none(),
             bounded,
         }
@@ -41,8 +46,8 @@ impl Worker {
 
     /// All calls of a worker, on the table that its seat is of.
     pub fn work(&mut self, shared: &Shared)
-        requires of { IsOf self.old.seat shared.now }
-        ensures of { IsOf self.new.seat shared.now }
+        requires works { WorksOn self.old shared.now }
+        ensures works { WorksOn self.new shared.now }
     {
         for round in 0..ROUNDS {
             self.change_own_key(shared, round);
@@ -55,8 +60,8 @@ impl Worker {
 
     // A key that no other worker changes: what was put is there, and what was removed is gone.
     fn change_own_key(&mut self, shared: &Shared, round: u32)
-        requires of { IsOf self.old.seat shared.now }
-        ensures of { IsOf self.new.seat shared.now }
+        requires works { WorksOn self.old shared.now }
+        ensures works { WorksOn self.new shared.now }
     {
         let value = u64::from(round);
         let key = self.own_key() + BUCKETS as u64 * (1 + value % 3);
@@ -71,8 +76,8 @@ impl Worker {
     // Keys that all workers change: the version of a put lies between those of a get before and of one
     // after.
     fn change_shared_keys(&mut self, shared: &Shared, round: u32)
-        requires of { IsOf self.old.seat shared.now }
-        ensures of { IsOf self.new.seat shared.now }
+        requires works { WorksOn self.old shared.now }
+        ensures works { WorksOn self.new shared.now }
     {
         let value = u64::from(round);
         let key = shared_key(round);
@@ -87,8 +92,8 @@ impl Worker {
     // Two values are queued and two are taken, each after one was queued, so that no worker finds the
     // queue empty. Each tenth round leaves one.
     fn use_queue(&mut self, shared: &Shared, round: u32)
-        requires of { IsOf self.old.seat shared.now }
-        ensures of { IsOf self.new.seat shared.now }
+        requires works { WorksOn self.old shared.now }
+        ensures works { WorksOn self.new shared.now }
     {
         let first = self.own_key() * SPAN + 2 * u64::from(round) + 1;
         self.enqueue(shared, first);
@@ -103,8 +108,8 @@ impl Worker {
 
     // A row is protected until it is released, or until the next hold.
     fn hold_rows(&mut self, shared: &Shared, round: u32)
-        requires of { IsOf self.old.seat shared.now }
-        ensures of { IsOf self.new.seat shared.now }
+        requires works { WorksOn self.old shared.now }
+        ensures works { WorksOn self.new shared.now }
     {
         self.hold(shared, shared_key(round));
         let key = self.own_key();
@@ -115,8 +120,8 @@ impl Worker {
 
     // The clock is moved on, and the rows that nothing covers go back.
     fn keep_house(&mut self, shared: &Shared)
-        requires of { IsOf self.old.seat shared.now }
-        ensures of { IsOf self.new.seat shared.now }
+        requires works { WorksOn self.old shared.now }
+        ensures works { WorksOn self.new shared.now }
     {
         shared.advance(&mut self.seat);
         self.tally.call();
@@ -135,7 +140,8 @@ impl Worker {
 
     // The call that was made last, of at most so many steps where the scheme bounds them.
     fn count(&mut self, most: u64)
-        ensures { self.new.seat ≡ self.old.seat }
+        ensures seat { self.new.seat ≡ self.old.seat }
+        ensures boxes { self.new.boxes ≡ self.old.boxes }
     {
         if self.bounded {
             self.tally.call_within(self.seat.notes().steps, most);
@@ -145,8 +151,8 @@ impl Worker {
     }
 
     fn get(&mut self, shared: &Shared, key: u64) -> Got
-        requires of { IsOf self.old.seat shared.now }
-        ensures of { IsOf self.new.seat shared.now }
+        requires works { WorksOn self.old shared.now }
+        ensures works { WorksOn self.new shared.now }
     {
         let got = shared.get(&mut self.seat, key);
         self.count(GET_STEPS);
@@ -155,10 +161,11 @@ impl Worker {
 
     // The version of the put, or 0 where it was refused.
     fn put(&mut self, shared: &Shared, key: u64, value: u64) -> u64
-        requires of { IsOf self.old.seat shared.now }
-        ensures of { IsOf self.new.seat shared.now }
+        requires works { WorksOn self.old shared.now }
+        ensures works { WorksOn self.new shared.now }
     {
         let answer = shared.put(&mut self.seat, key, value);
+        self.boxes.follow(&self.seat);
         self.tally.call();
         match answer {
             Ok(done) => {
@@ -173,10 +180,11 @@ impl Worker {
     }
 
     fn remove(&mut self, shared: &Shared, key: u64)
-        requires of { IsOf self.old.seat shared.now }
-        ensures of { IsOf self.new.seat shared.now }
+        requires works { WorksOn self.old shared.now }
+        ensures works { WorksOn self.new shared.now }
     {
         let answer = shared.remove(&mut self.seat, key);
+        self.boxes.follow(&self.seat);
         self.tally.call();
         match answer {
             Ok(_) => self.tally.change(key),
@@ -185,10 +193,11 @@ impl Worker {
     }
 
     fn enqueue(&mut self, shared: &Shared, value: u64)
-        requires of { IsOf self.old.seat shared.now }
-        ensures of { IsOf self.new.seat shared.now }
+        requires works { WorksOn self.old shared.now }
+        ensures works { WorksOn self.new shared.now }
     {
         let answer = shared.enqueue(&mut self.seat, value);
+        self.boxes.follow(&self.seat);
         self.tally.call();
         match answer {
             Ok(queued) => self.tally.queued.add(queued.number, value),
@@ -197,10 +206,11 @@ impl Worker {
     }
 
     fn dequeue(&mut self, shared: &Shared)
-        requires of { IsOf self.old.seat shared.now }
-        ensures of { IsOf self.new.seat shared.now }
+        requires works { WorksOn self.old shared.now }
+        ensures works { WorksOn self.new shared.now }
     {
         let answer = shared.dequeue(&mut self.seat);
+        self.boxes.follow(&self.seat);
         self.tally.call();
         match answer {
             Ok(taken) => self.tally.take(taken.number, taken.value),
@@ -209,8 +219,8 @@ impl Worker {
     }
 
     fn hold(&mut self, shared: &Shared, key: u64)
-        requires of { IsOf self.old.seat shared.now }
-        ensures of { IsOf self.new.seat shared.now }
+        requires works { WorksOn self.old shared.now }
+        ensures works { WorksOn self.new shared.now }
     {
         let slot = shared.hold(&mut self.seat, key);
         self.count(HOLD_STEPS);
@@ -218,18 +228,19 @@ impl Worker {
     }
 
     fn release(&mut self, shared: &Shared)
-        requires of { IsOf self.old.seat shared.now }
-        ensures of { IsOf self.new.seat shared.now }
+        requires works { WorksOn self.old shared.now }
+        ensures works { WorksOn self.new shared.now }
     {
         shared.release(&mut self.seat);
         self.tally.call();
     }
 
     fn scan(&mut self, shared: &Shared)
-        requires of { IsOf self.old.seat shared.now }
-        ensures of { IsOf self.new.seat shared.now }
+        requires works { WorksOn self.old shared.now }
+        ensures works { WorksOn self.new shared.now }
     {
         let scanned = shared.scan(&mut self.seat);
+        self.boxes.follow(&self.seat);
         self.tally.call();
         self.tally
             .judge(self.seat.list().len() as u64 == u64::from(scanned.kept));

@@ -2,12 +2,13 @@
 use Rattle.std.proofs.Common.{rules, [], ◌++◌, ◌≡◌, ◌∷◌}
 use Rattle.std.proofs.lemmas.List.Elements.{All-pop, All-push, All-same}
 use Rattle.wfe_drive_shared.specs.Public.{IsOf}
+use Rattle.wfe_threads.specs.Works.{WorksOn}
 use Rattle.wfe_threads.proofs.hand_back.Goals as goal
 
 pub loop-worker-preserved : goal.loop-worker-preserved
 loop-worker-preserved c =
     let i = c.loop-worker.invariant in
-    let popped = All-pop (λ worker. IsOf worker.seat c.args.shared.now) c.loop-worker.workers.items c.pop.new.self.items c.pop.result c.pop.ensures.items i.left in
+    let popped = All-pop (λ worker. WorksOn worker c.args.shared.now) c.loop-worker.workers.items c.pop.new.self.items c.pop.result c.pop.ensures.items i.left in
     let pushed : c.push.new.self.items ≡ c.loop-worker.seats.items ++ c.scan.new.seat ∷ [] = search rules in
     record {
       left = popped.0;

@@ -1,11 +1,12 @@
--- The seats of the workers that are left, and those that came back, are of the table.
+-- The workers that are left may go on on the table, and the seats that came back are of it.
 use Rattle.std.proofs.Common.{All, vec_len}
 use Rattle.wfe_drive_shared.specs.Public.{IsOf}
+use Rattle.wfe_threads.specs.Works.{WorksOn}
 use Rattle.wfe_threads.proofs.hand_back.Given as goal
 
 abbrev pub invariant-loop-worker : goal.invariant-loop-worker
 invariant-loop-worker l = record {
-  left : All (λ worker. IsOf worker.seat l.shared) l.workers.items;
+  left : All (λ worker. WorksOn worker l.shared) l.workers.items;
   back : All (λ seat. IsOf seat l.shared) l.seats.items;
 }
 

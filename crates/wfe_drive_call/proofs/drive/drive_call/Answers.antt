@@ -5,10 +5,9 @@ use Rattle.wfe_core.specs.words.declared.config.SchemeKind.TheVariants as kinds
 use Rattle.wfe_core.specs.Calls.{Idle}
 use Rattle.wfe_core.specs.DeskHeld.{desk_of}
 use Rattle.wfe_core.specs.Desks.{Desk, Notes, no_notes}
-use Rattle.wfe_core.specs.Locals.{begun_post}
 use Rattle.wfe_core.specs.declared.desk.Desk.{Desk as HeldDesk}
-use Rattle.wfe_drive_call.specs.Called.{at_phase}
-use Rattle.wfe_drive_call.proofs.Makes.{Over, called_by, over_by}
+use Rattle.wfe_drive_change.specs.drive_words.Called.{at_phase}
+use Rattle.wfe_drive_change.proofs.drive_words.Makes.{Over, called_by, over_by}
 use Rattle.wfe_drive_call.proofs.drive.drive_call.Goals as goal
 
 pub returns-in-He : goal.returns-in-He
@@ -39,15 +38,15 @@ returns-in-Ibr g c =
     let desk : HeldDesk = record c.args.desk.now { notes = c.clear.new.self } in
     let cleared : desk_of desk ≡ record (desk_of c.args.desk.now) { notes = no_notes } = ap (λ (notes : Notes). let held : Desk = record (desk_of c.args.desk.now) { notes = notes } in held) c.clear.ensures.empty in
     let called =
-    called_by (words.at c.args.words.now) (words.at c.start.new.self) (words.at c.drive_under.new.words) (words.stands c.args.words.now) (words.stands c.start.new.self) (words.stands c.drive_under.new.words) c.args.call c.drive_under.result c.args.post.now c.args.desk.now desk _
-    (at_phase Idle c.drive_under.new.post c.drive_under.new.desk) c.start.ensures.at c.start.ensures.stands refl cleared c.drive_under.ensures.made in
-    let over : Over (words.at c.drive_under.new.words) c.args.call c.drive_under.result c.args.post.now c.drive_under.new.post c.drive_under.new.desk =
-    over_by (words.at c.args.words.now) (words.at c.drive_under.new.words) (words.stands c.args.words.now) (words.stands c.drive_under.new.words) c.args.call c.drive_under.result c.args.post.now c.args.desk.now c.drive_under.new.post c.drive_under.new.desk c.requires.here called in
+    called_by (words.at c.args.words.now) (words.at c.start.new.self) (words.at c.drive_ibr.new.words) (words.stands c.args.words.now) (words.stands c.start.new.self) (words.stands c.drive_ibr.new.words) c.args.call c.drive_ibr.result c.args.post.now c.args.desk.now desk _
+    (at_phase Idle c.drive_ibr.new.post c.drive_ibr.new.desk) c.start.ensures.at c.start.ensures.stands refl cleared c.drive_ibr.ensures.made in
+    let over : Over (words.at c.drive_ibr.new.words) c.args.call c.drive_ibr.result c.args.post.now c.drive_ibr.new.post c.drive_ibr.new.desk =
+    over_by (words.at c.args.words.now) (words.at c.drive_ibr.new.words) (words.stands c.args.words.now) (words.stands c.drive_ibr.new.words) c.args.call c.drive_ibr.result c.args.post.now c.args.desk.now c.drive_ibr.new.post c.drive_ibr.new.desk c.requires.here called in
     record {
-      valid = c.drive_under.ensures.valid;
-      same = words.same_on _ _ _ c.start.ensures.same c.drive_under.ensures.same;
+      valid = c.drive_ibr.ensures.valid;
+      same = words.same_on _ _ _ c.start.ensures.same c.drive_ibr.ensures.same;
       here = over.here;
-      room = c.drive_under.ensures.room;
+      room = c.drive_ibr.ensures.room;
       place = over.place;
       suits = over.suits;
       called = called;
@@ -60,15 +59,15 @@ returns-in-Wfe g c =
     let desk : HeldDesk = record c.args.desk.now { notes = c.clear.new.self } in
     let cleared : desk_of desk ≡ record (desk_of c.args.desk.now) { notes = no_notes } = ap (λ (notes : Notes). let held : Desk = record (desk_of c.args.desk.now) { notes = notes } in held) c.clear.ensures.empty in
     let called =
-    called_by (words.at c.args.words.now) (words.at c.start.new.self) (words.at c.drive_under-in-Wfe.new.words) (words.stands c.args.words.now) (words.stands c.start.new.self) (words.stands c.drive_under-in-Wfe.new.words) c.args.call c.drive_under-in-Wfe.result c.args.post.now c.args.desk.now desk _
-    (at_phase Idle c.drive_under-in-Wfe.new.post c.drive_under-in-Wfe.new.desk) c.start.ensures.at c.start.ensures.stands refl cleared c.drive_under-in-Wfe.ensures.made in
-    let over : Over (words.at c.drive_under-in-Wfe.new.words) c.args.call c.drive_under-in-Wfe.result c.args.post.now c.drive_under-in-Wfe.new.post c.drive_under-in-Wfe.new.desk =
-    over_by (words.at c.args.words.now) (words.at c.drive_under-in-Wfe.new.words) (words.stands c.args.words.now) (words.stands c.drive_under-in-Wfe.new.words) c.args.call c.drive_under-in-Wfe.result c.args.post.now c.args.desk.now c.drive_under-in-Wfe.new.post c.drive_under-in-Wfe.new.desk c.requires.here called in
+    called_by (words.at c.args.words.now) (words.at c.start.new.self) (words.at c.drive_wfe.new.words) (words.stands c.args.words.now) (words.stands c.start.new.self) (words.stands c.drive_wfe.new.words) c.args.call c.drive_wfe.result c.args.post.now c.args.desk.now desk _
+    (at_phase Idle c.drive_wfe.new.post c.drive_wfe.new.desk) c.start.ensures.at c.start.ensures.stands refl cleared c.drive_wfe.ensures.made in
+    let over : Over (words.at c.drive_wfe.new.words) c.args.call c.drive_wfe.result c.args.post.now c.drive_wfe.new.post c.drive_wfe.new.desk =
+    over_by (words.at c.args.words.now) (words.at c.drive_wfe.new.words) (words.stands c.args.words.now) (words.stands c.drive_wfe.new.words) c.args.call c.drive_wfe.result c.args.post.now c.args.desk.now c.drive_wfe.new.post c.drive_wfe.new.desk c.requires.here called in
     record {
-      valid = c.drive_under-in-Wfe.ensures.valid;
-      same = words.same_on _ _ _ c.start.ensures.same c.drive_under-in-Wfe.ensures.same;
+      valid = c.drive_wfe.ensures.valid;
+      same = words.same_on _ _ _ c.start.ensures.same c.drive_wfe.ensures.same;
       here = over.here;
-      room = c.drive_under-in-Wfe.ensures.room;
+      room = c.drive_wfe.ensures.room;
       place = over.place;
       suits = over.suits;
       called = called;

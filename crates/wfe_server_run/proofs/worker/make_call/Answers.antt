@@ -13,4 +13,4 @@ push_events-requires g c =
 pub returns-clause-called : goal.returns-clause-called
 returns-clause-called g c =
     on_ok c.push_events.result c.push_events.ensures
-    (called c.args.shared.now.layout c.args.seat.now c.call-answer.new.seat c.args.call c.call-answer.result c.config-buckets.result.buckets _ c.args.events.now.items c.push_events.new.events.items (search rules) c.notes.ensures c.call-answer.ensures.made)
+    (called c.args.shared.now.layout c.args.seat.now c.call-answer.new.seat c.args.call c.call-answer.result c.config-buckets.result.buckets _ c.args.events.now.items c.push_events.new.events.items (search rules) c.notes.ensures.notes c.call-answer.ensures.made)

@@ -1,5 +1,0 @@
-use Rattle.wfe_drive_call.proofs.Groups.{left_by}
-use Rattle.wfe_drive_call.proofs.facts.answers_leave_groups.Goals as goal
-
-pub returns : goal.returns
-returns c = left_by

@@ -1,5 +1,0 @@
-use Rattle.wfe_drive_call.proofs.Histories.{may_ask, may_take, settles}
-use Rattle.wfe_drive_call.proofs.facts.histories_ready_seats.Goals as goal
-
-pub returns : goal.returns
-returns c = record { asks = may_ask; takes = may_take; settles = settles }

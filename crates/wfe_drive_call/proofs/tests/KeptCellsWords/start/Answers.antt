@@ -1,5 +1,0 @@
-use Rattle.wfe_drive_call.proofs.Plain.{begun_at}
-use Rattle.wfe_drive_call.proofs.tests.KeptCellsWords.start.Goals as goal
-
-pub returns-clause-at : goal.returns-clause-at
-returns-clause-at c = λ l a b. begun_at c.args.self.now.cells c.args.self.now.steps l c.args._call a b

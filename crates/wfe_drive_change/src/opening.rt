@@ -1,0 +1,86 @@
+// The beginning of a round: the bucket's root is protected, and its row is read.
+ghost use Rattle.std.specs.Prelude.{◌≡◌, ◌<◌, ◌≤◌, ◌+◌, ℕ, false, IfSome};
+ghost use Rattle.wfe_core.specs.words.Schemes.{has_one_interval};
+ghost use Rattle.wfe_core.specs.Calls.{Changes, LoadVersion, Runs, Why};
+ghost use Rattle.wfe_core.specs.Change.{at_link};
+ghost use Rattle.wfe_core.specs.DeskHeld.{HasRoom, desk_of};
+ghost use Rattle.wfe_core.specs.Phases.Ending.{Protected as ProtectedEnd};
+ghost use Rattle.wfe_core.specs.Ready.{SlotFits};
+ghost use Rattle.wfe_core.specs.Rounds.{protect_base, round, scheme_of};
+ghost use Rattle.wfe_core.specs.Valid.{IsValid};
+ghost use Rattle.wfe_drive_queue.specs.drive_words.Called.{Here, at_phase};
+ghost use Rattle.wfe_drive_queue.specs.drive_words.Path.{Leads};
+ghost use Rattle.wfe_drive_queue.specs.drive_words.Pieces.{LeadsSo, Outer, end_of};
+ghost use Rattle.wfe_drive_change.specs.Changing.{kept_of, read_at, works_at};
+
+use crate::kept::Kept;
+use crate::read::read_row;
+use wfe_core::{Desk, Post, Root, SchemeKind};
+use wfe_drive_queue::on_words::{Words, hold_he, hold_wfe};
+
+// Protects a root under the schemes that clear an index by a step, and answers the row that it holds.
+#[inline(always)]
+fn hold_root<W: Words>(words: &mut W, post: &mut Post, desk: &mut Desk, root: Root) -> Option<u32>
+    requires valid { W.valid words.old }
+    requires clears { has_one_interval post.old.layout.config.scheme ≡ false }
+    requires outer { Outer root }
+    requires here { (why : Why) × Here (W.at words.old) (at_phase (Runs why (protect_base (scheme_of post.old) 0 root)) post.old desk.old) }
+    requires room { HasRoom desk.old post.old.layout }
+    ensures valid { W.valid words.new }
+    ensures same { W.same words.old words.new }
+    ensures rest { W.rest words.new < W.rest words.old }
+    ensures room { HasRoom desk.new post.new.layout }
+    ensures layout { post.new.layout ≡ post.old.layout }
+    ensures fits { IfSome result (λ slot. SlotFits post.new slot) }
+    ensures leads { (why : Why) → Here (W.at words.old) (at_phase (Runs why (protect_base (scheme_of post.old) 0 root)) post.old desk.old) → (era : ℕ)
+        × LeadsSo (W.at words.old) (W.at words.new) (W.stands words.old) (W.stands words.new) (at_phase (Runs why (protect_base (scheme_of post.old) 0 root)) post.old desk.old) why (ProtectedEnd (end_of result era)) post.new desk.new }
+{
+    match post.layout.config().scheme {
+        SchemeKind::Wfe => hold_wfe(words, post, desk, 0, root),
+        SchemeKind::He => hold_he(words, post, desk, 0, root),
+        SchemeKind::Ibr => hold_he(words, post, desk, 0, root),
+    }
+}
+
+// Reads a row that is held.
+#[inline(always)]
+fn read_held<W: Words>(words: &mut W, post: &mut Post, _desk: &Desk, kept: &mut Kept, slot: u32)
+    requires valid { W.valid words.old }
+    requires slot { slot ≤ post.old.layout.config.slots }
+    requires here { Here (W.at words.old) (works_at (at_link (kept_of kept.old) (slot + 1)) (LoadVersion slot) post.old (desk_of _desk.now)) }
+    ensures valid { W.valid words.new }
+    ensures same { W.same words.old words.new }
+    ensures rest { W.rest words.new ≤ W.rest words.old }
+    ensures own { IsValid post.new }
+    ensures layout { post.new.layout ≡ post.old.layout }
+    ensures leads { Leads (W.at words.old) (W.at words.new) (W.stands words.old) (W.stands words.new)
+        (works_at (at_link (kept_of kept.old) (slot + 1)) (LoadVersion slot) post.old (desk_of _desk.now)) (read_at (kept_of kept.new) post.new (desk_of _desk.now)) }
+{
+    kept.protected(slot + 1);
+    let desk = _desk;
+    let steps = read_row(words, post, desk, kept, slot, post.steps);
+    post.steps = steps;
+}
+
+// Begins a round, under the schemes that clear an index by a step.
+#[inline(always)]
+pub fn open_round<W: Words>(words: &mut W, post: &mut Post, desk: &mut Desk, kept: &mut Kept)
+    requires valid { W.valid words.old }
+    requires clears { has_one_interval post.old.layout.config.scheme ≡ false }
+    requires room { HasRoom desk.old post.old.layout }
+    requires here { Here (W.at words.old) (at_phase (round (Changes (kept_of kept.old)) post.old) post.old desk.old) }
+    ensures valid { W.valid words.new }
+    ensures same { W.same words.old words.new }
+    ensures rest { W.rest words.new ≤ W.rest words.old }
+    ensures room { HasRoom desk.new post.new.layout }
+    ensures own { IsValid post.new }
+    ensures layout { post.new.layout ≡ post.old.layout }
+    ensures leads { Leads (W.at words.old) (W.at words.new) (W.stands words.old) (W.stands words.new)
+        (at_phase (round (Changes (kept_of kept.old)) post.old) post.old desk.old) (read_at (kept_of kept.new) post.new (desk_of desk.new)) }
+{
+    let root = kept.root(post);
+    match hold_root(words, post, desk, root) {
+        Some(slot) => read_held(words, post, desk, kept, slot),
+        None => kept.protected(0),
+    }
+}

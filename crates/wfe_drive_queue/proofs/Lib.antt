@@ -1,0 +1,3 @@
+pub use Rattle.wfe_drive_words.proofs as drive_words
+pub mod Appending
+pub mod Taking

@@ -1,0 +1,132 @@
+// An enqueue, round by round: the tail's row is protected, an item is written and linked after it, and
+// the tail is moved; a round that another enqueue was before is made again.
+ghost use Rattle.std.specs.Prelude.{◌≡◌, ◌≤◌, ◌<◌};
+ghost use Rattle.wfe_core.specs.words.declared.config.SchemeKind.TheVariants.{He as HeKind};
+ghost use Rattle.wfe_core.specs.defs.declared.call.Call.TheVariants.{Enqueue as EnqueueCall};
+ghost use Rattle.wfe_core.specs.Calls.{Enqueues, Fills, Idle, Runs};
+ghost use Rattle.wfe_core.specs.Change.{no_room as model_no_room};
+ghost use Rattle.wfe_core.specs.DeskHeld.{HasRoom, desk_of};
+ghost use Rattle.wfe_core.specs.Enqueue.{filling};
+ghost use Rattle.wfe_core.specs.Rounds.{opening};
+ghost use Rattle.wfe_core.specs.Steps.{first_phase};
+ghost use Rattle.wfe_drive_queue.specs.Items.{kept_of, next_of};
+ghost use Rattle.wfe_drive_queue.specs.drive_words.Called.{Here, at_phase};
+ghost use Rattle.wfe_drive_queue.specs.drive_words.Path.{Closes, Leads};
+ghost use Rattle.wfe_drive_queue.specs.drive_words.Pieces.{clearing_at};
+
+use crate::append::{append, pass_tail, read_tail};
+use crate::fill::fill;
+use crate::item::{Item, RoundEnd};
+use wfe_core::{Answer, Desk, Post, Root};
+use wfe_drive_words::{Words, close, give_up, hold_he, note_steps, tidy};
+
+/// Makes an enqueue under Hazard Eras from its first step to its answer.
+#[inline(always)]
+pub fn enqueue_he<W: Words>(words: &mut W, post: &mut Post, desk: &mut Desk, value: u64) -> Answer
+    requires valid { W.valid words.old }
+    requires scheme { post.old.layout.config.scheme ≡ HeKind }
+    requires here { Here (W.at words.old) (at_phase (first_phase (EnqueueCall value) post.old) post.old desk.old) }
+    requires room { HasRoom desk.old post.old.layout }
+    ensures valid { W.valid words.new }
+    ensures same { W.same words.old words.new }
+    ensures room { HasRoom desk.new post.new.layout }
+    ensures made { Closes result (W.at words.old) (W.at words.new) (W.stands words.old) (W.stands words.new)
+        (at_phase (first_phase (EnqueueCall value) post.old) post.old desk.old) (at_phase Idle post.new desk.new) }
+{
+    let mut item = Item {
+        value,
+        taken: None,
+        walked: false,
+        tail: 0,
+        number: 0,
+    };
+    loop {
+        let ending = link_item(words, post, desk, &mut item);
+        close(words, post);
+        match ending {
+            RoundEnd::Again => {}
+            RoundEnd::MakeRoom => {
+                tidy(words, false, post, desk);
+            }
+            RoundEnd::Answers(answer) => match item.taken {
+                Some(slot) => return give_up(words, post, desk, slot, answer),
+                None => {
+                    note_steps(desk, post.steps);
+                    return answer;
+                }
+            },
+        }
+    }
+}
+
+// A round up to its end.
+#[inline(always)]
+fn link_item<W: Words>(words: &mut W, post: &mut Post, desk: &mut Desk, item: &mut Item) -> RoundEnd
+    requires valid { W.valid words.old }
+    requires scheme { post.old.layout.config.scheme ≡ HeKind }
+    requires here { Here (W.at words.old) (at_phase (opening (Enqueues (kept_of item.old)) post.old) post.old desk.old) }
+    requires room { HasRoom desk.old post.old.layout }
+    ensures valid { W.valid words.new }
+    ensures same { W.same words.old words.new }
+    ensures rest { W.rest words.new ≤ W.rest words.old }
+    ensures room { HasRoom desk.new post.new.layout }
+    ensures layout { post.new.layout ≡ post.old.layout }
+    ensures leads { Leads (W.at words.old) (W.at words.new) (W.stands words.old) (W.stands words.new)
+        (at_phase (opening (Enqueues (kept_of item.old)) post.old) post.old desk.old)
+        (clearing_at (Enqueues (kept_of item.new)) (next_of result) post.new (desk_of desk.new)) }
+{
+    match hold_he(words, post, desk, 0, Root::Tail) {
+        Some(tail) => item.tail = tail,
+        None => return RoundEnd::Again,
+    }
+    let next = read_tail(words, post, item);
+    if next != 0 {
+        pass_tail(words, post, item, next);
+        return RoundEnd::Again;
+    }
+    if item.number == post.layout.config().last_version {
+        return RoundEnd::Answers(Answer::Spent {
+            number: item.number,
+        });
+    }
+    link_filled(words, post, desk, item)
+}
+
+// The tail's row is the last, and another number is left.
+#[inline(always)]
+fn link_filled<W: Words>(
+    words: &mut W,
+    post: &mut Post,
+    desk: &mut Desk,
+    item: &mut Item,
+) -> RoundEnd
+    requires valid { W.valid words.old }
+    requires here { Here (W.at words.old) (at_phase (Runs (Fills (Enqueues (kept_of item.old))) (filling (kept_of item.old))) post.old desk.old) }
+    requires room { HasRoom desk.old post.old.layout }
+    ensures valid { W.valid words.new }
+    ensures same { W.same words.old words.new }
+    ensures rest { W.rest words.new ≤ W.rest words.old }
+    ensures room { HasRoom desk.new post.new.layout }
+    ensures layout { post.new.layout ≡ post.old.layout }
+    ensures leads { Leads (W.at words.old) (W.at words.new) (W.stands words.old) (W.stands words.new)
+        (at_phase (Runs (Fills (Enqueues (kept_of item.old))) (filling (kept_of item.old))) post.old desk.old)
+        (clearing_at (Enqueues (kept_of item.new)) (next_of result) post.new (desk_of desk.new)) }
+{
+    let walked = item.walked;
+    match fill(words, post, desk, item) {
+        Some(slot) => append(words, post, item, slot),
+        None => no_room(walked),
+    }
+}
+
+// How a round ends in which no row was free: the second walk of a call answers.
+#[inline(always)]
+fn no_room(walked: bool) -> RoundEnd
+    ensures { next_of result ≡ model_no_room walked }
+{
+    if walked {
+        RoundEnd::Answers(Answer::Full)
+    } else {
+        RoundEnd::MakeRoom
+    }
+}

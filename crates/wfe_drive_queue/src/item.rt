@@ -1,0 +1,20 @@
+// What an enqueue keeps from round to round, and how a round ends.
+use wfe_core::Answer;
+
+// The row that was taken and not linked, whether a walk has failed, and the tail's row with its number.
+#[derive(Clone, Copy)]
+pub struct Item {
+    pub value: u64,
+    pub taken: Option<u32>,
+    pub walked: bool,
+    pub tail: u32,
+    pub number: u64,
+}
+
+// Another round comes at once, or after a scan; or the call is answered.
+#[derive(Clone, Copy)]
+pub enum RoundEnd {
+    Again,
+    MakeRoom,
+    Answers(Answer),
+}

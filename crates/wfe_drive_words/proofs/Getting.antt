@@ -1,0 +1,154 @@
+-- How a get ends under the schemes that clear an index by a step.
+use Rattle.std.proofs.Common.{Bool, List, None, Option, Some, [], ap, arith, false, refl, sym, true, ℕ, ◌+◌, ◌-◌, ◌++◌, ◌==◌, ◌∙◌, ◌∷◌, ◌≡◌, if◌then◌else◌, slice_set}
+use Rattle.std.proofs.lemmas.Bool.{eq-eqb, ne_eqb}
+use Rattle.std.proofs.lemmas.List.{set-set}
+use Rattle.wfe_core.specs.words.Place.Place.{Index}
+use Rattle.wfe_core.specs.words.Schemes.{has_one_interval}
+use Rattle.wfe_core.specs.words.declared.config.SchemeKind.{SchemeKind}
+use Rattle.wfe_core.specs.defs.declared.call.Answer.{Answer}
+use Rattle.wfe_core.specs.defs.declared.call.Answer.TheVariants as answers
+use Rattle.wfe_core.specs.defs.declared.call.Call.TheVariants as calls_named
+use Rattle.wfe_core.specs.defs.declared.event.Event.{Event}
+use Rattle.wfe_core.specs.defs.declared.event.Event.TheVariants as events
+use Rattle.wfe_core.specs.defs.declared.event.Guard.{Guard}
+use Rattle.wfe_core.specs.defs.declared.event.Guard.TheVariants as guards
+use Rattle.wfe_core.specs.defs.declared.event.Root.{Root}
+use Rattle.wfe_core.specs.defs.declared.event.Root.TheVariants as roots
+use Rattle.wfe_core.specs.defs.declared.lifetime.Interval.{Interval}
+use Rattle.wfe_core.specs.Calls.{Answering, CallTurn, Clears, FindVersion, Gets, Getting, Idle, Opens, Phase, Runs, Works}
+use Rattle.wfe_core.specs.Calls as calls
+use Rattle.wfe_core.specs.DeskHeld.{desk_of}
+use Rattle.wfe_core.specs.Desks.{Desk, Notes, noted_all, noting}
+use Rattle.wfe_core.specs.Guards.{one_era}
+use Rattle.wfe_core.specs.Locals.{Local}
+use Rattle.wfe_core.specs.Memory.{Store, numbered}
+use Rattle.wfe_core.specs.Phases.Base.{Clear}
+use Rattle.wfe_core.specs.Phases.Ending.{Protected}
+use Rattle.wfe_core.specs.Posts.{cleared, index_word, reserves_index, stands, with_row, withdrawn}
+use Rattle.wfe_core.specs.Rounds.{begin_where, bucket_of, clearing_by, finish_span, finishing_by, protect_at, protect_base, root_of, round_by, scheme_of}
+use Rattle.wfe_core.specs.Steps.{first_phase, opened}
+use Rattle.wfe_core.specs.declared.ends.ProtectEnd.TheVariants as protect_ends
+use Rattle.wfe_core.specs.declared.desk.Desk.{Desk as HeldDesk}
+use Rattle.wfe_core.specs.declared.op.Op.{Op}
+use Rattle.wfe_core.specs.declared.post.Post.{Post}
+use Rattle.wfe_drive_cells.specs.Unit.{SeatView, seat_after}
+use Rattle.wfe_drive_words.specs.Called.{Here, at_phase}
+use Rattle.wfe_drive_words.specs.declared.found.Found.{Found}
+use Rattle.wfe_drive_words.specs.declared.protect.Guarded.{Guarded}
+use Rattle.wfe_drive_words.specs.Path.{AsksFor, Closes, StepsOn, closing_at, found_at, get_trial, guarded_at, held_at, held_reader, protecting, read_post, reading, taken}
+use Rattle.wfe_drive_words.proofs.Leading.{closes_as}
+
+-- what stands does not change the seat's words
+abbrev pub standing_by : (null : Bool) → Post → ℕ → Post
+standing_by null post slot = if null then post else with_row post 0 slot
+
+clear-word : (null : Bool) (post : Post) (slot : ℕ) → numbered (standing_by null post slot).layout (Store (Index (standing_by null post slot).seat 0) (index_word (standing_by null post slot) 0 0)) ≡ numbered post.layout (Store (Index post.seat 0) (index_word post 0 0))
+clear-word true post slot = refl
+clear-word false post slot = refl
+
+pub clear_asks : {at : Local → Type 0} (key : ℕ) (post : Post) (bucket link : ℕ) (desk : Desk) (steps : ℕ) (found : Found) (op : Op) → Here at (closing_at key (held_reader post bucket link desk steps) found) → op ≡ numbered post.layout (Store (Index post.seat 0) (index_word post 0 0))
+    → AsksFor at (closing_at key (held_reader post bucket link desk steps) found) op
+clear_asks key post bucket link desk steps found op h o = record { here = h; busy = refl; is = o ∙ sym (clear-word (link == 0) post (link - 1)) }
+
+-- no interval ends where a seat has none
+pub scheme-stays : (null : Bool) (post : Post) (slot : ℕ) → scheme_of (standing_by null post slot) ≡ scheme_of post
+scheme-stays true post slot = refl
+scheme-stays false post slot = refl
+
+-- of the events of the last step only its end is noted
+end-noted : (notes : Notes) (stood : Option ℕ) (guard : Guard) (span : Option Interval) (steps : ℕ) (answer : Answer)
+    → noted_all notes ((cleared 0 stood ++ events.Reserve guard span ∷ []) ++ events.End steps answer ∷ []) ≡ record notes { steps = steps }
+end-noted notes None guard span steps answer = refl
+end-noted notes (Some slot) guard span steps answer = refl
+
+-- nothing stands at index 0 then
+pub post-cleared : (null : Bool) (post : Post) (slot steps : ℕ) → withdrawn (record (standing_by null post slot) { steps = steps }) 0 ≡ record post { standing = slice_set post.standing 0 None; steps = steps }
+post-cleared true post slot steps = refl
+post-cleared false post slot steps = ap (λ (xs : List (Option ℕ)). let p : Post = record post { standing = xs; steps = steps } in p) (set-set post.standing 0 (Some slot) None)
+
+-- the index is cleared, and the call is answered
+pub closed_by : {at0 at1 : Local → Type 0} {stands0 stands1 : List (Op × ℕ) → Type 0} (key : ℕ) (post : Post) (bucket link : ℕ) (held new : HeldDesk) (steps : ℕ) (found : Found) (n : ℕ) → has_one_interval (scheme_of post) ≡ false
+    → desk_of new ≡ record (desk_of held) { notes = record (desk_of held).notes { steps = steps + found.steps + 1 } }
+    → StepsOn at0 at1 stands0 stands1 (closing_at key (held_reader post bucket link (desk_of held) steps) found) n
+    → Closes (answers.Got found.version found.value) at0 at1 stands0 stands1 (closing_at key (held_reader post bucket link (desk_of held) steps) found) (at_phase Idle (record post { standing = slice_set post.standing 0 None; steps = steps + found.steps + 1 }) new)
+closed_by key post bucket link held new steps found n one d s =
+    let seat : SeatView = closing_at key (held_reader post bucket link (desk_of held) steps) found in
+    let answer : Answer = answers.Got found.version found.value in
+    let desk : Desk = desk_of held in
+    let total : ℕ = steps + found.steps + 1 in
+    let null : Bool = link == 0 in
+    let stood : Post = record (standing_by null post (link - 1)) { steps = total } in
+    let left : Post = withdrawn stood 0 in
+    let told : List Event = cleared 0 (stands stood 0) ++ reserves_index stood 0 0 in
+    let none : has_one_interval (scheme_of left) ≡ false = ap has_one_interval (scheme-stays null post (link - 1)) ∙ one in
+    let turn : taken seat n ≡ calls.answers left desk told answer = ap (λ (has : Bool). finishing_by (Gets key) (Answering answer) left desk told (if has then finish_span (stands left 2) else None)) none in
+    let noted : noting desk (told ++ events.End total answer ∷ []) ≡ desk_of new = ap (λ (notes : Notes). let k : Desk = record desk { notes = notes } in k) (end-noted desk.notes (stands stood 0) (guards.Index stood.seat 0) (one_era 0) total answer) ∙ sym d in
+    let is : seat_after (taken seat n) ≡ at_phase Idle (record post { standing = slice_set post.standing 0 None; steps = total }) new =
+    ap seat_after turn
+    ∙ ap (λ (p : Post). let v : SeatView = record { phase = Idle; post = p; desk = noting desk (told ++ events.End total answer ∷ []) } in v) (post-cleared null post (link - 1) total)
+    ∙ ap (λ (k : Desk). let v : SeatView = record { phase = Idle; post = record post { standing = slice_set post.standing 0 None; steps = total }; desk = k } in v) noted in
+    closes_as _ _ is (s.closes answer (ap (λ (t : CallTurn). t.outcome) turn))
+
+-- a value is found, and the index is to be cleared
+abbrev got_by : ℕ → ℕ → Option ℕ → Post → Desk → List Event → (one : Bool) → SeatView
+got_by key version value post desk told one = seat_after (clearing_by (Gets key) (Answering (answers.Got version value)) post desk told (if one then None else Some (Clear 0)))
+
+pub found_closes : (key : ℕ) (post : Post) (bucket link : ℕ) (desk : Desk) (steps : ℕ) (found : Found) → has_one_interval (scheme_of post) ≡ false
+    → found_at key (held_reader post bucket link desk steps) found ≡ closing_at key (held_reader post bucket link desk steps) found
+found_closes key post bucket link desk steps found one =
+    let p : Post = read_post (held_reader post bucket link desk steps) found.steps in
+    let none : has_one_interval (scheme_of p) ≡ false = ap has_one_interval (scheme-stays (link == 0) post (link - 1)) ∙ one in
+    ap (got_by key found.version found.value p desk (events.Got (bucket_of p key) found.version key found.value ∷ [])) none
+
+-- a protection has ended
+abbrev pub held_by : ℕ → (n slot era : ℕ) → Post → Desk → (null : Bool) → SeatView
+held_by key n slot era post desk null =
+    seat_after (opened (Gets key) (Protected (if null then protect_ends.Null else protect_ends.Held slot era)) (standing_by null post slot) desk (if null then events.Null 0 n ∷ [] else events.Held 0 slot n ∷ []))
+
+-- the link was null
+pub held_null : (key : ℕ) (post : Post) (bucket link n era : ℕ) (desk : Desk) (steps : ℕ) → has_one_interval (scheme_of post) ≡ false → link ≡ 0
+    → held_at (get_trial key desk 0) 0 (roots.Bucket bucket) n link era steps post ≡ closing_at key (held_reader post bucket link desk steps) (record { version = 0; value = None; steps = 0 })
+held_null key post bucket link n era desk steps one e =
+    let p : Post = record post { steps = steps } in
+    let test : (link == 0) ≡ true = eq-eqb link 0 e in
+    let told : List Event = events.Null 0 n ∷ events.Got (bucket_of p key) 0 key None ∷ [] in
+    let closing : Bool → ℕ → SeatView = λ null k. record { phase = Runs (Clears (Gets key) (Answering (answers.Got 0 None))) (Clear 0); post = record (standing_by null post (link - 1)) { steps = k }; desk = desk } in
+    let zero : steps ≡ steps + 0 = omega arith in
+    ap (held_by key n (link - 1) era p desk) test
+    ∙ ap (got_by key 0 None p desk told) one
+    ∙ ap (λ (null : Bool). closing null steps) (sym test)
+    ∙ ap (closing (link == 0)) zero
+
+-- or it leads to a row
+pub held_row : (key : ℕ) (post : Post) (bucket link n era : ℕ) (desk : Desk) (steps : ℕ) → (link ≡ 0 → ⊥)
+    → held_at (get_trial key desk 0) 0 (roots.Bucket bucket) n link era steps post ≡ reading key (held_reader post bucket link desk steps) 0 (FindVersion (link - 1))
+held_row key post bucket link n era desk steps e =
+    let p : Post = record post { steps = steps } in
+    let test : (link == 0) ≡ false = ne_eqb link 0 e in
+    let reads : Bool → ℕ → SeatView = λ null k. record { phase = Works (Getting key (FindVersion (link - 1))); post = record (standing_by null post (link - 1)) { steps = k }; desk = desk } in
+    let zero : steps ≡ steps + 0 = omega arith in
+    ap (held_by key n (link - 1) era p desk) test
+    ∙ ap (λ (null : Bool). reads null steps) (sym test)
+    ∙ ap (reads (link == 0)) zero
+
+layout-by : (null : Bool) (post : Post) (slot : ℕ) → (standing_by null post slot).layout ≡ post.layout
+layout-by true post slot = refl
+layout-by false post slot = refl
+
+pub layout_stays : (post : Post) (bucket link : ℕ) (desk : Desk) (steps : ℕ) → (held_reader post bucket link desk steps).post.layout ≡ post.layout
+layout_stays post bucket link desk steps = layout-by (link == 0) post (link - 1)
+
+-- a get begins with a protection of its bucket's root, where the scheme begins with no interval
+pub begins_at : (kind : SchemeKind) (key : ℕ) (post : Post) (held : HeldDesk) (root : Root) → has_one_interval kind ≡ false → scheme_of post ≡ kind → root ≡ root_of (Gets key) post
+    → at_phase (first_phase (calls_named.Get key) post) post held ≡ protecting (get_trial key (desk_of held) post.steps) 0 root (protect_at kind) post
+begins_at kind key post held root none e r =
+    let opens : Bool → Phase = λ one. round_by (Gets key) post (begin_where one post) in
+    let protects : SchemeKind → Root → Phase = λ scheme root. Runs (Opens (Gets key)) (protect_base scheme 0 root) in
+    let one : has_one_interval (scheme_of post) ≡ false = ap has_one_interval e ∙ none in
+    let phase : first_phase (calls_named.Get key) post ≡ protects kind root = ap opens one ∙ ap (λ (scheme : SchemeKind). protects scheme (root_of (Gets key) post)) e ∙ ap (protects kind) (sym r) in
+    ap (λ (phase : Phase). at_phase phase post held) phase
+
+-- and where it has ended, its row is read
+pub guarded_reads : (key : ℕ) (post : Post) (desk : Desk) (root : Root) (n : ℕ) (guarded : Guarded) → root ≡ root_of (Gets key) post
+    → guarded_at (get_trial key desk post.steps) 0 root post n guarded ≡ held_at (get_trial key desk 0) 0 (roots.Bucket (bucket_of post key)) n guarded.link guarded.era (post.steps + guarded.steps) post
+guarded_reads key post desk root n guarded r = ap (λ (root : Root). held_at (get_trial key desk 0) 0 root n guarded.link guarded.era (post.steps + guarded.steps) post) r

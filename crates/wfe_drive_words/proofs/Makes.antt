@@ -1,0 +1,191 @@
+-- The code's steps on its words, at every state at which the seat may be.
+use Rattle.std.proofs.Common.{Bool, List, [], ap, append-nil, append_assoc, false, refl, subst, sym, true, ℕ, ◌++◌, ◌∙◌, ◌∷◌, ◌≡◌}
+use Rattle.std.specs.Prelude.{None, Option, Some}
+use Rattle.wfe_core.specs.defs.declared.call.Answer.{Answer}
+use Rattle.wfe_core.specs.defs.declared.call.Call.{Call}
+use Rattle.wfe_core.specs.defs.declared.event.Event.{Event}
+use Rattle.wfe_core.specs.Calls.{Answers, CallOutcome, CallTurn, GoesOn, Idle, Phase}
+use Rattle.wfe_core.specs.DeskHeld.{Took, desk_of}
+use Rattle.wfe_core.specs.Desks.{Desk, no_notes, noting}
+use Rattle.wfe_core.specs.Frames.{SamePlace}
+use Rattle.wfe_core.specs.Locals.{Local, after, asks, begun, begun_post, busy_in, rounds_told, settled_by, told_by, turn}
+use Rattle.wfe_core.specs.Steps.{first_phase}
+use Rattle.wfe_core.specs.declared.desk.Desk.{Desk as HeldDesk}
+use Rattle.wfe_core.specs.declared.op.Op.{Op}
+use Rattle.wfe_core.specs.declared.post.Post.{Post}
+use Rattle.laws.specs.AnswerLaw.{suits}
+use Rattle.wfe_drive_cells.specs.Unit.{Leaves, SeatView, asked, begun_seat, phase_after, seat_left, shown, turned}
+use Rattle.wfe_drive_cells.proofs.Turns.{leaves}
+use Rattle.wfe_drive_words.specs.Called.{Called, Ends, Here, LeadsTo, Makes, at_phase}
+use Rattle.wfe_drive_words.specs.Comes.{Comes, Given}
+use Rattle.wfe_drive_words.specs.Ran.{Answered, Left, Performs, Ran}
+use Rattle.wfe_drive_words.specs.Readiness.{MayAsk, MayTake}
+use Rattle.wfe_drive_words.proofs.Groups.{left_by}
+use Rattle.wfe_drive_words.proofs.Histories.{may_ask, may_take}
+
+-- the seat is as its code has it
+pub busy_shown : (l : Local) (seat : SeatView) (b : Bool) → shown l ≡ seat → busy_in seat.phase ≡ b → busy_in l.phase ≡ b
+busy_shown l seat b e h = ap (λ (v : SeatView). busy_in v.phase) e ∙ h
+
+asks_shown : (l : Local) (seat : SeatView) (op : Op) → shown l ≡ seat → op ≡ asked seat → op ≡ asks l
+asks_shown l seat op e o = o ∙ ap asked (sym e)
+
+pub may_ask_at : (l : Local) (seat : SeatView) → Comes l → shown l ≡ seat → MayAsk seat
+may_ask_at l seat c e = subst MayAsk e (may_ask l c)
+
+-- what the words' clauses say of one step, at each state
+abbrev pub Steps : (at_old at_new : Local → Type 0) (op : Op) (n : ℕ) → Type 0
+Steps at_old at_new op n = (l : Local) → at_old l → busy_in l.phase ≡ true → op ≡ asks l → Given l n × at_new (after l n)
+
+-- the code may make its step
+pub asks_at : (at : Local → Type 0) (seat : SeatView) (op : Op) → Here at seat → busy_in seat.phase ≡ true → op ≡ asked seat → (l : Local) × at l × (busy_in l.phase ≡ true) × (op ≡ asks l)
+asks_at at seat op h b o = (h.local, h.there, busy_shown h.local seat true h.is b, asks_shown h.local seat op h.is o)
+
+pub takes_at : (at_old at_new : Local → Type 0) (seat : SeatView) (op : Op) (n : ℕ) → Here at_old seat → busy_in seat.phase ≡ true → op ≡ asked seat → Steps at_old at_new op n → MayTake seat n
+takes_at at_old at_new seat op n h b o s =
+    let busy : busy_in h.local.phase ≡ true = busy_shown h.local seat true h.is b in
+    let g = s h.local h.there busy (asks_shown h.local seat op h.is o) in
+    subst (λ (v : SeatView). MayTake v n) h.is (may_take h.local n g.0 busy)
+
+-- what the code took is what the step leaves of the seat
+after_shown : (l : Local) (n : ℕ) (seat : SeatView) (post : Post) (held : HeldDesk) (told : List Event) (answer : Option Answer) (phase : Phase) → shown l ≡ seat → Took (turned seat n) post held told answer phase → shown (after l n) ≡ seat_left answer phase post held
+after_shown l n seat post held told answer phase e k =
+    let same : turned seat n ≡ turn l n = ap (λ (v : SeatView). turned v n) (sym e) in
+    let t : CallTurn = turn l n in
+    let left : Leaves t post held told answer phase = leaves t post held told answer phase (subst (λ (x : CallTurn). Took x post held told answer phase) same k) in
+    by_outcome t.outcome ∙ sym left.seat_is
+  where
+    by_outcome : (outcome : CallOutcome) → shown (settled_by l (turn l n).post (noting (turn l n).desk (told_by (turn l n))) (rounds_told l.rounds (told_by (turn l n))) outcome) ≡ record { phase = phase_after outcome; post = (turn l n).post; desk = noting (turn l n).desk (told_by (turn l n)) }
+    by_outcome (GoesOn next) = refl
+    by_outcome (Answers given) = refl
+
+pub took_busy : (seat : SeatView) (n : ℕ) (post : Post) (held : HeldDesk) (told : List Event) (phase : Phase) → MayTake seat n → Took (turned seat n) post held told None phase → busy_in phase ≡ true
+took_busy seat n post held told phase m k = m.goes phase k.outcome_is
+
+-- one step at one state
+record Stepped (at : Local → Type 0) (op : Op) (n : ℕ) (seat : SeatView) (l : Local) : Type 0 where
+  performs : Performs l (op, n)
+  there : at (after l n)
+  is : shown (after l n) ≡ seat
+
+step_at : (at_old at_new : Local → Type 0) (seat : SeatView) (op : Op) (n : ℕ) (post : Post) (held : HeldDesk) (told : List Event) (answer : Option Answer) (phase : Phase) → busy_in seat.phase ≡ true → op ≡ asked seat → Steps at_old at_new op n
+    → Took (turned seat n) post held told answer phase → (l : Local) → at_old l → shown l ≡ seat → Stepped at_new op n (seat_left answer phase post held) l
+step_at at_old at_new seat op n post held told answer phase b o s k l a e =
+    let busy : busy_in l.phase ≡ true = busy_shown l seat true e b in
+    let asked_is : op ≡ asks l = asks_shown l seat op e o in
+    let g = s l a busy asked_is in
+    record { performs = record { busy = busy; asked = asked_is; given = g.0 }; there = g.1; is = after_shown l n seat post held told answer phase e k }
+
+-- a state at which the seat may be after it
+pub here_after : (at_old at_new : Local → Type 0) (seat : SeatView) (op : Op) (n : ℕ) (post : Post) (held : HeldDesk) (told : List Event) (phase : Phase) → Here at_old seat → busy_in seat.phase ≡ true → op ≡ asked seat → Steps at_old at_new op n
+    → Took (turned seat n) post held told None phase → Here at_new (at_phase phase post held)
+here_after at_old at_new seat op n post held told phase h b o s k =
+    let x : Stepped at_new op n (at_phase phase post held) h.local = step_at at_old at_new seat op n post held told None phase b o s k h.local h.there h.is in
+    record { local = after h.local n; there = x.there; is = x.is }
+
+-- the operations so far: none yet
+pub makes_none : (at : Local → Type 0) (stands : List (Op × ℕ) → Type 0) (seat : SeatView) → Makes (λ ops l m. Ran l ops m) at at stands stands seat seat
+makes_none at stands seat = record {
+  ops = [];
+  each = λ l a e. record { left = l; by = refl; there = a; is = e };
+  stands = λ xs s. subst stands (sym (append-nil xs)) s;
+}
+
+-- and one more
+ran_on : (l : Local) (xs : List (Op × ℕ)) (m : Local) (x : Op × ℕ) → Ran l xs m → Performs m x → Ran l (xs ++ x ∷ []) (after m x.1)
+ran_on l [] m x r p = (subst (λ (k : Local). Performs k x) (sym r) p, ap (λ (k : Local). after k x.1) r)
+ran_on l (y ∷ ys) m x r p = (r.0, ran_on (after l y.1) ys m x r.1 p)
+
+stands_more : (stands0 stands1 stands2 : List (Op × ℕ) → Type 0) (ops : List (Op × ℕ)) (x : Op × ℕ) → ((xs : List (Op × ℕ)) → stands0 xs → stands1 (xs ++ ops)) → ((xs : List (Op × ℕ)) → stands1 xs → stands2 (xs ++ x ∷ []))
+    → (xs : List (Op × ℕ)) → stands0 xs → stands2 (xs ++ (ops ++ x ∷ []))
+stands_more stands0 stands1 stands2 ops x f g xs s = subst stands2 (append_assoc xs ops (x ∷ [])) (g (xs ++ ops) (f xs s))
+
+pub makes_more : (at0 at1 at2 : Local → Type 0) (stands0 stands1 stands2 : List (Op × ℕ) → Type 0) (first seat : SeatView) (op : Op) (n : ℕ) (post : Post) (held : HeldDesk) (told : List Event) (phase : Phase)
+    → Makes (λ ops l m. Ran l ops m) at0 at1 stands0 stands1 first seat → busy_in seat.phase ≡ true → op ≡ asked seat → Steps at1 at2 op n → ((xs : List (Op × ℕ)) → stands1 xs → stands2 (xs ++ (op, n) ∷ []))
+    → Took (turned seat n) post held told None phase → Makes (λ ops l m. Ran l ops m) at0 at2 stands0 stands2 first (at_phase phase post held)
+makes_more at0 at1 at2 stands0 stands1 stands2 first seat op n post held told phase d b o s more k = record {
+  ops = d.ops ++ (op, n) ∷ [];
+  each = λ l a e.
+      let to : LeadsTo (λ ops l m. Ran l ops m) at1 seat d.ops l = d.each l a e in
+      let x : Stepped at2 op n (at_phase phase post held) to.left = step_at at1 at2 seat op n post held told None phase b o s k to.left to.there to.is in
+      record { left = after to.left n; by = ran_on l d.ops to.left (op, n) to.by x.performs; there = x.there; is = x.is };
+  stands = stands_more stands0 stands1 stands2 d.ops (op, n) d.stands more;
+}
+
+-- the last one answers
+pub makes_answer : (at0 at1 at2 : Local → Type 0) (stands0 stands1 stands2 : List (Op × ℕ) → Type 0) (first seat : SeatView) (op : Op) (n : ℕ) (post : Post) (held : HeldDesk) (told : List Event) (answer : Answer) (phase : Phase)
+    → Makes (λ ops l m. Ran l ops m) at0 at1 stands0 stands1 first seat → busy_in seat.phase ≡ true → op ≡ asked seat → Steps at1 at2 op n → ((xs : List (Op × ℕ)) → stands1 xs → stands2 (xs ++ (op, n) ∷ []))
+    → Took (turned seat n) post held told (Some answer) phase → Makes (λ ops l m. Answered l ops answer m) at0 at2 stands0 stands2 first (at_phase Idle post held)
+makes_answer at0 at1 at2 stands0 stands1 stands2 first seat op n post held told answer phase d b o s more k = record {
+  ops = d.ops ++ (op, n) ∷ [];
+  each = λ l a e.
+      let to : LeadsTo (λ ops l m. Ran l ops m) at1 seat d.ops l = d.each l a e in
+      let x : Stepped at2 op n (at_phase Idle post held) to.left = step_at at1 at2 seat op n post held told (Some answer) phase b o s k to.left to.there to.is in
+      let same : turned seat n ≡ turn to.left n = ap (λ (v : SeatView). turned v n) (sym to.is) in
+      record {
+        left = after to.left n;
+        by = record {
+          before = d.ops;
+          last = to.left;
+          operation = (op, n);
+          ops_are = refl;
+          ran = to.by;
+          performs = x.performs;
+          answers = subst (λ (t : CallTurn). t.outcome ≡ Answers answer) same k.outcome_is;
+          left = refl;
+        };
+        there = x.there;
+        is = x.is;
+      };
+  stands = stands_more stands0 stands1 stands2 d.ops (op, n) d.stands more;
+}
+
+-- a call begins
+begun_shown : (l : Local) (call : Call) (post : Post) (old new : HeldDesk) (phase : Phase) → shown l ≡ at_phase Idle post old → phase ≡ first_phase call (begun_post post) → desk_of new ≡ record (desk_of old) { notes = no_notes }
+    → shown (begun l call) ≡ at_phase phase (begun_post post) new
+begun_shown l call post old new phase e p d =
+    let begins : SeatView = begun_seat (at_phase Idle post old) call in
+    ap (λ (v : SeatView). begun_seat v call) e
+    ∙ ap (λ (desk : Desk). let v : SeatView = record { phase = begins.phase; post = begins.post; desk = desk } in v) (sym d)
+    ∙ ap (λ (x : Phase). let v : SeatView = record { phase = x; post = begins.post; desk = desk_of new } in v) (sym p)
+
+pub here_begun : (at_old at_new : Local → Type 0) (call : Call) (post : Post) (old new : HeldDesk) (phase : Phase) → Here at_old (at_phase Idle post old) → ((l : Local) → at_old l → busy_in l.phase ≡ false → at_new (begun l call))
+    → phase ≡ first_phase call (begun_post post) → desk_of new ≡ record (desk_of old) { notes = no_notes } → Here at_new (at_phase phase (begun_post post) new)
+here_begun at_old at_new call post old new phase h begins p d = record {
+  local = begun h.local call;
+  there = begins h.local h.there (busy_shown h.local (at_phase Idle post old) false h.is refl);
+  is = begun_shown h.local call post old new phase h.is p d;
+}
+
+-- and what it has made once it is answered
+pub called_by : (at0 at1 at2 : Local → Type 0) (stands0 stands1 stands2 : List (Op × ℕ) → Type 0) (call : Call) (answer : Answer) (post : Post) (old new : HeldDesk) (phase : Phase) (seat : SeatView)
+    → ((l : Local) → at0 l → busy_in l.phase ≡ false → at1 (begun l call)) → ((xs : List (Op × ℕ)) → stands0 xs → stands1 xs) → phase ≡ first_phase call (begun_post post) → desk_of new ≡ record (desk_of old) { notes = no_notes }
+    → Makes (λ ops l m. Answered l ops answer m) at1 at2 stands1 stands2 (at_phase phase (begun_post post) new) seat → Called call answer at0 at2 stands0 stands2 (at_phase Idle post old) seat
+called_by at0 at1 at2 stands0 stands1 stands2 call answer post old new phase seat begins stays p d m = record {
+  ops = m.ops;
+  each = λ l a e.
+      let first : at1 (begun l call) = begins l a (busy_shown l (at_phase Idle post old) false e refl) in
+      let to : LeadsTo (λ ops l m. Answered l ops answer m) at2 seat m.ops (begun l call) = m.each (begun l call) first (begun_shown l call post old new phase e p d) in
+      record { left = to.left; by = record { answered = to.by; left = left_by l call m.ops answer to.left to.by }; there = to.there; is = to.is };
+  stands = λ xs s. m.stands xs (stays xs s);
+}
+
+-- what follows for the code alone
+pub record Over (at : Local → Type 0) (call : Call) (answer : Answer) (old : Post) (post : Post) (held : HeldDesk) : Type 0 where
+  pub here : Here at (at_phase Idle post held)
+  pub place : SamePlace old post
+  pub suits : suits call answer ≡ true
+
+pub over_by : (at0 at1 : Local → Type 0) (stands0 stands1 : List (Op × ℕ) → Type 0) (call : Call) (answer : Answer) (old : Post) (held0 : HeldDesk) (post : Post) (held : HeldDesk) → Here at0 (at_phase Idle old held0)
+    → Called call answer at0 at1 stands0 stands1 (at_phase Idle old held0) (at_phase Idle post held) → Over at1 call answer old post held
+over_by at0 at1 stands0 stands1 call answer old held0 post held h c =
+    let to : LeadsTo (Ends call answer) at1 (at_phase Idle post held) c.ops h.local = c.each h.local h.there h.is in
+    let e : Ends call answer c.ops h.local to.left = to.by in
+    let left : Left h.local call c.ops answer to.left = e.left in
+    let first : h.local.post ≡ old = ap (λ (v : SeatView). v.post) h.is in
+    let last : to.left.post ≡ post = ap (λ (v : SeatView). v.post) to.is in
+    record {
+      here = record { local = to.left; there = to.there; is = to.is };
+      place = subst (λ (p : Post). SamePlace p post) first (subst (λ (p : Post). SamePlace h.local.post p) last left.place);
+      suits = left.may;
+    }

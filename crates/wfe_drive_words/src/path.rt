@@ -1,0 +1,76 @@
+// One step of a call, and the operations that calls ask for.
+ghost use Rattle.std.specs.Prelude.{◌≡◌, ◌<◌, ℕ, true};
+ghost use Rattle.wfe_core.specs.words.Place.Place.{Clock, Index, Row};
+ghost use Rattle.wfe_core.specs.words.Place.{has, number};
+ghost use Rattle.wfe_core.specs.Links.{link_place};
+ghost use Rattle.wfe_core.specs.Memory.{Load as Loads, Store as Stores, numbered};
+ghost use Rattle.wfe_core.specs.Posts.{index_word as own_index_word};
+ghost use Rattle.wfe_core.specs.Ready.{IndexFits, RootFits};
+ghost use Rattle.wfe_core.specs.Valid.{IsValid};
+ghost use Rattle.wfe_drive_cells.specs.Unit.{SeatView};
+ghost use Rattle.wfe_drive_words.specs.Path.{AsksFor, StepFrom};
+
+use crate::Words;
+use wfe_core::{Op, Post, Root, index_word, link_word_number};
+
+// Makes the step that the seat's state asks for, whichever state that is.
+#[inline(always)]
+pub fn step<W: Words>(words: &mut W, op: Op) -> u64
+    requires valid { W.valid words.old }
+    requires asks { (seat : SeatView) × AsksFor (W.at words.old) seat op }
+    ensures valid { W.valid words.new }
+    ensures same { W.same words.old words.new }
+    ensures rest { W.rest words.new < W.rest words.old }
+    ensures steps { StepFrom (W.at words.old) (W.at words.new) (W.stands words.old) (W.stands words.new) op result }
+{
+    words.perform(op)
+}
+
+// A load of the clock.
+#[inline(always)]
+pub fn load_clock(post: &Post) -> Op
+    ensures { result ≡ numbered post.now.layout (Loads Clock) }
+{
+    Op::Load {
+        word: post.layout.clock(),
+    }
+}
+
+// A store of an era into the word of one of the seat's indexes.
+#[inline(always)]
+pub fn publish(post: &Post, index: u32, era: u32) -> Op
+    requires valid { IsValid post.now }
+    requires index { IndexFits post.now index }
+    ensures { result ≡ numbered post.now.layout (Stores (Index post.now.seat index) (own_index_word post.now index era)) }
+{
+    Op::Store {
+        word: post.layout.index(post.seat, index),
+        value: index_word(post, index, era),
+    }
+}
+
+// A load of a root.
+#[inline(always)]
+pub fn load_link(post: &Post, root: Root) -> Op
+    requires valid { IsValid post.now }
+    requires there { RootFits post.now.layout root }
+    ensures { result ≡ numbered post.now.layout (Loads (link_place root)) }
+{
+    Op::Load {
+        word: link_word_number(post.layout, root),
+    }
+}
+
+// A load of a word of a row, of which the number of the first word is known.
+#[inline(always)]
+pub fn load_cell(post: &Post, _slot: u32, first: u32, place: u32) -> Op
+    requires valid { IsValid post.now }
+    requires there { has post.now.layout (Row _slot place) ≡ true }
+    requires first { first ≡ number post.now.layout (Row _slot 0) }
+    ensures { result ≡ numbered post.now.layout (Loads (Row _slot place)) }
+{
+    let _post = post;
+    Op::Load {
+        word: first + place,
+    }
+}
