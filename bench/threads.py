@@ -2,13 +2,15 @@
 """How many calls a second threads make on one shared table, beside a plain Rust program of the same algorithm.
 
 Run it at the top of the repository, once `./build wfe_speed` has made the program:
-bench/threads.py [--calls N] [--repeats R] [--threads 1,2,4] [--profile]
+bench/threads.py [--calls N] [--repeats R] [--threads 1,2,4] [--profile | --builds]
 
 The plain program is `bench/plain`, built here with `rustc` at its highest level. Both make the same calls: gets alone
 (`reads`), nine gets and a put (`mixed`), puts alone (`puts`), and an enqueue and a dequeue by turns (`pairs`), under
 each scheme. A time is the best of the repeats, in which the programs take turns, without what a run of one call takes.
 Ratios are to one thread of the same program, and to the plain program at the same work, scheme and threads; of puts,
 also to the plain program's map on epochs. With --profile it counts instructions a call on one thread with callgrind.
+With --builds it times puts of the plain program alone, as it is and with weaker orders of its steps and with its words
+apart (`bench/plain/table.rs`), beside the map on epochs.
 """
 import argparse
 import os
@@ -24,9 +26,11 @@ TOP = os.path.dirname(os.path.dirname(os.path.realpath(__file__)))
 OURS = f"{TOP}/crates/wfe_speed/out/wfe_speed"
 
 
-def built_plain(folder):
-    program = f"{folder}/plain"
-    subprocess.run(["rustc", "--edition", "2024", "-C", "opt-level=3", "-o", program, f"{TOP}/bench/plain/main.rs"], check=True)
+def built_plain(folder, *choices):
+    program = f"{folder}/plain{''.join(choices)}"
+    words = [word for choice in choices for word in ("--cfg", choice)]
+    subprocess.run(["rustc", "--edition", "2024", "-C", "opt-level=3", *words, "-o", program, f"{TOP}/bench/plain/main.rs"],
+                   check=True)
     return program
 
 
@@ -84,21 +88,34 @@ def print_profile(plain):
             print(f"| {work} | `{scheme}` | {ours:,.0f} | {theirs:,.0f} | {ours / theirs:.1f} |", flush=True)
 
 
+def print_builds(folder, options):
+    print("| threads | order of steps | words | puts/s | to epochs |\n|---|---|---|---|---|")
+    builds = [built_plain(folder, *it) for it in ((), ("weak",), ("apart",), ("weak", "apart"))]
+    names = ("one for all | side by side", "weak | side by side", "one for all | apart", "weak | apart")
+    for threads in options.threads:
+        programs = [(it, "he") for it in builds] + [(builds[0], "epochs")]
+        *got, epochs = rates(programs, "puts", threads, options.calls, options.repeats).values()
+        for name, rate in zip(names, got):
+            print(f"| {threads} | {name} | {rate:,.0f} | {rate / epochs:.2f} |", flush=True)
+
+
 def main():
     parser = argparse.ArgumentParser(description=__doc__, formatter_class=argparse.RawDescriptionHelpFormatter)
     parser.add_argument("--calls", type=int, default=1_000_000)
     parser.add_argument("--repeats", type=int, default=5)
     parser.add_argument("--threads", type=lambda text: [int(it) for it in text.split(",")], default=[1, 2, 4])
     parser.add_argument("--profile", action="store_true")
+    parser.add_argument("--builds", action="store_true")
     options = parser.parse_args()
-    if not os.path.exists(OURS):
+    if not options.builds and not os.path.exists(OURS):
         sys.exit("./build wfe_speed makes the program first")
     with tempfile.TemporaryDirectory() as folder:
-        plain = built_plain(folder)
-        if options.profile:
-            print_profile(plain)
+        if options.builds:
+            print_builds(folder, options)
+        elif options.profile:
+            print_profile(built_plain(folder))
         else:
-            print_rates(plain, options)
+            print_rates(built_plain(folder), options)
 
 
 if __name__ == "__main__":

@@ -56,14 +56,14 @@ impl Scheme for He {
     fn protect(table: &Table, seat: &mut Seat, index: usize, word: usize) -> u64 {
         let mut era = table.load(table.clock());
         let guard = table.index(seat.number, index);
-        table.store(guard, reservation(era, 0));
+        table.publish(guard, reservation(era, 0));
         loop {
             let link = table.load(word);
             let now = table.load(table.clock());
             if now == era {
                 return link;
             }
-            table.store(guard, reservation(now, 0));
+            table.publish(guard, reservation(now, 0));
             era = now;
         }
     }
@@ -94,7 +94,7 @@ impl Scheme for Ibr {
     fn begin(table: &Table, seat: &mut Seat) {
         if seat.span.is_none() {
             let era = table.load(table.clock());
-            table.store(table.interval(seat.number), era << 32 | era);
+            table.publish(table.interval(seat.number), era << 32 | era);
             seat.span = Some((era, era));
         }
     }
@@ -109,7 +109,7 @@ impl Scheme for Ibr {
             if now == high {
                 return link;
             }
-            table.store(table.interval(seat.number), low << 32 | now);
+            table.publish(table.interval(seat.number), low << 32 | now);
             seat.span = Some((low, now));
             high = now;
         }
@@ -155,7 +155,7 @@ fn slow_path(table: &Table, seat: &mut Seat, index: usize, word: usize) -> u64 {
     table.store(request, asked);
     let (link, era) = ask(table, request, helper, word, asked);
     seat.tags[index] += 1;
-    table.store(
+    table.publish(
         table.index(seat.number, index),
         reservation(era, seat.tags[index]),
     );
@@ -167,7 +167,7 @@ fn slow_path(table: &Table, seat: &mut Seat, index: usize, word: usize) -> u64 {
 fn ask(table: &Table, request: usize, helper: usize, word: usize, asked: u64) -> (u64, u64) {
     let mut era = table.load(table.clock());
     for _ in 0..2 {
-        table.store(helper, reservation(era, 0));
+        table.publish(helper, reservation(era, 0));
         let link = table.load(word);
         let now = table.load(table.clock());
         if now == era {
@@ -196,7 +196,7 @@ fn help(table: &Table, own: usize, other: usize, era: u64, shown: &mut bool) -> 
         (asked & 0x3ff_ffff) as usize,
     );
     if !*shown {
-        table.store(table.helper(own), reservation(era, 0));
+        table.publish(table.helper(own), reservation(era, 0));
         *shown = true;
     }
     let link = table.load(word);
@@ -221,14 +221,14 @@ impl Scheme for Wfe {
         let mut era = table.load(table.clock());
         let guard = table.index(seat.number, index);
         let tag = seat.tags[index];
-        table.store(guard, reservation(era, tag));
+        table.publish(guard, reservation(era, tag));
         for _ in 0..TRIES {
             let link = table.load(word);
             let now = table.load(table.clock());
             if now == era {
                 return link;
             }
-            table.store(guard, reservation(now, tag));
+            table.publish(guard, reservation(now, tag));
             era = now;
         }
         slow_path(table, seat, index, word)

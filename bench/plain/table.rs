@@ -1,6 +1,18 @@
 //! The words of a table, and what a seat keeps between its calls.
 
-use std::sync::atomic::{AtomicU64, Ordering::SeqCst};
+use std::sync::atomic::{
+    AtomicU64, Ordering,
+    Ordering::{AcqRel, Acquire, Release, SeqCst},
+};
+
+// The plain program has the order of the proved one, and each word beside the next. Two builds of it show what other
+// choices would gain: with `--cfg weak` only what publishes an era is in one order with all steps, and with
+// `--cfg apart` words that seats share, and rows, have lines of the cache of their own, and seats look for rows from
+// places apart.
+const LOAD: Ordering = if cfg!(weak) { Acquire } else { SeqCst };
+const STORE: Ordering = if cfg!(weak) { Release } else { SeqCst };
+const CHANGE: Ordering = if cfg!(weak) { AcqRel } else { SeqCst };
+const LINE: usize = 16;
 
 /// Protections of a seat.
 pub const INDEXES: usize = 3;
@@ -34,7 +46,7 @@ impl Table {
             words: Box::new([]),
             seats,
         };
-        let count = table.row(SLOTS + 1, 0);
+        let count = table.place(table.row(SLOTS + 1, 0));
         table.words = (0..count).map(|_| AtomicU64::new(0)).collect();
         table.store(table.clock(), 1);
         table.store(table.head(), SLOTS as u64 + 1);
@@ -88,27 +100,48 @@ impl Table {
         self.head() + 2 + CLAIMS + SLOTS + 1 + slot * PLACES + place
     }
 
+    // Where a word lies: a line is 16 words here, and a row's words are fewer.
+    fn place(&self, word: usize) -> usize {
+        let rows = self.row(0, 0);
+        if !cfg!(apart) {
+            word
+        } else if word < rows {
+            word * LINE
+        } else {
+            (rows + (word - rows) / PLACES) * LINE + (word - rows) % PLACES
+        }
+    }
+
+    fn word(&self, word: usize) -> &AtomicU64 {
+        &self.words[self.place(word)]
+    }
+
     pub fn load(&self, word: usize) -> u64 {
-        self.words[word].load(SeqCst)
+        self.word(word).load(LOAD)
     }
 
     pub fn store(&self, word: usize, value: u64) {
-        self.words[word].store(value, SeqCst);
+        self.word(word).store(value, STORE);
+    }
+
+    /// Stores a guard that covers a row: no later load comes before it.
+    pub fn publish(&self, word: usize, value: u64) {
+        self.word(word).store(value, SeqCst);
     }
 
     /// The word before: the exchange was made where it is `old`.
     pub fn exchange(&self, word: usize, old: u64, new: u64) -> u64 {
-        match self.words[word].compare_exchange(old, new, SeqCst, SeqCst) {
+        match self.word(word).compare_exchange(old, new, CHANGE, LOAD) {
             Ok(found) | Err(found) => found,
         }
     }
 
     pub fn or(&self, word: usize, bits: u64) -> u64 {
-        self.words[word].fetch_or(bits, SeqCst)
+        self.word(word).fetch_or(bits, CHANGE)
     }
 
     pub fn and(&self, word: usize, bits: u64) -> u64 {
-        self.words[word].fetch_and(bits, SeqCst)
+        self.word(word).fetch_and(bits, CHANGE)
     }
 }
 
@@ -137,7 +170,7 @@ impl Seat {
     pub fn new(number: usize, seats: usize) -> Seat {
         Seat {
             number,
-            cursor: 0,
+            cursor: if cfg!(apart) { number * SLOTS / seats } else { 0 },
             tags: [0; INDEXES],
             span: None,
             retired: 0,
