@@ -36,9 +36,9 @@ record Keeps (layout : Layout) (ok : Event → Bool) (made : Made) : Type 0 wher
 
 steady : (layout : Layout) (ok : Event → Bool) → Tells layout ok → Steady (Keeps layout ok)
 steady layout ok t = record {
-  begins = λ made i call b y g. record {
+  begins = λ made i call b y m g. record {
     table = g.table;
-    known = inv_begin made.world i call y g.known;
+    known = inv_begin made.world i call y m g.known;
     law = (t.begins call, g.law);
   };
   steps = λ made i b y g. record { table = g.table; known = inv_kept made.world i b g.known; law = tells_each ok i (told_in made.world i) made.past (t.steps made.world i g.table b g.known) g.law };

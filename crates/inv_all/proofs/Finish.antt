@@ -6,7 +6,7 @@ use Rattle.wfe_core.specs.words.Place.{is_valid}
 use Rattle.wfe_core.specs.words.Place.Place.{Clock}
 use Rattle.wfe_core.specs.words.declared.layout.Layout.{Layout}
 use Rattle.wfe_core.specs.defs.declared.call.Call.{Call}
-use Rattle.wfe_core.specs.Locals.{Local}
+use Rattle.wfe_core.specs.Locals.{Local, may_begin}
 use Rattle.wfe_core.specs.Rest.{rest, rest_of}
 use Rattle.wfe_core.specs.World.{World, begin, step, is_busy}
 use Rattle.inv_ends.proofs.shapes.Frame.{begin_stays}
@@ -26,7 +26,7 @@ pub record Goes (layout : Layout) (w : World) : Type 0 where
   pub known : Inv w
 
 pub steady : (layout : Layout) → Steady (λ made. Goes layout made.world)
-steady layout = record { begins = λ made k call b y g. record { table = g.table; known = inv_begin made.world k call y g.known }; steps = λ made k b y g. record { table = g.table; known = inv_kept made.world k b g.known } }
+steady layout = record { begins = λ made k call b y m g. record { table = g.table; known = inv_begin made.world k call y m g.known }; steps = λ made k b y g. record { table = g.table; known = inv_kept made.world k b g.known } }
 
 other_seat : (w : World) (i k : ℕ) (same : Bool) → (i == k) ≡ same → is_busy w i ≡ true → is_busy w k ≡ false → same ≡ false
 other_seat w i k true e b f = let one : i ≡ k = grind (arith, nat_tests) in absurd (true_not_false (is_busy w k) (subst (λ (m : ℕ). is_busy w m ≡ true) one b) f)
@@ -56,7 +56,7 @@ made_step w i k false e l a h = let c : CallsEnd w k = inv_ends w k l a in let s
 item_rest : (layout : Layout) (i : ℕ) (made : Made) (item : Item) (fit : Bool) → fits made.world item ≡ fit → is_busy made.world i ≡ true → i < made.world.layout.config.seats → Goes layout made.world → is_busy (done_if made item fit).world i ≡ true → rest (done_if made item fit).world i + is_own i item ≤ rest made.world i
 item_rest layout i made (Begins k call) false f b l g h = omega arith
 item_rest layout i made (Steps k) false f b l g h = skipped made.world i k (i == k) refl b l f
-item_rest layout i made (Begins k call) true f b l g h = begin_rest made.world i k call (other_seat made.world i k (i == k) refl b (begins_right k made.world.layout.config.seats (is_busy made.world k) f))
+item_rest layout i made (Begins k call) true f b l g h = begin_rest made.world i k call (other_seat made.world i k (i == k) refl b (begins_right k made.world.layout.config.seats (is_busy made.world k) (may_begin made.world.layout.config call) f))
 item_rest layout i made (Steps k) true f b l g h = made_step made.world i k (i == k) refl (low_seat k made.world.layout.config.seats (is_busy made.world k) f) g.known h
 
 -- so the call ends among enough of them

@@ -19,7 +19,7 @@ use Rattle.wfe_core.specs.Calls.{ScanAt, ReadGuard, GiveBack, Phase, Idle, Runs,
 use Rattle.wfe_core.proofs.Facts.{first_of, rest_of, if_implies}
 use Rattle.model_history.proofs.Passes.{is_quiet, Closing, Any, First, phase_any, scan_told, step_closes}
 use Rattle.model_history.proofs.AllOf.{all_of, of_along, of_weaker}
-use Rattle.model_history.proofs.MayTell.{Tells, base_all, clear_all, step_all}
+use Rattle.model_history.proofs.MayTell.{Tells, base_all, clear_all, step_all, work_all}
 use Rattle.wfe_core.specs.World.{World, told_in, finds}
 use Rattle.wfe_core.specs.Posts.{counted}
 use Rattle.model_history.specs.Record.{Past, begins}
@@ -43,6 +43,7 @@ tells_machine base post found (events.Begin call) h = absurd (cc)
 tells_machine base post found (events.End steps answer) h = absurd (cc)
 tells_machine base post found (events.Link root slot) h = absurd (cc)
 tells_machine base post found (events.Cut slot) h = absurd (cc)
+tells_machine base post found (events.Copied from index slot) h = absurd (cc)
 tells_machine base post found (events.Put bucket version key value) h = absurd (cc)
 tells_machine base post found (events.Removed bucket version key) h = absurd (cc)
 tells_machine base post found (events.Got bucket version key value) h = absurd (cc)
@@ -80,7 +81,7 @@ first_within : (phase : Phase) (post : Post) (found : ℕ) → First Within phas
 first_within Idle post found = refl
 first_within (Runs why base) post found = base_all is_within base post found (λ event h. machine_within event (tells_machine base post found event h))
 first_within (Scans later at) post found = of_weaker is_machine is_within (scan_told at post found) machine_within (scan_machine at post found)
-first_within (Works work) post found = refl
+first_within (Works work) post found = work_all is_within (λ index slot. refl) (λ from index slot. refl) (λ seat index era. refl) work post
 
 pub told_within : (phase : Phase) (post : Post) (desk : Desk) (found : ℕ) → all_of is_within (told_by (steps.phase_turn phase post desk found)) ≡ true
 told_within phase post desk found = step_all is_within (record { quiet = quiet_within; clears = λ index slot. refl }) phase post desk found (first_within phase post found)
@@ -171,7 +172,7 @@ first_still : (phase : Phase) (post : Post) (found : ℕ) → First Still phase 
 first_still Idle post found = refl
 first_still (Runs why base) post found = base_all is_still base post found (λ event h. machine_still event (tells_machine base post found event h))
 first_still (Scans later at) post found = of_weaker is_machine is_still (scan_told at post found) machine_still (scan_machine at post found)
-first_still (Works work) post found = refl
+first_still (Works work) post found = work_all is_still (λ index slot. refl) (λ from index slot. refl) (λ seat index era. refl) work post
 
 pub told_loud : (phase : Phase) (post : Post) (desk : Desk) (found : ℕ) → one_loud (told_by (steps.phase_turn phase post desk found)) ≡ true
 told_loud phase post desk found = step_closes Still OneLoud Any loud_closing phase post desk found (phase_any phase post found) (first_still phase post found)

@@ -1,8 +1,12 @@
 -- The invariant, and that it holds at the start, when a call begins, and over each step.
-use Rattle.std.specs.Prelude.{ℕ, ◌≡◌, ◌<◌, true, false, Some}
+use Rattle.std.specs.Prelude.{ℕ, ◌≡◌, ◌<◌, true, false, Option, Some, is_some}
 use Rattle.wfe_core.specs.words.Place.{is_valid}
 use Rattle.wfe_core.specs.words.declared.layout.Layout.{Layout}
+use Rattle.wfe_core.specs.defs.declared.call.Answer.TheVariants as answers
 use Rattle.wfe_core.specs.defs.declared.call.Call.{Call}
+use Rattle.wfe_core.specs.defs.declared.event.Guard.TheVariants.{Index}
+use Rattle.wfe_core.specs.Calls.{Answers, GetAt, StoreHeld, Looks, Keeping, Works}
+use Rattle.wfe_core.specs.Locals.{may_begin, turn}
 use Rattle.wfe_core.specs.MayStep.{MayStep}
 use Rattle.wfe_core.specs.Posts.{stands}
 use Rattle.wfe_core.specs.World.{World, start, begin, step, is_busy, finds, told_in}
@@ -10,10 +14,10 @@ use Rattle.inv_ends.specs.requests.Views.{View as Asked}
 use Rattle.inv_steps_left.specs.rows.Hands.{row_move}
 use Rattle.inv_steps_left.specs.rows.Queue.{Line}
 use Rattle.inv_steps_left.specs.rows.Rows.{View}
-use Rattle.inv_ends.specs.covers.Covers.{takes_or_frees}
-use Rattle.wfe_core.specs.Guards.{own_guard}
+use Rattle.inv_ends.specs.covers.Covers.{eras_shown, takes_or_frees}
+use Rattle.wfe_core.specs.Guards.{one_era, own_guard}
 use Rattle.inv_ends.specs.covers.Held.{Holds}
-use Rattle.inv_steps_left.specs.contents.Told.{AllRight}
+use Rattle.inv_steps_left.specs.contents.Told.{AllRight, LookRight}
 use Rattle.inv_steps_left.specs.contents.Gives.{AllQueueRight}
 use Rattle.inv_all.specs.Known.{Known}
 
@@ -24,13 +28,13 @@ pub record Inv (w : World) : Type 0 where
   pub asked : Asked
   pub known : Known w rows line asked
 
--- it holds at the start of a table with a valid setting, and is kept where a call begins on a seat that is not busy, and by each
--- step of a seat of the table
+-- it holds at the start of a table with a valid setting, and is kept where a call that names indexes which it may name begins on a
+-- seat that is not busy, and by each step of a seat of the table
 abbrev pub InvStart : Type 0
 InvStart = (layout : Layout) → is_valid layout ≡ true → Inv (start layout)
 
 abbrev pub InvBegin : Type 0
-InvBegin = (w : World) (i : ℕ) (call : Call) → is_busy w i ≡ false → Inv w → Inv (begin w i call)
+InvBegin = (w : World) (i : ℕ) (call : Call) → is_busy w i ≡ false → may_begin w.layout.config call ≡ true → Inv w → Inv (begin w i call)
 
 abbrev pub InvKept : Type 0
 InvKept = (w : World) (i : ℕ) → i < w.layout.config.seats → Inv w → Inv (step w i)
@@ -39,10 +43,14 @@ InvKept = (w : World) (i : ℕ) → i < w.layout.config.seats → Inv w → Inv 
 abbrev pub InvReady : Type 0
 InvReady = (w : World) (i : ℕ) → i < w.layout.config.seats → Inv w → MayStep w i
 
--- what a step tells of the map and of the queue is right by the book before it
+-- what a step tells of the map and of the queue is right by the book before it, and so is what a look answers
 pub record TellsRight (w : World) (i : ℕ) : Type 0 where
   pub map : AllRight w.layout.config.buckets w.book (told_in w i)
   pub queue : AllQueueRight w.book (told_in w i)
+  pub looks : (index key : ℕ) (at : GetAt) (slot version : ℕ) (value : Option ℕ)
+      → (w.seat i).phase ≡ Works (Keeping (Looks index key at))
+      → (turn (w.seat i) (finds w i)).outcome ≡ Answers (answers.Looked slot version value)
+      → LookRight w.book slot version key value
 
 abbrev pub InvTells : Type 0
 InvTells = (w : World) (i : ℕ) → i < w.layout.config.seats → Inv w → TellsRight w i
@@ -54,3 +62,11 @@ pub record StandsSafe (w : World) (i k j s : ℕ) (v : View) : Type 0 where
 
 abbrev pub InvStays : Type 0
 InvStays = (w : World) (i k j s : ℕ) (a : Inv w) → stands (w.seat k).post j ≡ Some s → StandsSafe w i k j s a.rows
+
+-- between the two steps of a copy the index word that is copied publishes the era that was found, and a row still stands there
+pub record CopyUnderway (w : World) (k from era : ℕ) : Type 0 where
+  pub publishes : eras_shown w (Index k from) ≡ one_era era
+  pub stands : is_some (stands (w.seat k).post from) ≡ true
+
+abbrev pub InvCopies : Type 0
+InvCopies = (w : World) (k from index era : ℕ) → Inv w → (w.seat k).phase ≡ Works (Keeping (StoreHeld from index era)) → CopyUnderway w k from era

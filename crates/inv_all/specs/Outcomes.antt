@@ -25,6 +25,7 @@ use Rattle.inv_all.specs.Inv.{Inv}
 use Rattle.wfe_core.specs.defs.Events.{is_held}
 use Rattle.inv_ends.specs.Told.{RowWas, move_of}
 use Rattle.inv_ends.specs.Moves.{met_after, open_at}
+use Rattle.inv_ends.specs.Stands.{is_copied}
 use Rattle.inv_ends.specs.Walks.{seen_after}
 use Rattle.inv_all.specs.Sights.{Sights, sights_of}
 
@@ -47,6 +48,8 @@ pub record Outcomes (w : World) (i : ℕ) (v : View) (z : Asked) (s : Sights) : 
       → open_at tag index (z.deal k) ≡ false
   -- a row that the step holds is covered by the guard of its index from then on
   pub held : (j slot : ℕ) → list_any (is_held j slot) (told_in w i) ≡ true → Holds (step w i) (rows_after w i v) (own_guard w.layout.config.scheme i j) slot
+  -- so is a row that it copies, by the guard of the index that it is copied to
+  pub copied : (f j slot : ℕ) → list_any (is_copied f j slot) (told_in w i) ≡ true → Holds (step w i) (rows_after w i v) (own_guard w.layout.config.scheme i j) slot
   -- a row that it gives was free, one that it tells to be unused or back was its own, and one that it retires is so with a
   -- retire era that was loaded once it was cut, and with the birth era under which it was given last
   pub rows : RowWas (w.mem Clock) i v (move_of w i)

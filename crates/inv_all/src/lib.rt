@@ -5,7 +5,7 @@
 ghost use Rattle.inv_all.specs.Ends.{InvEnds};
 ghost use Rattle.inv_all.specs.Finish.{CallsFinish};
 ghost use Rattle.inv_all.specs.Histories.{InvReached, ReachedReady};
-ghost use Rattle.inv_all.specs.Inv.{InvBegin, InvKept, InvReady, InvStart, InvStays, InvTells};
+ghost use Rattle.inv_all.specs.Inv.{InvBegin, InvCopies, InvKept, InvReady, InvStart, InvStays, InvTells};
 ghost use Rattle.inv_all.specs.Outcomes.{MachinesEnd};
 ghost use Rattle.inv_all.specs.Shows.{InvShows, InvTimes};
 
@@ -14,7 +14,7 @@ pub fn inv_start()
     ensures { InvStart }
 {}
 
-/// A call that begins on a seat that is not busy keeps it.
+/// A call that begins on a seat that is not busy keeps it, where it names indexes that it may name.
 pub fn inv_begin()
     ensures { InvBegin }
 {}
@@ -41,7 +41,8 @@ pub fn reached_ready()
     ensures { ReachedReady }
 {}
 
-/// What a step tells of the map and of the queue is right by what was told before it.
+/// What a step tells of the map and of the queue is right by what was told before it, and so is what a
+/// look answers.
 pub fn inv_tells()
     ensures { InvTells }
 {}
@@ -50,6 +51,12 @@ pub fn inv_tells()
 /// seat makes it free or claims it.
 pub fn inv_stays()
     ensures { InvStays }
+{}
+
+/// Between the two steps of a copy the index word that is copied publishes the era that was found, and
+/// what stands at that index still stands.
+pub fn inv_copies()
+    ensures { InvCopies }
 {}
 
 /// A protection of Wait-Free Eras has made no more steps than it may, each step of a move of the
@@ -72,8 +79,8 @@ pub fn inv_ends()
 
 /// In each World that a history comes to: a walk for a free row ends with Full only where each row
 /// was seen taken at a step of this walk; a mover of the clock exchanges it only where no request
-/// that it saw pending is pending any more; a row that a step holds is covered by the guard of its
-/// index; and a row that is given, unused, retired or back was free or the seat's own.
+/// that it saw pending is pending any more; a row that a step holds or copies is covered by the guard
+/// of its index; and a row that is given, unused, retired or back was free or the seat's own.
 pub fn machines_end()
     ensures { MachinesEnd }
 {}

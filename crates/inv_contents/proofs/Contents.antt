@@ -1,5 +1,6 @@
 pub mod Begun
 pub mod Buckets
+pub mod Keeps
 pub mod Kept
 pub mod Lasts
 pub mod Links

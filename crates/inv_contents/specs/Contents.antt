@@ -1,22 +1,29 @@
 -- What rows of the map and of the queue show in a World, what a step owes to the other parts of the invariant for it, and that steps keep it.
-use Rattle.std.specs.Prelude.{ℕ, ◌≡◌, ◌≤◌, ◌<◌, ◌-◌, ◌==◌, ◌%◌, true, length}
+use Rattle.std.specs.Prelude.{ℕ, ◌≡◌, ◌≤◌, ◌<◌, ◌-◌, ◌==◌, ◌%◌, true, length, Some}
 use Rattle.inv_rows.specs.words.Place.{is_valid}
 use Rattle.inv_rows.specs.words.declared.layout.Layout.{Layout}
 use Rattle.inv_rows.specs.words.Place.Place.{Row}
 use Rattle.inv_rows.specs.defs.declared.call.Call.{Call}
+use Rattle.inv_rows.specs.defs.declared.event.Root.{Root}
 use Rattle.inv_rows.specs.defs.declared.event.Root.TheVariants as roots
 use Rattle.inv_rows.specs.model.declared.ends.ProtectEnd.TheVariants as protect_ends
-use Rattle.inv_rows.specs.model.Phases.{QueueRow, Base, Ends, Protected}
-use Rattle.inv_rows.specs.model.Posts.{counted}
+use Rattle.inv_rows.specs.model.declared.post.Post.{Post}
+use Rattle.inv_rows.specs.model.Locals.{may_begin}
+use Rattle.inv_rows.specs.model.Phases.{QueueRow, Aim, ProtectAt, Base, Ends, Protected}
+use Rattle.inv_rows.specs.model.Phases.Base.{Protect}
+use Rattle.inv_rows.specs.model.Posts.{counted, stands}
 use Rattle.inv_rows.specs.model.Machine.{after}
 use Rattle.inv_rows.specs.model.Rounds.{key_of}
-use Rattle.inv_rows.specs.model.Calls.{EnqueueKept, ExchangeNext, Works, Enqueuing, ChangeKept, Gets, Changes, Opens, Runs}
+use Rattle.inv_rows.specs.model.Calls.{EnqueueKept, ExchangeNext, Works, Enqueuing, ChangeKept, Gets, Changes, Holds, Opens, Runs}
 use Rattle.inv_rows.specs.model.Book.{Book}
 use Rattle.inv_rows.specs.model.World.{World, start, step, begin, finds}
 use Rattle.inv_rows.specs.Rows.{View, is_settled}
 use Rattle.inv_rows.specs.Rows.Status.{Linked}
 use Rattle.inv_rows.specs.Agree.{Agree, RowsNeeds, rows_after, first_rows}
-use Rattle.inv_contents.specs.Shelf.{Filled, shelf_of, Shows}
+use Rattle.inv_requests.specs.Parents.{rises_at}
+use Rattle.inv_requests.specs.shapes.Seats.{Seats}
+use Rattle.inv_requests.specs.shapes.Slots.{Slots}
+use Rattle.inv_contents.specs.Shelf.{Shelf, Filled, shelf_of, Shows, OfBucket}
 use Rattle.inv_contents.specs.Knows.{Ground, Knows, reads_in}
 
 abbrev pub ground_of : World → Ground
@@ -34,27 +41,38 @@ pub record Shelved (g : Ground) (book : Book) (v : View) : Type 0 where
   pub queued : (s parent : ℕ) → is_settled (v.status s) ≡ true → g.shelf.root s ≡ roots.Next parent → g.shelf.version s - 1 < length book.queued
   pub empty : (b : ℕ) → (v.root b == 0) ≡ (length (book.changes b) == 0)
 
+-- what stands at an index from 2 on was linked last to a bucket's root
+abbrev pub KeptRows : Shelf → Post → Type 0
+KeptRows a post = (j s : ℕ) → 2 ≤ j → stands post j ≡ Some s → OfBucket a s
+
 pub record Contents (w : World) (v : View) : Type 0 where
   pub rows : Shelved (ground_of w) w.book v
   pub seats : (k : ℕ) → Knows (ground_of w) (w.seat k).phase
+  pub kept : (k : ℕ) → KeptRows (shelf_of w.book) (w.seat k).post
 
 -- what a step of seat i needs of the other parts of the invariant
 pub record ContentsNeeds (w : World) (i : ℕ) (v : View) : Type 0 where
-  -- the seat's post is of this table
-  pub post : (w.seat i).post.layout ≡ w.layout
-  -- a row of which a seat has read is not given back
+  -- the table is valid, and posts, phases and slots are of it
+  pub valid : is_valid w.layout ≡ true
+  pub shapes : Seats w
+  pub slots : Slots w
+  -- a row that stands is not given back, and so is none of which a seat has read
+  pub stood : (k j s : ℕ) → stands (w.seat k).post j ≡ Some s → is_settled (v.status s) ≡ true
   pub held : (k s : ℕ) → reads_in (w.seat k).phase s ≡ true → is_settled (v.status s) ≡ true
   -- a row that was protected from a bucket's root was linked there last
   pub gets : (key slot era : ℕ) (base : Base) → (w.seat i).phase ≡ Runs (Opens (Gets key)) base → (after base (counted (w.seat i).post) (finds w i)).outcome ≡ Ends (Protected (protect_ends.Held slot era)) → (w.book.row slot).root ≡ roots.Bucket (key % w.layout.config.buckets)
   pub changes : (kept : ChangeKept) (slot era : ℕ) (base : Base) → (w.seat i).phase ≡ Runs (Opens (Changes kept)) base → (after base (counted (w.seat i).post) (finds w i)).outcome ≡ Ends (Protected (protect_ends.Held slot era)) → (w.book.row slot).root ≡ roots.Bucket (key_of kept.change % w.layout.config.buckets)
+  -- so was a row that begins to stand for a hold
+  pub holds : (key : ℕ) (aim : Aim) (index : ℕ) (root : Root) (steps : ℕ) (at : ProtectAt) (s : ℕ) → (w.seat i).phase ≡ Runs (Opens (Holds key)) (Protect aim index root steps at) → rises_at (w.seat i).post at (finds w i) s ≡ true → (w.book.row s).root ≡ roots.Bucket (key % w.layout.config.buckets)
   -- an enqueue that finds the tail's next link null has read the last row's number
   pub last : (kept : EnqueueKept) (slot : ℕ) → (w.seat i).phase ≡ Works (Enqueuing kept (ExchangeNext slot)) → w.mem (Row kept.tail 0) ≡ 0 → kept.number ≡ length w.book.queued
 
 abbrev pub ContentsStart : Type 0
 ContentsStart = (layout : Layout) → is_valid layout ≡ true → Contents (start layout) (first_rows layout)
 
+-- the index that a look names is from 2 on
 abbrev pub ContentsBegin : Type 0
-ContentsBegin = (w : World) (i : ℕ) (call : Call) (v : View) → Contents w v → Contents (begin w i call) v
+ContentsBegin = (w : World) (i : ℕ) (call : Call) (v : View) → may_begin w.layout.config call ≡ true → Contents w v → Contents (begin w i call) v
 
 abbrev pub ContentsKept : Type 0
 ContentsKept = (w : World) (i : ℕ) (v : View) → RowsNeeds w i v → ContentsNeeds w i v → Agree w v → Contents w v → Contents (step w i) (rows_after w i v)

@@ -1,5 +1,5 @@
 -- What a seat's phase knows of rows: what it has read of a row that stands, and what it has written of its own.
-use Rattle.std.specs.Prelude.{ℕ, ◌≡◌, ◌<◌, ◌+◌, ◌*◌, ◌%◌, ◌==◌, Bool, false, List, [], length, take, drop, slice_index_or, Some}
+use Rattle.std.specs.Prelude.{ℕ, ◌≡◌, ◌<◌, ◌+◌, ◌*◌, ◌%◌, ◌==◌, Bool, true, false, List, [], length, take, drop, slice_index_or, Some}
 use Rattle.inv_rows.specs.words.Place.{Place}
 use Rattle.inv_rows.specs.defs.Pairs.{Pair, changed, value_in}
 use Rattle.inv_rows.specs.defs.declared.event.Root.TheVariants as roots
@@ -8,7 +8,7 @@ use Rattle.inv_rows.specs.model.Phases.Base.{Begin, Protect, Reload, Clear, Fini
 use Rattle.inv_rows.specs.model.Rounds.{key_of}
 use Rattle.inv_rows.specs.model.Change.{new_row}
 use Rattle.inv_rows.specs.model.Enqueue.{new_item}
-use Rattle.inv_rows.specs.model.Calls.{EnqueueKept, EnqueueAt, LoadNumber, LoadNext, PassTail, ExchangeNext, ExchangeTail, ChangeKept, Task, Gets, Changes, Holds, Enqueues, Dequeues, Why, Opens, FollowsHead, Fills, GetAt, FindVersion, FindCount, FindKey, FindValue, ChangeAt, LoadVersion, LoadCount, LoadKey, LoadValue, ExchangeRoot, Work, Getting, Changing, Enqueuing, Dequeuing, Phase, Idle, Runs, Scans, Works}
+use Rattle.inv_rows.specs.model.Calls.{EnqueueKept, EnqueueAt, LoadNumber, LoadNext, PassTail, ExchangeNext, ExchangeTail, ChangeKept, Task, Gets, Changes, Holds, Enqueues, Dequeues, Why, Opens, FollowsHead, Fills, GetAt, FindVersion, FindCount, FindKey, FindValue, ChangeAt, LoadVersion, LoadCount, LoadKey, LoadValue, ExchangeRoot, KeepAt, Looks, Work, Getting, Changing, Enqueuing, Dequeuing, Keeping, Phase, Idle, Runs, Scans, Works}
 use Rattle.inv_contents.specs.Shelf.{Shelf, Filled}
 
 -- what a seat's knowledge is of: the number of buckets, what rows show by the book, and the words
@@ -21,29 +21,35 @@ pub record Ground : Type 0 where
 abbrev pub pair_at : List Pair → ℕ → Pair
 pair_at pairs n = slice_index_or pairs n (0, 0)
 
--- a row of the key's bucket, whose version was read
-pub record FoundRow (g : Ground) (key slot version : ℕ) : Type 0 where
-  pub root : g.shelf.root slot ≡ roots.Bucket (key % g.buckets)
+-- a row of the bucket, whose version was read
+pub record FoundRow (g : Ground) (bucket slot version : ℕ) : Type 0 where
+  pub root : g.shelf.root slot ≡ roots.Bucket bucket
   pub shown : version ≡ g.shelf.version slot
 
 -- the key is none of the first so many pairs
-pub record FoundKeys (g : Ground) (key slot version count pair : ℕ) : Type 0 where
-  pub row : FoundRow g key slot version
+pub record FoundKeys (g : Ground) (bucket key slot version count pair : ℕ) : Type 0 where
+  pub row : FoundRow g bucket slot version
   pub counted : count ≡ length (g.shelf.pairs slot)
   pub more : pair < count
   pub value : value_in (g.shelf.pairs slot) key ≡ value_in (drop pair (g.shelf.pairs slot)) key
 
 -- the key is that of a pair
-pub record FoundOwn (g : Ground) (key slot version pair : ℕ) : Type 0 where
-  pub row : FoundRow g key slot version
+pub record FoundOwn (g : Ground) (bucket key slot version pair : ℕ) : Type 0 where
+  pub row : FoundRow g bucket slot version
   pub more : pair < length (g.shelf.pairs slot)
   pub value : value_in (g.shelf.pairs slot) key ≡ Some (pair_at (g.shelf.pairs slot) pair).1
 
-abbrev pub GetKnows : Ground → ℕ → GetAt → Type 0
-GetKnows g key (FindVersion slot) = g.shelf.root slot ≡ roots.Bucket (key % g.buckets)
-GetKnows g key (FindCount slot version) = FoundRow g key slot version
-GetKnows g key (FindKey slot version count pair) = FoundKeys g key slot version count pair
-GetKnows g key (FindValue slot version pair) = FoundOwn g key slot version pair
+-- a key is looked for in a row of the bucket
+abbrev pub GetKnows : Ground → (bucket key : ℕ) → GetAt → Type 0
+GetKnows g bucket key (FindVersion slot) = g.shelf.root slot ≡ roots.Bucket bucket
+GetKnows g bucket key (FindCount slot version) = FoundRow g bucket slot version
+GetKnows g bucket key (FindKey slot version count pair) = FoundKeys g bucket key slot version count pair
+GetKnows g bucket key (FindValue slot version pair) = FoundOwn g bucket key slot version pair
+
+-- a look reads a row of some bucket
+pub record LookKnows (g : Ground) (key : ℕ) (at : GetAt) : Type 0 where
+  pub bucket : ℕ
+  pub reads : GetKnows g bucket key at
 
 -- the bucket that is changed
 abbrev pub changes_in : Ground → ChangeKept → ℕ
@@ -104,7 +110,7 @@ FillKnows g kept (Protect aim index root steps at) = Decided g kept
 FillKnows g kept (Reload parent index slot era steps) = Decided g kept
 FillKnows g kept (Clear index) = Decided g kept
 FillKnows g kept Finish = Decided g kept
-FillKnows g kept Release = Decided g kept
+FillKnows g kept (Release index) = Decided g kept
 FillKnows g kept (Allocate at) = Decided g kept
 FillKnows g kept (Write slot row place) = Writing g kept slot row place
 FillKnows g kept (GiveUp slot) = Decided g kept
@@ -122,7 +128,7 @@ ItemKnows g kept (Protect aim index root steps at) = Unit {0}
 ItemKnows g kept (Reload parent index slot era steps) = Unit {0}
 ItemKnows g kept (Clear index) = Unit {0}
 ItemKnows g kept Finish = Unit {0}
-ItemKnows g kept Release = Unit {0}
+ItemKnows g kept (Release index) = Unit {0}
 ItemKnows g kept (Allocate at) = Unit {0}
 ItemKnows g kept (Write slot row place) = WritingItem g kept slot row place
 ItemKnows g kept base = Unit {0}
@@ -147,11 +153,16 @@ WhyKnows g (FollowsHead head tail) base = Unit {0}
 WhyKnows g (Fills task) base = TaskKnows g task base
 WhyKnows g why base = Unit {0}
 
+abbrev pub KeepKnows : Ground → KeepAt → Type 0
+KeepKnows g (Looks index key at) = LookKnows g key at
+KeepKnows g at = Unit {0}
+
 abbrev pub WorkKnows : Ground → Work → Type 0
-WorkKnows g (Getting key at) = GetKnows g key at
+WorkKnows g (Getting key at) = GetKnows g (key % g.buckets) key at
 WorkKnows g (Changing kept at) = ChangeKnows g kept at
 WorkKnows g (Enqueuing kept at) = EnqueueKnows g kept at
 WorkKnows g (Dequeuing at) = Unit {0}
+WorkKnows g (Keeping at) = KeepKnows g at
 
 -- what a seat knows of rows
 abbrev pub Knows : Ground → Phase → Type 0
@@ -159,6 +170,11 @@ Knows g Idle = Unit {0}
 Knows g (Runs why base) = WhyKnows g why base
 Knows g (Scans later at) = Unit {0}
 Knows g (Works work) = WorkKnows g work
+
+-- a look is under way
+abbrev pub looks_in : Phase → Bool
+looks_in (Works (Keeping (Looks index key at))) = true
+looks_in phase = false
 
 -- the rows that it knows of
 
@@ -179,13 +195,18 @@ why_reads (FollowsHead head tail) s = false
 why_reads (Fills task) s = task_reads task s
 why_reads why s = false
 
+abbrev pub keep_reads : KeepAt → ℕ → Bool
+keep_reads (Looks index key at) s = get_reads at s
+keep_reads at s = false
+
 abbrev pub work_reads : Work → ℕ → Bool
 work_reads (Getting key at) s = get_reads at s
 work_reads (Changing kept at) s = kept.link == s + 1
 work_reads (Enqueuing kept at) s = false
 work_reads (Dequeuing at) s = false
+work_reads (Keeping at) s = keep_reads at s
 
--- a get or a change goes on with what it read of row s
+-- a get, a change or a look goes on with what it read of row s
 abbrev pub reads_in : Phase → ℕ → Bool
 reads_in Idle s = false
 reads_in (Runs why base) s = why_reads why s
@@ -200,7 +221,7 @@ base_owns (Protect aim index root steps at) s = false
 base_owns (Reload parent index slot era steps) s = false
 base_owns (Clear index) s = false
 base_owns Finish s = false
-base_owns Release s = false
+base_owns (Release index) s = false
 base_owns (Allocate at) s = false
 base_owns (Write slot row place) s = slot == s
 base_owns base s = false
@@ -230,6 +251,7 @@ work_owns (Getting key at) s = false
 work_owns (Changing kept at) s = change_owns at s
 work_owns (Enqueuing kept at) s = enqueue_owns at s
 work_owns (Dequeuing at) s = false
+work_owns (Keeping at) s = false
 
 abbrev pub owns_in : Phase → ℕ → Bool
 owns_in Idle s = false

@@ -1,6 +1,6 @@
 -- What a seat that enqueues or dequeues has read of the queue's rows.
 use Rattle.std.specs.Prelude.{ℕ, ◌≡◌, ◌<◌, ◌-◌, ◌==◌, ◌&&◌, Bool, true, false, List, slice_index_or}
-use Rattle.inv_rows.specs.model.Calls.{EnqueueKept, Task, Gets, Changes, Holds, Enqueues, Dequeues, Why, Opens, FollowsHead, Fills, EnqueueAt, LoadNumber, LoadNext, PassTail, ExchangeNext, ExchangeTail, DequeueAt, LoadTail, SwingTail, TakeNumber, TakeValue, ExchangeHead, Work, Getting, Changing, Enqueuing, Dequeuing, Phase, Idle, Runs, Scans, Works}
+use Rattle.inv_rows.specs.model.Calls.{EnqueueKept, Task, Gets, Changes, Holds, Enqueues, Dequeues, Why, Opens, FollowsHead, Fills, EnqueueAt, LoadNumber, LoadNext, PassTail, ExchangeNext, ExchangeTail, DequeueAt, LoadTail, SwingTail, TakeNumber, TakeValue, ExchangeHead, Work, Getting, Changing, Enqueuing, Dequeuing, Keeping, Phase, Idle, Runs, Scans, Works}
 use Rattle.inv_rows.specs.Queue.{Line}
 use Rattle.inv_contents.specs.Stands.{nexts_in}
 
@@ -43,6 +43,7 @@ work_numbers (Getting key at) t n = false
 work_numbers (Changing kept at) t n = false
 work_numbers (Enqueuing kept at) t n = enqueue_numbers kept at t n
 work_numbers (Dequeuing at) t n = dequeue_numbers at t n
+work_numbers (Keeping at) t n = false
 
 -- it has read the number n of row t: an enqueue of the tail's row, a dequeue of the row after the head
 abbrev pub numbers_in : Phase → ℕ → ℕ → Bool
@@ -63,6 +64,7 @@ work_values (Getting key at) t x = false
 work_values (Changing kept at) t x = false
 work_values (Enqueuing kept at) t x = false
 work_values (Dequeuing at) t x = dequeue_values at t x
+work_values (Keeping at) t x = false
 
 -- a dequeue has read the value x of row t
 abbrev pub values_in : Phase → ℕ → ℕ → Bool

@@ -43,6 +43,11 @@ shelf_of book =
       value = λ s. value_by book.queued (book.row s).root (book.row s).version;
     }
 
+-- the slot was linked last to a bucket's root
+pub record OfBucket (a : Shelf) (slot : ℕ) : Type 0 where
+  pub bucket : ℕ
+  pub root : a.root slot ≡ roots.Bucket bucket
+
 -- the words of a slot from place 1 up to below a place are those of a row
 abbrev pub Filled : (Place → ℕ) → ℕ → RowOf → ℕ → Type 0
 Filled mem slot row place = (q : ℕ) → 1 ≤ q → q < place → mem (Row slot q) ≡ row_word row q

@@ -1,11 +1,11 @@
--- Each row that a call works on stands at an index of its seat: what it has protected and reads on at index 0, and the row
--- after the head that a dequeue has followed at index 1.
+-- Each row that a call works on stands at an index of its seat: what it has protected and reads on at index 0, the row after
+-- the head that a dequeue has followed at index 1, and what a look reads at the index that it looks at.
 use Rattle.std.specs.Prelude.{ℕ, ◌≡◌, ◌==◌, Bool, true, false, Some}
 use Rattle.inv_rows.specs.words.declared.layout.Layout.{Layout}
 use Rattle.inv_rows.specs.defs.declared.call.Call.{Call}
 use Rattle.inv_rows.specs.model.declared.post.Post.{Post}
 use Rattle.inv_rows.specs.model.Posts.{stands}
-use Rattle.inv_rows.specs.model.Calls.{DequeueAt, LoadTail, SwingTail, TakeNumber, TakeValue, ExchangeHead, Work, Getting, Changing, Enqueuing, Dequeuing, Phase, Idle, Runs, Scans, Works}
+use Rattle.inv_rows.specs.model.Calls.{DequeueAt, LoadTail, SwingTail, TakeNumber, TakeValue, ExchangeHead, Looks, Work, Getting, Changing, Enqueuing, Dequeuing, Keeping, Phase, Idle, Runs, Scans, Works}
 use Rattle.inv_rows.specs.model.World.{World, start, begin, step}
 use Rattle.inv_requests.specs.shapes.Seats.{Seats}
 use Rattle.inv_requests.specs.Parents.{Parents}
@@ -24,6 +24,7 @@ work_nexts (Getting key at) s = false
 work_nexts (Changing kept at) s = false
 work_nexts (Enqueuing kept at) s = false
 work_nexts (Dequeuing at) s = dequeue_nexts at s
+work_nexts (Keeping at) s = false
 
 -- a dequeue has followed the head's next link to row s
 abbrev pub nexts_in : Phase → ℕ → Bool
@@ -32,10 +33,15 @@ nexts_in (Runs why base) s = false
 nexts_in (Scans later at) s = false
 nexts_in (Works work) s = work_nexts work s
 
+-- the index at which stands what the call has read of
+abbrev pub read_index : Phase → ℕ
+read_index (Works (Keeping (Looks index key at))) = index
+read_index phase = 0
+
 -- what a get or a change has read, and the row of the queue that a call found at the tail or at the head, stand at index 0;
--- the row after the head at index 1
+-- what a look has read at the index that it looks at; and the row after the head at index 1
 pub record Stood (phase : Phase) (post : Post) : Type 0 where
-  pub reads : (s : ℕ) → reads_in phase s ≡ true → stands post 0 ≡ Some s
+  pub reads : (s : ℕ) → reads_in phase s ≡ true → stands post (read_index phase) ≡ Some s
   pub queue : (s : ℕ) → stands_on phase s ≡ true → stands post 0 ≡ Some s
   pub nexts : (s : ℕ) → nexts_in phase s ≡ true → stands post 1 ≡ Some s
 

@@ -2,9 +2,13 @@
 use Rattle.std.specs.Prelude.{ℕ, ◌≡◌, ◌≤◌, ◌+◌, ◌%◌, List, [], ◌∷◌, length, take, Option}
 use Rattle.inv_rows.specs.defs.Pairs.{pairs_after, value_in}
 use Rattle.inv_rows.specs.defs.declared.event.Event.{Event}
+use Rattle.inv_rows.specs.defs.declared.call.Answer.TheVariants as answers
 use Rattle.inv_rows.specs.defs.declared.event.Event.TheVariants as events
+use Rattle.inv_rows.specs.defs.declared.event.Root.TheVariants as roots
 use Rattle.inv_rows.specs.model.Book.{Book}
-use Rattle.inv_rows.specs.model.World.{World, told_in}
+use Rattle.inv_rows.specs.model.Calls.{Answers, GetAt, Looks, Keeping, Works}
+use Rattle.inv_rows.specs.model.Locals.{turn}
+use Rattle.inv_rows.specs.model.World.{World, finds, told_in}
 use Rattle.inv_rows.specs.Rows.{View}
 use Rattle.inv_rows.specs.Agree.{Agree, RowsNeeds}
 use Rattle.inv_contents.specs.Contents.{Contents, ContentsNeeds}
@@ -34,3 +38,17 @@ AllRight n a (event ∷ told) = TellsRight n a event × AllRight n a told
 -- all that a step tells of the map is right by the book before it
 abbrev pub ContentsTold : Type 0
 ContentsTold = (w : World) (i : ℕ) (v : View) → RowsNeeds w i v → ContentsNeeds w i v → Agree w v → Contents w v → AllRight w.layout.config.buckets w.book (told_in w i)
+
+-- a look answers the version under which its row was linked to a bucket, and the key's value among the pairs at that version
+pub record LookRight (a : Book) (slot version key : ℕ) (value : Option ℕ) : Type 0 where
+  pub bucket : ℕ
+  pub root : (a.row slot).root ≡ roots.Bucket bucket
+  pub shown : version ≡ (a.row slot).version
+  pub was : version ≤ length (a.changes bucket)
+  pub right : value ≡ value_in (pairs_after (take version (a.changes bucket))) key
+
+abbrev pub ContentsLooked : Type 0
+ContentsLooked =
+    (w : World) (i : ℕ) (v : View) (index key : ℕ) (at : GetAt) (slot version : ℕ) (value : Option ℕ) → ContentsNeeds w i v → Contents w v
+    → (w.seat i).phase ≡ Works (Keeping (Looks index key at)) → (turn (w.seat i) (finds w i)).outcome ≡ Answers (answers.Looked slot version value)
+    → LookRight w.book slot version key value

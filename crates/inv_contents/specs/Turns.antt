@@ -11,7 +11,7 @@ use Rattle.inv_rows.specs.model.Desks.{Desk}
 use Rattle.inv_rows.specs.model.Machine as machine
 use Rattle.inv_rows.specs.model.Phases.{Ending, Outcome, Goes, Ends}
 use Rattle.inv_rows.specs.model.Phases.Ending.{Done, Protected, Followed, Allocated, Retired, Clocked}
-use Rattle.inv_rows.specs.model.Calls.{ChangeKept, EnqueueKept, Why, Opens, FollowsHead, ChangeAt, LoadVersion, LoadCount, LoadKey, LoadValue, ExchangeRoot, EnqueueAt, LoadNumber, LoadNext, PassTail, ExchangeNext, ExchangeTail, DequeueAt, LoadTail, SwingTail, TakeNumber, TakeValue, ExchangeHead, Work, Getting, Changing, Enqueuing, Dequeuing, Phase, Idle, Runs, Scans, Works, CallTurn}
+use Rattle.inv_rows.specs.model.Calls.{ChangeKept, EnqueueKept, Why, Opens, FollowsHead, ChangeAt, LoadVersion, LoadCount, LoadKey, LoadValue, ExchangeRoot, EnqueueAt, LoadNumber, LoadNext, PassTail, ExchangeNext, ExchangeTail, DequeueAt, LoadTail, SwingTail, TakeNumber, TakeValue, ExchangeHead, Work, Getting, Changing, Enqueuing, Dequeuing, Keeping, Phase, Idle, Runs, Scans, Works, CallTurn}
 use Rattle.inv_rows.specs.model.Steps.{phase_turn, first_phase}
 use Rattle.inv_requests.specs.shapes.Frame.{phase_left}
 use Rattle.inv_rows.specs.Queue.{Line}
@@ -62,6 +62,7 @@ work_hits (Getting key at) found = false
 work_hits (Changing kept at) found = change_hits kept at found
 work_hits (Enqueuing kept at) found = enqueue_hits at found
 work_hits (Dequeuing at) found = dequeue_hits at found
+work_hits (Keeping at) found = false
 
 abbrev pub hits : Phase → ℕ → Bool
 hits Idle found = false
@@ -90,6 +91,7 @@ work_right l queued (Getting key at) found = Unit {0}
 work_right l queued (Changing kept at) found = Unit {0}
 work_right l queued (Enqueuing kept at) found = enqueue_right l kept at found
 work_right l queued (Dequeuing at) found = dequeue_right l queued at found
+work_right l queued (Keeping at) found = Unit {0}
 
 -- the row that was followed was in the queue since it was claimed last, behind another
 pub record NextRight (l : Line) (slot : ℕ) : Type 0 where

@@ -9,10 +9,10 @@ ghost use Rattle.inv_contents.specs.Contents.{ContentsBegin, ContentsKept, Conte
 ghost use Rattle.inv_contents.specs.Gives.{EmptyRight, ItemsCount, ItemsTold, LastNumber, WorkFinds};
 ghost use Rattle.inv_contents.specs.Items.{ItemsBegin, ItemsKept, ItemsStart};
 ghost use Rattle.inv_contents.specs.Stands.{StandsBegin, StandsKept, StandsStart};
-ghost use Rattle.inv_contents.specs.Told.{ContentsTold};
+ghost use Rattle.inv_contents.specs.Told.{ContentsLooked, ContentsTold};
 ghost use Rattle.inv_contents.specs.Turns.{CallsBegin, CallsRead, MuteBooks};
 
-/// At the start of a table each bucket is empty, and no seat knows anything of a row.
+/// At the start of a table each bucket is empty, no seat knows anything of a row, and none stands.
 pub fn contents_start()
     ensures { ContentsStart }
 {}
@@ -28,7 +28,8 @@ pub fn contents_begin()
 /// change has read of a row is what the row shows, what a change writes are the pairs that it read
 /// with the change, and where it exchanges the root they are those of the bucket's last version
 /// with the change. A row that was linked behind another in the queue shows its number and the value
-/// that was queued under it.
+/// that was queued under it. A row that stands at an index from 2 on was linked to a bucket last, and
+/// what a look has read of it is what it shows.
 pub fn contents_kept()
     ensures { ContentsKept }
 {}
@@ -38,6 +39,12 @@ pub fn contents_kept()
 /// version of its key's bucket; an enqueue tells the next number.
 pub fn contents_told()
     ensures { ContentsTold }
+{}
+
+/// A look answers the version under which the row that it looks at was linked to its bucket, and the
+/// key's value among the bucket's pairs at that version.
+pub fn contents_looked()
+    ensures { ContentsLooked }
 {}
 
 /// A bucket's root is null exactly while the bucket was not changed. Else the row that it leads to
@@ -64,8 +71,9 @@ pub fn stands_begin()
 {}
 
 /// Each step of a seat keeps it: what a get or a change has read of, and the row of the queue that a
-/// call found at the tail or at the head, stand at index 0 as long as the call works on them, and the
-/// row after the head that a dequeue has followed stands at index 1.
+/// call found at the tail or at the head, stand at index 0 as long as the call works on them, the row
+/// after the head that a dequeue has followed stands at index 1, and what a look has read of stands
+/// at the index that it looks at.
 pub fn stands_kept()
     ensures { StandsKept }
 {}

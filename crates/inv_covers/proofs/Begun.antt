@@ -1,33 +1,28 @@
 -- What guards hold at the start and where a call begins, and what that gives.
-use Rattle.std.proofs.Common.{ℕ, zero, suc, ◌≡◌, ◌∙◌, sym, subst, true, false, arith, refl, Bool, Option, Some, None}
+use Rattle.std.proofs.Common.{ℕ, zero, suc, ◌≡◌, ◌∙◌, sym, subst, true, false, arith, refl, Bool, Some}
 use Rattle.std.proofs.lemmas.Bool.Decides.{nat_tests}
 use Rattle.std.specs.Prelude.{◌==◌, if◌then◌else◌}
 use Rattle.inv_shapes.specs.words.Place.Place.{Clock}
 use Rattle.inv_shapes.specs.words.declared.layout.Layout.{Layout}
 use Rattle.inv_shapes.specs.defs.declared.call.Call.{Call}
-use Rattle.inv_shapes.specs.defs.declared.call.Call.TheVariants as names
 use Rattle.inv_shapes.specs.defs.declared.event.Guard.{Guard}
 use Rattle.inv_shapes.specs.defs.declared.lifetime.Lifetime.{Lifetime}
-use Rattle.inv_shapes.specs.model.declared.post.Post.{Post}
 use Rattle.inv_shapes.specs.model.Guards.{guards, own_guard}
 use Rattle.inv_shapes.specs.model.Posts.{new_post, stands}
 use Rattle.inv_shapes.specs.model.Phases.{Base}
-use Rattle.inv_shapes.specs.model.Rounds.{scheme_of, release_base}
-use Rattle.inv_shapes.specs.model.Steps.{first_phase, holding}
-use Rattle.inv_shapes.specs.model.Calls.{Gets, Changes, Holds as ToHold, Enqueues, Dequeues, Releases, Why, Phase, Runs}
+use Rattle.inv_shapes.specs.model.Steps.{first_phase}
+use Rattle.inv_shapes.specs.model.Calls.{Why, Phase, Runs}
 use Rattle.inv_shapes.specs.model.Locals.{Local, begun, begun_post}
 use Rattle.inv_shapes.specs.model.World.{World, begin}
-use Rattle.inv_shapes.specs.words.declared.config.SchemeKind.{SchemeKind}
 use Rattle.inv_rows.specs.Rows.{View}
 use Rattle.inv_covers.specs.Covers.{has_met, life_of, number_of, Covers}
-use Rattle.inv_covers.specs.Tries.{is_start, starts_base, Begins}
+use Rattle.inv_covers.specs.Tries.{is_start, starts_base}
 use Rattle.inv_covers.specs.Held.{tries_base, index_base, Holds, Held, HeldStart, HeldBegin, StandingStays}
-use Rattle.inv_covers.proofs.Fresh.{round_fresh}
+pub use Rattle.inv_covers.proofs.Fresh.{first_begins}
 use Rattle.inv_covers.proofs.Kept.{not_reused}
 use Rattle.inv_covers.proofs.Scans.{fresh_met}
 use Rattle.inv_covers.proofs.Tried.{start_untried}
 use Rattle.inv_shapes.proofs.model.Facts.{no_truth}
-use Rattle.inv_shapes.proofs.model.Schemes.{each_release}
 
 -- nothing stands in a new post
 pub new_stands : (seat : ℕ) (layout : Layout) (j s : ℕ) → stands (new_post seat layout) j ≡ Some s → false ≡ true
@@ -48,24 +43,6 @@ held_start layout v = record {
 }
 
 -- a call begins
-release_begins : (key : Option ℕ) (scheme : SchemeKind) → Begins (Runs (Releases key) (release_base scheme))
-release_begins key scheme = each_release scheme (λ (base : Base). Begins (Runs (Releases key) base)) (record { fresh = refl; starts = refl }) (record { fresh = refl; starts = refl })
-
-holding_begins : (key : ℕ) (post : Post) (x : Option ℕ) → Begins (holding key post x)
-holding_begins key post None = round_fresh (ToHold key) post
-holding_begins key post (Some slot) = release_begins (Some key) (scheme_of post)
-
-pub first_begins : (call : Call) (post : Post) → Begins (first_phase call post)
-first_begins (names.Get key) post = round_fresh (Gets key) post
-first_begins (names.Put key value) post = round_fresh (Changes _) post
-first_begins (names.Remove key) post = round_fresh (Changes _) post
-first_begins (names.Enqueue value) post = round_fresh (Enqueues _) post
-first_begins names.Dequeue post = round_fresh Dequeues post
-first_begins (names.Hold key) post = holding_begins key post (stands post 2)
-first_begins names.Release post = release_begins None (scheme_of post)
-first_begins names.Advance post = record { fresh = refl; starts = refl }
-first_begins names.Scan post = record { fresh = refl; starts = refl }
-
 abbrev MetOf : ℕ → ℕ → Lifetime → Local → Type 0
 MetOf all number life l = has_met all l.phase l.desk.report number life ≡ true
 

@@ -10,7 +10,7 @@ use Rattle.inv_shapes.specs.defs.declared.event.Root.TheVariants as roots
 use Rattle.inv_shapes.specs.model.declared.post.Post.{Post}
 use Rattle.inv_shapes.specs.model.Desks.{Desk, noting}
 use Rattle.inv_shapes.specs.model.Guards.{guards, guard_at, eras_in, published}
-use Rattle.inv_shapes.specs.model.Posts.{stands, upper, with_row, counted}
+use Rattle.inv_shapes.specs.model.Posts.{stands, withdrawn, upper, with_row, counted}
 use Rattle.inv_shapes.specs.model.Phases.BeginAt.{LoadLower, PublishSpan}
 use Rattle.inv_shapes.specs.model.Phases.{BeginAt, Aim, Alone, Follows, Base, ProtectAt, Ending, Outcome, Goes, Ends, Turn, goes, ends}
 use Rattle.inv_shapes.specs.model.Phases.ProtectAt.{LoadClock, PublishEra, LoadLink, CheckClock, LoadWithin, CheckUpper, RaiseUpper}
@@ -20,10 +20,10 @@ use Rattle.inv_shapes.specs.model.Protect.{protect_end, held_post, told_held, fa
 use Rattle.inv_shapes.specs.model.Memory.{bump}
 use Rattle.inv_shapes.specs.model.declared.ends.FollowEnd.TheVariants as follow_ends
 use Rattle.inv_shapes.specs.model.Machine.{after, protect_turn}
-use Rattle.inv_shapes.specs.model.Rounds.{index_of}
+use Rattle.inv_shapes.specs.model.Rounds.{scheme_of, index_of, kept_row, release_span, let_index, letting_by, letting}
 use Rattle.inv_shapes.specs.model.Scan.{Entry, scanned, giving_back, reading, unmet_from, with_kept, with_read, with_back, scan_turn}
-use Rattle.inv_shapes.specs.model.Steps.{resumed, phase_turn, holding, first_phase}
-use Rattle.inv_shapes.specs.model.Calls.{Task, Gets, Changes, Holds, Enqueues, Dequeues, AfterScan, Answered, Repeated, Counted, ScanAt, ReadGuard, GiveBack, Why, Opens, FollowsHead, Fills, ClearsNext, Clears, Finishes, GivesUp, Retires, Tidies, Advances, Releases, Phase, Idle, Runs, Scans, Works, CallTurn, CallOutcome, GoesOn, Answers}
+use Rattle.inv_shapes.specs.model.Steps.{resumed, phase_turn, holding, copying, looking_at, first_phase}
+use Rattle.inv_shapes.specs.model.Calls.{Task, Gets, Changes, Holds, Enqueues, Dequeues, AfterScan, Answered, Repeated, Counted, ScanAt, ReadGuard, GiveBack, Why, Opens, FollowsHead, Fills, ClearsNext, Clears, Finishes, GivesUp, Retires, Tidies, Advances, Releases, LetGo, Released, Rehold, Dropped, Phase, Idle, Runs, Scans, Works, CallTurn, CallOutcome, GoesOn, Answers}
 use Rattle.inv_shapes.specs.Seats.{task_root, root_by, protect_fits, Run}
 use Rattle.inv_shapes.specs.words.Schemes.{helps}
 use Rattle.inv_shapes.specs.model.declared.ends.ProtectEnd.TheVariants as protect_ends
@@ -38,6 +38,7 @@ use Rattle.inv_covers.specs.Parents.{has_parent_why, Parent, ParentsStart, Paren
 use Rattle.inv_covers.proofs.Parents.{Tended, stood_task, stood_why, round_tends, work_tends, resume_tends}
 use Rattle.inv_shapes.proofs.model.Standing.{stands-with_row_same}
 use Rattle.inv_shapes.proofs.model.Facts.{no_truth}
+use Rattle.inv_shapes.proofs.model.Schemes.{each_release}
 
 -- a scan follows no link
 scanned_tends : (later : AfterScan) (post : Post) (desk : Desk) (told : List Event) → Tended (scanned later post desk told)
@@ -145,7 +146,7 @@ run_gives layout (Opens task) (Protect aim index root steps at) last post found 
 run_gives layout (Opens task) (Reload parent index slot era steps) last post found w r l h = absurd (no_truth r.suited)
 run_gives layout (Opens task) (Clear index) last post found w r l h = absurd (no_truth r.suited)
 run_gives layout (Opens task) Finish last post found w r l h = absurd (no_truth r.suited)
-run_gives layout (Opens task) Release last post found w r l h = absurd (no_truth r.suited)
+run_gives layout (Opens task) (Release index) last post found w r l h = absurd (no_truth r.suited)
 run_gives layout (Opens task) (Allocate at) last post found w r l h = absurd (no_truth r.suited)
 run_gives layout (Opens task) (Write slot row place) last post found w r l h = absurd (no_truth r.suited)
 run_gives layout (Opens task) (GiveUp slot) last post found w r l h = absurd (no_truth r.suited)
@@ -156,7 +157,7 @@ run_gives layout (FollowsHead head tail) (Protect aim index root steps at) last 
 run_gives layout (FollowsHead head tail) (Reload parent index slot era steps) last post found w r l h = ends_gives head tail (ends (with_row post index slot) (events.Held index slot (bump steps) ∷ []) (Followed (follow_ends.Followed slot))) (ends post [] (Followed (follow_ends.RootMoved found))) (found == parent + 1) tt tt
 run_gives layout (FollowsHead head tail) (Clear index) last post found w r l h = absurd (no_truth r.suited)
 run_gives layout (FollowsHead head tail) Finish last post found w r l h = absurd (no_truth r.suited)
-run_gives layout (FollowsHead head tail) Release last post found w r l h = absurd (no_truth r.suited)
+run_gives layout (FollowsHead head tail) (Release index) last post found w r l h = absurd (no_truth r.suited)
 run_gives layout (FollowsHead head tail) (Allocate at) last post found w r l h = absurd (no_truth r.suited)
 run_gives layout (FollowsHead head tail) (Write slot row place) last post found w r l h = absurd (no_truth r.suited)
 run_gives layout (FollowsHead head tail) (GiveUp slot) last post found w r l h = absurd (no_truth r.suited)
@@ -202,9 +203,27 @@ parents_kept w i f n r = record {
 pub parents_start : ParentsStart
 parents_start layout = record { stand = λ k row h. absurd (cc) }
 
+let_span_tends : (let_go : LetGo) (post : Post) (x : Option ℕ) → Parent (letting_by let_go (release_span (let_index let_go) x)) post
+let_span_tends let_go post None = λ row h. absurd (cc)
+let_span_tends let_go post (Some slot) = λ row h. absurd (cc)
+
+letting_tends : (let_go : LetGo) (post : Post) → Parent (letting let_go post) post
+letting_tends let_go post =
+    each_release (scheme_of post) post (let_index let_go) (λ (x : Option Base). Parent (letting_by let_go x) post)
+    (λ row h. absurd (cc))
+    (let_span_tends let_go post (kept_row (withdrawn post (let_index let_go))))
+
+copying_tends : (from index : ℕ) (post : Post) (x : Option ℕ) → Parent (copying from index x) post
+copying_tends from index post None = λ row h. absurd (cc)
+copying_tends from index post (Some slot) = λ row h. absurd (cc)
+
+looking_tends : (index key : ℕ) (post : Post) (x : Option ℕ) → Parent (looking_at index key x) post
+looking_tends index key post None = λ row h. absurd (cc)
+looking_tends index key post (Some slot) = λ row h. absurd (cc)
+
 holding_tends : (key : ℕ) (post next : Post) (x : Option ℕ) → Parent (holding key post x) post
 holding_tends key post next None = round_tends (Holds key) post
-holding_tends key post next (Some slot) = λ row h. absurd (cc)
+holding_tends key post next (Some slot) = letting_tends (Rehold key) post
 
 first_tends : (call : Call) (post : Post) → Parent (first_phase call post) post
 first_tends (names.Get key) post = round_tends (Gets key) post
@@ -213,9 +232,13 @@ first_tends (names.Remove key) post = round_tends (Changes _) post
 first_tends (names.Enqueue value) post = round_tends (Enqueues _) post
 first_tends names.Dequeue post = round_tends Dequeues post
 first_tends (names.Hold key) post = holding_tends key post post (stands post 2)
-first_tends names.Release post = λ row h. absurd (cc)
+first_tends names.Release post = letting_tends Released post
 first_tends names.Advance post = λ row h. absurd (cc)
 first_tends names.Scan post = λ row h. absurd (cc)
+first_tends (names.Copy from index) post = copying_tends from index post (stands post from)
+first_tends (names.DropIndex index) post = letting_tends (Dropped index) post
+first_tends (names.Look index key) post = looking_tends index key post (stands post index)
+first_tends (names.PutIf key value version) post = round_tends (Changes _) post
 
 pub parents_begin : ParentsBegin
 parents_begin w i call r = record {

@@ -1,8 +1,10 @@
 -- What a call's own step leaves, and what comes after a machine: no scan that has read something, no try that has loaded a
 -- link, and nothing stands that did not stand before.
-use Rattle.std.proofs.Common.{ℕ, ◌+◌, Bool, true, false, List, [], ◌∷◌, ◌++◌, length, Option, Some, None, refl}
+use Rattle.std.proofs.Common.{ℕ, ◌+◌, Bool, true, false, List, [], ◌∷◌, ◌++◌, length, Option, Some, None, refl, subst, sym, ◌∙◌, ◌≡◌}
 use Rattle.std.specs.Prelude.{◌==◌, ◌%◌, ◌-◌, nat_lt}
 use Rattle.inv_shapes.specs.defs.declared.call.Answer.{Answer}
+use Rattle.inv_shapes.specs.defs.declared.call.Call.{Call}
+use Rattle.inv_shapes.specs.defs.declared.call.Call.TheVariants as names
 use Rattle.inv_shapes.specs.defs.declared.call.Answer.TheVariants as the_answers
 use Rattle.inv_shapes.specs.defs.declared.call.ClockMove.TheVariants as moves
 use Rattle.inv_shapes.specs.defs.declared.event.Event.{Event}
@@ -17,21 +19,26 @@ use Rattle.inv_shapes.specs.model.declared.post.Post.{Post}
 use Rattle.inv_shapes.specs.model.Desks.{Desk, with_life}
 use Rattle.inv_shapes.specs.model.Phases.{Ending, Base}
 use Rattle.inv_shapes.specs.model.Phases.Ending.{Done, Protected, Followed, Allocated, Retired, Clocked}
-use Rattle.inv_shapes.specs.model.Rounds.{bucket_of, scheme_of, index_of, taken_of, begin_base, clear_base, clear_post, clear_told, finish_base, round_by, round, given_up, closed, finishing_by, finishing, clearing_by, clearing, clearing_next_by, clearing_next, begin_span, finish_span, protect_base, opening, root_of}
+use Rattle.inv_shapes.specs.model.Rounds.{bucket_of, scheme_of, index_of, taken_of, begin_base, clear_base, clear_post, clear_told, finish_base, kept_row, release_span, let_index, letting_by, letting, round_by, round, given_up, closed, finishing_by, finishing, clearing_by, clearing, clearing_next_by, clearing_next, begin_span, finish_span, protect_base, opening, root_of}
 use Rattle.inv_shapes.specs.model.Get as gets
 use Rattle.inv_shapes.specs.model.Change as alters
 use Rattle.inv_shapes.specs.model.Enqueue as enqueues
 use Rattle.inv_shapes.specs.model.Dequeue as dequeues
+use Rattle.inv_shapes.specs.model.Keep as keeps
 use Rattle.inv_shapes.specs.model.Steps as steps
-use Rattle.inv_shapes.specs.model.Calls.{Task, Gets, Changes, Holds, Enqueues, Dequeues, Again, Answering, Retiring, AfterScan, Why, Phase, ChangeKept, EnqueueKept, GetAt, FindVersion, FindCount, FindKey, FindValue, ChangeAt, LoadVersion, LoadCount, LoadKey, LoadValue, ExchangeRoot, EnqueueAt, LoadNumber, LoadNext, PassTail, ExchangeNext, ExchangeTail, DequeueAt, LoadTail, SwingTail, TakeNumber, TakeValue, ExchangeHead, Work, Getting, Changing, Enqueuing, Dequeuing, Opens, FollowsHead, Fills, ClearsNext, Clears, Finishes, GivesUp, Retires, Tidies, Advances, Releases, Next, MakeRoom, CallTurn}
+use Rattle.inv_shapes.specs.model.Calls.{Task, Gets, Changes, Holds, Enqueues, Dequeues, Again, Answering, Retiring, AfterScan, Why, Phase, ChangeKept, EnqueueKept, GetAt, FindVersion, FindCount, FindKey, FindValue, ChangeAt, LoadVersion, LoadCount, LoadKey, LoadValue, ExchangeRoot, EnqueueAt, LoadNumber, LoadNext, PassTail, ExchangeNext, ExchangeTail, DequeueAt, LoadTail, SwingTail, TakeNumber, TakeValue, ExchangeHead, Work, Getting, Changing, Enqueuing, Dequeuing, Opens, FollowsHead, Fills, ClearsNext, Clears, Finishes, GivesUp, Retires, Tidies, Advances, Releases, LetGo, Released, Rehold, Dropped, Loosens, LoadHeld, StoreHeld, Looks, Misses, Keeping, Next, MakeRoom, Runs, Works, CallTurn}
 use Rattle.inv_shapes.specs.words.declared.config.SchemeKind.{SchemeKind}
 use Rattle.inv_shapes.specs.words.declared.config.SchemeKind.TheVariants.{He, Ibr, Wfe}
 use Rattle.inv_shapes.specs.defs.declared.lifetime.Interval.{Interval}
-use Rattle.inv_shapes.specs.model.Posts.{stands}
+use Rattle.inv_shapes.specs.model.Posts.{stands, withdrawn, cleared, reserves_index}
+use Rattle.inv_shapes.specs.Frame.{phase_left}
+use Rattle.inv_shapes.specs.words.Packed.{read_reservation}
+use Rattle.inv_shapes.specs.words.Schemes.{has_one_interval}
 use Rattle.inv_shapes.specs.defs.declared.event.Root.{Root}
 use Rattle.inv_covers.proofs.Stands.{withdrawn_shrinks}
-use Rattle.inv_covers.specs.Tries.{Begins, Leaves, Shrinks}
-use Rattle.inv_shapes.proofs.model.Schemes.{each_begin, each_clear, each_clear_post, each_finish}
+use Rattle.inv_covers.specs.Covers.{is_fresh}
+use Rattle.inv_covers.specs.Tries.{is_copy, is_start, starts_base, Begins, Leaves, Shrinks}
+use Rattle.inv_shapes.proofs.model.Schemes.{each_begin, each_clear, each_clear_post, each_finish, each_release}
 
 opening_at : (task : Task) (post : Post) (index : ℕ) (root : Root) (scheme : SchemeKind) → Begins (Phase.Runs (Opens task) (protect_base scheme index root))
 opening_at task post index root He = record { fresh = refl; starts = refl }
@@ -75,7 +82,7 @@ finishing_by_fresh : (task : Task) (next : Next) (post : Post) (desk : Desk) (to
 finishing_by_fresh task next post desk told scheme =
     each_finish scheme post (λ (base : Option Base). Leaves post (finishing_by task next post desk told base))
     (closed_fresh task next post desk told)
-    (finish_fresh task next post desk told (stands post 2))
+    (finish_fresh task next post desk told (kept_row post))
 
 finishing_fresh : (task : Task) (next : Next) (post : Post) (desk : Desk) (told : List Event) → Leaves post (finishing task next post desk told)
 finishing_fresh task Again post desk told = closed_fresh task Again post desk told
@@ -137,7 +144,7 @@ deciding_by_fresh kept post desk told (Some answer) = clearing_fresh (Changes ke
 deciding_by_fresh kept post desk told None = record { fresh = (filling_fresh (alters.with_change kept) (Changes (alters.with_change kept)) kept.taken post).fresh; starts = (filling_fresh (alters.with_change kept) (Changes (alters.with_change kept)) kept.taken post).starts; shrinks = λ j s h. h }
 
 deciding_fresh : (kept : ChangeKept) (post : Post) (desk : Desk) (told : List Event) → Leaves post (alters.deciding kept post desk told)
-deciding_fresh kept post desk told = deciding_by_fresh kept post desk told (alters.refusal post.layout.config kept.version kept.pairs kept.change)
+deciding_fresh kept post desk told = deciding_by_fresh kept post desk told (alters.refused post.layout.config kept)
 
 reading_fresh : (kept : ChangeKept) (slot count : ℕ) (post : Post) (desk : Desk) (more : Bool) → Leaves post (alters.reading kept slot count post desk more)
 reading_fresh kept slot count post desk true = record { fresh = refl; starts = refl; shrinks = λ j s h. h }
@@ -197,12 +204,97 @@ dequeue_fresh (TakeNumber head next) post desk found = record { fresh = refl; st
 dequeue_fresh (TakeValue head next number) post desk found = record { fresh = refl; starts = refl; shrinks = λ j s h. h }
 dequeue_fresh (ExchangeHead head next number value) post desk found = taken_fresh head next number value post desk (found == head + 1)
 
--- a step of a call's own
-pub work_fresh : (work : Work) (post : Post) (desk : Desk) (found : ℕ) → Leaves post (steps.work_turn work post desk found)
-work_fresh (Getting key at) post desk found = get_fresh key at post desk found
-work_fresh (Changing kept at) post desk found = change_fresh kept at post desk found
-work_fresh (Enqueuing kept at) post desk found = enqueue_fresh kept at post desk found
-work_fresh (Dequeuing at) post desk found = dequeue_fresh at post desk found
+released_fresh : (let_go : LetGo) (post : Post) (desk : Desk) (told : List Event) → Leaves post (keeps.released let_go post desk told)
+released_fresh Released post desk told = record { fresh = refl; starts = refl; shrinks = λ j s h. h }
+released_fresh (Rehold key) post desk told = record { fresh = (round_fresh (Holds key) post).fresh; starts = (round_fresh (Holds key) post).starts; shrinks = λ j s h. h }
+released_fresh (Dropped index) post desk told = record { fresh = refl; starts = refl; shrinks = λ j s h. h }
+
+loosened_fresh : (let_go : LetGo) (post : Post) (desk : Desk) → Leaves post (keeps.released let_go (withdrawn post (let_index let_go)) desk (cleared (let_index let_go) (stands post (let_index let_go))))
+loosened_fresh let_go post desk =
+    let p : Post = withdrawn post (let_index let_go) in
+    let t : List Event = cleared (let_index let_go) (stands post (let_index let_go)) in
+    leaves_through post p (keeps.released let_go p desk t) (withdrawn_shrinks post (let_index let_go)) (released_fresh let_go p desk t)
+
+looking_fresh : (index key slot version count : ℕ) (post : Post) (desk : Desk) (more : Bool) (pair : ℕ) → Leaves post (keeps.looking index key slot version count post desk more pair)
+looking_fresh index key slot version count post desk true pair = record { fresh = refl; starts = refl; shrinks = λ j s h. h }
+looking_fresh index key slot version count post desk false pair = record { fresh = refl; starts = refl; shrinks = λ j s h. h }
+
+looked_key_fresh : (index key slot version count pair : ℕ) (post : Post) (desk : Desk) (own : Bool) → Leaves post (keeps.looked_key index key slot version count pair post desk own)
+looked_key_fresh index key slot version count pair post desk true = record { fresh = refl; starts = refl; shrinks = λ j s h. h }
+looked_key_fresh index key slot version count pair post desk false = looking_fresh index key slot version count post desk (nat_lt (pair + 1) count) (pair + 1)
+
+look_fresh : (index key : ℕ) (at : GetAt) (post : Post) (desk : Desk) (found : ℕ) → Leaves post (keeps.look_turn index key at post desk found)
+look_fresh index key (FindVersion slot) post desk found = record { fresh = refl; starts = refl; shrinks = λ j s h. h }
+look_fresh index key (FindCount slot version) post desk found = looking_fresh index key slot version found post desk (nat_lt 0 found) 0
+look_fresh index key (FindKey slot version count pair) post desk found = looked_key_fresh index key slot version count pair post desk (found == key)
+look_fresh index key (FindValue slot version pair) post desk found = record { fresh = refl; starts = refl; shrinks = λ j s h. h }
+
+-- a step of a call's own, but those of a copy
+pub work_fresh : (work : Work) (post : Post) (desk : Desk) (found : ℕ) → is_copy work ≡ false → Leaves post (steps.work_turn work post desk found)
+work_fresh (Getting key at) post desk found c = get_fresh key at post desk found
+work_fresh (Changing kept at) post desk found c = change_fresh kept at post desk found
+work_fresh (Enqueuing kept at) post desk found c = enqueue_fresh kept at post desk found
+work_fresh (Dequeuing at) post desk found c = dequeue_fresh at post desk found
+work_fresh (Keeping (Loosens let_go)) post desk found c = loosened_fresh let_go post desk
+work_fresh (Keeping (LoadHeld from index)) post desk found c = absurd (cc)
+work_fresh (Keeping (StoreHeld from index era)) post desk found c = absurd (cc)
+work_fresh (Keeping (Looks index key at)) post desk found c = look_fresh index key at post desk found
+work_fresh (Keeping (Misses index)) post desk found c = record { fresh = refl; starts = refl; shrinks = λ j s h. h }
+
+begins_start : (next : Phase) (why : Why) (base : Base) → Begins next → next ≡ Runs why base → starts_base base ≡ true
+begins_start next why base b e = subst (λ (p : Phase). is_start p ≡ true) e b.starts
+
+leaves_start : (post : Post) (t : CallTurn) (why : Why) (base : Base) → Leaves post t → phase_left t.outcome ≡ Runs why base → starts_base base ≡ true
+leaves_start post t why base b e = subst (λ (p : Phase). is_start p ≡ true) e b.starts
+
+-- a copy ends, or goes on to its second step
+pub copied_begins : (from index : ℕ) (post : Post) (desk : Desk) (reserved : List Event) (x : Option ℕ) → Begins (phase_left (keeps.copied from index post desk reserved x).outcome)
+copied_begins from index post desk reserved None = record { fresh = refl; starts = refl }
+copied_begins from index post desk reserved (Some slot) = record { fresh = refl; starts = refl }
+
+-- it goes on where each index publishes by itself
+pub data Loaded (post : Post) (from index found : ℕ) (next : Phase) : Type 0 where
+  Ended : Begins next → Loaded post from index found next
+  Stored : has_one_interval (scheme_of post) ≡ false → next ≡ Works (Keeping (StoreHeld from index (read_reservation found).era)) → Loaded post from index found next
+
+loaded_by : (from index : ℕ) (post : Post) (desk : Desk) (found : ℕ) (one : Bool) → has_one_interval (scheme_of post) ≡ one → Loaded post from index found (phase_left (keeps.load_held from index post desk found one).outcome)
+loaded_by from index post desk found true e = Ended (copied_begins from index post desk [] (stands post from))
+loaded_by from index post desk found false e = Stored e refl
+
+pub loaded : (from index : ℕ) (post : Post) (desk : Desk) (found : ℕ) → Loaded post from index found (phase_left (steps.work_turn (Keeping (LoadHeld from index)) post desk found).outcome)
+loaded from index post desk found = loaded_by from index post desk found (has_one_interval (scheme_of post)) refl
+
+loaded_fresh : (post : Post) (from index found : ℕ) (next : Phase) → Loaded post from index found next → is_fresh next ≡ true
+loaded_fresh post from index found next (Ended b) = b.fresh
+loaded_fresh post from index found next (Stored i e) = rw e refl
+
+loaded_start : (post : Post) (from index found : ℕ) (next : Phase) (why : Why) (base : Base) → Loaded post from index found next → next ≡ Runs why base → starts_base base ≡ true
+loaded_start post from index found next why base (Ended b) q = begins_start next why base b q
+loaded_start post from index found next why base (Stored i e) q = absurd (let z : Works (Keeping (StoreHeld from index (read_reservation found).era)) ≡ Runs why base = sym e ∙ q in cc)
+
+-- no step of a call's own leaves a scan that has read something
+pub works_fresh : (work : Work) (post : Post) (desk : Desk) (found : ℕ) → is_fresh (phase_left (steps.work_turn work post desk found).outcome) ≡ true
+works_fresh (Keeping (LoadHeld from index)) post desk found = loaded_fresh post from index found _ (loaded from index post desk found)
+works_fresh (Keeping (StoreHeld from index era)) post desk found = (copied_begins from index post desk (reserves_index post index era) (stands post from)).fresh
+works_fresh (Keeping (Loosens let_go)) post desk found = (work_fresh (Keeping (Loosens let_go)) post desk found refl).fresh
+works_fresh (Keeping (Looks index key at)) post desk found = (work_fresh (Keeping (Looks index key at)) post desk found refl).fresh
+works_fresh (Keeping (Misses index)) post desk found = refl
+works_fresh (Getting key at) post desk found = (work_fresh (Getting key at) post desk found refl).fresh
+works_fresh (Changing kept at) post desk found = (work_fresh (Changing kept at) post desk found refl).fresh
+works_fresh (Enqueuing kept at) post desk found = (work_fresh (Enqueuing kept at) post desk found refl).fresh
+works_fresh (Dequeuing at) post desk found = (work_fresh (Dequeuing at) post desk found refl).fresh
+
+-- nor a machine within a try
+pub works_start : (work : Work) (post : Post) (desk : Desk) (found : ℕ) (why : Why) (base : Base) → phase_left (steps.work_turn work post desk found).outcome ≡ Runs why base → starts_base base ≡ true
+works_start (Keeping (LoadHeld from index)) post desk found why base e = loaded_start post from index found _ why base (loaded from index post desk found) e
+works_start (Keeping (StoreHeld from index era)) post desk found why base e = begins_start _ why base (copied_begins from index post desk (reserves_index post index era) (stands post from)) e
+works_start (Keeping (Loosens let_go)) post desk found why base e = leaves_start post _ why base (work_fresh (Keeping (Loosens let_go)) post desk found refl) e
+works_start (Keeping (Looks index key at)) post desk found why base e = leaves_start post _ why base (work_fresh (Keeping (Looks index key at)) post desk found refl) e
+works_start (Keeping (Misses index)) post desk found why base e = absurd (cc)
+works_start (Getting key at) post desk found why base e = leaves_start post _ why base (work_fresh (Getting key at) post desk found refl) e
+works_start (Changing kept at) post desk found why base e = leaves_start post _ why base (work_fresh (Changing kept at) post desk found refl) e
+works_start (Enqueuing kept at) post desk found why base e = leaves_start post _ why base (work_fresh (Enqueuing kept at) post desk found refl) e
+works_start (Dequeuing at) post desk found why base e = leaves_start post _ why base (work_fresh (Dequeuing at) post desk found refl) e
 
 opened_row_fresh : (task : Task) (slot : ℕ) (post : Post) (desk : Desk) (told : List Event) → Leaves post (steps.opened_row task slot post desk told)
 opened_row_fresh (Gets key) slot post desk told = record { fresh = refl; starts = refl; shrinks = λ j s h. h }
@@ -287,10 +379,6 @@ advanced_fresh (Followed end) post desk told = record { fresh = refl; starts = r
 advanced_fresh (Allocated end) post desk told = record { fresh = refl; starts = refl; shrinks = λ j s h. h }
 advanced_fresh (Retired life) post desk told = record { fresh = refl; starts = refl; shrinks = λ j s h. h }
 
-released_fresh : (key : Option ℕ) (post : Post) (desk : Desk) (told : List Event) → Leaves post (steps.released key post desk told)
-released_fresh None post desk told = record { fresh = refl; starts = refl; shrinks = λ j s h. h }
-released_fresh (Some key) post desk told = record { fresh = (round_fresh (Holds key) post).fresh; starts = (round_fresh (Holds key) post).starts; shrinks = λ j s h. h }
-
 -- what comes after a machine
 pub resume_fresh : (why : Why) (ending : Ending) (post : Post) (desk : Desk) (told : List Event) → Leaves post (steps.resume why ending post desk told)
 resume_fresh (Opens task) ending post desk told = opened_fresh task ending post desk told
@@ -303,4 +391,42 @@ resume_fresh (GivesUp answer) ending post desk told = record { fresh = refl; sta
 resume_fresh (Retires answer) ending post desk told = retired_by_fresh answer ending post desk told
 resume_fresh (Tidies later) ending post desk told = tidied_fresh later ending post desk told
 resume_fresh Advances ending post desk told = advanced_fresh ending post desk told
-resume_fresh (Releases key) ending post desk told = released_fresh key post desk told
+resume_fresh (Releases let_go) ending post desk told = released_fresh let_go post desk told
+
+-- a call begins
+let_span_begins : (let_go : LetGo) (x : Option ℕ) → Begins (letting_by let_go (release_span (let_index let_go) x))
+let_span_begins let_go None = record { fresh = refl; starts = refl }
+let_span_begins let_go (Some slot) = record { fresh = refl; starts = refl }
+
+letting_begins : (let_go : LetGo) (post : Post) → Begins (letting let_go post)
+letting_begins let_go post =
+    each_release (scheme_of post) post (let_index let_go) (λ (x : Option Base). Begins (letting_by let_go x))
+    (record { fresh = refl; starts = refl })
+    (let_span_begins let_go (kept_row (withdrawn post (let_index let_go))))
+
+holding_begins : (key : ℕ) (post : Post) (x : Option ℕ) → Begins (steps.holding key post x)
+holding_begins key post None = round_fresh (Holds key) post
+holding_begins key post (Some slot) = letting_begins (Rehold key) post
+
+copying_begins : (from index : ℕ) (x : Option ℕ) → Begins (steps.copying from index x)
+copying_begins from index None = record { fresh = refl; starts = refl }
+copying_begins from index (Some slot) = record { fresh = refl; starts = refl }
+
+looking_begins : (index key : ℕ) (x : Option ℕ) → Begins (steps.looking_at index key x)
+looking_begins index key None = record { fresh = refl; starts = refl }
+looking_begins index key (Some slot) = record { fresh = refl; starts = refl }
+
+pub first_begins : (call : Call) (post : Post) → Begins (steps.first_phase call post)
+first_begins (names.Get key) post = round_fresh (Gets key) post
+first_begins (names.Put key value) post = round_fresh (Changes _) post
+first_begins (names.Remove key) post = round_fresh (Changes _) post
+first_begins (names.Enqueue value) post = round_fresh (Enqueues _) post
+first_begins names.Dequeue post = round_fresh Dequeues post
+first_begins (names.Hold key) post = holding_begins key post (stands post 2)
+first_begins names.Release post = letting_begins Released post
+first_begins names.Advance post = record { fresh = refl; starts = refl }
+first_begins names.Scan post = record { fresh = refl; starts = refl }
+first_begins (names.Copy from index) post = copying_begins from index (stands post from)
+first_begins (names.DropIndex index) post = letting_begins (Dropped index) post
+first_begins (names.Look index key) post = looking_begins index key (stands post index)
+first_begins (names.PutIf key value version) post = round_fresh (Changes _) post

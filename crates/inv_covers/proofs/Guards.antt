@@ -65,6 +65,15 @@ first_by He config m k j w h = absurd (cc)
 first_by Ibr config m k j w h = absurd (cc)
 first_by Wfe config m k j w h = omega (arith, h)
 
+rises_by : (scheme : SchemeKind) (config : Config) (k i j : ℕ) → i ≤ j → number_by scheme config (Index k i) ≤ number_by scheme config (Index k j)
+rises_by He config k i j h = omega (arith, h)
+rises_by Ibr config k i j h = omega (arith, h)
+rises_by Wfe config k i j h = omega (arith, h)
+
+-- a scan reads a seat's indexes upwards
+pub index_rises : (config : Config) (k i j : ℕ) → i ≤ j → number_of config (Index k i) ≤ number_of config (Index k j)
+index_rises config k i j h = rises_by config.scheme config k i j h
+
 pub helpers_first : HelpersFirst
 helpers_first config m k j w h = first_by config.scheme config m k j w h
 

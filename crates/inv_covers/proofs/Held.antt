@@ -1,9 +1,10 @@
 -- What guards hold stays held over each step, under Hazard Eras and 2GE.
-use Rattle.std.proofs.Common.{ℕ, ◌≤◌, ◌+◌, ◌≡◌, ◌∙◌, sym, subst, ap, true, false, arith, refl, Bool, Option, Some, None, ◌⊎◌, inl, inr, List}
+use Rattle.std.proofs.Common.{ℕ, ◌≤◌, ◌+◌, ◌≡◌, ◌∙◌, sym, subst, ap, true, false, arith, refl, Bool, Option, Some, None, ◌⊎◌, inl, inr, List, [], ◌<◌}
 use Rattle.std.proofs.lemmas.Bool.Decides.{nat_tests}
-use Rattle.std.specs.Prelude.{◌==◌}
+use Rattle.std.specs.Prelude.{◌==◌, is_some, length}
 use Rattle.inv_shapes.specs.words.Place.{Place}
-use Rattle.inv_shapes.specs.words.Place.Place.{Clock, Head, Index as IndexOf}
+use Rattle.inv_shapes.specs.words.Place.Place.{Clock, Head, Index as IndexOf, Interval as IntervalOf}
+use Rattle.inv_shapes.specs.words.declared.layout.Layout.{Layout}
 use Rattle.inv_shapes.specs.words.declared.config.SchemeKind.{SchemeKind}
 use Rattle.inv_shapes.specs.defs.declared.event.Event.{Event}
 use Rattle.inv_shapes.specs.defs.declared.event.Guard.{Guard}
@@ -20,7 +21,7 @@ use Rattle.inv_shapes.specs.model.Guards.{guard_place, from_to, own_guard}
 use Rattle.inv_shapes.specs.model.Links.{link_place, parent_of}
 use Rattle.inv_shapes.specs.model.Memory.{found, place_in, written, bump}
 use Rattle.inv_shapes.specs.model.Memory as memory
-use Rattle.inv_shapes.specs.model.Posts.{index_word, stands, upper, lower, counted}
+use Rattle.inv_shapes.specs.model.Posts.{index_word, stands, upper, lower, counted, reserves_index}
 use Rattle.inv_shapes.specs.model.Phases.{Aim, Alone, Follows, Tries, ProtectAt, Base, Outcome, Goes, Ends, Turn}
 use Rattle.inv_shapes.specs.model.Phases.BeginAt.{LoadLower, PublishSpan}
 use Rattle.inv_shapes.specs.model.Phases.ProtectAt.{LoadClock, PublishEra, LoadLink, CheckClock, PublishRequest, LoadOwnClock, PublishHelper, LoadOwnLink, CheckOwnClock, AnswerOwn, LoadAnswer, TakeAnswer, WithdrawRequest, WithdrawHelper, LoadWithin, CheckUpper, RaiseUpper}
@@ -29,7 +30,9 @@ use Rattle.inv_shapes.specs.model.Machine.{protect_move, base_move}
 use Rattle.inv_shapes.specs.model.Machine as machine
 use Rattle.inv_shapes.specs.model.Steps.{phase_turn, phase_move, resumed, work_turn}
 use Rattle.inv_shapes.specs.model.Scan.{scan_turn}
-use Rattle.inv_shapes.specs.model.Calls.{Why, Phase, Idle, Runs, Scans, Works, CallTurn, CallOutcome, GoesOn, Answers}
+use Rattle.inv_shapes.specs.model.Keep.{copied, load_held}
+use Rattle.inv_shapes.specs.model.Rounds.{scheme_of}
+use Rattle.inv_shapes.specs.model.Calls.{KeepAt, Loosens, LoadHeld, StoreHeld, Looks, Misses, Work, Getting, Changing, Enqueuing, Dequeuing, Keeping, Why, Phase, Idle, Runs, Scans, Works, CallTurn, CallOutcome, GoesOn, Answers}
 use Rattle.inv_shapes.specs.model.Locals.{Local, move, turn, settled_by, told_by, rounds_told}
 use Rattle.inv_shapes.specs.model.World.{World, step, finds}
 use Rattle.inv_rows.specs.Rows.{Status, View, made, is_settled}
@@ -44,19 +47,21 @@ use Rattle.inv_covers.specs.Covers.{retired_at, life_of, life_in, eras_shown, sh
 use Rattle.inv_covers.specs.Tries.{is_start, starts_base}
 use Rattle.inv_covers.specs.Held.{under, tries_protect, tries_base, index_base, Holds, Held, Followed, follows_row, rests_base, BaseNeeds, RootsNeeds, LoadsCover, HeldNeeds, HeldKept}
 use Rattle.inv_rows.specs.Queue.{in_queue}
-use Rattle.inv_covers.proofs.Fresh.{work_fresh, resume_fresh}
+use Rattle.inv_covers.proofs.Copying.{copy_covers, same_guard}
+use Rattle.inv_covers.proofs.Fresh.{work_fresh, works_start, resume_fresh}
 use Rattle.inv_covers.proofs.Kept.{covers_kept, before_at}
 use Rattle.inv_covers.proofs.Scans.{scan_shrinks, scan_starts}
-use Rattle.inv_covers.proofs.Stands.{withdrawn_apart}
+use Rattle.inv_covers.proofs.Stands.{withdrawn_apart, with_row_apart, with_row_is}
 use Rattle.inv_covers.proofs.Stood.{Was, base_stood}
 use Rattle.inv_covers.proofs.Tried.{out_tries, out_index, loads_link, protect_tries, other_tries, is_protect, tried_quiet, loaded_quiet, protect_clock, start_untried, queued_back, tries_back}
-use Rattle.inv_covers.proofs.Words.{keeps, shown_kept, widens_same, stores_guard, base_other, base_quiet, scan_quiet, work_quiet}
+use Rattle.inv_covers.proofs.Words.{keeps, shown_kept, widens_same, stores_guard, base_other, base_quiet, scan_quiet, work_span, work_stores, work_quiet}
 use Rattle.inv_rows.proofs.Queued.{queue_is}
 use Rattle.inv_shapes.proofs.model.Facts.{no_truth}
 use Rattle.inv_shapes.proofs.model.Schemes.{each_guard, index_guard, interval_guard}
 use Rattle.inv_shapes.proofs.words.Schemes.{eras_not_interval}
 use Rattle.inv_shapes.proofs.Tries.{try_eras}
 pub use Rattle.inv_shapes.proofs.Frame.{finds_at, settled_phase}
+pub use Rattle.inv_covers.proofs.Words.{move_is, keeps_at}
 
 -- a row that a root leads to is linked, and its life goes on
 abbrev pub is_live : Status → Bool
@@ -115,32 +120,81 @@ stepped_post w i = let l : Local = w.seat i in let t : CallTurn = turn l (finds 
 pub stepped_phase : (w : World) (i : ℕ) → ((step w i).seat i).phase ≡ phase_left (turn (w.seat i) (finds w i)).outcome
 stepped_phase w i = let l : Local = w.seat i in let t : CallTurn = turn l (finds w i) in ap (λ (x : Local). x.phase) (seat_steps w i) ∙ settled_phase l t.post (noting t.desk (told_by t)) (rounds_told l.rounds (told_by t)) t.outcome
 
+-- where a row stood that stands after a step of a call's own: where it stands, at an index whose word stays; or at the index
+-- from which a copy comes
+abbrev pub KeepFrom : KeepAt → Post → ℕ → ℕ → Type 0
+KeepFrom (LoadHeld from index) post j s = (stands post j ≡ Some s) ⊎ ((has_one_interval (scheme_of post) ≡ true) × (stands post from ≡ Some s))
+KeepFrom (StoreHeld from index era) post j s = (((j == index) ≡ false) × (stands post j ≡ Some s)) ⊎ ((j ≡ index) × (stands post from ≡ Some s))
+KeepFrom at post j s = stands post j ≡ Some s
+
+abbrev pub WorkFrom : Work → Post → ℕ → ℕ → Type 0
+WorkFrom (Keeping at) post j s = KeepFrom at post j s
+WorkFrom work post j s = stands post j ≡ Some s
+
+-- what a copy needs of the post
+pub record CopyHas (post : Post) (from index : ℕ) : Type 0 where
+  pub stood : is_some (stands post from) ≡ true
+  pub room : index < length post.standing
+
+abbrev pub WorkHas : Work → Post → Type 0
+WorkHas (Keeping (LoadHeld from index)) post = CopyHas post from index
+WorkHas (Keeping (StoreHeld from index era)) post = CopyHas post from index
+WorkHas work post = Unit {0}
+
+abbrev pub PhaseHas : Phase → Post → Type 0
+PhaseHas (Works work) post = WorkHas work post
+PhaseHas phase post = Unit {0}
+
+copied_from : (from index : ℕ) (post : Post) (desk : Desk) (told : List Event) (x : Option ℕ) (j s : ℕ) (own : Bool) → (j == index) ≡ own → index < length post.standing → stands post from ≡ x → is_some x ≡ true → stands (copied from index post desk told x).post j ≡ Some s
+    → (((j == index) ≡ false) × (stands post j ≡ Some s)) ⊎ ((j ≡ index) × (stands post from ≡ Some s))
+copied_from from index post desk told None j s own o b q k h = absurd (no_truth k)
+copied_from from index post desk told (Some slot) j s true o b q k h = let z = with_row_is post index slot j s b o h in inr (grind (arith, nat_tests), rw z q)
+copied_from from index post desk told (Some slot) j s false o b q k h = inl (o, with_row_apart post index slot j s o h)
+
+load_held_from : (from index : ℕ) (post : Post) (desk : Desk) (found j s : ℕ) (one : Bool) → has_one_interval (scheme_of post) ≡ one → CopyHas post from index → stands (load_held from index post desk found one).post j ≡ Some s → KeepFrom (LoadHeld from index) post j s
+load_held_from from index post desk found j s true e k h = by_copied (copied_from from index post desk [] (stands post from) j s (j == index) refl k.room refl k.stood h) where
+  by_copied : (((j == index) ≡ false) × (stands post j ≡ Some s)) ⊎ ((j ≡ index) × (stands post from ≡ Some s)) → KeepFrom (LoadHeld from index) post j s
+  by_copied (inl x) = inl (x.1)
+  by_copied (inr x) = inr (e, x.1)
+load_held_from from index post desk found j s false e k h = inl h
+
+pub work_from : (work : Work) (post : Post) (desk : Desk) (found j s : ℕ) → WorkHas work post → stands (work_turn work post desk found).post j ≡ Some s → WorkFrom work post j s
+work_from (Keeping (LoadHeld from index)) post desk found j s k h = load_held_from from index post desk found j s (has_one_interval (scheme_of post)) refl k h
+work_from (Keeping (StoreHeld from index era)) post desk found j s k h = copied_from from index post desk (reserves_index post index era) (stands post from) j s (j == index) refl k.room refl k.stood h
+work_from (Keeping (Loosens let_go)) post desk found j s k h = (work_fresh (Keeping (Loosens let_go)) post desk found refl).shrinks j s h
+work_from (Keeping (Looks index key at)) post desk found j s k h = (work_fresh (Keeping (Looks index key at)) post desk found refl).shrinks j s h
+work_from (Keeping (Misses index)) post desk found j s k h = h
+work_from (Getting key at) post desk found j s k h = (work_fresh (Getting key at) post desk found refl).shrinks j s h
+work_from (Changing kept at) post desk found j s k h = (work_fresh (Changing kept at) post desk found refl).shrinks j s h
+work_from (Enqueuing kept at) post desk found j s k h = (work_fresh (Enqueuing kept at) post desk found refl).shrinks j s h
+work_from (Dequeuing at) post desk found j s k h = (work_fresh (Dequeuing at) post desk found refl).shrinks j s h
+
 -- where a row stood that stands after a turn
 abbrev pub From : Phase → Post → ℕ → ℕ → ℕ → Type 0
 From Idle post x j s = stands post j ≡ Some s
 From (Runs why base) post x j s = stands (machine.after base (counted post) x).post j ≡ Some s
 From (Scans later at) post x j s = stands post j ≡ Some s
-From (Works work) post x j s = stands post j ≡ Some s
+From (Works work) post x j s = WorkFrom work post j s
 
 pub resumed_from : (why : Why) (desk : Desk) (post : Post) (told : List Event) (outcome : Outcome) (j s : ℕ) → stands (resumed why desk post told outcome).post j ≡ Some s → stands post j ≡ Some s
 resumed_from why desk post told (Goes base) j s h = h
 resumed_from why desk post told (Ends ending) j s h = (resume_fresh why ending post desk told).shrinks j s h
 
-pub turn_from : (phase : Phase) (post : Post) (desk : Desk) (x j s : ℕ) → stands (phase_turn phase (counted post) desk x).post j ≡ Some s → From phase post x j s
-turn_from Idle post desk x j s h = h
-turn_from (Runs why base) post desk x j s h = let t : Turn = machine.after base (counted post) x in resumed_from why desk t.post t.told t.outcome j s h
-turn_from (Scans later at) post desk x j s h = scan_shrinks later at (counted post) desk x j s h
-turn_from (Works work) post desk x j s h = (work_fresh work (counted post) desk x).shrinks j s h
+from_counted : (work : Work) (post : Post) (j s : ℕ) → WorkFrom work (counted post) j s → WorkFrom work post j s
+from_counted (Keeping (LoadHeld from index)) post j s h = h
+from_counted (Keeping (StoreHeld from index era)) post j s h = h
+from_counted (Keeping (Loosens let_go)) post j s h = h
+from_counted work post j s h = h
+
+pub turn_from : (phase : Phase) (post : Post) (desk : Desk) (x j s : ℕ) → PhaseHas phase (counted post) → stands (phase_turn phase (counted post) desk x).post j ≡ Some s → From phase post x j s
+turn_from Idle post desk x j s k h = h
+turn_from (Runs why base) post desk x j s k h = let t : Turn = machine.after base (counted post) x in resumed_from why desk t.post t.told t.outcome j s h
+turn_from (Scans later at) post desk x j s k h = scan_shrinks later at (counted post) desk x j s h
+turn_from (Works work) post desk x j s k h = from_counted work post j s (work_from work (counted post) desk x j s k h)
 
 -- what an own guard publishes
 pub kept_widens : (w : World) (i : ℕ) (guard : Guard) → keeps (move (w.seat i)) (guard_place guard) ≡ true → Widens (shown w guard) (shown (step w i) guard)
 kept_widens w i guard h = widens_same (shown w guard) (shown (step w i) guard) (shown_kept w i guard h)
-
-pub move_is : (w : World) (i : ℕ) (phase : Phase) → (w.seat i).phase ≡ phase → move (w.seat i) ≡ phase_move phase (w.seat i).post
-move_is w i phase e = ap (λ (p : Phase). phase_move p (w.seat i).post) e
-
-pub keeps_at : (w : World) (i : ℕ) (phase : Phase) (place : Place) → (w.seat i).phase ≡ phase → keeps (phase_move phase (w.seat i).post) place ≡ true → keeps (move (w.seat i)) place ≡ true
-keeps_at w i phase place e h = rw (move_is w i phase e) h
 
 index_keeps : (scheme : SchemeKind) (i j seat index value : ℕ) → (j == index) ≡ false → keeps (memory.Store (IndexOf seat index) value) (guard_place (own_guard scheme i j)) ≡ true
 index_keeps scheme i j seat index value e = each_guard scheme i j (λ (g : Guard). keeps (memory.Store (IndexOf seat index) value) (guard_place g) ≡ true) (grind (arith, nat_tests)) refl
@@ -217,9 +271,9 @@ own_widens w i v why (Clear index) j s f n e h y =
     kept_widens w i (own_guard w.layout.config.scheme i j) (keeps_at w i (Runs why (Clear index)) (guard_place (own_guard w.layout.config.scheme i j)) e (index_keeps w.layout.config.scheme i j (w.seat i).post.seat index (index_word (w.seat i).post index 0) (withdrawn_apart (counted (w.seat i).post) index j s h)))
 own_widens w i v why Finish j s f n e h y =
     rest_widens w i v Finish j s (shown w (own_guard w.layout.config.scheme i j)) (shown (step w i) (own_guard w.layout.config.scheme i j)) refl (n.base why Finish e) refl y
-own_widens w i v why Release j s f n e h y =
-    let o : (j == 2) ≡ false = withdrawn_apart (counted (w.seat i).post) 2 j s h in
-    rest_widens w i v Release j s (shown w (own_guard w.layout.config.scheme i j)) (shown (step w i) (own_guard w.layout.config.scheme i j)) (rw o refl) (n.base why Release e) refl y
+own_widens w i v why (Release index) j s f n e h y =
+    let o : (j == index) ≡ false = withdrawn_apart (counted (w.seat i).post) index j s h in
+    rest_widens w i v (Release index) j s (shown w (own_guard w.layout.config.scheme i j)) (shown (step w i) (own_guard w.layout.config.scheme i j)) (rw o refl) (n.base why (Release index) e) refl y
 own_widens w i v why (Reload parent index slot era steps) j s f n e h y = quiet_widens w i why (Reload parent index slot era steps) j f e (n.base why (Reload parent index slot era steps) e).fits refl
 own_widens w i v why (Allocate at) j s f n e h y = quiet_widens w i why (Allocate at) j f e (n.base why (Allocate at) e).fits refl
 own_widens w i v why (Write slot row place) j s f n e h y = quiet_widens w i why (Write slot row place) j f e (n.base why (Write slot row place) e).fits refl
@@ -247,6 +301,49 @@ was_held w i v why base j s h e (inr x) = rw x.0 (h.tried i why base s e x.1)
 pub head_queued : (w : World) (v : View) (p : ℕ) → Agree w v → w.mem Head ≡ p + 1 → in_queue (v.status p) ≡ true
 head_queued w v p a e = let q : v.status p ≡ InQueue = a.good.queue p (sym a.words.head ∙ e) in rw q refl
 
+-- a step of a call's own that stores no word of the index
+same_holds : (w : World) (i : ℕ) (v : View) (work : Work) (j s : ℕ) → HeldNeeds w i v → (w.seat i).phase ≡ Works work → work_stores work j ≡ false → Holds w v (own_guard w.layout.config.scheme i j) s → Holds (step w i) (rows_after w i v) (own_guard w.layout.config.scheme i j) s
+same_holds w i v work j s n e o h =
+    holds_kept w i v (own_guard w.layout.config.scheme i j) s n (kept_widens w i (own_guard w.layout.config.scheme i j) (keeps_at w i (Works work) (guard_place (own_guard w.layout.config.scheme i j)) e (work_quiet w.layout.config.scheme i j work (w.seat i).post (rw o (grind (arith, nat_tests)))))) h
+
+-- what a copy lets stand: under 2GE by the interval that stands, else by the word that it stores
+load_holds : (w : World) (i : ℕ) (v : View) (from index j s : ℕ) → HeldNeeds w i v → Held w v → (w.seat i).phase ≡ Works (Keeping (LoadHeld from index)) → KeepFrom (LoadHeld from index) (w.seat i).post j s → Holds (step w i) (rows_after w i v) (own_guard w.layout.config.scheme i j) s
+load_holds w i v from index j s n h e (inl y) = same_holds w i v (Keeping (LoadHeld from index)) j s n e refl (h.stood i j s y)
+load_holds w i v from index j s n h e (inr y) =
+    let f : has_one_interval w.layout.config.scheme ≡ true = subst (λ (l : Layout). has_one_interval l.config.scheme ≡ true) (n.covers.layouts i) y.0 in
+    same_holds w i v (Keeping (LoadHeld from index)) j s n e refl (subst (λ (g : Guard). Holds w v g s) (same_guard w.layout.config.scheme i from j f) (h.stood i from s y.1))
+
+store_holds : (w : World) (i : ℕ) (v : View) (from index era s : ℕ) (one : Bool) → has_one_interval w.layout.config.scheme ≡ one → HeldNeeds w i v → Held w v → (w.seat i).phase ≡ Works (Keeping (StoreHeld from index era)) → stands (w.seat i).post from ≡ Some s → Holds (step w i) (rows_after w i v) (own_guard w.layout.config.scheme i index) s
+store_holds w i v from index era s true f n h e y =
+    let g = interval_guard w.layout.config.scheme i index f in
+    let o : Holds w v (Whole i) s = subst (λ (g : Guard). Holds w v g s) (interval_guard w.layout.config.scheme i from f) (h.stood i from s y) in
+    rw g (holds_kept w i v (Whole i) s n (kept_widens w i (Whole i) (keeps_at w i (Works (Keeping (StoreHeld from index era))) (IntervalOf i) e (work_span i (Keeping (StoreHeld from index era)) (w.seat i).post))) o)
+store_holds w i v from index era s false f n h e y =
+    let c = n.stores from index era e in
+    let o : Holds w v (Index i from) s = subst (λ (g : Guard). Holds w v g s) (index_guard w.layout.config.scheme i from f) (h.stood i from s y) in
+    let g = index_guard w.layout.config.scheme i index f in
+    record { fits = c.copy.guard; covers = rw g (copy_covers w i v from index era s n.covers n.scans n.seat c.copy.rises c.tag c.shows e o.fits o.covers) }
+
+work_holds : (w : World) (i : ℕ) (v : View) (work : Work) (j s : ℕ) → HeldNeeds w i v → Held w v → (w.seat i).phase ≡ Works work → WorkFrom work (w.seat i).post j s → Holds (step w i) (rows_after w i v) (own_guard w.layout.config.scheme i j) s
+work_holds w i v (Keeping (LoadHeld from index)) j s n h e y = load_holds w i v from index j s n h e y
+work_holds w i v (Keeping (StoreHeld from index era)) j s n h e (inl y) = same_holds w i v (Keeping (StoreHeld from index era)) j s n e y.0 (h.stood i j s y.1)
+work_holds w i v (Keeping (StoreHeld from index era)) j s n h e (inr y) = rw y.0 (store_holds w i v from index era s (has_one_interval w.layout.config.scheme) refl n h e y.1)
+work_holds w i v (Keeping (Loosens let_go)) j s n h e y = same_holds w i v (Keeping (Loosens let_go)) j s n e refl (h.stood i j s y)
+work_holds w i v (Keeping (Looks index key at)) j s n h e y = same_holds w i v (Keeping (Looks index key at)) j s n e refl (h.stood i j s y)
+work_holds w i v (Keeping (Misses index)) j s n h e y = same_holds w i v (Keeping (Misses index)) j s n e refl (h.stood i j s y)
+work_holds w i v (Getting key at) j s n h e y = same_holds w i v (Getting key at) j s n e refl (h.stood i j s y)
+work_holds w i v (Changing kept at) j s n h e y = same_holds w i v (Changing kept at) j s n e refl (h.stood i j s y)
+work_holds w i v (Enqueuing kept at) j s n h e y = same_holds w i v (Enqueuing kept at) j s n e refl (h.stood i j s y)
+work_holds w i v (Dequeuing at) j s n h e y = same_holds w i v (Dequeuing at) j s n e refl (h.stood i j s y)
+
+-- what the post has where the seat copies
+phase_has : (w : World) (i : ℕ) (v : View) (phase : Phase) → HeldNeeds w i v → (w.seat i).phase ≡ phase → PhaseHas phase (counted (w.seat i).post)
+phase_has w i v (Works (Keeping (LoadHeld from index))) n e = let c = n.loads from index e in record { stood = c.stood; room = c.room }
+phase_has w i v (Works (Keeping (StoreHeld from index era))) n e = let c = n.stores from index era e in record { stood = c.copy.stood; room = c.copy.room }
+phase_has w i v (Works (Keeping at)) n e = tt
+phase_has w i v (Works work) n e = tt
+phase_has w i v phase n e = tt
+
 -- what stands at an index of the seat that steps
 own_from : (w : World) (i : ℕ) (v : View) (phase : Phase) (j s : ℕ) → helps w.layout.config.scheme ≡ false → HeldNeeds w i v → Held w v → (w.seat i).phase ≡ phase → From phase (w.seat i).post (finds w i) j s → Holds (step w i) (rows_after w i v) (own_guard w.layout.config.scheme i j) s
 own_from w i v Idle j s f n h e y =
@@ -259,12 +356,11 @@ own_from w i v (Runs why base) j s f n h e y =
     holds_kept w i v (own_guard w.layout.config.scheme i j) s n (own_widens w i v why base j s f n e y (was_counted (w.mem Clock) v.status (w.seat i).post base j s q)) (was_held w i v why base j s h e (was_counted (w.mem Clock) v.status (w.seat i).post base j s q))
 own_from w i v (Scans later at) j s f n h e y =
     holds_kept w i v (own_guard w.layout.config.scheme i j) s n (kept_widens w i (own_guard w.layout.config.scheme i j) (keeps_at w i (Scans later at) (guard_place (own_guard w.layout.config.scheme i j)) e (scan_quiet w.layout.config.scheme i j at (w.seat i).post))) (h.stood i j s y)
-own_from w i v (Works work) j s f n h e y =
-    holds_kept w i v (own_guard w.layout.config.scheme i j) s n (kept_widens w i (own_guard w.layout.config.scheme i j) (keeps_at w i (Works work) (guard_place (own_guard w.layout.config.scheme i j)) e (work_quiet w.layout.config.scheme i j work (w.seat i).post))) (h.stood i j s y)
+own_from w i v (Works work) j s f n h e y = work_holds w i v work j s n h e y
 
 own_stood : (w : World) (i : ℕ) (v : View) (j s : ℕ) → helps w.layout.config.scheme ≡ false → HeldNeeds w i v → Held w v → stands ((step w i).seat i).post j ≡ Some s → Holds (step w i) (rows_after w i v) (own_guard w.layout.config.scheme i j) s
 own_stood w i v j s f n h y =
-    own_from w i v (w.seat i).phase j s f n h refl (turn_from (w.seat i).phase (w.seat i).post (w.seat i).desk (finds w i) j s (subst (λ (p : Post). stands p j ≡ Some s) (stepped_post w i) y))
+    own_from w i v (w.seat i).phase j s f n h refl (turn_from (w.seat i).phase (w.seat i).post (w.seat i).desk (finds w i) j s (phase_has w i v (w.seat i).phase n refl) (subst (λ (p : Post). stands p j ≡ Some s) (stepped_post w i) y))
 
 -- the machine of the seat that steps: what it comes to
 pub out_start : (clock : ℕ) (status : ℕ → Status) (post : Post) (phase : Phase) (why : Why) (base : Base) (s : ℕ) → is_start phase ≡ true → phase ≡ Runs why base → tries_base clock status post base s ≡ true → false ≡ true
@@ -412,8 +508,8 @@ run_comes w i v reason (Clear index) why base s n h f e o t =
     absurd (no_truth (other_comes ((step w i).mem Clock) (rows_after w i v).status ((step w i).seat i).post (counted (w.seat i).post) (Clear index) base (finds w i) s refl (turn_out w i reason (Clear index) why base ((step w i).mem Clock) (rows_after w i v).status s o t)))
 run_comes w i v reason Finish why base s n h f e o t =
     absurd (no_truth (other_comes ((step w i).mem Clock) (rows_after w i v).status ((step w i).seat i).post (counted (w.seat i).post) Finish base (finds w i) s refl (turn_out w i reason Finish why base ((step w i).mem Clock) (rows_after w i v).status s o t)))
-run_comes w i v reason Release why base s n h f e o t =
-    absurd (no_truth (other_comes ((step w i).mem Clock) (rows_after w i v).status ((step w i).seat i).post (counted (w.seat i).post) Release base (finds w i) s refl (turn_out w i reason Release why base ((step w i).mem Clock) (rows_after w i v).status s o t)))
+run_comes w i v reason (Release index) why base s n h f e o t =
+    absurd (no_truth (other_comes ((step w i).mem Clock) (rows_after w i v).status ((step w i).seat i).post (counted (w.seat i).post) (Release index) base (finds w i) s refl (turn_out w i reason (Release index) why base ((step w i).mem Clock) (rows_after w i v).status s o t)))
 run_comes w i v reason (Allocate at) why base s n h f e o t =
     absurd (no_truth (other_comes ((step w i).mem Clock) (rows_after w i v).status ((step w i).seat i).post (counted (w.seat i).post) (Allocate at) base (finds w i) s refl (turn_out w i reason (Allocate at) why base ((step w i).mem Clock) (rows_after w i v).status s o t)))
 run_comes w i v reason (Write slot row place) why base s n h f e o t =
@@ -434,7 +530,7 @@ turn_comes w i v Idle why base s n h f e o t = absurd (cc)
 turn_comes w i v (Scans later at) why base s n h f e o t =
     absurd (no_truth (out_start ((step w i).mem Clock) (rows_after w i v).status ((step w i).seat i).post (phase_left (scan_turn later at (counted (w.seat i).post) (w.seat i).desk (finds w i)).outcome) why base s (scan_starts later at (counted (w.seat i).post) (w.seat i).desk (finds w i)) o t))
 turn_comes w i v (Works work) why base s n h f e o t =
-    absurd (no_truth (out_start ((step w i).mem Clock) (rows_after w i v).status ((step w i).seat i).post (phase_left (work_turn work (counted (w.seat i).post) (w.seat i).desk (finds w i)).outcome) why base s (work_fresh work (counted (w.seat i).post) (w.seat i).desk (finds w i)).starts o t))
+    absurd (no_truth (sym (start_untried ((step w i).mem Clock) (rows_after w i v).status ((step w i).seat i).post base s (works_start work (counted (w.seat i).post) (w.seat i).desk (finds w i) why base o)) ∙ t))
 turn_comes w i v (Runs reason one) why base s n h f e o t = run_comes w i v reason one why base s n h f e o t
 
 own_tried : (w : World) (i : ℕ) (v : View) (why : Why) (base : Base) (s : ℕ) → helps w.layout.config.scheme ≡ false → HeldNeeds w i v → Held w v → ((step w i).seat i).phase ≡ Runs why base → tries_base ((step w i).mem Clock) (rows_after w i v).status ((step w i).seat i).post base s ≡ true
@@ -446,7 +542,7 @@ other_keeps : (w : World) (i k j : ℕ) (v : View) (phase : Phase) → (k == i) 
 other_keeps w i k j v Idle o f n e = refl
 other_keeps w i k j v (Runs why base) o f n e = base_other w.layout.config.scheme k j w.layout.config base (w.seat i).post f (n.base why base e).fits (rw n.seat o)
 other_keeps w i k j v (Scans later at) o f n e = scan_quiet w.layout.config.scheme k j at (w.seat i).post
-other_keeps w i k j v (Works work) o f n e = work_quiet w.layout.config.scheme k j work (w.seat i).post
+other_keeps w i k j v (Works work) o f n e = let a : (k == (w.seat i).post.seat) ≡ false = rw n.seat o in work_quiet w.layout.config.scheme k j work (w.seat i).post (rw a refl)
 
 other_holds : (w : World) (i k j : ℕ) (v : View) (s : ℕ) → (k == i) ≡ false → helps w.layout.config.scheme ≡ false → HeldNeeds w i v → Holds w v (own_guard w.layout.config.scheme k j) s → Holds (step w i) (rows_after w i v) (own_guard w.layout.config.scheme k j) s
 other_holds w i k j v s o f n h = holds_kept w i v (own_guard w.layout.config.scheme k j) s n (kept_widens w i (own_guard w.layout.config.scheme k j) (other_keeps w i k j v (w.seat i).phase o f n refl)) h

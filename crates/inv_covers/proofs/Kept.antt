@@ -1,5 +1,5 @@
 -- A covered row stays covered, and no scan gives it back.
-use Rattle.std.proofs.Common.{ℕ, zero, suc, ◌+◌, ◌-◌, ◌<◌, ◌≡◌, ◌∙◌, sym, subst, ap, true, false, arith, refl, Bool, Option, Some, None, List, [], ◌∷◌}
+use Rattle.std.proofs.Common.{ℕ, zero, suc, ◌+◌, ◌-◌, ◌<◌, ◌≡◌, ◌∙◌, sym, subst, ap, true, false, arith, refl, Bool, List, [], ◌∷◌}
 use Rattle.std.proofs.lemmas.Bool.Decides.{nat_tests}
 use Rattle.std.specs.Prelude.{◌==◌, if◌then◌else◌}
 use Rattle.inv_shapes.specs.words.declared.layout.Layout.{Layout}
@@ -13,7 +13,7 @@ use Rattle.inv_shapes.specs.model.declared.post.Post.{Post}
 use Rattle.inv_shapes.specs.model.Desks.{Desk, Report, noting}
 use Rattle.inv_shapes.specs.model.Guards.{guards, guard_at, guard_place, published}
 use Rattle.inv_shapes.specs.model.Memory.{found, place_in}
-use Rattle.inv_shapes.specs.model.Posts.{counted, stands}
+use Rattle.inv_shapes.specs.model.Posts.{counted}
 use Rattle.inv_shapes.specs.model.Phases.{Base, Turn, Outcome, Goes, Ends}
 use Rattle.inv_shapes.specs.model.Phases.AllocateAt.{LoadBirth, ClaimSlot, StoreLife}
 use Rattle.inv_shapes.specs.model.Phases.RetireAt.{LoadLife, LoadRetire, StoreRetired}
@@ -22,11 +22,9 @@ use Rattle.inv_shapes.specs.model.Allocate.{is_claimed}
 use Rattle.inv_shapes.specs.model.Change.{changed_bucket}
 use Rattle.inv_shapes.specs.defs.declared.event.Event.{Event}
 use Rattle.inv_shapes.specs.model.Machine as machine
-use Rattle.inv_shapes.specs.model.Steps.{phase_turn, phase_move, resumed, run_turn, work_turn, holding, first_phase}
+use Rattle.inv_shapes.specs.model.Steps.{phase_turn, phase_move, resumed, run_turn, work_turn, first_phase}
 use Rattle.inv_shapes.specs.defs.declared.call.Call.{Call}
-use Rattle.inv_shapes.specs.defs.declared.call.Call.TheVariants as names
-use Rattle.inv_shapes.specs.model.Rounds.{round}
-use Rattle.inv_shapes.specs.model.Calls.{Gets, Changes, Holds, Enqueues, Dequeues, AfterScan, ScanAt, ReadGuard, GiveBack, Why, LoadVersion, LoadCount, LoadKey, LoadValue, ExchangeRoot, LoadNumber, LoadNext, PassTail, ExchangeNext, ExchangeTail, LoadTail, SwingTail, TakeNumber, TakeValue, ExchangeHead, Work, Getting, Changing, Enqueuing, Dequeuing, Phase, Idle, Runs, Scans, Works, CallTurn, CallOutcome, GoesOn, Answers}
+use Rattle.inv_shapes.specs.model.Calls.{AfterScan, ScanAt, ReadGuard, GiveBack, Why, LoadVersion, LoadCount, LoadKey, LoadValue, ExchangeRoot, LoadNumber, LoadNext, PassTail, ExchangeNext, ExchangeTail, LoadTail, SwingTail, TakeNumber, TakeValue, ExchangeHead, Work, Getting, Changing, Enqueuing, Dequeuing, Keeping, Phase, Idle, Runs, Scans, Works, CallTurn, CallOutcome, GoesOn, Answers}
 use Rattle.inv_shapes.specs.model.Locals.{begun, begun_post, Local, turn, after, settled, settled_by, told_by, rounds_told}
 use Rattle.inv_shapes.specs.model.World.{World, step, finds}
 use Rattle.inv_rows.specs.Rows.{View, Good, RowMove, made, is_settled}
@@ -38,7 +36,7 @@ use Rattle.inv_shapes.specs.Frame.{phase_left}
 use Rattle.inv_shapes.proofs.Frame.{seat_stays, seat_steps}
 use Rattle.inv_rows.proofs.Fits.{MoveFits, phase_fits}
 use Rattle.inv_covers.specs.Covers.{NotBefore, Late, frees, takes_or_frees, has_met, life_of, life_in, number_of, shown, Covers, unmet_at, is_unmet, is_fresh, GuardFits, CoversNeeds, NotReused, CoversKept, ScansStart, ScansBegin, ScansKept}
-use Rattle.inv_covers.proofs.Fresh.{round_fresh, work_fresh, resume_fresh}
+use Rattle.inv_covers.proofs.Fresh.{works_fresh, resume_fresh, first_begins}
 use Rattle.inv_covers.proofs.Rows.{past_kept, life_kept, birth_kept, listed_other}
 use Rattle.inv_covers.proofs.Scans.{fresh_met, fresh_unmet, scan_met, scan_unmet_kept}
 use Rattle.inv_shapes.proofs.model.Facts.{no_truth}
@@ -123,7 +121,7 @@ base_returns (Protect aim index root steps at) x slot e = absurd (cc)
 base_returns (Reload parent index s era steps) x slot e = absurd (cc)
 base_returns (Clear index) x slot e = absurd (cc)
 base_returns Finish x slot e = absurd (cc)
-base_returns Release x slot e = absurd (cc)
+base_returns (Release index) x slot e = absurd (cc)
 base_returns (Allocate LoadBirth) x slot e = absurd (cc)
 base_returns (Allocate (ClaimSlot birth walk)) x slot e = claim_returns (is_claimed x walk.slot) walk.slot slot e
 base_returns (Allocate (StoreLife birth s)) x slot e = absurd (cc)
@@ -164,6 +162,7 @@ work_returns (Dequeuing (SwingTail head next)) post x slot e = absurd (cc)
 work_returns (Dequeuing (TakeNumber head next)) post x slot e = absurd (cc)
 work_returns (Dequeuing (TakeValue head next number)) post x slot e = absurd (cc)
 work_returns (Dequeuing (ExchangeHead head next number value)) post x slot e = pop_returns head next slot (x == head + 1) e
+work_returns (Keeping at) post x slot e = absurd (cc)
 
 -- a row that is covered is not given back
 returns_other : (slots i : ℕ) (v : View) (all number : ℕ) (phase : Phase) (post : Post) (x s slot : ℕ) (desk : Desk) → Good slots v → Plays i phase desk.list v → is_unmet phase desk ≡ true → number < all
@@ -219,7 +218,7 @@ seals_late shows mem (Runs why (Protect aim index root steps at)) post h = tt
 seals_late shows mem (Runs why (Reload parent index slot era steps)) post h = tt
 seals_late shows mem (Runs why (Clear index)) post h = tt
 seals_late shows mem (Runs why Finish) post h = tt
-seals_late shows mem (Runs why Release) post h = tt
+seals_late shows mem (Runs why (Release index)) post h = tt
 seals_late shows mem (Runs why (Allocate LoadBirth)) post h = tt
 seals_late shows mem (Runs why (Allocate (ClaimSlot birth walk))) post h = late_claims shows walk.slot (is_claimed (mem (Claim (claim_word walk.slot))) walk.slot)
 seals_late shows mem (Runs why (Allocate (StoreLife birth slot))) post h = tt
@@ -247,6 +246,7 @@ seals_late shows mem (Works (Dequeuing (SwingTail head next))) post h = tt
 seals_late shows mem (Works (Dequeuing (TakeNumber head next))) post h = tt
 seals_late shows mem (Works (Dequeuing (TakeValue head next number))) post h = tt
 seals_late shows mem (Works (Dequeuing (ExchangeHead head next number value))) post h = late_pop shows head next (mem Head == head + 1)
+seals_late shows mem (Works (Keeping at)) post h = tt
 
 pub resumed_fresh : (why : Why) (desk : Desk) (post : Post) (told : List Event) (outcome : Outcome) → is_fresh (phase_left (resumed why desk post told outcome).outcome) ≡ true
 resumed_fresh why desk post told (Goes base) = refl
@@ -284,7 +284,7 @@ turn_met (Scans later (GiveBack place slot)) post desk mem guard life f k =
 turn_met (Works work) post desk mem guard life f k =
     let x : ℕ = found (phase_move (Works work) post) (mem (place_in (phase_move (Works work) post))) in
     let t : CallTurn = work_turn work (counted post) desk x in
-    fresh_met (guards post.layout.config) (phase_left t.outcome) t.desk.report (number_of post.layout.config guard) life (work_fresh work (counted post) desk x).fresh
+    fresh_met (guards post.layout.config) (phase_left t.outcome) t.desk.report (number_of post.layout.config guard) life (works_fresh work (counted post) desk x)
 
 -- the same of the seat's state
 settled_by_met : (all : ℕ) (l : Local) (post : Post) (desk : Desk) (told : List Event) (rounds number : ℕ) (life : Lifetime) (outcome : CallOutcome) → has_met all (phase_left outcome) desk.report number life ≡ true → has_met all (settled_by l post (noting desk told) rounds outcome).phase (settled_by l post (noting desk told) rounds outcome).desk.report number life ≡ true
@@ -346,7 +346,7 @@ turn_unmet : (phase : Phase) (post : Post) (desk : Desk) (x : ℕ) → is_unmet 
 turn_unmet Idle post desk x = refl
 turn_unmet (Runs why base) post desk x = fresh_unmet (phase_left (run_turn why desk (machine.after base post x)).outcome) (run_turn why desk (machine.after base post x)).desk (run_fresh why desk (machine.after base post x))
 turn_unmet (Scans later at) post desk x = scan_unmet_kept later at post desk x
-turn_unmet (Works work) post desk x = fresh_unmet (phase_left (work_turn work post desk x).outcome) (work_turn work post desk x).desk (work_fresh work post desk x).fresh
+turn_unmet (Works work) post desk x = fresh_unmet (phase_left (work_turn work post desk x).outcome) (work_turn work post desk x).desk (works_fresh work post desk x)
 
 noted_unmet : (phase : Phase) (desk : Desk) (told : List Event) → is_unmet phase desk ≡ true → is_unmet phase (noting desk told) ≡ true
 noted_unmet Idle desk told h = refl
@@ -377,20 +377,8 @@ scans_kept w i u = record {
 pub scans_start : ScansStart
 scans_start layout = record { unmet = λ k. refl }
 
-holding_unmet : (key : ℕ) (post : Post) (x : Option ℕ) (desk : Desk) → is_unmet (holding key post x) desk ≡ true
-holding_unmet key post None desk = fresh_unmet (round (Holds key) post) desk (round_fresh (Holds key) post).fresh
-holding_unmet key post (Some slot) desk = refl
-
 first_unmet : (call : Call) (post : Post) (desk : Desk) → is_unmet (first_phase call post) desk ≡ true
-first_unmet (names.Get key) post desk = fresh_unmet (round (Gets key) post) desk (round_fresh (Gets key) post).fresh
-first_unmet (names.Put key value) post desk = fresh_unmet (first_phase (names.Put key value) post) desk (round_fresh (Changes _) post).fresh
-first_unmet (names.Remove key) post desk = fresh_unmet (first_phase (names.Remove key) post) desk (round_fresh (Changes _) post).fresh
-first_unmet (names.Enqueue value) post desk = fresh_unmet (first_phase (names.Enqueue value) post) desk (round_fresh (Enqueues _) post).fresh
-first_unmet names.Dequeue post desk = fresh_unmet (round Dequeues post) desk (round_fresh Dequeues post).fresh
-first_unmet (names.Hold key) post desk = holding_unmet key post (stands post 2) desk
-first_unmet names.Release post desk = refl
-first_unmet names.Advance post desk = refl
-first_unmet names.Scan post desk = refl
+first_unmet call post desk = fresh_unmet (first_phase call post) desk (first_begins call post).fresh
 
 pub scans_begin : ScansBegin
 scans_begin w i call u = record {

@@ -3,6 +3,7 @@ pub use Rattle.inv_shapes.proofs as shapes
 pub use Rattle.inv_shapes.proofs.model as model
 pub use Rattle.inv_shapes.proofs.words as words
 pub mod Begun
+pub mod Copying
 pub mod Following
 pub mod Fresh
 pub mod Guards

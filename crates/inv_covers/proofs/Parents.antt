@@ -17,14 +17,16 @@ use Rattle.inv_shapes.specs.model.declared.post.Post.{Post}
 use Rattle.inv_shapes.specs.model.Desks.{Desk, with_life}
 use Rattle.inv_shapes.specs.model.Phases.{Ending, Base}
 use Rattle.inv_shapes.specs.model.Phases.Ending.{Done, Protected, Followed, Allocated, Retired, Clocked}
-use Rattle.inv_shapes.specs.model.Rounds.{bucket_of, scheme_of, index_of, taken_of, begin_base, clear_base, clear_post, clear_told, finish_base, round_by, round, given_up, closed, finishing_by, finishing, clearing_by, clearing, clearing_next_by, clearing_next}
+use Rattle.inv_shapes.specs.model.Rounds.{bucket_of, scheme_of, index_of, taken_of, begin_base, clear_base, clear_post, clear_told, finish_base, let_index, round_by, round, given_up, closed, finishing_by, finishing, clearing_by, clearing, clearing_next_by, clearing_next}
 use Rattle.inv_shapes.specs.model.Get as gets
 use Rattle.inv_shapes.specs.model.Change as alters
 use Rattle.inv_shapes.specs.model.Enqueue as enqueues
 use Rattle.inv_shapes.specs.model.Dequeue as dequeues
+use Rattle.inv_shapes.specs.model.Keep as keeps
 use Rattle.inv_shapes.specs.model.Steps as steps
-use Rattle.inv_shapes.specs.model.Calls.{Task, Gets, Changes, Holds, Enqueues, Dequeues, Again, Answering, Retiring, AfterScan, Why, ChangeKept, EnqueueKept, GetAt, FindVersion, FindCount, FindKey, FindValue, ChangeAt, LoadVersion, LoadCount, LoadKey, LoadValue, ExchangeRoot, EnqueueAt, LoadNumber, LoadNext, PassTail, ExchangeNext, ExchangeTail, DequeueAt, LoadTail, SwingTail, TakeNumber, TakeValue, ExchangeHead, Work, Getting, Changing, Enqueuing, Dequeuing, Opens, FollowsHead, Fills, ClearsNext, Clears, Finishes, GivesUp, Retires, Tidies, Advances, Releases, Next, MakeRoom, CallTurn, Works}
-use Rattle.inv_shapes.specs.model.Posts.{stands}
+use Rattle.inv_shapes.specs.model.Calls.{Task, Gets, Changes, Holds, Enqueues, Dequeues, Again, Answering, Retiring, AfterScan, Why, ChangeKept, EnqueueKept, GetAt, FindVersion, FindCount, FindKey, FindValue, ChangeAt, LoadVersion, LoadCount, LoadKey, LoadValue, ExchangeRoot, EnqueueAt, LoadNumber, LoadNext, PassTail, ExchangeNext, ExchangeTail, DequeueAt, LoadTail, SwingTail, TakeNumber, TakeValue, ExchangeHead, Work, Getting, Changing, Enqueuing, Dequeuing, Opens, FollowsHead, Fills, ClearsNext, Clears, Finishes, GivesUp, Retires, Tidies, Advances, Releases, LetGo, Released, Rehold, Dropped, KeepAt, Loosens, LoadHeld, StoreHeld, Looks, Misses, Keeping, Next, MakeRoom, CallTurn, Works}
+use Rattle.inv_shapes.specs.model.Posts.{stands, withdrawn, cleared, reserves_index}
+use Rattle.inv_shapes.specs.words.Schemes.{has_one_interval}
 use Rattle.inv_shapes.specs.Frame.{phase_left}
 use Rattle.inv_shapes.specs.model.declared.ends.ProtectEnd.{ProtectEnd}
 use Rattle.inv_covers.specs.Parents.{Parent}
@@ -126,7 +128,7 @@ deciding_by_tends kept post desk told (Some answer) = clearing_tends (Changes ke
 deciding_by_tends kept post desk told None = λ row h. absurd (cc)
 
 deciding_tends : (kept : ChangeKept) (post : Post) (desk : Desk) (told : List Event) → Tended (alters.deciding kept post desk told)
-deciding_tends kept post desk told = deciding_by_tends kept post desk told (alters.refusal post.layout.config kept.version kept.pairs kept.change)
+deciding_tends kept post desk told = deciding_by_tends kept post desk told (alters.refused post.layout.config kept)
 
 reading_tends : (kept : ChangeKept) (slot count : ℕ) (post : Post) (desk : Desk) (more : Bool) → Tended (alters.reading kept slot count post desk more)
 reading_tends kept slot count post desk true = λ row h. absurd (cc)
@@ -182,11 +184,46 @@ dequeue_tends (TakeNumber head next) post desk found p = λ row h. absurd (cc)
 dequeue_tends (TakeValue head next number) post desk found p = λ row h. absurd (cc)
 dequeue_tends (ExchangeHead head next number value) post desk found p = taken_tends head next number value post desk (found == head + 1)
 
+released_tends : (let_go : LetGo) (post : Post) (desk : Desk) (told : List Event) → Tended (keeps.released let_go post desk told)
+released_tends Released post desk told = λ row h. absurd (cc)
+released_tends (Rehold key) post desk told = round_tends (Holds key) post
+released_tends (Dropped index) post desk told = λ row h. absurd (cc)
+
+copied_tends : (from index : ℕ) (post : Post) (desk : Desk) (reserved : List Event) (x : Option ℕ) → Tended (keeps.copied from index post desk reserved x)
+copied_tends from index post desk reserved None = λ row h. absurd (cc)
+copied_tends from index post desk reserved (Some slot) = λ row h. absurd (cc)
+
+load_held_tends : (from index : ℕ) (post : Post) (desk : Desk) (found : ℕ) (one : Bool) → Tended (keeps.load_held from index post desk found one)
+load_held_tends from index post desk found true = copied_tends from index post desk [] (stands post from)
+load_held_tends from index post desk found false = λ row h. absurd (cc)
+
+looking_tends : (index key slot version count : ℕ) (post : Post) (desk : Desk) (more : Bool) (pair : ℕ) → Tended (keeps.looking index key slot version count post desk more pair)
+looking_tends index key slot version count post desk true pair = λ row h. absurd (cc)
+looking_tends index key slot version count post desk false pair = λ row h. absurd (cc)
+
+looked_key_tends : (index key slot version count pair : ℕ) (post : Post) (desk : Desk) (own : Bool) → Tended (keeps.looked_key index key slot version count pair post desk own)
+looked_key_tends index key slot version count pair post desk true = λ row h. absurd (cc)
+looked_key_tends index key slot version count pair post desk false = looking_tends index key slot version count post desk (nat_lt (pair + 1) count) (pair + 1)
+
+look_tends : (index key : ℕ) (at : GetAt) (post : Post) (desk : Desk) (found : ℕ) → Tended (keeps.look_turn index key at post desk found)
+look_tends index key (FindVersion slot) post desk found = λ row h. absurd (cc)
+look_tends index key (FindCount slot version) post desk found = looking_tends index key slot version found post desk (nat_lt 0 found) 0
+look_tends index key (FindKey slot version count pair) post desk found = looked_key_tends index key slot version count pair post desk (found == key)
+look_tends index key (FindValue slot version pair) post desk found = λ row h. absurd (cc)
+
+keep_tends : (at : KeepAt) (post : Post) (desk : Desk) (found : ℕ) → Tended (keeps.keep_turn at post desk found)
+keep_tends (Loosens let_go) post desk found = released_tends let_go (withdrawn post (let_index let_go)) desk (cleared (let_index let_go) (stands post (let_index let_go)))
+keep_tends (LoadHeld from index) post desk found = load_held_tends from index post desk found (has_one_interval (scheme_of post))
+keep_tends (StoreHeld from index era) post desk found = copied_tends from index post desk (reserves_index post index era) (stands post from)
+keep_tends (Looks index key at) post desk found = look_tends index key at post desk found
+keep_tends (Misses index) post desk found = λ row h. absurd (cc)
+
 pub work_tends : (work : Work) (post : Post) (desk : Desk) (found : ℕ) → Parent (Works work) post → Tended (steps.work_turn work post desk found)
 work_tends (Getting key at) post desk found p = get_tends key at post desk found
 work_tends (Changing kept at) post desk found p = change_tends kept at post desk found
 work_tends (Enqueuing kept at) post desk found p = enqueue_tends kept at post desk found
 work_tends (Dequeuing at) post desk found p = dequeue_tends at post desk found p
+work_tends (Keeping at) post desk found p = keep_tends at post desk found
 
 opened_row_tends : (task : Task) (slot : ℕ) (post : Post) (desk : Desk) (told : List Event) → stood_row task slot post → Tended (steps.opened_row task slot post desk told)
 opened_row_tends (Gets key) slot post desk told s = λ row h. absurd (cc)
@@ -271,10 +308,6 @@ advanced_tends (Followed end) post desk told = λ row h. absurd (cc)
 advanced_tends (Allocated end) post desk told = λ row h. absurd (cc)
 advanced_tends (Retired life) post desk told = λ row h. absurd (cc)
 
-released_tends : (key : Option ℕ) (post : Post) (desk : Desk) (told : List Event) → Tended (steps.released key post desk told)
-released_tends None post desk told = λ row h. absurd (cc)
-released_tends (Some key) post desk told = round_tends (Holds key) post
-
 pub resume_tends : (why : Why) (ending : Ending) (post : Post) (desk : Desk) (told : List Event) → stood_why why ending post → Tended (steps.resume why ending post desk told)
 resume_tends (Opens task) ending post desk told s = opened_tends task ending post desk told s
 resume_tends (FollowsHead head tail) ending post desk told s = followed_by_tends head tail ending post desk told
@@ -286,4 +319,4 @@ resume_tends (GivesUp answer) ending post desk told s = λ row h. absurd (cc)
 resume_tends (Retires answer) ending post desk told s = retired_by_tends answer ending post desk told
 resume_tends (Tidies later) ending post desk told s = tidied_tends later ending post desk told
 resume_tends Advances ending post desk told s = advanced_tends ending post desk told
-resume_tends (Releases key) ending post desk told s = released_tends key post desk told
+resume_tends (Releases let_go) ending post desk told s = released_tends let_go post desk told

@@ -1,29 +1,31 @@
 -- Where nothing stands, of whole Worlds.
-use Rattle.std.proofs.Common.{ℕ, zero, suc, ◌≡◌, subst, true, false, arith, refl, Bool, Option, Some, None}
+use Rattle.std.proofs.Common.{ℕ, zero, suc, ◌≡◌, ◌≢◌, ◌∙◌, sym, subst, true, false, arith, refl, Bool, Option, Some, None}
 use Rattle.std.proofs.lemmas.Bool.Decides.{nat_tests}
-use Rattle.std.specs.Prelude.{◌==◌, if◌then◌else◌}
+use Rattle.std.specs.Prelude.{◌==◌, if◌then◌else◌, nat_lt}
 use Rattle.inv_shapes.specs.words.declared.layout.Layout.{Layout}
 use Rattle.inv_shapes.specs.defs.declared.call.Call.{Call}
 use Rattle.inv_shapes.specs.defs.declared.call.Call.TheVariants as names
 use Rattle.inv_shapes.specs.model.declared.post.Post.{Post}
 use Rattle.inv_shapes.specs.model.Desks.{Desk, noting}
-use Rattle.inv_shapes.specs.model.Posts.{new_post, stands, counted}
+use Rattle.inv_shapes.specs.model.Posts.{new_post, stands, withdrawn, counted}
 use Rattle.inv_shapes.specs.model.Phases.{Aim, ProtectAt, Base}
 use Rattle.inv_shapes.specs.defs.declared.event.Root.{Root}
 use Rattle.inv_shapes.specs.model.Phases.ProtectAt.{PublishEra, TakeAnswer}
 use Rattle.inv_shapes.specs.model.Phases.Base.{Protect, Finish, Release}
-use Rattle.inv_shapes.specs.model.Rounds.{index_of}
-use Rattle.inv_shapes.specs.model.Steps.{holding, first_phase}
-use Rattle.inv_shapes.specs.model.Calls.{Task, Gets, Changes, Holds, Enqueues, Dequeues, Why, Opens, FollowsHead, Fills, ClearsNext, Clears, Finishes, GivesUp, Retires, Tidies, Advances, Releases, Phase, Idle, CallTurn, CallOutcome, GoesOn, Answers}
+use Rattle.inv_shapes.specs.model.Rounds.{scheme_of, index_of, kept_row, release_span, let_index, letting_by, letting}
+use Rattle.inv_shapes.specs.model.Steps.{holding, copying, looking_at, first_phase}
+use Rattle.inv_shapes.specs.model.Calls.{Task, Gets, Changes, Holds, Enqueues, Dequeues, Why, Opens, FollowsHead, Fills, ClearsNext, Clears, Finishes, GivesUp, Retires, Tidies, Advances, Releases, LetGo, Released, Rehold, Dropped, Phase, Idle, CallTurn, CallOutcome, GoesOn, Answers}
 use Rattle.inv_shapes.specs.model.Locals.{Local, busy_in, turn, after, settled, settled_by, told_by, rounds_told, begun, begun_post}
 use Rattle.inv_shapes.specs.model.World.{finds}
 use Rattle.inv_shapes.specs.Frame.{phase_left}
 use Rattle.inv_shapes.specs.Seats.{Run}
 use Rattle.inv_covers.specs.Held.{rests_protect, rests_base}
 use Rattle.inv_covers.specs.Rests.{spare, bare, vacant_why, vacant, Vacant, RestsStart, RestsBegin, RestsKept, RestsGive}
-use Rattle.inv_covers.proofs.Rests.{round_vacant}
+use Rattle.inv_covers.proofs.Rests.{spare_bare, round_vacant, withdrawn_vacant}
 use Rattle.inv_covers.proofs.Vacant.{turn_vacant}
 use Rattle.inv_shapes.proofs.model.Facts.{no_truth}
+use Rattle.inv_shapes.proofs.model.Schemes.{each_release}
+use Rattle.inv_shapes.proofs.model.Standing.{none_kept, stands-withdrawn_other}
 
 abbrev VacantIn : Local → Type 0
 VacantIn l = Vacant (vacant l.phase) l.post
@@ -41,7 +43,7 @@ vacant_pick old new false a b = a
 
 pub rests_kept : RestsKept
 rests_kept w i n r = record {
-  vacant = λ k. vacant_pick (w.seat k) (after (w.seat i) (finds w i)) (k == i) (r.vacant k) (settled_vacant (w.seat i) (turn (w.seat i) (finds w i)) (turn_vacant w.layout (w.seat i).phase (w.seat i).post (counted (w.seat i).post) (w.seat i).desk (finds w i) n.shape n.right (r.vacant i)));
+  vacant = λ k. vacant_pick (w.seat k) (after (w.seat i) (finds w i)) (k == i) (r.vacant k) (settled_vacant (w.seat i) (turn (w.seat i) (finds w i)) (turn_vacant w.layout (w.seat i).phase (w.seat i).post (counted (w.seat i).post) (w.seat i).desk (finds w i) n.shape n.right n.kept (r.vacant i)));
 }
 
 -- nothing stands in a new post
@@ -59,20 +61,38 @@ new_vacant seat layout (suc (suc (suc (suc (suc (suc (suc (suc j)))))))) = refl
 pub rests_start : RestsStart
 rests_start layout = record { vacant = λ k j e. new_vacant k layout j }
 
--- a call begins where only what is held stands
+-- a call begins where only what is kept stands
 idle_spare : (phase : Phase) (post : Post) → busy_in phase ≡ false → Vacant (vacant phase) post → Vacant spare post
 idle_spare Idle post b h = h
 idle_spare phase post b h = absurd (cc)
 
-all_vacant : (post : Post) → Vacant spare post → stands post 2 ≡ None → (j : ℕ) → stands post j ≡ None
-all_vacant post h n j = by_two (j == 2) refl where
+none_held : (key : ℕ) (post : Post) → Vacant spare post → stands post 2 ≡ None → Vacant (bare (Holds key)) post
+none_held key post h n j e = by_two (j == 2) refl where
   by_two : (two : Bool) → (j == 2) ≡ two → stands post j ≡ None
-  by_two true e = let q : j ≡ 2 = grind (arith, nat_tests) in rw q n
-  by_two false e = h j (rw e refl)
+  by_two true q = let z : j ≡ 2 = grind (arith, nat_tests) in rw z n
+  by_two false q = h j (grind (arith, nat_tests))
+
+let_span_vacant : (let_go : LetGo) (post : Post) (x : Option ℕ) → Vacant spare post → Vacant (vacant (letting_by let_go (release_span (let_index let_go) x))) post
+let_span_vacant let_go post None h = h
+let_span_vacant let_go post (Some slot) h = h
+
+letting_vacant : (let_go : LetGo) (post : Post) → Vacant spare post → Vacant (vacant (letting let_go post)) post
+letting_vacant let_go post h =
+    each_release (scheme_of post) post (let_index let_go) (λ (x : Option Base). Vacant (vacant (letting_by let_go x)) post)
+    h
+    (let_span_vacant let_go post (kept_row (withdrawn post (let_index let_go))) h)
 
 holding_vacant : (key : ℕ) (post : Post) (x : Option ℕ) → stands post 2 ≡ x → Vacant spare post → Vacant (vacant (holding key post x)) post
-holding_vacant key post None n h = round_vacant (Holds key) post (λ j e. all_vacant post h n j)
-holding_vacant key post (Some slot) n h = h
+holding_vacant key post None n h = round_vacant (Holds key) post (none_held key post h n)
+holding_vacant key post (Some slot) n h = letting_vacant (Rehold key) post h
+
+copying_vacant : (from index : ℕ) (post : Post) (x : Option ℕ) → Vacant spare post → Vacant (vacant (copying from index x)) post
+copying_vacant from index post None h = h
+copying_vacant from index post (Some slot) h = h
+
+looking_vacant : (index key : ℕ) (post : Post) (x : Option ℕ) → Vacant spare post → Vacant (vacant (looking_at index key x)) post
+looking_vacant index key post None h = h
+looking_vacant index key post (Some slot) h = h
 
 first_vacant : (call : Call) (post : Post) → Vacant spare post → Vacant (vacant (first_phase call post)) post
 first_vacant (names.Get key) post h = round_vacant (Gets key) post h
@@ -81,9 +101,13 @@ first_vacant (names.Remove key) post h = round_vacant (Changes _) post h
 first_vacant (names.Enqueue value) post h = round_vacant (Enqueues _) post h
 first_vacant names.Dequeue post h = round_vacant Dequeues post h
 first_vacant (names.Hold key) post h = holding_vacant key post (stands post 2) refl h
-first_vacant names.Release post h = h
+first_vacant names.Release post h = letting_vacant Released post h
 first_vacant names.Advance post h = h
 first_vacant names.Scan post h = h
+first_vacant (names.Copy from index) post h = copying_vacant from index post (stands post from) h
+first_vacant (names.DropIndex index) post h = letting_vacant (Dropped index) post h
+first_vacant (names.Look index key) post h = looking_vacant index key post (stands post index) h
+first_vacant (names.PutIf key value version) post h = round_vacant (Changes _) post h
 
 pub rests_begin : RestsBegin
 rests_begin w i call b r = record {
@@ -94,7 +118,7 @@ rests_begin w i call b r = record {
 pub bare_own : (task : Task) (j : ℕ) → (j == index_of task) ≡ true → bare task j ≡ true
 bare_own (Gets key) j h = grind (arith, nat_tests)
 bare_own (Changes kept) j h = grind (arith, nat_tests)
-bare_own (Holds key) j h = refl
+bare_own (Holds key) j h = grind (arith, nat_tests)
 bare_own (Enqueues kept) j h = grind (arith, nat_tests)
 bare_own Dequeues j h = grind (arith, nat_tests)
 
@@ -111,43 +135,55 @@ protect_rests layout (GivesUp answer) aim index root steps at post j r e = absur
 protect_rests layout (Retires answer) aim index root steps at post j r e = absurd (no_truth r.suited)
 protect_rests layout (Tidies later) aim index root steps at post j r e = absurd (no_truth r.suited)
 protect_rests layout Advances aim index root steps at post j r e = absurd (no_truth r.suited)
-protect_rests layout (Releases key) aim index root steps at post j r e = absurd (no_truth r.suited)
+protect_rests layout (Releases let_go) aim index root steps at post j r e = absurd (no_truth r.suited)
 protect_rests layout (Opens task) aim index root steps at post j r e = absurd (cc)
 protect_rests layout (FollowsHead head tail) aim index root steps at post j r e = absurd (cc)
 
-finish_rests : (layout : Layout) (why : Why) (post : Post) (j : ℕ) → Run layout why Finish post → vacant_why why Finish j ≡ true
-finish_rests layout (Opens task) post j r = absurd (no_truth r.suited)
-finish_rests layout (FollowsHead head tail) post j r = absurd (no_truth r.suited)
-finish_rests layout (Fills task) post j r = absurd (no_truth r.suited)
-finish_rests layout (ClearsNext next) post j r = absurd (no_truth r.suited)
-finish_rests layout (Clears task next) post j r = absurd (no_truth r.suited)
-finish_rests layout (Finishes task next) post j r = refl
-finish_rests layout (GivesUp answer) post j r = absurd (no_truth r.suited)
-finish_rests layout (Retires answer) post j r = absurd (no_truth r.suited)
-finish_rests layout (Tidies later) post j r = absurd (no_truth r.suited)
-finish_rests layout Advances post j r = absurd (no_truth r.suited)
-finish_rests layout (Releases key) post j r = absurd (no_truth r.suited)
+-- nothing stands where an interval is finished, or at another index than the one that is released
+pub none_stands : (post : Post) (j : ℕ) → kept_row post ≡ None → Vacant spare post → stands post j ≡ None
+none_stands post j h v = by_low (nat_lt j 2) refl where
+  by_low : (low : Bool) → nat_lt j 2 ≡ low → stands post j ≡ None
+  by_low true e = v j e
+  by_low false e = none_kept post j h (grind (arith, nat_tests))
 
-release_rests : (layout : Layout) (why : Why) (post : Post) (j : ℕ) → Run layout why Release post → spare j ≡ true → vacant_why why Release j ≡ true
-release_rests layout (Opens task) post j r e = absurd (no_truth r.suited)
-release_rests layout (FollowsHead head tail) post j r e = absurd (no_truth r.suited)
-release_rests layout (Fills task) post j r e = absurd (no_truth r.suited)
-release_rests layout (ClearsNext next) post j r e = absurd (no_truth r.suited)
-release_rests layout (Clears task next) post j r e = absurd (no_truth r.suited)
-release_rests layout (Finishes task next) post j r e = absurd (no_truth r.suited)
-release_rests layout (GivesUp answer) post j r e = absurd (no_truth r.suited)
-release_rests layout (Retires answer) post j r e = absurd (no_truth r.suited)
-release_rests layout (Tidies later) post j r e = absurd (no_truth r.suited)
-release_rests layout Advances post j r e = absurd (no_truth r.suited)
-release_rests layout (Releases key) post j r e = e
+none_beside : (post : Post) (index j : ℕ) → kept_row (withdrawn post index) ≡ None → (j == index) ≡ false → Vacant spare post → stands post j ≡ None
+none_beside post index j h n v =
+    let q : j ≢ index = grind (arith, nat_tests) in
+    sym (stands-withdrawn_other post index j q) ∙ none_stands (withdrawn post index) j h (withdrawn_vacant spare spare post index (λ m a b. b) v)
 
-pub base_rests : (layout : Layout) (why : Why) (base : Base) (post : Post) (j : ℕ) → Run layout why base post → rests_base base j ≡ true → vacant_why why base j ≡ true
-base_rests layout why (Protect aim index root steps at) post j r e = protect_rests layout why aim index root steps at post j r e
-base_rests layout why Finish post j r e = finish_rests layout why post j r
-base_rests layout why Release post j r e = release_rests layout why post j r e
-base_rests layout why base post j r e = absurd (cc)
+finish_spare : (layout : Layout) (why : Why) (post : Post) (j : ℕ) → Run layout why Finish post → spare j ≡ true → vacant_why why Finish j ≡ true
+finish_spare layout (Opens task) post j r e = absurd (no_truth r.suited)
+finish_spare layout (FollowsHead head tail) post j r e = absurd (no_truth r.suited)
+finish_spare layout (Fills task) post j r e = absurd (no_truth r.suited)
+finish_spare layout (ClearsNext next) post j r e = absurd (no_truth r.suited)
+finish_spare layout (Clears task next) post j r e = absurd (no_truth r.suited)
+finish_spare layout (Finishes task next) post j r e = spare_bare task j e
+finish_spare layout (GivesUp answer) post j r e = e
+finish_spare layout (Retires answer) post j r e = e
+finish_spare layout (Tidies later) post j r e = absurd (no_truth r.suited)
+finish_spare layout Advances post j r e = e
+finish_spare layout (Releases let_go) post j r e = e
+
+release_spare : (layout : Layout) (why : Why) (index : ℕ) (post : Post) (j : ℕ) → Run layout why (Release index) post → spare j ≡ true → vacant_why why (Release index) j ≡ true
+release_spare layout (Opens task) index post j r e = absurd (no_truth r.suited)
+release_spare layout (FollowsHead head tail) index post j r e = absurd (no_truth r.suited)
+release_spare layout (Fills task) index post j r e = absurd (no_truth r.suited)
+release_spare layout (ClearsNext next) index post j r e = absurd (no_truth r.suited)
+release_spare layout (Clears task next) index post j r e = absurd (no_truth r.suited)
+release_spare layout (Finishes task next) index post j r e = absurd (no_truth r.suited)
+release_spare layout (GivesUp answer) index post j r e = e
+release_spare layout (Retires answer) index post j r e = e
+release_spare layout (Tidies later) index post j r e = absurd (no_truth r.suited)
+release_spare layout Advances index post j r e = e
+release_spare layout (Releases let_go) index post j r e = e
+
+pub base_rests : (layout : Layout) (why : Why) (base : Base) (post : Post) (j : ℕ) → Run layout why base post → Vacant (vacant_why why base) post → rests_base base j ≡ true → stands post j ≡ None
+base_rests layout why (Protect aim index root steps at) post j r v e = v j (protect_rests layout why aim index root steps at post j r e)
+base_rests layout why Finish post j r v e = none_stands post j r.posted (λ n k. v n (finish_spare layout why post n r k))
+base_rests layout why (Release index) post j r v e = none_beside post index j r.posted (grind (arith, nat_tests)) (λ n k. v n (release_spare layout why index post n r k))
+base_rests layout why base post j r v e = absurd (cc)
 
 pub rests_give : RestsGive
 rests_give w i why base j n r e h =
     let v : Vacant (vacant_why why base) (w.seat i).post = subst (λ (p : Phase). Vacant (vacant p) (w.seat i).post) e (r.vacant i) in
-    v j (base_rests w.layout why base (w.seat i).post j (n.shape why base e) h)
+    base_rests w.layout why base (w.seat i).post j (n.shape why base e) v h

@@ -1,5 +1,5 @@
 -- Where nothing stands after a call's own step, and after what comes after a machine.
-use Rattle.std.proofs.Common.{ℕ, ◌≡◌, ◌≢◌, ◌+◌, ◌∙◌, Bool, true, false, List, [], ◌∷◌, ◌++◌, length, Option, Some, None, refl, ap, sym, subst, arith}
+use Rattle.std.proofs.Common.{ℕ, ◌≡◌, ◌≢◌, ◌≤◌, ◌+◌, ◌∙◌, Bool, true, false, List, [], ◌∷◌, ◌++◌, length, Option, Some, None, refl, ap, sym, subst, arith}
 use Rattle.std.proofs.lemmas.Bool.Decides.{nat_tests}
 use Rattle.std.specs.Prelude.{◌==◌, ◌%◌, ◌-◌, nat_lt, if◌then◌else◌}
 use Rattle.inv_shapes.specs.defs.declared.call.Answer.{Answer}
@@ -17,21 +17,24 @@ use Rattle.inv_shapes.specs.model.declared.post.Post.{Post}
 use Rattle.inv_shapes.specs.model.Desks.{Desk, with_life}
 use Rattle.inv_shapes.specs.model.Phases.{Ending, Base}
 use Rattle.inv_shapes.specs.model.Phases.Ending.{Done, Protected, Followed, Allocated, Retired, Clocked}
-use Rattle.inv_shapes.specs.model.Rounds.{bucket_of, scheme_of, index_of, root_of, taken_of, begin_span, begin_base, clear_post, clear_told, finish_base, round_by, round, given_up, closed, finishing_by, finishing, clearing_by, clearing, clearing_next_by, clearing_next, finish_span, protect_base, opening}
+use Rattle.inv_shapes.specs.model.Rounds.{bucket_of, scheme_of, index_of, root_of, taken_of, begin_span, begin_base, clear_post, clear_told, finish_base, kept_row, let_index, round_by, round, given_up, closed, finishing_by, finishing, clearing_by, clearing, clearing_next_by, clearing_next, finish_span, protect_base, opening}
 use Rattle.inv_shapes.specs.model.Get as gets
 use Rattle.inv_shapes.specs.model.Change as alters
 use Rattle.inv_shapes.specs.model.Enqueue as enqueues
 use Rattle.inv_shapes.specs.model.Dequeue as dequeues
+use Rattle.inv_shapes.specs.model.Keep as keeps
 use Rattle.inv_shapes.specs.model.Steps as steps
-use Rattle.inv_shapes.specs.model.Calls.{Task, Gets, Changes, Holds, Enqueues, Dequeues, Again, Answering, Retiring, AfterScan, Why, Phase, ChangeKept, EnqueueKept, GetAt, FindVersion, FindCount, FindKey, FindValue, ChangeAt, LoadVersion, LoadCount, LoadKey, LoadValue, ExchangeRoot, EnqueueAt, LoadNumber, LoadNext, PassTail, ExchangeNext, ExchangeTail, DequeueAt, LoadTail, SwingTail, TakeNumber, TakeValue, ExchangeHead, Work, Getting, Changing, Enqueuing, Dequeuing, Opens, FollowsHead, Fills, ClearsNext, Clears, Finishes, GivesUp, Retires, Tidies, Advances, Releases, Next, MakeRoom, CallTurn}
+use Rattle.inv_shapes.specs.model.Calls.{Task, Gets, Changes, Holds, Enqueues, Dequeues, Again, Answering, Retiring, AfterScan, Why, Phase, ChangeKept, EnqueueKept, GetAt, FindVersion, FindCount, FindKey, FindValue, ChangeAt, LoadVersion, LoadCount, LoadKey, LoadValue, ExchangeRoot, EnqueueAt, LoadNumber, LoadNext, PassTail, ExchangeNext, ExchangeTail, DequeueAt, LoadTail, SwingTail, TakeNumber, TakeValue, ExchangeHead, Work, Getting, Changing, Enqueuing, Dequeuing, Opens, FollowsHead, Fills, ClearsNext, Clears, Finishes, GivesUp, Retires, Tidies, Advances, Releases, LetGo, Released, Rehold, Dropped, KeepAt, Loosens, LoadHeld, StoreHeld, Looks, Misses, Keeping, Next, MakeRoom, CallTurn}
+use Rattle.inv_shapes.specs.Slots.{CopyIn, KeepIn}
+use Rattle.inv_shapes.specs.words.declared.config.Config.{Config}
 use Rattle.inv_shapes.specs.words.declared.config.SchemeKind.{SchemeKind}
 use Rattle.inv_shapes.specs.words.declared.config.SchemeKind.TheVariants.{He, Ibr, Wfe}
-use Rattle.inv_shapes.specs.model.Posts.{stands, withdrawn}
+use Rattle.inv_shapes.specs.model.Posts.{stands, withdrawn, with_row, cleared, reserves_index}
 use Rattle.inv_shapes.specs.defs.declared.event.Root.{Root}
 use Rattle.inv_shapes.specs.defs.declared.lifetime.Interval.{Interval}
 use Rattle.inv_shapes.specs.Frame.{phase_left}
 use Rattle.inv_covers.specs.Rests.{spare, bare, beside, within, deep, vacant_later, vacant_dequeue, vacant_work, vacant, vacant_filled, vacant_opened, vacant_followed, vacant_released, vacant_after, Vacant}
-use Rattle.inv_shapes.proofs.model.Standing.{stands-withdrawn_same, stands-withdrawn_other}
+use Rattle.inv_shapes.proofs.model.Standing.{stands-withdrawn_same, stands-withdrawn_other, stands-with_row_other}
 use Rattle.inv_shapes.proofs.model.Schemes.{each_begin, each_finish}
 use Rattle.inv_shapes.specs.words.Schemes.{has_one_interval}
 use Rattle.inv_shapes.specs.model.Phases.Base.{Clear}
@@ -43,7 +46,7 @@ Turned t = Vacant (vacant (phase_left t.outcome)) t.post
 pub spare_bare : (task : Task) (j : ℕ) → spare j ≡ true → bare task j ≡ true
 spare_bare (Gets key) j h = h
 spare_bare (Changes kept) j h = h
-spare_bare (Holds key) j h = refl
+spare_bare (Holds key) j h = grind (arith, nat_tests)
 spare_bare (Enqueues kept) j h = h
 spare_bare Dequeues j h = h
 
@@ -78,21 +81,15 @@ closed_vacant task MakeRoom post desk told h = h
 closed_vacant task (Answering answer) post desk told h = given_up_vacant answer post desk told (taken_of task) (λ j e. h j (spare_bare task j e))
 closed_vacant task (Retiring slot answer) post desk told h = λ j e. h j (spare_bare task j e)
 
-all_vacant : (task : Task) (post : Post) → Vacant (bare task) post → stands post 2 ≡ None → (j : ℕ) → stands post j ≡ None
-all_vacant task post h n j = by_two (j == 2) refl where
-  by_two : (two : Bool) → (j == 2) ≡ two → stands post j ≡ None
-  by_two true e = let q : j ≡ 2 = grind (arith, nat_tests) in rw q n
-  by_two false e = h j (spare_bare task j (rw e refl))
-
-finish_vacant : (task : Task) (next : Next) (post : Post) (desk : Desk) (told : List Event) (x : Option ℕ) → stands post 2 ≡ x → Vacant (bare task) post → Turned (finishing_by task next post desk told (finish_span x))
-finish_vacant task next post desk told None n h = λ j e. all_vacant task post h n j
-finish_vacant task next post desk told (Some slot) n h = closed_vacant task next post desk told h
+finish_vacant : (task : Task) (next : Next) (post : Post) (desk : Desk) (told : List Event) (x : Option ℕ) → Vacant (bare task) post → Turned (finishing_by task next post desk told (finish_span x))
+finish_vacant task next post desk told None h = h
+finish_vacant task next post desk told (Some slot) h = closed_vacant task next post desk told h
 
 finishing_by_vacant : (task : Task) (next : Next) (post : Post) (desk : Desk) (told : List Event) (scheme : SchemeKind) → Vacant (bare task) post → Turned (finishing_by task next post desk told (finish_base scheme post))
 finishing_by_vacant task next post desk told scheme h =
     each_finish scheme post (λ (base : Option Base). Turned (finishing_by task next post desk told base))
     (closed_vacant task next post desk told h)
-    (finish_vacant task next post desk told (stands post 2) refl h)
+    (finish_vacant task next post desk told (kept_row post) h)
 
 finishing_vacant : (task : Task) (next : Next) (post : Post) (desk : Desk) (told : List Event) → Vacant (bare task) post → Turned (finishing task next post desk told)
 finishing_vacant task Again post desk told h = closed_vacant task Again post desk told h
@@ -153,7 +150,7 @@ deciding_by_vacant kept post desk told (Some answer) h = clearing_vacant (Change
 deciding_by_vacant kept post desk told None h = λ j e. h j (grind (arith, nat_tests))
 
 deciding_vacant : (kept : ChangeKept) (post : Post) (desk : Desk) (told : List Event) → Vacant within post → Turned (alters.deciding kept post desk told)
-deciding_vacant kept post desk told h = deciding_by_vacant kept post desk told (alters.refusal post.layout.config kept.version kept.pairs kept.change) (λ j e. h j (grind (arith, nat_tests)))
+deciding_vacant kept post desk told h = deciding_by_vacant kept post desk told (alters.refused post.layout.config kept) (λ j e. h j (grind (arith, nat_tests)))
 
 reading_vacant : (kept : ChangeKept) (slot count : ℕ) (post : Post) (desk : Desk) (more : Bool) → Vacant within post → Turned (alters.reading kept slot count post desk more)
 reading_vacant kept slot count post desk true h = λ j e. h j (grind (arith, nat_tests))
@@ -209,11 +206,59 @@ dequeue_vacant (TakeNumber head next) post desk found h = λ j e. h j (grind (ar
 dequeue_vacant (TakeValue head next number) post desk found h = λ j e. h j (grind (arith, nat_tests))
 dequeue_vacant (ExchangeHead head next number value) post desk found h = taken_vacant head next number value post desk (found == head + 1) (λ j e. h j (grind (arith, nat_tests)))
 
-pub work_vacant : (work : Work) (post : Post) (desk : Desk) (found : ℕ) → Vacant (vacant_work work) post → Turned (steps.work_turn work post desk found)
-work_vacant (Getting key at) post desk found h = get_vacant key at post desk found (λ j e. h j (grind (arith, nat_tests)))
-work_vacant (Changing kept at) post desk found h = change_vacant kept at post desk found (λ j e. h j (grind (arith, nat_tests)))
-work_vacant (Enqueuing kept at) post desk found h = enqueue_vacant kept at post desk found (λ j e. h j (grind (arith, nat_tests)))
-work_vacant (Dequeuing at) post desk found h = dequeue_vacant at post desk found (λ j e. h j (grind (arith, nat_tests)))
+released_vacant : (let_go : LetGo) (post : Post) (desk : Desk) (told : List Event) → Vacant (vacant_released let_go) post → Turned (keeps.released let_go post desk told)
+released_vacant Released post desk told h = h
+released_vacant (Rehold key) post desk told h = round_vacant (Holds key) post h
+released_vacant (Dropped index) post desk told h = h
+
+-- what was let go stands no more
+pub let_vacant : (let_go : LetGo) (post : Post) → Vacant spare post → Vacant (vacant_released let_go) (withdrawn post (let_index let_go))
+let_vacant Released post h = withdrawn_vacant spare spare post 2 (λ j n k. k) h
+let_vacant (Rehold key) post h = withdrawn_vacant spare (λ j. nat_lt j 3) post 2 (λ j n k. grind (arith, nat_tests)) h
+let_vacant (Dropped index) post h = withdrawn_vacant spare spare post index (λ j n k. k) h
+
+-- a copy goes to an index from 2 on
+row_above : (post : Post) (index slot : ℕ) → 2 ≤ index → Vacant spare post → Vacant spare (with_row post index slot)
+row_above post index slot b h j e = let n : j ≢ index = grind (arith, nat_tests) in stands-with_row_other post index slot j n ∙ h j e
+
+copied_vacant : (from index : ℕ) (post : Post) (desk : Desk) (reserved : List Event) (x : Option ℕ) → 2 ≤ index → Vacant spare post → Turned (keeps.copied from index post desk reserved x)
+copied_vacant from index post desk reserved None b h = h
+copied_vacant from index post desk reserved (Some slot) b h = row_above post index slot b h
+
+load_held_vacant : (from index : ℕ) (post : Post) (desk : Desk) (found : ℕ) (one : Bool) → 2 ≤ index → Vacant spare post → Turned (keeps.load_held from index post desk found one)
+load_held_vacant from index post desk found true b h = copied_vacant from index post desk [] (stands post from) b h
+load_held_vacant from index post desk found false b h = h
+
+looking_vacant : (index key slot version count : ℕ) (post : Post) (desk : Desk) (more : Bool) (pair : ℕ) → Vacant spare post → Turned (keeps.looking index key slot version count post desk more pair)
+looking_vacant index key slot version count post desk true pair h = h
+looking_vacant index key slot version count post desk false pair h = h
+
+looked_key_vacant : (index key slot version count pair : ℕ) (post : Post) (desk : Desk) (own : Bool) → Vacant spare post → Turned (keeps.looked_key index key slot version count pair post desk own)
+looked_key_vacant index key slot version count pair post desk true h = h
+looked_key_vacant index key slot version count pair post desk false h = looking_vacant index key slot version count post desk (nat_lt (pair + 1) count) (pair + 1) h
+
+look_vacant : (index key : ℕ) (at : GetAt) (post : Post) (desk : Desk) (found : ℕ) → Vacant spare post → Turned (keeps.look_turn index key at post desk found)
+look_vacant index key (FindVersion slot) post desk found h = h
+look_vacant index key (FindCount slot version) post desk found h = looking_vacant index key slot version found post desk (nat_lt 0 found) 0 h
+look_vacant index key (FindKey slot version count pair) post desk found h = looked_key_vacant index key slot version count pair post desk (found == key) h
+look_vacant index key (FindValue slot version pair) post desk found h = h
+
+copy_high : (config : Config) (from index : ℕ) → CopyIn config from index → 2 ≤ index
+copy_high config from index c = omega (arith, c.kept, c.rises)
+
+keep_vacant : (config : Config) (at : KeepAt) (post : Post) (desk : Desk) (found : ℕ) → KeepIn config at → Vacant spare post → Turned (keeps.keep_turn at post desk found)
+keep_vacant config (Loosens let_go) post desk found k h = released_vacant let_go (withdrawn post (let_index let_go)) desk (cleared (let_index let_go) (stands post (let_index let_go))) (let_vacant let_go post h)
+keep_vacant config (LoadHeld from index) post desk found k h = load_held_vacant from index post desk found (has_one_interval (scheme_of post)) (copy_high config from index k) h
+keep_vacant config (StoreHeld from index era) post desk found k h = copied_vacant from index post desk (reserves_index post index era) (stands post from) (copy_high config from index k) h
+keep_vacant config (Looks index key at) post desk found k h = look_vacant index key at post desk found h
+keep_vacant config (Misses index) post desk found k h = h
+
+pub work_vacant : (config : Config) (work : Work) (post : Post) (desk : Desk) (found : ℕ) → ((at : KeepAt) → work ≡ Keeping at → KeepIn config at) → Vacant (vacant_work work) post → Turned (steps.work_turn work post desk found)
+work_vacant config (Getting key at) post desk found k h = get_vacant key at post desk found (λ j e. h j (grind (arith, nat_tests)))
+work_vacant config (Changing kept at) post desk found k h = change_vacant kept at post desk found (λ j e. h j (grind (arith, nat_tests)))
+work_vacant config (Enqueuing kept at) post desk found k h = enqueue_vacant kept at post desk found (λ j e. h j (grind (arith, nat_tests)))
+work_vacant config (Dequeuing at) post desk found k h = dequeue_vacant at post desk found (λ j e. h j (grind (arith, nat_tests)))
+work_vacant config (Keeping at) post desk found k h = keep_vacant config at post desk found (k at refl) h
 
 opened_row_vacant : (task : Task) (slot : ℕ) (post : Post) (desk : Desk) (told : List Event) → Vacant (beside task) post → Turned (steps.opened_row task slot post desk told)
 opened_row_vacant (Gets key) slot post desk told h = λ j e. h j (grind (arith, nat_tests))
@@ -298,10 +343,6 @@ advanced_vacant (Followed end) post desk told h = λ j e. h j (grind (arith, nat
 advanced_vacant (Allocated end) post desk told h = λ j e. h j (grind (arith, nat_tests))
 advanced_vacant (Retired life) post desk told h = λ j e. h j (grind (arith, nat_tests))
 
-released_vacant : (key : Option ℕ) (post : Post) (desk : Desk) (told : List Event) → Vacant (vacant_released key) post → Turned (steps.released key post desk told)
-released_vacant None post desk told h = λ j e. h j (grind (arith, nat_tests))
-released_vacant (Some key) post desk told h = round_vacant (Holds key) post h
-
 pub resume_vacant : (why : Why) (ending : Ending) (post : Post) (desk : Desk) (told : List Event) → Vacant (vacant_after why ending) post → Turned (steps.resume why ending post desk told)
 resume_vacant (Opens task) ending post desk told h = opened_vacant task ending post desk told (λ j e. h j (grind (arith, nat_tests)))
 resume_vacant (FollowsHead head tail) ending post desk told h = followed_by_vacant head tail ending post desk told (λ j e. h j (grind (arith, nat_tests)))
@@ -313,4 +354,4 @@ resume_vacant (GivesUp answer) ending post desk told h = λ j e. h j (grind (ari
 resume_vacant (Retires answer) ending post desk told h = retired_by_vacant answer ending post desk told (λ j e. h j (grind (arith, nat_tests)))
 resume_vacant (Tidies later) ending post desk told h = tidied_vacant later ending post desk told (λ j e. h j (grind (arith, nat_tests)))
 resume_vacant Advances ending post desk told h = advanced_vacant ending post desk told (λ j e. h j (grind (arith, nat_tests)))
-resume_vacant (Releases key) ending post desk told h = released_vacant key post desk told (λ j e. h j (grind (arith, nat_tests)))
+resume_vacant (Releases let_go) ending post desk told h = released_vacant let_go post desk told h

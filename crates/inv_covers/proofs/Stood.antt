@@ -196,7 +196,7 @@ base_stood status config mem (Protect aim index root steps at) post last j s w f
 base_stood status config mem (Reload parent index slot era steps) post last j s w f b q h = reload_stood status parent index slot (mem Head) (bump steps) post j s (mem Head == parent + 1) refl b (q parent) h
 base_stood status config mem (Clear index) post last j s w f b q h = inl (withdrawn_shrinks post index j s h)
 base_stood status config mem Finish post last j s w f b q h = inl h
-base_stood status config mem Release post last j s w f b q h = inl (withdrawn_shrinks post 2 j s h)
+base_stood status config mem (Release index) post last j s w f b q h = inl (withdrawn_shrinks post index j s h)
 base_stood status config mem (Allocate at) post last j s w f b q h = inl (allocate_stood at (found (base_move (Allocate at) last) (mem (place_in (base_move (Allocate at) last)))) post j s h)
 base_stood status config mem (Write slot row place) post last j s w f b q h = inl (write_stood slot row place post j s (place == last_written row) refl h)
 base_stood status config mem (GiveUp slot) post last j s w f b q h = inl h

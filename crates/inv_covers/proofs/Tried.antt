@@ -237,7 +237,7 @@ other_tries clock status (Protect aim index root steps at) post next found s p =
 other_tries clock status (Reload parent index slot era steps) post next found s p = tries_if clock status next _ _ s (found == parent + 1) refl refl
 other_tries clock status (Clear index) post next found s p = refl
 other_tries clock status Finish post next found s p = refl
-other_tries clock status Release post next found s p = refl
+other_tries clock status (Release index) post next found s p = refl
 other_tries clock status (Allocate at) post next found s p = allocate_tries clock status at post next found s
 other_tries clock status (Write slot row place) post next found s p = tries_if clock status next _ _ s (place == last_written row) refl refl
 other_tries clock status (GiveUp slot) post next found s p = refl

@@ -1,5 +1,5 @@
 -- Where nothing stands, over each step and each beginning of a call.
-use Rattle.std.proofs.Common.{ℕ, ◌+◌, ◌-◌, ◌≡◌, sym, subst, true, false, arith, refl, Bool, Option, Some, None, List, [], ◌∷◌}
+use Rattle.std.proofs.Common.{ℕ, ◌+◌, ◌-◌, ◌≡◌, sym, subst, ap, true, false, arith, refl, Bool, Option, Some, None, List, [], ◌∷◌}
 use Rattle.std.proofs.lemmas.Bool.Decides.{nat_tests}
 use Rattle.std.specs.Prelude.{◌==◌, if◌then◌else◌, nat_lt}
 use Rattle.inv_shapes.specs.words.declared.layout.Layout.{Layout}
@@ -22,15 +22,16 @@ use Rattle.inv_shapes.specs.model.Memory.{bump}
 use Rattle.inv_shapes.specs.model.WriteRow.{last_written}
 use Rattle.inv_shapes.specs.model.declared.ends.FollowEnd.TheVariants as follow_ends
 use Rattle.inv_shapes.specs.defs.declared.call.Answer.{Answer}
-use Rattle.inv_shapes.specs.model.Calls.{Next, Task, Gets, Changes, Holds, Enqueues, Dequeues, AfterScan, Answered, Repeated, Counted, ScanAt, ReadGuard, GiveBack, Why, Opens, FollowsHead, Fills, ClearsNext, Clears, Finishes, GivesUp, Retires, Tidies, Advances, Releases, Phase, Idle, Runs, Scans, Works}
+use Rattle.inv_shapes.specs.model.Calls.{Next, Task, Gets, Changes, Holds, Enqueues, Dequeues, AfterScan, Answered, Repeated, Counted, ScanAt, ReadGuard, GiveBack, Why, Opens, FollowsHead, Fills, ClearsNext, Clears, Finishes, GivesUp, Retires, Tidies, Advances, Releases, LetGo, KeepAt, Keeping, Phase, Idle, Runs, Scans, Works}
 use Rattle.inv_shapes.specs.model.Machine.{after, protect_turn}
 use Rattle.inv_shapes.specs.model.Rounds.{index_of}
 use Rattle.inv_shapes.specs.model.Scan.{Entry, scanned, giving_back, reading, unmet_from, with_kept, with_read, with_back, scan_turn}
 use Rattle.inv_shapes.specs.model.Steps.{resumed, phase_turn}
 use Rattle.inv_rows.specs.Hands.{runs_right, task_fills}
 use Rattle.inv_shapes.specs.Seats.{Run}
-use Rattle.inv_covers.specs.Rests.{spare, bare, beside, within, deep, vacant_later, has_taken, base_taken, vacant_opening, vacant_why, vacant, vacant_filled, vacant_released, vacant_after, Vacant}
-use Rattle.inv_covers.proofs.Rests.{Turned, round_vacant, work_vacant, resume_vacant, withdrawn_vacant, bare_beside}
+use Rattle.inv_shapes.specs.Slots.{KeepIn}
+use Rattle.inv_covers.specs.Rests.{spare, bare, beside, within, deep, vacant_later, has_taken, base_taken, vacant_opening, vacant_why, vacant, vacant_filled, vacant_after, Vacant}
+use Rattle.inv_covers.proofs.Rests.{Turned, round_vacant, work_vacant, resume_vacant, withdrawn_vacant, let_vacant, bare_beside}
 use Rattle.inv_covers.proofs.Stands.{with_row_apart}
 use Rattle.inv_covers.proofs.Stood.{begin_stood, allocate_stood, write_stood, retire_stood, move_stood}
 use Rattle.inv_shapes.proofs.model.Facts.{no_truth}
@@ -190,7 +191,7 @@ opens_vacant layout task (Protect aim index root steps at) last post found r h =
 opens_vacant layout task (Reload parent index slot era steps) last post found r h = absurd (no_truth r.suited)
 opens_vacant layout task (Clear index) last post found r h = absurd (no_truth r.suited)
 opens_vacant layout task Finish last post found r h = absurd (no_truth r.suited)
-opens_vacant layout task Release last post found r h = absurd (no_truth r.suited)
+opens_vacant layout task (Release index) last post found r h = absurd (no_truth r.suited)
 opens_vacant layout task (Allocate at) last post found r h = absurd (no_truth r.suited)
 opens_vacant layout task (Write slot row place) last post found r h = absurd (no_truth r.suited)
 opens_vacant layout task (GiveUp slot) last post found r h = absurd (no_truth r.suited)
@@ -206,7 +207,7 @@ follows_vacant layout head tail (Reload parent index slot era steps) last post f
 follows_vacant layout head tail (Begin at) last post found r h = absurd (no_truth r.suited)
 follows_vacant layout head tail (Clear index) last post found r h = absurd (no_truth r.suited)
 follows_vacant layout head tail Finish last post found r h = absurd (no_truth r.suited)
-follows_vacant layout head tail Release last post found r h = absurd (no_truth r.suited)
+follows_vacant layout head tail (Release index) last post found r h = absurd (no_truth r.suited)
 follows_vacant layout head tail (Allocate at) last post found r h = absurd (no_truth r.suited)
 follows_vacant layout head tail (Write slot row place) last post found r h = absurd (no_truth r.suited)
 follows_vacant layout head tail (GiveUp slot) last post found r h = absurd (no_truth r.suited)
@@ -227,7 +228,7 @@ fills_vacant layout task (Protect aim index root steps at) last post found r t h
 fills_vacant layout task (Reload parent index slot era steps) last post found r t h = absurd (no_truth r.suited)
 fills_vacant layout task (Clear index) last post found r t h = absurd (no_truth r.suited)
 fills_vacant layout task Finish last post found r t h = absurd (no_truth r.suited)
-fills_vacant layout task Release last post found r t h = absurd (no_truth r.suited)
+fills_vacant layout task (Release index) last post found r t h = absurd (no_truth r.suited)
 fills_vacant layout task (Allocate at) last post found r t h = out_of (Fills task) within (after (Allocate at) post found).post (after (Allocate at) post found).outcome (λ b j k. k) (λ e j k. filled_within task (Allocate at) t j k) (vacant_same within post (after (Allocate at) post found).post (λ j s k. allocate_stood at found post j s k) h)
 fills_vacant layout task (Write slot row place) last post found r t h = out_of (Fills task) within (after (Write slot row place) post found).post (after (Write slot row place) post found).outcome (λ b j k. k) (λ e j k. filled_within task (Write slot row place) t j k) (vacant_same within post (after (Write slot row place) post found).post (λ j s k. write_stood slot row place post j s (place == last_written row) refl k) h)
 fills_vacant layout task (GiveUp slot) last post found r t h = absurd (no_truth r.suited)
@@ -240,7 +241,7 @@ clears_next_vacant layout next (Protect aim index root steps at) last post found
 clears_next_vacant layout next (Reload parent index slot era steps) last post found r h = absurd (no_truth r.suited)
 clears_next_vacant layout next (Clear index) last post found r h = rw r.shape (withdrawn_vacant deep within post 1 (λ j n k. grind (arith, nat_tests)) h)
 clears_next_vacant layout next Finish last post found r h = absurd (no_truth r.suited)
-clears_next_vacant layout next Release last post found r h = absurd (no_truth r.suited)
+clears_next_vacant layout next (Release index) last post found r h = absurd (no_truth r.suited)
 clears_next_vacant layout next (Allocate at) last post found r h = absurd (no_truth r.suited)
 clears_next_vacant layout next (Write slot row place) last post found r h = absurd (no_truth r.suited)
 clears_next_vacant layout next (GiveUp slot) last post found r h = absurd (no_truth r.suited)
@@ -253,20 +254,20 @@ clears_vacant layout task next (Protect aim index root steps at) last post found
 clears_vacant layout task next (Reload parent index slot era steps) last post found r h = absurd (no_truth r.suited)
 clears_vacant layout task next (Clear index) last post found r h = rw r.shape (withdrawn_vacant (beside task) (bare task) post (index_of task) (λ j n k. bare_beside task j n k) h)
 clears_vacant layout task next Finish last post found r h = absurd (no_truth r.suited)
-clears_vacant layout task next Release last post found r h = absurd (no_truth r.suited)
+clears_vacant layout task next (Release index) last post found r h = absurd (no_truth r.suited)
 clears_vacant layout task next (Allocate at) last post found r h = absurd (no_truth r.suited)
 clears_vacant layout task next (Write slot row place) last post found r h = absurd (no_truth r.suited)
 clears_vacant layout task next (GiveUp slot) last post found r h = absurd (no_truth r.suited)
 clears_vacant layout task next (Retire at) last post found r h = absurd (no_truth r.suited)
 clears_vacant layout task next (Move at) last post found r h = absurd (no_truth r.suited)
 
-finishes_vacant : (layout : Layout) (task : Task) (next : Next) (base : Base) (last post : Post) (found : ℕ) → Run layout (Finishes task next) base last → ((j : ℕ) → stands post j ≡ None) → Out (Finishes task next) (after base post found).post (after base post found).outcome
+finishes_vacant : (layout : Layout) (task : Task) (next : Next) (base : Base) (last post : Post) (found : ℕ) → Run layout (Finishes task next) base last → Vacant (bare task) post → Out (Finishes task next) (after base post found).post (after base post found).outcome
 finishes_vacant layout task next (Begin at) last post found r h = absurd (no_truth r.suited)
 finishes_vacant layout task next (Protect aim index root steps at) last post found r h = absurd (no_truth r.suited)
 finishes_vacant layout task next (Reload parent index slot era steps) last post found r h = absurd (no_truth r.suited)
 finishes_vacant layout task next (Clear index) last post found r h = absurd (no_truth r.suited)
-finishes_vacant layout task next Finish last post found r h = λ j k. h j
-finishes_vacant layout task next Release last post found r h = absurd (no_truth r.suited)
+finishes_vacant layout task next Finish last post found r h = h
+finishes_vacant layout task next (Release index) last post found r h = absurd (no_truth r.suited)
 finishes_vacant layout task next (Allocate at) last post found r h = absurd (no_truth r.suited)
 finishes_vacant layout task next (Write slot row place) last post found r h = absurd (no_truth r.suited)
 finishes_vacant layout task next (GiveUp slot) last post found r h = absurd (no_truth r.suited)
@@ -279,7 +280,7 @@ gives_up_vacant layout answer (Protect aim index root steps at) last post found 
 gives_up_vacant layout answer (Reload parent index slot era steps) last post found r h = absurd (no_truth r.suited)
 gives_up_vacant layout answer (Clear index) last post found r h = absurd (no_truth r.suited)
 gives_up_vacant layout answer Finish last post found r h = absurd (no_truth r.suited)
-gives_up_vacant layout answer Release last post found r h = absurd (no_truth r.suited)
+gives_up_vacant layout answer (Release index) last post found r h = absurd (no_truth r.suited)
 gives_up_vacant layout answer (Allocate at) last post found r h = absurd (no_truth r.suited)
 gives_up_vacant layout answer (Write slot row place) last post found r h = absurd (no_truth r.suited)
 gives_up_vacant layout answer (GiveUp slot) last post found r h = h
@@ -292,7 +293,7 @@ retires_vacant layout answer (Protect aim index root steps at) last post found r
 retires_vacant layout answer (Reload parent index slot era steps) last post found r h = absurd (no_truth r.suited)
 retires_vacant layout answer (Clear index) last post found r h = absurd (no_truth r.suited)
 retires_vacant layout answer Finish last post found r h = absurd (no_truth r.suited)
-retires_vacant layout answer Release last post found r h = absurd (no_truth r.suited)
+retires_vacant layout answer (Release index) last post found r h = absurd (no_truth r.suited)
 retires_vacant layout answer (Allocate at) last post found r h = absurd (no_truth r.suited)
 retires_vacant layout answer (Write slot row place) last post found r h = absurd (no_truth r.suited)
 retires_vacant layout answer (GiveUp slot) last post found r h = absurd (no_truth r.suited)
@@ -305,7 +306,7 @@ tidies_vacant layout later (Protect aim index root steps at) last post found r h
 tidies_vacant layout later (Reload parent index slot era steps) last post found r h = absurd (no_truth r.suited)
 tidies_vacant layout later (Clear index) last post found r h = absurd (no_truth r.suited)
 tidies_vacant layout later Finish last post found r h = absurd (no_truth r.suited)
-tidies_vacant layout later Release last post found r h = absurd (no_truth r.suited)
+tidies_vacant layout later (Release index) last post found r h = absurd (no_truth r.suited)
 tidies_vacant layout later (Allocate at) last post found r h = absurd (no_truth r.suited)
 tidies_vacant layout later (Write slot row place) last post found r h = absurd (no_truth r.suited)
 tidies_vacant layout later (GiveUp slot) last post found r h = absurd (no_truth r.suited)
@@ -318,25 +319,25 @@ advances_vacant layout (Protect aim index root steps at) last post found r h = a
 advances_vacant layout (Reload parent index slot era steps) last post found r h = absurd (no_truth r.suited)
 advances_vacant layout (Clear index) last post found r h = absurd (no_truth r.suited)
 advances_vacant layout Finish last post found r h = absurd (no_truth r.suited)
-advances_vacant layout Release last post found r h = absurd (no_truth r.suited)
+advances_vacant layout (Release index) last post found r h = absurd (no_truth r.suited)
 advances_vacant layout (Allocate at) last post found r h = absurd (no_truth r.suited)
 advances_vacant layout (Write slot row place) last post found r h = absurd (no_truth r.suited)
 advances_vacant layout (GiveUp slot) last post found r h = absurd (no_truth r.suited)
 advances_vacant layout (Retire at) last post found r h = absurd (no_truth r.suited)
 advances_vacant layout (Move at) last post found r h = out_of Advances spare (after (Move at) post found).post (after (Move at) post found).outcome (λ b j k. k) (λ e j k. k) (vacant_same spare post (after (Move at) post found).post (λ j s k. move_stood at found post j s k) h)
 
-releases_vacant : (layout : Layout) (key : Option ℕ) (base : Base) (last post : Post) (found : ℕ) → Run layout (Releases key) base last → Vacant spare post → Out (Releases key) (after base post found).post (after base post found).outcome
-releases_vacant layout key (Begin at) last post found r h = absurd (no_truth r.suited)
-releases_vacant layout key (Protect aim index root steps at) last post found r h = absurd (no_truth r.suited)
-releases_vacant layout key (Reload parent index slot era steps) last post found r h = absurd (no_truth r.suited)
-releases_vacant layout key (Clear index) last post found r h = rw r.shape (withdrawn_vacant spare (vacant_released key) post 2 (λ j n k. rw n refl) h)
-releases_vacant layout key Finish last post found r h = absurd (no_truth r.suited)
-releases_vacant layout key Release last post found r h = withdrawn_vacant spare (vacant_released key) post 2 (λ j n k. rw n refl) h
-releases_vacant layout key (Allocate at) last post found r h = absurd (no_truth r.suited)
-releases_vacant layout key (Write slot row place) last post found r h = absurd (no_truth r.suited)
-releases_vacant layout key (GiveUp slot) last post found r h = absurd (no_truth r.suited)
-releases_vacant layout key (Retire at) last post found r h = absurd (no_truth r.suited)
-releases_vacant layout key (Move at) last post found r h = absurd (no_truth r.suited)
+releases_vacant : (layout : Layout) (let_go : LetGo) (base : Base) (last post : Post) (found : ℕ) → Run layout (Releases let_go) base last → Vacant spare post → Out (Releases let_go) (after base post found).post (after base post found).outcome
+releases_vacant layout let_go (Begin at) last post found r h = absurd (no_truth r.suited)
+releases_vacant layout let_go (Protect aim index root steps at) last post found r h = absurd (no_truth r.suited)
+releases_vacant layout let_go (Reload parent index slot era steps) last post found r h = absurd (no_truth r.suited)
+releases_vacant layout let_go (Clear index) last post found r h = rw r.shape (let_vacant let_go post h)
+releases_vacant layout let_go Finish last post found r h = absurd (no_truth r.suited)
+releases_vacant layout let_go (Release index) last post found r h = rw r.shape (let_vacant let_go post h)
+releases_vacant layout let_go (Allocate at) last post found r h = absurd (no_truth r.suited)
+releases_vacant layout let_go (Write slot row place) last post found r h = absurd (no_truth r.suited)
+releases_vacant layout let_go (GiveUp slot) last post found r h = absurd (no_truth r.suited)
+releases_vacant layout let_go (Retire at) last post found r h = absurd (no_truth r.suited)
+releases_vacant layout let_go (Move at) last post found r h = absurd (no_truth r.suited)
 
 run_vacant : (layout : Layout) (why : Why) (base : Base) (last post : Post) (found : ℕ) → Run layout why base last → runs_right why base ≡ true → Vacant (vacant_why why base) post → Out why (after base post found).post (after base post found).outcome
 run_vacant layout (Opens task) base last post found r t h = opens_vacant layout task base last post found r h
@@ -344,16 +345,16 @@ run_vacant layout (FollowsHead head tail) base last post found r t h = follows_v
 run_vacant layout (Fills task) base last post found r t h = fills_vacant layout task base last post found r t h
 run_vacant layout (ClearsNext next) base last post found r t h = clears_next_vacant layout next base last post found r h
 run_vacant layout (Clears task next) base last post found r t h = clears_vacant layout task next base last post found r h
-run_vacant layout (Finishes task next) base last post found r t h = finishes_vacant layout task next base last post found r (λ j. h j refl)
+run_vacant layout (Finishes task next) base last post found r t h = finishes_vacant layout task next base last post found r h
 run_vacant layout (GivesUp answer) base last post found r t h = gives_up_vacant layout answer base last post found r h
 run_vacant layout (Retires answer) base last post found r t h = retires_vacant layout answer base last post found r h
 run_vacant layout (Tidies later) base last post found r t h = tidies_vacant layout later base last post found r h
 run_vacant layout Advances base last post found r t h = advances_vacant layout base last post found r h
-run_vacant layout (Releases key) base last post found r t h = releases_vacant layout key base last post found r h
+run_vacant layout (Releases let_go) base last post found r t h = releases_vacant layout let_go base last post found r h
 
-pub turn_vacant : (layout : Layout) (phase : Phase) (last post : Post) (desk : Desk) (found : ℕ) → ((why : Why) (base : Base) → phase ≡ Runs why base → Run layout why base last) → ((why : Why) (base : Base) → phase ≡ Runs why base → runs_right why base ≡ true) → Vacant (vacant phase) post → Turned (phase_turn phase post desk found)
-turn_vacant layout Idle last post desk found r t h = h
-turn_vacant layout (Runs why base) last post desk found r t h =
+pub turn_vacant : (layout : Layout) (phase : Phase) (last post : Post) (desk : Desk) (found : ℕ) → ((why : Why) (base : Base) → phase ≡ Runs why base → Run layout why base last) → ((why : Why) (base : Base) → phase ≡ Runs why base → runs_right why base ≡ true) → ((at : KeepAt) → phase ≡ Works (Keeping at) → KeepIn layout.config at) → Vacant (vacant phase) post → Turned (phase_turn phase post desk found)
+turn_vacant layout Idle last post desk found r t c h = h
+turn_vacant layout (Runs why base) last post desk found r t c h =
     let u : Turn = after base post found in resumed_vacant why desk u.post u.told u.outcome (run_vacant layout why base last post found (r why base refl) (t why base refl) h)
-turn_vacant layout (Scans later at) last post desk found r t h = scan_vacant later at post desk found h
-turn_vacant layout (Works work) last post desk found r t h = work_vacant work post desk found h
+turn_vacant layout (Scans later at) last post desk found r t c h = scan_vacant later at post desk found h
+turn_vacant layout (Works work) last post desk found r t c h = work_vacant layout.config work post desk found (λ at e. c at (ap Works e)) h

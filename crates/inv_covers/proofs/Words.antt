@@ -1,7 +1,7 @@
 -- Which guards' words a step leaves as they are.
 use Rattle.std.proofs.Common.{ℕ, ◌≡◌, ap, true, false, arith, refl, Bool, not}
 use Rattle.std.proofs.lemmas.Bool.Decides.{nat_tests}
-use Rattle.std.specs.Prelude.{◌==◌}
+use Rattle.std.specs.Prelude.{◌==◌, ◌&&◌}
 use Rattle.inv_shapes.specs.words.Place.{Place, same}
 use Rattle.inv_shapes.specs.words.Place.Place.{Index, Interval}
 use Rattle.inv_shapes.specs.words.declared.config.Config.{Config}
@@ -25,8 +25,9 @@ use Rattle.inv_shapes.specs.model.Get.{get_move}
 use Rattle.inv_shapes.specs.model.Change.{change_move}
 use Rattle.inv_shapes.specs.model.Enqueue.{enqueue_move}
 use Rattle.inv_shapes.specs.model.Dequeue.{dequeue_move}
-use Rattle.inv_shapes.specs.model.Steps.{work_move}
-use Rattle.inv_shapes.specs.model.Calls.{ChangeKept, EnqueueKept, ScanAt, ReadGuard, GiveBack, GetAt, FindVersion, ChangeAt, LoadVersion, EnqueueAt, LoadNumber, DequeueAt, LoadTail, Work, Getting, Changing, Enqueuing, Dequeuing}
+use Rattle.inv_shapes.specs.model.Keep.{keep_move}
+use Rattle.inv_shapes.specs.model.Steps.{phase_move, work_move}
+use Rattle.inv_shapes.specs.model.Calls.{ChangeKept, EnqueueKept, ScanAt, ReadGuard, GiveBack, GetAt, FindVersion, ChangeAt, LoadVersion, EnqueueAt, LoadNumber, DequeueAt, LoadTail, KeepAt, Loosens, LoadHeld, StoreHeld, Looks, Misses, Work, Getting, Changing, Enqueuing, Dequeuing, Keeping, Phase}
 use Rattle.inv_shapes.specs.model.Locals.{move}
 use Rattle.inv_shapes.specs.model.World.{World, step}
 use Rattle.inv_shapes.specs.words.Schemes.{helps}
@@ -55,6 +56,12 @@ shown_kept w i guard h = ap (published guard) (kept_word w.mem (move (w.seat i))
 pub eras_kept : (w : World) (i : ℕ) (guard : Guard) → keeps (move (w.seat i)) (guard_place guard) ≡ true → eras_shown (step w i) guard ≡ eras_shown w guard
 eras_kept w i guard h = ap (eras_in guard) (kept_word w.mem (move (w.seat i)) (guard_place guard) h)
 
+pub move_is : (w : World) (i : ℕ) (phase : Phase) → (w.seat i).phase ≡ phase → move (w.seat i) ≡ phase_move phase (w.seat i).post
+move_is w i phase e = ap (λ (p : Phase). phase_move p (w.seat i).post) e
+
+pub keeps_at : (w : World) (i : ℕ) (phase : Phase) (place : Place) → (w.seat i).phase ≡ phase → keeps (phase_move phase (w.seat i).post) place ≡ true → keeps (move (w.seat i)) place ≡ true
+keeps_at w i phase place e h = rw (move_is w i phase e) h
+
 pub widens_same : (x y : Shown) → y ≡ x → Widens x y
 widens_same x y e life h = rw e h
 
@@ -74,8 +81,17 @@ stores_guard (Begin at) = stores_begin at
 stores_guard (Protect aim index root steps at) = stores_protect at
 stores_guard (Clear index) = true
 stores_guard Finish = true
-stores_guard Release = true
+stores_guard (Release index) = true
 stores_guard base = false
+
+-- the index whose word a step of a call's own stores
+abbrev pub keep_stores : KeepAt → ℕ → Bool
+keep_stores (StoreHeld from index era) j = j == index
+keep_stores at j = false
+
+abbrev pub work_stores : Work → ℕ → Bool
+work_stores (Keeping at) j = keep_stores at j
+work_stores work j = false
 
 -- the words of other seats: index words
 pub begin_index : (k j : ℕ) (at : BeginAt) (post : Post) → (k == post.seat) ≡ false → keeps (begin_move at post) (Index k j) ≡ true
@@ -99,13 +115,13 @@ pub retire_index : (k j : ℕ) (at : RetireAt) → keeps (retire_move at) (Index
 retire_index k j (LoadLife slot) = refl
 retire_index k j at = refl
 
-base_index : (k j : ℕ) (config : Config) (base : Base) (post : Post) → helps config.scheme ≡ false → base_fits config base ≡ true → (k == post.seat) ≡ false → keeps (base_move base post) (Index k j) ≡ true
+pub base_index : (k j : ℕ) (config : Config) (base : Base) (post : Post) → helps config.scheme ≡ false → base_fits config base ≡ true → (k == post.seat) ≡ false → keeps (base_move base post) (Index k j) ≡ true
 base_index k j config (Begin at) post n f e = begin_index k j at post e
 base_index k j config (Protect aim index root steps at) post n f e = protect_index k j index root at post e
 base_index k j config (Reload parent index slot era steps) post n f e = refl
 base_index k j config (Clear index) post n f e = rw e refl
 base_index k j config Finish post n f e = refl
-base_index k j config Release post n f e = refl
+base_index k j config (Release index) post n f e = refl
 base_index k j config (Allocate at) post n f e = allocate_index k j at
 base_index k j config (Write slot row place) post n f e = refl
 base_index k j config (GiveUp slot) post n f e = refl
@@ -128,11 +144,20 @@ get_index : (k j : ℕ) (at : GetAt) → keeps (get_move at) (Index k j) ≡ tru
 get_index k j (FindVersion slot) = refl
 get_index k j at = refl
 
-pub work_index : (k j : ℕ) (work : Work) (post : Post) → keeps (work_move work post) (Index k j) ≡ true
-work_index k j (Getting key at) post = get_index k j at
-work_index k j (Changing kept at) post = change_index k j kept at post
-work_index k j (Enqueuing kept at) post = enqueue_index k j kept at
-work_index k j (Dequeuing at) post = dequeue_index k j at
+-- where a copy stores, it stores an index word of its own seat
+keep_index : (k j : ℕ) (at : KeepAt) (post : Post) → (k == post.seat && keep_stores at j) ≡ false → keeps (keep_move at post) (Index k j) ≡ true
+keep_index k j (Loosens let_go) post e = refl
+keep_index k j (LoadHeld from index) post e = refl
+keep_index k j (StoreHeld from index era) post e = rw e refl
+keep_index k j (Looks index key at) post e = get_index k j at
+keep_index k j (Misses index) post e = refl
+
+pub work_index : (k j : ℕ) (work : Work) (post : Post) → (k == post.seat && work_stores work j) ≡ false → keeps (work_move work post) (Index k j) ≡ true
+work_index k j (Getting key at) post e = get_index k j at
+work_index k j (Changing kept at) post e = change_index k j kept at post
+work_index k j (Enqueuing kept at) post e = enqueue_index k j kept at
+work_index k j (Dequeuing at) post e = dequeue_index k j at
+work_index k j (Keeping at) post e = keep_index k j at post e
 
 pub scan_index : (k j : ℕ) (at : ScanAt) (post : Post) → keeps (scan_move at post) (Index k j) ≡ true
 scan_index k j (ReadGuard number) post = refl
@@ -151,7 +176,7 @@ quiet_base_index k j config (Protect aim index root steps at) post n f e = quiet
 quiet_base_index k j config (Reload parent index slot era steps) post n f e = refl
 quiet_base_index k j config (Clear index) post n f e = absurd (cc)
 quiet_base_index k j config Finish post n f e = absurd (cc)
-quiet_base_index k j config Release post n f e = absurd (cc)
+quiet_base_index k j config (Release index) post n f e = absurd (cc)
 quiet_base_index k j config (Allocate at) post n f e = allocate_index k j at
 quiet_base_index k j config (Write slot row place) post n f e = refl
 quiet_base_index k j config (GiveUp slot) post n f e = refl
@@ -185,7 +210,7 @@ base_span k config (Protect aim index root steps at) post n f e = protect_span k
 base_span k config (Reload parent index slot era steps) post n f e = refl
 base_span k config (Clear index) post n f e = refl
 base_span k config Finish post n f e = rw e refl
-base_span k config Release post n f e = rw e refl
+base_span k config (Release index) post n f e = rw e refl
 base_span k config (Allocate at) post n f e = allocate_span k at
 base_span k config (Write slot row place) post n f e = refl
 base_span k config (GiveUp slot) post n f e = refl
@@ -208,11 +233,19 @@ get_span : (k : ℕ) (at : GetAt) → keeps (get_move at) (Interval k) ≡ true
 get_span k (FindVersion slot) = refl
 get_span k at = refl
 
-work_span : (k : ℕ) (work : Work) (post : Post) → keeps (work_move work post) (Interval k) ≡ true
+keep_span : (k : ℕ) (at : KeepAt) (post : Post) → keeps (keep_move at post) (Interval k) ≡ true
+keep_span k (Loosens let_go) post = refl
+keep_span k (LoadHeld from index) post = refl
+keep_span k (StoreHeld from index era) post = refl
+keep_span k (Looks index key at) post = get_span k at
+keep_span k (Misses index) post = refl
+
+pub work_span : (k : ℕ) (work : Work) (post : Post) → keeps (work_move work post) (Interval k) ≡ true
 work_span k (Getting key at) post = get_span k at
 work_span k (Changing kept at) post = change_span k kept at post
 work_span k (Enqueuing kept at) post = enqueue_span k kept at
 work_span k (Dequeuing at) post = dequeue_span k at
+work_span k (Keeping at) post = keep_span k at post
 
 scan_span : (k : ℕ) (at : ScanAt) (post : Post) → keeps (scan_move at post) (Interval k) ≡ true
 scan_span k (ReadGuard number) post = refl
@@ -231,7 +264,7 @@ quiet_base_span k config (Protect aim index root steps at) post n f e = quiet_pr
 quiet_base_span k config (Reload parent index slot era steps) post n f e = refl
 quiet_base_span k config (Clear index) post n f e = absurd (cc)
 quiet_base_span k config Finish post n f e = absurd (cc)
-quiet_base_span k config Release post n f e = absurd (cc)
+quiet_base_span k config (Release index) post n f e = absurd (cc)
 quiet_base_span k config (Allocate at) post n f e = allocate_span k at
 quiet_base_span k config (Write slot row place) post n f e = refl
 quiet_base_span k config (GiveUp slot) post n f e = refl
@@ -254,5 +287,5 @@ base_quiet scheme k j config base post n f e =
 pub scan_quiet : (scheme : SchemeKind) (k j : ℕ) (at : ScanAt) (post : Post) → keeps (scan_move at post) (guard_place (own_guard scheme k j)) ≡ true
 scan_quiet scheme k j at post = each_guard scheme k j (λ (g : Guard). keeps (scan_move at post) (guard_place g) ≡ true) (scan_index k j at post) (scan_span k at post)
 
-pub work_quiet : (scheme : SchemeKind) (k j : ℕ) (work : Work) (post : Post) → keeps (work_move work post) (guard_place (own_guard scheme k j)) ≡ true
-work_quiet scheme k j work post = each_guard scheme k j (λ (g : Guard). keeps (work_move work post) (guard_place g) ≡ true) (work_index k j work post) (work_span k work post)
+pub work_quiet : (scheme : SchemeKind) (k j : ℕ) (work : Work) (post : Post) → (k == post.seat && work_stores work j) ≡ false → keeps (work_move work post) (guard_place (own_guard scheme k j)) ≡ true
+work_quiet scheme k j work post e = each_guard scheme k j (λ (g : Guard). keeps (work_move work post) (guard_place g) ≡ true) (work_index k j work post e) (work_span k work post)

@@ -1,5 +1,5 @@
 -- What guards hold: what stands at an index, and what a try has loaded while its era is still the clock, is covered.
-use Rattle.std.specs.Prelude.{Bool, ℕ, ◌+◌, ◌==◌, true, false, ◌&&◌, Some, ◌≡◌, not, None, ◌≤◌, length, ◌<◌}
+use Rattle.std.specs.Prelude.{Bool, ℕ, ◌+◌, ◌==◌, true, false, ◌&&◌, Some, ◌≡◌, not, None, ◌≤◌, length, ◌<◌, is_some}
 use Rattle.inv_shapes.specs.defs.declared.event.Root.{Root}
 use Rattle.inv_rows.specs.Rows.{Status, View, is_settled}
 use Rattle.inv_rows.specs.Queue.{in_queue}
@@ -7,14 +7,14 @@ use Rattle.inv_shapes.specs.defs.declared.event.Root.TheVariants as roots
 use Rattle.inv_shapes.specs.model.Phases.ProtectAt.{AnswerOwn, CheckClock, CheckOwnClock, CheckUpper, LoadAnswer, LoadClock, LoadLink, LoadOwnClock, LoadOwnLink, LoadWithin, PublishEra, PublishHelper, PublishRequest, RaiseUpper, TakeAnswer, WithdrawHelper, WithdrawRequest}
 use Rattle.inv_shapes.specs.model.declared.post.Post.{Post}
 use Rattle.inv_shapes.specs.model.Phases.{ProtectAt, Base, Follows, Aim, Tries}
-use Rattle.inv_shapes.specs.model.Posts.{upper, stands}
+use Rattle.inv_shapes.specs.model.Posts.{upper, stands, tag_of}
 use Rattle.inv_shapes.specs.model.Phases.Base.{Allocate, Begin, Clear, Finish, GiveUp, Move, Protect, Release, Reload, Retire, Write}
 use Rattle.inv_covers.specs.Covers.{Covers, GuardFits, number_of, eras_shown, shown, CoversNeeds, Scanning, takes_or_frees, Widens}
 use Rattle.inv_shapes.specs.defs.declared.event.Guard.{Guard}
 use Rattle.inv_shapes.specs.model.World.{World, step, start, begin, finds}
 use Rattle.inv_shapes.specs.words.Place.Place.{Clock, Row, Tail}
-use Rattle.inv_shapes.specs.model.Calls.{Runs, Why}
-use Rattle.inv_shapes.specs.model.Guards.{own_guard, from_to}
+use Rattle.inv_shapes.specs.model.Calls.{Runs, Why, LoadHeld, StoreHeld, Keeping, Works}
+use Rattle.inv_shapes.specs.model.Guards.{own_guard, from_to, one_era}
 use Rattle.inv_shapes.specs.model.Links.{parent_of, link_place}
 use Rattle.inv_shapes.specs.defs.declared.event.Guard.TheVariants.{Index, Whole, Helper}
 use Rattle.inv_shapes.specs.Seats.{base_fits}
@@ -71,7 +71,7 @@ index_base (Protect aim index root steps at) = index
 index_base (Reload parent index slot era steps) = index
 index_base (Clear index) = index
 index_base Finish = 0
-index_base Release = 0
+index_base (Release index) = 0
 index_base (Allocate at) = 0
 index_base (Write slot row place) = 0
 index_base (GiveUp slot) = 0
@@ -103,7 +103,7 @@ follows_row (Protect aim index root steps at) row = follows_root root row
 follows_row (Reload parent index slot era steps) row = parent == row
 follows_row (Clear index) row = false
 follows_row Finish row = false
-follows_row Release row = false
+follows_row (Release index) row = false
 follows_row (Allocate at) row = false
 follows_row (Write slot row place) other = false
 follows_row base row = false
@@ -118,7 +118,7 @@ era_base post (Protect aim index root steps at) = era_protect post at
 era_base post base = 0
 
 -- where the next step takes from what a guard publishes nothing stands: where an era is published or an answer taken, at
--- that index; where an interval is finished, anywhere; where what is held is released, anywhere but at index 2
+-- that index; where an interval is finished, anywhere; where what stands at an index is released, anywhere but there
 abbrev pub rests_protect : ℕ → ProtectAt → ℕ → Bool
 rests_protect index (PublishEra era tries) j = j == index
 rests_protect index (TakeAnswer link era) j = j == index
@@ -127,7 +127,7 @@ rests_protect index at j = false
 abbrev pub rests_base : Base → ℕ → Bool
 rests_base (Protect aim index root steps at) j = rests_protect index at j
 rests_base Finish j = true
-rests_base Release j = not (j == 2)
+rests_base (Release index) j = not (j == index)
 rests_base base j = false
 
 -- a protection that is followed is of a next link
@@ -154,6 +154,20 @@ pub record BaseNeeds (w : World) (i : ℕ) (base : Base) : Type 0 where
   -- in a try the index word has the try's era
   pub published : (aim : Aim) (index : ℕ) (root : Root) (steps era : ℕ) (tries : Tries) → base ≡ Protect aim index root steps (LoadLink era tries)
       → eras_shown w (Index i index) ≡ from_to era era
+
+-- what a step of a copy needs of the other parts, of the seat that steps: a row stands at the first index, and the second is
+-- a higher one of the seat's
+pub record CopyNeeds (w : World) (i from index : ℕ) : Type 0 where
+  pub stood : is_some (stands (w.seat i).post from) ≡ true
+  pub rises : from < index
+  pub guard : GuardFits w.layout.config (own_guard w.layout.config.scheme i index)
+  pub room : index < length (w.seat i).post.standing
+
+-- the second step: the era is the one that the first index publishes, and the tag of the second has 32 bits
+pub record StoreNeeds (w : World) (i from index era : ℕ) : Type 0 where
+  pub copy : CopyNeeds w i from index
+  pub shows : eras_shown w (Index i from) ≡ one_era era
+  pub tag : tag_of (w.seat i).post index < 4294967295
 
 -- what is needed of the other parts where a link is loaded: what is known of the rows; births are at most the clock; the
 -- tail's row is in the queue, and so is the row after one that is
@@ -182,6 +196,9 @@ pub record HeldNeeds (w : World) (i : ℕ) (v : View) : Type 0 where
   pub seat : (w.seat i).post.seat ≡ i
   pub base : (why : Why) (base : Base) → (w.seat i).phase ≡ Runs why base → BaseNeeds w i base
   pub roots : RootsNeeds w v
+  -- the steps of a copy
+  pub loads : (from index : ℕ) → (w.seat i).phase ≡ Works (Keeping (LoadHeld from index)) → CopyNeeds w i from index
+  pub stores : (from index era : ℕ) → (w.seat i).phase ≡ Works (Keeping (StoreHeld from index era)) → StoreNeeds w i from index era
   -- under 2GE an interval word has the seat's interval, before and after the step
   pub spans : has_one_interval w.layout.config.scheme ≡ true → eras_shown w (Whole i) ≡ (w.seat i).post.span
   pub spans_next : has_one_interval w.layout.config.scheme ≡ true → eras_shown (step w i) (Whole i) ≡ ((step w i).seat i).post.span

@@ -5,7 +5,7 @@ use Rattle.inv_shapes.specs.defs.declared.call.Call.{Call}
 use Rattle.inv_shapes.specs.model.declared.post.Post.{Post}
 use Rattle.inv_shapes.specs.model.Posts.{stands}
 use Rattle.inv_shapes.specs.model.Phases.{Base}
-use Rattle.inv_shapes.specs.model.Calls.{Why, Opens, FollowsHead, DequeueAt, LoadTail, SwingTail, TakeNumber, TakeValue, ExchangeHead, Work, Getting, Changing, Enqueuing, Dequeuing, Phase, Idle, Runs, Scans, Works}
+use Rattle.inv_shapes.specs.model.Calls.{Why, Opens, FollowsHead, DequeueAt, LoadTail, SwingTail, TakeNumber, TakeValue, ExchangeHead, Work, Getting, Changing, Enqueuing, Dequeuing, Keeping, Phase, Idle, Runs, Scans, Works}
 use Rattle.inv_shapes.specs.model.World.{World, start, begin, step}
 use Rattle.inv_shapes.specs.words.Schemes.{helps}
 use Rattle.inv_shapes.specs.Seats.{Run}
@@ -29,6 +29,7 @@ has_parent_work (Getting key at) row = false
 has_parent_work (Changing kept at) row = false
 has_parent_work (Enqueuing kept at) row = false
 has_parent_work (Dequeuing at) row = has_parent_dequeue at row
+has_parent_work (Keeping at) row = false
 
 abbrev pub has_parent : Phase → ℕ → Bool
 has_parent Idle row = false

@@ -1,9 +1,9 @@
 -- Where nothing stands, by where a call stands.
-use Rattle.std.specs.Prelude.{ℕ, ◌≡◌, ◌==◌, ◌&&◌, not, Bool, true, false, Option, Some, None}
+use Rattle.std.specs.Prelude.{ℕ, ◌≡◌, ◌==◌, ◌&&◌, nat_lt, not, Bool, true, false, None}
 use Rattle.inv_shapes.specs.model.declared.post.Post.{Post}
 use Rattle.inv_shapes.specs.model.Posts.{stands}
 use Rattle.inv_shapes.specs.model.Rounds.{index_of}
-use Rattle.inv_shapes.specs.model.Calls.{Task, Gets, Changes, Holds, Enqueues, Dequeues, AfterScan, Answered, Repeated, Counted, Why, Opens, FollowsHead, Fills, ClearsNext, Clears, Finishes, GivesUp, Retires, Tidies, Advances, Releases, DequeueAt, LoadTail, SwingTail, TakeNumber, TakeValue, ExchangeHead, Work, Getting, Changing, Enqueuing, Dequeuing, Phase, Idle, Runs, Scans, Works}
+use Rattle.inv_shapes.specs.model.Calls.{Task, Gets, Changes, Holds, Enqueues, Dequeues, AfterScan, Answered, Repeated, Counted, Why, Opens, FollowsHead, Fills, ClearsNext, Clears, Finishes, GivesUp, Retires, Tidies, Advances, Releases, LetGo, Released, Rehold, Dropped, DequeueAt, LoadTail, SwingTail, TakeNumber, TakeValue, ExchangeHead, Work, Getting, Changing, Enqueuing, Dequeuing, KeepAt, Keeping, Phase, Idle, Runs, Scans, Works}
 use Rattle.inv_shapes.specs.model.Phases.Ending.{Done, Protected, Followed, Allocated, Retired, Clocked}
 use Rattle.inv_shapes.specs.model.Phases.{Ending, ProtectAt, Base}
 use Rattle.inv_shapes.specs.model.World.{World, start, begin, step, is_busy}
@@ -13,17 +13,18 @@ use Rattle.inv_shapes.specs.words.declared.layout.Layout.{Layout}
 use Rattle.inv_shapes.specs.defs.declared.call.Call.{Call}
 use Rattle.inv_rows.specs.Hands.{runs_right}
 use Rattle.inv_shapes.specs.Seats.{Run}
+use Rattle.inv_shapes.specs.Slots.{KeepIn}
 use Rattle.inv_covers.specs.Held.{rests_base}
 
--- between rounds only what is held stands
+-- between rounds only what is kept stands, at indexes from 2 on
 abbrev pub spare : ℕ → Bool
-spare j = not (j == 2)
+spare j = nat_lt j 2
 
--- where a round of a task begins; nothing is held where a key is to be held
+-- where a round of a task begins; nothing is held at index 2 where a key is to be held there
 abbrev pub bare : Task → ℕ → Bool
 bare (Gets key) j = spare j
 bare (Changes kept) j = spare j
-bare (Holds key) j = true
+bare (Holds key) j = nat_lt j 3
 bare (Enqueues kept) j = spare j
 bare Dequeues j = spare j
 
@@ -63,12 +64,12 @@ vacant_why (FollowsHead head tail) base j = within j
 vacant_why (Fills task) base j = within j
 vacant_why (ClearsNext next) base j = deep j
 vacant_why (Clears task next) base j = beside task j
-vacant_why (Finishes task next) base j = true
+vacant_why (Finishes task next) base j = bare task j
 vacant_why (GivesUp answer) base j = spare j
 vacant_why (Retires answer) base j = spare j
 vacant_why (Tidies later) base j = vacant_later later j
 vacant_why Advances base j = spare j
-vacant_why (Releases key) base j = spare j
+vacant_why (Releases let_go) base j = spare j
 
 abbrev pub vacant_dequeue : DequeueAt → ℕ → Bool
 vacant_dequeue (LoadTail head) j = within j
@@ -82,6 +83,7 @@ vacant_work (Getting key at) j = within j
 vacant_work (Changing kept at) j = within j
 vacant_work (Enqueuing kept at) j = within j
 vacant_work (Dequeuing at) j = vacant_dequeue at j
+vacant_work (Keeping at) j = spare j
 
 -- the indexes at which nothing stands
 abbrev pub vacant : Phase → ℕ → Bool
@@ -101,7 +103,7 @@ pub record Rests (w : World) : Type 0 where
 abbrev pub vacant_filled : Task → ℕ → Bool
 vacant_filled (Gets key) j = spare j
 vacant_filled (Changes kept) j = within j
-vacant_filled (Holds key) j = true
+vacant_filled (Holds key) j = nat_lt j 3
 vacant_filled (Enqueues kept) j = within j
 vacant_filled Dequeues j = spare j
 
@@ -121,9 +123,10 @@ vacant_followed (Allocated end) j = spare j
 vacant_followed (Retired life) j = spare j
 vacant_followed (Clocked clock) j = spare j
 
-abbrev pub vacant_released : Option ℕ → ℕ → Bool
-vacant_released None j = spare j
-vacant_released (Some key) j = true
+abbrev pub vacant_released : LetGo → ℕ → Bool
+vacant_released Released j = spare j
+vacant_released (Rehold key) j = nat_lt j 3
+vacant_released (Dropped index) j = spare j
 
 abbrev pub vacant_after : Why → Ending → ℕ → Bool
 vacant_after (Opens task) ending j = vacant_opened task ending j
@@ -136,13 +139,14 @@ vacant_after (GivesUp answer) ending j = spare j
 vacant_after (Retires answer) ending j = spare j
 vacant_after (Tidies later) ending j = vacant_later later j
 vacant_after Advances ending j = spare j
-vacant_after (Releases key) ending j = vacant_released key j
+vacant_after (Releases let_go) ending j = vacant_released let_go j
 
--- what the part takes from others of the seat that steps: the shape of its phase, and that only a change or an enqueue
--- fills a row
+-- what the part takes from others of the seat that steps: the shape of its phase, that only a change or an enqueue fills a
+-- row, and that a copy goes to an index from 2 on
 pub record RestsNeeds (w : World) (i : ℕ) : Type 0 where
   pub shape : (why : Why) (base : Base) → (w.seat i).phase ≡ Runs why base → Run w.layout why base (w.seat i).post
   pub right : (why : Why) (base : Base) → (w.seat i).phase ≡ Runs why base → runs_right why base ≡ true
+  pub kept : (at : KeepAt) → (w.seat i).phase ≡ Works (Keeping at) → KeepIn w.layout.config at
 
 abbrev pub RestsStart : Type 0
 RestsStart = (layout : Layout) → Rests (start layout)

@@ -1,13 +1,13 @@
 -- What a protection has loaded and not yet concluded, and what stands where.
-use Rattle.std.specs.Prelude.{ℕ, ◌≡◌, Bool, true, false, Some}
+use Rattle.std.specs.Prelude.{ℕ, ◌≡◌, Bool, true, false, not, Some}
 use Rattle.inv_shapes.specs.model.declared.post.Post.{Post}
 use Rattle.inv_shapes.specs.model.Posts.{stands}
 use Rattle.inv_shapes.specs.model.Phases.{ProtectAt, MoveAt, Base}
 use Rattle.inv_shapes.specs.model.Phases.ProtectAt.{LoadClock, PublishEra, LoadLink, CheckClock, PublishRequest, LoadOwnClock, PublishHelper, LoadOwnLink, CheckOwnClock, AnswerOwn, LoadAnswer, TakeAnswer, WithdrawRequest, WithdrawHelper, LoadWithin, CheckUpper, RaiseUpper}
 use Rattle.inv_shapes.specs.model.Phases.MoveAt.{LoadEra, LoadRequest, ShowEra, LoadAsked, CheckEra, AnswerAsked, LoadReserved, HandOver}
 use Rattle.inv_shapes.specs.model.Phases.Base.{Begin, Protect, Reload, Clear, Finish, Release, Allocate, Write, GiveUp, Retire, Move}
-use Rattle.inv_shapes.specs.model.Calls.{Phase, Idle, Runs, Scans, Works, CallTurn}
-use Rattle.inv_shapes.specs.Frame.{phase_left}
+use Rattle.inv_shapes.specs.model.Calls.{LoadHeld, StoreHeld, Work, Keeping, Phase, Idle, Runs, Scans, Works, CallTurn}
+use Rattle.inv_shapes.specs.Frame.{phase_left, stores_held}
 use Rattle.inv_covers.specs.Covers.{is_fresh}
 
 -- no link is loaded yet, or none is kept any more
@@ -47,7 +47,7 @@ starts_base (Protect aim index root steps at) = starts_protect at
 starts_base (Reload parent index slot era steps) = false
 starts_base (Clear index) = true
 starts_base Finish = true
-starts_base Release = true
+starts_base (Release index) = true
 starts_base (Allocate at) = true
 starts_base (Write slot row place) = true
 starts_base (GiveUp slot) = true
@@ -58,13 +58,19 @@ abbrev pub is_start : Phase → Bool
 is_start Idle = true
 is_start (Runs why base) = starts_base base
 is_start (Scans later at) = true
-is_start (Works work) = true
+is_start (Works work) = not (stores_held work)
+
+-- the steps of a copy
+abbrev pub is_copy : Work → Bool
+is_copy (Keeping (LoadHeld from index)) = true
+is_copy (Keeping (StoreHeld from index era)) = true
+is_copy work = false
 
 -- what stands in the new post stood before
 abbrev pub Shrinks : Post → Post → Type 0
 Shrinks post next = (j s : ℕ) → stands next j ≡ Some s → stands post j ≡ Some s
 
--- a phase that a call comes to by no step of a machine's own
+-- a phase that a call comes to by no step of a machine's own, and not by the first step of a copy
 pub record Begins (phase : Phase) : Type 0 where
   pub fresh : is_fresh phase ≡ true
   pub starts : is_start phase ≡ true

@@ -1,3 +1,4 @@
+pub mod Copied
 pub mod Held
 pub mod Nulls
 pub mod Stood

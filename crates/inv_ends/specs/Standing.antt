@@ -1,5 +1,5 @@
--- What stands at the indexes of a seat is what its steps tell: Held and Clear, each where it happens.
-use Rattle.std.specs.Prelude.{Bool, false, true, ℕ, ◌==◌, ◌&&◌, ◌+◌, ◌≡◌, Some}
+-- What stands at the indexes of a seat is what its steps tell: Held, Copied and Clear, each where it happens.
+use Rattle.std.specs.Prelude.{Bool, false, true, ℕ, ◌==◌, ◌&&◌, ◌+◌, ◌≡◌, ◌≤◌, ◌<◌, Option, Some, None}
 use Rattle.inv_handover.specs.covers.defs.declared.event.Root.{Root}
 use Rattle.inv_handover.specs.covers.defs.declared.event.Root.TheVariants as roots
 use Rattle.inv_handover.specs.covers.model.Phases.ProtectAt.{CheckClock, CheckUpper, TakeAnswer}
@@ -8,14 +8,19 @@ use Rattle.inv_handover.specs.covers.model.Phases.{ProtectAt, Base}
 use Rattle.inv_handover.specs.covers.Held.{leads, Held, Holds}
 use Rattle.inv_handover.specs.covers.model.Posts.{upper, stands}
 use Rattle.inv_handover.specs.covers.model.Phases.Base.{Protect, Reload}
-use Rattle.inv_handover.specs.covers.model.Calls.{Phase, Runs}
+use Rattle.inv_handover.specs.covers.model.Calls.{KeepAt, LoadHeld, StoreHeld, Work, Keeping, Phase, Runs, Works}
+use Rattle.inv_handover.specs.covers.model.Rounds.{scheme_of}
 use Rattle.inv_handover.specs.covers.model.World.{World, finds, told_in, step}
 use Rattle.std.specs.List.{list_any}
 use Rattle.inv_handover.specs.covers.defs.Events.{is_held}
 use Rattle.inv_handover.specs.covers.shapes.Seats.{Seats}
+use Rattle.inv_handover.specs.covers.shapes.Slots.{Slots}
+use Rattle.inv_handover.specs.covers.words.Place.{is_valid}
+use Rattle.inv_handover.specs.covers.words.Schemes.{has_one_interval}
+use Rattle.inv_handover.specs.covers.words.declared.config.Config.{Config}
 use Rattle.inv_handover.specs.covers.rows.Rows.{View}
 use Rattle.inv_handover.specs.covers.model.Guards.{own_guard}
-use Rattle.inv_ends.specs.Stands.{is_clear, stood}
+use Rattle.inv_ends.specs.Stands.{is_clear, is_copied, stood}
 
 -- the row of a next link stands only once the head was loaded again
 abbrev pub is_end : Root → Bool
@@ -58,10 +63,63 @@ HeldCovered =
     → list_any (is_held j s) (told_in w i) ≡ true
     → Holds (step w i) v (own_guard w.layout.config.scheme i j) s
 
+-- this row stands there
+abbrev pub is_row : (s : ℕ) → Option ℕ → Bool
+is_row s None = false
+is_row s (Some slot) = slot == s
+
+-- a step makes what stands at one index stand at another too: under 2GE the one step of a copy, and else its second
+abbrev pub copies_at : Post → KeepAt → (f j s : ℕ) → Bool
+copies_at post (LoadHeld from index) f j s = has_one_interval (scheme_of post) && ((from == f) && ((index == j) && is_row s (stands post from)))
+copies_at post (StoreHeld from index era) f j s = (from == f) && ((index == j) && is_row s (stands post from))
+copies_at post at f j s = false
+
+abbrev pub copies_work : Post → Work → (f j s : ℕ) → Bool
+copies_work post (Keeping at) f j s = copies_at post at f j s
+copies_work post work f j s = false
+
+abbrev pub copies_in : Post → Phase → (f j s : ℕ) → Bool
+copies_in post (Works work) f j s = copies_work post work f j s
+copies_in post phase f j s = false
+
+-- a step tells that a row is copied exactly where it copies it
+abbrev pub CopiedTold : Type 0
+CopiedTold = (w : World) (i f j s : ℕ) → list_any (is_copied f j s) (told_in w i) ≡ copies_in (w.seat i).post (w.seat i).phase f j s
+
+-- a copy goes upwards, from an index at which rows stand between calls, and the row stands at both
+pub record CopyStands (config : Config) (before after : Post) (f j s : ℕ) : Type 0 where
+  pub kept : 2 ≤ f
+  pub rises : f < j
+  pub below : j < config.indexes
+  pub was : stands before f ≡ Some s
+  pub still : stands after f ≡ Some s
+  pub now : stands after j ≡ Some s
+
+-- so it is from that step on
+abbrev pub CopiedStands : Type 0
+CopiedStands =
+    (w : World) (i f j s : ℕ)
+    → is_valid w.layout ≡ true
+    → Seats w
+    → Slots w
+    → list_any (is_copied f j s) (told_in w i) ≡ true
+    → CopyStands w.layout.config (w.seat i).post ((step w i).seat i).post f j s
+
+-- and the guard of the index that it is copied to covers it
+abbrev pub CopiedCovered : Type 0
+CopiedCovered =
+    (w : World) (i f j s : ℕ) (v : View)
+    → is_valid w.layout ≡ true
+    → Seats w
+    → Slots w
+    → Held (step w i) v
+    → list_any (is_copied f j s) (told_in w i) ≡ true
+    → Holds (step w i) v (own_guard w.layout.config.scheme i j) s
+
 -- what is told to stand no more stood before the step
 abbrev pub ClearStood : Type 0
 ClearStood = (w : World) (i j s : ℕ) → Seats w → list_any (is_clear j s) (told_in w i) ≡ true → stands (w.seat i).post j ≡ Some s
 
 -- at each index stands what was told last of it
 abbrev pub StandingTold : Type 0
-StandingTold = (w : World) (i j : ℕ) → Seats w → stands ((step w i).seat i).post j ≡ stood (told_in w i) (stands (w.seat i).post j) j
+StandingTold = (w : World) (i j : ℕ) → is_valid w.layout ≡ true → Seats w → Slots w → stands ((step w i).seat i).post j ≡ stood (told_in w i) (stands (w.seat i).post j) j

@@ -5,7 +5,7 @@
 ghost use Rattle.inv_ends.specs.Births.{GivenBegin, GivenKept, GivenStart, RetiresGiven};
 ghost use Rattle.inv_ends.specs.Moves.{MeetingBegin, MeetingKept, MeetingStart, MetAnswered, MetOpen};
 ghost use Rattle.inv_ends.specs.Nulls.{NullTold};
-ghost use Rattle.inv_ends.specs.Standing.{ClearStood, HeldCovered, HeldStands, HeldTold, StandingTold};
+ghost use Rattle.inv_ends.specs.Standing.{ClearStood, CopiedCovered, CopiedStands, CopiedTold, HeldCovered, HeldStands, HeldTold, StandingTold};
 ghost use Rattle.inv_ends.specs.Told.{NoReuse, RowsTold, RowsWere};
 ghost use Rattle.inv_ends.specs.Walks.{FullSeen, SeenTaken, WalkingBegin, WalkingKept, WalkingStart};
 
@@ -39,12 +39,16 @@ pub fn nulls_are_told()
 {}
 
 /// A step tells that a row stands at an index exactly where it makes it stand, and the row stands
-/// there from then on, covered by the guard of the index. What it tells to stand no more stood there.
-/// At each index stands what was told last of it.
+/// there from then on, covered by the guard of the index. It tells that a row is copied exactly where
+/// it copies it, upwards, and the row stands at both indexes from then on, covered by the guard of the
+/// second. What it tells to stand no more stood there. At each index stands what was told last of it.
 pub fn standing_rows_are_told()
     ensures held { HeldTold }
     ensures stands { HeldStands }
     ensures covered { HeldCovered }
+    ensures copied { CopiedTold }
+    ensures copies { CopiedStands }
+    ensures guards { CopiedCovered }
     ensures cleared { ClearStood }
     ensures standing { StandingTold }
 {}

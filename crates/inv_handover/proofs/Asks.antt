@@ -17,7 +17,7 @@ use Rattle.inv_covers.specs.model.World.{World}
 use Rattle.inv_covers.specs.shapes.Seats.{Run, PhaseFits, Seats}
 use Rattle.inv_requests.specs.Deals.{is_quiet, is_open, asked_at, answered_with, taken_with, fits}
 use Rattle.inv_requests.specs.Standing.{protect_role, move_role, role_of, Requests}
-use Rattle.inv_requests.specs.Views.{Deal, View as Asked}
+use Rattle.inv_requests.specs.Views.{Deal, Role, View as Asked}
 use Rattle.inv_requests.specs.Views.Deal.{Quiet, Open, Answered, Passed, Taken}
 use Rattle.inv_covers.specs.rows.Rows.{Status, View}
 use Rattle.inv_covers.specs.Held.{tries_protect, tries_base}
@@ -26,6 +26,7 @@ use Rattle.inv_covers.proofs.Held.{same_run}
 use Rattle.inv_covers.proofs.Resting.{bare_own}
 use Rattle.inv_covers.proofs.model.Facts.{first_of, no_truth}
 pub use Rattle.inv_requests.proofs.Known.{fits_at}
+use Rattle.inv_requests.proofs.Turns.{each_work_role}
 
 -- the own request is published and not taken yet
 abbrev pub in_slow : ProtectAt → Bool
@@ -138,13 +139,13 @@ asks_of w k j word why aim index root steps at e a =
 phase_asks : (w : World) (k j word : ℕ) (d : Deal) (phase : Phase) → (w.seat k).phase ≡ phase → fits (role_of w.layout phase) d ≡ true → asked_at j word d ≡ true → Asker w k j word
 phase_asks w k j word d Idle e f a = absurd (no_truth (quiet_asks d j word f a))
 phase_asks w k j word d (Scans later at) e f a = absurd (no_truth (quiet_asks d j word f a))
-phase_asks w k j word d (Works work) e f a = absurd (no_truth (quiet_asks d j word f a))
+phase_asks w k j word d (Works work) e f a = absurd (no_truth (quiet_asks d j word (each_work_role work (λ (r : Role). fits r d ≡ true → is_quiet d ≡ true) (λ q. q) (λ from era q. q) f) a))
 phase_asks w k j word d (Runs why (Begin at)) e f a = absurd (no_truth (quiet_asks d j word f a))
 phase_asks w k j word d (Runs why (Protect aim index root steps at)) e f a = asks_of w k j word why aim index root steps at e (protect_asks w.layout index root at d j word f a)
 phase_asks w k j word d (Runs why (Reload parent index slot era steps)) e f a = absurd (no_truth (quiet_asks d j word f a))
 phase_asks w k j word d (Runs why (Clear index)) e f a = absurd (no_truth (quiet_asks d j word f a))
 phase_asks w k j word d (Runs why Finish) e f a = absurd (no_truth (quiet_asks d j word f a))
-phase_asks w k j word d (Runs why Release) e f a = absurd (no_truth (quiet_asks d j word f a))
+phase_asks w k j word d (Runs why (Release index)) e f a = absurd (no_truth (quiet_asks d j word f a))
 phase_asks w k j word d (Runs why (Allocate at)) e f a = absurd (no_truth (quiet_asks d j word f a))
 phase_asks w k j word d (Runs why (Write slot row place)) e f a = absurd (no_truth (quiet_asks d j word f a))
 phase_asks w k j word d (Runs why (GiveUp slot)) e f a = absurd (no_truth (quiet_asks d j word f a))

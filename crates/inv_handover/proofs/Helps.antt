@@ -20,7 +20,7 @@ use Rattle.inv_covers.specs.model.Phases.MoveAt.{ShowEra, LoadAsked, CheckEra, A
 use Rattle.inv_covers.specs.model.Phases.Base.{Protect, Move}
 use Rattle.inv_covers.specs.model.Machine.{after}
 use Rattle.inv_covers.specs.model.Scan.{scan_turn}
-use Rattle.inv_covers.specs.model.Steps.{phase_turn, work_turn, resumed}
+use Rattle.inv_covers.specs.model.Steps.{phase_turn, resumed}
 use Rattle.inv_covers.specs.model.Calls.{Why, Phase, Idle, Runs, Scans, Works}
 use Rattle.inv_covers.specs.model.World.{World, step, finds}
 use Rattle.inv_covers.proofs.model.Roots.{root_at_link}
@@ -40,7 +40,7 @@ use Rattle.inv_handover.specs.Helped.{open_by, helper_holds, answered_from, pass
 use Rattle.inv_handover.specs.Handover.{HandoverNeeds}
 use Rattle.inv_covers.proofs.Held.{stepped_phase, move_is, finds_at, protect_stays, protect_rows, loads_cover, same_run}
 use Rattle.inv_covers.proofs.Guards.{helpers_fit}
-use Rattle.inv_covers.proofs.Fresh.{work_fresh, resume_fresh}
+use Rattle.inv_covers.proofs.Fresh.{works_start, resume_fresh}
 use Rattle.inv_covers.proofs.Scans.{scan_starts}
 use Rattle.inv_handover.proofs.Asks.{in_slow, asker}
 use Rattle.inv_handover.proofs.Back.{inside_of, asked_under, own_under}
@@ -140,7 +140,7 @@ phase_loads w i v z Idle why base s f n g e o h = absurd (cc)
 phase_loads w i v z (Scans later at) why base s f n g e o h =
     absurd (no_truth (starts_unheld w.layout ((step w i).mem Clock) (rows_after w i v).status (next_deals w i z.deal) (phase_left (scan_turn later at (counted (w.seat i).post) (w.seat i).desk (finds w i)).outcome) why base s (scan_starts later at (counted (w.seat i).post) (w.seat i).desk (finds w i)) o h))
 phase_loads w i v z (Works work) why base s f n g e o h =
-    absurd (no_truth (starts_unheld w.layout ((step w i).mem Clock) (rows_after w i v).status (next_deals w i z.deal) (phase_left (work_turn work (counted (w.seat i).post) (w.seat i).desk (finds w i)).outcome) why base s (work_fresh work (counted (w.seat i).post) (w.seat i).desk (finds w i)).starts o h))
+    absurd (no_truth (starts_unheld w.layout ((step w i).mem Clock) (rows_after w i v).status (next_deals w i z.deal) (Runs why base) why base s (works_start work (counted (w.seat i).post) (w.seat i).desk (finds w i) why base o) refl h))
 phase_loads w i v z (Runs reason one) why base s f n g e o h =
     let u : Turn = after one (counted (w.seat i).post) (finds w i) in
     run_loads w i v z reason one s (may_load one) refl f n g e

@@ -211,7 +211,7 @@ other_unheld layout clock status deal (Protect aim index root steps at) post fou
 other_unheld layout clock status deal (Reload parent index slot era steps) post found s p = either_unheld layout clock status deal _ _ s (found == parent + 1) refl refl
 other_unheld layout clock status deal (Clear index) post found s p = refl
 other_unheld layout clock status deal Finish post found s p = refl
-other_unheld layout clock status deal Release post found s p = refl
+other_unheld layout clock status deal (Release index) post found s p = refl
 other_unheld layout clock status deal (Allocate at) post found s p = allocate_unheld layout clock status deal at post found s
 other_unheld layout clock status deal (Write slot row place) post found s p = either_unheld layout clock status deal _ _ s (place == last_written row) refl refl
 other_unheld layout clock status deal (GiveUp slot) post found s p = refl

@@ -46,7 +46,7 @@ pub other_index : (i k j : ℕ) (phase : Phase) → (k == i) ≡ false → own_i
 other_index i k j Idle o = refl
 other_index i k j (Runs why base) o = rw o refl
 other_index i k j (Scans later at) o = refl
-other_index i k j (Works work) o = refl
+other_index i k j (Works work) o = rw o refl
 
 pub other_helper : (i k : ℕ) (phase : Phase) → (k == i) ≡ false → own_helper i phase k ≡ false
 other_helper i k Idle o = refl

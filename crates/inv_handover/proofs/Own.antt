@@ -13,15 +13,15 @@ use Rattle.inv_covers.specs.model.declared.post.Post.{Post}
 use Rattle.inv_covers.specs.model.Guards.{from_to, one_era, own_guard}
 use Rattle.inv_covers.specs.model.Links.{link_place, link_number, parent_of}
 use Rattle.inv_covers.specs.model.Memory.{place_in, found, bump}
-use Rattle.inv_covers.specs.model.Posts.{stands, counted}
+use Rattle.inv_covers.specs.model.Posts.{stands, counted, tag_of}
 use Rattle.inv_covers.specs.model.Phases.{Aim, Follows, ProtectAt, Base}
 use Rattle.inv_covers.specs.model.Phases.ProtectAt.{PublishEra, LoadLink, TakeAnswer}
 use Rattle.inv_covers.specs.model.Phases.MoveAt.{HandOver}
 use Rattle.inv_covers.specs.model.Phases.Base.{Begin, Protect, Reload, Clear, Finish, Release, Allocate, Write, GiveUp, Retire, Move}
 use Rattle.inv_covers.specs.model.Machine.{protect_move, after}
 use Rattle.inv_covers.specs.model.Scan.{scan_turn}
-use Rattle.inv_covers.specs.model.Steps.{phase_turn, work_turn}
-use Rattle.inv_covers.specs.model.Calls.{Why, Opens, FollowsHead, Fills, ClearsNext, Clears, Finishes, GivesUp, Retires, Tidies, Advances, Releases, Phase, Idle, Runs, Scans, Works}
+use Rattle.inv_covers.specs.model.Steps.{phase_turn}
+use Rattle.inv_covers.specs.model.Calls.{Why, Opens, FollowsHead, Fills, ClearsNext, Clears, Finishes, GivesUp, Retires, Tidies, Advances, Releases, Loosens, LoadHeld, StoreHeld, Looks, Misses, Work, Getting, Changing, Enqueuing, Dequeuing, Keeping, Phase, Idle, Runs, Scans, Works}
 use Rattle.inv_covers.specs.model.World.{World, step, finds}
 use Rattle.inv_covers.proofs.model.Ranges.{bounds_of}
 use Rattle.inv_covers.specs.shapes.Frame.{phase_left}
@@ -36,13 +36,19 @@ use Rattle.inv_covers.specs.Held.{under, tries_protect, tries_base, index_base, 
 use Rattle.inv_covers.specs.Rests.{vacant_why, vacant, Vacant}
 use Rattle.inv_handover.specs.Helped.{Helped}
 use Rattle.inv_handover.specs.Handover.{HandoverNeeds}
-use Rattle.inv_covers.proofs.Held.{stepped_post, stepped_phase, From, turn_from, head_queued, finds_at, Comes, turn_out, other_comes, protect_stays, protect_rows, tries_counted, loads_cover, out_start}
+use Rattle.inv_covers.proofs.Held.{stepped_post, stepped_phase, KeepFrom, WorkFrom, PhaseHas, From, turn_from, head_queued, finds_at, Comes, turn_out, other_comes, protect_stays, protect_rows, tries_counted, loads_cover, out_start}
 use Rattle.inv_covers.proofs.Tried.{is_protect}
 use Rattle.inv_covers.specs.model.WriteRow.{last_written}
 use Rattle.inv_covers.proofs.Stood.{reload_stood, begin_stood, allocate_stood, write_stood, retire_stood, move_stood}
 use Rattle.inv_covers.proofs.Stands.{withdrawn_shrinks, withdrawn_apart}
 use Rattle.inv_covers.proofs.Resting.{base_rests}
-use Rattle.inv_covers.proofs.Fresh.{work_fresh}
+use Rattle.inv_covers.proofs.Copying.{copy_covers}
+use Rattle.inv_covers.proofs.Fresh.{works_start}
+use Rattle.inv_covers.proofs.Words.{work_stores}
+use Rattle.inv_covers.specs.shapes.Seats.{PhaseFits}
+use Rattle.inv_covers.specs.shapes.Slots.{PhaseIn}
+use Rattle.inv_covers.specs.words.Schemes.{has_one_interval}
+use Rattle.inv_covers.proofs.words.Schemes.{helps_not_interval}
 use Rattle.inv_covers.proofs.Scans.{scan_starts}
 use Rattle.inv_handover.proofs.Tries.{try_loads, takes_row, Rose, protect_rose, protect_next}
 use Rattle.inv_handover.proofs.Asks.{Asker, asker, run_of, asker_rests, asker_untried}
@@ -50,7 +56,7 @@ use Rattle.inv_handover.proofs.Back.{inside_of}
 use Rattle.inv_handover.proofs.Deals.{handed_deal}
 use Rattle.inv_handover.proofs.Words.{stores_protect, own_index, Handed, index_stays}
 use Rattle.inv_handover.proofs.Shown.{index_shows, one_from, helped_guard, index_fits, holds_stay, no_store, taken_holds}
-use Rattle.inv_requests.proofs.Known.{stands_as}
+use Rattle.inv_requests.proofs.Known.{stands_as, copying}
 use Rattle.inv_covers.proofs.model.Facts.{no_truth}
 
 no_row : (x : Option ℕ) (s : ℕ) → x ≡ None → x ≡ Some s → false ≡ true
@@ -87,7 +93,7 @@ protect_left : (w : World) (i : ℕ) (v : View) (z : Asked) (why : Why) (aim : A
 protect_left w i v z why aim index root steps at j s false f n d e o y = stood_stays w i v z i j s (Runs why (Protect aim index root steps at)) f n d e (own_stores i (stores_protect index at j) o) y
 protect_left w i v z why aim index root steps at j s true f n d e o y =
     let x : Vacant (vacant_why why (Protect aim index root steps at)) (w.seat i).post = subst (λ (p : Phase). Vacant (vacant p) (w.seat i).post) e (n.rests.vacant i) in
-    absurd (no_truth (no_row (stands (w.seat i).post j) s (x j (base_rests w.layout why (Protect aim index root steps at) (w.seat i).post j (run_of w i why (Protect aim index root steps at) n.seats e) (rests_stored index at j o))) y))
+    absurd (no_truth (no_row (stands (w.seat i).post j) s (base_rests w.layout why (Protect aim index root steps at) (w.seat i).post j (run_of w i why (Protect aim index root steps at) n.seats e) x (rests_stored index at j o)) y))
   where
     rests_stored : (index : ℕ) (at : ProtectAt) (j : ℕ) → stores_protect index at j ≡ true → rests_protect index at j ≡ true
     rests_stored index (PublishEra era tries) j h = h
@@ -204,23 +210,70 @@ base_holds w i v z why (Reload parent index slot era steps) j s f n d g e y = re
 base_holds w i v z why (Clear index) j s f n d g e y =
     stood_stays w i v z i j s (Runs why (Clear index)) f n d e (own_stores i (j == index) (withdrawn_apart (counted (w.seat i).post) index j s y)) (withdrawn_shrinks (counted (w.seat i).post) index j s y)
 base_holds w i v z why Finish j s f n d g e y = stood_stays w i v z i j s (Runs why Finish) f n d e (no_store i i) y
-base_holds w i v z why Release j s f n d g e y = stood_stays w i v z i j s (Runs why Release) f n d e (no_store i i) (withdrawn_shrinks (counted (w.seat i).post) 2 j s y)
+base_holds w i v z why (Release index) j s f n d g e y = stood_stays w i v z i j s (Runs why (Release index)) f n d e (no_store i i) (withdrawn_shrinks (counted (w.seat i).post) index j s y)
 base_holds w i v z why (Allocate at) j s f n d g e y = stood_stays w i v z i j s (Runs why (Allocate at)) f n d e (no_store i i) (allocate_stood at (finds w i) (counted (w.seat i).post) j s y)
 base_holds w i v z why (Write slot row place) j s f n d g e y = stood_stays w i v z i j s (Runs why (Write slot row place)) f n d e (no_store i i) (write_stood slot row place (counted (w.seat i).post) j s (place == last_written row) refl y)
 base_holds w i v z why (GiveUp slot) j s f n d g e y = stood_stays w i v z i j s (Runs why (GiveUp slot)) f n d e (no_store i i) y
 base_holds w i v z why (Retire at) j s f n d g e y = stood_stays w i v z i j s (Runs why (Retire at)) f n d e (no_store i i) (retire_stood at (finds w i) (counted (w.seat i).post) j s y)
 base_holds w i v z why (Move at) j s f n d g e y = stood_stays w i v z i j s (Runs why (Move at)) f n d e (no_store i i) (move_stood at (finds w i) (counted (w.seat i).post) j s y)
 
+-- a copy: it goes upwards, a row stands where it comes from, and each index publishes by itself
+work_same : (w : World) (i : ℕ) (v : View) (z : Asked) (work : Work) (j s : ℕ) → helps w.layout.config.scheme ≡ true → HandoverNeeds w i v z → Held w v → (w.seat i).phase ≡ Works work → work_stores work j ≡ false → stands (w.seat i).post j ≡ Some s → Holds (step w i) (rows_after w i v) (Index i j) s
+work_same w i v z work j s f n d e o y = stood_stays w i v z i j s (Works work) f n d e (own_stores i (work_stores work j) o) y
+
+copy_load_holds : (w : World) (i : ℕ) (v : View) (z : Asked) (from index j s : ℕ) → helps w.layout.config.scheme ≡ true → HandoverNeeds w i v z → Held w v → (w.seat i).phase ≡ Works (Keeping (LoadHeld from index)) → KeepFrom (LoadHeld from index) (w.seat i).post j s → Holds (step w i) (rows_after w i v) (Index i j) s
+copy_load_holds w i v z from index j s f n d e (inl y) = work_same w i v z (Keeping (LoadHeld from index)) j s f n d e refl y
+copy_load_holds w i v z from index j s f n d e (inr y) =
+    let x : has_one_interval w.layout.config.scheme ≡ true = subst (λ (l : Layout). has_one_interval l.config.scheme ≡ true) (n.seats.fits i).post.layout y.0 in
+    absurd (no_truth (sym (helps_not_interval w.layout.config.scheme f) ∙ x))
+
+tag_few : (w : World) (i : ℕ) (v : View) (z : Asked) (index : ℕ) → HandoverNeeds w i v z → tag_of (w.seat i).post index < 4294967295
+tag_few w i v z index n = let b = bounds_of w.layout n.valid in omega (arith, n.requests.locals.tags i index, n.requests.parts.low i index, n.requests.parts.clock, b.eras)
+
+copy_store_holds : (w : World) (i : ℕ) (v : View) (z : Asked) (from index era s : ℕ) → helps w.layout.config.scheme ≡ true → HandoverNeeds w i v z → Held w v → (w.seat i).phase ≡ Works (Keeping (StoreHeld from index era)) → stands (w.seat i).post from ≡ Some s → Holds (step w i) (rows_after w i v) (Index i index) s
+copy_store_holds w i v z from index era s f n d e y =
+    let c : PhaseIn w.layout (w.seat i).desk (Works (Keeping (StoreHeld from index era))) = subst (λ (p : Phase). PhaseIn w.layout (w.seat i).desk p) e (n.slots.seats i).phase in
+    let o = helped_holds w v i from s f (d.stood i from s y) in
+    record { fits = index_fits w.layout.config i index f n.below c.below; covers = copy_covers w i v from index era s n.covers n.scans (n.seats.fits i).post.seat c.rises (tag_few w i v z index n) (ap one_era ((copying w z i n.valid n.requests).publishes from index era e)) e o.fits o.covers }
+
+work_holds : (w : World) (i : ℕ) (v : View) (z : Asked) (work : Work) (j s : ℕ) → helps w.layout.config.scheme ≡ true → HandoverNeeds w i v z → Held w v → (w.seat i).phase ≡ Works work → WorkFrom work (w.seat i).post j s → Holds (step w i) (rows_after w i v) (Index i j) s
+work_holds w i v z (Keeping (LoadHeld from index)) j s f n d e y = copy_load_holds w i v z from index j s f n d e y
+work_holds w i v z (Keeping (StoreHeld from index era)) j s f n d e (inl y) = work_same w i v z (Keeping (StoreHeld from index era)) j s f n d e y.0 y.1
+work_holds w i v z (Keeping (StoreHeld from index era)) j s f n d e (inr y) = rw y.0 (copy_store_holds w i v z from index era s f n d e y.1)
+work_holds w i v z (Keeping (Loosens let_go)) j s f n d e y = work_same w i v z (Keeping (Loosens let_go)) j s f n d e refl y
+work_holds w i v z (Keeping (Looks index key at)) j s f n d e y = work_same w i v z (Keeping (Looks index key at)) j s f n d e refl y
+work_holds w i v z (Keeping (Misses index)) j s f n d e y = work_same w i v z (Keeping (Misses index)) j s f n d e refl y
+work_holds w i v z (Getting key at) j s f n d e y = work_same w i v z (Getting key at) j s f n d e refl y
+work_holds w i v z (Changing kept at) j s f n d e y = work_same w i v z (Changing kept at) j s f n d e refl y
+work_holds w i v z (Enqueuing kept at) j s f n d e y = work_same w i v z (Enqueuing kept at) j s f n d e refl y
+work_holds w i v z (Dequeuing at) j s f n d e y = work_same w i v z (Dequeuing at) j s f n d e refl y
+
+copy_room : (w : World) (i : ℕ) (v : View) (z : Asked) (index : ℕ) → HandoverNeeds w i v z → index < w.layout.config.indexes → index < length (w.seat i).post.standing
+copy_room w i v z index n b = let m = (bounds_of w.layout n.valid).indexes in let l = (n.seats.fits i).post.standing in omega (arith, b, m, l)
+
+phase_has : (w : World) (i : ℕ) (v : View) (z : Asked) (phase : Phase) → HandoverNeeds w i v z → (w.seat i).phase ≡ phase → PhaseHas phase (counted (w.seat i).post)
+phase_has w i v z (Works (Keeping (LoadHeld from index))) n e =
+    let q : PhaseFits w.layout (w.seat i).post (Works (Keeping (LoadHeld from index))) = subst (λ (p : Phase). PhaseFits w.layout (w.seat i).post p) e (n.seats.fits i).phase in
+    let c : PhaseIn w.layout (w.seat i).desk (Works (Keeping (LoadHeld from index))) = subst (λ (p : Phase). PhaseIn w.layout (w.seat i).desk p) e (n.slots.seats i).phase in
+    record { stood = q; room = copy_room w i v z index n c.below }
+phase_has w i v z (Works (Keeping (StoreHeld from index era))) n e =
+    let q : PhaseFits w.layout (w.seat i).post (Works (Keeping (StoreHeld from index era))) = subst (λ (p : Phase). PhaseFits w.layout (w.seat i).post p) e (n.seats.fits i).phase in
+    let c : PhaseIn w.layout (w.seat i).desk (Works (Keeping (StoreHeld from index era))) = subst (λ (p : Phase). PhaseIn w.layout (w.seat i).desk p) e (n.slots.seats i).phase in
+    record { stood = q.kept; room = copy_room w i v z index n c.below }
+phase_has w i v z (Works (Keeping at)) n e = tt
+phase_has w i v z (Works work) n e = tt
+phase_has w i v z phase n e = tt
+
 from_holds : (w : World) (i : ℕ) (v : View) (z : Asked) (phase : Phase) (j s : ℕ) → helps w.layout.config.scheme ≡ true → HandoverNeeds w i v z → Held w v → Helped w v z.deal → (w.seat i).phase ≡ phase → From phase (w.seat i).post (finds w i) j s → Holds (step w i) (rows_after w i v) (Index i j) s
 from_holds w i v z Idle j s f n d g e y = stood_stays w i v z i j s Idle f n d e refl y
 from_holds w i v z (Runs why base) j s f n d g e y = base_holds w i v z why base j s f n d g e y
 from_holds w i v z (Scans later at) j s f n d g e y = stood_stays w i v z i j s (Scans later at) f n d e refl y
-from_holds w i v z (Works work) j s f n d g e y = stood_stays w i v z i j s (Works work) f n d e refl y
+from_holds w i v z (Works work) j s f n d g e y = work_holds w i v z work j s f n d e y
 
 -- what stands at an index of the seat that steps
 pub own_stands : (w : World) (i : ℕ) (v : View) (z : Asked) (j s : ℕ) → helps w.layout.config.scheme ≡ true → HandoverNeeds w i v z → Held w v → Helped w v z.deal → stands ((step w i).seat i).post j ≡ Some s → Holds (step w i) (rows_after w i v) (Index i j) s
 own_stands w i v z j s f n d g y =
-    from_holds w i v z (w.seat i).phase j s f n d g refl (turn_from (w.seat i).phase (w.seat i).post (w.seat i).desk (finds w i) j s (subst (λ (p : Post). stands p j ≡ Some s) (stepped_post w i) y))
+    from_holds w i v z (w.seat i).phase j s f n d g refl (turn_from (w.seat i).phase (w.seat i).post (w.seat i).desk (finds w i) j s (phase_has w i v z (w.seat i).phase n refl) (subst (λ (p : Post). stands p j ≡ Some s) (stepped_post w i) y))
 
 -- a try of the seat that steps
 next_holds : (w : World) (i : ℕ) (v : View) (z : Asked) (why : Why) (aim : Aim) (index : ℕ) (root : Root) (steps : ℕ) (at : ProtectAt) (s : ℕ) → helps w.layout.config.scheme ≡ true → HandoverNeeds w i v z → Held w v → Helped w v z.deal → (w.seat i).phase ≡ Runs why (Protect aim index root steps at)
@@ -277,7 +330,7 @@ turn_comes w i v z Idle why base s f n d g e o t = absurd (cc)
 turn_comes w i v z (Scans later at) why base s f n d g e o t =
     absurd (no_truth (out_start ((step w i).mem Clock) (rows_after w i v).status ((step w i).seat i).post (phase_left (scan_turn later at (counted (w.seat i).post) (w.seat i).desk (finds w i)).outcome) why base s (scan_starts later at (counted (w.seat i).post) (w.seat i).desk (finds w i)) o t))
 turn_comes w i v z (Works work) why base s f n d g e o t =
-    absurd (no_truth (out_start ((step w i).mem Clock) (rows_after w i v).status ((step w i).seat i).post (phase_left (work_turn work (counted (w.seat i).post) (w.seat i).desk (finds w i)).outcome) why base s (work_fresh work (counted (w.seat i).post) (w.seat i).desk (finds w i)).starts o t))
+    absurd (no_truth (out_start ((step w i).mem Clock) (rows_after w i v).status ((step w i).seat i).post (Runs why base) why base s (works_start work (counted (w.seat i).post) (w.seat i).desk (finds w i) why base o) refl t))
 turn_comes w i v z (Runs reason one) why base s f n d g e o t = run_comes w i v z reason one why base s (is_protect one) refl f n d g e o t
 
 pub own_tries : (w : World) (i : ℕ) (v : View) (z : Asked) (why : Why) (base : Base) (s : ℕ) → helps w.layout.config.scheme ≡ true → HandoverNeeds w i v z → Held w v → Helped w v z.deal → ((step w i).seat i).phase ≡ Runs why base → tries_base ((step w i).mem Clock) (rows_after w i v).status ((step w i).seat i).post base s ≡ true

@@ -23,12 +23,13 @@ use Rattle.inv_covers.specs.model.Get.{get_move}
 use Rattle.inv_covers.specs.model.Change.{change_move}
 use Rattle.inv_covers.specs.model.Enqueue.{enqueue_move}
 use Rattle.inv_covers.specs.model.Dequeue.{dequeue_move}
+use Rattle.inv_covers.specs.model.Keep.{keep_move}
 use Rattle.inv_covers.specs.model.Steps.{work_move}
-use Rattle.inv_covers.specs.model.Calls.{ChangeKept, EnqueueKept, ScanAt, ReadGuard, GiveBack, GetAt, FindVersion, ChangeAt, LoadVersion, EnqueueAt, LoadNumber, DequeueAt, LoadTail, Work, Getting, Changing, Enqueuing, Dequeuing, Why, Phase, Idle, Runs, Scans, Works}
+use Rattle.inv_covers.specs.model.Calls.{ChangeKept, EnqueueKept, ScanAt, ReadGuard, GiveBack, GetAt, FindVersion, ChangeAt, LoadVersion, EnqueueAt, LoadNumber, DequeueAt, LoadTail, KeepAt, Loosens, LoadHeld, StoreHeld, Looks, Misses, Work, Getting, Changing, Enqueuing, Dequeuing, Keeping, Why, Phase, Idle, Runs, Scans, Works}
 use Rattle.inv_covers.specs.model.World.{World, step}
 use Rattle.inv_requests.specs.Roles.{shows}
 use Rattle.inv_covers.specs.Covers.{eras_shown}
-use Rattle.inv_covers.proofs.Words.{keeps, eras_kept, allocate_index, retire_index, work_index, scan_index}
+use Rattle.inv_covers.proofs.Words.{keeps, eras_kept, allocate_index, retire_index, work_stores, work_index, scan_index}
 use Rattle.inv_covers.proofs.Held.{move_is, keeps_at}
 
 -- the own step stores the index word of this index, or the own helper word
@@ -61,6 +62,7 @@ stores_helper base = false
 -- a step of another's, by the phase
 abbrev pub own_index : ℕ → Phase → ℕ → ℕ → Bool
 own_index seat (Runs why base) k j = k == seat && stores_index base j
+own_index seat (Works work) k j = k == seat && work_stores work j
 own_index seat phase k j = false
 
 abbrev pub own_helper : ℕ → Phase → ℕ → Bool
@@ -85,7 +87,7 @@ base_keeps k j (Protect aim index root steps at) post h n = protect_keeps k j in
 base_keeps k j (Reload parent index slot era steps) post h n = refl
 base_keeps k j (Clear index) post h n = rw h refl
 base_keeps k j Finish post h n = refl
-base_keeps k j Release post h n = refl
+base_keeps k j (Release index) post h n = refl
 base_keeps k j (Allocate at) post h n = allocate_index k j at
 base_keeps k j (Write slot row place) post h n = refl
 base_keeps k j (GiveUp slot) post h n = refl
@@ -136,7 +138,7 @@ handed_word w i k j why era m tag l root link old true false e o s =
 pub index_stays : (w : World) (i k j : ℕ) (phase : Phase) → (w.seat i).post.seat ≡ i → (w.seat i).phase ≡ phase → own_index i phase k j ≡ false → (eras_shown (step w i) (Index k j) ≡ eras_shown w (Index k j)) ⊎ Handed w i k j
 index_stays w i k j Idle n e h = inl (eras_kept w i (Index k j) (keeps_at w i Idle (places.Index k j) e refl))
 index_stays w i k j (Scans later at) n e h = inl (eras_kept w i (Index k j) (keeps_at w i (Scans later at) (places.Index k j) e (scan_index k j at (w.seat i).post)))
-index_stays w i k j (Works work) n e h = inl (eras_kept w i (Index k j) (keeps_at w i (Works work) (places.Index k j) e (work_index k j work (w.seat i).post)))
+index_stays w i k j (Works work) n e h = inl (eras_kept w i (Index k j) (keeps_at w i (Works work) (places.Index k j) e (work_index k j work (w.seat i).post (rw n h))))
 index_stays w i k j (Runs why (Move (HandOver era m tag l root link old))) n e h = handed_word w i k j why era m tag l root link old (k == m && j == l) (w.mem (places.Index m l) == halves old tag) e refl refl
 index_stays w i k j (Runs why base) n e h = inl (eras_kept w i (Index k j) (keeps_at w i (Runs why base) (places.Index k j) e (base_keeps k j base (w.seat i).post (rw n h) refl)))
 
@@ -159,7 +161,7 @@ base_shows k (Protect aim index root steps at) post h = protect_shows k index ro
 base_shows k (Reload parent index slot era steps) post h = refl
 base_shows k (Clear index) post h = refl
 base_shows k Finish post h = refl
-base_shows k Release post h = refl
+base_shows k (Release index) post h = refl
 base_shows k (Allocate LoadBirth) post h = refl
 base_shows k (Allocate at) post h = refl
 base_shows k (Write slot row place) post h = refl
@@ -184,11 +186,19 @@ get_shows : (k : ℕ) (at : GetAt) → keeps (get_move at) (places.Helper k) ≡
 get_shows k (FindVersion slot) = refl
 get_shows k at = refl
 
+keep_shows : (k : ℕ) (at : KeepAt) (post : Post) → keeps (keep_move at post) (places.Helper k) ≡ true
+keep_shows k (Loosens let_go) post = refl
+keep_shows k (LoadHeld from index) post = refl
+keep_shows k (StoreHeld from index era) post = refl
+keep_shows k (Looks index key at) post = get_shows k at
+keep_shows k (Misses index) post = refl
+
 work_shows : (k : ℕ) (work : Work) (post : Post) → keeps (work_move work post) (places.Helper k) ≡ true
 work_shows k (Getting key at) post = get_shows k at
 work_shows k (Changing kept at) post = change_shows k kept at post
 work_shows k (Enqueuing kept at) post = enqueue_shows k kept at
 work_shows k (Dequeuing at) post = dequeue_shows k at
+work_shows k (Keeping at) post = keep_shows k at post
 
 scan_shows : (k : ℕ) (at : ScanAt) (post : Post) → keeps (scan_move at post) (places.Helper k) ≡ true
 scan_shows k (ReadGuard number) post = refl

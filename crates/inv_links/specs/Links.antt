@@ -17,11 +17,12 @@ use Rattle.inv_covers.specs.model.Posts.{counted}
 use Rattle.inv_covers.specs.model.Phases.{Aim, ProtectAt, Base, Ends, Protected}
 use Rattle.inv_covers.specs.model.Phases.Base.{Protect}
 use Rattle.inv_covers.specs.model.Rounds.{key_of}
-use Rattle.inv_covers.specs.model.Calls.{ChangeKept, Task, Gets, Changes, Why, Opens, FollowsHead, Runs}
+use Rattle.inv_covers.specs.model.Calls.{ChangeKept, Task, Gets, Changes, Holds, Why, Opens, FollowsHead, Runs}
 use Rattle.inv_covers.specs.model.World.{World, start, begin, step, is_busy, finds}
 use Rattle.inv_covers.specs.shapes.Seats.{Seats}
 use Rattle.inv_covers.specs.words.Schemes.{helps}
 use Rattle.inv_requests.specs.NextDeals.{next_deals}
+use Rattle.inv_requests.specs.Parents.{rises_at}
 use Rattle.inv_requests.specs.Standing.{Requests}
 use Rattle.inv_requests.specs.Views.{View as Asking}
 use Rattle.inv_requests.specs.Views.Deal.{Quiet}
@@ -90,6 +91,8 @@ pub record LinksShow (w : World) (i : ℕ) (v : View) (l : Line) : Type 0 where
   -- a row that was protected from a bucket's root was linked there last
   pub gets : (key slot era : ℕ) (base : Base) → (w.seat i).phase ≡ Runs (Opens (Gets key)) base → (after base (counted (w.seat i).post) (finds w i)).outcome ≡ Ends (Protected (protect_ends.Held slot era)) → (w.book.row slot).root ≡ roots.Bucket (key % w.layout.config.buckets)
   pub changes : (kept : ChangeKept) (slot era : ℕ) (base : Base) → (w.seat i).phase ≡ Runs (Opens (Changes kept)) base → (after base (counted (w.seat i).post) (finds w i)).outcome ≡ Ends (Protected (protect_ends.Held slot era)) → (w.book.row slot).root ≡ roots.Bucket (key_of kept.change % w.layout.config.buckets)
+  -- so was a row that comes to stand for a hold
+  pub holds : (key : ℕ) (aim : Aim) (index : ℕ) (root : Root) (steps : ℕ) (at : ProtectAt) (s : ℕ) → (w.seat i).phase ≡ Runs (Opens (Holds key)) (Protect aim index root steps at) → rises_at (w.seat i).post at (finds w i) s ≡ true → (w.book.row s).root ≡ roots.Bucket (key % w.layout.config.buckets)
   -- an answer that the seat's request has: the head's next link, or null, where it follows that; else a row of the queue
   pub answers : (head tail : ℕ) (aim : Aim) (index : ℕ) (root : Root) (steps : ℕ) (at : ProtectAt) → (w.seat i).phase ≡ Runs (FollowsHead head tail) (Protect aim index root steps at) → AnswersFit at (finds w i) (w.mem (Row head 0))
   pub asks : (task : Task) (aim : Aim) (index : ℕ) (root : Root) (steps : ℕ) (at : ProtectAt) (link era s : ℕ) → (w.seat i).phase ≡ Runs (Opens task) (Protect aim index root steps at) → at_asks at ≡ true → read_request (finds w i) ≡ Some (requests.Answered link era) → link ≡ s + 1 → is_tail root ≡ true → l.lined s ≡ true

@@ -60,7 +60,7 @@ publish_try : (c : Config) (v : View) (x j e : ℕ) (lost : Bool) → x < c.seat
 publish_try c v x j e false b d q = own.publishes_first-keeps c v x j e b d q
 publish_try c v x j e true b d q = own.publishes_again-keeps c v x j e b d q
 
-index_words : (mem : Place → ℕ) (seat : ℕ → Local) (i : ℕ) (v : View) (index era : ℕ) → At mem seat i v → is_quiet (v.deal i) ≡ true → Words (put mem (Index (seat i).post.seat index) (index_word (seat i).post index era)) v.clock v.helper (upd2 v.era i index era) v.mark v.deal
+pub index_words : (mem : Place → ℕ) (seat : ℕ → Local) (i : ℕ) (v : View) (index era : ℕ) → At mem seat i v → is_quiet (v.deal i) ≡ true → Words (put mem (Index (seat i).post.seat index) (index_word (seat i).post index era)) v.clock v.helper (upd2 v.era i index era) v.mark v.deal
 index_words mem seat i v index era a q =
     words_era mem v.clock v.helper v.era v.mark v.deal i (seat i).post.seat index era (index_word (seat i).post index era) a.facts.words a.number
     (ap (λ (n : ℕ). halves era n) (sym (quiet_mark mem seat i v index a q)))

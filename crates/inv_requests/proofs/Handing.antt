@@ -107,7 +107,7 @@ mark_few mem seat i v k j a = let b = bounds_of (seat i).post.layout a.valid in 
     few (Taken t' j' w' l' e') = omega arith
 
 -- what is read of an index word
-read_index : (mem : Place → ℕ) (seat : ℕ → Local) (i : ℕ) (v : View) (k j : ℕ) → At mem seat i v → read_reservation (mem (Index k j)) ≡ record { era = v.era k j; tag = v.mark k j }
+pub read_index : (mem : Place → ℕ) (seat : ℕ → Local) (i : ℕ) (v : View) (k j : ℕ) → At mem seat i v → read_reservation (mem (Index k j)) ≡ record { era = v.era k j; tag = v.mark k j }
 read_index mem seat i v k j a = ap read_reservation (a.facts.words.indexes k j) ∙ read_reservation-halves (v.era k j) (v.mark k j) (mark_few mem seat i v k j a)
 
 -- 7. The index word is loaded.

@@ -34,6 +34,7 @@ use Rattle.inv_requests.specs.Turns.{Made}
 use Rattle.inv_requests.specs.Context.{At, phase_there}
 use Rattle.inv_requests.specs.Asked.{Asker}
 use Rattle.inv_requests.proofs.Movers as mover
+use Rattle.inv_requests.proofs.Turns.{each_work_role}
 use Rattle.inv_requests.proofs.Going.{same_role, stands_in, own_post, go, rest}
 use Rattle.inv_shapes.proofs.model.Facts.{by_cases, if_by}
 
@@ -114,7 +115,7 @@ asker_base layout (bases.Protect aim index root steps at) why t j w h f = asker_
 asker_base layout (bases.Reload parent index slot era steps) why t j w h f = absurd (cc)
 asker_base layout (bases.Clear index) why t j w h f = absurd (cc)
 asker_base layout bases.Finish why t j w h f = absurd (cc)
-asker_base layout bases.Release why t j w h f = absurd (cc)
+asker_base layout (bases.Release index) why t j w h f = absurd (cc)
 asker_base layout (bases.Allocate at) why t j w h f = absurd (cc)
 asker_base layout (bases.Write slot row place) why t j w h f = absurd (cc)
 asker_base layout (bases.GiveUp slot) why t j w h f = absurd (cc)
@@ -138,7 +139,7 @@ asker : (layout : Layout) (phase : Phase) (t j w : ℕ) → phase_there layout p
 asker layout Idle t j w h f = absurd (cc)
 asker layout (Runs why base) t j w h f = asker_base layout base why t j w h f
 asker layout (Scans later at) t j w h f = absurd (cc)
-asker layout (Works work) t j w h f = absurd (cc)
+asker layout (Works work) t j w h f = each_work_role work (λ (r : Role). fits r (Open t j w) ≡ true → Asker layout j w) (λ g. absurd (cc)) (λ from era g. absurd (cc)) f
 
 pub asker_of : (mem : Place → ℕ) (seat : ℕ → Local) (i : ℕ) (v : View) (k t j w : ℕ) → At mem seat i v → v.deal k ≡ Open t j w → Asker (seat i).post.layout j w
 asker_of mem seat i v k t j w a q = asker (seat i).post.layout (seat k).phase t j w (a.inside k) (ap (λ (r : Role). fits r (Open t j w)) (a.facts.locals.roles k) ∙ ap (fits (v.role k)) (sym q) ∙ a.facts.parts.fit k)

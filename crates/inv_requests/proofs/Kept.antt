@@ -7,7 +7,7 @@ use Rattle.inv_shapes.specs.words.Place.Place.{Clock, Helper, Index, Request}
 use Rattle.inv_shapes.specs.defs.declared.event.Root.{Root}
 use Rattle.inv_shapes.specs.model.declared.post.Post.{Post}
 use Rattle.inv_shapes.specs.model.Links.{link_place}
-use Rattle.inv_shapes.specs.model.Memory.{upd, Move, place_in, found, bump}
+use Rattle.inv_shapes.specs.model.Memory.{upd, bump}
 use Rattle.inv_shapes.specs.model.Posts.{counted, tag_of, new_post}
 use Rattle.inv_shapes.specs.model.Phases.{Aim, Tries, Endless, Failed, ProtectAt, MoveAt, Base, Base as bases}
 use Rattle.inv_shapes.specs.model.Calls.{Why, Phase, Idle, Runs, Opens, FollowsHead, Scans, Works}
@@ -22,9 +22,9 @@ use Rattle.inv_shapes.specs.model.Phases.MoveAt.{LoadEra, LoadRequest, ShowEra, 
 use Rattle.inv_shapes.specs.model.World.{World, step, begin, start, is_busy}
 use Rattle.inv_shapes.proofs.model.Ranges.{bounds_of}
 use Rattle.inv_shapes.specs.words.Schemes.{helps}
-use Rattle.inv_shapes.specs.Seats.{base_fits, protect_fits, Seats, PostFits, PhaseFits, Shaped, root_by}
+use Rattle.inv_shapes.specs.Seats.{kind_of, suits, base_fits, protect_fits, Seats, PostFits, PhaseFits, Shaped, root_by}
 use Rattle.inv_shapes.proofs.Inside.{shape_moves}
-use Rattle.inv_shapes.proofs.Kept.{counted_fits, run_counted}
+use Rattle.inv_shapes.proofs.Kept.{counted_fits, run_counted, work_counted}
 use Rattle.inv_requests.specs.Views.{View, Role, Role as roles}
 use Rattle.inv_requests.specs.Views.Deal.{Quiet}
 use Rattle.inv_requests.specs.Roles.{is_turn}
@@ -36,20 +36,17 @@ use Rattle.inv_requests.specs.Context.{At, guards_there, phase_there}
 use Rattle.inv_requests.specs.Needs.{Needs, head_fits, heads_fit}
 use Rattle.inv_shapes.proofs.Frame.{begun_seated}
 use Rattle.inv_requests.proofs.Words.{no_halves}
-use Rattle.inv_requests.proofs.Turns.{guards_some, away, locals_turn}
+use Rattle.inv_requests.proofs.Turns.{each_work_role, guards_some, away, locals_turn}
 use Rattle.inv_requests.proofs.Going.{own_post, same_role}
 use Rattle.inv_requests.proofs.Asking.{load_clock, publish_era, load_link, check_clock, publish_ask, load_own_clock, publish_helper, load_own_link, check_own_clock}
 use Rattle.inv_requests.proofs.Answering.{exchange_own, load_answer, take_answer, withdraw_request, withdraw_helper}
 use Rattle.inv_requests.proofs.Helping.{load_era}
 use Rattle.inv_requests.proofs.Serving.{load_request, show_era, load_asked, check_era}
 use Rattle.inv_requests.proofs.Handing.{answer_asked, load_reserved, exchange_index, hide_era, hide_late, exchange_clock}
-use Rattle.inv_requests.proofs.Resting.{begin_made, within_made, upper_made, raise_made, reload_made, clear_made, finish_made, release_made, allocate_made, write_made, give_up_made, retire_made, work_made, scan_made, idle_made}
+use Rattle.inv_requests.proofs.Resting.{begin_made, within_made, upper_made, raise_made, reload_made, clear_made, finish_made, release_made, allocate_made, write_made, give_up_made, retire_made, scan_made, idle_made}
+use Rattle.inv_requests.proofs.Copying.{found_by, own_made}
 use Rattle.inv_shapes.proofs.Written.{index_few, task_there}
 use Rattle.inv_shapes.proofs.model.Facts.{zero_either}
-
--- what the operation of a seat finds
-abbrev pub found_by : (Place → ℕ) → Move → ℕ
-found_by mem m = found m (mem (place_in m))
 
 fresh : (steps : ℕ) (tries : Tries) → first_paced steps tries ≡ true → has_failed tries ≡ false
 fresh steps Endless h = refl
@@ -99,7 +96,7 @@ base_made mem seat i v why (bases.Protect aim index root steps at) a q f p m = p
 base_made mem seat i v why (bases.Reload parent index slot era steps) a q f p m = reload_made mem seat i v why parent index slot era steps (found_by mem (base_move (bases.Reload parent index slot era steps) (seat i).post)) a q m
 base_made mem seat i v why (bases.Clear index) a q f p m = clear_made mem seat i v why index (found_by mem (base_move (bases.Clear index) (seat i).post)) a q m
 base_made mem seat i v why bases.Finish a q f p m = finish_made mem seat i v why (found_by mem (base_move bases.Finish (seat i).post)) a q m
-base_made mem seat i v why bases.Release a q f p m = release_made mem seat i v why (found_by mem (base_move bases.Release (seat i).post)) a q m
+base_made mem seat i v why (bases.Release index) a q f p m = release_made mem seat i v why index (found_by mem (base_move (bases.Release index) (seat i).post)) a q m
 base_made mem seat i v why (bases.Allocate at) a q f p m = allocate_made mem seat i v why at (found_by mem (base_move (bases.Allocate at) (seat i).post)) a q m
 base_made mem seat i v why (bases.Write slot row place) a q f p m = write_made mem seat i v why slot row place (found_by mem (base_move (bases.Write slot row place) (seat i).post)) a q m
 base_made mem seat i v why (bases.GiveUp slot) a q f p m = give_up_made mem seat i v why slot (found_by mem (base_move (bases.GiveUp slot) (seat i).post)) a q m
@@ -117,37 +114,37 @@ phase_made mem seat i v layout (Runs why base) y t s f p a q =
     (subst (λ (l : Layout). base_paced l.config base ≡ true) (sym t) p)
     (shape_moves layout i y why base (counted (seat i).post) (found_by mem (base_move base (seat i).post)) (counted_fits layout i (seat i).post s) (run_counted layout why base (seat i).post f))
 phase_made mem seat i v layout (Scans later at) y t s f p a q = scan_made mem seat i v later at (found_by mem (phase_move (Scans later at) (seat i).post)) a q
-phase_made mem seat i v layout (Works work) y t s f p a q = work_made mem seat i v work (found_by mem (phase_move (Works work) (seat i).post)) a q f
+phase_made mem seat i v layout (Works work) y t s f p a q = own_made mem seat i v work a q (work_counted work (seat i).post f)
 
 root_by_there : (layout : Layout) (why : Why) → 1 ≤ layout.config.buckets → head_fits layout.config why ≡ true → has layout (link_place (root_by layout.config.buckets why)) ≡ true
 root_by_there layout (Opens task) b h = task_there layout task b
 root_by_there layout (FollowsHead head tail) b h = grind (arith, nat_tests)
 root_by_there layout why b h = refl
 
-base_inside : (layout : Layout) (why : Why) (base : Base) → is_valid layout ≡ true → Shaped layout.config.buckets why base → head_fits layout.config why ≡ true → guards_there layout base ≡ true
-base_inside layout why (bases.Begin at) y s h = refl
-base_inside layout why (bases.Protect aim index root steps at) y s h =
+base_inside : (layout : Layout) (why : Why) (base : Base) → is_valid layout ≡ true → suits base (kind_of why) ≡ true → Shaped layout.config.buckets why base → head_fits layout.config why ≡ true → guards_there layout base ≡ true
+base_inside layout why (bases.Begin at) y u s h = refl
+base_inside layout why (bases.Protect aim index root steps at) y u s h =
     let b = bounds_of layout y in
     let r = ap (λ (x : Root). has layout (link_place x)) s.of ∙ root_by_there layout why (b.buckets.0) h in
-    let x : index ≤ 2 = omega (arith, index_few why, s.at) in
+    let x : index ≤ 2 = omega (arith, index_few why u, s.at) in
     let z : nat_lt index layout.config.indexes ≡ true = grind (arith, nat_tests, b.indexes) in
     both z r
   where
     both : nat_lt index layout.config.indexes ≡ true → has layout (link_place root) ≡ true → (nat_lt index layout.config.indexes && has layout (link_place root)) ≡ true
     both z r = rw z r
-base_inside layout why (bases.Reload parent index slot era steps) y s h = refl
-base_inside layout why (bases.Clear index) y s h = refl
-base_inside layout why bases.Finish y s h = refl
-base_inside layout why bases.Release y s h = refl
-base_inside layout why (bases.Allocate at) y s h = refl
-base_inside layout why (bases.Write slot row place) y s h = refl
-base_inside layout why (bases.GiveUp slot) y s h = refl
-base_inside layout why (bases.Retire at) y s h = refl
-base_inside layout why (bases.Move at) y s h = refl
+base_inside layout why (bases.Reload parent index slot era steps) y u s h = refl
+base_inside layout why (bases.Clear index) y u s h = refl
+base_inside layout why bases.Finish y u s h = refl
+base_inside layout why (bases.Release index) y u s h = refl
+base_inside layout why (bases.Allocate at) y u s h = refl
+base_inside layout why (bases.Write slot row place) y u s h = refl
+base_inside layout why (bases.GiveUp slot) y u s h = refl
+base_inside layout why (bases.Retire at) y u s h = refl
+base_inside layout why (bases.Move at) y u s h = refl
 
 phase_inside : (layout : Layout) (phase : Phase) (post : Post) → is_valid layout ≡ true → PhaseFits layout post phase → heads_fit layout.config phase ≡ true → phase_there layout phase ≡ true
 phase_inside layout Idle post y f h = refl
-phase_inside layout (Runs why base) post y f h = base_inside layout why base y f.shape h
+phase_inside layout (Runs why base) post y f h = base_inside layout why base y f.suited f.shape h
 phase_inside layout (Scans later at) post y f h = refl
 phase_inside layout (Works work) post y f h = refl
 
@@ -184,7 +181,7 @@ base_alone layout (bases.Protect aim index root steps at) f h = protect_alone la
 base_alone layout (bases.Reload parent index slot era steps) f h = refl
 base_alone layout (bases.Clear index) f h = refl
 base_alone layout bases.Finish f h = refl
-base_alone layout bases.Release f h = refl
+base_alone layout (bases.Release index) f h = refl
 base_alone layout (bases.Allocate at) f h = refl
 base_alone layout (bases.Write slot row place) f h = refl
 base_alone layout (bases.GiveUp slot) f h = refl
@@ -195,7 +192,7 @@ phase_alone : (layout : Layout) (phase : Phase) (post : Post) → PhaseFits layo
 phase_alone layout Idle post f h = refl
 phase_alone layout (Runs why base) post f h = base_alone layout base f.fits h
 phase_alone layout (Scans later at) post f h = refl
-phase_alone layout (Works work) post f h = refl
+phase_alone layout (Works work) post f h = each_work_role work (λ (r : Role). is_turn r ≡ false) refl (λ from era. refl)
 
 -- a seat of a World that is to step
 pub at_of : (w : World) (i : ℕ) (v : View) → is_valid w.layout ≡ true → i < w.layout.config.seats → Seats w → Needs w → Facts w.layout w.mem w.seat v → At w.mem w.seat i v

@@ -3,8 +3,9 @@ use Rattle.std.proofs.Common.{ℕ, ◌≡◌, ◌<◌, ◌+◌, Bool, true, fals
 use Rattle.std.proofs.lemmas.Bool.Decides.{nat_tests}
 use Rattle.std.specs.Prelude.{◌==◌, ◌&&◌, not}
 use Rattle.inv_shapes.specs.words.Place.{is_valid}
-use Rattle.inv_shapes.specs.words.Place.Place.{Helper, Request}
-use Rattle.inv_shapes.specs.words.Packed.{halves}
+use Rattle.inv_shapes.specs.words.Place.Place.{Helper, Index, Request}
+use Rattle.inv_shapes.specs.words.Packed.{halves, read_reservation}
+use Rattle.inv_shapes.specs.words.declared.packed.Reservation.{Reservation}
 use Rattle.inv_shapes.specs.words.declared.layout.Layout.{Layout}
 use Rattle.inv_shapes.specs.defs.declared.event.Root.{Root}
 use Rattle.inv_shapes.proofs.model.Ranges.{bounds_of}
@@ -14,11 +15,13 @@ use Rattle.inv_shapes.specs.model.Posts.{tag_of}
 use Rattle.inv_shapes.specs.model.SlowPath.{asking, own_request}
 use Rattle.inv_shapes.specs.model.Phases.ProtectAt.{AnswerOwn, LoadAnswer, TakeAnswer}
 use Rattle.inv_shapes.specs.model.Phases.Base.{Protect}
-use Rattle.inv_shapes.specs.model.Calls.{Phase, Idle, Runs}
+use Rattle.inv_shapes.specs.model.Calls.{StoreHeld, Keeping, Phase, Idle, Runs, Works}
 use Rattle.inv_shapes.specs.model.World.{World, finds}
 use Rattle.inv_shapes.specs.Seats.{Seats}
+use Rattle.inv_shapes.proofs.words.Parts.{read_reservation-halves}
 use Rattle.inv_shapes.proofs.Frame.{finds_at}
-use Rattle.inv_requests.specs.Deals.{is_open, asked_at, fits}
+use Rattle.inv_requests.specs.Copying.{Copying}
+use Rattle.inv_requests.specs.Deals.{is_quiet, is_open, asked_at, fits}
 use Rattle.inv_requests.specs.Known.{IsAnswer, Known}
 use Rattle.inv_requests.specs.Standing.{role_of, request_of, Requests}
 use Rattle.inv_requests.specs.Views.{View, Role, Role as roles}
@@ -95,4 +98,24 @@ known w v k y s f = record {
   meets = λ why aim index root steps first era link q n. meets_answer w v k index root first era link (finds w k) s f (stands_as w v k (Runs why (Protect aim index root steps (AnswerOwn first era link))) f q)
       (finds_at w k (Runs why (Protect aim index root steps (AnswerOwn first era link))) q ∙ own_word w v k s f) n;
   hidden = λ b. hidden_word w v k f (stands_as w v k Idle f (idle_of (w.seat k).phase b));
+}
+
+-- the word that is copied has the seat's own tag, since nothing is asked, and the era that was found
+copied_word : (w : World) (v : View) (k from era : ℕ) → Requests w v → v.role k ≡ roles.Copies from era → w.mem (Index k from) ≡ halves era (tag_of (w.seat k).post from)
+copied_word w v k from era f r =
+    let d : is_quiet (v.deal k) ≡ true = rw r at (f.parts.fit k) in
+    let t : v.mark k from ≡ tag_of (w.seat k).post from = grind (arith, nat_tests, f.parts.marks k from, f.locals.tags k from, d) in
+    let e : (v.era k from == era) ≡ true = rw r at (f.parts.published k) in
+    f.words.indexes k from ∙ ap (λ (x : ℕ). halves x (v.mark k from)) (number_is (v.era k from) era e) ∙ ap (halves era) t
+
+copied_era : (w : World) (v : View) (k from era : ℕ) → is_valid w.layout ≡ true → Requests w v → v.role k ≡ roles.Copies from era → (read_reservation (w.mem (Index k from))).era ≡ era
+copied_era w v k from era y f r =
+    let low = tag_low w v k from y f in
+    ap (λ (word : ℕ). (read_reservation word).era) (copied_word w v k from era f r)
+    ∙ ap (λ (x : Reservation). x.era) (read_reservation-halves era (tag_of (w.seat k).post from) (omega (arith, low)))
+
+pub copying : (w : World) (v : View) (k : ℕ) → is_valid w.layout ≡ true → Requests w v → Copying w k
+copying w v k y f = record {
+  word = λ from index era q. copied_word w v k from era f (stands_as w v k (Works (Keeping (StoreHeld from index era))) f q);
+  publishes = λ from index era q. copied_era w v k from era y f (stands_as w v k (Works (Keeping (StoreHeld from index era))) f q);
 }

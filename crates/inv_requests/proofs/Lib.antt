@@ -1,6 +1,7 @@
 pub use Rattle.inv_shapes.proofs as shapes
 pub mod Answering
 pub mod Asking
+pub mod Copying
 pub mod Falling
 pub mod Going
 pub mod Handing

@@ -27,13 +27,13 @@ use Rattle.inv_shapes.specs.model.Phases.ProtectAt.{LoadClock, PublishEra, LoadL
 use Rattle.inv_shapes.specs.model.Phases.Ending.{Done, Followed, Clocked}
 use Rattle.inv_shapes.specs.model.Machine.{after}
 use Rattle.inv_shapes.specs.model.Rest.{protect_most}
-use Rattle.inv_shapes.specs.model.Rounds.{scheme_of, protect_at, release_base}
+use Rattle.inv_shapes.specs.model.Rounds.{scheme_of, protect_at}
 use Rattle.inv_shapes.specs.model.SlowPath.{asking}
 use Rattle.inv_shapes.specs.model.WriteRow.{last_written}
-use Rattle.inv_shapes.specs.model.Calls.{Why, Phase, Idle, Runs, Scans, Works}
+use Rattle.inv_shapes.specs.model.Calls.{LoadHeld, Work, Keeping, Why, Phase, Idle, Runs, Scans, Works}
 use Rattle.inv_shapes.specs.model.Locals.{Local}
 use Rattle.inv_shapes.specs.model.World.{World, start, begin, step, finds}
-use Rattle.inv_shapes.specs.Frame.{StepsOn, Grows, Owes, Moves}
+use Rattle.inv_shapes.specs.Frame.{StepsOn, Stores, Grows, Owes, Moves}
 use Rattle.inv_shapes.specs.words.Schemes.{counts_tries}
 use Rattle.inv_shapes.proofs.words.Schemes.{no_counts_by_clock, no_counts_in_interval}
 pub use Rattle.inv_shapes.proofs.words.Schemes.{no_counts_by_clock as wfe_not_he, no_counts_in_interval as wfe_not_ibr}
@@ -41,19 +41,15 @@ use Rattle.inv_shapes.specs.Seats.{PostFits, PhaseFits, Run, Seats, protect_fits
 use Rattle.inv_shapes.proofs.Frame.{seat_stays, seat_steps, begin_stays, begin_begins, after_seated, begun_seated, moves_with}
 use Rattle.inv_shapes.proofs.Shapes.{shape_grows}
 use Rattle.inv_shapes.proofs.Inside.{shape_moves}
-use Rattle.inv_shapes.proofs.Kept.{counted_fits, run_counted, one_moves, begun_fits}
+use Rattle.inv_shapes.proofs.Kept.{counted_fits, run_counted, work_counted, one_moves, begun_fits}
 use Rattle.inv_requests.specs.Paces.{paced, reload_paced, base_paced, phase_paced, Paces, InTime}
 use Rattle.inv_requests.proofs.Paces.{Any, InPace, bump_near, protect_pace}
 use Rattle.inv_shapes.proofs.model.Facts.{if_by}
-use Rattle.inv_shapes.proofs.model.Schemes.{each_release}
 
 protect_starts : (c : Config) (scheme : SchemeKind) → paced c 0 (protect_at scheme) ≡ true
 protect_starts c He = refl
 protect_starts c Ibr = refl
 protect_starts c Wfe = refl
-
-release_starts : (c : Config) (scheme : SchemeKind) → base_paced c (release_base scheme) ≡ true
-release_starts c scheme = each_release scheme (λ (base : Base). base_paced c base ≡ true) refl refl
 
 -- each phase that a call comes to by anything but a step inside a machine
 pace_grows : (layout : Layout) (k : ℕ) → is_valid layout ≡ true → Grows (PostFits layout k) (InPace layout.config)
@@ -62,6 +58,7 @@ pace_grows layout k v =
     record {
       guarded = g.guarded;
       withdraws = g.withdraws;
+      copies = g.copies;
       idle = λ post q. refl;
       begins = λ post task ibr none q. refl;
       opens = λ post task s q. protect_starts layout.config (scheme_of post);
@@ -75,10 +72,11 @@ pace_grows layout k v =
       retires = λ post answer slot q. refl;
       tidies = λ post later q. refl;
       advances = λ post q. refl;
-      releases = λ post key q. release_starts layout.config (scheme_of post);
+      clears_kept = λ post let_go n q. refl;
+      releases = λ post let_go ibr none q. refl;
       scans = λ post later number b q. refl;
       gives_back = λ post later place slot q. refl;
-      works = λ post work s q. refl;
+      works = λ post work n f q. refl;
     }
 
 begin_pace : (c : Config) (why : Why) (at : BeginAt) (post : Post) (found : ℕ) → StepsOn Any (InPace c) why (after (Begin at) post found)
@@ -137,7 +135,7 @@ base_pace layout why (Reload parent index slot era steps) post found t r p =
     (StepsOn Any (InPace layout.config) why) (λ h. record { post = tt; phase = tt }) (λ h. record { post = tt; phase = tt })
 base_pace layout why (Clear index) post found t r p = record { post = tt; phase = tt }
 base_pace layout why Finish post found t r p = record { post = tt; phase = tt }
-base_pace layout why Release post found t r p = record { post = tt; phase = tt }
+base_pace layout why (Release index) post found t r p = record { post = tt; phase = tt }
 base_pace layout why (Allocate at) post found t r p = allocate_pace layout.config why at post found
 base_pace layout why (Write slot row place) post found t r p =
     if_by (place == last_written row) (ends post [] Done) (goes post [] (Write slot row (place + 1)))
@@ -152,11 +150,16 @@ run_paced layout k v why base post found q r p =
     let s = base_pace layout why base post found q.layout r p in
     moves_with why (after base post found) m (record { post = m.post; phase = s.phase })
 
+stores_pace : (c : Config) (post : Post) (found : ℕ) (work : Work) → Stores (InPace c) post found work
+stores_pace c post found (Keeping (LoadHeld from index)) = λ n. refl
+stores_pace c post found work = tt
+
 owed : (layout : Layout) (k : ℕ) → is_valid layout ≡ true → (phase : Phase) (post : Post) (found : ℕ) → PostFits layout k post → PhaseFits layout post phase → phase_paced layout.config phase ≡ true → Owes (PostFits layout k) (InPace layout.config) (counted post) found phase
 owed layout k v Idle post found q f p = counted_fits layout k post q
 owed layout k v (Runs why base) post found q f p = run_paced layout k v why base (counted post) found (counted_fits layout k post q) (run_counted layout why base post f) p
 owed layout k v (Scans later at) post found q f p = counted_fits layout k post q
-owed layout k v (Works work) post found q f p = record { post = counted_fits layout k post q; span = f }
+owed layout k v (Works work) post found q f p =
+    record { post = counted_fits layout k post q; fits = work_counted work post f; stores = stores_pace layout.config (counted post) found work }
 
 seat_paced : (w : World) (i : ℕ) → is_valid w.layout ≡ true → Seats w → Paces w → phase_paced w.layout.config ((step w i).seat i).phase ≡ true
 seat_paced w i v s p =

@@ -10,7 +10,7 @@ use Rattle.inv_shapes.specs.model.Phases.{ProtectAt, Base, Outcome, Goes, Ends}
 use Rattle.inv_shapes.specs.model.Phases.ProtectAt.{WithdrawRequest, WithdrawHelper}
 use Rattle.inv_shapes.specs.model.Phases.Base.{Protect}
 use Rattle.inv_shapes.specs.model.Machine.{after}
-use Rattle.inv_shapes.specs.model.Calls.{Why, Opens, FollowsHead, Work, Getting, Changing, Enqueuing, Dequeuing, Phase, Idle, Runs, Scans, Works}
+use Rattle.inv_shapes.specs.model.Calls.{Why, Opens, FollowsHead, Work, Getting, Changing, Enqueuing, Dequeuing, Keeping, Phase, Idle, Runs, Scans, Works}
 use Rattle.inv_shapes.specs.model.Steps.{resumed, phase_turn}
 use Rattle.inv_shapes.specs.model.Locals.{Local, begun_post, turn}
 use Rattle.inv_shapes.specs.model.World.{World, start, begin, step, finds}
@@ -43,6 +43,7 @@ work_counted (Getting key at) post h = tt
 work_counted (Changing kept at) post h = tt
 work_counted (Enqueuing kept at) post h = tt
 work_counted (Dequeuing at) post h = h
+work_counted (Keeping at) post h = tt
 
 resumed_stands : (why : Why) (desk : Desk) (post : Post) (told : List Event) (outcome : Outcome) → OutcomeStands why outcome post → TurnStands (resumed why desk post told outcome)
 resumed_stands why desk post told (Goes base) h = record { stand = h }

@@ -6,7 +6,7 @@ use Rattle.inv_shapes.specs.words.declared.config.Config.{Config}
 use Rattle.inv_shapes.specs.model.Memory.{upd}
 use Rattle.inv_requests.specs.Views.{View, upd2}
 use Rattle.inv_requests.specs.Views.Deal.{Quiet, Open, Answered, Passed, Taken}
-use Rattle.inv_requests.specs.Views.Role.{Away, Publishes, Attempts, Asks, Asked, Turns, Looks, Answers, Waits, Takes, Took, Leaves}
+use Rattle.inv_requests.specs.Views.Role.{Away, Publishes, Attempts, Copies, Asks, Asked, Turns, Looks, Answers, Waits, Takes, Took, Leaves}
 use Rattle.inv_requests.specs.Deals.{answered_with}
 use Rattle.inv_requests.specs.Parts.{Parts}
 
@@ -34,6 +34,60 @@ clears-keeps c v x j b d q = record {
   bound = λ i' hh hg. grind (arith, nat_tests, d.bound i', d.fit x);
   passed = λ i' m' hh hg ha hb. grind (arith, nat_tests, d.passed i' m', d.fit x);
   outside = λ i' hh. grind (arith, nat_tests, d.outside i', d.fit x);
+}
+
+-- the first step of a copy
+pub copies-keeps : (c : Config) (v : View) (x j : ℕ) → x < c.seats → Parts c v → v.role x ≡ Away → Parts c (record v { role = upd v.role x (Copies j (v.era x j)) })
+copies-keeps c v x j b d q = record {
+  fit = λ i'. grind (arith, nat_tests, d.fit i', d.fit x, d.indexes x j);
+  marks = λ i' j'. grind (arith, nat_tests, d.marks i' j', d.fit x, d.indexes x j);
+  tags = λ i'. grind (arith, nat_tests, d.tags i', d.fit x, d.indexes x j);
+  taken = λ i'. grind (arith, nat_tests, d.taken i', d.fit x, d.indexes x j);
+  timely = λ i'. grind (arith, nat_tests, d.timely i', d.fit x, d.indexes x j);
+  clock = grind (arith, nat_tests, d.clock, d.fit x, d.indexes x j);
+  eras = λ i'. grind (arith, nat_tests, d.eras i', d.fit x, d.indexes x j);
+  helpers = λ i'. grind (arith, nat_tests, d.helpers i', d.fit x, d.indexes x j);
+  indexes = λ i' j'. grind (arith, nat_tests, d.indexes i' j', d.fit x, d.indexes x j);
+  movers = λ i' hh. grind (arith, nat_tests, d.movers i', d.fit x, d.indexes x j);
+  links = λ i'. grind (arith, nat_tests, d.links i', d.fit x, d.indexes x j);
+  shown = λ i'. grind (arith, nat_tests, d.shown i', d.fit x, d.indexes x j);
+  published = λ i'. grind (arith, nat_tests, d.published i', d.fit x, d.indexes x j);
+  turns = λ i'. grind (arith, nat_tests, d.turns i', d.fit x, d.indexes x j);
+  low = λ i' j'. grind (arith, nat_tests, d.low i' j', d.fit x, d.indexes x j);
+  spare = λ i'. grind (arith, nat_tests, d.spare i', d.fit x, d.indexes x j);
+  answer = λ i'. grind (arith, nat_tests, d.answer i', d.fit x, d.indexes x j);
+  known = λ m'. grind (arith, nat_tests, d.known m', d.fit x, d.indexes x j);
+  whom = λ m'. grind (arith, nat_tests, d.whom m', d.fit x, d.indexes x j);
+  bound = λ i' hh hg. grind (arith, nat_tests, d.bound i', d.fit x, d.indexes x j);
+  passed = λ i' m' hh hg ha hb. grind (arith, nat_tests, d.passed i' m', d.fit x, d.indexes x j);
+  outside = λ i' hh. grind (arith, nat_tests, d.outside i', d.fit x, d.indexes x j);
+}
+
+-- the second step of a copy
+pub stores-keeps : (c : Config) (v : View) (x from j e : ℕ) → x < c.seats → Parts c v → v.role x ≡ Copies from e → Parts c (record v { era = upd2 v.era x j e; role = upd v.role x Away })
+stores-keeps c v x from j e b d q = record {
+  fit = λ i'. grind (arith, nat_tests, d.fit i', d.fit x, d.eras x);
+  marks = λ i' j'. grind (arith, nat_tests, d.marks i' j', d.fit x, d.eras x);
+  tags = λ i'. grind (arith, nat_tests, d.tags i', d.fit x, d.eras x);
+  taken = λ i'. grind (arith, nat_tests, d.taken i', d.fit x, d.eras x);
+  timely = λ i'. grind (arith, nat_tests, d.timely i', d.fit x, d.eras x);
+  clock = grind (arith, nat_tests, d.clock, d.fit x, d.eras x);
+  eras = λ i'. grind (arith, nat_tests, d.eras i', d.fit x, d.eras x);
+  helpers = λ i'. grind (arith, nat_tests, d.helpers i', d.fit x, d.eras x);
+  indexes = λ i' j'. grind (arith, nat_tests, d.indexes i' j', d.fit x, d.eras x);
+  movers = λ i' hh. grind (arith, nat_tests, d.movers i', d.fit x, d.eras x);
+  links = λ i'. grind (arith, nat_tests, d.links i', d.fit x, d.eras x);
+  shown = λ i'. grind (arith, nat_tests, d.shown i', d.fit x, d.eras x);
+  published = λ i'. grind (arith, nat_tests, d.published i', d.fit x, d.eras x);
+  turns = λ i'. grind (arith, nat_tests, d.turns i', d.fit x, d.eras x);
+  low = λ i' j'. grind (arith, nat_tests, d.low i' j', d.fit x, d.eras x);
+  spare = λ i'. grind (arith, nat_tests, d.spare i', d.fit x, d.eras x);
+  answer = λ i'. grind (arith, nat_tests, d.answer i', d.fit x, d.eras x);
+  known = λ m'. grind (arith, nat_tests, d.known m', d.fit x, d.eras x);
+  whom = λ m'. grind (arith, nat_tests, d.whom m', d.fit x, d.eras x);
+  bound = λ i' hh hg. grind (arith, nat_tests, d.bound i', d.fit x, d.eras x);
+  passed = λ i' m' hh hg ha hb. grind (arith, nat_tests, d.passed i' m', d.fit x, d.eras x);
+  outside = λ i' hh. grind (arith, nat_tests, d.outside i', d.fit x, d.eras x);
 }
 
 pub loads-keeps : (c : Config) (v : View) (x j : ℕ) → x < c.seats → Parts c v → v.role x ≡ Away → Parts c (record v { role = upd v.role x (Publishes j v.clock false) })

@@ -12,11 +12,11 @@ use Rattle.inv_shapes.specs.model.Memory.{upd, written, put, bump, Move}
 use Rattle.inv_shapes.specs.model.Memory as memory
 use Rattle.inv_shapes.specs.model.Posts.{counted, index_word, upper, with_row}
 use Rattle.inv_shapes.specs.model.Phases.{Aim, Base, Turn, goes, ends, BeginAt, AllocateAt, RetireAt, RowOf, Walk, Alone, Follows, Base as bases}
-use Rattle.inv_shapes.specs.model.Calls.{Why, Phase, Idle, Runs, CallTurn, Scans, Works, Work, AfterScan, ScanAt, ReadGuard, GiveBack, Getting, Changing, Enqueuing, Dequeuing, GetAt, ChangeAt, EnqueueAt, DequeueAt, ChangeKept, EnqueueKept, FindVersion, FindCount, FindKey, FindValue, LoadVersion, LoadCount, LoadKey, LoadValue, ExchangeRoot, LoadNumber, LoadNext, PassTail, ExchangeNext, ExchangeTail, LoadTail, SwingTail, TakeNumber, TakeValue, ExchangeHead}
+use Rattle.inv_shapes.specs.model.Calls.{Why, Phase, Idle, Runs, CallTurn, Scans, Works, Work, AfterScan, ScanAt, ReadGuard, GiveBack, GetAt, ChangeAt, EnqueueAt, DequeueAt, ChangeKept, EnqueueKept, FindVersion, FindCount, FindKey, FindValue, LoadVersion, LoadCount, LoadKey, LoadValue, ExchangeRoot, LoadNumber, LoadNext, PassTail, ExchangeNext, ExchangeTail, LoadTail, SwingTail, TakeNumber, TakeValue, ExchangeHead}
 use Rattle.inv_shapes.specs.model.Steps.{run_turn, work_move, work_turn}
 use Rattle.inv_shapes.specs.model.Locals.{Local}
 use Rattle.inv_shapes.specs.model.Machine.{protect_move, protect_turn, base_move, after}
-use Rattle.inv_shapes.specs.Frame.{Moves, StepsOn, SpanStands, Left}
+use Rattle.inv_shapes.specs.Frame.{WorkFits, Stores, Moves, StepsOn, Left}
 use Rattle.inv_shapes.specs.words.declared.layout.Layout.{Layout}
 use Rattle.inv_shapes.specs.defs.declared.event.Event.TheVariants as events
 use Rattle.inv_shapes.specs.model.declared.ends.FollowEnd.TheVariants as follow_ends
@@ -36,7 +36,7 @@ use Rattle.inv_shapes.specs.model.Scan.{scan_move, scan_turn}
 use Rattle.inv_shapes.proofs.Frame.{moves_with}
 use Rattle.inv_shapes.proofs.Works.{work_left, scan_left}
 use Rattle.inv_requests.specs.Views.{View, upd2, Role as roles}
-use Rattle.inv_requests.specs.Standing.{role_of, Words}
+use Rattle.inv_requests.specs.Standing.{work_role, role_of, Words}
 use Rattle.inv_requests.specs.Turns.{PostOf, RoleOf, Made}
 use Rattle.inv_requests.specs.Context.{At}
 use Rattle.inv_requests.proofs.Words.{words_era}
@@ -171,12 +171,12 @@ finish_made mem seat i v why found a q m =
     let p = own_post mem seat i v a in
     stay mem seat i v (base_move bases.Finish (seat i).post) why bases.Finish (after bases.Finish (counted (seat i).post) found) a q refl refl m (record { post = record { table = p.table; guarded = p.guarded; kept = p.kept }; phase = tt })
 
-pub release_made : {Q : Post → Type 0} {P : Post → Phase → Type 0} (mem : Place → ℕ) (seat : ℕ → Local) (i : ℕ) (v : View) (why : Why) (found : ℕ) → At mem seat i v → (seat i).phase ≡ Runs why bases.Release
-    → Moves Q P why (after bases.Release (counted (seat i).post) found)
-    → Made mem seat i (base_move bases.Release (seat i).post) (run_turn why (seat i).desk (after bases.Release (counted (seat i).post) found)) v.deal
-release_made mem seat i v why found a q m =
+pub release_made : {Q : Post → Type 0} {P : Post → Phase → Type 0} (mem : Place → ℕ) (seat : ℕ → Local) (i : ℕ) (v : View) (why : Why) (index found : ℕ) → At mem seat i v → (seat i).phase ≡ Runs why (bases.Release index)
+    → Moves Q P why (after (bases.Release index) (counted (seat i).post) found)
+    → Made mem seat i (base_move (bases.Release index) (seat i).post) (run_turn why (seat i).desk (after (bases.Release index) (counted (seat i).post) found)) v.deal
+release_made mem seat i v why index found a q m =
     let p = own_post mem seat i v a in
-    stay mem seat i v (base_move bases.Release (seat i).post) why bases.Release (after bases.Release (counted (seat i).post) found) a q refl refl m (record { post = record { table = p.table; guarded = p.guarded; kept = p.kept }; phase = tt })
+    stay mem seat i v (base_move (bases.Release index) (seat i).post) why (bases.Release index) (after (bases.Release index) (counted (seat i).post) found) a q refl refl m (record { post = record { table = p.table; guarded = p.guarded; kept = p.kept }; phase = tt })
 
 walking_on : (layout : Layout) (tags : List ℕ) (why : Why) (birth : ℕ) (post : Post) (walk : Option Walk) → PostOf layout tags post → StepsOn (PostOf layout tags) (RoleOf layout roles.Away) why (walking birth post walk)
 walking_on layout tags why birth post None p = record { post = p; phase = tt }
@@ -218,47 +218,45 @@ retire_made mem seat i v why (StoreRetired slot birth retire) found a q m =
     stay mem seat i v (base_move (bases.Retire (StoreRetired slot birth retire)) (seat i).post) why (bases.Retire (StoreRetired slot birth retire)) (after (bases.Retire (StoreRetired slot birth retire)) (counted (seat i).post) found) a q refl refl m (record { post = record { table = p.table; guarded = p.guarded; kept = p.kept }; phase = tt })
 
 -- a call's own steps and those of a scan
-call_made : (mem : Place → ℕ) (seat : ℕ → Local) (i : ℕ) (v : View) (phase : Phase) (m : memory.Move) (t : CallTurn) → At mem seat i v → (seat i).phase ≡ phase → role_of (seat i).post.layout phase ≡ roles.Away → leaves m ≡ true → Left (PostOf (seat i).post.layout (seat i).post.tags) (RoleOf (seat i).post.layout roles.Away) t → Made mem seat i m t v.deal
+pub call_made : (mem : Place → ℕ) (seat : ℕ → Local) (i : ℕ) (v : View) (phase : Phase) (m : memory.Move) (t : CallTurn) → At mem seat i v → (seat i).phase ≡ phase → role_of (seat i).post.layout phase ≡ roles.Away → leaves m ≡ true → Left (PostOf (seat i).post.layout (seat i).post.tags) (RoleOf (seat i).post.layout roles.Away) t → Made mem seat i m t v.deal
 call_made mem seat i v phase m t a q r h l =
     made mem seat v.role i m t roles.Away (record v { role = upd v.role i roles.Away }) a.facts.locals l refl (words_left mem v m h a.facts.words)
     (same_role (seat i).post.layout.config v i roles.Away a.facts.parts (stands_in mem seat i v phase a q ∙ r))
 
-get_leaves : (at : GetAt) → leaves (get_move at) ≡ true
+pub get_leaves : (at : GetAt) → leaves (get_move at) ≡ true
 get_leaves (FindVersion slot) = refl
 get_leaves (FindCount slot version) = refl
 get_leaves (FindKey slot version count pair) = refl
 get_leaves (FindValue slot version pair) = refl
 
-change_leaves : (kept : ChangeKept) (at : ChangeAt) (post : Post) → leaves (change_move kept at post) ≡ true
+pub change_leaves : (kept : ChangeKept) (at : ChangeAt) (post : Post) → leaves (change_move kept at post) ≡ true
 change_leaves kept (LoadVersion slot) post = refl
 change_leaves kept (LoadCount slot) post = refl
 change_leaves kept (LoadKey slot count) post = refl
 change_leaves kept (LoadValue slot count key) post = refl
 change_leaves kept (ExchangeRoot slot) post = refl
 
-enqueue_leaves : (kept : EnqueueKept) (at : EnqueueAt) → leaves (enqueue_move kept at) ≡ true
+pub enqueue_leaves : (kept : EnqueueKept) (at : EnqueueAt) → leaves (enqueue_move kept at) ≡ true
 enqueue_leaves kept LoadNumber = refl
 enqueue_leaves kept LoadNext = refl
 enqueue_leaves kept (PassTail next) = refl
 enqueue_leaves kept (ExchangeNext slot) = refl
 enqueue_leaves kept (ExchangeTail slot) = refl
 
-dequeue_leaves : (at : DequeueAt) → leaves (dequeue_move at) ≡ true
+pub dequeue_leaves : (at : DequeueAt) → leaves (dequeue_move at) ≡ true
 dequeue_leaves (LoadTail head) = refl
 dequeue_leaves (SwingTail head next) = refl
 dequeue_leaves (TakeNumber head next) = refl
 dequeue_leaves (TakeValue head next number) = refl
 dequeue_leaves (ExchangeHead head next number value) = refl
 
-work_leaves : (work : Work) (post : Post) → leaves (work_move work post) ≡ true
-work_leaves (Getting key at) post = get_leaves at
-work_leaves (Changing kept at) post = change_leaves kept at post
-work_leaves (Enqueuing kept at) post = enqueue_leaves kept at
-work_leaves (Dequeuing at) post = dequeue_leaves at
-
-pub work_made : (mem : Place → ℕ) (seat : ℕ → Local) (i : ℕ) (v : View) (work : Work) (found : ℕ) → At mem seat i v → (seat i).phase ≡ Works work → SpanStands (counted (seat i).post) → Made mem seat i (work_move work (seat i).post) (work_turn work (counted (seat i).post) (seat i).desk found) v.deal
-work_made mem seat i v work found a q s = call_made mem seat i v (Works work) (work_move work (seat i).post) (work_turn work (counted (seat i).post) (seat i).desk found) a q refl (work_leaves work (seat i).post)
-    (work_left (away (seat i).post.layout (seat i).post.tags) work (counted (seat i).post) (seat i).desk found s (own_post mem seat i v a))
+-- a call's own step that is none of a copy
+pub work_made : (mem : Place → ℕ) (seat : ℕ → Local) (i : ℕ) (v : View) (work : Work) (found : ℕ) → At mem seat i v → (seat i).phase ≡ Works work → leaves (work_move work (seat i).post) ≡ true → work_role work ≡ roles.Away
+    → WorkFits (counted (seat i).post) work
+    → Stores (RoleOf (seat i).post.layout roles.Away) (counted (seat i).post) found work
+    → Made mem seat i (work_move work (seat i).post) (work_turn work (counted (seat i).post) (seat i).desk found) v.deal
+work_made mem seat i v work found a q h r f n = call_made mem seat i v (Works work) (work_move work (seat i).post) (work_turn work (counted (seat i).post) (seat i).desk found) a q r h
+    (work_left (away (seat i).post.layout (seat i).post.tags) work (counted (seat i).post) (seat i).desk found f n (own_post mem seat i v a))
 
 scan_leaves : (at : ScanAt) (post : Post) → leaves (scan_move at post) ≡ true
 scan_leaves (ReadGuard number) post = refl

@@ -1,6 +1,7 @@
 -- After a machine, and after a call's own step, the parent of a followed link stands.
 use Rattle.std.proofs.Common.{ℕ, ◌≡◌, ◌+◌, Bool, true, false, List, [], ◌∷◌, ◌++◌, length}
 use Rattle.std.specs.Prelude.{◌==◌, ◌%◌, ◌-◌, nat_lt, Option, Some, None}
+use Rattle.inv_shapes.specs.words.Schemes.{has_one_interval}
 use Rattle.inv_shapes.specs.words.declared.config.SchemeKind.{SchemeKind}
 use Rattle.inv_shapes.specs.words.declared.config.SchemeKind.TheVariants.{He, Ibr, Wfe}
 use Rattle.inv_shapes.specs.defs.declared.call.Answer.{Answer}
@@ -21,17 +22,18 @@ use Rattle.inv_shapes.specs.model.declared.ends.ProtectEnd.TheVariants as protec
 use Rattle.inv_shapes.specs.model.declared.post.Post.{Post}
 use Rattle.inv_shapes.specs.model.Desks.{Desk, with_life}
 use Rattle.inv_shapes.specs.model.Guards.{guards, guard_at, eras_in}
-use Rattle.inv_shapes.specs.model.Posts.{stands}
+use Rattle.inv_shapes.specs.model.Posts.{cleared, reserves_index, stands, withdrawn}
 use Rattle.inv_shapes.specs.model.Phases.{Base, Ending}
 use Rattle.inv_shapes.specs.model.Phases.Ending.{Done, Protected, Followed, Allocated, Retired, Clocked}
-use Rattle.inv_shapes.specs.model.Rounds.{bucket_of, scheme_of, index_of, taken_of, begin_span, begin_base, protect_at, finish_base, clear_base, clear_post, clear_told, round_by, round, given_up, closed, finishing_by, finishing, clearing_by, clearing, clearing_next_by, clearing_next}
+use Rattle.inv_shapes.specs.model.Rounds.{bucket_of, scheme_of, index_of, taken_of, begin_span, begin_base, protect_at, finish_base, clear_base, clear_post, clear_told, round_by, round, given_up, closed, finishing_by, finishing, clearing_by, clearing, clearing_next_by, clearing_next, let_index, letting_by, letting, release_base}
 use Rattle.inv_shapes.specs.model.Get as gets
 use Rattle.inv_shapes.specs.model.Change as alters
 use Rattle.inv_shapes.specs.model.Enqueue as enqueues
 use Rattle.inv_shapes.specs.model.Dequeue as dequeues
+use Rattle.inv_shapes.specs.model.Keep as keeps
 use Rattle.inv_shapes.specs.model.Scan as scan
 use Rattle.inv_shapes.specs.model.Steps as steps
-use Rattle.inv_shapes.specs.model.Calls.{Task, Gets, Changes, Holds, Enqueues, Dequeues, Next, Again, MakeRoom, Answering, Retiring, AfterScan, Answered, Repeated, Counted, Why, ChangeKept, EnqueueKept, GetAt, FindVersion, FindCount, FindKey, FindValue, ChangeAt, LoadVersion, LoadCount, LoadKey, LoadValue, ExchangeRoot, EnqueueAt, LoadNumber, LoadNext, PassTail, ExchangeNext, ExchangeTail, DequeueAt, LoadTail, SwingTail, TakeNumber, TakeValue, ExchangeHead, Work, Getting, Changing, Enqueuing, Dequeuing, ScanAt, ReadGuard, GiveBack, Opens, FollowsHead, Fills, ClearsNext, Clears, Finishes, GivesUp, Retires, Tidies, Advances, Releases}
+use Rattle.inv_shapes.specs.model.Calls.{Task, Gets, Changes, Holds, Enqueues, Dequeues, Next, Again, MakeRoom, Answering, Retiring, AfterScan, Answered, Repeated, Counted, Why, ChangeKept, EnqueueKept, GetAt, FindVersion, FindCount, FindKey, FindValue, ChangeAt, LoadVersion, LoadCount, LoadKey, LoadValue, ExchangeRoot, EnqueueAt, LoadNumber, LoadNext, PassTail, ExchangeNext, ExchangeTail, DequeueAt, LoadTail, SwingTail, TakeNumber, TakeValue, ExchangeHead, LetGo, Released, Rehold, Dropped, KeepAt, Loosens, LoadHeld, StoreHeld, Looks, Misses, Work, Getting, Changing, Enqueuing, Dequeuing, Keeping, ScanAt, ReadGuard, GiveBack, Opens, FollowsHead, Fills, ClearsNext, Clears, Finishes, GivesUp, Retires, Tidies, Advances, Releases}
 use Rattle.inv_requests.specs.Parents.{protect_stands, phase_stands, head_in, work_stands, ended, why_ended, TurnStands}
 use Rattle.inv_shapes.proofs.model.Schemes.{each_begin}
 
@@ -114,7 +116,7 @@ deciding_by_stands kept post desk told (Some answer) = clearing_stands (Changes 
 deciding_by_stands kept post desk told None = record { stand = tt }
 
 deciding_stands : (kept : ChangeKept) (post : Post) (desk : Desk) (told : List Event) → TurnStands (alters.deciding kept post desk told)
-deciding_stands kept post desk told = deciding_by_stands kept post desk told (alters.refusal post.layout.config kept.version kept.pairs kept.change)
+deciding_stands kept post desk told = deciding_by_stands kept post desk told (alters.refused post.layout.config kept)
 
 reading_stands : (kept : ChangeKept) (slot count : ℕ) (post : Post) (desk : Desk) (more : Bool) → TurnStands (alters.reading kept slot count post desk more)
 reading_stands kept slot count post desk true = record { stand = tt }
@@ -165,11 +167,55 @@ dequeue_stands (TakeNumber head next) post desk found h = record { stand = h }
 dequeue_stands (TakeValue head next number) post desk found h = record { stand = h }
 dequeue_stands (ExchangeHead head next number value) post desk found h = taken_stands head next number value post desk (found == head + 1)
 
+-- something is let go
+
+letting_by_stands : (let_go : LetGo) (base : Option Base) (post : Post) → phase_stands (letting_by let_go base) post
+letting_by_stands let_go None post = tt
+letting_by_stands let_go (Some base) post = tt
+
+letting_stands : (let_go : LetGo) (post : Post) → phase_stands (letting let_go post) post
+letting_stands let_go post = letting_by_stands let_go (release_base (scheme_of post) post (let_index let_go)) post
+
+released_stands : (let_go : LetGo) (post : Post) (desk : Desk) (told : List Event) → TurnStands (keeps.released let_go post desk told)
+released_stands Released post desk told = record { stand = tt }
+released_stands (Rehold key) post desk told = record { stand = round_stands (Holds key) post }
+released_stands (Dropped index) post desk told = record { stand = tt }
+
+copied_stands : (from index : ℕ) (post : Post) (desk : Desk) (reserved : List Event) (kept : Option ℕ) → TurnStands (keeps.copied from index post desk reserved kept)
+copied_stands from index post desk reserved None = record { stand = tt }
+copied_stands from index post desk reserved (Some slot) = record { stand = tt }
+
+load_held_stands : (from index : ℕ) (post : Post) (desk : Desk) (found : ℕ) (one : Bool) → TurnStands (keeps.load_held from index post desk found one)
+load_held_stands from index post desk found true = copied_stands from index post desk [] (stands post from)
+load_held_stands from index post desk found false = record { stand = tt }
+
+looking_stands : (index key slot version count : ℕ) (post : Post) (desk : Desk) (more : Bool) (pair : ℕ) → TurnStands (keeps.looking index key slot version count post desk more pair)
+looking_stands index key slot version count post desk true pair = record { stand = tt }
+looking_stands index key slot version count post desk false pair = record { stand = tt }
+
+looked_key_stands : (index key slot version count pair : ℕ) (post : Post) (desk : Desk) (own : Bool) → TurnStands (keeps.looked_key index key slot version count pair post desk own)
+looked_key_stands index key slot version count pair post desk true = record { stand = tt }
+looked_key_stands index key slot version count pair post desk false = looking_stands index key slot version count post desk (nat_lt (pair + 1) count) (pair + 1)
+
+look_stands : (index key : ℕ) (at : GetAt) (post : Post) (desk : Desk) (found : ℕ) → TurnStands (keeps.look_turn index key at post desk found)
+look_stands index key (FindVersion slot) post desk found = record { stand = tt }
+look_stands index key (FindCount slot version) post desk found = looking_stands index key slot version found post desk (nat_lt 0 found) 0
+look_stands index key (FindKey slot version count pair) post desk found = looked_key_stands index key slot version count pair post desk (found == key)
+look_stands index key (FindValue slot version pair) post desk found = record { stand = tt }
+
+keep_stands : (at : KeepAt) (post : Post) (desk : Desk) (found : ℕ) → TurnStands (keeps.keep_turn at post desk found)
+keep_stands (Loosens let_go) post desk found = released_stands let_go (withdrawn post (let_index let_go)) desk (cleared (let_index let_go) (stands post (let_index let_go)))
+keep_stands (LoadHeld from index) post desk found = load_held_stands from index post desk found (has_one_interval (scheme_of post))
+keep_stands (StoreHeld from index era) post desk found = copied_stands from index post desk (reserves_index post index era) (stands post from)
+keep_stands (Looks index key at) post desk found = look_stands index key at post desk found
+keep_stands (Misses index) post desk found = record { stand = tt }
+
 pub work_turn_stands : (work : Work) (post : Post) (desk : Desk) (found : ℕ) → work_stands work post → TurnStands (steps.work_turn work post desk found)
 work_turn_stands (Getting key at) post desk found h = get_stands key at post desk found
 work_turn_stands (Changing kept at) post desk found h = change_stands kept at post desk found
 work_turn_stands (Enqueuing kept at) post desk found h = enqueue_stands kept at post desk found
 work_turn_stands (Dequeuing at) post desk found h = dequeue_stands at post desk found h
+work_turn_stands (Keeping at) post desk found h = keep_stands at post desk found
 
 -- a scan
 
@@ -288,10 +334,6 @@ advanced_stands (Followed ending) post desk told = record { stand = tt }
 advanced_stands (Allocated ending) post desk told = record { stand = tt }
 advanced_stands (Retired life) post desk told = record { stand = tt }
 
-released_stands : (key : Option ℕ) (post : Post) (desk : Desk) (told : List Event) → TurnStands (steps.released key post desk told)
-released_stands None post desk told = record { stand = tt }
-released_stands (Some key) post desk told = record { stand = round_stands (Holds key) post }
-
 pub resume_stands : (why : Why) (ending : Ending) (post : Post) (desk : Desk) (told : List Event) → why_ended why ending post → TurnStands (steps.resume why ending post desk told)
 resume_stands (Opens task) ending post desk told h = opened_stands task ending post desk told h
 resume_stands (FollowsHead head tail) ending post desk told h = followed_by_stands head tail ending post desk told h
@@ -303,13 +345,21 @@ resume_stands (GivesUp answer) ending post desk told h = record { stand = tt }
 resume_stands (Retires answer) ending post desk told h = retired_by_stands answer ending post desk told
 resume_stands (Tidies later) ending post desk told h = tidied_stands later ending post desk told
 resume_stands Advances ending post desk told h = advanced_stands ending post desk told
-resume_stands (Releases key) ending post desk told h = released_stands key post desk told
+resume_stands (Releases let_go) ending post desk told h = released_stands let_go post desk told
 
 -- a call's first phase
 
 holding_stands : (key : ℕ) (post : Post) (held : Option ℕ) → phase_stands (steps.holding key post held) post
 holding_stands key post None = round_stands (Holds key) post
-holding_stands key post (Some slot) = tt
+holding_stands key post (Some slot) = letting_stands (Rehold key) post
+
+copying_stands : (from index : ℕ) (post : Post) (kept : Option ℕ) → phase_stands (steps.copying from index kept) post
+copying_stands from index post None = tt
+copying_stands from index post (Some slot) = tt
+
+looking_at_stands : (index key : ℕ) (post : Post) (kept : Option ℕ) → phase_stands (steps.looking_at index key kept) post
+looking_at_stands index key post None = tt
+looking_at_stands index key post (Some slot) = tt
 
 pub first_stands : (call : Call) (post : Post) → phase_stands (steps.first_phase call post) post
 first_stands (names.Get key) post = round_stands (Gets key) post
@@ -318,6 +368,10 @@ first_stands (names.Remove key) post = begin_stands _ post (scheme_of post)
 first_stands (names.Enqueue value) post = begin_stands _ post (scheme_of post)
 first_stands names.Dequeue post = round_stands Dequeues post
 first_stands (names.Hold key) post = holding_stands key post (stands post 2)
-first_stands names.Release post = tt
+first_stands names.Release post = letting_stands Released post
 first_stands names.Advance post = tt
 first_stands names.Scan post = tt
+first_stands (names.Copy from index) post = copying_stands from index post (stands post from)
+first_stands (names.DropIndex index) post = letting_stands (Dropped index) post
+first_stands (names.Look index key) post = looking_at_stands index key post (stands post index)
+first_stands (names.PutIf key value version) post = begin_stands _ post (scheme_of post)

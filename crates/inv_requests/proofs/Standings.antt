@@ -154,7 +154,7 @@ follow_machine layout head tail (Reload parent index slot era steps) post found 
     (λ e. let x : index ≡ 1 = r.shape.at in row_other post index slot 0 (rw x refl) ∙ h) (λ e. h)
 follow_machine layout head tail (Clear index) post found r h = absurd (let x = r.suited in cc)
 follow_machine layout head tail Finish post found r h = absurd (let x = r.suited in cc)
-follow_machine layout head tail Release post found r h = absurd (let x = r.suited in cc)
+follow_machine layout head tail (Release index) post found r h = absurd (let x = r.suited in cc)
 follow_machine layout head tail (Allocate at) post found r h = absurd (let x = r.suited in cc)
 follow_machine layout head tail (Write slot row place) post found r h = absurd (let x = r.suited in cc)
 follow_machine layout head tail (GiveUp slot) post found r h = absurd (let x = r.suited in cc)
@@ -177,7 +177,7 @@ open_machine layout k task (Protect aim index root steps at) post found q r h =
 open_machine layout k task (Reload parent index slot era steps) post found q r h = absurd (let x = r.suited in cc)
 open_machine layout k task (Clear index) post found q r h = absurd (let x = r.suited in cc)
 open_machine layout k task Finish post found q r h = absurd (let x = r.suited in cc)
-open_machine layout k task Release post found q r h = absurd (let x = r.suited in cc)
+open_machine layout k task (Release index) post found q r h = absurd (let x = r.suited in cc)
 open_machine layout k task (Allocate at) post found q r h = absurd (let x = r.suited in cc)
 open_machine layout k task (Write slot row place) post found q r h = absurd (let x = r.suited in cc)
 open_machine layout k task (GiveUp slot) post found q r h = absurd (let x = r.suited in cc)
@@ -196,4 +196,4 @@ machine_stands layout k (GivesUp answer) base post found q r h = free_outcome (G
 machine_stands layout k (Retires answer) base post found q r h = free_outcome (Retires answer) (λ b p. tt) (λ e p. tt) (after base post found).outcome (after base post found).post
 machine_stands layout k (Tidies later) base post found q r h = free_outcome (Tidies later) (λ b p. tt) (λ e p. tt) (after base post found).outcome (after base post found).post
 machine_stands layout k Advances base post found q r h = free_outcome Advances (λ b p. tt) (λ e p. tt) (after base post found).outcome (after base post found).post
-machine_stands layout k (Releases key) base post found q r h = free_outcome (Releases key) (λ b p. tt) (λ e p. tt) (after base post found).outcome (after base post found).post
+machine_stands layout k (Releases let_go) base post found q r h = free_outcome (Releases let_go) (λ b p. tt) (λ e p. tt) (after base post found).outcome (after base post found).post

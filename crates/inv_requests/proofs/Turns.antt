@@ -13,19 +13,17 @@ use Rattle.inv_shapes.specs.model.Valid.{Bounds}
 use Rattle.inv_shapes.specs.model.Guards.{guards, guards_by}
 use Rattle.inv_shapes.specs.model.Posts.{tag_of}
 use Rattle.inv_shapes.specs.defs.declared.event.Root.TheVariants as roots
-use Rattle.inv_shapes.specs.model.Rounds.{index_of, root_of, scheme_of, protect_at, release_base}
-use Rattle.inv_shapes.specs.model.Calls.{CallTurn}
+use Rattle.inv_shapes.specs.model.Rounds.{index_of, root_of, scheme_of, protect_at}
+use Rattle.inv_shapes.specs.model.Calls.{StoreHeld, Work, Keeping, CallTurn}
 use Rattle.inv_shapes.specs.model.Locals.{Local, settled}
 use Rattle.inv_shapes.specs.model.Memory.{Move, written, upd}
-use Rattle.inv_shapes.specs.Frame.{Left, Grows, Seated}
+use Rattle.inv_shapes.specs.Frame.{stores_held, Left, Grows, Seated}
 use Rattle.inv_shapes.proofs.Frame.{settled_seated}
 use Rattle.inv_requests.specs.Views.{View, Deal, Role}
-use Rattle.inv_requests.specs.Views.Role.{Away}
+use Rattle.inv_requests.specs.Views.Role.{Away, Copies}
 use Rattle.inv_requests.specs.Parts.{Parts}
-use Rattle.inv_requests.specs.Standing.{protect_role, base_role, base_there, role_of, is_there, Words, Locals}
+use Rattle.inv_requests.specs.Standing.{protect_role, work_role, role_of, is_there, Words, Locals}
 use Rattle.inv_requests.specs.Turns.{PostOf, RoleOf, Made}
-use Rattle.inv_shapes.proofs.model.Schemes.{each_release}
-use Rattle.inv_shapes.specs.model.Phases.{Base}
 
 some_cells : (n m : ℕ) → 1 ≤ n → 1 ≤ m → 0 < n * m
 some_cells n m a b = grind (arith, rows)
@@ -44,17 +42,21 @@ protect_away layout index root He = refl
 protect_away layout index root Ibr = refl
 protect_away layout index root Wfe = refl
 
-release_away : (layout : Layout) (scheme : SchemeKind) → base_role layout (release_base scheme) ≡ Away
-release_away layout scheme = each_release scheme (λ (base : Base). base_role layout base ≡ Away) refl refl
+-- a call's own step asks and helps nothing, or is the second of a copy
+pub each_work_role : (work : Work) (P : Role → Type 0) → P Away → ((from era : ℕ) → P (Copies from era)) → P (work_role work)
+each_work_role (Keeping (StoreHeld from index era)) P f g = g from era
+each_work_role work P f g = f
 
-release_there : (layout : Layout) (scheme : SchemeKind) → base_there layout (release_base scheme) ≡ true
-release_there layout scheme = each_release scheme (λ (base : Base). base_there layout base ≡ true) refl refl
+works_away : (work : Work) → stores_held work ≡ false → work_role work ≡ Away
+works_away (Keeping (StoreHeld from index era)) n = absurd (cc)
+works_away work n = refl
 
--- each phase that a call comes to by anything but a step inside a machine asks and helps nothing
+-- each phase that a call comes to by anything but a step inside a machine or the first step of a copy asks and helps nothing
 pub away : (layout : Layout) (tags : List ℕ) → Grows (PostOf layout tags) (RoleOf layout Away)
 away layout tags = record {
   guarded = λ post q. let P : Layout → Type 0 = λ (l : Layout). 0 < guards l.config in subst P (sym q.table) q.guarded;
   withdraws = λ post index ibr q. record { table = q.table; guarded = q.guarded; kept = q.kept };
+  copies = λ post index slot q. record { table = q.table; guarded = q.guarded; kept = q.kept };
   idle = λ post q. record { is = refl; there = refl };
   begins = λ post task ibr none q. record { is = refl; there = refl };
   opens = λ post task s q. record { is = protect_away layout (index_of task) (root_of task post) (scheme_of post); there = refl };
@@ -68,10 +70,11 @@ away layout tags = record {
   retires = λ post answer slot q. record { is = refl; there = refl };
   tidies = λ post later q. record { is = refl; there = refl };
   advances = λ post q. record { is = refl; there = refl };
-  releases = λ post key q. record { is = release_away layout (scheme_of post); there = release_there layout (scheme_of post) };
+  clears_kept = λ post let_go n q. record { is = refl; there = refl };
+  releases = λ post let_go ibr none q. record { is = refl; there = refl };
   scans = λ post later number b q. record { is = refl; there = refl };
   gives_back = λ post later place slot q. record { is = refl; there = refl };
-  works = λ post work s q. record { is = refl; there = refl };
+  works = λ post work n f q. record { is = works_away work n; there = refl };
 }
 
 -- a fact of each entry of a function that is changed at one number

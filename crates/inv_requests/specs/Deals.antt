@@ -2,7 +2,7 @@
 use Rattle.std.specs.Prelude.{ℕ, Bool, true, false, not, nat_le, nat_lt, if◌then◌else◌, ◌==◌, ◌&&◌, ◌+◌}
 use Rattle.inv_requests.specs.Views.{Deal, Role}
 use Rattle.inv_requests.specs.Views.Deal.{Quiet, Open, Answered, Passed, Taken}
-use Rattle.inv_requests.specs.Views.Role.{Away, Publishes, Attempts, Asks, Asked, Turns, Looks, Answers, Waits, Takes, Took, Leaves, Meets, Shows, Loads, Helps, Reads, Hands, Hides, Late, Moves}
+use Rattle.inv_requests.specs.Views.Role.{Away, Publishes, Attempts, Copies, Asks, Asked, Turns, Looks, Answers, Waits, Takes, Took, Leaves, Meets, Shows, Loads, Helps, Reads, Hands, Hides, Late, Moves}
 
 abbrev pub is_quiet : Deal → Bool
 is_quiet Quiet = true
@@ -64,6 +64,7 @@ abbrev pub fits : Role → Deal → Bool
 fits Away d = is_quiet d
 fits (Publishes j e lost) d = is_quiet d
 fits (Attempts j e lost) d = is_quiet d
+fits (Copies j e) d = is_quiet d
 fits (Asks j w) d = is_quiet d
 fits (Asked j w) d = asked_at j w d
 fits (Turns j w f e last) d = asked_at j w d
@@ -121,6 +122,7 @@ abbrev pub stays : Role → ℕ → ℕ → ℕ → ℕ → ℕ → ℕ → ℕ 
 stays Away m i t j w l e = false
 stays (Publishes j' e' lost) m i t j w l e = false
 stays (Attempts j' e' lost) m i t j w l e = false
+stays (Copies j' e') m i t j w l e = false
 stays (Asks j' w') m i t j w l e = false
 stays (Asked j' w') m i t j w l e = false
 stays (Turns j' w' f e' last) m i t j w l e = false

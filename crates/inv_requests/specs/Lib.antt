@@ -1,6 +1,7 @@
 pub use Rattle.inv_shapes.specs as shapes
 pub mod Asked
 pub mod Context
+pub mod Copying
 pub mod Deals
 pub mod Heard
 pub mod Known

@@ -1,18 +1,25 @@
 -- The row whose next link a dequeue follows stands at index 0 of its seat; and what was protected stands at its index from
 -- the step on in which its protection is told.
-use Rattle.std.specs.Prelude.{ℕ, ◌≡◌, ◌==◌, ◌-◌, false, Some}
+use Rattle.std.specs.Prelude.{ℕ, ◌≡◌, ◌==◌, ◌+◌, ◌-◌, ◌&&◌, Bool, false, Some}
 use Rattle.inv_shapes.specs.model.declared.ends.ProtectEnd.{ProtectEnd}
 use Rattle.inv_shapes.specs.model.declared.ends.ProtectEnd.TheVariants as protect_ends
 use Rattle.inv_shapes.specs.model.declared.post.Post.{Post}
-use Rattle.inv_shapes.specs.model.Posts.{stands}
+use Rattle.inv_shapes.specs.model.Posts.{stands, upper}
 use Rattle.inv_shapes.specs.model.Phases.{ProtectAt, Base, Ending, Outcome, Goes, Ends, Turn}
-use Rattle.inv_shapes.specs.model.Phases.ProtectAt.{WithdrawRequest, WithdrawHelper}
+use Rattle.inv_shapes.specs.model.Phases.ProtectAt.{CheckClock, TakeAnswer, WithdrawRequest, WithdrawHelper, CheckUpper}
 use Rattle.inv_shapes.specs.model.Phases.Base.{Begin, Protect}
 use Rattle.inv_shapes.specs.model.Phases.Ending.{Done, Protected, Followed, Allocated, Retired, Clocked}
 use Rattle.inv_shapes.specs.model.Rounds.{index_of}
-use Rattle.inv_shapes.specs.model.Calls.{Why, Opens, FollowsHead, DequeueAt, LoadTail, SwingTail, TakeNumber, TakeValue, ExchangeHead, Work, Getting, Changing, Enqueuing, Dequeuing, Phase, Idle, Runs, Scans, Works, CallTurn}
+use Rattle.inv_shapes.specs.model.Calls.{Why, Opens, FollowsHead, DequeueAt, LoadTail, SwingTail, TakeNumber, TakeValue, ExchangeHead, Work, Getting, Changing, Enqueuing, Dequeuing, Keeping, Phase, Idle, Runs, Scans, Works, CallTurn}
 use Rattle.inv_shapes.specs.model.World.{World}
 use Rattle.inv_shapes.specs.Frame.{phase_left}
+
+-- a step that found this makes the row to which its link leads stand: it concludes a try, or takes an answer
+abbrev pub rises_at : Post → ProtectAt → (found slot : ℕ) → Bool
+rises_at post (CheckClock era tries link) found slot = (found == era) && (link == slot + 1)
+rises_at post (TakeAnswer link era) found slot = link == slot + 1
+rises_at post (CheckUpper link) found slot = (found == upper post.span) && (link == slot + 1)
+rises_at post at found slot = false
 
 -- a link that is not null leads to the row that stands at the index
 abbrev pub LinkStands : ℕ → ℕ → Post → Type 0
@@ -46,6 +53,7 @@ work_stands (Getting key at) post = Unit {0}
 work_stands (Changing kept at) post = Unit {0}
 work_stands (Enqueuing kept at) post = Unit {0}
 work_stands (Dequeuing at) post = stands post 0 ≡ Some (head_in at)
+work_stands (Keeping at) post = Unit {0}
 
 abbrev pub phase_stands : Phase → Post → Type 0
 phase_stands Idle post = Unit {0}

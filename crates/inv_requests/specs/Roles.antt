@@ -1,7 +1,7 @@
 -- What each role knows: eras, the own helper and index words, and the request that a mover answers.
 use Rattle.std.specs.Prelude.{ℕ, Bool, true, false, not, nat_le, nat_lt, ◌==◌, ◌&&◌, ◌||◌, ◌+◌, ◌^◌}
 use Rattle.inv_requests.specs.Views.{Deal, Role}
-use Rattle.inv_requests.specs.Views.Role.{Away, Publishes, Attempts, Asks, Asked, Turns, Looks, Answers, Waits, Takes, Took, Leaves, Meets, Shows, Loads, Helps, Reads, Hands, Hides, Late, Moves}
+use Rattle.inv_requests.specs.Views.Role.{Away, Publishes, Attempts, Copies, Asks, Asked, Turns, Looks, Answers, Waits, Takes, Took, Leaves, Meets, Shows, Loads, Helps, Reads, Hands, Hides, Late, Moves}
 use Rattle.inv_requests.specs.Deals.{is_open, asked_by, gave_by}
 
 abbrev pub is_away : Role → Bool
@@ -13,6 +13,7 @@ abbrev pub loaded : Role → ℕ
 loaded Away = 0
 loaded (Publishes j e lost) = e
 loaded (Attempts j e lost) = e
+loaded (Copies j e) = e
 loaded (Asks j w) = 0
 loaded (Asked j w) = 0
 loaded (Turns j w f e last) = e
@@ -37,6 +38,7 @@ abbrev pub linked : Role → ℕ
 linked Away = 0
 linked (Publishes j e lost) = 0
 linked (Attempts j e lost) = 0
+linked (Copies j e) = 0
 linked (Asks j w) = 0
 linked (Asked j w) = 0
 linked (Turns j w f e last) = 0
@@ -61,6 +63,7 @@ abbrev pub shows : Role → ℕ → Bool
 shows Away x = x == 0
 shows (Publishes j e lost) x = x == 0
 shows (Attempts j e lost) x = x == 0
+shows (Copies j e) x = x == 0
 shows (Asks j w) x = x == 0
 shows (Asked j w) x = x == 0
 shows (Turns j w f e false) x = x == 0
@@ -82,11 +85,12 @@ shows (Hides e) x = x == e
 shows Late x = true
 shows (Moves e) x = x == 0
 
--- in a try the index word has the try's era
+-- in a try the index word has the try's era, and between the two steps of a copy the era that is copied
 abbrev pub publishes : Role → (ℕ → ℕ) → Bool
 publishes Away eras = true
 publishes (Publishes j e lost) eras = true
 publishes (Attempts j e lost) eras = eras j == e
+publishes (Copies j e) eras = eras j == e
 publishes (Asks j w) eras = true
 publishes (Asked j w) eras = true
 publishes (Turns j w f e last) eras = true
@@ -111,6 +115,7 @@ abbrev pub turned : Role → Bool
 turned Away = true
 turned (Publishes j e lost) = true
 turned (Attempts j e lost) = true
+turned (Copies j e) = true
 turned (Asks j w) = true
 turned (Asked j w) = true
 turned (Turns j w f e false) = e == f
@@ -143,6 +148,7 @@ abbrev pub spares : Role → (ℕ → ℕ) → ℕ → Bool
 spares Away tags clock = true
 spares (Publishes j e lost) tags clock = nat_lt (raised lost (tags j)) e
 spares (Attempts j e lost) tags clock = nat_lt (raised lost (tags j)) e
+spares (Copies j e) tags clock = true
 spares (Asks j w) tags clock = nat_lt (tags j + 1) clock
 spares (Asked j w) tags clock = nat_lt (tags j + 1) clock
 spares (Turns j w f e last) tags clock = nat_lt (tags j + 1) e
@@ -212,6 +218,7 @@ abbrev pub knows : Role → ℕ → (ℕ → ℕ → ℕ) → (ℕ → ℕ → �
 knows Away m tags eras deals = true
 knows (Publishes j e lost) m tags eras deals = true
 knows (Attempts j e lost) m tags eras deals = true
+knows (Copies j e) m tags eras deals = true
 knows (Asks j w) m tags eras deals = true
 knows (Asked j w) m tags eras deals = true
 knows (Turns j w f e last) m tags eras deals = true
@@ -236,6 +243,7 @@ abbrev pub in_range : Role → ℕ → ℕ → Bool
 in_range Away seats indexes = true
 in_range (Publishes j e lost) seats indexes = true
 in_range (Attempts j e lost) seats indexes = true
+in_range (Copies j e) seats indexes = true
 in_range (Asks j w) seats indexes = true
 in_range (Asked j w) seats indexes = true
 in_range (Turns j w f e last) seats indexes = true

@@ -11,12 +11,12 @@ use Rattle.inv_shapes.specs.model.Phases.{Tries, Endless, Failed, ProtectAt, Mov
 use Rattle.inv_shapes.specs.model.Phases.ProtectAt.{LoadClock, PublishEra, LoadLink, CheckClock, PublishRequest, LoadOwnClock, PublishHelper, LoadOwnLink, CheckOwnClock, AnswerOwn, LoadAnswer, TakeAnswer, WithdrawRequest, WithdrawHelper, LoadWithin, CheckUpper, RaiseUpper}
 use Rattle.inv_shapes.specs.model.Phases.MoveAt.{LoadEra, LoadRequest, ShowEra, LoadAsked, CheckEra, AnswerAsked, LoadReserved, HandOver, HideEra, HideLate, ExchangeClock}
 use Rattle.inv_shapes.specs.model.Phases.Base.{Begin, Protect, Reload, Clear, Finish, Release, Allocate, Write, GiveUp, Retire, Move}
-use Rattle.inv_shapes.specs.model.Calls.{Phase, Idle, Runs, Scans, Works}
+use Rattle.inv_shapes.specs.model.Calls.{StoreHeld, Work, Keeping, Phase, Idle, Runs, Scans, Works}
 use Rattle.inv_shapes.specs.model.Locals.{Local}
 use Rattle.inv_shapes.specs.model.World.{World}
 use Rattle.inv_requests.specs.Views.{View, Deal, Role}
 use Rattle.inv_requests.specs.Views.Deal.{Quiet, Open, Answered, Passed, Taken}
-use Rattle.inv_requests.specs.Views.Role.{Away, Publishes, Attempts, Asks, Asked, Turns, Looks, Answers, Waits, Takes, Took, Leaves, Meets, Shows, Loads, Helps, Reads, Hands, Hides, Late, Moves}
+use Rattle.inv_requests.specs.Views.Role.{Away, Publishes, Attempts, Copies, Asks, Asked, Turns, Looks, Answers, Waits, Takes, Took, Leaves, Meets, Shows, Loads, Helps, Reads, Hands, Hides, Late, Moves}
 use Rattle.inv_requests.specs.Parts.{Parts}
 
 -- a try has failed; Hazard Eras count none
@@ -62,18 +62,23 @@ base_role layout (Protect aim index root steps at) = protect_role layout index r
 base_role layout (Reload parent index slot era steps) = Away
 base_role layout (Clear index) = Away
 base_role layout Finish = Away
-base_role layout Release = Away
+base_role layout (Release index) = Away
 base_role layout (Allocate at) = Away
 base_role layout (Write slot row place) = Away
 base_role layout (GiveUp slot) = Away
 base_role layout (Retire at) = Away
 base_role layout (Move at) = move_role layout at
 
+-- of a call's own steps only the second of a copy matters
+abbrev pub work_role : Work → Role
+work_role (Keeping (StoreHeld from index era)) = Copies from era
+work_role work = Away
+
 abbrev pub role_of : Layout → Phase → Role
 role_of layout Idle = Away
 role_of layout (Runs why base) = base_role layout base
 role_of layout (Scans later at) = Away
-role_of layout (Works work) = Away
+role_of layout (Works work) = work_role work
 
 -- the link word that a mover is asked for is one of the table's
 abbrev pub asked_there : Layout → MoveAt → Bool
@@ -93,7 +98,7 @@ base_there layout (Protect aim index root steps at) = true
 base_there layout (Reload parent index slot era steps) = true
 base_there layout (Clear index) = true
 base_there layout Finish = true
-base_there layout Release = true
+base_there layout (Release index) = true
 base_there layout (Allocate at) = true
 base_there layout (Write slot row place) = true
 base_there layout (GiveUp slot) = true

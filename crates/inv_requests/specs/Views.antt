@@ -18,6 +18,8 @@ pub data Role : Type 0 where
   -- tries: the era is to be published, and it is
   Publishes : (index era : ℕ) → (lost : Bool) → Role
   Attempts : (index era : ℕ) → (lost : Bool) → Role
+  -- the second step of a copy: the era that the index word publishes is to be published at another index too
+  Copies : (from era : ℕ) → Role
   -- the slow path: the request is to be published, and is; turns under the own helper word, before and after it is stored;
   -- the exchange; the answer is to be loaded, taken, withdrawn, and the helper word to be withdrawn
   Asks : (index word : ℕ) → Role

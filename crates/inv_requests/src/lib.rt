@@ -9,6 +9,7 @@ ghost use Rattle.inv_shapes.specs.defs.declared.call.Call.{Call};
 ghost use Rattle.inv_shapes.specs.model.World.{World, start, begin, step, is_busy};
 ghost use Rattle.inv_shapes.specs.Seats.{Seats};
 ghost use Rattle.inv_shapes.specs.Slots.{Slots};
+ghost use Rattle.inv_requests.specs.Copying.{Copying};
 ghost use Rattle.inv_requests.specs.Known.{Known};
 ghost use Rattle.inv_requests.specs.Needs.{Needs};
 ghost use Rattle.inv_requests.specs.Paces.{Paces, InTime, MovesOn};
@@ -37,6 +38,12 @@ pub fn requests_hold()
 /// its helper word.
 pub fn requests_tell()
     ensures { (w : World) (v : View) (k : ℕ) → is_valid w.layout ≡ true → Seats w → Requests w v → Known w v.clock k }
+{}
+
+/// Between the two steps of a copy the index word that is copied is still the one that the copy has
+/// read: it publishes the era that was found, with the seat's own tag.
+pub fn copied_words_stay()
+    ensures { (w : World) (v : View) (k : ℕ) → is_valid w.layout ≡ true → Requests w v → Copying w k }
 {}
 
 /// While a request is pending the clock is at most one above the first value that its owner loaded

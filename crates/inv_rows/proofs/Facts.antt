@@ -107,7 +107,7 @@ retire_apart slots k v answer (Protect aim index root steps at) desk g p = tt
 retire_apart slots k v answer (Reload parent index slot era steps) desk g p = tt
 retire_apart slots k v answer (Clear index) desk g p = tt
 retire_apart slots k v answer Finish desk g p = tt
-retire_apart slots k v answer Release desk g p = tt
+retire_apart slots k v answer (Release index) desk g p = tt
 retire_apart slots k v answer (Allocate at) desk g p = tt
 retire_apart slots k v answer (Write slot row place) desk g p = tt
 retire_apart slots k v answer (GiveUp slot) desk g p = tt
@@ -133,7 +133,7 @@ loads_life slots k mem v (Finishes task next) slot lives g w p = absurd (no_trut
 loads_life slots k mem v (GivesUp answer) slot lives g w p = absurd (no_truth p.right)
 loads_life slots k mem v (Tidies later) slot lives g w p = absurd (no_truth p.right)
 loads_life slots k mem v Advances slot lives g w p = absurd (no_truth p.right)
-loads_life slots k mem v (Releases key) slot lives g w p = absurd (no_truth p.right)
+loads_life slots k mem v (Releases let_go) slot lives g w p = absurd (no_truth p.right)
 loads_life slots k mem v (Retires answer) slot lives g w p = life_stored slots k mem v slot g w p.hand
 loads_life slots k mem v (Fills task) slot lives g w p = absurd (no_truth (only_fills task (Retire (LoadLife slot)) p.right))
 

@@ -7,7 +7,7 @@ use Rattle.wfe_core.specs.defs.declared.lifetime.Lifetime.{Lifetime}
 use Rattle.wfe_core.specs.declared.post.Post.{Post}
 use Rattle.wfe_core.specs.Phases.{Base}
 use Rattle.wfe_core.specs.Change as alters
-use Rattle.wfe_core.specs.Calls.{Task, AfterScan, Why, Opens, FollowsHead, Fills, ClearsNext, Clears, Finishes, GivesUp, Retires, Tidies, Advances, Releases, ScanAt, ReadGuard, GiveBack, LoadVersion, LoadCount, LoadKey, LoadValue, ExchangeRoot, LoadNumber, LoadNext, PassTail, ExchangeNext, ExchangeTail, LoadTail, SwingTail, TakeNumber, TakeValue, ExchangeHead, Work, Getting, Changing, Enqueuing, Dequeuing, Phase, Idle, Runs, Scans, Works}
+use Rattle.wfe_core.specs.Calls.{Task, AfterScan, Why, Opens, FollowsHead, Fills, ClearsNext, Clears, Finishes, GivesUp, Retires, Tidies, Advances, Releases, ScanAt, ReadGuard, GiveBack, LoadVersion, LoadCount, LoadKey, LoadValue, ExchangeRoot, LoadNumber, LoadNext, PassTail, ExchangeNext, ExchangeTail, LoadTail, SwingTail, TakeNumber, TakeValue, ExchangeHead, Work, Getting, Changing, Enqueuing, Dequeuing, Phase, Idle, Runs, Scans, Works, Keeping}
 use Rattle.inv_rows.specs.Hands.{is_plain, base_row, row_move, linked_row, work_row, scan_row}
 use Rattle.std.specs.Int.{bit_at}
 use Rattle.wfe_core.specs.words.Place.{Place, claim_word}
@@ -71,7 +71,7 @@ fill_fits slots i mem v task (Protect aim index root steps at) post list n g w p
 fill_fits slots i mem v task (Reload parent index slot era steps) post list n g w p = tt
 fill_fits slots i mem v task (Clear index) post list n g w p = tt
 fill_fits slots i mem v task Finish post list n g w p = tt
-fill_fits slots i mem v task Release post list n g w p = tt
+fill_fits slots i mem v task (Release index) post list n g w p = tt
 fill_fits slots i mem v task (Allocate LoadBirth) post list n g w p = tt
 fill_fits slots i mem v task (Allocate (ClaimSlot birth walk)) post list n g w p =
     let below : walk.slot ≤ slots = n.walks (Fills task) birth walk refl in
@@ -88,7 +88,7 @@ give_up_fits slots i v answer (Protect aim index root steps at) found list g p =
 give_up_fits slots i v answer (Reload parent index slot era steps) found list g p = tt
 give_up_fits slots i v answer (Clear index) found list g p = tt
 give_up_fits slots i v answer Finish found list g p = tt
-give_up_fits slots i v answer Release found list g p = tt
+give_up_fits slots i v answer (Release index) found list g p = tt
 give_up_fits slots i v answer (Allocate at) found list g p = absurd (no_truth p.right)
 give_up_fits slots i v answer (Write slot row place) found list g p = tt
 give_up_fits slots i v answer (GiveUp slot) found list g p = of_taken slots v i slot g p.hand
@@ -101,7 +101,7 @@ retire_fits slots i v answer (Protect aim index root steps at) found list g p = 
 retire_fits slots i v answer (Reload parent index slot era steps) found list g p = tt
 retire_fits slots i v answer (Clear index) found list g p = tt
 retire_fits slots i v answer Finish found list g p = tt
-retire_fits slots i v answer Release found list g p = tt
+retire_fits slots i v answer (Release index) found list g p = tt
 retire_fits slots i v answer (Allocate at) found list g p = absurd (no_truth p.right)
 retire_fits slots i v answer (Write slot row place) found list g p = tt
 retire_fits slots i v answer (GiveUp slot) found list g p = absurd (no_truth p.right)
@@ -124,7 +124,7 @@ run_fits slots i mem v (Clears task after) base post list n g w p = plain_fits i
 run_fits slots i mem v (Finishes task after) base post list n g w p = plain_fits i v base (memory.found (base_move base post) (mem (place_in (base_move base post)))) p.right
 run_fits slots i mem v (Tidies later) base post list n g w p = plain_fits i v base (memory.found (base_move base post) (mem (place_in (base_move base post)))) p.right
 run_fits slots i mem v Advances base post list n g w p = plain_fits i v base (memory.found (base_move base post) (mem (place_in (base_move base post)))) p.right
-run_fits slots i mem v (Releases key) base post list n g w p = plain_fits i v base (memory.found (base_move base post) (mem (place_in (base_move base post)))) p.right
+run_fits slots i mem v (Releases let_go) base post list n g w p = plain_fits i v base (memory.found (base_move base post) (mem (place_in (base_move base post)))) p.right
 
 work_fits : (slots i : ℕ) (mem : Place → ℕ) (v : View) (work : Work) (post : Post) (list : List Lifetime) → Good slots v → Words slots mem v → Plays i (Works work) list v → MoveFits i v (work_row work post (memory.found (work_move work post) (mem (place_in (work_move work post)))))
 work_fits slots i mem v (Getting key at) post list g w p = tt
@@ -140,6 +140,7 @@ work_fits slots i mem v (Enqueuing kept (PassTail next)) post list g w p = tt
 work_fits slots i mem v (Enqueuing kept (ExchangeNext slot)) post list g w p =
     append_fits i v slot (mem (Row kept.tail 0) == 0) (of_taken slots v i slot g (p.hand ∙ taken_slot kept.taken slot p.right))
 work_fits slots i mem v (Enqueuing kept (ExchangeTail slot)) post list g w p = tt
+work_fits slots i mem v (Keeping at) post list g w p = tt
 work_fits slots i mem v (Dequeuing (LoadTail head)) post list g w p = tt
 work_fits slots i mem v (Dequeuing (SwingTail head next)) post list g w p = tt
 work_fits slots i mem v (Dequeuing (TakeNumber head next)) post list g w p = tt

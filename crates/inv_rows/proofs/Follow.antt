@@ -150,7 +150,7 @@ base_loads mem h (Reload parent index slot era steps) post other a l = reload_en
 base_loads mem h (Begin at) post other a l = absurd (no_truth l.right)
 base_loads mem h (Clear index) post other a l = absurd (no_truth l.right)
 base_loads mem h Finish post other a l = absurd (no_truth l.right)
-base_loads mem h Release post other a l = absurd (no_truth l.right)
+base_loads mem h (Release index) post other a l = absurd (no_truth l.right)
 base_loads mem h (Allocate at) post other a l = absurd (no_truth l.right)
 base_loads mem h (Write slot row place) post other a l = absurd (no_truth l.right)
 base_loads mem h (GiveUp slot) post other a l = absurd (no_truth l.right)
@@ -212,7 +212,7 @@ base_follows mem h (Reload parent index row era steps) other found slot l e = re
 base_follows mem h (Begin at) other found slot l e = absurd (no_truth l.right)
 base_follows mem h (Clear index) other found slot l e = absurd (no_truth l.right)
 base_follows mem h Finish other found slot l e = absurd (no_truth l.right)
-base_follows mem h Release other found slot l e = absurd (no_truth l.right)
+base_follows mem h (Release index) other found slot l e = absurd (no_truth l.right)
 base_follows mem h (Allocate at) other found slot l e = absurd (no_truth l.right)
 base_follows mem h (Write line row place) other found slot l e = absurd (no_truth l.right)
 base_follows mem h (GiveUp line) other found slot l e = absurd (no_truth l.right)
@@ -245,7 +245,7 @@ loaded_some (Reload parent index slot era steps) x e = grind (arith, nat_tests)
 loaded_some (Begin at) x e = absurd (no_truth e)
 loaded_some (Clear index) x e = absurd (no_truth e)
 loaded_some Finish x e = absurd (no_truth e)
-loaded_some Release x e = absurd (no_truth e)
+loaded_some (Release index) x e = absurd (no_truth e)
 loaded_some (Allocate at) x e = absurd (no_truth e)
 loaded_some (Write slot row place) x e = absurd (no_truth e)
 loaded_some (GiveUp slot) x e = absurd (no_truth e)
@@ -271,7 +271,7 @@ loads_stay (Runs (GivesUp answer) base) next n2 f l = tt
 loads_stay (Runs (Retires answer) base) next n2 f l = tt
 loads_stay (Runs (Tidies later) base) next n2 f l = tt
 loads_stay (Runs Advances base) next n2 f l = tt
-loads_stay (Runs (Releases key) base) next n2 f l = tt
+loads_stay (Runs (Releases let_go) base) next n2 f l = tt
 
 -- the protection begins with no link loaded
 pub follow_begins : (scheme : SchemeKind) (h next : ℕ) → LoadsBase h (follow_base scheme h) next

@@ -14,9 +14,8 @@ use Rattle.wfe_core.specs.defs.declared.lifetime.Lifetime.{Lifetime}
 use Rattle.wfe_core.specs.declared.post.Post.{Post}
 use Rattle.wfe_core.specs.Desks.{Desk, noting}
 use Rattle.wfe_core.specs.Posts.{counted, stands}
-use Rattle.wfe_core.specs.Rounds.{scheme_of}
-use Rattle.wfe_core.specs.Steps.{first_phase, holding}
-use Rattle.wfe_core.specs.Calls.{Phase, Idle, CallTurn, CallOutcome, GoesOn, Answers, Gets, Changes, Holds, Enqueues, Dequeues}
+use Rattle.wfe_core.specs.Steps.{copying, first_phase, holding, looking_at}
+use Rattle.wfe_core.specs.Calls.{Phase, Idle, CallTurn, CallOutcome, GoesOn, Answers, Gets, Changes, Holds, Enqueues, Dequeues, Released, Rehold, Dropped}
 use Rattle.wfe_core.specs.Locals.{Local, busy_in, turn, settled, settled_by, told_by, rounds_told, begun, begun_post}
 use Rattle.wfe_core.specs.World.{start, step, finds}
 use Rattle.inv_rows.specs.Rows.{View, Good, RowMove, made, has_life, retire_in}
@@ -24,7 +23,7 @@ use Rattle.inv_rows.specs.Rows.Hand.{Empty}
 use Rattle.inv_rows.specs.Rows.RowMove.{Stays, Claims, Bears, Drops, Links, Replaces, Appends, Pops, Reads, Seals, Lists, Returns}
 use Rattle.inv_rows.specs.Hands.{hand_in, hand_left, in_list, each_once, is_right, right_left, row_move}
 use Rattle.inv_rows.specs.Agree.{Plays, rows_after, first_rows, first_status, claim_of, RowsStart, RowsBegin, RowsKept}
-use Rattle.inv_rows.proofs.Rounds.{round_hand, round_right, release_plain}
+use Rattle.inv_rows.proofs.Rounds.{round_hand, round_right, letting_hand, letting_right}
 use Rattle.inv_rows.proofs.Steps.{Did}
 use Rattle.inv_rows.proofs.Phases.{phase_did}
 
@@ -95,7 +94,15 @@ rows_kept w i v n a =
 -- a call begins with nothing in hand
 holding_hand : (key : ℕ) (post : Post) (x : Option ℕ) → hand_in (holding key post x) ≡ Empty
 holding_hand key post None = round_hand (Holds key) post
-holding_hand key post (Some slot) = refl
+holding_hand key post (Some slot) = letting_hand (Rehold key) post
+
+copying_hand : (from index : ℕ) (x : Option ℕ) → hand_in (copying from index x) ≡ Empty
+copying_hand from index None = refl
+copying_hand from index (Some slot) = refl
+
+looking_hand : (index key : ℕ) (x : Option ℕ) → hand_in (looking_at index key x) ≡ Empty
+looking_hand index key None = refl
+looking_hand index key (Some slot) = refl
 
 first_hand : (call : Call) (post : Post) → hand_in (first_phase call post) ≡ Empty
 first_hand (names.Get key) post = round_hand (Gets key) post
@@ -104,13 +111,25 @@ first_hand (names.Remove key) post = round_hand (Changes _) post
 first_hand (names.Enqueue value) post = round_hand (Enqueues _) post
 first_hand names.Dequeue post = round_hand Dequeues post
 first_hand (names.Hold key) post = holding_hand key post (stands post 2)
-first_hand names.Release post = refl
+first_hand names.Release post = letting_hand Released post
 first_hand names.Advance post = refl
 first_hand names.Scan post = refl
+first_hand (names.Copy from index) post = copying_hand from index (stands post from)
+first_hand (names.DropIndex index) post = letting_hand (Dropped index) post
+first_hand (names.Look index key) post = looking_hand index key (stands post index)
+first_hand (names.PutIf key value version) post = round_hand (Changes _) post
 
 holding_right : (key : ℕ) (post : Post) (x : Option ℕ) (list : List Lifetime) → is_right (holding key post x) list ≡ true
 holding_right key post None list = round_right (Holds key) post list
-holding_right key post (Some slot) list = release_plain (scheme_of post)
+holding_right key post (Some slot) list = letting_right (Rehold key) post list
+
+copying_right : (from index : ℕ) (x : Option ℕ) (list : List Lifetime) → is_right (copying from index x) list ≡ true
+copying_right from index None list = refl
+copying_right from index (Some slot) list = refl
+
+looking_right : (index key : ℕ) (x : Option ℕ) (list : List Lifetime) → is_right (looking_at index key x) list ≡ true
+looking_right index key None list = refl
+looking_right index key (Some slot) list = refl
 
 first_right : (call : Call) (post : Post) (list : List Lifetime) → is_right (first_phase call post) list ≡ true
 first_right (names.Get key) post list = round_right (Gets key) post list
@@ -119,9 +138,13 @@ first_right (names.Remove key) post list = round_right (Changes _) post list
 first_right (names.Enqueue value) post list = round_right (Enqueues _) post list
 first_right names.Dequeue post list = round_right Dequeues post list
 first_right (names.Hold key) post list = holding_right key post (stands post 2) list
-first_right names.Release post list = release_plain (scheme_of post)
+first_right names.Release post list = letting_right Released post list
 first_right names.Advance post list = refl
 first_right names.Scan post list = refl
+first_right (names.Copy from index) post list = copying_right from index (stands post from) list
+first_right (names.DropIndex index) post list = letting_right (Dropped index) post list
+first_right (names.Look index key) post list = looking_right index key (stands post index) list
+first_right (names.PutIf key value version) post list = round_right (Changes _) post list
 
 pub idle_hand : (phase : Phase) → busy_in phase ≡ false → hand_in phase ≡ Empty
 idle_hand Idle h = refl

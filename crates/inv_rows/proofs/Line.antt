@@ -3,7 +3,7 @@ use Rattle.std.proofs.Common.{ℕ, ◌+◌, ◌<◌, ◌≡◌, Bool, true, fals
 use Rattle.std.proofs.lemmas.Bool.Decides.{nat_tests}
 use Rattle.std.specs.Prelude.{◌==◌}
 use Rattle.wfe_core.specs.Memory.{upd}
-use Rattle.wfe_core.specs.Calls.{Opens, FollowsHead, Fills, ClearsNext, Clears, Finishes, GivesUp, Retires, Tidies, Advances, Releases, LoadNumber, LoadNext, PassTail, ExchangeNext, ExchangeTail, LoadTail, SwingTail, TakeNumber, TakeValue, ExchangeHead, Getting, Changing, Enqueuing, Dequeuing, Phase, Idle, Runs, Scans, Works}
+use Rattle.wfe_core.specs.Calls.{Opens, FollowsHead, Fills, ClearsNext, Clears, Finishes, GivesUp, Retires, Tidies, Advances, Releases, LoadNumber, LoadNext, PassTail, ExchangeNext, ExchangeTail, LoadTail, SwingTail, TakeNumber, TakeValue, ExchangeHead, Getting, Changing, Enqueuing, Dequeuing, Phase, Idle, Runs, Scans, Works, Keeping}
 use Rattle.inv_rows.proofs.Follow.{loads_stay}
 use Rattle.inv_rows.specs.Queue.{Line, InLine, Walks, stands_on, heads_on, follows_in, leads_in, blanks_in, moved_line}
 use Rattle.inv_rows.specs.Queue.LineMove.{Joins, Leaves}
@@ -100,6 +100,7 @@ follow_stands (Works (Enqueuing kept LoadNext)) h link e = cc
 follow_stands (Works (Enqueuing kept (ExchangeNext slot))) h link e = cc
 follow_stands (Works (Enqueuing kept (PassTail next))) h link e = grind (arith, nat_tests)
 follow_stands (Works (Enqueuing kept (ExchangeTail slot))) h link e = grind (arith, nat_tests)
+follow_stands (Works (Keeping at)) h link e = cc
 follow_stands (Works (Dequeuing (LoadTail head))) h link e = cc
 follow_stands (Works (Dequeuing (SwingTail head next))) h link e = grind (arith, nat_tests)
 follow_stands (Works (Dequeuing (TakeNumber head next))) h link e = grind (arith, nat_tests)
@@ -118,12 +119,13 @@ head_stands (Runs (GivesUp answer) base) h e = cc
 head_stands (Runs (Retires answer) base) h e = cc
 head_stands (Runs (Tidies later) base) h e = cc
 head_stands (Runs Advances base) h e = cc
-head_stands (Runs (Releases key) base) h e = cc
+head_stands (Runs (Releases let_go) base) h e = cc
 head_stands (Scans later at) h e = cc
 head_stands (Works (Getting key at)) h e = cc
 head_stands (Works (Changing kept at)) h e = cc
 head_stands (Works (Enqueuing kept at)) h e = cc
 head_stands (Works (Dequeuing at)) h e = e
+head_stands (Works (Keeping at)) h e = cc
 
 lead_heads : (phase : Phase) (h : ℕ) → leads_in phase h ≡ true → heads_on phase h ≡ true
 lead_heads Idle h e = cc
@@ -137,11 +139,12 @@ lead_heads (Runs (GivesUp answer) base) h e = cc
 lead_heads (Runs (Retires answer) base) h e = cc
 lead_heads (Runs (Tidies later) base) h e = cc
 lead_heads (Runs Advances base) h e = cc
-lead_heads (Runs (Releases key) base) h e = cc
+lead_heads (Runs (Releases let_go) base) h e = cc
 lead_heads (Scans later at) h e = cc
 lead_heads (Works (Getting key at)) h e = cc
 lead_heads (Works (Changing kept at)) h e = cc
 lead_heads (Works (Enqueuing kept at)) h e = cc
+lead_heads (Works (Keeping at)) h e = cc
 lead_heads (Works (Dequeuing (LoadTail head))) h e = cc
 lead_heads (Works (Dequeuing (SwingTail head next))) h e = cc
 lead_heads (Works (Dequeuing (TakeNumber head next))) h e = e

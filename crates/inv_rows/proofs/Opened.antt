@@ -16,13 +16,14 @@ use Rattle.wfe_core.specs.Get as gets
 use Rattle.wfe_core.specs.Change as alters
 use Rattle.wfe_core.specs.Enqueue as enqueues
 use Rattle.wfe_core.specs.Dequeue as dequeues
+use Rattle.wfe_core.specs.Keep as keeps
 use Rattle.wfe_core.specs.Steps as steps
-use Rattle.wfe_core.specs.Calls.{EnqueueKept, Task, Gets, Changes, Holds, Enqueues, Dequeues, Again, Answering, Retiring, Why, Opens, FollowsHead, Fills, ClearsNext, Clears, Finishes, GivesUp, Retires, Tidies, Advances, Releases, LoadNumber, LoadNext, PassTail, ExchangeNext, ExchangeTail, LoadTail, SwingTail, TakeNumber, TakeValue, ExchangeHead, Work, Getting, Changing, Enqueuing, Dequeuing, CallTurn}
+use Rattle.wfe_core.specs.Calls.{EnqueueKept, Task, Gets, Changes, Holds, Enqueues, Dequeues, Again, Answering, Retiring, Why, Opens, FollowsHead, Fills, ClearsNext, Clears, Finishes, GivesUp, Retires, Tidies, Advances, Releases, LoadNumber, LoadNext, PassTail, ExchangeNext, ExchangeTail, LoadTail, SwingTail, TakeNumber, TakeValue, ExchangeHead, Work, Getting, Changing, Enqueuing, Dequeuing, CallTurn, Keeping}
 use Rattle.wfe_core.specs.Steps.{work_turn}
 use Rattle.wfe_core.specs.defs.declared.event.Root.TheVariants as roots
 use Rattle.inv_rows.specs.Queue.{Line}
 use Rattle.inv_rows.specs.Tries.{is_tail, is_head, FromTail, FromHead, PhaseTries}
-use Rattle.inv_rows.proofs.Quiet.{phase_of, is_quiet, clearing_quiet, clearing_next_quiet, closed_quiet, finishing_quiet, opened_null_quiet, opening_quiet, tidied_quiet, advanced_quiet, released_quiet, retired_quiet, filled_quiet, change_quiet, get_quiet}
+use Rattle.inv_rows.proofs.Quiet.{phase_of, is_quiet, clearing_quiet, clearing_next_quiet, closed_quiet, finishing_quiet, opened_null_quiet, opening_quiet, tidied_quiet, advanced_quiet, released_quiet, retired_quiet, filled_quiet, change_quiet, get_quiet, keep_quiet}
 use Rattle.wfe_core.specs.defs.declared.call.ClockMove.TheVariants as clock_moves
 use Rattle.inv_rows.proofs.Tries.{TryOut, quiet_tries}
 
@@ -106,8 +107,8 @@ resumed_tries (Tidies later) desk post told (Goes more) clock upto q l head o = 
 resumed_tries (Tidies later) desk post told (Ends ending) clock upto q l head o = by_quiet (steps.resume (Tidies later) ending post desk told) clock upto q l head (tidied_quiet later ending post desk told)
 resumed_tries Advances desk post told (Goes more) clock upto q l head o = tt
 resumed_tries Advances desk post told (Ends ending) clock upto q l head o = by_quiet (steps.resume Advances ending post desk told) clock upto q l head (advanced_quiet ending post desk told)
-resumed_tries (Releases key) desk post told (Goes more) clock upto q l head o = tt
-resumed_tries (Releases key) desk post told (Ends ending) clock upto q l head o = by_quiet (steps.resume (Releases key) ending post desk told) clock upto q l head (released_quiet key post desk told)
+resumed_tries (Releases let_go) desk post told (Goes more) clock upto q l head o = tt
+resumed_tries (Releases let_go) desk post told (Ends ending) clock upto q l head o = by_quiet (steps.resume (Releases let_go) ending post desk told) clock upto q l head (released_quiet let_go post desk told)
 
 append_tries : (kept : EnqueueKept) (post : Post) (desk : Desk) (spent : Bool) (clock upto : ℕ) (q : ℕ → Bool) (l : Line) (head : ℕ) → NewTries (enqueues.appending kept post desk spent) clock upto q l head
 append_tries kept post desk true clock upto q l head = by_quiet (enqueues.appending kept post desk true) clock upto q l head (clearing_quiet (Enqueues kept) (Answering (the_answers.Spent kept.number)) post desk [])
@@ -133,6 +134,7 @@ work_tries (Enqueuing kept LoadNext) post desk found clock upto q l head = next_
 work_tries (Enqueuing kept (PassTail next)) post desk found clock upto q l head = by_quiet (enqueues.enqueue_turn kept (PassTail next) post desk found) clock upto q l head (clearing_quiet (Enqueues kept) Again post desk (enqueues.told_link roots.Tail (next - 1) (found == kept.tail + 1)))
 work_tries (Enqueuing kept (ExchangeNext slot)) post desk found clock upto q l head = joined_tries kept slot post desk (found == 0) clock upto q l head
 work_tries (Enqueuing kept (ExchangeTail slot)) post desk found clock upto q l head = by_quiet (enqueues.enqueue_turn kept (ExchangeTail slot) post desk found) clock upto q l head (clearing_quiet (Enqueues kept) (Answering (the_answers.Queued (kept.number + 1))) post desk (enqueues.told_link roots.Tail slot (found == kept.tail + 1)))
+work_tries (Keeping at) post desk found clock upto q l head = by_quiet (keeps.keep_turn at post desk found) clock upto q l head (keep_quiet at post desk found)
 work_tries (Dequeuing (LoadTail parent)) post desk found clock upto q l head = tt
 work_tries (Dequeuing (SwingTail parent row)) post desk found clock upto q l head = by_quiet (dequeues.dequeue_turn (SwingTail parent row) post desk found) clock upto q l head (clearing_next_quiet Again post desk (enqueues.told_link roots.Tail row (found == parent + 1)))
 work_tries (Dequeuing (TakeNumber parent row)) post desk found clock upto q l head = tt

@@ -111,7 +111,7 @@ is_write (Protect aim index root steps at) = false
 is_write (Reload parent index slot era steps) = false
 is_write (Clear index) = false
 is_write Finish = false
-is_write Release = false
+is_write (Release index) = false
 is_write (Allocate at) = false
 is_write (Write slot row place) = true
 is_write base = false
@@ -168,7 +168,7 @@ base_links (Protect aim index root steps at) post h = protect_links index root a
 base_links (Reload parent index slot era steps) post h = refl
 base_links (Clear index) post h = refl
 base_links Finish post h = refl
-base_links Release post h = refl
+base_links (Release index) post h = refl
 base_links (Allocate at) post h = allocate_links at
 base_links (Write slot row place) post h = absurd (no_truth (sym h))
 base_links (GiveUp slot) post h = refl
@@ -288,8 +288,8 @@ resumed_walks (Tidies later) base desk post told (Goes more) q l next head tail 
 resumed_walks (Tidies later) base desk post told (Ends ending) q l next head tail h w g = quiet_walks (phase_of (steps.resume (Tidies later) ending post desk told).outcome) q l next head tail (tidied_quiet later ending post desk told)
 resumed_walks Advances base desk post told (Goes more) q l next head tail h w g = quiet_walks (Runs Advances more) q l next head tail refl
 resumed_walks Advances base desk post told (Ends ending) q l next head tail h w g = quiet_walks (phase_of (steps.resume Advances ending post desk told).outcome) q l next head tail (advanced_quiet ending post desk told)
-resumed_walks (Releases key) base desk post told (Goes more) q l next head tail h w g = quiet_walks (Runs (Releases key) more) q l next head tail refl
-resumed_walks (Releases key) base desk post told (Ends ending) q l next head tail h w g = quiet_walks (phase_of (steps.resume (Releases key) ending post desk told).outcome) q l next head tail (released_quiet key post desk told)
+resumed_walks (Releases let_go) base desk post told (Goes more) q l next head tail h w g = quiet_walks (Runs (Releases let_go) more) q l next head tail refl
+resumed_walks (Releases let_go) base desk post told (Ends ending) q l next head tail h w g = quiet_walks (phase_of (steps.resume (Releases let_go) ending post desk told).outcome) q l next head tail (released_quiet let_go post desk told)
 resumed_walks (Opens (Enqueues kept)) base desk post told (Goes more) q l next head tail h w g = record { stood = λ h e. cc; heads = λ h e k. cc; follows = λ h link e. cc; some = λ h link e. cc; leads = λ h e k. cc; blank = λ s e. cc; items = refl; loads = tt }
 resumed_walks (Opens (Enqueues kept)) base desk post told (Ends ending) q l next head tail h w g = enqueue_opens kept ending post desk told q l next head tail (λ slot era e. g.tails kept slot era refl (ap Ends e))
 resumed_walks (Opens Dequeues) base desk post told (Goes more) q l next head tail h w g = record { stood = λ h e. cc; heads = λ h e k. cc; follows = λ h link e. cc; some = λ h link e. cc; leads = λ h e k. cc; blank = λ s e. cc; items = refl; loads = tt }

@@ -6,10 +6,11 @@ use Rattle.wfe_core.specs.declared.post.Post.{Post}
 use Rattle.wfe_core.specs.Desks.{Desk}
 use Rattle.wfe_core.specs.Phases.{Base}
 use Rattle.wfe_core.specs.Get as gets
+use Rattle.wfe_core.specs.Keep as keeps
 use Rattle.wfe_core.specs.Change as alters
 use Rattle.wfe_core.specs.Enqueue as enqueues
 use Rattle.wfe_core.specs.Dequeue as dequeues
-use Rattle.wfe_core.specs.Calls.{ChangeKept, EnqueueKept, Enqueues, Again, Answering, Why, Opens, FollowsHead, Fills, ClearsNext, Clears, Finishes, GivesUp, Retires, Tidies, Advances, Releases, GetAt, FindVersion, FindCount, FindKey, FindValue, ChangeAt, LoadVersion, LoadCount, LoadKey, LoadValue, ExchangeRoot, EnqueueAt, LoadNumber, LoadNext, PassTail, ExchangeNext, ExchangeTail, DequeueAt, LoadTail, SwingTail, TakeNumber, TakeValue, ExchangeHead, Work, Getting, Changing, Enqueuing, Dequeuing, Phase, Idle, Runs, Scans, Works}
+use Rattle.wfe_core.specs.Calls.{ChangeKept, EnqueueKept, Enqueues, Again, Answering, Why, Opens, FollowsHead, Fills, ClearsNext, Clears, Finishes, GivesUp, Retires, Tidies, Advances, Releases, GetAt, FindVersion, FindCount, FindKey, FindValue, ChangeAt, LoadVersion, LoadCount, LoadKey, LoadValue, ExchangeRoot, EnqueueAt, LoadNumber, LoadNext, PassTail, ExchangeNext, ExchangeTail, DequeueAt, LoadTail, SwingTail, TakeNumber, TakeValue, ExchangeHead, Work, Getting, Changing, Enqueuing, Dequeuing, Phase, Idle, Runs, Scans, Works, KeepAt, Loosens, LoadHeld, StoreHeld, Looks, Misses, Keeping}
 use Rattle.inv_rows.specs.Rows.Hand.{Empty, Taken, Old}
 use Rattle.inv_rows.specs.Hands.{base_row, row_move, linked_row, change_row, enqueue_row, dequeue_row, work_row}
 use Rattle.wfe_core.specs.words.Place.{Place}
@@ -26,7 +27,7 @@ use Rattle.inv_rows.specs.Agree.{Words, Plays, Needs}
 use Rattle.inv_rows.proofs.Made.{links_good, replaces_good, appends_good, pops_good}
 use Rattle.inv_rows.proofs.Words.{is_writing, words_plain, words_missed, words_links, words_replaces, words_appends, words_pops}
 use Rattle.inv_rows.proofs.Rounds.{get_leaves, reading_leaves, at_next_leaves, clearing_leaves, clearing_next_leaves}
-use Rattle.inv_rows.proofs.Turns.{linked_leaves, replaced_leaves, missed_leaves, appended_leaves, unappended_leaves, popped_leaves, unpopped_leaves}
+use Rattle.inv_rows.proofs.Turns.{linked_leaves, replaced_leaves, missed_leaves, appended_leaves, unappended_leaves, popped_leaves, unpopped_leaves, keep_leaves}
 use Rattle.wfe_core.specs.defs.declared.event.Root.TheVariants as roots
 use Rattle.inv_rows.proofs.Steps.{Did, did_stays, did_hand, did_plain, did_fills, did_gives_up, did_retires, did_scans, of_taken}
 use Rattle.inv_rows.proofs.Runs.{taken_slot}
@@ -246,6 +247,13 @@ get_loads (FindCount slot version) = refl
 get_loads (FindKey slot version count pair) = refl
 get_loads (FindValue slot version pair) = refl
 
+keep_loads : (at : KeepAt) (post : Post) → is_writing (keeps.keep_move at post) ≡ false
+keep_loads (Loosens let_go) post = refl
+keep_loads (LoadHeld from index) post = refl
+keep_loads (StoreHeld from index era) post = refl
+keep_loads (Looks index key at) post = get_loads at
+keep_loads (Misses index) post = refl
+
 did_works : (slots i : ℕ) (mem : Place → ℕ) (v : View) (work : Work) (post next : Post) (desk : Desk) → Needs slots mem v (Works work) → Good slots v → Words slots mem v → Plays i (Works work) desk.list v
     → Did slots i (written mem (work_move work post)) (made i v (work_row work post (memory.found (work_move work post) (mem (place_in (work_move work post)))))) (work_turn work next desk (memory.found (work_move work post) (mem (place_in (work_move work post)))))
 did_works slots i mem v (Getting key at) post next desk n g w p =
@@ -265,6 +273,9 @@ did_works slots i mem v (Getting key at) post next desk n g w p =
 did_works slots i mem v (Changing kept at) post next desk n g w p = did_changes slots i mem v kept at post next desk g w p
 did_works slots i mem v (Enqueuing kept at) post next desk n g w p = did_enqueues slots i mem v kept at next desk g w p
 did_works slots i mem v (Dequeuing at) post next desk n g w p = did_dequeues slots i mem v at next desk n g w p
+did_works slots i mem v (Keeping at) post next desk n g w p =
+    let found : ℕ = memory.found (keeps.keep_move at post) (mem (place_in (keeps.keep_move at post))) in
+    did_stays slots i mem (written mem (keeps.keep_move at post)) v (Works (Keeping at)) desk.list (keeps.keep_turn at next desk found) g (words_plain slots mem v (keeps.keep_move at post) (keep_loads at post) w) p (keep_leaves at next desk found)
 
 did_runs : (slots i : ℕ) (mem : Place → ℕ) (v : View) (why : Why) (base : Base) (post next : Post) (desk : Desk) → Needs slots mem v (Runs why base) → Good slots v → Words slots mem v → Plays i (Runs why base) desk.list v
     → Did slots i (written mem (base_move base post)) (made i v (base_row base (memory.found (base_move base post) (mem (place_in (base_move base post)))))) (run_turn why desk (machine.after base next (memory.found (base_move base post) (mem (place_in (base_move base post))))))
@@ -278,7 +289,7 @@ did_runs slots i mem v (Clears task after) base post next desk n g w p = did_pla
 did_runs slots i mem v (Finishes task after) base post next desk n g w p = did_plain slots i mem v (Finishes task after) base post next desk (memory.found (base_move base post) (mem (place_in (base_move base post)))) g w p refl p.right
 did_runs slots i mem v (Tidies later) base post next desk n g w p = did_plain slots i mem v (Tidies later) base post next desk (memory.found (base_move base post) (mem (place_in (base_move base post)))) g w p refl p.right
 did_runs slots i mem v Advances base post next desk n g w p = did_plain slots i mem v Advances base post next desk (memory.found (base_move base post) (mem (place_in (base_move base post)))) g w p refl p.right
-did_runs slots i mem v (Releases key) base post next desk n g w p = did_plain slots i mem v (Releases key) base post next desk (memory.found (base_move base post) (mem (place_in (base_move base post)))) g w p refl p.right
+did_runs slots i mem v (Releases let_go) base post next desk n g w p = did_plain slots i mem v (Releases let_go) base post next desk (memory.found (base_move base post) (mem (place_in (base_move base post)))) g w p refl p.right
 
 -- one step of a seat that stands at a phase
 pub phase_did : (slots i : ℕ) (mem : Place → ℕ) (v : View) (phase : Phase) (post next : Post) (desk : Desk) → Needs slots mem v phase → Good slots v → Words slots mem v → Plays i phase desk.list v

@@ -11,11 +11,12 @@ use Rattle.wfe_core.specs.Desks.{Desk, noting}
 use Rattle.wfe_core.specs.Posts.{stands, counted}
 use Rattle.wfe_core.specs.Phases.{Base, AllocateAt, RetireAt, Outcome, Turn, Goes}
 use Rattle.wfe_core.specs.Get as gets
+use Rattle.wfe_core.specs.Keep as keeps
 use Rattle.wfe_core.specs.Change as alters
 use Rattle.wfe_core.specs.Enqueue as enqueues
 use Rattle.wfe_core.specs.Dequeue as dequeues
 use Rattle.wfe_core.specs.Scan as scan
-use Rattle.wfe_core.specs.Calls.{ChangeKept, EnqueueKept, Task, Gets, Changes, Holds, Enqueues, Dequeues, Again, Answering, AfterScan, Why, Opens, FollowsHead, Fills, ClearsNext, Clears, Finishes, GivesUp, Retires, Tidies, Advances, Releases, ScanAt, ReadGuard, GiveBack, GetAt, FindVersion, FindCount, FindKey, FindValue, ChangeAt, LoadVersion, LoadCount, LoadKey, LoadValue, ExchangeRoot, EnqueueAt, LoadNumber, LoadNext, PassTail, ExchangeNext, ExchangeTail, DequeueAt, LoadTail, SwingTail, TakeNumber, TakeValue, ExchangeHead, Work, Getting, Changing, Enqueuing, Dequeuing, Phase, Idle, Runs, Scans, Works, CallTurn, CallOutcome, GoesOn, Answers}
+use Rattle.wfe_core.specs.Calls.{ChangeKept, EnqueueKept, Task, Gets, Changes, Holds, Enqueues, Dequeues, Again, Answering, AfterScan, Why, Opens, FollowsHead, Fills, ClearsNext, Clears, Finishes, GivesUp, Retires, Tidies, Advances, Releases, ScanAt, ReadGuard, GiveBack, GetAt, FindVersion, FindCount, FindKey, FindValue, ChangeAt, LoadVersion, LoadCount, LoadKey, LoadValue, ExchangeRoot, EnqueueAt, LoadNumber, LoadNext, PassTail, ExchangeNext, ExchangeTail, DequeueAt, LoadTail, SwingTail, TakeNumber, TakeValue, ExchangeHead, Work, Getting, Changing, Enqueuing, Dequeuing, Phase, Idle, Runs, Scans, Works, CallTurn, CallOutcome, GoesOn, Answers, LetGo, Released, Rehold, Dropped, KeepAt, Loosens, LoadHeld, StoreHeld, Looks, Misses, Keeping}
 use Rattle.inv_rows.specs.Rows.Hand.{Taken}
 use Rattle.inv_rows.specs.Hands.{hand_base, is_plain, runs_right, is_giving_up, is_retiring, task_fills, base_row, row_move, linked_row, change_row, enqueue_row, dequeue_row, work_row, scan_row, allocate_row, retire_row}
 use Rattle.wfe_core.specs.words.Place.{Place, claim_word}
@@ -30,7 +31,7 @@ use Rattle.wfe_core.specs.Machine.{base_move}
 use Rattle.wfe_core.specs.Allocate.{is_claimed}
 use Rattle.wfe_core.specs.Guards as the_guards
 use Rattle.wfe_core.specs.WriteRow.{row_word}
-use Rattle.wfe_core.specs.Steps.{run_turn, phase_move, phase_turn, work_move, work_turn, first_phase, holding}
+use Rattle.wfe_core.specs.Steps.{run_turn, phase_move, phase_turn, work_move, work_turn, copying, first_phase, holding, looking_at}
 use Rattle.inv_rows.specs.Rows.{Status, View, Good, made}
 use Rattle.inv_rows.specs.Rows.Status.{Free, Claimed, Born, Linked, InQueue, Cut, Sealed, Listed}
 use Rattle.inv_rows.specs.Rows.RowMove.{Stays, Claims, Links, Replaces}
@@ -42,10 +43,11 @@ use Rattle.inv_rows.specs.Queue.LineMove.{Keeps, Joins}
 use Rattle.inv_rows.specs.Chain.{queue_of, next_of, PhaseNeeds, Both, QueueNeeds, line_after, first_line, QueueStart, QueueBegin, QueueKept}
 use Rattle.inv_rows.proofs.Steps.{of_taken}
 use Rattle.inv_rows.proofs.Fits.{MoveFits, phase_fits, is_calm, calm_made}
-use Rattle.inv_rows.proofs.Quiet.{phase_of, is_quiet, quiet_walks, clearing_quiet, clearing_next_quiet, change_quiet, scan_quiet, get_quiet, round_quiet}
+use Rattle.inv_rows.proofs.Quiet.{phase_of, is_quiet, quiet_walks, clearing_quiet, clearing_next_quiet, change_quiet, scan_quiet, get_quiet, keep_quiet, round_quiet}
 use Rattle.inv_rows.proofs.Own.{is_linking, is_write, base_links, Left, fills_none, resumed_walks, takes_walks, writes_walks}
 use Rattle.inv_rows.specs.Follow.{LoadsBase, WhyLoads}
 use Rattle.inv_rows.proofs.Follow.{OutLoads, base_loads, base_follows, follow_begins}
+use Rattle.wfe_core.specs.Rounds as rounds
 use Rattle.wfe_core.specs.Rounds.{scheme_of}
 use Rattle.inv_rows.proofs.Went.{Far, Others, Went, LineIn, WalksIn, calm_self, went_same, went_calm, went_returns, went_writes_by, went_swings, went_joins, went_pops, born_unlined}
 use Rattle.inv_rows.proofs.Kept.{rows_kept}
@@ -76,7 +78,7 @@ base_calm (Protect aim index root steps at) found = refl
 base_calm (Reload parent index slot era steps) found = refl
 base_calm (Clear index) found = refl
 base_calm Finish found = refl
-base_calm Release found = refl
+base_calm (Release index) found = refl
 base_calm (Allocate at) found = allocate_calm at found
 base_calm (Write slot row place) found = refl
 base_calm (GiveUp slot) found = refl
@@ -105,7 +107,7 @@ plain_write (Protect aim index root steps at) h = refl
 plain_write (Reload parent index slot era steps) h = refl
 plain_write (Clear index) h = refl
 plain_write Finish h = refl
-plain_write Release h = refl
+plain_write (Release index) h = refl
 plain_write (Allocate at) h = refl
 plain_write (Write slot row place) h = absurd (no_truth h)
 plain_write base h = refl
@@ -116,7 +118,7 @@ give_write (Protect aim index root steps at) h = refl
 give_write (Reload parent index slot era steps) h = refl
 give_write (Clear index) h = refl
 give_write Finish h = refl
-give_write Release h = refl
+give_write (Release index) h = refl
 give_write (Allocate at) h = refl
 give_write (Write slot row place) h = absurd (no_truth h)
 give_write base h = refl
@@ -127,7 +129,7 @@ retire_write (Protect aim index root steps at) h = refl
 retire_write (Reload parent index slot era steps) h = refl
 retire_write (Clear index) h = refl
 retire_write Finish h = refl
-retire_write Release h = refl
+retire_write (Release index) h = refl
 retire_write (Allocate at) h = refl
 retire_write (Write slot row place) h = absurd (no_truth h)
 retire_write base h = refl
@@ -143,7 +145,7 @@ why_write (GivesUp answer) base h r = give_write base r
 why_write (Retires answer) base h r = retire_write base r
 why_write (Tidies later) base h r = plain_write base r
 why_write Advances base h r = plain_write base r
-why_write (Releases key) base h r = plain_write base r
+why_write (Releases let_go) base h r = plain_write base r
 
 abbrev base_turn : (Place → ℕ) → Base → Post → Post → Turn
 base_turn mem base post next = machine.after base next (finds_base mem base post)
@@ -233,7 +235,7 @@ went_fills slots i mem v l task (Protect aim index root steps at) post next desk
 went_fills slots i mem v l task (Reload parent index slot era steps) post next desk d p r f g w = absurd (no_truth (only_fills task (Reload parent index slot era steps) r))
 went_fills slots i mem v l task (Clear index) post next desk d p r f g w = absurd (no_truth (only_fills task (Clear index) r))
 went_fills slots i mem v l task Finish post next desk d p r f g w = absurd (no_truth (only_fills task Finish r))
-went_fills slots i mem v l task Release post next desk d p r f g w = absurd (no_truth (only_fills task Release r))
+went_fills slots i mem v l task (Release index) post next desk d p r f g w = absurd (no_truth (only_fills task (Release index) r))
 went_fills slots i mem v l task (GiveUp slot) post next desk d p r f g w = absurd (no_truth (only_fills task (GiveUp slot) r))
 went_fills slots i mem v l task (Retire at) post next desk d p r f g w = absurd (no_truth (only_fills task (Retire at) r))
 went_fills slots i mem v l task (Move at) post next desk d p r f g w = absurd (no_truth (only_fills task (Move at) r))
@@ -250,7 +252,7 @@ run_went slots i mem v l (GivesUp answer) base post next desk n d c p f g w = we
 run_went slots i mem v l (Retires answer) base post next desk n d c p f g w = went_runs slots i mem v l (Retires answer) base post next desk refl n c.head p.right f g w
 run_went slots i mem v l (Tidies later) base post next desk n d c p f g w = went_runs slots i mem v l (Tidies later) base post next desk refl n c.head p.right f g w
 run_went slots i mem v l Advances base post next desk n d c p f g w = went_runs slots i mem v l Advances base post next desk refl n c.head p.right f g w
-run_went slots i mem v l (Releases key) base post next desk n d c p f g w = went_runs slots i mem v l (Releases key) base post next desk refl n c.head p.right f g w
+run_went slots i mem v l (Releases let_go) base post next desk n d c p f g w = went_runs slots i mem v l (Releases let_go) base post next desk refl n c.head p.right f g w
 
 -- the call's own steps
 load_went : (i : ℕ) (v : View) (l : Line) (mem : Place → ℕ) (t : CallTurn) → LineIn v l mem → Left t (queue_of v) l (next_of mem) v.head (mem Tail) → Went i v v l Keeps mem mem t
@@ -261,6 +263,13 @@ get_links (FindVersion slot) = refl
 get_links (FindCount slot version) = refl
 get_links (FindKey slot version count pair) = refl
 get_links (FindValue slot version pair) = refl
+
+keep_links : (at : KeepAt) (post : Post) → is_linking (keeps.keep_move at post) ≡ false
+keep_links (Loosens let_go) post = refl
+keep_links (LoadHeld from index) post = refl
+keep_links (StoreHeld from index era) post = refl
+keep_links (Looks index key at) post = get_links at
+keep_links (Misses index) post = refl
 
 change_links : (kept : ChangeKept) (at : ChangeAt) (post : Post) → is_linking (alters.change_move kept at post) ≡ false
 change_links kept (LoadVersion slot) post = refl
@@ -332,6 +341,9 @@ work_went slots i mem v l (Changing kept at) post next desk d c p f g w =
     went_calm i v (made i v (change_row kept at post found)) l mem (alters.change_move kept at post) (alters.change_turn kept at next desk found) (calm_made i v (change_row kept at post found) f (change_calm kept at post found)) (change_links kept at post) g (quiet_walks (phase_of (alters.change_turn kept at next desk found).outcome) (queue_of v) l (next_of mem) v.head (mem Tail) (change_quiet kept at next desk found))
 work_went slots i mem v l (Enqueuing kept at) post next desk d c p f g w = enqueue_went slots i mem v l kept at next desk d p g w
 work_went slots i mem v l (Dequeuing at) post next desk d c p f g w = dequeue_went slots i mem v l at next desk c.head g w
+work_went slots i mem v l (Keeping at) post next desk d c p f g w =
+    let found : ℕ = memory.found (keeps.keep_move at post) (mem (place_in (keeps.keep_move at post))) in
+    went_calm i v v l mem (keeps.keep_move at post) (keeps.keep_turn at next desk found) (calm_self v) (keep_links at post) g (quiet_walks (phase_of (keeps.keep_turn at next desk found).outcome) (queue_of v) l (next_of mem) v.head (mem Tail) (keep_quiet at next desk found))
 
 scan_went : (i : ℕ) (mem : Place → ℕ) (v : View) (l : Line) (later : AfterScan) (at : ScanAt) (post next : Post) (desk : Desk) → MoveFits i v (scan_row at) → LineIn v l mem
     → Went i v (made i v (scan_row at)) l (scan_line at) mem (written mem (scan.scan_move at post)) (scan.scan_turn later at next desk (memory.found (scan.scan_move at post) (mem (place_in (scan.scan_move at post)))))
@@ -371,7 +383,7 @@ blank_born slots k v (Runs (GivesUp answer) base) list s d p e = absurd (no_trut
 blank_born slots k v (Runs (Retires answer) base) list s d p e = absurd (no_truth e)
 blank_born slots k v (Runs (Tidies later) base) list s d p e = absurd (no_truth e)
 blank_born slots k v (Runs Advances base) list s d p e = absurd (no_truth e)
-blank_born slots k v (Runs (Releases key) base) list s d p e = absurd (no_truth e)
+blank_born slots k v (Runs (Releases let_go) base) list s d p e = absurd (no_truth e)
 blank_born slots k v (Runs (Fills (Gets key)) base) list s d p e = absurd (no_truth e)
 blank_born slots k v (Runs (Fills (Changes kept)) base) list s d p e = absurd (no_truth e)
 blank_born slots k v (Runs (Fills (Holds key)) base) list s d p e = absurd (no_truth e)
@@ -381,7 +393,7 @@ blank_born slots k v (Runs (Fills (Enqueues kept)) (Protect aim index root steps
 blank_born slots k v (Runs (Fills (Enqueues kept)) (Reload parent index slot era steps)) list s d p e = absurd (no_truth e)
 blank_born slots k v (Runs (Fills (Enqueues kept)) (Clear index)) list s d p e = absurd (no_truth e)
 blank_born slots k v (Runs (Fills (Enqueues kept)) Finish) list s d p e = absurd (no_truth e)
-blank_born slots k v (Runs (Fills (Enqueues kept)) Release) list s d p e = absurd (no_truth e)
+blank_born slots k v (Runs (Fills (Enqueues kept)) (Release index)) list s d p e = absurd (no_truth e)
 blank_born slots k v (Runs (Fills (Enqueues kept)) (Allocate at)) list s d p e = absurd (no_truth e)
 blank_born slots k v (Runs (Fills (Enqueues kept)) (GiveUp slot)) list s d p e = absurd (no_truth e)
 blank_born slots k v (Runs (Fills (Enqueues kept)) (Retire at)) list s d p e = absurd (no_truth e)
@@ -396,6 +408,7 @@ blank_born slots k v (Works (Enqueuing kept (PassTail next))) list s d p e = abs
 blank_born slots k v (Works (Enqueuing kept (ExchangeTail slot))) list s d p e = absurd (no_truth e)
 blank_born slots k v (Works (Enqueuing kept (ExchangeNext slot))) list s d p e = born_at slots k v slot s d (p.hand ∙ taken_slot kept.taken slot p.right) e
 blank_born slots k v (Works (Dequeuing at)) list s d p e = absurd (no_truth e)
+blank_born slots k v (Works (Keeping at)) list s d p e = absurd (no_truth e)
 
 not_blank : (k i : ℕ) (x : Status) (blanks : Bool) → (k == i) ≡ false → (blanks ≡ true → x ≡ Born k) → x ≡ Born i → blanks ≡ false
 not_blank k i x true e f b = let same : Born k ≡ Born i = sym (f refl) ∙ b in let number : k ≡ i = cc in absurd (grind (arith, nat_tests))
@@ -461,6 +474,7 @@ far_by (Works (Enqueuing kept (PassTail next))) other found f = tt
 far_by (Works (Enqueuing kept (ExchangeNext slot))) other found f = far_joins kept.tail slot other (found == 0)
 far_by (Works (Enqueuing kept (ExchangeTail slot))) other found f = tt
 far_by (Works (Dequeuing at)) other found f = tt
+far_by (Works (Keeping at)) other found f = tt
 
 -- the queue after a step of the World
 pub world_went : (w : World) (i : ℕ) (v : View) (l : Line) → QueueNeeds w i v l → Both w v l → Went i v (rows_after w i v) l (line_move (w.seat i).phase (finds w i)) w.mem (step w i).mem (turn (w.seat i) (finds w i))
@@ -486,9 +500,24 @@ queue_kept w i v l n b =
     }
 
 -- a call begins with nothing found of the queue
+let_by_quiet : (let_go : LetGo) (x : Option Base) → is_quiet (rounds.letting_by let_go x) ≡ true
+let_by_quiet let_go None = refl
+let_by_quiet let_go (Some base) = refl
+
+letting_quiet : (let_go : LetGo) (post : Post) → is_quiet (rounds.letting let_go post) ≡ true
+letting_quiet let_go post = let_by_quiet let_go (rounds.release_base (scheme_of post) post (rounds.let_index let_go))
+
 holding_quiet : (key : ℕ) (post : Post) (x : Option ℕ) → is_quiet (holding key post x) ≡ true
 holding_quiet key post None = round_quiet (Holds key) post
-holding_quiet key post (Some slot) = refl
+holding_quiet key post (Some slot) = letting_quiet (Rehold key) post
+
+copying_quiet : (from index : ℕ) (x : Option ℕ) → is_quiet (copying from index x) ≡ true
+copying_quiet from index None = refl
+copying_quiet from index (Some slot) = refl
+
+looking_quiet : (index key : ℕ) (x : Option ℕ) → is_quiet (looking_at index key x) ≡ true
+looking_quiet index key None = refl
+looking_quiet index key (Some slot) = refl
 
 pub first_quiet : (call : Call) (post : Post) → is_quiet (first_phase call post) ≡ true
 first_quiet (names.Get key) post = round_quiet (Gets key) post
@@ -497,9 +526,13 @@ first_quiet (names.Remove key) post = round_quiet (Changes _) post
 first_quiet (names.Enqueue value) post = round_quiet (Enqueues _) post
 first_quiet names.Dequeue post = round_quiet Dequeues post
 first_quiet (names.Hold key) post = holding_quiet key post (stands post 2)
-first_quiet names.Release post = refl
+first_quiet names.Release post = letting_quiet Released post
 first_quiet names.Advance post = refl
 first_quiet names.Scan post = refl
+first_quiet (names.Copy from index) post = copying_quiet from index (stands post from)
+first_quiet (names.DropIndex index) post = letting_quiet (Dropped index) post
+first_quiet (names.Look index key) post = looking_quiet index key (stands post index)
+first_quiet (names.PutIf key value version) post = round_quiet (Changes _) post
 
 pub queue_begin : QueueBegin
 queue_begin w i call v l b = record {

@@ -1,5 +1,6 @@
 -- Phases in which a call has found nothing of the queue, and the turns that lead to them.
 use Rattle.std.proofs.Common.{◌&&◌, ℕ, ◌+◌, ◌%◌, ◌≡◌, Bool, true, false, refl, List, [], ◌∷◌, ◌++◌, length}
+use Rattle.wfe_core.specs.words.Schemes.{has_one_interval}
 use Rattle.wfe_core.specs.words.declared.config.SchemeKind.{SchemeKind}
 use Rattle.wfe_core.specs.words.declared.config.SchemeKind.TheVariants.{He, Ibr, Wfe}
 use Rattle.wfe_core.specs.defs.declared.event.Root.{Root}
@@ -23,9 +24,11 @@ use Rattle.wfe_core.specs.Rounds as rounds
 use Rattle.wfe_core.specs.Rounds.{scheme_of, taken_of, round, round_by, begin_base, begin_span, finish_base, clear_base, clear_post, clear_told, index_of, closed, given_up, finishing, finishing_by, clearing, clearing_by, clearing_next, clearing_next_by}
 use Rattle.wfe_core.specs.Get as gets
 use Rattle.wfe_core.specs.Change as alters
+use Rattle.wfe_core.specs.Keep as keeps
+use Rattle.wfe_core.specs.Posts.{cleared, reserves_index, stands, withdrawn}
 use Rattle.wfe_core.specs.Scan as scan
 use Rattle.wfe_core.specs.Steps as steps
-use Rattle.wfe_core.specs.Calls.{ChangeKept, Task, Gets, Changes, Holds, Enqueues, Dequeues, Next, Again, MakeRoom, Answering, Retiring, AfterScan, Answered, Repeated, Counted, Why, Opens, FollowsHead, Fills, ClearsNext, Clears, Finishes, GivesUp, Retires, Tidies, Advances, Releases, ScanAt, ReadGuard, GiveBack, GetAt, FindVersion, FindCount, FindKey, FindValue, ChangeAt, LoadVersion, LoadCount, LoadKey, LoadValue, ExchangeRoot, Work, Getting, Changing, Enqueuing, Dequeuing, Phase, Idle, Runs, Scans, Works, CallTurn, CallOutcome, GoesOn}
+use Rattle.wfe_core.specs.Calls.{ChangeKept, Task, Gets, Changes, Holds, Enqueues, Dequeues, Next, Again, MakeRoom, Answering, Retiring, AfterScan, Answered, Repeated, Counted, Why, Opens, FollowsHead, Fills, ClearsNext, Clears, Finishes, GivesUp, Retires, Tidies, Advances, Releases, ScanAt, ReadGuard, GiveBack, GetAt, FindVersion, FindCount, FindKey, FindValue, ChangeAt, LoadVersion, LoadCount, LoadKey, LoadValue, ExchangeRoot, Work, Getting, Changing, Enqueuing, Dequeuing, Phase, Idle, Runs, Scans, Works, CallTurn, CallOutcome, GoesOn, LetGo, Released, Rehold, Dropped, KeepAt, Loosens, LoadHeld, StoreHeld, Looks, Misses, Keeping}
 use Rattle.wfe_core.specs.defs.declared.event.Guard.{Guard}
 use Rattle.wfe_core.specs.defs.Shown.{shown}
 use Rattle.wfe_core.specs.Guards as the_guards
@@ -83,6 +86,7 @@ quiet_work (Getting key at) = true
 quiet_work (Changing kept at) = true
 quiet_work (Enqueuing kept at) = false
 quiet_work (Dequeuing at) = false
+quiet_work (Keeping at) = true
 
 -- the phase has found nothing of the queue
 abbrev pub is_quiet : Phase → Bool
@@ -110,7 +114,7 @@ quiet_walks (Runs (GivesUp answer) base) q l next head tail h = record { stood =
 quiet_walks (Runs (Retires answer) base) q l next head tail h = record { stood = λ h e. cc; heads = λ h e k. cc; follows = λ h link e. cc; some = λ h link e. cc; leads = λ h e k. cc; blank = λ s e. cc; items = refl; loads = tt }
 quiet_walks (Runs (Tidies later) base) q l next head tail h = record { stood = λ h e. cc; heads = λ h e k. cc; follows = λ h link e. cc; some = λ h link e. cc; leads = λ h e k. cc; blank = λ s e. cc; items = refl; loads = tt }
 quiet_walks (Runs Advances base) q l next head tail h = record { stood = λ h e. cc; heads = λ h e k. cc; follows = λ h link e. cc; some = λ h link e. cc; leads = λ h e k. cc; blank = λ s e. cc; items = refl; loads = tt }
-quiet_walks (Runs (Releases key) base) q l next head tail h = record { stood = λ h e. cc; heads = λ h e k. cc; follows = λ h link e. cc; some = λ h link e. cc; leads = λ h e k. cc; blank = λ s e. cc; items = refl; loads = tt }
+quiet_walks (Runs (Releases let_go) base) q l next head tail h = record { stood = λ h e. cc; heads = λ h e k. cc; follows = λ h link e. cc; some = λ h link e. cc; leads = λ h e k. cc; blank = λ s e. cc; items = refl; loads = tt }
 quiet_walks (Runs (Fills (Gets key)) base) q l next head tail h = record { stood = λ h e. cc; heads = λ h e k. cc; follows = λ h link e. cc; some = λ h link e. cc; leads = λ h e k. cc; blank = λ s e. cc; items = refl; loads = tt }
 quiet_walks (Runs (Fills (Changes kept)) base) q l next head tail h = record { stood = λ h e. cc; heads = λ h e k. cc; follows = λ h link e. cc; some = λ h link e. cc; leads = λ h e k. cc; blank = λ s e. cc; items = refl; loads = tt }
 quiet_walks (Runs (Fills (Holds key)) base) q l next head tail h = record { stood = λ h e. cc; heads = λ h e k. cc; follows = λ h link e. cc; some = λ h link e. cc; leads = λ h e k. cc; blank = λ s e. cc; items = refl; loads = tt }
@@ -121,6 +125,7 @@ quiet_walks (Works (Getting key at)) q l next head tail h = record { stood = λ 
 quiet_walks (Works (Changing kept at)) q l next head tail h = record { stood = λ h e. cc; heads = λ h e k. cc; follows = λ h link e. cc; some = λ h link e. cc; leads = λ h e k. cc; blank = λ s e. cc; items = refl; loads = tt }
 quiet_walks (Works (Enqueuing kept at)) q l next head tail h = absurd (cc)
 quiet_walks (Works (Dequeuing at)) q l next head tail h = absurd (cc)
+quiet_walks (Works (Keeping at)) q l next head tail h = record { stood = λ h e. cc; heads = λ h e k. cc; follows = λ h link e. cc; some = λ h link e. cc; leads = λ h e k. cc; blank = λ s e. cc; items = refl; loads = tt }
 
 starts_at : (scheme : SchemeKind) → at_starts (rounds.protect_at scheme) ≡ true
 starts_at He = refl
@@ -190,7 +195,7 @@ deciding_by_quiet kept post desk told (Some answer) = clearing_quiet (Changes ke
 deciding_by_quiet kept post desk told None = refl
 
 deciding_quiet : (kept : ChangeKept) (post : Post) (desk : Desk) (told : List Event) → Quiet (alters.deciding kept post desk told)
-deciding_quiet kept post desk told = deciding_by_quiet kept post desk told (alters.refusal post.layout.config kept.version kept.pairs kept.change)
+deciding_quiet kept post desk told = deciding_by_quiet kept post desk told (alters.refused post.layout.config kept)
 
 got_quiet : (key version : ℕ) (value : Option ℕ) (post : Post) (desk : Desk) (told : List Event) → Quiet (gets.got key version value post desk told)
 got_quiet key version value post desk told = clearing_quiet (Gets key) (Answering (the_answers.Got version value)) post desk (told ++ events.Got (rounds.bucket_of post key) version key value ∷ [])
@@ -267,9 +272,40 @@ advanced_quiet (Followed end) post desk told = refl
 advanced_quiet (Allocated end) post desk told = refl
 advanced_quiet (endings.Retired life) post desk told = refl
 
-pub released_quiet : (key : Option ℕ) (post : Post) (desk : Desk) (told : List Event) → Quiet (steps.released key post desk told)
-released_quiet None post desk told = refl
-released_quiet (Some key) post desk told = round_quiet (Holds key) post
+pub released_quiet : (let_go : LetGo) (post : Post) (desk : Desk) (told : List Event) → Quiet (keeps.released let_go post desk told)
+released_quiet Released post desk told = refl
+released_quiet (Rehold key) post desk told = round_quiet (Holds key) post
+released_quiet (Dropped index) post desk told = refl
+
+copied_quiet : (from index : ℕ) (post : Post) (desk : Desk) (reserved : List Event) (x : Option ℕ) → Quiet (keeps.copied from index post desk reserved x)
+copied_quiet from index post desk reserved None = refl
+copied_quiet from index post desk reserved (Some slot) = refl
+
+load_held_quiet : (from index : ℕ) (post : Post) (desk : Desk) (found : ℕ) (one : Bool) → Quiet (keeps.load_held from index post desk found one)
+load_held_quiet from index post desk found true = copied_quiet from index post desk [] (stands post from)
+load_held_quiet from index post desk found false = refl
+
+looking_quiet : (index key slot version count : ℕ) (post : Post) (desk : Desk) (more : Bool) (pair : ℕ) → Quiet (keeps.looking index key slot version count post desk more pair)
+looking_quiet index key slot version count post desk true pair = refl
+looking_quiet index key slot version count post desk false pair = refl
+
+looked_key_quiet : (index key slot version count pair : ℕ) (post : Post) (desk : Desk) (own : Bool) → Quiet (keeps.looked_key index key slot version count pair post desk own)
+looked_key_quiet index key slot version count pair post desk true = refl
+looked_key_quiet index key slot version count pair post desk false = looking_quiet index key slot version count post desk (nat_lt (pair + 1) count) (pair + 1)
+
+look_quiet : (index key : ℕ) (at : GetAt) (post : Post) (desk : Desk) (found : ℕ) → Quiet (keeps.look_turn index key at post desk found)
+look_quiet index key (FindVersion slot) post desk found = refl
+look_quiet index key (FindCount slot version) post desk found = looking_quiet index key slot version found post desk (nat_lt 0 found) 0
+look_quiet index key (FindKey slot version count pair) post desk found = looked_key_quiet index key slot version count pair post desk (found == key)
+look_quiet index key (FindValue slot version pair) post desk found = refl
+
+pub keep_quiet : (at : KeepAt) (post : Post) (desk : Desk) (found : ℕ) → Quiet (keeps.keep_turn at post desk found)
+keep_quiet (Loosens let_go) post desk found =
+    released_quiet let_go (withdrawn post (rounds.let_index let_go)) desk (cleared (rounds.let_index let_go) (stands post (rounds.let_index let_go)))
+keep_quiet (LoadHeld from index) post desk found = load_held_quiet from index post desk found (has_one_interval (scheme_of post))
+keep_quiet (StoreHeld from index era) post desk found = copied_quiet from index post desk (reserves_index post index era) (stands post from)
+keep_quiet (Looks index key at) post desk found = look_quiet index key at post desk found
+keep_quiet (Misses index) post desk found = refl
 
 tidying_quiet : (answer : Answer) (post : Post) (desk : Desk) (told : List Event) (due : Bool) → Quiet (steps.tidying answer post desk told due)
 tidying_quiet answer post desk told true = refl

@@ -12,7 +12,7 @@ use Rattle.wfe_core.specs.declared.ends.FollowEnd.{FollowEnd}
 use Rattle.wfe_core.specs.declared.ends.FollowEnd.TheVariants as follow_ends
 use Rattle.wfe_core.specs.declared.post.Post.{Post}
 use Rattle.wfe_core.specs.Desks.{Desk}
-use Rattle.wfe_core.specs.Posts.{stands}
+use Rattle.wfe_core.specs.Posts.{withdrawn}
 use Rattle.wfe_core.specs.Phases.{Base}
 use Rattle.wfe_core.specs.Rounds as rounds
 use Rattle.wfe_core.specs.Rounds.{scheme_of, taken_of, round, round_by, begin_base, begin_span, finish_base, finish_span, clear_base, clear_post, clear_told, index_of, closed, given_up, finishing, finishing_by, clearing, clearing_by, clearing_next, clearing_next_by}
@@ -20,7 +20,7 @@ use Rattle.wfe_core.specs.Get as gets
 use Rattle.wfe_core.specs.Change as alters
 use Rattle.wfe_core.specs.Enqueue as enqueues
 use Rattle.wfe_core.specs.Dequeue as dequeues
-use Rattle.wfe_core.specs.Calls.{ChangeKept, EnqueueKept, Task, Gets, Changes, Enqueues, Dequeues, Next, Again, MakeRoom, Answering, Retiring, GetAt, FindVersion, FindCount, FindKey, FindValue, CallTurn}
+use Rattle.wfe_core.specs.Calls.{ChangeKept, EnqueueKept, Task, Gets, Changes, Enqueues, Dequeues, Next, Again, MakeRoom, Answering, Retiring, GetAt, FindVersion, FindCount, FindKey, FindValue, CallTurn, LetGo}
 use Rattle.inv_rows.specs.Rows.{Hand}
 use Rattle.inv_rows.specs.Rows.Hand.{Empty}
 use Rattle.inv_rows.specs.Hands.{hand_of, hand_task, hand_next, hand_base, hand_in, is_plain, is_right, fills_right, Leaves}
@@ -44,13 +44,32 @@ stands_plain None = refl
 stands_plain (Some slot) = refl
 
 finish_plain : (scheme : SchemeKind) (post : Post) → plain_some (finish_base scheme post) ≡ true
-finish_plain scheme post = each_finish scheme post (λ (base : Option Base). plain_some base ≡ true) refl (stands_plain (stands post 2))
+finish_plain scheme post = each_finish scheme post (λ (base : Option Base). plain_some base ≡ true) refl (stands_plain (rounds.kept_row post))
 
 clear_plain : (scheme : SchemeKind) (index : ℕ) → plain_some (clear_base scheme index) ≡ true
 clear_plain scheme index = each_clear scheme index (λ (base : Option Base). plain_some base ≡ true) refl refl
 
-pub release_plain : (scheme : SchemeKind) → is_plain (rounds.release_base scheme) ≡ true
-release_plain scheme = each_release scheme (λ (base : Base). is_plain base ≡ true) refl refl
+let_plain : (index : ℕ) (x : Option ℕ) → plain_some (rounds.release_span index x) ≡ true
+let_plain index None = refl
+let_plain index (Some slot) = refl
+
+release_plain : (scheme : SchemeKind) (post : Post) (index : ℕ) → plain_some (rounds.release_base scheme post index) ≡ true
+release_plain scheme post index = each_release scheme post index (λ (base : Option Base). plain_some base ≡ true) refl (let_plain index (rounds.kept_row (withdrawn post index)))
+
+let_by_hand : (let_go : LetGo) (x : Option Base) → hand_in (rounds.letting_by let_go x) ≡ Empty
+let_by_hand let_go None = refl
+let_by_hand let_go (Some base) = refl
+
+pub letting_hand : (let_go : LetGo) (post : Post) → hand_in (rounds.letting let_go post) ≡ Empty
+letting_hand let_go post = let_by_hand let_go (rounds.release_base (scheme_of post) post (rounds.let_index let_go))
+
+let_by_right : (let_go : LetGo) (x : Option Base) (list : List Lifetime) → plain_some x ≡ true → is_right (rounds.letting_by let_go x) list ≡ true
+let_by_right let_go None list h = refl
+let_by_right let_go (Some base) list h = h
+
+pub letting_right : (let_go : LetGo) (post : Post) (list : List Lifetime) → is_right (rounds.letting let_go post) list ≡ true
+letting_right let_go post list =
+    let_by_right let_go (rounds.release_base (scheme_of post) post (rounds.let_index let_go)) list (release_plain (scheme_of post) post (rounds.let_index let_go))
 
 round_by_hand : (task : Task) (post : Post) (x : Option Base) → hand_in (round_by task post x) ≡ hand_task task
 round_by_hand task post None = refl
@@ -125,7 +144,7 @@ deciding_by_leaves kept post desk told (Some answer) = clearing_leaves (Changes 
 deciding_by_leaves kept post desk told None = record { hand = filling_hand (alters.with_change kept) kept.taken; right = filling_right (alters.with_change kept) kept.taken; list = refl }
 
 pub deciding_leaves : (kept : ChangeKept) (post : Post) (desk : Desk) (told : List Event) → Leaves (hand_of kept.taken) desk.list (alters.deciding kept post desk told)
-deciding_leaves kept post desk told = deciding_by_leaves kept post desk told (alters.refusal post.layout.config kept.version kept.pairs kept.change)
+deciding_leaves kept post desk told = deciding_by_leaves kept post desk told (alters.refused post.layout.config kept)
 
 pub got_leaves : (key version : ℕ) (value : Option ℕ) (post : Post) (desk : Desk) (told : List Event) → Leaves Empty desk.list (gets.got key version value post desk told)
 got_leaves key version value post desk told = clearing_leaves (Gets key) (Answering (the_answers.Got version value)) post desk (told ++ events.Got (rounds.bucket_of post key) version key value ∷ [])

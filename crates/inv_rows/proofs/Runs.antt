@@ -94,7 +94,7 @@ plain_goes (Protect aim index root steps at) post found h = protect_goes aim ind
 plain_goes (Reload parent index slot era steps) post found h = grind arith
 plain_goes (Clear index) post found h = refl
 plain_goes Finish post found h = refl
-plain_goes Release post found h = refl
+plain_goes (Release index) post found h = refl
 plain_goes (Allocate at) post found h = cc
 plain_goes (Write slot row place) post found h = cc
 plain_goes (GiveUp slot) post found h = cc
@@ -144,7 +144,7 @@ plain_writes (Protect aim index root steps at) post h = protect_writes index roo
 plain_writes (Reload parent index slot era steps) post h = refl
 plain_writes (Clear index) post h = refl
 plain_writes Finish post h = refl
-plain_writes Release post h = refl
+plain_writes (Release index) post h = refl
 plain_writes (Allocate at) post h = cc
 plain_writes (Write slot row place) post h = cc
 plain_writes (GiveUp slot) post h = cc
@@ -178,8 +178,8 @@ plain_leaves (Tidies later) base desk post told (Goes next_base) h g = record { 
 plain_leaves (Tidies later) base desk post told (Ends ending) h g = tidied_leaves later ending post desk told
 plain_leaves Advances base desk post told (Goes next_base) h g = record { hand = refl; right = g; list = refl }
 plain_leaves Advances base desk post told (Ends ending) h g = advanced_leaves ending post desk told
-plain_leaves (Releases key) base desk post told (Goes next_base) h g = record { hand = refl; right = g; list = refl }
-plain_leaves (Releases key) base desk post told (Ends ending) h g = released_leaves key post desk told
+plain_leaves (Releases let_go) base desk post told (Goes next_base) h g = record { hand = refl; right = g; list = refl }
+plain_leaves (Releases let_go) base desk post told (Ends ending) h g = released_leaves let_go post desk told
 plain_leaves why base desk post told outcome h g = cc
 
 -- a row is filled: the task's row, or one that is taken now
@@ -260,7 +260,7 @@ is_filling (Protect aim index root steps at) = false
 is_filling (Reload parent index slot era steps) = false
 is_filling (Clear index) = false
 is_filling Finish = false
-is_filling Release = false
+is_filling (Release index) = false
 is_filling (Allocate at) = true
 is_filling (Write slot row place) = true
 is_filling base = false
@@ -271,7 +271,7 @@ right_fills (Protect aim index root steps at) x h = h
 right_fills (Reload parent index slot era steps) x h = h
 right_fills (Clear index) x h = h
 right_fills Finish x h = h
-right_fills Release x h = h
+right_fills (Release index) x h = h
 right_fills (Allocate at) x h = refl
 right_fills (Write slot row place) x h = refl
 right_fills base x h = h

@@ -83,7 +83,7 @@ plain_row (Protect aim index root steps at) found h = refl
 plain_row (Reload parent index slot era steps) found h = refl
 plain_row (Clear index) found h = refl
 plain_row Finish found h = refl
-plain_row Release found h = refl
+plain_row (Release index) found h = refl
 plain_row (Allocate at) found h = cc
 plain_row (Write slot row place) found h = cc
 plain_row (GiveUp slot) found h = cc
@@ -288,7 +288,7 @@ did_fills slots i mem v task (Protect aim index root steps at) post next desk n 
 did_fills slots i mem v task (Reload parent index slot era steps) post next desk n g w p = absurd (no_truth (only_fills task (Reload parent index slot era steps) p.right))
 did_fills slots i mem v task (Clear index) post next desk n g w p = absurd (no_truth (only_fills task (Clear index) p.right))
 did_fills slots i mem v task Finish post next desk n g w p = absurd (no_truth (only_fills task Finish p.right))
-did_fills slots i mem v task Release post next desk n g w p = absurd (no_truth (only_fills task Release p.right))
+did_fills slots i mem v task (Release index) post next desk n g w p = absurd (no_truth (only_fills task (Release index) p.right))
 did_fills slots i mem v task (GiveUp slot) post next desk n g w p = absurd (no_truth (only_fills task (GiveUp slot) p.right))
 did_fills slots i mem v task (Retire at) post next desk n g w p = absurd (no_truth (only_fills task (Retire at) p.right))
 did_fills slots i mem v task (Move at) post next desk n g w p = absurd (no_truth (only_fills task (Move at) p.right))
@@ -355,7 +355,7 @@ did_gives_up slots i mem v answer (Protect aim index root steps at) post next de
 did_gives_up slots i mem v answer (Reload parent index slot era steps) post next desk g w p = absurd (no_truth p.right)
 did_gives_up slots i mem v answer (Clear index) post next desk g w p = absurd (no_truth p.right)
 did_gives_up slots i mem v answer Finish post next desk g w p = absurd (no_truth p.right)
-did_gives_up slots i mem v answer Release post next desk g w p = absurd (no_truth p.right)
+did_gives_up slots i mem v answer (Release index) post next desk g w p = absurd (no_truth p.right)
 did_gives_up slots i mem v answer (Allocate at) post next desk g w p = absurd (no_truth p.right)
 did_gives_up slots i mem v answer (Write slot row place) post next desk g w p = absurd (no_truth p.right)
 did_gives_up slots i mem v answer (Retire at) post next desk g w p = absurd (no_truth p.right)
@@ -431,7 +431,7 @@ did_retires slots i mem v answer (Protect aim index root steps at) post next des
 did_retires slots i mem v answer (Reload parent index slot era steps) post next desk g w p = absurd (no_truth p.right)
 did_retires slots i mem v answer (Clear index) post next desk g w p = absurd (no_truth p.right)
 did_retires slots i mem v answer Finish post next desk g w p = absurd (no_truth p.right)
-did_retires slots i mem v answer Release post next desk g w p = absurd (no_truth p.right)
+did_retires slots i mem v answer (Release index) post next desk g w p = absurd (no_truth p.right)
 did_retires slots i mem v answer (Allocate at) post next desk g w p = absurd (no_truth p.right)
 did_retires slots i mem v answer (Write slot row place) post next desk g w p = absurd (no_truth p.right)
 did_retires slots i mem v answer (GiveUp slot) post next desk g w p = absurd (no_truth p.right)

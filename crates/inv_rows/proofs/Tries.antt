@@ -205,7 +205,7 @@ base_out wanted mem upto (Protect Follows index root steps at) post P t d a = ab
 base_out wanted mem upto (Reload parent index slot era steps) post P t d a = absurd (no_truth t.right)
 base_out wanted mem upto (Clear index) post P t d a = absurd (no_truth t.right)
 base_out wanted mem upto Finish post P t d a = absurd (no_truth t.right)
-base_out wanted mem upto Release post P t d a = absurd (no_truth t.right)
+base_out wanted mem upto (Release index) post P t d a = absurd (no_truth t.right)
 base_out wanted mem upto (Allocate at) post P t d a = absurd (no_truth t.right)
 base_out wanted mem upto (Write slot row place) post P t d a = absurd (no_truth t.right)
 base_out wanted mem upto (GiveUp slot) post P t d a = absurd (no_truth t.right)
@@ -239,7 +239,7 @@ start_tries wanted clock upto (Protect Follows index root steps at) P h = absurd
 start_tries wanted clock upto (Reload parent index slot era steps) P h = absurd (no_truth h)
 start_tries wanted clock upto (Clear index) P h = absurd (no_truth h)
 start_tries wanted clock upto Finish P h = absurd (no_truth h)
-start_tries wanted clock upto Release P h = absurd (no_truth h)
+start_tries wanted clock upto (Release index) P h = absurd (no_truth h)
 start_tries wanted clock upto (Allocate at) P h = absurd (no_truth h)
 start_tries wanted clock upto (Write slot row place) P h = absurd (no_truth h)
 start_tries wanted clock upto (GiveUp slot) P h = absurd (no_truth h)
@@ -264,7 +264,7 @@ quiet_tries (Runs (GivesUp answer) base) clock upto q l head h = tt
 quiet_tries (Runs (Retires answer) base) clock upto q l head h = tt
 quiet_tries (Runs (Tidies later) base) clock upto q l head h = tt
 quiet_tries (Runs Advances base) clock upto q l head h = tt
-quiet_tries (Runs (Releases key) base) clock upto q l head h = tt
+quiet_tries (Runs (Releases let_go) base) clock upto q l head h = tt
 
 -- the clock only rises, so a try whose era is the clock was one before
 at_back : (at : ProtectAt) (clock now upto s : ℕ) → at_era upto at ≤ clock → clock ≤ now → at_tries now upto at s ≡ true → at_tries clock upto at s ≡ true
@@ -321,4 +321,4 @@ others_tries (Runs (GivesUp answer) base) clock now upto q q2 l l2 head h2 e f k
 others_tries (Runs (Retires answer) base) clock now upto q q2 l l2 head h2 e f k t = tt
 others_tries (Runs (Tidies later) base) clock now upto q q2 l l2 head h2 e f k t = tt
 others_tries (Runs Advances base) clock now upto q q2 l l2 head h2 e f k t = tt
-others_tries (Runs (Releases key) base) clock now upto q q2 l l2 head h2 e f k t = tt
+others_tries (Runs (Releases let_go) base) clock now upto q q2 l l2 head h2 e f k t = tt

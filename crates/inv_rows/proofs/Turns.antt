@@ -15,13 +15,16 @@ use Rattle.wfe_core.specs.declared.post.Post.{Post}
 use Rattle.wfe_core.specs.Desks.{Desk}
 use Rattle.wfe_core.specs.Phases.{Ending, Ending as endings}
 use Rattle.wfe_core.specs.Phases.Ending.{Done, Protected, Followed, Allocated, Clocked}
-use Rattle.wfe_core.specs.Rounds.{taken_of}
+use Rattle.wfe_core.specs.Rounds.{let_index, scheme_of, taken_of}
 use Rattle.wfe_core.specs.Change as alters
 use Rattle.wfe_core.specs.Enqueue as enqueues
 use Rattle.wfe_core.specs.Dequeue as dequeues
 use Rattle.wfe_core.specs.Scan as scan
+use Rattle.wfe_core.specs.Keep as keeps
+use Rattle.wfe_core.specs.Posts.{cleared, reserves_index, stands, withdrawn}
+use Rattle.wfe_core.specs.words.Schemes.{has_one_interval}
 use Rattle.wfe_core.specs.Steps as steps
-use Rattle.wfe_core.specs.Calls.{ChangeKept, EnqueueKept, Task, Gets, Changes, Holds, Enqueues, Dequeues, Again, Answering, Retiring, AfterScan, Answered, Repeated, Counted, GiveBack}
+use Rattle.wfe_core.specs.Calls.{ChangeKept, EnqueueKept, Task, Gets, Changes, Holds, Enqueues, Dequeues, Again, Answering, Retiring, AfterScan, Answered, Repeated, Counted, GiveBack, LetGo, Released, Rehold, Dropped, GetAt, FindVersion, FindCount, FindKey, FindValue, KeepAt, Loosens, LoadHeld, StoreHeld, Looks, Misses}
 use Rattle.inv_rows.specs.Rows.Hand.{Empty, Old}
 use Rattle.inv_rows.specs.Hands.{hand_of, hand_task, hand_next, hand_later, Leaves, stands_at}
 use Rattle.std.specs.List.{remove}
@@ -198,6 +201,38 @@ advanced_leaves (Followed end) post desk told = record { hand = refl; right = re
 advanced_leaves (Allocated end) post desk told = record { hand = refl; right = refl; list = refl }
 advanced_leaves (endings.Retired life) post desk told = record { hand = refl; right = refl; list = refl }
 
-pub released_leaves : (key : Option ℕ) (post : Post) (desk : Desk) (told : List Event) → Leaves Empty desk.list (steps.released key post desk told)
-released_leaves None post desk told = record { hand = refl; right = refl; list = refl }
-released_leaves (Some key) post desk told = record { hand = round_hand (Holds key) post; right = round_right (Holds key) post desk.list; list = refl }
+pub released_leaves : (let_go : LetGo) (post : Post) (desk : Desk) (told : List Event) → Leaves Empty desk.list (keeps.released let_go post desk told)
+released_leaves Released post desk told = record { hand = refl; right = refl; list = refl }
+released_leaves (Dropped index) post desk told = record { hand = refl; right = refl; list = refl }
+released_leaves (Rehold key) post desk told = record { hand = round_hand (Holds key) post; right = round_right (Holds key) post desk.list; list = refl }
+
+-- calls on what is kept
+copied_leaves : (from index : ℕ) (post : Post) (desk : Desk) (reserved : List Event) (x : Option ℕ) → Leaves Empty desk.list (keeps.copied from index post desk reserved x)
+copied_leaves from index post desk reserved None = record { hand = refl; right = refl; list = refl }
+copied_leaves from index post desk reserved (Some slot) = record { hand = refl; right = refl; list = refl }
+
+load_held_leaves : (from index : ℕ) (post : Post) (desk : Desk) (found : ℕ) (one : Bool) → Leaves Empty desk.list (keeps.load_held from index post desk found one)
+load_held_leaves from index post desk found true = copied_leaves from index post desk [] (stands post from)
+load_held_leaves from index post desk found false = record { hand = refl; right = refl; list = refl }
+
+looking_leaves : (index key slot version count : ℕ) (post : Post) (desk : Desk) (more : Bool) (pair : ℕ) → Leaves Empty desk.list (keeps.looking index key slot version count post desk more pair)
+looking_leaves index key slot version count post desk true pair = record { hand = refl; right = refl; list = refl }
+looking_leaves index key slot version count post desk false pair = record { hand = refl; right = refl; list = refl }
+
+looked_key_leaves : (index key slot version count pair : ℕ) (post : Post) (desk : Desk) (own : Bool) → Leaves Empty desk.list (keeps.looked_key index key slot version count pair post desk own)
+looked_key_leaves index key slot version count pair post desk true = record { hand = refl; right = refl; list = refl }
+looked_key_leaves index key slot version count pair post desk false = looking_leaves index key slot version count post desk (nat_lt (pair + 1) count) (pair + 1)
+
+look_leaves : (index key : ℕ) (at : GetAt) (post : Post) (desk : Desk) (found : ℕ) → Leaves Empty desk.list (keeps.look_turn index key at post desk found)
+look_leaves index key (FindVersion slot) post desk found = record { hand = refl; right = refl; list = refl }
+look_leaves index key (FindCount slot version) post desk found = looking_leaves index key slot version found post desk (nat_lt 0 found) 0
+look_leaves index key (FindKey slot version count pair) post desk found = looked_key_leaves index key slot version count pair post desk (found == key)
+look_leaves index key (FindValue slot version pair) post desk found = record { hand = refl; right = refl; list = refl }
+
+pub keep_leaves : (at : KeepAt) (post : Post) (desk : Desk) (found : ℕ) → Leaves Empty desk.list (keeps.keep_turn at post desk found)
+keep_leaves (Loosens let_go) post desk found =
+    released_leaves let_go (withdrawn post (let_index let_go)) desk (cleared (let_index let_go) (stands post (let_index let_go)))
+keep_leaves (LoadHeld from index) post desk found = load_held_leaves from index post desk found (has_one_interval (scheme_of post))
+keep_leaves (StoreHeld from index era) post desk found = copied_leaves from index post desk (reserves_index post index era) (stands post from)
+keep_leaves (Looks index key at) post desk found = look_leaves index key at post desk found
+keep_leaves (Misses index) post desk found = record { hand = refl; right = refl; list = refl }

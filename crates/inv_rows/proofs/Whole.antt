@@ -68,7 +68,7 @@ open_new T mem i v (Protect aim index root steps at) post found wanted h x = let
 open_new T mem i v (Reload parent index slot era steps) post found wanted h x = absurd (no_truth h)
 open_new T mem i v (Clear index) post found wanted h x = absurd (no_truth h)
 open_new T mem i v Finish post found wanted h x = absurd (no_truth h)
-open_new T mem i v Release post found wanted h x = absurd (no_truth h)
+open_new T mem i v (Release index) post found wanted h x = absurd (no_truth h)
 open_new T mem i v (Allocate at) post found wanted h x = absurd (no_truth h)
 open_new T mem i v (Write slot row place) post found wanted h x = absurd (no_truth h)
 open_new T mem i v (GiveUp slot) post found wanted h x = absurd (no_truth h)
@@ -155,7 +155,7 @@ run_new w i v l (GivesUp answer) base upto found n b e = tt
 run_new w i v l (Retires answer) base upto found n b e = tt
 run_new w i v l (Tidies later) base upto found n b e = tt
 run_new w i v l Advances base upto found n b e = tt
-run_new w i v l (Releases key) base upto found n b e = tt
+run_new w i v l (Releases let_go) base upto found n b e = tt
 
 own_new : (w : World) (i : ℕ) (v : View) (l : Line) (phase : Phase) (upto found : ℕ) → WholeNeeds w i v l → Whole w v l → (w.seat i).phase ≡ phase → NewTries (phase_turn phase (counted (w.seat i).post) (w.seat i).desk (finds w i)) (written w.mem (phase_move phase (w.seat i).post) Clock) upto (queue_of (made i v (row_move phase (w.seat i).post found))) (moved_line l (line_move phase found)) (made i v (row_move phase (w.seat i).post found)).head
 own_new w i v l Idle upto found n b e = tt

@@ -6,10 +6,11 @@ use Rattle.wfe_core.specs.defs.declared.lifetime.Lifetime.{Lifetime}
 use Rattle.wfe_core.specs.declared.post.Post.{Post}
 use Rattle.wfe_core.specs.Phases.{Base}
 use Rattle.wfe_core.specs.Get as gets
+use Rattle.wfe_core.specs.Keep as keeps
 use Rattle.wfe_core.specs.Change as alters
 use Rattle.wfe_core.specs.Enqueue as enqueues
 use Rattle.wfe_core.specs.Dequeue as dequeues
-use Rattle.wfe_core.specs.Calls.{ChangeKept, EnqueueKept, Why, Opens, FollowsHead, Fills, ClearsNext, Clears, Finishes, GivesUp, Retires, Tidies, Advances, Releases, ReadGuard, GiveBack, GetAt, FindVersion, FindCount, FindKey, FindValue, ChangeAt, LoadVersion, LoadCount, LoadKey, LoadValue, ExchangeRoot, EnqueueAt, LoadNumber, LoadNext, PassTail, ExchangeNext, ExchangeTail, DequeueAt, LoadTail, SwingTail, TakeNumber, TakeValue, ExchangeHead, Getting, Changing, Enqueuing, Dequeuing, Phase, Idle, Runs, Scans, Works}
+use Rattle.wfe_core.specs.Calls.{ChangeKept, EnqueueKept, Why, Opens, FollowsHead, Fills, ClearsNext, Clears, Finishes, GivesUp, Retires, Tidies, Advances, Releases, ReadGuard, GiveBack, GetAt, FindVersion, FindCount, FindKey, FindValue, ChangeAt, LoadVersion, LoadCount, LoadKey, LoadValue, ExchangeRoot, EnqueueAt, LoadNumber, LoadNext, PassTail, ExchangeNext, ExchangeTail, DequeueAt, LoadTail, SwingTail, TakeNumber, TakeValue, ExchangeHead, Getting, Changing, Enqueuing, Dequeuing, Phase, Idle, Runs, Scans, Works, KeepAt, Loosens, LoadHeld, StoreHeld, Looks, Misses, Keeping}
 use Rattle.inv_rows.specs.Rows.Hand.{Taken}
 use Rattle.wfe_core.specs.words.Place.{Place, same}
 use Rattle.wfe_core.specs.words.Place.Place.{Clock, Bucket, Head, Tail, Claim, Life, Row, Helper, Index, Interval, Request, PlaceOf}
@@ -71,14 +72,14 @@ base_stays slots i mem v (GivesUp answer) (Write slot row place) post list s p t
 base_stays slots i mem v (Retires answer) (Write slot row place) post list s p true e g l n = absurd (no_truth l.right)
 base_stays slots i mem v (Tidies later) (Write slot row place) post list s p true e g l n = absurd (no_truth l.right)
 base_stays slots i mem v Advances (Write slot row place) post list s p true e g l n = absurd (no_truth l.right)
-base_stays slots i mem v (Releases key) (Write slot row place) post list s p true e g l n = absurd (no_truth l.right)
+base_stays slots i mem v (Releases let_go) (Write slot row place) post list s p true e g l n = absurd (no_truth l.right)
 base_stays slots i mem v (Fills task) (Write slot row place) post list s p true e g l n = put_other mem (Row slot place) (Row s p) (row_word row place) (write_apart slots i v slot s p place (s == slot) refl g l.hand n)
 base_stays slots i mem v why (Begin at) post list s p true e g l n = absurd (no_truth e)
 base_stays slots i mem v why (Protect aim index root steps at) post list s p true e g l n = absurd (no_truth e)
 base_stays slots i mem v why (Reload parent index slot era steps) post list s p true e g l n = absurd (no_truth e)
 base_stays slots i mem v why (Clear index) post list s p true e g l n = absurd (no_truth e)
 base_stays slots i mem v why Finish post list s p true e g l n = absurd (no_truth e)
-base_stays slots i mem v why Release post list s p true e g l n = absurd (no_truth e)
+base_stays slots i mem v why (Release index) post list s p true e g l n = absurd (no_truth e)
 base_stays slots i mem v why (Allocate at) post list s p true e g l n = absurd (no_truth e)
 base_stays slots i mem v why (GiveUp slot) post list s p true e g l n = absurd (no_truth e)
 base_stays slots i mem v why (Retire at) post list s p true e g l n = absurd (no_truth e)
@@ -89,6 +90,13 @@ get_stays mem (FindVersion slot) s p = refl
 get_stays mem (FindCount slot version) s p = refl
 get_stays mem (FindKey slot version count pair) s p = refl
 get_stays mem (FindValue slot version pair) s p = refl
+
+pub keep_stays : (mem : Place → ℕ) (at : KeepAt) (post : Post) (s p : ℕ) → written mem (keeps.keep_move at post) (Row s p) ≡ mem (Row s p)
+keep_stays mem (Loosens let_go) post s p = refl
+keep_stays mem (LoadHeld from index) post s p = refl
+keep_stays mem (StoreHeld from index era) post s p = refl
+keep_stays mem (Looks index key at) post s p = get_stays mem at s p
+keep_stays mem (Misses index) post s p = refl
 
 pub change_stays : (mem : Place → ℕ) (kept : ChangeKept) (at : ChangeAt) (post : Post) (s p : ℕ) → written mem (alters.change_move kept at post) (Row s p) ≡ mem (Row s p)
 change_stays mem kept (LoadVersion slot) post s p = refl
@@ -123,6 +131,7 @@ phase_stays slots i mem v (Works (Getting key at)) post list s p g l h n = get_s
 phase_stays slots i mem v (Works (Changing kept at)) post list s p g l h n = change_stays mem kept at post s p
 phase_stays slots i mem v (Works (Enqueuing kept at)) post list s p g l h n = enqueue_stays mem kept at s p h
 phase_stays slots i mem v (Works (Dequeuing at)) post list s p g l h n = dequeue_stays mem at s p
+phase_stays slots i mem v (Works (Keeping at)) post list s p g l h n = keep_stays mem at post s p
 
 pub row_words_stay : RowWordsStay
 row_words_stay w i v s place a h n = phase_stays w.layout.config.slots i w.mem v (w.seat i).phase (w.seat i).post (w.seat i).desk.list s place a.good (a.plays i) h n

@@ -12,7 +12,7 @@ use Rattle.wfe_core.specs.Phases.{AllocateAt, RetireAt, Base}
 use Rattle.wfe_core.specs.Phases.AllocateAt.{LoadBirth, ClaimSlot, StoreLife}
 use Rattle.wfe_core.specs.Phases.RetireAt.{LoadLife, LoadRetire, StoreRetired}
 use Rattle.wfe_core.specs.Phases.Base.{Begin, Protect, Reload, Clear, Finish, Release, Allocate, Write, GiveUp, Retire, Move}
-use Rattle.wfe_core.specs.Calls.{ChangeKept, Task, Gets, Changes, Holds, Enqueues, Dequeues, Next, Again, MakeRoom, Answering, Retiring, AfterScan, Answered, Repeated, Counted, Why, Opens, FollowsHead, Fills, ClearsNext, Clears, Finishes, GivesUp, Retires, Tidies, Advances, Releases, ScanAt, ReadGuard, GiveBack, ChangeAt, LoadVersion, LoadCount, LoadKey, LoadValue, ExchangeRoot, EnqueueAt, LoadNumber, LoadNext, PassTail, ExchangeNext, ExchangeTail, DequeueAt, LoadTail, SwingTail, TakeNumber, TakeValue, ExchangeHead, Work, Getting, Changing, Enqueuing, Dequeuing, Phase, Idle, Runs, Scans, Works, CallTurn, CallOutcome, GoesOn}
+use Rattle.wfe_core.specs.Calls.{ChangeKept, Task, Gets, Changes, Holds, Enqueues, Dequeues, Next, Again, MakeRoom, Answering, Retiring, AfterScan, Answered, Repeated, Counted, Why, Opens, FollowsHead, Fills, ClearsNext, Clears, Finishes, GivesUp, Retires, Tidies, Advances, Releases, ScanAt, ReadGuard, GiveBack, ChangeAt, LoadVersion, LoadCount, LoadKey, LoadValue, ExchangeRoot, EnqueueAt, LoadNumber, LoadNext, PassTail, ExchangeNext, ExchangeTail, DequeueAt, LoadTail, SwingTail, TakeNumber, TakeValue, ExchangeHead, Work, Getting, Changing, Enqueuing, Dequeuing, Phase, Idle, Runs, Scans, Works, CallTurn, CallOutcome, GoesOn, Keeping}
 use Rattle.wfe_core.specs.Calls as calls
 use Rattle.inv_rows.specs.Rows.{Hand, RowMove}
 use Rattle.inv_rows.specs.Rows.Hand.{Empty, New, Taken, Old, Known, Dated}
@@ -50,7 +50,7 @@ hand_base (Protect aim index root steps at) = Empty
 hand_base (Reload parent index slot era steps) = Empty
 hand_base (Clear index) = Empty
 hand_base Finish = Empty
-hand_base Release = Empty
+hand_base (Release index) = Empty
 hand_base (Allocate at) = hand_allocate at
 hand_base (Write slot row place) = Taken slot
 hand_base (GiveUp slot) = Taken slot
@@ -74,13 +74,14 @@ hand_why (GivesUp answer) base = hand_base base
 hand_why (Retires answer) base = hand_base base
 hand_why (Tidies later) base = hand_later later
 hand_why Advances base = Empty
-hand_why (Releases key) base = Empty
+hand_why (Releases let_go) base = Empty
 
 abbrev pub hand_work : Work → Hand
 hand_work (Getting key at) = Empty
 hand_work (Changing kept at) = hand_of kept.taken
 hand_work (Enqueuing kept at) = hand_of kept.taken
 hand_work (Dequeuing at) = Empty
+hand_work (Keeping at) = Empty
 
 -- what a seat has in hand
 abbrev pub hand_in : Phase → Hand
@@ -121,7 +122,7 @@ is_plain (Protect aim index root steps at) = true
 is_plain (Reload parent index slot era steps) = true
 is_plain (Clear index) = true
 is_plain Finish = true
-is_plain Release = true
+is_plain (Release index) = true
 is_plain (Allocate at) = false
 is_plain (Write slot row place) = false
 is_plain (GiveUp slot) = false
@@ -143,7 +144,7 @@ fills_right (Protect aim index root steps at) taken = false
 fills_right (Reload parent index slot era steps) taken = false
 fills_right (Clear index) taken = false
 fills_right Finish taken = false
-fills_right Release taken = false
+fills_right (Release index) taken = false
 fills_right (Allocate at) taken = holds_none taken
 fills_right (Write slot row place) taken = holds_slot taken slot
 fills_right base taken = false
@@ -162,7 +163,7 @@ is_giving_up (Protect aim index root steps at) = false
 is_giving_up (Reload parent index slot era steps) = false
 is_giving_up (Clear index) = false
 is_giving_up Finish = false
-is_giving_up Release = false
+is_giving_up (Release index) = false
 is_giving_up (Allocate at) = false
 is_giving_up (Write slot row place) = false
 is_giving_up (GiveUp slot) = true
@@ -175,7 +176,7 @@ is_retiring (Protect aim index root steps at) = false
 is_retiring (Reload parent index slot era steps) = false
 is_retiring (Clear index) = false
 is_retiring Finish = false
-is_retiring Release = false
+is_retiring (Release index) = false
 is_retiring (Allocate at) = false
 is_retiring (Write slot row place) = false
 is_retiring (GiveUp slot) = false
@@ -194,7 +195,7 @@ runs_right (GivesUp answer) base = is_giving_up base
 runs_right (Retires answer) base = is_retiring base
 runs_right (Tidies later) base = is_plain base
 runs_right Advances base = is_plain base
-runs_right (Releases key) base = is_plain base
+runs_right (Releases let_go) base = is_plain base
 
 -- the row that is linked is the one taken
 abbrev pub change_right : ChangeAt → Option ℕ → Bool
@@ -216,6 +217,7 @@ works_right (Getting key at) = true
 works_right (Changing kept at) = change_right at kept.taken
 works_right (Enqueuing kept at) = enqueue_right at kept.taken
 works_right (Dequeuing at) = true
+works_right (Keeping at) = true
 
 -- a scan gives back the entry at its place
 abbrev pub scans_right : ScanAt → List Lifetime → Bool
@@ -250,7 +252,7 @@ base_row (Protect aim index root steps at) found = Stays
 base_row (Reload parent index slot era steps) found = Stays
 base_row (Clear index) found = Stays
 base_row Finish found = Stays
-base_row Release found = Stays
+base_row (Release index) found = Stays
 base_row (Allocate at) found = allocate_row at found
 base_row (Write slot row place) found = Stays
 base_row (GiveUp slot) found = Drops slot
@@ -291,6 +293,7 @@ work_row (Getting key at) post found = Stays
 work_row (Changing kept at) post found = change_row kept at post found
 work_row (Enqueuing kept at) post found = enqueue_row at found
 work_row (Dequeuing at) post found = dequeue_row at found
+work_row (Keeping at) post found = Stays
 
 -- the move of rows that a step of a seat makes which found this
 abbrev pub row_move : Phase → Post → ℕ → RowMove

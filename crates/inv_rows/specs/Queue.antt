@@ -4,7 +4,7 @@ use Rattle.std.specs.Prelude.{ℕ, ◌≡◌, ◌≤◌, ◌<◌, ◌+◌, ◌==
 use Rattle.wfe_core.specs.Memory.{upd}
 use Rattle.wfe_core.specs.Phases.{RowOf, MapRow, QueueRow, Base}
 use Rattle.wfe_core.specs.Phases.Base.{Begin, Protect, Reload, Clear, Finish, Release, Allocate, Write}
-use Rattle.wfe_core.specs.Calls.{EnqueueKept, Task, Gets, Changes, Holds, Enqueues, Dequeues, Why, Opens, FollowsHead, Fills, ScanAt, ReadGuard, GiveBack, EnqueueAt, LoadNumber, LoadNext, PassTail, ExchangeNext, ExchangeTail, DequeueAt, LoadTail, SwingTail, TakeNumber, TakeValue, ExchangeHead, Work, Getting, Changing, Enqueuing, Dequeuing, Phase, Idle, Runs, Scans, Works}
+use Rattle.wfe_core.specs.Calls.{EnqueueKept, Task, Gets, Changes, Holds, Enqueues, Dequeues, Why, Opens, FollowsHead, Fills, ScanAt, ReadGuard, GiveBack, EnqueueAt, LoadNumber, LoadNext, PassTail, ExchangeNext, ExchangeTail, DequeueAt, LoadTail, SwingTail, TakeNumber, TakeValue, ExchangeHead, Work, Getting, Changing, Enqueuing, Dequeuing, Phase, Idle, Runs, Scans, Works, Keeping}
 use Rattle.inv_rows.specs.Follow.{Loads}
 use Rattle.inv_rows.specs.Rows.{Status}
 use Rattle.inv_rows.specs.Rows.Status.{Free, Claimed, Born, Linked, InQueue, Cut, Sealed, Listed}
@@ -74,6 +74,7 @@ work_stands (Getting key at) h = false
 work_stands (Changing kept at) h = false
 work_stands (Enqueuing kept at) h = kept.tail == h
 work_stands (Dequeuing at) h = head_of at == h
+work_stands (Keeping at) h = false
 
 -- the call works on the queue's row h, which it found at the tail or at the head
 abbrev pub stands_on : Phase → ℕ → Bool
@@ -92,6 +93,7 @@ work_heads (Getting key at) h = false
 work_heads (Changing kept at) h = false
 work_heads (Enqueuing kept at) h = false
 work_heads (Dequeuing at) h = head_of at == h
+work_heads (Keeping at) h = false
 
 -- it found it at the head
 abbrev pub heads_on : Phase → ℕ → Bool
@@ -119,6 +121,7 @@ work_follows (Getting key at) h link = false
 work_follows (Changing kept at) h link = false
 work_follows (Enqueuing kept at) h link = enqueue_follows kept at h link
 work_follows (Dequeuing at) h link = dequeue_follows at h link
+work_follows (Keeping at) h link = false
 
 -- it has found this link after the row h, not null
 abbrev pub follows_in : Phase → ℕ → ℕ → Bool
@@ -144,6 +147,7 @@ work_leads (Getting key at) h = false
 work_leads (Changing kept at) h = false
 work_leads (Enqueuing kept at) h = false
 work_leads (Dequeuing at) h = dequeue_leads at h
+work_leads (Keeping at) h = false
 
 -- it has found the tail past the row h
 abbrev pub leads_in : Phase → ℕ → Bool
@@ -158,7 +162,7 @@ base_blanks (Protect aim index root steps at) s = false
 base_blanks (Reload parent index slot era steps) s = false
 base_blanks (Clear index) s = false
 base_blanks Finish s = false
-base_blanks Release s = false
+base_blanks (Release index) s = false
 base_blanks (Allocate at) s = false
 base_blanks (Write slot row place) s = slot == s && not (place == 0)
 base_blanks base s = false
@@ -188,6 +192,7 @@ work_blanks (Getting key at) s = false
 work_blanks (Changing kept at) s = false
 work_blanks (Enqueuing kept at) s = enqueue_blanks at s
 work_blanks (Dequeuing at) s = false
+work_blanks (Keeping at) s = false
 
 -- it has stored the null link of its own row s
 abbrev pub blanks_in : Phase → ℕ → Bool
@@ -206,7 +211,7 @@ base_items (Protect aim index root steps at) = true
 base_items (Reload parent index slot era steps) = true
 base_items (Clear index) = true
 base_items Finish = true
-base_items Release = true
+base_items (Release index) = true
 base_items (Allocate at) = true
 base_items (Write slot row place) = is_item row
 base_items base = true
@@ -264,6 +269,7 @@ work_line (Getting key at) found = Keeps
 work_line (Changing kept at) found = Keeps
 work_line (Enqueuing kept at) found = enqueue_line kept at found
 work_line (Dequeuing at) found = Keeps
+work_line (Keeping at) found = Keeps
 
 abbrev pub line_move : Phase → ℕ → LineMove
 line_move Idle found = Keeps

@@ -1,5 +1,5 @@
 -- How many rows go back in each turn of a seat.
-use Rattle.std.proofs.Common.{ℕ, ◌≡◌, ◌≤◌, ◌+◌, ◌-◌, Bool, true, false, List, [], ◌∷◌, ◌++◌, length, Option, Some, None, refl, arith, length-append, ◌<◌}
+use Rattle.std.proofs.Common.{ℕ, ◌≡◌, ◌≤◌, ◌+◌, ◌-◌, Bool, true, false, List, [], ◌∷◌, ◌++◌, length, Option, Some, None, refl, ◌∙◌, arith, length-append, ◌<◌}
 use Rattle.std.proofs.lemmas.List.Edits.{length-remove}
 use Rattle.std.specs.Prelude.{◌==◌, ◌%◌, nat_lt, if◌then◌else◌}
 use Rattle.wfe_core.specs.defs.Shown.{Seen}
@@ -21,17 +21,19 @@ use Rattle.wfe_core.specs.declared.ends.ProtectEnd.TheVariants as protect_ends
 use Rattle.wfe_core.specs.declared.post.Post.{Post}
 use Rattle.wfe_core.specs.Desks.{Desk, with_life}
 use Rattle.wfe_core.specs.Guards.{guards, guard_at, eras_in, published}
-use Rattle.wfe_core.specs.Posts.{stands, cleared}
+use Rattle.wfe_core.specs.Posts.{stands, cleared, reserves_index, withdrawn}
+use Rattle.wfe_core.specs.words.Schemes.{has_one_interval}
 use Rattle.wfe_core.specs.Phases.{Ending, Base}
 use Rattle.wfe_core.specs.Phases.Ending.{Done, Protected, Followed, Allocated, Retired, Clocked}
-use Rattle.wfe_core.specs.Rounds.{scheme_of, bucket_of, index_of, taken_of, finish_base, clear_base, clear_post, clear_told, given_up, closed, finishing_by, finishing, clearing_by, clearing, clearing_next_by, clearing_next}
+use Rattle.wfe_core.specs.Rounds.{scheme_of, bucket_of, let_index, index_of, taken_of, finish_base, clear_base, clear_post, clear_told, given_up, closed, finishing_by, finishing, clearing_by, clearing, clearing_next_by, clearing_next}
 use Rattle.wfe_core.specs.Get as gets
 use Rattle.wfe_core.specs.Change as alters
 use Rattle.wfe_core.specs.Enqueue as enqueues
 use Rattle.wfe_core.specs.Dequeue as dequeues
+use Rattle.wfe_core.specs.Keep as keeps
 use Rattle.wfe_core.specs.Scan as scan
 use Rattle.wfe_core.specs.Steps as steps
-use Rattle.wfe_core.specs.Calls.{Task, Gets, Changes, Holds, Enqueues, Dequeues, Again, Answering, Retiring, AfterScan, Answered, Repeated, Counted, ChangeKept, EnqueueKept, GetAt, FindVersion, FindCount, FindKey, FindValue, ChangeAt, LoadVersion, LoadCount, LoadKey, LoadValue, ExchangeRoot, EnqueueAt, LoadNumber, LoadNext, PassTail, ExchangeNext, ExchangeTail, DequeueAt, LoadTail, SwingTail, TakeNumber, TakeValue, ExchangeHead, Work, Getting, Changing, Enqueuing, Dequeuing, ScanAt, ReadGuard, GiveBack, Why, Opens, FollowsHead, Fills, ClearsNext, Clears, Finishes, GivesUp, Retires, Tidies, Advances, Releases, Next, MakeRoom, CallTurn}
+use Rattle.wfe_core.specs.Calls.{Task, Gets, Changes, Holds, Enqueues, Dequeues, Again, Answering, Retiring, AfterScan, Answered, Repeated, Counted, ChangeKept, EnqueueKept, GetAt, FindVersion, FindCount, FindKey, FindValue, ChangeAt, LoadVersion, LoadCount, LoadKey, LoadValue, ExchangeRoot, EnqueueAt, LoadNumber, LoadNext, PassTail, ExchangeNext, ExchangeTail, DequeueAt, LoadTail, SwingTail, TakeNumber, TakeValue, ExchangeHead, Work, Getting, Changing, Enqueuing, Dequeuing, LetGo, Released, Rehold, Dropped, KeepAt, Loosens, LoadHeld, StoreHeld, Looks, Misses, Keeping, ScanAt, ReadGuard, GiveBack, Why, Opens, FollowsHead, Fills, ClearsNext, Clears, Finishes, GivesUp, Retires, Tidies, Advances, Releases, Next, MakeRoom, CallTurn}
 use Rattle.wfe_core.specs.defs.declared.event.Root.{Root}
 use Rattle.inv_shapes.specs.Frame.{phase_left}
 use Rattle.inv_shapes.specs.Noted.{backs, size, later_more, why_more, more}
@@ -116,7 +118,7 @@ deciding_by_counts b kept post desk told (Some answer) h = clearing_counts b (Ch
 deciding_by_counts b kept post desk told None h = omega arith
 
 deciding_counts : (b : ℕ) (kept : ChangeKept) (post : Post) (desk : Desk) (told : List Event) → backs told + size desk ≤ b → Counts b (alters.deciding kept post desk told)
-deciding_counts b kept post desk told h = deciding_by_counts b kept post desk told (alters.refusal post.layout.config kept.version kept.pairs kept.change) h
+deciding_counts b kept post desk told h = deciding_by_counts b kept post desk told (alters.refused post.layout.config kept) h
 
 reading_counts : (b : ℕ) (kept : ChangeKept) (slot count : ℕ) (post : Post) (desk : Desk) (on : Bool) → size desk ≤ b → Counts b (alters.reading kept slot count post desk on)
 reading_counts b kept slot count post desk true h = omega arith
@@ -198,12 +200,54 @@ dequeue_counts b (TakeNumber head next) post desk found h = omega arith
 dequeue_counts b (TakeValue head next number) post desk found h = omega arith
 dequeue_counts b (ExchangeHead head next number value) post desk found h = taken_counts b head next number value post desk (found == head + 1) h
 
+-- a call on what is kept
+released_counts : (b : ℕ) (let_go : LetGo) (post : Post) (desk : Desk) (told : List Event) → backs told + size desk ≤ b → Counts b (keeps.released let_go post desk told)
+released_counts b Released post desk told h = omega arith
+released_counts b (Rehold key) post desk told h = omega arith
+released_counts b (Dropped index) post desk told h = omega arith
+
+quiet_copied : (from index slot : ℕ) (reserved : List Event) (x : Option ℕ) → backs reserved ≡ 0 → backs (cleared index x ++ reserved ++ events.Copied from index slot ∷ []) ≡ 0
+quiet_copied from index slot reserved x r =
+    quiet_along (cleared index x ++ reserved) (events.Copied from index slot ∷ []) refl ∙ quiet_along (cleared index x) reserved r ∙ quiet_cleared index x
+
+copied_counts : (b from index : ℕ) (post : Post) (desk : Desk) (reserved : List Event) (x : Option ℕ) → backs reserved ≡ 0 → size desk ≤ b → Counts b (keeps.copied from index post desk reserved x)
+copied_counts b from index post desk reserved None r h = omega arith
+copied_counts b from index post desk reserved (Some slot) r h =
+    let e : backs (keeps.copied from index post desk reserved (Some slot)).told ≡ 0 = quiet_copied from index slot reserved (stands post index) r in omega arith
+
+load_held_counts : (b from index : ℕ) (post : Post) (desk : Desk) (found : ℕ) (one : Bool) → size desk ≤ b → Counts b (keeps.load_held from index post desk found one)
+load_held_counts b from index post desk found true h = copied_counts b from index post desk [] (stands post from) refl h
+load_held_counts b from index post desk found false h = omega arith
+
+looking_counts : (b index key slot version count : ℕ) (post : Post) (desk : Desk) (on : Bool) (pair : ℕ) → size desk ≤ b → Counts b (keeps.looking index key slot version count post desk on pair)
+looking_counts b index key slot version count post desk true pair h = omega arith
+looking_counts b index key slot version count post desk false pair h = omega arith
+
+looked_key_counts : (b index key slot version count pair : ℕ) (post : Post) (desk : Desk) (own : Bool) → size desk ≤ b → Counts b (keeps.looked_key index key slot version count pair post desk own)
+looked_key_counts b index key slot version count pair post desk true h = omega arith
+looked_key_counts b index key slot version count pair post desk false h = looking_counts b index key slot version count post desk (nat_lt (pair + 1) count) (pair + 1) h
+
+look_counts : (b index key : ℕ) (at : GetAt) (post : Post) (desk : Desk) (found : ℕ) → size desk ≤ b → Counts b (keeps.look_turn index key at post desk found)
+look_counts b index key (FindVersion slot) post desk found h = omega arith
+look_counts b index key (FindCount slot version) post desk found h = looking_counts b index key slot version found post desk (nat_lt 0 found) 0 h
+look_counts b index key (FindKey slot version count pair) post desk found h = looked_key_counts b index key slot version count pair post desk (found == key) h
+look_counts b index key (FindValue slot version pair) post desk found h = omega arith
+
+keep_counts : (b : ℕ) (at : KeepAt) (post : Post) (desk : Desk) (found : ℕ) → size desk ≤ b → Counts b (keeps.keep_turn at post desk found)
+keep_counts b (Loosens let_go) post desk found h = let c = quiet_cleared (let_index let_go) (stands post (let_index let_go)) in
+    released_counts b let_go (withdrawn post (let_index let_go)) desk (cleared (let_index let_go) (stands post (let_index let_go))) (omega arith)
+keep_counts b (LoadHeld from index) post desk found h = load_held_counts b from index post desk found (has_one_interval (scheme_of post)) h
+keep_counts b (StoreHeld from index era) post desk found h = copied_counts b from index post desk (reserves_index post index era) (stands post from) refl h
+keep_counts b (Looks index key at) post desk found h = look_counts b index key at post desk found h
+keep_counts b (Misses index) post desk found h = omega arith
+
 -- a step of a call's own
 pub work_counts : (b : ℕ) (work : Work) (post : Post) (desk : Desk) (found : ℕ) → size desk ≤ b → Counts b (steps.work_turn work post desk found)
 work_counts b (Getting key at) post desk found h = get_counts b key at post desk found h
 work_counts b (Changing kept at) post desk found h = change_counts b kept at post desk found h
 work_counts b (Enqueuing kept at) post desk found h = enqueue_counts b kept at post desk found h
 work_counts b (Dequeuing at) post desk found h = dequeue_counts b at post desk found h
+work_counts b (Keeping at) post desk found h = keep_counts b at post desk found h
 
 -- the entry that goes back is there
 abbrev pub scan_goes : ScanAt → Desk → Type 0
@@ -322,10 +366,6 @@ advanced_counts b (Followed end) post desk told h = omega arith
 advanced_counts b (Allocated end) post desk told h = omega arith
 advanced_counts b (Retired life) post desk told h = omega arith
 
-released_counts : (b : ℕ) (key : Option ℕ) (post : Post) (desk : Desk) (told : List Event) → backs told + size desk ≤ b → Counts b (steps.released key post desk told)
-released_counts b None post desk told h = omega arith
-released_counts b (Some key) post desk told h = omega arith
-
 pub resume_counts : (b : ℕ) (why : Why) (ending : Ending) (post : Post) (desk : Desk) (told : List Event) → backs told + size desk ≤ b + why_more why → Counts b (steps.resume why ending post desk told)
 resume_counts b (Opens task) ending post desk told h = opened_counts b task ending post desk told (omega arith)
 resume_counts b (FollowsHead head tail) ending post desk told h = followed_by_counts b head tail ending post desk told (omega arith)
@@ -337,4 +377,4 @@ resume_counts b (GivesUp answer) ending post desk told h = omega arith
 resume_counts b (Retires answer) ending post desk told h = retired_by_counts b answer ending post desk told (omega arith)
 resume_counts b (Tidies later) ending post desk told h = tidied_counts b later ending post desk told h
 resume_counts b Advances ending post desk told h = advanced_counts b ending post desk told (omega arith)
-resume_counts b (Releases key) ending post desk told h = released_counts b key post desk told (omega arith)
+resume_counts b (Releases let_go) ending post desk told h = released_counts b let_go post desk told (omega arith)

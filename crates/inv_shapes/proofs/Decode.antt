@@ -1,10 +1,16 @@
 -- Each word decodes and no era is above the clock, at the start and over each step and each call that begins.
-use Rattle.std.proofs.Common.{ℕ, ◌≡◌, ◌≤◌, Bool, true, false, refl, sym, subst, arith}
+use Rattle.std.proofs.Common.{ℕ, ◌≡◌, ◌≤◌, Bool, true, false, refl, ap, sym, subst, arith}
 use Rattle.std.proofs.lemmas.Bool.Decides.{nat_tests}
 use Rattle.std.specs.Prelude.{◌==◌, if◌then◌else◌}
 use Rattle.wfe_core.specs.words.Place.{Place, has, is_valid}
 use Rattle.wfe_core.specs.words.Place.Place.{Clock, Helper, Index, Interval, Bucket, Head, Tail, Claim, Life, Row, PlaceOf, Request as RequestOf}
-use Rattle.wfe_core.specs.words.Packed.{halves}
+use Rattle.wfe_core.specs.words.Packed.{halves, read_reservation}
+use Rattle.wfe_core.specs.words.Schemes.{has_one_interval}
+use Rattle.wfe_core.specs.words.declared.packed.Reservation.{Reservation}
+use Rattle.wfe_core.specs.defs.declared.event.Guard.TheVariants.{Whole}
+use Rattle.wfe_core.specs.defs.declared.event.Guard.TheVariants as guards
+use Rattle.wfe_core.specs.Guards.{guard_place}
+use Rattle.wfe_core.specs.Keep.{keep_move}
 use Rattle.wfe_core.specs.words.declared.config.SchemeKind.{SchemeKind}
 use Rattle.wfe_core.specs.words.declared.config.SchemeKind.TheVariants.{He, Ibr, Wfe}
 use Rattle.wfe_core.specs.words.declared.layout.Layout.{Layout}
@@ -15,29 +21,29 @@ use Rattle.wfe_core.specs.Desks.{Desk}
 use Rattle.wfe_core.specs.Memory.{Move, place_in, found, written}
 use Rattle.wfe_core.specs.Posts.{counted}
 use Rattle.wfe_core.proofs.Ranges.{bounds_of}
-use Rattle.wfe_core.specs.Rounds.{scheme_of, protect_at, release_base}
-use Rattle.wfe_core.specs.Steps.{phase_move}
+use Rattle.wfe_core.specs.Rounds.{scheme_of, protect_at}
+use Rattle.wfe_core.specs.Steps.{phase_move, work_move}
 use Rattle.wfe_core.specs.Locals.{Local, move, after, begun_post}
 use Rattle.wfe_core.specs.Phases.{ProtectAt, MoveAt, Base}
 use Rattle.wfe_core.specs.Phases.ProtectAt.{PublishRequest, AnswerOwn, RaiseUpper}
 use Rattle.wfe_core.specs.Phases.MoveAt.{AnswerAsked}
 use Rattle.wfe_core.specs.Phases.Base.{Begin, Protect, Reload, Clear, Finish, Release, Allocate, Write, GiveUp, Retire, Move as Moves}
-use Rattle.wfe_core.specs.Calls.{Phase, Idle, Runs, Scans, Works}
+use Rattle.wfe_core.specs.Calls.{KeepAt, LoadHeld, StoreHeld, Work, Getting, Changing, Enqueuing, Dequeuing, Keeping, Phase, Idle, Runs, Scans, Works}
 use Rattle.wfe_core.specs.World.{World, first_word, start, begin, step}
-use Rattle.inv_shapes.specs.Frame.{Grows, Seated, Owes}
+use Rattle.inv_shapes.specs.Frame.{Grows, Seated, Owes, Stores, stores_held}
 use Rattle.inv_shapes.specs.Seats.{PhaseFits, Seats}
 use Rattle.inv_shapes.specs.Slots.{ProtectsIn, MovesIn, BaseIn, PhaseIn, Slots}
-use Rattle.inv_shapes.specs.Eras.{HelperIn, IndexIn, RequestIn, LifeIn, NoLife, Lives, WordIn, ClockIn, protect_eras, base_eras, PhaseEras, protect_needs, move_needs, base_needs, phase_needs, base_life, life_needs, PostEras, Eras, ErasNeeds}
+use Rattle.inv_shapes.specs.Eras.{HelperIn, IndexIn, RequestIn, LifeIn, NoLife, Lives, WordIn, ClockIn, protect_eras, base_eras, work_eras, PhaseEras, protect_needs, move_needs, base_needs, phase_needs, base_life, life_needs, PostEras, Eras, ErasNeeds}
 use Rattle.inv_shapes.proofs.Frame.{seat_stays, seat_steps, begin_stays, begin_begins, after_seated, begun_seated, moves_with, move_counted, finds_counted}
 use Rattle.inv_shapes.proofs.Shapes.{shape_grows}
 use Rattle.inv_shapes.proofs.Inside.{shape_moves}
-use Rattle.inv_shapes.proofs.Kept.{counted_fits, begun_fits, run_counted, one_moves}
+use Rattle.inv_shapes.proofs.Finds.{index_read}
+use Rattle.inv_shapes.proofs.Kept.{counted_fits, begun_fits, run_counted, work_counted, one_moves}
 use Rattle.inv_shapes.proofs.Monotone.{word_later, phase_later, post_later}
 use Rattle.inv_shapes.proofs.Written.{words_written, phase_in, phase_clock, nothing_shown, nothing_asked, index_in}
 use Rattle.inv_shapes.proofs.Spans.{work_span, scan_span, phase_span}
-use Rattle.inv_shapes.proofs.Steps.{Told, era_steps, withdrawn_keeps}
+use Rattle.inv_shapes.proofs.Steps.{Told, era_steps, row_keeps, withdrawn_keeps}
 use Rattle.wfe_core.proofs.Facts.{zero_either}
-use Rattle.wfe_core.proofs.Schemes.{each_release}
 
 -- first phases hold no eras
 protect_at_eras : (s : SchemeKind) (c : ℕ) (post : Post) → protect_eras c post (protect_at s)
@@ -45,13 +51,20 @@ protect_at_eras He c post = tt
 protect_at_eras Ibr c post = tt
 protect_at_eras Wfe c post = tt
 
-release_eras : (s : SchemeKind) (layout : Layout) (c : ℕ) (post : Post) → base_eras layout c post (release_base s)
-release_eras s layout c post = each_release s (λ (base : Base). base_eras layout c post base) tt tt
+-- nor do steps of a call's own but for the second of a copy
+no_era : (c : ℕ) (work : Work) → stores_held work ≡ false → work_eras c work
+no_era c (Getting key at) n = tt
+no_era c (Changing kept at) n = tt
+no_era c (Enqueuing kept at) n = tt
+no_era c (Dequeuing at) n = tt
+no_era c (Keeping (StoreHeld from index era)) n = absurd (cc)
+no_era c (Keeping at) n = tt
 
 era_grows : (layout : Layout) (k c word : ℕ) → is_valid layout ≡ true → Grows (PostEras layout k c word) (PhaseEras layout c)
 era_grows layout k c word v = record {
   guarded = λ post q. (shape_grows layout k v).guarded post q.fits;
   withdraws = λ post index i q. withdrawn_keeps layout k c word post index q;
+  copies = λ post index slot q. row_keeps layout k c word post index slot q;
   idle = λ post q. tt;
   begins = λ post task i e q. tt;
   opens = λ post task s q. protect_at_eras (scheme_of post) c post;
@@ -65,10 +78,11 @@ era_grows layout k c word v = record {
   retires = λ post answer slot q. tt;
   tidies = λ post later q. tt;
   advances = λ post q. tt;
-  releases = λ post key q. release_eras (scheme_of post) layout c post;
+  clears_kept = λ post let_go i q. tt;
+  releases = λ post let_go i e q. tt;
   scans = λ post later number b q. tt;
   gives_back = λ post later place slot q. tt;
-  works = λ post work s q. tt;
+  works = λ post work n f q. no_era c work n;
 }
 
 counted_post : (layout : Layout) (k c word : ℕ) (post : Post) → PostEras layout k c word post → PostEras layout k c word (counted post)
@@ -85,6 +99,19 @@ base_counted : (layout : Layout) (c : ℕ) (post : Post) (base : Base) → base_
 base_counted layout c post (Protect aim index root steps at) e = protect_counted c post at e
 base_counted layout c post base e = e
 
+-- an index word that is copied has an era of the clock's
+held_era : (layout : Layout) (mem : Place → ℕ) → Told layout mem → (post : Post) (from : ℕ) (one : Bool) → one ≡ false → (read_reservation (mem (guard_place (if one then Whole post.seat else guards.Index post.seat from)))).era ≤ mem Clock
+held_era layout mem w post from true i = absurd (cc)
+held_era layout mem w post from false i = let x = w.words (Index post.seat from) in subst (λ (era : ℕ). era ≤ mem Clock) (sym (ap (λ (r : Reservation). r.era) (index_read (mem Clock) (mem (Index post.seat from)) x))) x.most
+
+keep_stores : (layout : Layout) (mem : Place → ℕ) → Told layout mem → (at : KeepAt) (post : Post) → Stores (PhaseEras layout (mem Clock)) post (found (keep_move at post) (mem (place_in (keep_move at post)))) (Keeping at)
+keep_stores layout mem w (LoadHeld from index) post = λ i. held_era layout mem w post from (has_one_interval (scheme_of post)) i
+keep_stores layout mem w at post = tt
+
+stores_eras : (layout : Layout) (mem : Place → ℕ) → Told layout mem → (work : Work) (post : Post) → Stores (PhaseEras layout (mem Clock)) post (found (work_move work post) (mem (place_in (work_move work post)))) work
+stores_eras layout mem w (Keeping at) post = keep_stores layout mem w at post
+stores_eras layout mem w work post = tt
+
 owed_at : (layout : Layout) (k : ℕ) (mem : Place → ℕ) → Told layout mem → (phase : Phase) (post : Post) → PostEras layout k (mem Clock) (mem (Interval k)) (counted post)
     → PhaseFits layout post phase → PhaseEras layout (mem Clock) post phase → phase_needs phase layout mem
     → Owes (PostEras layout k (mem Clock) (written mem (phase_move phase (counted post)) (Interval k))) (PhaseEras layout (mem Clock)) (counted post) (found (phase_move phase (counted post)) (mem (place_in (phase_move phase (counted post))))) phase
@@ -92,7 +119,8 @@ owed_at layout k mem w Idle post q p e d = q
 owed_at layout k mem w (Runs why base) post q p e d = let r = run_counted layout why base post p in
     moves_with why _ (shape_moves layout k w.valid why base (counted post) _ q.fits r) (era_steps layout k mem w why base (counted post) q r (base_counted layout (mem Clock) post base e) d)
 owed_at layout k mem w (Scans later at) post q p e d = subst (λ (word : ℕ). PostEras layout k (mem Clock) word (counted post)) (sym (scan_span mem k at (counted post))) q
-owed_at layout k mem w (Works work) post q p e d = record { post = subst (λ (word : ℕ). PostEras layout k (mem Clock) word (counted post)) (sym (work_span mem k work (counted post))) q; span = p }
+owed_at layout k mem w (Works work) post q p e d =
+    record { post = subst (λ (word : ℕ). PostEras layout k (mem Clock) word (counted post)) (sym (work_span mem k work (counted post))) q; fits = work_counted work post p; stores = stores_eras layout mem w work (counted post) }
 
 pub told_of : (w : World) → is_valid w.layout ≡ true → Eras w → Told w.layout w.mem
 told_of w v e = record { valid = v; some = e.some; most = e.most; words = e.words }
@@ -135,7 +163,7 @@ base_given layout mem (Protect aim index root steps at) h l = protect_given layo
 base_given layout mem (Reload parent index slot era steps) h l = tt
 base_given layout mem (Clear index) h l = tt
 base_given layout mem Finish h l = tt
-base_given layout mem Release h l = tt
+base_given layout mem (Release index) h l = tt
 base_given layout mem (Allocate at) h l = tt
 base_given layout mem (Write slot row place) h l = tt
 base_given layout mem (GiveUp slot) h l = tt

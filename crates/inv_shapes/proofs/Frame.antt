@@ -21,9 +21,10 @@ use Rattle.wfe_core.specs.Phases.Base.{Begin, Protect, Reload, Clear, Finish, Re
 use Rattle.wfe_core.specs.Machine.{begin_move, protect_move, move_move, base_move}
 use Rattle.wfe_core.specs.Scan.{scan_move}
 use Rattle.wfe_core.specs.Change.{change_move}
+use Rattle.wfe_core.specs.Keep.{keep_move}
 use Rattle.wfe_core.specs.Machine as machine
 use Rattle.wfe_core.specs.Posts.{counted}
-use Rattle.wfe_core.specs.Calls.{ChangeKept, ChangeAt, LoadVersion, ScanAt, ReadGuard, GiveBack, Work, Getting, Changing, Enqueuing, Dequeuing, Why, Phase, Idle, Runs, Scans, Works, CallTurn, CallOutcome, GoesOn, Answers}
+use Rattle.wfe_core.specs.Calls.{ChangeKept, ChangeAt, LoadVersion, ScanAt, ReadGuard, GiveBack, KeepAt, Loosens, Work, Getting, Changing, Enqueuing, Dequeuing, Keeping, Why, Phase, Idle, Runs, Scans, Works, CallTurn, CallOutcome, GoesOn, Answers}
 use Rattle.wfe_core.specs.Steps.{resumed, run_turn, work_move, phase_move, phase_turn}
 use Rattle.wfe_core.specs.Locals.{Local, move, turn, after, settled_by, settled, told_by, rounds_told, begun_post, begun}
 use Rattle.wfe_core.specs.World.{World, step, begin, finds}
@@ -105,7 +106,7 @@ phase_turn_left : {Q : Post → Type 0} {P : Post → Phase → Type 0} (g : Gro
 phase_turn_left g Idle post desk found h = record { post = h; phase = g.idle post h }
 phase_turn_left g (Runs why base) post desk found h = run_left g why desk (machine.after base post found) h
 phase_turn_left g (Scans later at) post desk found h = scan_left g later at post desk found h
-phase_turn_left g (Works work) post desk found h = work_left g work post desk found h.span h.post
+phase_turn_left g (Works work) post desk found h = work_left g work post desk found h.fits h.stores h.post
 
 -- one step of a seat
 pub after_seated : {Q : Post → Type 0} {P : Post → Phase → Type 0} (g : Grows Q P) (l : Local) (found : ℕ) → Owes Q P (counted l.post) found l.phase → Seated Q P (after l found)
@@ -142,7 +143,7 @@ base_counted (Protect aim index root steps at) post = protect_counted index root
 base_counted (Reload parent index slot era steps) post = refl
 base_counted (Clear index) post = refl
 base_counted Finish post = refl
-base_counted Release post = refl
+base_counted (Release index) post = refl
 base_counted (Allocate at) post = refl
 base_counted (Write slot row place) post = refl
 base_counted (GiveUp slot) post = refl
@@ -157,11 +158,16 @@ change_counted : (kept : ChangeKept) (at : ChangeAt) (post : Post) → change_mo
 change_counted kept (LoadVersion slot) post = refl
 change_counted kept at post = refl
 
+keep_counted : (at : KeepAt) (post : Post) → keep_move at (counted post) ≡ keep_move at post
+keep_counted (Loosens let_go) post = refl
+keep_counted at post = refl
+
 work_counted : (work : Work) (post : Post) → work_move work (counted post) ≡ work_move work post
 work_counted (Getting key at) post = refl
 work_counted (Changing kept at) post = change_counted kept at post
 work_counted (Enqueuing kept at) post = refl
 work_counted (Dequeuing at) post = refl
+work_counted (Keeping at) post = keep_counted at post
 
 pub move_counted : (phase : Phase) (post : Post) → phase_move phase (counted post) ≡ phase_move phase post
 move_counted Idle post = refl

@@ -7,12 +7,12 @@ use Rattle.wfe_core.specs.defs.declared.event.Event.{Event}
 use Rattle.wfe_core.specs.defs.declared.lifetime.Interval.{Interval}
 use Rattle.wfe_core.specs.declared.post.Post.{Post}
 use Rattle.wfe_core.specs.Desks.{Desk}
-use Rattle.wfe_core.specs.Posts.{stands, withdrawn}
+use Rattle.wfe_core.specs.Posts.{withdrawn}
 use Rattle.wfe_core.proofs.Facts.{if_by}
 use Rattle.wfe_core.specs.Phases.{Base}
 use Rattle.wfe_core.specs.Phases.Base.{Clear, Finish}
-use Rattle.wfe_core.specs.Rounds.{scheme_of, index_of, taken_of, begin_span, begin_where, clear_base, clear_post, clear_told, finish_span, finish_base, round_by, round, given_up, closed, finishing_by, finishing, clearing_by, clearing, clearing_next_by, clearing_next}
-use Rattle.wfe_core.specs.Calls.{Task, Dequeues, Next, Again, MakeRoom, Answering, Retiring, Repeated, Phase, Runs, ClearsNext, Clears, Finishes}
+use Rattle.wfe_core.specs.Rounds.{scheme_of, index_of, taken_of, begin_span, begin_where, clear_base, clear_post, clear_told, finish_span, finish_base, kept_row, let_index, letting, letting_by, release_span, round_by, round, given_up, closed, finishing_by, finishing, clearing_by, clearing, clearing_next_by, clearing_next}
+use Rattle.wfe_core.specs.Calls.{Task, Dequeues, Next, Again, MakeRoom, Answering, Retiring, Repeated, LetGo, Loosens, Keeping, Phase, Runs, ClearsNext, Clears, Finishes}
 use Rattle.wfe_core.specs.words.Schemes.{has_one_interval}
 use Rattle.inv_shapes.specs.Frame.{Left, SpanStands, Grows}
 
@@ -43,17 +43,17 @@ closed_left g task (Retiring slot answer) post desk told q = record { post = q; 
 
 pub record IsFinish (scheme : SchemeKind) (post : Post) (base : Base) : Type 0 where
   pub interval : has_one_interval scheme ≡ true
-  pub free : stands post 2 ≡ None
+  pub free : kept_row post ≡ None
   pub is : base ≡ Finish
 
-finish_when : (s : SchemeKind) (post : Post) (x : Option ℕ) (base : Base) → has_one_interval s ≡ true → stands post 2 ≡ x → finish_span x ≡ Some base → IsFinish s post base
+finish_when : (s : SchemeKind) (post : Post) (x : Option ℕ) (base : Base) → has_one_interval s ≡ true → kept_row post ≡ x → finish_span x ≡ Some base → IsFinish s post base
 finish_when s post None base i e h = record { interval = i; free = e; is = cc }
 finish_when s post (Some slot) base i e h = absurd (cc)
 
 pub finish_is : (s : SchemeKind) (post : Post) (base : Base) → finish_base s post ≡ Some base → IsFinish s post base
 finish_is s post base h =
-    if_by (has_one_interval s) (finish_span (stands post 2)) None (λ (x : Option Base). x ≡ Some base → IsFinish s post base)
-    (λ i e. finish_when s post (stands post 2) base i refl e)
+    if_by (has_one_interval s) (finish_span (kept_row post)) None (λ (x : Option Base). x ≡ Some base → IsFinish s post base)
+    (λ i e. finish_when s post (kept_row post) base i refl e)
     (λ i e. absurd (cc))
     h
 
@@ -99,3 +99,14 @@ clearing_next_by_left {P = P} g next post desk told (Some base) e q = let f = cl
 
 pub clearing_next_left : {Q : Post → Type 0} {P : Post → Phase → Type 0} (g : Grows Q P) (next : Next) (post : Post) (desk : Desk) (told : List Event) → Q post → Left Q P (clearing_next next post desk told)
 clearing_next_left g next post desk told q = clearing_next_by_left g next post desk told (clear_base (scheme_of post) 1) refl q
+
+-- something is let go
+let_span_grows : {Q : Post → Type 0} {P : Post → Phase → Type 0} (g : Grows Q P) (let_go : LetGo) (post : Post) (x : Option ℕ) → has_one_interval (scheme_of post) ≡ true → kept_row (withdrawn post (let_index let_go)) ≡ x → Q post → P post (letting_by let_go (release_span (let_index let_go) x))
+let_span_grows g let_go post None i e q = g.releases post let_go i e q
+let_span_grows g let_go post (Some slot) i e q = g.works post (Keeping (Loosens let_go)) refl (record { interval = i; kept = ap is_some e }) q
+
+pub letting_grows : {Q : Post → Type 0} {P : Post → Phase → Type 0} (g : Grows Q P) (let_go : LetGo) (post : Post) → Q post → P post (letting let_go post)
+letting_grows {P = P} g let_go post q =
+    if_by (has_one_interval (scheme_of post)) (release_span (let_index let_go) (kept_row (withdrawn post (let_index let_go)))) (Some (Clear (let_index let_go))) (λ (x : Option Base). P post (letting_by let_go x))
+    (λ i. let_span_grows g let_go post (kept_row (withdrawn post (let_index let_go))) i refl q)
+    (λ i. g.clears_kept post let_go i q)

@@ -332,8 +332,8 @@ shape_moves layout k v why (Reload parent index slot era steps) post found q r =
 shape_moves layout k v why (Clear index) post found q r =
     record { post = withdrawn_fits layout k post index q; phase = resumes_from why (withdrawn post index) (plain_span post (subst (λ (t : Layout). not (has_one_interval t.config.scheme) ≡ true) (sym q.layout) r.fits)) }
 shape_moves layout k v why Finish post found q r = record { post = span_fits layout k post None q; phase = resumes_out why (with_span post None) (finishes_out (kind_of why) r.suited) }
-shape_moves layout k v why Release post found q r =
-    record { post = span_fits layout k (withdrawn post 2) None (withdrawn_fits layout k post 2 q); phase = resumes_out why (with_span (withdrawn post 2) None) (releases_out (kind_of why) r.suited) }
+shape_moves layout k v why (Release index) post found q r =
+    record { post = span_fits layout k (withdrawn post index) None (withdrawn_fits layout k post index q); phase = resumes_out why (with_span (withdrawn post index) None) (releases_out (kind_of why) r.suited) }
 shape_moves layout k v why (Allocate at) post found q r = allocate_moves layout k why at post found q q.layout r
 shape_moves layout k v why (Write slot row place) post found q r = write_moves layout k why slot row place post q r
 shape_moves layout k v why (GiveUp slot) post found q r = record { post = q; phase = resumes_out why post (gives_up_out (kind_of why) r.suited) }

@@ -10,9 +10,9 @@ use Rattle.wfe_core.specs.Posts.{counted}
 use Rattle.wfe_core.specs.Locals.{Local, after, begun_post}
 use Rattle.wfe_core.specs.Phases.{Base}
 use Rattle.wfe_core.specs.Phases.Base.{Begin, Protect, Reload, Clear, Finish, Release, Allocate, Write, GiveUp, Retire, Move}
-use Rattle.wfe_core.specs.Calls.{Why, Phase, Idle, Runs, Scans, Works}
+use Rattle.wfe_core.specs.Calls.{KeepAt, Loosens, LoadHeld, StoreHeld, Looks, Misses, Work, Getting, Changing, Enqueuing, Dequeuing, Keeping, Why, Phase, Idle, Runs, Scans, Works}
 use Rattle.wfe_core.specs.World.{World, start, begin, step, finds}
-use Rattle.inv_shapes.specs.Frame.{Seated, Owes}
+use Rattle.inv_shapes.specs.Frame.{KeepFits, WorkFits, Seated, Stores, Owes}
 use Rattle.inv_shapes.specs.Seats.{Posted, Run, PostFits, PhaseFits, Seats}
 use Rattle.inv_shapes.proofs.Frame.{seat_stays, seat_steps, begin_stays, begin_begins, after_seated, begun_seated}
 use Rattle.inv_shapes.proofs.Shapes.{shape_grows}
@@ -30,7 +30,7 @@ posted_counted (Protect aim index root steps at) post h = h
 posted_counted (Reload parent index slot era steps) post h = h
 posted_counted (Clear index) post h = h
 posted_counted Finish post h = h
-posted_counted Release post h = h
+posted_counted (Release index) post h = h
 posted_counted (Allocate at) post h = h
 posted_counted (Write slot row place) post h = h
 posted_counted (GiveUp slot) post h = h
@@ -40,11 +40,40 @@ posted_counted (Move at) post h = h
 pub run_counted : (layout : Layout) (why : Why) (base : Base) (post : Post) → Run layout why base post → Run layout why base (counted post)
 run_counted layout why base post p = record { suited = p.suited; fits = p.fits; shape = p.shape; posted = posted_counted base post p.posted }
 
+keep_counted : (at : KeepAt) (post : Post) → KeepFits post at → KeepFits (counted post) at
+keep_counted (Loosens let_go) post h = record { interval = h.interval; kept = h.kept }
+keep_counted (LoadHeld from index) post h = h
+keep_counted (StoreHeld from index era) post h = record { plain = h.plain; kept = h.kept }
+keep_counted (Looks index key at) post h = h
+keep_counted (Misses index) post h = h
+
+pub work_counted : (work : Work) (post : Post) → WorkFits post work → WorkFits (counted post) work
+work_counted (Getting key at) post h = h
+work_counted (Changing kept at) post h = h
+work_counted (Enqueuing kept at) post h = h
+work_counted (Dequeuing at) post h = h
+work_counted (Keeping at) post h = keep_counted at post h
+
+-- the second step of a copy
+keep_stores : (layout : Layout) (at : KeepAt) (post : Post) (found : ℕ) → KeepFits post at → Stores (PhaseFits layout) (counted post) found (Keeping at)
+keep_stores layout (Loosens let_go) post found h = tt
+keep_stores layout (LoadHeld from index) post found h = λ i. record { plain = i; kept = h }
+keep_stores layout (StoreHeld from index era) post found h = tt
+keep_stores layout (Looks index key at) post found h = tt
+keep_stores layout (Misses index) post found h = tt
+
+stores_fit : (layout : Layout) (work : Work) (post : Post) (found : ℕ) → WorkFits post work → Stores (PhaseFits layout) (counted post) found work
+stores_fit layout (Getting key at) post found h = tt
+stores_fit layout (Changing kept at) post found h = tt
+stores_fit layout (Enqueuing kept at) post found h = tt
+stores_fit layout (Dequeuing at) post found h = tt
+stores_fit layout (Keeping at) post found h = keep_stores layout at post found h
+
 owed : (layout : Layout) (k : ℕ) → is_valid layout ≡ true → (phase : Phase) (post : Post) (found : ℕ) → PostFits layout k post → PhaseFits layout post phase → Owes (PostFits layout k) (PhaseFits layout) (counted post) found phase
 owed layout k v Idle post found q p = counted_fits layout k post q
 owed layout k v (Runs why base) post found q p = shape_moves layout k v why base (counted post) found (counted_fits layout k post q) (run_counted layout why base post p)
 owed layout k v (Scans later at) post found q p = counted_fits layout k post q
-owed layout k v (Works work) post found q p = record { post = counted_fits layout k post q; span = p }
+owed layout k v (Works work) post found q p = record { post = counted_fits layout k post q; fits = work_counted work post p; stores = stores_fit layout work post found p }
 
 after_fits : (layout : Layout) (k : ℕ) → is_valid layout ≡ true → (l : Local) (found : ℕ) → Seated (PostFits layout k) (PhaseFits layout) l → Seated (PostFits layout k) (PhaseFits layout) (after l found)
 after_fits layout k v l found s = after_seated (shape_grows layout k v) l found (owed layout k v l.phase l.post found s.post s.phase)

@@ -14,8 +14,8 @@ use Rattle.wfe_core.specs.Phases.AllocateAt.{LoadBirth, ClaimSlot, StoreLife}
 use Rattle.wfe_core.specs.Phases.RetireAt.{LoadLife, LoadRetire, StoreRetired}
 use Rattle.wfe_core.specs.Phases.MoveAt.{LoadEra, LoadRequest, ShowEra, LoadAsked, CheckEra, AnswerAsked, LoadReserved, HandOver, HideEra, HideLate, ExchangeClock}
 use Rattle.wfe_core.specs.Phases.Base.{Begin, Protect, Reload, Clear, Finish, Release, Allocate, Write, GiveUp, Retire, Move}
-use Rattle.wfe_core.specs.Calls.{Phase, Idle, Runs, Scans, Works}
-use Rattle.inv_shapes.specs.Eras.{EraIn, SpanIn, AskingIn, LivesIn, LifeIn, NoLife, Lives, WordIn, TurnIn, MoverIn, begin_eras, protect_eras, allocate_eras, retire_eras, move_eras, base_eras, PhaseEras, PostEras}
+use Rattle.wfe_core.specs.Calls.{StoreHeld, Work, Getting, Changing, Enqueuing, Dequeuing, Keeping, Phase, Idle, Runs, Scans, Works}
+use Rattle.inv_shapes.specs.Eras.{EraIn, SpanIn, AskingIn, LivesIn, LifeIn, NoLife, Lives, WordIn, TurnIn, MoverIn, begin_eras, protect_eras, allocate_eras, retire_eras, move_eras, base_eras, work_eras, PhaseEras, PostEras}
 
 pub era_later : (c d era : ℕ) → c ≤ d → EraIn c era → EraIn d era
 era_later c d era h e = record { some = e.some; most = let m = e.most in omega arith }
@@ -112,18 +112,26 @@ base_later layout c d post (Protect aim index root steps at) h e = protect_later
 base_later layout c d post (Reload parent index slot era steps) h e = below_later c d era h e
 base_later layout c d post (Clear index) h e = tt
 base_later layout c d post Finish h e = tt
-base_later layout c d post Release h e = tt
+base_later layout c d post (Release index) h e = tt
 base_later layout c d post (Allocate at) h e = allocate_later c d at h e
 base_later layout c d post (Write slot row place) h e = tt
 base_later layout c d post (GiveUp slot) h e = tt
 base_later layout c d post (Retire at) h e = retire_later c d at h e
 base_later layout c d post (Move at) h e = move_later layout c d at h e
 
+work_later : (c d : ℕ) (work : Work) → c ≤ d → work_eras c work → work_eras d work
+work_later c d (Getting key at) h e = tt
+work_later c d (Changing kept at) h e = tt
+work_later c d (Enqueuing kept at) h e = tt
+work_later c d (Dequeuing at) h e = tt
+work_later c d (Keeping (StoreHeld from index era)) h e = below_later c d era h e
+work_later c d (Keeping at) h e = tt
+
 pub phase_later : (layout : Layout) (c d : ℕ) (post : Post) (phase : Phase) → c ≤ d → PhaseEras layout c post phase → PhaseEras layout d post phase
 phase_later layout c d post Idle h e = tt
 phase_later layout c d post (Runs why base) h e = base_later layout c d post base h e
 phase_later layout c d post (Scans later at) h e = tt
-phase_later layout c d post (Works work) h e = tt
+phase_later layout c d post (Works work) h e = work_later c d work h e
 
 pub post_later : (layout : Layout) (k c d word : ℕ) (post : Post) → c ≤ d → PostEras layout k c word post → PostEras layout k d word post
 post_later layout k c d word post h e = record { fits = e.fits; span = span_later c d post.span h e.span; shown = e.shown }

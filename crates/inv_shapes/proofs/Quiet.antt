@@ -121,7 +121,7 @@ quiet_after (Protect aim index root steps at) post found = quiet_protect aim ind
 quiet_after (Reload parent index slot era steps) post found = quiet_if (found == parent + 1) _ _ refl refl
 quiet_after (Clear index) post found = let e = quiet_along (cleared index (stands post index)) (reserves_index post index 0) refl in e ∙ quiet_cleared index (stands post index)
 quiet_after Finish post found = refl
-quiet_after Release post found = let e = quiet_along (cleared 2 (stands post 2)) (reserves_span post None) refl in e ∙ quiet_cleared 2 (stands post 2)
+quiet_after (Release index) post found = let e = quiet_along (cleared index (stands post index)) (reserves_span post None) refl in e ∙ quiet_cleared index (stands post index)
 quiet_after (Allocate at) post found = quiet_allocate at post found
 quiet_after (Write slot row place) post found = quiet_if (place == last_written row) _ _ refl refl
 quiet_after (GiveUp slot) post found = refl
@@ -213,7 +213,7 @@ more_few (Runs (GivesUp answer) base) = omega arith
 more_few (Runs (Retires answer) base) = omega arith
 more_few (Runs (Tidies later) base) = later_few later
 more_few (Runs Advances base) = omega arith
-more_few (Runs (Releases key) base) = omega arith
+more_few (Runs (Releases let_go) base) = omega arith
 more_few (Scans later at) = later_few later
 more_few (Works work) = omega arith
 

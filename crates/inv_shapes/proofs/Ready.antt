@@ -30,8 +30,8 @@ use Rattle.wfe_core.specs.Phases.Base.{Begin, Protect, Reload, Clear, Finish, Re
 use Rattle.wfe_core.specs.Machine.{begin_move, protect_move, allocate_move, retire_move, move_move, base_move}
 use Rattle.wfe_core.specs.Ready.{EraFits, FailedFits, TryFits, RootFits, AskFits, AskedFits, RowFits, IsReady, Plausible, begin_ready, protect_ready, allocate_ready, retire_ready, move_ready, begin_plausible, protect_plausible, allocate_plausible, retire_plausible, move_plausible}
 use Rattle.wfe_core.specs.Steps.{work_move, phase_move}
-use Rattle.wfe_core.specs.Calls.{ChangeKept, EnqueueKept, Task, Gets, Changes, Holds, Enqueues, Dequeues, AfterScan, Answered, Repeated, Counted, GetAt, FindVersion, FindCount, FindKey, FindValue, ChangeAt, LoadVersion, LoadCount, LoadKey, LoadValue, ExchangeRoot, EnqueueAt, LoadNumber, LoadNext, PassTail, ExchangeNext, ExchangeTail, DequeueAt, LoadTail, SwingTail, TakeNumber, TakeValue, ExchangeHead, Work, Getting, Changing, Enqueuing, Dequeuing, ScanAt, ReadGuard, GiveBack, Why, Opens, FollowsHead, Fills, ClearsNext, Clears, Finishes, GivesUp, Retires, Tidies, Advances, Releases, Phase, Idle, Runs, Scans, Works}
-use Rattle.wfe_core.specs.CallReady.{TakenFits, TaskFits, FillFits, LaterFits, why_ready, get_ready, change_ready, enqueue_ready, dequeue_ready, work_ready, scan_ready, IsCallReady, get_plausible, change_plausible, enqueue_plausible, dequeue_plausible, work_plausible, IsCallPlausible, BackFits, slots_of}
+use Rattle.wfe_core.specs.Calls.{ChangeKept, EnqueueKept, Task, Gets, Changes, Holds, Enqueues, Dequeues, AfterScan, Answered, Repeated, Counted, GetAt, FindVersion, FindCount, FindKey, FindValue, ChangeAt, LoadVersion, LoadCount, LoadKey, LoadValue, ExchangeRoot, EnqueueAt, LoadNumber, LoadNext, PassTail, ExchangeNext, ExchangeTail, DequeueAt, LoadTail, SwingTail, TakeNumber, TakeValue, ExchangeHead, Work, Getting, Changing, Enqueuing, Dequeuing, KeepAt, Loosens, LoadHeld, StoreHeld, Looks, Misses, Keeping, ScanAt, ReadGuard, GiveBack, Why, Opens, FollowsHead, Fills, ClearsNext, Clears, Finishes, GivesUp, Retires, Tidies, Advances, Releases, Phase, Idle, Runs, Scans, Works}
+use Rattle.wfe_core.specs.CallReady.{TakenFits, TaskFits, FillFits, LaterFits, why_ready, get_ready, change_ready, enqueue_ready, dequeue_ready, keep_ready, work_ready, scan_ready, IsCallReady, get_plausible, change_plausible, enqueue_plausible, dequeue_plausible, keep_plausible, work_plausible, IsCallPlausible, BackFits, slots_of}
 use Rattle.wfe_core.specs.Desks.{Desk}
 use Rattle.wfe_core.specs.Enqueue.{enqueue_move}
 use Rattle.wfe_core.specs.Dequeue.{dequeue_move}
@@ -119,21 +119,21 @@ row_ready : (post : Post) (row : RowOf) → RowIn post.layout.config row → Row
 row_ready post (MapRow version pairs) m = m
 row_ready post (QueueRow number value) m = m
 
-pub base_is_ready : (post : Post) (clock : ℕ) (why : Why) (base : Base) → is_valid post.layout ≡ true → Run post.layout why base post → SpanIn clock post.span → base_eras post.layout clock post base → BaseIn post.layout base → base_rises base post
+pub base_is_ready : (post : Post) (clock : ℕ) (why : Why) (base : Base) → is_valid post.layout ≡ true → Run post.layout why base post → SpanIn clock post.span → base_eras post.layout clock post base → WhyIn post.layout.config why → BaseIn post.layout base → base_rises base post
     → IsReady base post
-base_is_ready post clock why (Begin at) v r p e h u = begin_is_ready post clock at e
-base_is_ready post clock why (Protect aim index root steps at) v r p e h u = let b = bounds_of post.layout v in
-    (index_below post.layout why index v r.shape.at, root_there post.layout why root b.buckets.0 r.shape.of h.root_in, protect_is_ready post clock index at r.fits r.posted p e h.at_in u)
-base_is_ready post clock why (Reload parent index slot era steps) v r p e h u = (index_below post.layout why index v r.shape.at, h.1, h.0)
-base_is_ready post clock why (Clear index) v r p e h u = index_below post.layout why index v r.shape
-base_is_ready post clock why Finish v r p e h u = tt
-base_is_ready post clock why Release v r p e h u = tt
-base_is_ready post clock why (Allocate at) v r p e h u = allocate_is_ready post clock at r.fits e
-base_is_ready post clock why (Write slot row place) v r p e h u = let f : (nat_le (first_written row) place && nat_le place (last_written row)) ≡ true = r.fits in
+base_is_ready post clock why (Begin at) v r p e y h u = begin_is_ready post clock at e
+base_is_ready post clock why (Protect aim index root steps at) v r p e y h u = let b = bounds_of post.layout v in
+    (index_below post.layout why index v y r.shape.at, root_there post.layout why root b.buckets.0 r.shape.of h.root_in, protect_is_ready post clock index at r.fits r.posted p e h.at_in u)
+base_is_ready post clock why (Reload parent index slot era steps) v r p e y h u = (index_below post.layout why index v y r.shape.at, h.1, h.0)
+base_is_ready post clock why (Clear index) v r p e y h u = index_below post.layout why index v y r.shape
+base_is_ready post clock why Finish v r p e y h u = tt
+base_is_ready post clock why (Release index) v r p e y h u = index_below post.layout why index v y r.shape
+base_is_ready post clock why (Allocate at) v r p e y h u = allocate_is_ready post clock at r.fits e
+base_is_ready post clock why (Write slot row place) v r p e y h u = let f : (nat_le (first_written row) place && nat_le place (last_written row)) ≡ true = r.fits in
     (h.0, row_ready post row h.1, grind (arith, nat_tests), grind (arith, nat_tests))
-base_is_ready post clock why (GiveUp slot) v r p e h u = h
-base_is_ready post clock why (Retire at) v r p e h u = retire_is_ready post clock at h e
-base_is_ready post clock why (Move at) v r p e h u = move_is_ready post clock at r.fits e h
+base_is_ready post clock why (GiveUp slot) v r p e y h u = h
+base_is_ready post clock why (Retire at) v r p e y h u = retire_is_ready post clock at h e
+base_is_ready post clock why (Move at) v r p e y h u = move_is_ready post clock at r.fits e h
 
 -- what is found
 clock_plausible : {layout : Layout} {mem : Place → ℕ} → Told layout mem → EraFits (mem Clock)
@@ -202,7 +202,7 @@ base_is_plausible post mem (Protect aim index root steps at) w = protect_is_plau
 base_is_plausible post mem (Reload parent index slot era steps) w = tt
 base_is_plausible post mem (Clear index) w = tt
 base_is_plausible post mem Finish w = tt
-base_is_plausible post mem Release w = tt
+base_is_plausible post mem (Release index) w = tt
 base_is_plausible post mem (Allocate at) w = allocate_is_plausible post mem at w
 base_is_plausible post mem (Write slot row place) w = tt
 base_is_plausible post mem (GiveUp slot) w = tt
@@ -266,7 +266,7 @@ why_is_ready post (GivesUp answer) base desk y n = tt
 why_is_ready post (Retires answer) base desk y n = n
 why_is_ready post (Tidies later) base desk y n = later_ready post later y
 why_is_ready post Advances base desk y n = tt
-why_is_ready post (Releases key) base desk y n = tt
+why_is_ready post (Releases let_go) base desk y n = tt
 
 get_is_ready : (post : Post) (at : GetAt) → GetIn post.layout.config at → get_ready at post
 get_is_ready post (FindVersion slot) h = h
@@ -295,11 +295,19 @@ dequeue_is_ready post (TakeNumber head next) h = h
 dequeue_is_ready post (TakeValue head next number) h = h
 dequeue_is_ready post (ExchangeHead head next number value) h = h
 
+keep_is_ready : (post : Post) (at : KeepAt) → WorkIn post.layout.config (Keeping at) → keep_ready at post
+keep_is_ready post (Loosens let_go) h = h.below
+keep_is_ready post (LoadHeld from index) h = (h.kept, h.rises, h.below)
+keep_is_ready post (StoreHeld from index era) h = (h.kept, h.rises, h.below)
+keep_is_ready post (Looks index key at) h = get_is_ready post at h.1
+keep_is_ready post (Misses index) h = h.below
+
 work_is_ready : (post : Post) (work : Work) → WorkIn post.layout.config work → work_ready work post
 work_is_ready post (Getting key at) h = get_is_ready post at h
 work_is_ready post (Changing kept at) h = (record { taken = taken_ready post kept.taken h.0.taken; link = h.0.link; version = h.0.version; pairs = h.0.pairs }, change_is_ready post kept at h.1)
 work_is_ready post (Enqueuing kept at) h = (record { taken = taken_ready post kept.taken h.0.taken; tail = h.0.tail; number = h.0.number }, enqueue_is_ready post kept at h.1)
 work_is_ready post (Dequeuing at) h = dequeue_is_ready post at h
+work_is_ready post (Keeping at) h = keep_is_ready post at h
 
 back_ready : (post : Post) (desk : Desk) (place slot : ℕ) → BackIn post.layout.config.slots desk slot → slice_get (slots_of desk.list) place ≡ Some slot → BackFits post desk place slot
 back_ready post desk place slot h e = let a = slice_get_within (slots_of desk.list) place slot e in let b = slots_length desk.list in let c = h.room in record { entry = e; back = omega arith }
@@ -336,16 +344,24 @@ dequeue_is_plausible post mem (TakeNumber head next) w f = f
 dequeue_is_plausible post mem (TakeValue head next number) w f = tt
 dequeue_is_plausible post mem (ExchangeHead head next number value) w f = tt
 
+keep_is_plausible : (post : Post) (found : ℕ) (at : KeepAt) → work_finds post.layout.config (Keeping at) found → keep_plausible at post found
+keep_is_plausible post found (Loosens let_go) f = tt
+keep_is_plausible post found (LoadHeld from index) f = tt
+keep_is_plausible post found (StoreHeld from index era) f = tt
+keep_is_plausible post found (Looks index key at) f = get_is_plausible post found at f
+keep_is_plausible post found (Misses index) f = tt
+
 work_is_plausible : (post : Post) (mem : Place → ℕ) (work : Work) → Linked post.layout mem → work_finds post.layout.config work (found (work_move work post) (mem (place_in (work_move work post)))) → work_plausible work post (found (work_move work post) (mem (place_in (work_move work post))))
 work_is_plausible post mem (Getting key at) w f = get_is_plausible post _ at f
 work_is_plausible post mem (Changing kept at) w f = change_is_plausible post _ at f
 work_is_plausible post mem (Enqueuing kept at) w f = enqueue_is_plausible post mem kept at w f
 work_is_plausible post mem (Dequeuing at) w f = dequeue_is_plausible post mem at w f
+work_is_plausible post mem (Keeping at) w f = keep_is_plausible post _ at f
 
 phase_ready : (post : Post) (desk : Desk) (clock : ℕ) (phase : Phase) → is_valid post.layout ≡ true → PhaseFits post.layout post phase → SpanIn clock post.span → PhaseEras post.layout clock post phase → PhaseIn post.layout desk phase → phase_rises phase post → phase_lists phase desk
     → IsCallReady phase post desk
 phase_ready post desk clock Idle v r p e h u n = tt
-phase_ready post desk clock (Runs why base) v r p e h u n = (base_is_ready post clock why base v r p e h.1 u, why_is_ready post why base desk h.0 n)
+phase_ready post desk clock (Runs why base) v r p e h u n = (base_is_ready post clock why base v r p e h.0 h.1 u, why_is_ready post why base desk h.0 n)
 phase_ready post desk clock (Scans later at) v r p e h u n = (later_ready post later h.0, scan_is_ready post desk at r h.1 n)
 phase_ready post desk clock (Works work) v r p e h u n = work_is_ready post work h
 

@@ -1,5 +1,5 @@
 -- Each step keeps the static shape of the seat that makes it.
-use Rattle.std.proofs.Common.{ℕ, ◌≡◌, ◌≤◌, ◌<◌, Bool, true, false, Option, None, refl, sym, subst, ◌∙◌, arith}
+use Rattle.std.proofs.Common.{ℕ, ◌≡◌, ◌≤◌, ◌<◌, Bool, true, false, None, Some, refl, sym, subst, ◌∙◌, arith}
 use Rattle.std.proofs.lemmas.Bool.Decides.{nat_tests}
 use Rattle.std.proofs.lemmas.List.{length-set}
 use Rattle.std.specs.Prelude.{◌&&◌, nat_lt, nat_le}
@@ -12,18 +12,17 @@ use Rattle.wfe_core.proofs.words.Numbers.{row_below}
 use Rattle.wfe_core.specs.declared.post.Post.{Post}
 use Rattle.wfe_core.specs.Guards.{guards_by, guards}
 use Rattle.wfe_core.proofs.Ranges.{bounds_of}
-use Rattle.wfe_core.specs.Rounds.{scheme_of, root_of, index_of, opening, protect_at, move_base, release_base}
+use Rattle.wfe_core.specs.Rounds.{scheme_of, root_of, index_of, let_index, opening, protect_at, move_base}
 use Rattle.wfe_core.specs.Dequeue.{follow_base}
 use Rattle.wfe_core.specs.WriteRow.{first_written, last_written}
-use Rattle.wfe_core.specs.Phases.{RowOf, MapRow, QueueRow, Base}
+use Rattle.wfe_core.specs.Phases.{RowOf, MapRow, QueueRow}
 use Rattle.wfe_core.specs.Phases.BeginAt.{LoadLower}
 use Rattle.wfe_core.specs.Phases.Base.{Begin, Clear, Finish, Release}
 use Rattle.wfe_core.specs.Calls.{Task, Gets, Changes, Holds, Enqueues, Dequeues, Opens, FollowsHead, ClearsNext, Clears, Finishes, Tidies, Advances, Releases}
 use Rattle.wfe_core.specs.words.Schemes.{has_one_interval, helps}
 use Rattle.inv_shapes.specs.Frame.{Grows}
-use Rattle.inv_shapes.specs.Seats.{kind_of, task_root, protect_fits, base_fits, suits, Shaped, Posted, Run, PhaseFits, PostFits, agree}
-use Rattle.wfe_core.proofs.Facts.{not_of_false, if_by}
-use Rattle.wfe_core.proofs.Schemes.{each_release}
+use Rattle.inv_shapes.specs.Seats.{task_root, protect_fits, Run, PhaseFits, PostFits, agree}
+use Rattle.wfe_core.proofs.Facts.{not_of_false}
 
 some_guards : (s : SchemeKind) (config : Config) → 1 ≤ config.seats → 1 ≤ config.indexes → 0 < guards_by s config
 some_guards He config a b = omega (arith, row_below 0 0 config.seats config.indexes a b)
@@ -49,18 +48,6 @@ agree_self : (b : Bool) → agree b b ≡ true
 agree_self true = refl
 agree_self false = refl
 
-release_suits : (s : SchemeKind) (key : Option ℕ) → suits (release_base s) (kind_of (Releases key)) ≡ true
-release_suits s key = each_release s (λ (base : Base). suits base (kind_of (Releases key)) ≡ true) refl refl
-
-release_fits : (config : Config) → base_fits config (release_base config.scheme) ≡ true
-release_fits config = if_by (has_one_interval config.scheme) Release (Clear 2) (λ (base : Base). base_fits config base ≡ true) (λ i. i) (λ i. not_of_false (has_one_interval config.scheme) i)
-
-release_shape : (s : SchemeKind) (buckets : ℕ) (key : Option ℕ) → Shaped buckets (Releases key) (release_base s)
-release_shape s buckets key = each_release s (λ (base : Base). Shaped buckets (Releases key) base) refl tt
-
-release_posted : (s : SchemeKind) (post : Post) → Posted (release_base s) post
-release_posted s post = each_release s (λ (base : Base). Posted base post) tt tt
-
 written_last : (row : RowOf) → (nat_le (first_written row) (first_written row) && nat_le (first_written row) (last_written row)) ≡ true
 written_last (MapRow version pairs) = grind (arith, nat_tests)
 written_last (QueueRow number value) = refl
@@ -70,6 +57,7 @@ pub shape_grows : (layout : Layout) (k : ℕ) → is_valid layout ≡ true → G
 shape_grows layout k v = record {
   guarded = λ post q. subst (λ (l : Layout). 0 < guards l.config) (sym q.layout) (guards_some layout v);
   withdraws = λ post index i q. record { seat = q.seat; layout = q.layout; cursor = q.cursor; tags = q.tags; standing = length-set post.standing index None ∙ q.standing };
+  copies = λ post index slot q. record { seat = q.seat; layout = q.layout; cursor = q.cursor; tags = q.tags; standing = length-set post.standing index (Some slot) ∙ q.standing };
   idle = λ post q. tt;
   begins = λ post task i e q. subst (λ (l : Layout). Run l (Opens task) (Begin LoadLower) post) q.layout (record { suited = refl; fits = i; shape = tt; posted = e });
   opens = λ post task s q. subst (λ (l : Layout). PhaseFits l post (opening task post)) q.layout (record { suited = refl; fits = protect_at_fits (scheme_of post) post.layout.config.tries; shape = record { aimed = refl; at = refl; of = root_is task post }; posted = s });
@@ -83,8 +71,9 @@ shape_grows layout k v = record {
   retires = λ post answer slot q. record { suited = refl; fits = refl; shape = tt; posted = tt };
   tidies = λ post later q. subst (λ (l : Layout). Run l (Tidies later) (move_base (scheme_of post)) post) q.layout (record { suited = refl; fits = agree_self (helps (scheme_of post)); shape = tt; posted = tt });
   advances = λ post q. subst (λ (l : Layout). Run l Advances (move_base (scheme_of post)) post) q.layout (record { suited = refl; fits = agree_self (helps (scheme_of post)); shape = tt; posted = tt });
-  releases = λ post key q. subst (λ (l : Layout). Run l (Releases key) (release_base (scheme_of post)) post) q.layout (record { suited = release_suits (scheme_of post) key; fits = release_fits post.layout.config; shape = release_shape (scheme_of post) post.layout.config.buckets key; posted = release_posted (scheme_of post) post });
+  clears_kept = λ post let_go i q. subst (λ (l : Layout). Run l (Releases let_go) (Clear (let_index let_go)) post) q.layout (record { suited = refl; fits = not_of_false (has_one_interval (scheme_of post)) i; shape = refl; posted = tt });
+  releases = λ post let_go i e q. subst (λ (l : Layout). Run l (Releases let_go) (Release (let_index let_go)) post) q.layout (record { suited = refl; fits = i; shape = refl; posted = e });
   scans = λ post later number b q. subst (λ (l : Layout). nat_lt number (guards l.config) ≡ true) q.layout (grind (arith, nat_tests));
   gives_back = λ post later place slot q. refl;
-  works = λ post work s q. s;
+  works = λ post work n f q. f;
 }

@@ -3,10 +3,9 @@ use Rattle.std.proofs.Common.{ℕ, suc, ◌≡◌, ◌≤◌, ◌+◌, ◌-◌, 
 use Rattle.std.proofs.lemmas.Bool.Decides.{nat_tests}
 use Rattle.std.proofs.lemmas.List.Edits.{length-remove}
 use Rattle.std.proofs.lemmas.List.Elements.{All-append, All-push, All-head, All-tail, All-take, All-drop}
-use Rattle.std.specs.Prelude.{◌==◌, ◌%◌, nat_lt, if◌then◌else◌, ◌&&◌, not, is_some}
+use Rattle.std.specs.Prelude.{◌==◌, ◌%◌, nat_le, nat_lt, if◌then◌else◌, ◌&&◌, not, is_some}
 use Rattle.std.specs.List.{remove}
 use Rattle.wfe_core.specs.defs.Shown.{Seen, keeps_any}
-use Rattle.wfe_core.specs.words.declared.config.SchemeKind.{SchemeKind}
 use Rattle.wfe_core.specs.words.declared.config.Config.{Config}
 use Rattle.wfe_core.specs.words.declared.layout.Layout.{Layout}
 use Rattle.wfe_core.specs.defs.declared.fold.Change.{Change}
@@ -30,19 +29,23 @@ use Rattle.wfe_core.specs.declared.ends.ProtectEnd.TheVariants as protect_ends
 use Rattle.wfe_core.specs.declared.post.Post.{Post}
 use Rattle.wfe_core.specs.Desks.{Desk, Report, with_life}
 use Rattle.wfe_core.specs.Guards.{guards, guard_at, eras_in, published}
-use Rattle.wfe_core.specs.Posts.{stands}
+use Rattle.wfe_core.specs.Posts.{cleared, reserves_index, stands, withdrawn}
+use Rattle.wfe_core.specs.words.Schemes.{has_one_interval}
+use Rattle.wfe_core.specs.Locals.{may_begin}
 use Rattle.wfe_core.specs.Phases.{Ending, Base}
 use Rattle.wfe_core.specs.Phases.Ending.{Done, Protected, Followed, Allocated, Retired, Clocked}
-use Rattle.wfe_core.specs.Rounds.{scheme_of, bucket_of, release_base}
+use Rattle.wfe_core.specs.Rounds.{scheme_of, bucket_of, kept_row, let_index, letting, letting_by, release_span}
 use Rattle.wfe_core.specs.Get as gets
 use Rattle.wfe_core.specs.Change as alters
 use Rattle.wfe_core.specs.Enqueue as enqueues
 use Rattle.wfe_core.specs.Dequeue as dequeues
+use Rattle.wfe_core.specs.Keep as keeps
 use Rattle.wfe_core.specs.Scan as scan
 use Rattle.wfe_core.specs.Steps as steps
-use Rattle.wfe_core.specs.Calls.{Task, Gets, Changes, Holds, Enqueues, Dequeues, Again, Answering, Retiring, AfterScan, Answered, Repeated, Counted, ChangeKept, EnqueueKept, GetAt, FindVersion, FindCount, FindKey, FindValue, ChangeAt, LoadVersion, LoadCount, LoadKey, LoadValue, ExchangeRoot, EnqueueAt, LoadNumber, LoadNext, PassTail, ExchangeNext, ExchangeTail, DequeueAt, LoadTail, SwingTail, TakeNumber, TakeValue, ExchangeHead, Work, Getting, Changing, Enqueuing, Dequeuing, ScanAt, ReadGuard, GiveBack, Why, Opens, FollowsHead, Fills, ClearsNext, Clears, Finishes, GivesUp, Retires, Tidies, Advances, Releases, Runs}
-use Rattle.inv_shapes.specs.Slots.{AllocateEndIn, BaseIn, ChangeIn, EndIn, EnqueueIn, FillIn, FollowEndIn, GetIn, LaterIn, ListIn, NextIn, PhaseIn, PostIn, TakenIn, TaskIn, TurnSlots, WhyIn, WorkIn, change_finds, enqueue_finds, get_finds, work_finds, ScanIn, scan_lists}
-use Rattle.inv_shapes.proofs.SlotRounds.{at_first, opening_slots, round_slots, closed_slots, finishing_slots, clearing_slots, clearing_next_slots}
+use Rattle.wfe_core.specs.Calls.{Task, Gets, Changes, Holds, Enqueues, Dequeues, Again, Answering, Retiring, AfterScan, Answered, Repeated, Counted, ChangeKept, EnqueueKept, GetAt, FindVersion, FindCount, FindKey, FindValue, ChangeAt, LoadVersion, LoadCount, LoadKey, LoadValue, ExchangeRoot, EnqueueAt, LoadNumber, LoadNext, PassTail, ExchangeNext, ExchangeTail, DequeueAt, LoadTail, SwingTail, TakeNumber, TakeValue, ExchangeHead, Work, Getting, Changing, Enqueuing, Dequeuing, LetGo, Released, Rehold, Dropped, KeepAt, Loosens, LoadHeld, StoreHeld, Looks, Misses, Keeping, ScanAt, ReadGuard, GiveBack, Why, Opens, FollowsHead, Fills, ClearsNext, Clears, Finishes, GivesUp, Retires, Tidies, Advances, Releases, Runs}
+use Rattle.inv_shapes.specs.Slots.{AllocateEndIn, ChangeIn, EndIn, EnqueueIn, FillIn, FollowEndIn, GetIn, KeptIn, CopyIn, LaterIn, ListIn, NextIn, PhaseIn, PostIn, StandsIn, TakenIn, TaskIn, TurnSlots, WhyIn, WorkIn, change_finds, enqueue_finds, get_finds, work_finds, ScanIn, scan_lists}
+use Rattle.inv_shapes.proofs.SlotRounds.{at_first, row_slots, withdrawn_slots, opening_slots, round_slots, closed_slots, finishing_slots, clearing_slots, clearing_next_slots}
+use Rattle.wfe_core.proofs.Facts.{if_by}
 use Rattle.wfe_core.proofs.Schemes.{each_release}
 
 -- what an enqueue finds of a link
@@ -58,6 +61,7 @@ work_links slots (Getting key at) found = Unit {0}
 work_links slots (Changing kept at) found = Unit {0}
 work_links slots (Enqueuing kept at) found = link_finds slots at found
 work_links slots (Dequeuing at) found = Unit {0}
+work_links slots (Keeping at) found = Unit {0}
 
 -- a link that is not null leads to a row
 pub link_row : (slots link : ℕ) → link ≤ slots + 1 → link - 1 ≤ slots
@@ -128,17 +132,23 @@ decided : (config : Config) (version : ℕ) (ps : List Pair) (c : Change) → al
 decided config version ps (changes.Put key value) n m k = put_decided config version ps key value (version == config.last_version) (not (alters.has_key ps key) && length ps == config.pairs) refl refl n m k
 decided config version ps (changes.Removed key) n m k = removed_decided config version ps key (not (alters.has_key ps key)) (version == config.last_version) refl n m k
 
+-- what is not refused is not refused for its pairs
+not_stale : (wanted : Option ℕ) (version : ℕ) (other : Option Answer) → alters.stale_or wanted version other ≡ None → other ≡ None
+not_stale None version other h = h
+not_stale (Some wanted) version other h =
+    if_by (version == wanted) other (Some (the_answers.Stale version)) (λ (x : Option Answer). x ≡ None → other ≡ None) (λ e n. n) (λ e n. absurd (cc)) h
+
 filling_slots : (layout : Layout) (desk : Desk) (kept : ChangeKept) (x : Option ℕ) → ChangeIn layout.config kept → kept.version < layout.config.last_version → TakenIn layout.config.slots x → PhaseIn layout desk (Runs (Fills (Changes kept)) (alters.filling_by kept x))
 filling_slots layout desk kept None t v x = ((t, v), tt)
 filling_slots layout desk kept (Some slot) t v x = ((t, v), (x, t.pairs))
 
-deciding_by_slots : (layout : Layout) (kept : ChangeKept) (post : Post) (desk : Desk) (told : List Event) (x : Option Answer) → alters.refusal layout.config kept.version kept.pairs kept.change ≡ x → ChangeIn layout.config kept → PostIn layout post → ListIn layout.config.slots desk.list → TurnSlots layout (alters.deciding_by kept post desk told x)
+deciding_by_slots : (layout : Layout) (kept : ChangeKept) (post : Post) (desk : Desk) (told : List Event) (x : Option Answer) → alters.refused layout.config kept ≡ x → ChangeIn layout.config kept → PostIn layout post → ListIn layout.config.slots desk.list → TurnSlots layout (alters.deciding_by kept post desk told x)
 deciding_by_slots layout kept post desk told (Some answer) e c q l = clearing_slots layout (Changes kept) (Answering answer) post desk told c tt q l
-deciding_by_slots layout kept post desk told None e c q l = let d = decided layout.config kept.version kept.pairs kept.change e c.version c.pairs in
+deciding_by_slots layout kept post desk told None e c q l = let d = decided layout.config kept.version kept.pairs kept.change (not_stale kept.wanted kept.version (alters.refusal layout.config kept.version kept.pairs kept.change) e) c.version c.pairs in
     record { post = q; list = l; phase = filling_slots layout desk (alters.with_change kept) kept.taken (record { taken = c.taken; link = c.link; version = c.version; pairs = d.1 }) d.0 c.taken }
 
 deciding_slots : (layout : Layout) (kept : ChangeKept) (post : Post) (desk : Desk) (told : List Event) → post.layout ≡ layout → ChangeIn layout.config kept → PostIn layout post → ListIn layout.config.slots desk.list → TurnSlots layout (alters.deciding kept post desk told)
-deciding_slots layout kept post desk told p c q l = deciding_by_slots layout kept post desk told (alters.refusal post.layout.config kept.version kept.pairs kept.change) (ap (λ (t : Layout). alters.refusal t.config kept.version kept.pairs kept.change) (sym p)) c q l
+deciding_slots layout kept post desk told p c q l = deciding_by_slots layout kept post desk told (alters.refused post.layout.config kept) (ap (λ (t : Layout). alters.refused t.config kept) (sym p)) c q l
 
 reading_slots : (layout : Layout) (kept : ChangeKept) (slot count : ℕ) (post : Post) (desk : Desk) (more : Bool) → (more ≡ true → length kept.pairs < count) → count ≤ layout.config.pairs → slot ≤ layout.config.slots → post.layout ≡ layout → ChangeIn layout.config kept → PostIn layout post → ListIn layout.config.slots desk.list → TurnSlots layout (alters.reading kept slot count post desk more)
 reading_slots layout kept slot count post desk true e m s p c q l = record { post = q; list = l; phase = (c, (s, e refl, m)) }
@@ -214,12 +224,50 @@ dequeue_slots layout (TakeNumber head next) post desk found w q l = record { pos
 dequeue_slots layout (TakeValue head next number) post desk found w q l = record { post = q; list = l; phase = w }
 dequeue_slots layout (ExchangeHead head next number value) post desk found w q l = taken_slots layout head next number value post desk (found == head + 1) w.0 q l
 
+released_slots : (layout : Layout) (let_go : LetGo) (post : Post) (desk : Desk) (told : List Event) → PostIn layout post → ListIn layout.config.slots desk.list → TurnSlots layout (keeps.released let_go post desk told)
+released_slots layout Released post desk told q l = record { post = q; list = l; phase = tt }
+released_slots layout (Rehold key) post desk told q l = record { post = q; list = l; phase = round_slots layout (Holds key) post desk tt }
+released_slots layout (Dropped index) post desk told q l = record { post = q; list = l; phase = tt }
+
+copied_slots : (layout : Layout) (from index : ℕ) (post : Post) (desk : Desk) (reserved : List Event) (x : Option ℕ) → StandsIn layout x from → index < layout.config.indexes → PostIn layout post → ListIn layout.config.slots desk.list → TurnSlots layout (keeps.copied from index post desk reserved x)
+copied_slots layout from index post desk reserved None s b q l = record { post = q; list = l; phase = tt }
+copied_slots layout from index post desk reserved (Some slot) s b q l = record { post = row_slots layout post index slot s.0 b q; list = l; phase = tt }
+
+load_held_slots : (layout : Layout) (from index : ℕ) (post : Post) (desk : Desk) (found : ℕ) (one : Bool) → CopyIn layout.config from index → PostIn layout post → ListIn layout.config.slots desk.list → TurnSlots layout (keeps.load_held from index post desk found one)
+load_held_slots layout from index post desk found true c q l = copied_slots layout from index post desk [] (stands post from) (q from) c.below q l
+load_held_slots layout from index post desk found false c q l = record { post = q; list = l; phase = c }
+
+looking_slots : (layout : Layout) (index key slot version count : ℕ) (post : Post) (desk : Desk) (more : Bool) (pair : ℕ) → nat_lt pair count ≡ more → KeptIn layout.config index → count ≤ layout.config.pairs → slot ≤ layout.config.slots → PostIn layout post → ListIn layout.config.slots desk.list
+    → TurnSlots layout (keeps.looking index key slot version count post desk more pair)
+looking_slots layout index key slot version count post desk true pair e k c s q l = record { post = q; list = l; phase = (k, (s, grind (arith, nat_tests), c)) }
+looking_slots layout index key slot version count post desk false pair e k c s q l = record { post = q; list = l; phase = tt }
+
+looked_key_slots : (layout : Layout) (index key slot version count pair : ℕ) (post : Post) (desk : Desk) (own : Bool) → KeptIn layout.config index → GetIn layout.config (FindKey slot version count pair) → PostIn layout post → ListIn layout.config.slots desk.list
+    → TurnSlots layout (keeps.looked_key index key slot version count pair post desk own)
+looked_key_slots layout index key slot version count pair post desk true k s q l = record { post = q; list = l; phase = (k, (s.0, let a = s.1 in let b = s.2 in omega arith)) }
+looked_key_slots layout index key slot version count pair post desk false k s q l = looking_slots layout index key slot version count post desk (nat_lt (pair + 1) count) (pair + 1) refl k s.2 s.0 q l
+
+look_slots : (layout : Layout) (index key : ℕ) (at : GetAt) (post : Post) (desk : Desk) (found : ℕ) → get_finds layout.config at found → KeptIn layout.config index → GetIn layout.config at → PostIn layout post → ListIn layout.config.slots desk.list → TurnSlots layout (keeps.look_turn index key at post desk found)
+look_slots layout index key (FindVersion slot) post desk found f k s q l = record { post = q; list = l; phase = (k, s) }
+look_slots layout index key (FindCount slot version) post desk found f k s q l = looking_slots layout index key slot version found post desk (nat_lt 0 found) 0 refl k f s q l
+look_slots layout index key (FindKey slot version count pair) post desk found f k s q l = looked_key_slots layout index key slot version count pair post desk (found == key) k s q l
+look_slots layout index key (FindValue slot version pair) post desk found f k s q l = record { post = q; list = l; phase = tt }
+
+keep_slots : (layout : Layout) (at : KeepAt) (post : Post) (desk : Desk) (found : ℕ) → work_finds layout.config (Keeping at) found → WorkIn layout.config (Keeping at) → PostIn layout post → ListIn layout.config.slots desk.list → TurnSlots layout (keeps.keep_turn at post desk found)
+keep_slots layout (Loosens let_go) post desk found f w q l =
+    released_slots layout let_go (withdrawn post (let_index let_go)) desk (cleared (let_index let_go) (stands post (let_index let_go))) (withdrawn_slots layout post (let_index let_go) q) l
+keep_slots layout (LoadHeld from index) post desk found f w q l = load_held_slots layout from index post desk found (has_one_interval (scheme_of post)) w q l
+keep_slots layout (StoreHeld from index era) post desk found f w q l = copied_slots layout from index post desk (reserves_index post index era) (stands post from) (q from) w.below q l
+keep_slots layout (Looks index key at) post desk found f w q l = look_slots layout index key at post desk found f w.0 w.1 q l
+keep_slots layout (Misses index) post desk found f w q l = record { post = q; list = l; phase = tt }
+
 -- a step of a call's own, which found this
 pub work_slots : (layout : Layout) (work : Work) (post : Post) (desk : Desk) (found : ℕ) → work_finds layout.config work found → work_links layout.config.slots work found → post.layout ≡ layout → WorkIn layout.config work → PostIn layout post → ListIn layout.config.slots desk.list → TurnSlots layout (steps.work_turn work post desk found)
 work_slots layout (Getting key at) post desk found f k p w q l = get_slots layout key at post desk found f w q l
 work_slots layout (Changing kept at) post desk found f k p w q l = change_slots layout kept at post desk found f p w q l
 work_slots layout (Enqueuing kept at) post desk found f k p w q l = enqueue_slots layout kept at post desk found f k p w q l
 work_slots layout (Dequeuing at) post desk found f k p w q l = dequeue_slots layout at post desk found w q l
+work_slots layout (Keeping at) post desk found f k p w q l = keep_slots layout at post desk found f w q l
 
 -- a scan
 abbrev entry_in : ℕ → Option scan.Entry → Type 0
@@ -395,10 +443,6 @@ advanced_slots layout (Followed end) post desk told q l = record { post = q; lis
 advanced_slots layout (Allocated end) post desk told q l = record { post = q; list = l; phase = tt }
 advanced_slots layout (Retired life) post desk told q l = record { post = q; list = l; phase = tt }
 
-released_slots : (layout : Layout) (key : Option ℕ) (post : Post) (desk : Desk) (told : List Event) → PostIn layout post → ListIn layout.config.slots desk.list → TurnSlots layout (steps.released key post desk told)
-released_slots layout None post desk told q l = record { post = q; list = l; phase = tt }
-released_slots layout (Some key) post desk told q l = record { post = q; list = l; phase = round_slots layout (Holds key) post desk tt }
-
 pub resume_slots : (layout : Layout) (why : Why) (ending : Ending) (post : Post) (desk : Desk) (told : List Event) → WhyIn layout.config why → EndIn layout.config.slots ending → post.layout ≡ layout → PostIn layout post → ListIn layout.config.slots desk.list → TurnSlots layout (steps.resume why ending post desk told)
 resume_slots layout (Opens task) ending post desk told y e p q l = opened_slots layout task ending post desk told e p y q l
 resume_slots layout (FollowsHead head tail) ending post desk told y e p q l = followed_by_slots layout head tail ending post desk told e y q l
@@ -410,23 +454,43 @@ resume_slots layout (GivesUp answer) ending post desk told y e p q l = record { 
 resume_slots layout (Retires answer) ending post desk told y e p q l = retired_by_slots layout answer ending post desk told e q l
 resume_slots layout (Tidies later) ending post desk told y e p q l = tidied_slots layout later ending post desk told y q l
 resume_slots layout Advances ending post desk told y e p q l = advanced_slots layout ending post desk told q l
-resume_slots layout (Releases key) ending post desk told y e p q l = released_slots layout key post desk told q l
+resume_slots layout (Releases let_go) ending post desk told y e p q l = released_slots layout let_go post desk told q l
 
 -- a call's first phase
-release_slots : (layout : Layout) (s : SchemeKind) → BaseIn layout (release_base s)
-release_slots layout s = each_release s (λ (base : Base). BaseIn layout base) tt tt
+let_span_slots : (layout : Layout) (desk : Desk) (let_go : LetGo) (x : Option ℕ) → KeptIn layout.config (let_index let_go) → PhaseIn layout desk (letting_by let_go (release_span (let_index let_go) x))
+let_span_slots layout desk let_go None k = (k, tt)
+let_span_slots layout desk let_go (Some slot) k = k
 
-holding_slots : (layout : Layout) (key : ℕ) (post : Post) (desk : Desk) (x : Option ℕ) → PhaseIn layout desk (steps.holding key post x)
-holding_slots layout key post desk None = round_slots layout (Holds key) post desk tt
-holding_slots layout key post desk (Some slot) = (tt, release_slots layout (scheme_of post))
+letting_slots : (layout : Layout) (let_go : LetGo) (post : Post) (desk : Desk) → KeptIn layout.config (let_index let_go) → PhaseIn layout desk (letting let_go post)
+letting_slots layout let_go post desk k =
+    each_release (scheme_of post) post (let_index let_go) (λ (x : Option Base). PhaseIn layout desk (letting_by let_go x)) (k, tt) (let_span_slots layout desk let_go (kept_row (withdrawn post (let_index let_go))) k)
 
-pub first_slots : (layout : Layout) (call : Call) (post : Post) (desk : Desk) → PhaseIn layout desk (steps.first_phase call post)
-first_slots layout (names.Get key) post desk = round_slots layout (Gets key) post desk tt
-first_slots layout (names.Put key value) post desk = round_slots layout _ post desk (record { taken = tt; link = omega arith; version = omega arith; pairs = omega arith })
-first_slots layout (names.Remove key) post desk = round_slots layout _ post desk (record { taken = tt; link = omega arith; version = omega arith; pairs = omega arith })
-first_slots layout (names.Enqueue value) post desk = round_slots layout _ post desk (record { taken = tt; tail = omega arith; number = omega arith })
-first_slots layout names.Dequeue post desk = round_slots layout Dequeues post desk tt
-first_slots layout (names.Hold key) post desk = holding_slots layout key post desk (stands post 2)
-first_slots layout names.Release post desk = (tt, release_slots layout (scheme_of post))
-first_slots layout names.Advance post desk = (tt, tt)
-first_slots layout names.Scan post desk = (tt, refl)
+holding_slots : (layout : Layout) (key : ℕ) (post : Post) (desk : Desk) (x : Option ℕ) → 3 ≤ layout.config.indexes → PhaseIn layout desk (steps.holding key post x)
+holding_slots layout key post desk None b = round_slots layout (Holds key) post desk tt
+holding_slots layout key post desk (Some slot) b = letting_slots layout (Rehold key) post desk (record { kept = omega arith; below = omega arith })
+
+copying_slots : (layout : Layout) (from index : ℕ) (desk : Desk) (x : Option ℕ) → may_begin layout.config (names.Copy from index) ≡ true → PhaseIn layout desk (steps.copying from index x)
+copying_slots layout from index desk None m = record { kept = grind (arith, nat_tests); below = grind (arith, nat_tests) }
+copying_slots layout from index desk (Some slot) m = record { kept = grind (arith, nat_tests); rises = grind (arith, nat_tests); below = grind (arith, nat_tests) }
+
+kept_in : (config : Config) (index : ℕ) → (nat_le 2 index && nat_lt index config.indexes) ≡ true → KeptIn config index
+kept_in config index m = record { kept = grind (arith, nat_tests); below = grind (arith, nat_tests) }
+
+looking_at_slots : (layout : Layout) (index key : ℕ) (desk : Desk) (x : Option ℕ) → KeptIn layout.config index → StandsIn layout x index → PhaseIn layout desk (steps.looking_at index key x)
+looking_at_slots layout index key desk None k s = k
+looking_at_slots layout index key desk (Some slot) k s = (k, s.0)
+
+pub first_slots : (layout : Layout) (call : Call) (post : Post) (desk : Desk) → 3 ≤ layout.config.indexes → may_begin layout.config call ≡ true → PostIn layout post → PhaseIn layout desk (steps.first_phase call post)
+first_slots layout (names.Get key) post desk b m q = round_slots layout (Gets key) post desk tt
+first_slots layout (names.Put key value) post desk b m q = round_slots layout _ post desk (record { taken = tt; link = omega arith; version = omega arith; pairs = omega arith })
+first_slots layout (names.Remove key) post desk b m q = round_slots layout _ post desk (record { taken = tt; link = omega arith; version = omega arith; pairs = omega arith })
+first_slots layout (names.Enqueue value) post desk b m q = round_slots layout _ post desk (record { taken = tt; tail = omega arith; number = omega arith })
+first_slots layout names.Dequeue post desk b m q = round_slots layout Dequeues post desk tt
+first_slots layout (names.Hold key) post desk b m q = holding_slots layout key post desk (stands post 2) b
+first_slots layout names.Release post desk b m q = letting_slots layout Released post desk (record { kept = omega arith; below = omega arith })
+first_slots layout names.Advance post desk b m q = (tt, tt)
+first_slots layout names.Scan post desk b m q = (tt, refl)
+first_slots layout (names.Copy from index) post desk b m q = copying_slots layout from index desk (stands post from) m
+first_slots layout (names.DropIndex index) post desk b m q = letting_slots layout (Dropped index) post desk (kept_in layout.config index m)
+first_slots layout (names.Look index key) post desk b m q = looking_at_slots layout index key desk (stands post index) (kept_in layout.config index m) (q index)
+first_slots layout (names.PutIf key value version) post desk b m q = round_slots layout _ post desk (record { taken = tt; link = omega arith; version = omega arith; pairs = omega arith })

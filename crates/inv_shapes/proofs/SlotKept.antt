@@ -29,10 +29,12 @@ use Rattle.wfe_core.specs.Get.{get_move}
 use Rattle.wfe_core.specs.Change.{change_move}
 use Rattle.wfe_core.specs.Enqueue.{enqueue_move}
 use Rattle.wfe_core.specs.Dequeue.{dequeue_move}
+use Rattle.wfe_core.specs.Keep.{keep_move}
 use Rattle.wfe_core.specs.Scan.{scan_move}
+use Rattle.wfe_core.proofs.Ranges.{bounds_of}
 use Rattle.wfe_core.specs.Steps.{resumed, work_move, phase_move, phase_turn}
-use Rattle.wfe_core.specs.Locals.{Local, move, after, settled_by, settled, told_by, rounds_told, begun_post, begun, fresh}
-use Rattle.wfe_core.specs.Calls.{ChangeKept, EnqueueKept, GetAt, FindVersion, ChangeAt, ExchangeRoot, EnqueueAt, LoadNumber, LoadNext, PassTail, ExchangeNext, ExchangeTail, DequeueAt, LoadTail, SwingTail, TakeNumber, TakeValue, ExchangeHead, Work, Getting, Changing, Enqueuing, Dequeuing, ScanAt, ReadGuard, GiveBack, Why, Phase, Idle, Runs, Scans, Works, CallTurn, CallOutcome, GoesOn, Answers}
+use Rattle.wfe_core.specs.Locals.{Local, move, after, settled_by, settled, told_by, rounds_told, may_begin, begun_post, begun, fresh}
+use Rattle.wfe_core.specs.Calls.{ChangeKept, EnqueueKept, GetAt, FindVersion, ChangeAt, ExchangeRoot, EnqueueAt, LoadNumber, LoadNext, PassTail, ExchangeNext, ExchangeTail, DequeueAt, LoadTail, SwingTail, TakeNumber, TakeValue, ExchangeHead, KeepAt, Loosens, LoadHeld, StoreHeld, Looks, Misses, Work, Getting, Changing, Enqueuing, Dequeuing, Keeping, ScanAt, ReadGuard, GiveBack, Why, Phase, Idle, Runs, Scans, Works, CallTurn, CallOutcome, GoesOn, Answers}
 use Rattle.wfe_core.specs.World.{World, first_word, start, begin, step}
 use Rattle.inv_shapes.specs.Frame.{phase_left}
 use Rattle.inv_shapes.specs.Seats.{Run, PostFits, PhaseFits, Seats}
@@ -101,7 +103,7 @@ base_writes layout why (Protect aim index root steps at) post r = protect_writes
 base_writes layout why (Reload parent index slot era steps) post r = tt
 base_writes layout why (Clear index) post r = tt
 base_writes layout why Finish post r = tt
-base_writes layout why Release post r = tt
+base_writes layout why (Release index) post r = tt
 base_writes layout why (Allocate at) post r = allocate_writes layout.config.slots at
 base_writes layout why (Write slot row place) post r = row_writes layout.config.slots row place r.fits
 base_writes layout why (GiveUp slot) post r = λ word. tt
@@ -130,11 +132,19 @@ dequeue_writes config (TakeNumber head next) w = tt
 dequeue_writes config (TakeValue head next number) w = tt
 dequeue_writes config (ExchangeHead head next number value) w = let s = w.1 in omega arith
 
+keep_writes : (config : Config) (at : KeepAt) (post : Post) → MoveSlots config.slots (keep_move at post)
+keep_writes config (Loosens let_go) post = tt
+keep_writes config (LoadHeld from index) post = tt
+keep_writes config (StoreHeld from index era) post = tt
+keep_writes config (Looks index key at) post = get_writes config.slots at
+keep_writes config (Misses index) post = tt
+
 work_writes : (config : Config) (work : Work) (post : Post) → WorkIn config work → MoveSlots config.slots (work_move work post)
 work_writes config (Getting key at) post w = get_writes config.slots at
 work_writes config (Changing kept at) post w = change_writes config kept at post w
 work_writes config (Enqueuing kept at) post w = enqueue_writes config kept at w
 work_writes config (Dequeuing at) post w = dequeue_writes config at w
+work_writes config (Keeping at) post w = keep_writes config at post
 
 scan_writes : (slots : ℕ) (at : ScanAt) (post : Post) → MoveSlots slots (scan_move at post)
 scan_writes slots (ReadGuard number) post = tt
@@ -160,6 +170,7 @@ work_found slots mem (Enqueuing kept (PassTail next)) post h = tt
 work_found slots mem (Enqueuing kept (ExchangeNext slot)) post h = tt
 work_found slots mem (Enqueuing kept (ExchangeTail slot)) post h = tt
 work_found slots mem (Dequeuing at) post h = tt
+work_found slots mem (Keeping at) post h = tt
 
 turn_slots : (layout : Layout) (mem : Place → ℕ) (k : ℕ) → Linked layout mem → (phase : Phase) (post : Post) (desk : Desk) → PostFits layout k (counted post) → PhaseFits layout post phase → PhaseIn layout desk phase → PostIn layout post → ListIn layout.config.slots desk.list
     → phase_finds layout.config desk phase (found (phase_move phase (counted post)) (mem (place_in (phase_move phase (counted post)))))
@@ -200,11 +211,11 @@ slots_step w i v s e h n = record {
   seats = one_moves (λ k l. SeatSlots w.layout l) w.seat (step w i).seat i h.seats (seat_stays w i) (own_slots w i v s e h n);
 }
 
-pub slots_begin : (w : World) (i : ℕ) (call : Call) → Slots w → Slots (begin w i call)
-slots_begin w i call h = record {
+pub slots_begin : (w : World) (i : ℕ) (call : Call) → is_valid w.layout ≡ true → may_begin w.layout.config call ≡ true → Slots w → Slots (begin w i call)
+slots_begin w i call v m h = record {
   words = h.words;
   seats = one_moves (λ k l. SeatSlots w.layout l) w.seat (begin w i call).seat i h.seats (λ k. begin_stays w i k call)
-      (subst (SeatSlots w.layout) (sym (begin_begins w i call)) (record { post = (h.seats i).post; list = (h.seats i).list; phase = first_slots w.layout call (begun_post (w.seat i).post) (begun (w.seat i) call).desk }));
+      (subst (SeatSlots w.layout) (sym (begin_begins w i call)) (record { post = (h.seats i).post; list = (h.seats i).list; phase = first_slots w.layout call (begun_post (w.seat i).post) (begun (w.seat i) call).desk (let b = bounds_of w.layout v in b.indexes.0) m (h.seats i).post }));
 }
 
 -- the start

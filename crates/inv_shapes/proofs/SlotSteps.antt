@@ -32,13 +32,13 @@ use Rattle.wfe_core.specs.WriteRow.{last_written}
 use Rattle.wfe_core.specs.MoveClock.{after_hand_over, all_met, next_request, helping, met, moving}
 use Rattle.wfe_core.specs.Machine.{protect_move, move_move, base_move, after, begin_turn, protect_turn, allocate_turn, retire_turn, move_turn}
 use Rattle.wfe_core.specs.Calls.{Why}
-use Rattle.inv_shapes.specs.Seats.{Run, index_by}
+use Rattle.inv_shapes.specs.Seats.{Run, index_by, kind_of, protects}
 use Rattle.inv_shapes.specs.Eras.{RootNeeds, AskingIn}
 use Rattle.inv_shapes.specs.Slots.{ProtectIn, ProtectsIn, RetireIn, MovesIn, BaseIn, ProtectEndIn, PostIn, MachineSlots, WordSlots}
 use Rattle.inv_shapes.proofs.Finds.{request_read}
 use Rattle.inv_shapes.proofs.Machines.{post_if}
 use Rattle.inv_shapes.proofs.Steps.{Told}
-use Rattle.inv_shapes.proofs.Written.{index_few}
+use Rattle.inv_shapes.proofs.Written.{index_few, reloads_protect}
 use Rattle.inv_shapes.proofs.SlotRounds.{row_slots, withdrawn_slots}
 use Rattle.inv_shapes.proofs.SlotCalls.{link_row}
 
@@ -201,20 +201,20 @@ move_slots layout mem w (HideEra era) post e q = record { post = q; outcome = tt
 move_slots layout mem w (HideLate seen) post e q = record { post = q; outcome = tt }
 move_slots layout mem w (ExchangeClock era) post e q = slots_if layout (mem Clock == era) _ _ (record { post = q; outcome = tt }) (record { post = q; outcome = tt })
 
-few_index : (layout : Layout) (why : Why) (index : ℕ) → 3 ≤ layout.config.indexes → index ≡ index_by why → index < layout.config.indexes
-few_index layout why index b e = let f = index_few why in omega arith
+few_index : (layout : Layout) (why : Why) (index : ℕ) → 3 ≤ layout.config.indexes → protects (kind_of why) ≡ true → index ≡ index_by why → index < layout.config.indexes
+few_index layout why index b p e = let f = index_few why p in omega arith
 
 -- a step inside a machine
 pub machine_slots : (layout : Layout) (mem : Place → ℕ) → Linked layout mem → (why : Why) (base : Base) (post : Post) → Run layout why base post → BaseIn layout base → PostIn layout post
     → MachineSlots layout (after base post (found (base_move base post) (mem (place_in (base_move base post)))))
 machine_slots layout mem w why (Begin at) post r e q = begin_slots layout at post _ q
 machine_slots layout mem w why (Protect aim index root steps at) post r e q = let b = bounds_of layout w.told.valid in
-    protect_slots layout mem w index (few_index layout why index b.indexes.0 r.shape.at) aim root steps (bump steps) at post e q
+    protect_slots layout mem w index (few_index layout why index b.indexes.0 r.suited r.shape.at) aim root steps (bump steps) at post e q
 machine_slots layout mem w why (Reload parent index slot era steps) post r e q = let b = bounds_of layout w.told.valid in
-    slots_if layout (mem Head == parent + 1) _ _ (record { post = row_slots layout post index slot e.1 (few_index layout why index b.indexes.0 r.shape.at) q; outcome = e.1 }) (record { post = q; outcome = tt })
+    slots_if layout (mem Head == parent + 1) _ _ (record { post = row_slots layout post index slot e.1 (few_index layout why index b.indexes.0 (reloads_protect (kind_of why) r.suited) r.shape.at) q; outcome = e.1 }) (record { post = q; outcome = tt })
 machine_slots layout mem w why (Clear index) post r e q = record { post = withdrawn_slots layout post index q; outcome = tt }
 machine_slots layout mem w why Finish post r e q = record { post = q; outcome = tt }
-machine_slots layout mem w why Release post r e q = record { post = withdrawn_slots layout post 2 q; outcome = tt }
+machine_slots layout mem w why (Release index) post r e q = record { post = withdrawn_slots layout post index q; outcome = tt }
 machine_slots layout mem w why (Allocate at) post r e q = allocate_slots layout why at post _ r q
 machine_slots layout mem w why (Write slot row place) post r e q = slots_if layout (place == last_written row) _ _ (record { post = q; outcome = tt }) (record { post = q; outcome = e })
 machine_slots layout mem w why (GiveUp slot) post r e q = record { post = q; outcome = tt }

@@ -19,9 +19,10 @@ use Rattle.wfe_core.specs.Get.{get_move}
 use Rattle.wfe_core.specs.Change.{change_move}
 use Rattle.wfe_core.specs.Enqueue.{enqueue_move}
 use Rattle.wfe_core.specs.Dequeue.{dequeue_move}
+use Rattle.wfe_core.specs.Keep.{keep_move}
 use Rattle.wfe_core.specs.Scan.{scan_move}
 use Rattle.wfe_core.specs.Steps.{work_move, phase_move}
-use Rattle.wfe_core.specs.Calls.{ChangeKept, EnqueueKept, GetAt, FindVersion, ChangeAt, LoadVersion, EnqueueAt, LoadNumber, DequeueAt, LoadTail, Work, Getting, Changing, Enqueuing, Dequeuing, ScanAt, ReadGuard, GiveBack, Phase, Idle, Runs, Scans, Works}
+use Rattle.wfe_core.specs.Calls.{ChangeKept, EnqueueKept, GetAt, FindVersion, ChangeAt, LoadVersion, EnqueueAt, LoadNumber, DequeueAt, LoadTail, KeepAt, Loosens, LoadHeld, StoreHeld, Looks, Misses, Work, Getting, Changing, Enqueuing, Dequeuing, Keeping, ScanAt, ReadGuard, GiveBack, Phase, Idle, Runs, Scans, Works}
 
 -- the own word
 pub own_span : (mem : Place → ℕ) (seat k value : ℕ) → seat ≡ k → put mem (Interval seat) value (Interval k) ≡ value
@@ -56,7 +57,7 @@ base_span mem k (Protect aim index root steps at) post e = protect_span mem k in
 base_span mem k (Reload parent index slot era steps) post e = refl
 base_span mem k (Clear index) post e = refl
 base_span mem k Finish post e = other_span mem post.seat k 0 e
-base_span mem k Release post e = other_span mem post.seat k 0 e
+base_span mem k (Release index) post e = other_span mem post.seat k 0 e
 base_span mem k (Allocate at) post e = allocate_span mem k at
 base_span mem k (Write slot row place) post e = refl
 base_span mem k (GiveUp slot) post e = refl
@@ -79,12 +80,20 @@ dequeue_span : (mem : Place → ℕ) (k : ℕ) (at : DequeueAt) → written mem 
 dequeue_span mem k (LoadTail head) = refl
 dequeue_span mem k at = refl
 
+keep_span : (mem : Place → ℕ) (k : ℕ) (at : KeepAt) (post : Post) → written mem (keep_move at post) (Interval k) ≡ mem (Interval k)
+keep_span mem k (Loosens let_go) post = refl
+keep_span mem k (LoadHeld from index) post = refl
+keep_span mem k (StoreHeld from index era) post = refl
+keep_span mem k (Looks index key at) post = get_span mem k at
+keep_span mem k (Misses index) post = refl
+
 -- a call's own step writes none
 pub work_span : (mem : Place → ℕ) (k : ℕ) (work : Work) (post : Post) → written mem (work_move work post) (Interval k) ≡ mem (Interval k)
 work_span mem k (Getting key at) post = get_span mem k at
 work_span mem k (Changing kept at) post = change_span mem k kept at post
 work_span mem k (Enqueuing kept at) post = enqueue_span mem k kept at
 work_span mem k (Dequeuing at) post = dequeue_span mem k at
+work_span mem k (Keeping at) post = keep_span mem k at post
 
 pub scan_span : (mem : Place → ℕ) (k : ℕ) (at : ScanAt) (post : Post) → written mem (scan_move at post) (Interval k) ≡ mem (Interval k)
 scan_span mem k (ReadGuard number) post = refl

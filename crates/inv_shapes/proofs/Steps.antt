@@ -55,7 +55,7 @@ now_in : {layout : Layout} {mem : Place → ℕ} → Told layout mem → EraIn (
 now_in w = record { some = w.some; most = omega arith }
 
 -- posts
-row_keeps : (layout : Layout) (k c word : ℕ) (post : Post) (index slot : ℕ) → PostEras layout k c word post → PostEras layout k c word (with_row post index slot)
+pub row_keeps : (layout : Layout) (k c word : ℕ) (post : Post) (index slot : ℕ) → PostEras layout k c word post → PostEras layout k c word (with_row post index slot)
 row_keeps layout k c word post index slot q = record { fits = row_fits layout k post index slot q.fits; span = q.span; shown = q.shown }
 
 held_keeps : (layout : Layout) (k c word : ℕ) (post : Post) (index : ℕ) (root : Root) (link : ℕ) → PostEras layout k c word post → PostEras layout k c word (held_post post index root link)
@@ -270,8 +270,8 @@ era_steps layout k mem w why (Reload parent index slot era steps) post q r e d =
     steps_if why (mem Head == parent + 1) _ _ (λ t. record { post = row_keeps layout k (mem Clock) (mem (Interval k)) post index slot q; phase = tt }) (λ t. record { post = q; phase = tt })
 era_steps layout k mem w why (Clear index) post q r e d = record { post = withdrawn_keeps layout k (mem Clock) (mem (Interval k)) post index q; phase = tt }
 era_steps layout k mem w why Finish post q r e d = record { post = record { fits = span_fits layout k post None q.fits; span = tt; shown = own_span mem post.seat k 0 q.fits.seat }; phase = tt }
-era_steps layout k mem w why Release post q r e d =
-    record { post = record { fits = span_fits layout k (withdrawn post 2) None (withdrawn_fits layout k post 2 q.fits); span = tt; shown = own_span mem post.seat k 0 q.fits.seat }; phase = tt }
+era_steps layout k mem w why (Release index) post q r e d =
+    record { post = record { fits = span_fits layout k (withdrawn post index) None (withdrawn_fits layout k post index q.fits); span = tt; shown = own_span mem post.seat k 0 q.fits.seat }; phase = tt }
 era_steps layout k mem w why (Allocate at) post q r e d = allocate_steps layout k mem w why at post q r e
 era_steps layout k mem w why (Write slot row place) post q r e d = write_steps layout k (mem Clock) (mem (Interval k)) why slot row place post q
 era_steps layout k mem w why (GiveUp slot) post q r e d = record { post = q; phase = tt }

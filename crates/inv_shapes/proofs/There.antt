@@ -8,6 +8,7 @@ use Rattle.wfe_core.specs.words.Place.Place.{Clock, Index, Bucket, Claim, Life, 
 use Rattle.wfe_core.specs.words.declared.config.SchemeKind.{SchemeKind}
 use Rattle.wfe_core.specs.words.declared.config.SchemeKind.TheVariants.{He, Ibr, Wfe}
 use Rattle.wfe_core.specs.words.declared.layout.Layout.{Layout}
+use Rattle.wfe_core.specs.defs.declared.event.Guard.{Guard}
 use Rattle.wfe_core.specs.defs.declared.event.Guard.TheVariants as guard_names
 use Rattle.wfe_core.specs.defs.declared.event.Root.{Root}
 use Rattle.wfe_core.specs.declared.post.Post.{Post}
@@ -16,7 +17,7 @@ use Rattle.wfe_core.specs.Memory.{place_in}
 use Rattle.wfe_core.specs.Guards.{index_at, guard_by, guard_at, guards_by, guard_place}
 use Rattle.wfe_core.specs.Links.{link_place}
 use Rattle.wfe_core.proofs.Ranges.{bounds_of}
-use Rattle.wfe_core.specs.Rounds.{key_of}
+use Rattle.wfe_core.specs.Rounds.{key_of, scheme_of}
 use Rattle.wfe_core.specs.WriteRow.{first_written, last_written}
 use Rattle.wfe_core.specs.Phases.{Aim, BeginAt, ProtectAt, AllocateAt, RetireAt, MoveAt, RowOf, MapRow, QueueRow, Base}
 use Rattle.wfe_core.specs.Phases.BeginAt.{LoadLower, PublishSpan}
@@ -30,16 +31,18 @@ use Rattle.wfe_core.specs.Get.{get_move}
 use Rattle.wfe_core.specs.Change.{change_move}
 use Rattle.wfe_core.specs.Enqueue.{enqueue_move}
 use Rattle.wfe_core.specs.Dequeue.{dequeue_move}
+use Rattle.wfe_core.specs.Keep.{keep_move, own_place}
 use Rattle.wfe_core.specs.Scan.{scan_move}
 use Rattle.wfe_core.specs.Steps.{work_move, phase_move}
 use Rattle.wfe_core.specs.Locals.{move}
 use Rattle.wfe_core.specs.World.{World}
-use Rattle.wfe_core.specs.Calls.{ChangeKept, EnqueueKept, GetAt, FindVersion, FindCount, FindKey, FindValue, ChangeAt, LoadVersion, LoadCount, LoadKey, LoadValue, ExchangeRoot, EnqueueAt, LoadNumber, LoadNext, PassTail, ExchangeNext, ExchangeTail, DequeueAt, LoadTail, SwingTail, TakeNumber, TakeValue, ExchangeHead, Work, Getting, Changing, Enqueuing, Dequeuing, ScanAt, ReadGuard, GiveBack, Why, Phase, Idle, Runs, Scans, Works}
+use Rattle.wfe_core.specs.Calls.{ChangeKept, EnqueueKept, GetAt, FindVersion, FindCount, FindKey, FindValue, ChangeAt, LoadVersion, LoadCount, LoadKey, LoadValue, ExchangeRoot, EnqueueAt, LoadNumber, LoadNext, PassTail, ExchangeNext, ExchangeTail, DequeueAt, LoadTail, SwingTail, TakeNumber, TakeValue, ExchangeHead, Work, Getting, Changing, Enqueuing, Dequeuing, KeepAt, Loosens, LoadHeld, StoreHeld, Looks, Misses, Keeping, ScanAt, ReadGuard, GiveBack, Why, Phase, Idle, Runs, Scans, Works}
 use Rattle.inv_shapes.specs.Seats.{index_by, allocate_fits, move_fits, scan_fits, Run, PhaseFits, Seats}
 use Rattle.wfe_core.specs.words.Schemes.{helps}
 use Rattle.inv_shapes.specs.Eras.{RootNeeds, move_eras, base_eras, PhaseEras, Eras}
-use Rattle.inv_shapes.specs.Slots.{RowIn, RetireIn, BaseIn, GetIn, WorkIn, ScanIn, PhaseIn, Slots}
-use Rattle.inv_shapes.proofs.Written.{index_few, root_there}
+use Rattle.inv_shapes.specs.Slots.{RowIn, RetireIn, BaseIn, GetIn, WhyIn, WorkIn, ScanIn, PhaseIn, Slots}
+use Rattle.inv_shapes.proofs.Written.{index_in_seat, root_there}
+use Rattle.wfe_core.proofs.Schemes.{each_guard}
 use Rattle.wfe_core.proofs.Facts.{lt_test}
 
 -- a seat with these words is there
@@ -51,8 +54,8 @@ record Seated (layout : Layout) (post : Post) : Type 0 where
 index_there : (layout : Layout) (seat index : ℕ) → seat < layout.config.seats → index < layout.config.indexes → has layout (Index seat index) ≡ true
 index_there layout seat index a b = grind (arith, nat_tests)
 
-pub index_below : (layout : Layout) (why : Why) (index : ℕ) → is_valid layout ≡ true → index ≡ index_by why → index < layout.config.indexes
-index_below layout why index v e = let b = bounds_of layout v in let i = b.indexes.0 in let f = index_few why in omega arith
+pub index_below : (layout : Layout) (why : Why) (index : ℕ) → is_valid layout ≡ true → WhyIn layout.config why → index ≡ index_by why → index < layout.config.indexes
+index_below layout why index v y e = let b = bounds_of layout v in let f = index_in_seat layout.config why b.indexes.0 y in omega arith
 
 claim_there : (layout : Layout) (slot : ℕ) → slot ≤ layout.config.slots → has layout (Claim (claim_word slot)) ≡ true
 claim_there layout slot h = let a : slot / 64 < (layout.config.slots + 64) / 64 = omega arith in grind (arith, nat_tests)
@@ -63,15 +66,15 @@ life_there layout slot h = grind (arith, nat_tests)
 row_there : (layout : Layout) (slot place : ℕ) → slot ≤ layout.config.slots → place < 3 + 2 * layout.config.pairs → has layout (Row slot place) ≡ true
 row_there layout slot place a b = grind (arith, nat_tests)
 
-protect_there : (layout : Layout) (why : Why) (aim : Aim) (index : ℕ) (root : Root) (n : ℕ) (at : ProtectAt) (post : Post) → Seated layout post → Run layout why (Protect aim index root n at) post → RootNeeds layout root
+protect_there : (layout : Layout) (why : Why) (aim : Aim) (index : ℕ) (root : Root) (n : ℕ) (at : ProtectAt) (post : Post) → Seated layout post → Run layout why (Protect aim index root n at) post → WhyIn layout.config why → RootNeeds layout root
     → has layout (place_in (protect_move index root at post)) ≡ true
-protect_there layout why aim index root n at post s r d = by at
+protect_there layout why aim index root n at post s r y d = by at
   where
     link : has layout (link_place root) ≡ true
     link = let b = bounds_of layout s.valid in root_there layout why root b.buckets.0 r.shape.of d
 
     own : has layout (Index post.seat index) ≡ true
-    own = index_there layout post.seat index s.below (index_below layout why index s.valid r.shape.at)
+    own = index_there layout post.seat index s.below (index_below layout why index s.valid y r.shape.at)
 
     here : nat_lt post.seat layout.config.seats ≡ true
     here = lt_test post.seat layout.config.seats s.below
@@ -129,19 +132,19 @@ written_there : (layout : Layout) (slot : ℕ) (row : RowOf) (place : ℕ) → s
 written_there layout slot (MapRow version pairs) place a f m = row_there layout slot place a (grind (arith, nat_tests))
 written_there layout slot (QueueRow number value) place a f m = row_there layout slot place a (grind (arith, nat_tests))
 
-base_there : (layout : Layout) (clock : ℕ) (why : Why) (base : Base) (post : Post) → Seated layout post → Run layout why base post → base_eras layout clock post base → BaseIn layout base
+base_there : (layout : Layout) (clock : ℕ) (why : Why) (base : Base) (post : Post) → Seated layout post → Run layout why base post → base_eras layout clock post base → WhyIn layout.config why → BaseIn layout base
     → has layout (place_in (base_move base post)) ≡ true
-base_there layout clock why (Begin at) post s r e h = begin_there layout at post s
-base_there layout clock why (Protect aim index root steps at) post s r e h = protect_there layout why aim index root steps at post s r h.root_in
-base_there layout clock why (Reload parent index slot era steps) post s r e h = refl
-base_there layout clock why (Clear index) post s r e h = index_there layout post.seat index s.below (index_below layout why index s.valid r.shape)
-base_there layout clock why Finish post s r e h = lt_test post.seat layout.config.seats s.below
-base_there layout clock why Release post s r e h = lt_test post.seat layout.config.seats s.below
-base_there layout clock why (Allocate at) post s r e h = allocate_there layout at r.fits
-base_there layout clock why (Write slot row place) post s r e h = written_there layout slot row place h.0 r.fits h.1
-base_there layout clock why (GiveUp slot) post s r e h = claim_there layout slot h
-base_there layout clock why (Retire at) post s r e h = retire_there layout at h
-base_there layout clock why (Moves at) post s r e h = move_there layout clock at post s r.fits e
+base_there layout clock why (Begin at) post s r e y h = begin_there layout at post s
+base_there layout clock why (Protect aim index root steps at) post s r e y h = protect_there layout why aim index root steps at post s r y h.root_in
+base_there layout clock why (Reload parent index slot era steps) post s r e y h = refl
+base_there layout clock why (Clear index) post s r e y h = index_there layout post.seat index s.below (index_below layout why index s.valid y r.shape)
+base_there layout clock why Finish post s r e y h = lt_test post.seat layout.config.seats s.below
+base_there layout clock why (Release index) post s r e y h = lt_test post.seat layout.config.seats s.below
+base_there layout clock why (Allocate at) post s r e y h = allocate_there layout at r.fits
+base_there layout clock why (Write slot row place) post s r e y h = written_there layout slot row place h.0 r.fits h.1
+base_there layout clock why (GiveUp slot) post s r e y h = claim_there layout slot h
+base_there layout clock why (Retire at) post s r e y h = retire_there layout at h
+base_there layout clock why (Moves at) post s r e y h = move_there layout clock at post s r.fits e
 
 -- guards
 index_at_there : (layout : Layout) (k : ℕ) → 1 ≤ layout.config.indexes → k < layout.config.seats * layout.config.indexes → has layout (guard_place (index_at layout.config k)) ≡ true
@@ -196,16 +199,28 @@ dequeue_there layout (TakeNumber head next) h = three_there layout next 1 h.1 (o
 dequeue_there layout (TakeValue head next number) h = three_there layout next 2 h.1 (omega arith)
 dequeue_there layout (ExchangeHead head next number value) h = refl
 
+own_there : (layout : Layout) (post : Post) (index : ℕ) → Seated layout post → index < layout.config.indexes → has layout (own_place post index) ≡ true
+own_there layout post index s b =
+    each_guard (scheme_of post) post.seat index (λ (guard : Guard). has layout (guard_place guard) ≡ true) (index_there layout post.seat index s.below b) (lt_test post.seat layout.config.seats s.below)
+
+keep_there : (layout : Layout) (at : KeepAt) (post : Post) → Seated layout post → WorkIn layout.config (Keeping at) → has layout (place_in (keep_move at post)) ≡ true
+keep_there layout (Loosens let_go) post s h = lt_test post.seat layout.config.seats s.below
+keep_there layout (LoadHeld from index) post s h = own_there layout post from s (let a = h.rises in let b = h.below in omega arith)
+keep_there layout (StoreHeld from index era) post s h = index_there layout post.seat index s.below h.below
+keep_there layout (Looks index key at) post s h = get_there layout at h.1
+keep_there layout (Misses index) post s h = own_there layout post index s h.below
+
 work_there : (layout : Layout) (work : Work) (post : Post) → Seated layout post → WorkIn layout.config work → has layout (place_in (work_move work post)) ≡ true
 work_there layout (Getting key at) post s h = get_there layout at h
 work_there layout (Changing kept at) post s h = change_there layout kept at post s h
 work_there layout (Enqueuing kept at) post s h = enqueue_there layout kept at h
 work_there layout (Dequeuing at) post s h = dequeue_there layout at h
+work_there layout (Keeping at) post s h = keep_there layout at post s h
 
 phase_there : (layout : Layout) (clock : ℕ) (desk : Desk) (phase : Phase) (post : Post) → Seated layout post → PhaseFits layout post phase → PhaseEras layout clock post phase → PhaseIn layout desk phase
     → has layout (place_in (phase_move phase post)) ≡ true
 phase_there layout clock desk Idle post s r e h = refl
-phase_there layout clock desk (Runs why base) post s r e h = base_there layout clock why base post s r e h.1
+phase_there layout clock desk (Runs why base) post s r e h = base_there layout clock why base post s r e h.0 h.1
 phase_there layout clock desk (Scans later at) post s r e h = scan_there layout desk at post s r h.1
 phase_there layout clock desk (Works work) post s r e h = work_there layout work post s h
 

@@ -1,8 +1,8 @@
 -- The call's own steps, the steps of a scan, what comes after a machine, and a call's first phase, from the few phases of
 -- which a property grows.
-use Rattle.std.proofs.Common.{ℕ, ◌≡◌, ◌+◌, Bool, true, false, List, [], ◌∷◌, ◌++◌, length, Option, Some, None, refl, arith}
+use Rattle.std.proofs.Common.{ℕ, ◌≡◌, ◌+◌, Bool, true, false, List, [], ◌∷◌, ◌++◌, length, Option, Some, None, refl, ap, arith}
 use Rattle.std.proofs.lemmas.Bool.Decides.{nat_tests}
-use Rattle.std.specs.Prelude.{◌==◌, ◌%◌, ◌-◌, nat_lt}
+use Rattle.std.specs.Prelude.{◌==◌, ◌%◌, ◌-◌, is_some, nat_lt}
 use Rattle.wfe_core.specs.defs.declared.call.Answer.{Answer}
 use Rattle.wfe_core.specs.defs.declared.call.Answer.TheVariants as the_answers
 use Rattle.wfe_core.specs.defs.declared.call.Call.{Call}
@@ -19,34 +19,36 @@ use Rattle.wfe_core.specs.declared.ends.ProtectEnd.TheVariants as protect_ends
 use Rattle.wfe_core.specs.declared.post.Post.{Post}
 use Rattle.wfe_core.specs.Desks.{Desk, with_life}
 use Rattle.wfe_core.specs.Guards.{guards, guard_at, eras_in, published}
-use Rattle.wfe_core.specs.Posts.{stands}
+use Rattle.wfe_core.specs.Posts.{cleared, reserves_index, stands, with_row, withdrawn}
 use Rattle.wfe_core.specs.Phases.{Ending}
 use Rattle.wfe_core.specs.Phases.Ending.{Done, Protected, Followed, Allocated, Retired, Clocked}
-use Rattle.wfe_core.specs.Rounds.{bucket_of}
+use Rattle.wfe_core.specs.Rounds.{bucket_of, let_index, scheme_of}
+use Rattle.wfe_core.specs.words.Schemes.{has_one_interval}
 use Rattle.wfe_core.specs.Get as gets
 use Rattle.wfe_core.specs.Change as alters
 use Rattle.wfe_core.specs.Enqueue as enqueues
 use Rattle.wfe_core.specs.Dequeue as dequeues
+use Rattle.wfe_core.specs.Keep as keeps
 use Rattle.wfe_core.specs.Scan as scan
 use Rattle.wfe_core.specs.Steps as steps
-use Rattle.wfe_core.specs.Calls.{Task, Gets, Changes, Holds, Enqueues, Dequeues, Again, Answering, Retiring, AfterScan, Answered, Repeated, Counted, Why, Phase, ChangeKept, EnqueueKept, GetAt, FindVersion, FindCount, FindKey, FindValue, ChangeAt, LoadVersion, LoadCount, LoadKey, LoadValue, ExchangeRoot, EnqueueAt, LoadNumber, LoadNext, PassTail, ExchangeNext, ExchangeTail, DequeueAt, LoadTail, SwingTail, TakeNumber, TakeValue, ExchangeHead, Work, Getting, Changing, Enqueuing, Dequeuing, ScanAt, ReadGuard, GiveBack, Opens, FollowsHead, Fills, ClearsNext, Clears, Finishes, GivesUp, Retires, Tidies, Advances, Releases}
-use Rattle.inv_shapes.specs.Frame.{Left, SpanStands, Resumes, Grows}
-use Rattle.inv_shapes.proofs.Growth.{round_grows, closed_left, finishing_left, clearing_left, clearing_next_left}
+use Rattle.wfe_core.specs.Calls.{Task, Gets, Changes, Holds, Enqueues, Dequeues, Again, Answering, Retiring, AfterScan, Answered, Repeated, Counted, Why, Phase, ChangeKept, EnqueueKept, GetAt, FindVersion, FindCount, FindKey, FindValue, ChangeAt, LoadVersion, LoadCount, LoadKey, LoadValue, ExchangeRoot, EnqueueAt, LoadNumber, LoadNext, PassTail, ExchangeNext, ExchangeTail, DequeueAt, LoadTail, SwingTail, TakeNumber, TakeValue, ExchangeHead, Work, Getting, Changing, Enqueuing, Dequeuing, LetGo, Released, Rehold, Dropped, KeepAt, Loosens, LoadHeld, StoreHeld, Looks, Misses, Keeping, ScanAt, ReadGuard, GiveBack, Opens, FollowsHead, Fills, ClearsNext, Clears, Finishes, GivesUp, Retires, Tidies, Advances, Releases}
+use Rattle.inv_shapes.specs.Frame.{Left, SpanStands, KeepFits, WorkFits, read_slot, Resumes, Grows, Stores}
+use Rattle.inv_shapes.proofs.Growth.{round_grows, letting_grows, closed_left, finishing_left, clearing_left, clearing_next_left}
 
 got_left : {Q : Post → Type 0} {P : Post → Phase → Type 0} (g : Grows Q P) (key version : ℕ) (value : Option ℕ) (post : Post) (desk : Desk) (told : List Event) → Q post → Left Q P (gets.got key version value post desk told)
 got_left g key version value post desk told q =
     clearing_left g (Gets key) (Answering (the_answers.Got version value)) post desk (told ++ events.Got (bucket_of post key) version key value ∷ []) q
 
 finding_left : {Q : Post → Type 0} {P : Post → Phase → Type 0} (g : Grows Q P) (key slot version count : ℕ) (post : Post) (desk : Desk) (more : Bool) (pair : ℕ) → SpanStands post → Q post → Left Q P (gets.finding key slot version count post desk more pair)
-finding_left g key slot version count post desk true pair s q = record { post = q; phase = g.works post (Getting key (FindKey slot version count pair)) s q }
+finding_left g key slot version count post desk true pair s q = record { post = q; phase = g.works post (Getting key (FindKey slot version count pair)) refl s q }
 finding_left g key slot version count post desk false pair s q = got_left g key version None post desk [] q
 
 found_key_left : {Q : Post → Type 0} {P : Post → Phase → Type 0} (g : Grows Q P) (key slot version count pair : ℕ) (post : Post) (desk : Desk) (own : Bool) → SpanStands post → Q post → Left Q P (gets.found_key key slot version count pair post desk own)
-found_key_left g key slot version count pair post desk true s q = record { post = q; phase = g.works post (Getting key (FindValue slot version pair)) s q }
+found_key_left g key slot version count pair post desk true s q = record { post = q; phase = g.works post (Getting key (FindValue slot version pair)) refl s q }
 found_key_left g key slot version count pair post desk false s q = finding_left g key slot version count post desk (nat_lt (pair + 1) count) (pair + 1) s q
 
 get_left : {Q : Post → Type 0} {P : Post → Phase → Type 0} (g : Grows Q P) (key : ℕ) (at : GetAt) (post : Post) (desk : Desk) (found : ℕ) → SpanStands post → Q post → Left Q P (gets.get_turn key at post desk found)
-get_left g key (FindVersion slot) post desk found s q = record { post = q; phase = g.works post (Getting key (FindCount slot found)) s q }
+get_left g key (FindVersion slot) post desk found s q = record { post = q; phase = g.works post (Getting key (FindCount slot found)) refl s q }
 get_left g key (FindCount slot version) post desk found s q = finding_left g key slot version found post desk (nat_lt 0 found) 0 s q
 get_left g key (FindKey slot version count pair) post desk found s q = found_key_left g key slot version count pair post desk (found == key) s q
 get_left g key (FindValue slot version pair) post desk found s q = got_left g key version (Some found) post desk [] q
@@ -60,10 +62,10 @@ deciding_by_left g kept post desk told (Some answer) s q = clearing_left g (Chan
 deciding_by_left g kept post desk told None s q = record { post = q; phase = filling_grows g (alters.with_change kept) (Changes (alters.with_change kept)) kept.taken post s q }
 
 deciding_left : {Q : Post → Type 0} {P : Post → Phase → Type 0} (g : Grows Q P) (kept : ChangeKept) (post : Post) (desk : Desk) (told : List Event) → SpanStands post → Q post → Left Q P (alters.deciding kept post desk told)
-deciding_left g kept post desk told s q = deciding_by_left g kept post desk told (alters.refusal post.layout.config kept.version kept.pairs kept.change) s q
+deciding_left g kept post desk told s q = deciding_by_left g kept post desk told (alters.refused post.layout.config kept) s q
 
 reading_left : {Q : Post → Type 0} {P : Post → Phase → Type 0} (g : Grows Q P) (kept : ChangeKept) (slot count : ℕ) (post : Post) (desk : Desk) (more : Bool) → SpanStands post → Q post → Left Q P (alters.reading kept slot count post desk more)
-reading_left g kept slot count post desk true s q = record { post = q; phase = g.works post (Changing kept (LoadKey slot count)) s q }
+reading_left g kept slot count post desk true s q = record { post = q; phase = g.works post (Changing kept (LoadKey slot count)) refl s q }
 reading_left g kept slot count post desk false s q = deciding_left g kept post desk [] s q
 
 exchanged_left : {Q : Post → Type 0} {P : Post → Phase → Type 0} (g : Grows Q P) (kept : ChangeKept) (slot : ℕ) (post : Post) (desk : Desk) (same : Bool) → Q post → Left Q P (alters.exchanged kept slot post desk same)
@@ -72,9 +74,9 @@ exchanged_left g kept slot post desk true q =
 exchanged_left g kept slot post desk false q = clearing_left g (Changes kept) Again post desk [] q
 
 change_left : {Q : Post → Type 0} {P : Post → Phase → Type 0} (g : Grows Q P) (kept : ChangeKept) (at : ChangeAt) (post : Post) (desk : Desk) (found : ℕ) → SpanStands post → Q post → Left Q P (alters.change_turn kept at post desk found)
-change_left g kept (LoadVersion slot) post desk found s q = record { post = q; phase = g.works post (Changing (record kept { version = found }) (LoadCount slot)) s q }
+change_left g kept (LoadVersion slot) post desk found s q = record { post = q; phase = g.works post (Changing (record kept { version = found }) (LoadCount slot)) refl s q }
 change_left g kept (LoadCount slot) post desk found s q = reading_left g kept slot found post desk (nat_lt 0 found) s q
-change_left g kept (LoadKey slot count) post desk found s q = record { post = q; phase = g.works post (Changing kept (LoadValue slot count found)) s q }
+change_left g kept (LoadKey slot count) post desk found s q = record { post = q; phase = g.works post (Changing kept (LoadValue slot count found)) refl s q }
 change_left g kept (LoadValue slot count key) post desk found s q = reading_left g (alters.with_read kept key found) slot count post desk (nat_lt (length kept.pairs + 1) count) s q
 change_left g kept (ExchangeRoot slot) post desk found s q = exchanged_left g kept slot post desk (found == kept.link) q
 
@@ -88,14 +90,14 @@ appending_left g kept post desk false s q = record { post = q; phase = item_grow
 
 at_next_left : {Q : Post → Type 0} {P : Post → Phase → Type 0} (g : Grows Q P) (kept : EnqueueKept) (next : ℕ) (post : Post) (desk : Desk) (none : Bool) → SpanStands post → Q post → Left Q P (enqueues.at_next kept next post desk none)
 at_next_left g kept next post desk true s q = appending_left g kept post desk (kept.number == post.layout.config.last_version) s q
-at_next_left g kept next post desk false s q = record { post = q; phase = g.works post (Enqueuing kept (PassTail next)) s q }
+at_next_left g kept next post desk false s q = record { post = q; phase = g.works post (Enqueuing kept (PassTail next)) refl s q }
 
 appended_left : {Q : Post → Type 0} {P : Post → Phase → Type 0} (g : Grows Q P) (kept : EnqueueKept) (slot : ℕ) (post : Post) (desk : Desk) (same : Bool) → SpanStands post → Q post → Left Q P (enqueues.appended kept slot post desk same)
-appended_left g kept slot post desk true s q = record { post = q; phase = g.works post (Enqueuing (record kept { taken = None }) (ExchangeTail slot)) s q }
+appended_left g kept slot post desk true s q = record { post = q; phase = g.works post (Enqueuing (record kept { taken = None }) (ExchangeTail slot)) refl s q }
 appended_left g kept slot post desk false s q = clearing_left g (Enqueues kept) Again post desk [] q
 
 enqueue_left : {Q : Post → Type 0} {P : Post → Phase → Type 0} (g : Grows Q P) (kept : EnqueueKept) (at : EnqueueAt) (post : Post) (desk : Desk) (found : ℕ) → SpanStands post → Q post → Left Q P (enqueues.enqueue_turn kept at post desk found)
-enqueue_left g kept LoadNumber post desk found s q = record { post = q; phase = g.works post (Enqueuing (record kept { number = found }) LoadNext) s q }
+enqueue_left g kept LoadNumber post desk found s q = record { post = q; phase = g.works post (Enqueuing (record kept { number = found }) LoadNext) refl s q }
 enqueue_left g kept LoadNext post desk found s q = at_next_left g kept found post desk (found == 0) s q
 enqueue_left g kept (PassTail next) post desk found s q =
     clearing_left g (Enqueues kept) Again post desk (enqueues.told_link roots.Tail (next - 1) (found == kept.tail + 1)) q
@@ -104,8 +106,8 @@ enqueue_left g kept (ExchangeTail slot) post desk found s q =
     clearing_left g (Enqueues kept) (Answering (the_answers.Queued (kept.number + 1))) post desk (enqueues.told_link roots.Tail slot (found == kept.tail + 1)) q
 
 followed_row_left : {Q : Post → Type 0} {P : Post → Phase → Type 0} (g : Grows Q P) (head next : ℕ) (post : Post) (desk : Desk) (told : List Event) (lags : Bool) → SpanStands post → Q post → Left Q P (dequeues.followed_row head next post desk told lags)
-followed_row_left g head next post desk told true s q = record { post = q; phase = g.works post (Dequeuing (SwingTail head next)) s q }
-followed_row_left g head next post desk told false s q = record { post = q; phase = g.works post (Dequeuing (TakeNumber head next)) s q }
+followed_row_left g head next post desk told true s q = record { post = q; phase = g.works post (Dequeuing (SwingTail head next)) refl s q }
+followed_row_left g head next post desk told false s q = record { post = q; phase = g.works post (Dequeuing (TakeNumber head next)) refl s q }
 
 followed_left : {Q : Post → Type 0} {P : Post → Phase → Type 0} (g : Grows Q P) (head tail : ℕ) (ending : FollowEnd) (post : Post) (desk : Desk) (told : List Event) → SpanStands post → Q post → Left Q P (dequeues.followed head tail ending post desk told)
 followed_left g head tail (follow_ends.Followed slot) post desk told s q = followed_row_left g head slot post desk told (tail == head + 1) s q
@@ -120,16 +122,53 @@ taken_left g head next number value post desk false q = clearing_next_left g Aga
 dequeue_left : {Q : Post → Type 0} {P : Post → Phase → Type 0} (g : Grows Q P) (at : DequeueAt) (post : Post) (desk : Desk) (found : ℕ) → SpanStands post → Q post → Left Q P (dequeues.dequeue_turn at post desk found)
 dequeue_left g (LoadTail head) post desk found s q = record { post = q; phase = g.follows post head found s q }
 dequeue_left g (SwingTail head next) post desk found s q = clearing_next_left g Again post desk (enqueues.told_link roots.Tail next (found == head + 1)) q
-dequeue_left g (TakeNumber head next) post desk found s q = record { post = q; phase = g.works post (Dequeuing (TakeValue head next found)) s q }
-dequeue_left g (TakeValue head next number) post desk found s q = record { post = q; phase = g.works post (Dequeuing (ExchangeHead head next number found)) s q }
+dequeue_left g (TakeNumber head next) post desk found s q = record { post = q; phase = g.works post (Dequeuing (TakeValue head next found)) refl s q }
+dequeue_left g (TakeValue head next number) post desk found s q = record { post = q; phase = g.works post (Dequeuing (ExchangeHead head next number found)) refl s q }
 dequeue_left g (ExchangeHead head next number value) post desk found s q = taken_left g head next number value post desk (found == head + 1) q
 
+released_left : {Q : Post → Type 0} {P : Post → Phase → Type 0} (g : Grows Q P) (let_go : LetGo) (post : Post) (desk : Desk) (told : List Event) → Q post → Left Q P (keeps.released let_go post desk told)
+released_left g Released post desk told q = record { post = q; phase = g.idle post q }
+released_left g (Rehold key) post desk told q = record { post = q; phase = round_grows g (Holds key) post q }
+released_left g (Dropped index) post desk told q = record { post = q; phase = g.idle post q }
+
+copied_left : {Q : Post → Type 0} {P : Post → Phase → Type 0} (g : Grows Q P) (from index : ℕ) (post : Post) (desk : Desk) (reserved : List Event) (x : Option ℕ) → Q post → Left Q P (keeps.copied from index post desk reserved x)
+copied_left g from index post desk reserved None q = record { post = q; phase = g.idle post q }
+copied_left g from index post desk reserved (Some slot) q = let p = g.copies post index slot q in record { post = p; phase = g.idle (with_row post index slot) p }
+
+load_held_left : {Q : Post → Type 0} {P : Post → Phase → Type 0} (g : Grows Q P) (from index : ℕ) (post : Post) (desk : Desk) (found : ℕ) (one : Bool) → has_one_interval (scheme_of post) ≡ one → Stores P post found (Keeping (LoadHeld from index)) → Q post
+    → Left Q P (keeps.load_held from index post desk found one)
+load_held_left g from index post desk found true i n q = copied_left g from index post desk [] (stands post from) q
+load_held_left g from index post desk found false i n q = record { post = q; phase = n i }
+
+looking_left : {Q : Post → Type 0} {P : Post → Phase → Type 0} (g : Grows Q P) (index key slot version count : ℕ) (post : Post) (desk : Desk) (more : Bool) (pair : ℕ) → stands post index ≡ Some slot → Q post → Left Q P (keeps.looking index key slot version count post desk more pair)
+looking_left g index key slot version count post desk true pair s q = record { post = q; phase = g.works post (Keeping (Looks index key (FindKey slot version count pair))) refl s q }
+looking_left g index key slot version count post desk false pair s q = record { post = q; phase = g.idle post q }
+
+looked_key_left : {Q : Post → Type 0} {P : Post → Phase → Type 0} (g : Grows Q P) (index key slot version count pair : ℕ) (post : Post) (desk : Desk) (own : Bool) → stands post index ≡ Some slot → Q post → Left Q P (keeps.looked_key index key slot version count pair post desk own)
+looked_key_left g index key slot version count pair post desk true s q = record { post = q; phase = g.works post (Keeping (Looks index key (FindValue slot version pair))) refl s q }
+looked_key_left g index key slot version count pair post desk false s q = looking_left g index key slot version count post desk (nat_lt (pair + 1) count) (pair + 1) s q
+
+look_left : {Q : Post → Type 0} {P : Post → Phase → Type 0} (g : Grows Q P) (index key : ℕ) (at : GetAt) (post : Post) (desk : Desk) (found : ℕ) → stands post index ≡ Some (read_slot at) → Q post → Left Q P (keeps.look_turn index key at post desk found)
+look_left g index key (FindVersion slot) post desk found s q = record { post = q; phase = g.works post (Keeping (Looks index key (FindCount slot found))) refl s q }
+look_left g index key (FindCount slot version) post desk found s q = looking_left g index key slot version found post desk (nat_lt 0 found) 0 s q
+look_left g index key (FindKey slot version count pair) post desk found s q = looked_key_left g index key slot version count pair post desk (found == key) s q
+look_left g index key (FindValue slot version pair) post desk found s q = record { post = q; phase = g.idle post q }
+
+keep_left : {Q : Post → Type 0} {P : Post → Phase → Type 0} (g : Grows Q P) (at : KeepAt) (post : Post) (desk : Desk) (found : ℕ) → KeepFits post at → Stores P post found (Keeping at) → Q post → Left Q P (keeps.keep_turn at post desk found)
+keep_left g (Loosens let_go) post desk found f n q =
+    released_left g let_go (withdrawn post (let_index let_go)) desk (cleared (let_index let_go) (stands post (let_index let_go))) (g.withdraws post (let_index let_go) f.interval q)
+keep_left g (LoadHeld from index) post desk found f n q = load_held_left g from index post desk found (has_one_interval (scheme_of post)) refl n q
+keep_left g (StoreHeld from index era) post desk found f n q = copied_left g from index post desk (reserves_index post index era) (stands post from) q
+keep_left g (Looks index key at) post desk found f n q = look_left g index key at post desk found f q
+keep_left g (Misses index) post desk found f n q = record { post = q; phase = g.idle post q }
+
 -- a step of a call's own
-pub work_left : {Q : Post → Type 0} {P : Post → Phase → Type 0} (g : Grows Q P) (work : Work) (post : Post) (desk : Desk) (found : ℕ) → SpanStands post → Q post → Left Q P (steps.work_turn work post desk found)
-work_left g (Getting key at) post desk found s q = get_left g key at post desk found s q
-work_left g (Changing kept at) post desk found s q = change_left g kept at post desk found s q
-work_left g (Enqueuing kept at) post desk found s q = enqueue_left g kept at post desk found s q
-work_left g (Dequeuing at) post desk found s q = dequeue_left g at post desk found s q
+pub work_left : {Q : Post → Type 0} {P : Post → Phase → Type 0} (g : Grows Q P) (work : Work) (post : Post) (desk : Desk) (found : ℕ) → WorkFits post work → Stores P post found work → Q post → Left Q P (steps.work_turn work post desk found)
+work_left g (Getting key at) post desk found s n q = get_left g key at post desk found s q
+work_left g (Changing kept at) post desk found s n q = change_left g kept at post desk found s q
+work_left g (Enqueuing kept at) post desk found s n q = enqueue_left g kept at post desk found s q
+work_left g (Dequeuing at) post desk found s n q = dequeue_left g at post desk found s q
+work_left g (Keeping at) post desk found s n q = keep_left g at post desk found s n q
 
 scanned_left : {Q : Post → Type 0} {P : Post → Phase → Type 0} (g : Grows Q P) (later : AfterScan) (post : Post) (desk : Desk) (told : List Event) → Q post → Left Q P (scan.scanned later post desk told)
 scanned_left g (Answered answer) post desk told q = record { post = q; phase = g.idle post q }
@@ -152,11 +191,11 @@ scan_left g later (GiveBack place slot) post desk found q =
     giving_back_left g later post (scan.with_back desk place) (events.Back slot ∷ []) (scan.unmet_from (scan.with_back desk place) place) q
 
 opened_row_left : {Q : Post → Type 0} {P : Post → Phase → Type 0} (g : Grows Q P) (task : Task) (slot : ℕ) (post : Post) (desk : Desk) (told : List Event) → SpanStands post → Q post → Left Q P (steps.opened_row task slot post desk told)
-opened_row_left g (Gets key) slot post desk told s q = record { post = q; phase = g.works post (Getting key (FindVersion slot)) s q }
-opened_row_left g (Changes kept) slot post desk told s q = record { post = q; phase = g.works post (Changing (alters.at_link kept (slot + 1)) (LoadVersion slot)) s q }
+opened_row_left g (Gets key) slot post desk told s q = record { post = q; phase = g.works post (Getting key (FindVersion slot)) refl s q }
+opened_row_left g (Changes kept) slot post desk told s q = record { post = q; phase = g.works post (Changing (alters.at_link kept (slot + 1)) (LoadVersion slot)) refl s q }
 opened_row_left g (Holds key) slot post desk told s q = record { post = q; phase = g.idle post q }
-opened_row_left g (Enqueues kept) slot post desk told s q = record { post = q; phase = g.works post (Enqueuing (record kept { tail = slot }) LoadNumber) s q }
-opened_row_left g Dequeues slot post desk told s q = record { post = q; phase = g.works post (Dequeuing (LoadTail slot)) s q }
+opened_row_left g (Enqueues kept) slot post desk told s q = record { post = q; phase = g.works post (Enqueuing (record kept { tail = slot }) LoadNumber) refl s q }
+opened_row_left g Dequeues slot post desk told s q = record { post = q; phase = g.works post (Dequeuing (LoadTail slot)) refl s q }
 
 opened_null_left : {Q : Post → Type 0} {P : Post → Phase → Type 0} (g : Grows Q P) (task : Task) (post : Post) (desk : Desk) (told : List Event) → SpanStands post → Q post → Left Q P (steps.opened_null task post desk told)
 opened_null_left g (Gets key) post desk told s q = got_left g key 0 None post desk told q
@@ -186,8 +225,8 @@ filled_by_left g (Holds key) ending post desk told s q = closed_left g (Holds ke
 filled_by_left g Dequeues ending post desk told s q = closed_left g Dequeues Again post desk told q
 
 written_row_left : {Q : Post → Type 0} {P : Post → Phase → Type 0} (g : Grows Q P) (task : Task) (post : Post) (desk : Desk) (told : List Event) → SpanStands post → Q post → Left Q P (steps.written_row task post desk told)
-written_row_left g (Changes kept) post desk told s q = record { post = q; phase = g.works post (Changing kept (ExchangeRoot (steps.slot_in kept.taken))) s q }
-written_row_left g (Enqueues kept) post desk told s q = record { post = q; phase = g.works post (Enqueuing kept (ExchangeNext (steps.slot_in kept.taken))) s q }
+written_row_left g (Changes kept) post desk told s q = record { post = q; phase = g.works post (Changing kept (ExchangeRoot (steps.slot_in kept.taken))) refl s q }
+written_row_left g (Enqueues kept) post desk told s q = record { post = q; phase = g.works post (Enqueuing kept (ExchangeNext (steps.slot_in kept.taken))) refl s q }
 written_row_left g (Gets key) post desk told s q = closed_left g (Gets key) Again post desk told q
 written_row_left g (Holds key) post desk told s q = closed_left g (Holds key) Again post desk told q
 written_row_left g Dequeues post desk told s q = closed_left g Dequeues Again post desk told q
@@ -236,10 +275,6 @@ advanced_left g (Followed end) post desk told q = record { post = q; phase = g.i
 advanced_left g (Allocated end) post desk told q = record { post = q; phase = g.idle post q }
 advanced_left g (Retired life) post desk told q = record { post = q; phase = g.idle post q }
 
-released_left : {Q : Post → Type 0} {P : Post → Phase → Type 0} (g : Grows Q P) (key : Option ℕ) (post : Post) (desk : Desk) (told : List Event) → Q post → Left Q P (steps.released key post desk told)
-released_left g None post desk told q = record { post = q; phase = g.idle post q }
-released_left g (Some key) post desk told q = record { post = q; phase = round_grows g (Holds key) post q }
-
 -- what comes after a machine
 pub resume_left : {Q : Post → Type 0} {P : Post → Phase → Type 0} (g : Grows Q P) (why : Why) (ending : Ending) (post : Post) (desk : Desk) (told : List Event) → Resumes why post → Q post → Left Q P (steps.resume why ending post desk told)
 resume_left g (Opens task) ending post desk told r q = opened_left g task ending post desk told r q
@@ -252,11 +287,19 @@ resume_left g (GivesUp answer) ending post desk told r q = record { post = q; ph
 resume_left g (Retires answer) ending post desk told r q = retired_by_left g answer ending post desk told q
 resume_left g (Tidies later) ending post desk told r q = tidied_left g later ending post desk told q
 resume_left g Advances ending post desk told r q = advanced_left g ending post desk told q
-resume_left g (Releases key) ending post desk told r q = released_left g key post desk told q
+resume_left g (Releases let_go) ending post desk told r q = released_left g let_go post desk told q
 
 holding_grows : {Q : Post → Type 0} {P : Post → Phase → Type 0} (g : Grows Q P) (key : ℕ) (post : Post) (x : Option ℕ) → Q post → P post (steps.holding key post x)
 holding_grows g key post None q = round_grows g (Holds key) post q
-holding_grows g key post (Some slot) q = g.releases post (Some key) q
+holding_grows g key post (Some slot) q = letting_grows g (Rehold key) post q
+
+copying_grows : {Q : Post → Type 0} {P : Post → Phase → Type 0} (g : Grows Q P) (from index : ℕ) (post : Post) (x : Option ℕ) → stands post from ≡ x → Q post → P post (steps.copying from index x)
+copying_grows g from index post None e q = g.works post (Keeping (Misses from)) refl e q
+copying_grows g from index post (Some slot) e q = g.works post (Keeping (LoadHeld from index)) refl (ap is_some e) q
+
+looking_grows : {Q : Post → Type 0} {P : Post → Phase → Type 0} (g : Grows Q P) (index key : ℕ) (post : Post) (x : Option ℕ) → stands post index ≡ x → Q post → P post (steps.looking_at index key x)
+looking_grows g index key post None e q = g.works post (Keeping (Misses index)) refl e q
+looking_grows g index key post (Some slot) e q = g.works post (Keeping (Looks index key (FindVersion slot))) refl e q
 
 -- a call's first phase
 pub first_grows : {Q : Post → Type 0} {P : Post → Phase → Type 0} (g : Grows Q P) (call : Call) (post : Post) → Q post → P post (steps.first_phase call post)
@@ -266,6 +309,10 @@ first_grows g (names.Remove key) post q = round_grows g _ post q
 first_grows g (names.Enqueue value) post q = round_grows g _ post q
 first_grows g names.Dequeue post q = round_grows g Dequeues post q
 first_grows g (names.Hold key) post q = holding_grows g key post (stands post 2) q
-first_grows g names.Release post q = g.releases post None q
+first_grows g names.Release post q = letting_grows g Released post q
 first_grows g names.Advance post q = g.advances post q
 first_grows g names.Scan post q = g.scans post Counted 0 (g.guarded post q) q
+first_grows g (names.Copy from index) post q = copying_grows g from index post (stands post from) refl q
+first_grows g (names.DropIndex index) post q = letting_grows g (Dropped index) post q
+first_grows g (names.Look index key) post q = looking_grows g index key post (stands post index) refl q
+first_grows g (names.PutIf key value version) post q = round_grows g _ post q

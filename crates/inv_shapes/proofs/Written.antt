@@ -14,7 +14,8 @@ use Rattle.wfe_core.proofs.Ranges.{bounds_of}
 use Rattle.wfe_core.specs.Links.{link_place, link_number}
 use Rattle.wfe_core.specs.Memory.{Move, Load, Store, Cas, Or, And, place_in, change, written}
 use Rattle.wfe_core.specs.Posts.{helper_word, tag_of}
-use Rattle.wfe_core.specs.Rounds.{key_of}
+use Rattle.wfe_core.specs.Rounds.{index_of, key_of}
+use Rattle.wfe_core.specs.words.declared.config.Config.{Config}
 use Rattle.wfe_core.specs.Phases.{Aim, BeginAt, ProtectAt, AllocateAt, RetireAt, MoveAt, Base}
 use Rattle.wfe_core.specs.Phases.BeginAt.{LoadLower, PublishSpan}
 use Rattle.wfe_core.specs.Phases.ProtectAt.{LoadClock, PublishEra, LoadLink, CheckClock, PublishRequest, LoadOwnClock, PublishHelper, LoadOwnLink, CheckOwnClock, AnswerOwn, LoadAnswer, TakeAnswer, WithdrawRequest, WithdrawHelper}
@@ -27,11 +28,13 @@ use Rattle.wfe_core.specs.Get.{get_move}
 use Rattle.wfe_core.specs.Change.{change_move}
 use Rattle.wfe_core.specs.Enqueue.{enqueue_move}
 use Rattle.wfe_core.specs.Dequeue.{dequeue_move}
+use Rattle.wfe_core.specs.Keep.{keep_move}
 use Rattle.wfe_core.specs.Scan.{scan_move}
 use Rattle.wfe_core.specs.Steps.{work_move, phase_move}
-use Rattle.wfe_core.specs.Calls.{Task, Gets, Changes, Holds, Enqueues, Dequeues, ChangeKept, EnqueueKept, GetAt, FindVersion, ChangeAt, LoadVersion, EnqueueAt, LoadNumber, DequeueAt, LoadTail, Work, Getting, Changing, Enqueuing, Dequeuing, ScanAt, ReadGuard, GiveBack, Why, Opens, FollowsHead, Fills, ClearsNext, Clears, Finishes, GivesUp, Retires, Tidies, Advances, Releases, Phase, Idle, Runs, Scans, Works}
-use Rattle.inv_shapes.specs.Seats.{index_by, task_root, root_by, Run, PhaseFits}
-use Rattle.inv_shapes.specs.Eras.{EraIn, LinkIn, HelperIn, IndexIn, RequestIn, Lives, WordIn, MoveIn, ClockIn, base_eras, PhaseEras, protect_eras, allocate_eras, retire_eras, move_eras, RootNeeds, protect_needs, move_needs, base_needs, phase_needs}
+use Rattle.wfe_core.specs.Calls.{Task, Gets, Changes, Holds, Enqueues, Dequeues, ChangeKept, EnqueueKept, GetAt, FindVersion, ChangeAt, LoadVersion, EnqueueAt, LoadNumber, DequeueAt, LoadTail, KeepAt, Loosens, LoadHeld, StoreHeld, Looks, Misses, Work, Getting, Changing, Enqueuing, Dequeuing, Keeping, ScanAt, ReadGuard, GiveBack, Why, Opens, FollowsHead, Clears, Releases, Phase, Idle, Runs, Scans, Works}
+use Rattle.inv_shapes.specs.Seats.{index_by, task_root, root_by, Kind, ToFollow, kind_of, protects, reloads, Run, PhaseFits}
+use Rattle.inv_shapes.specs.Slots.{WhyIn}
+use Rattle.inv_shapes.specs.Eras.{EraIn, LinkIn, HelperIn, IndexIn, RequestIn, Lives, WordIn, MoveIn, ClockIn, base_eras, work_eras, PhaseEras, protect_eras, allocate_eras, retire_eras, move_eras, RootNeeds, protect_needs, move_needs, base_needs, phase_needs}
 
 -- the operation's word after it
 word_change : (layout : Layout) (clock : ℕ) (m : Move) (word : ℕ) → MoveIn layout clock m → WordIn layout clock (place_in m) word → WordIn layout clock (place_in m) (change m word)
@@ -70,27 +73,28 @@ nothing_shown clock = record { era = 0; is = no_helper; most = omega arith }
 pub nothing_asked : (layout : Layout) (clock : ℕ) → RequestIn layout clock 0
 nothing_asked layout clock = record { request = requests.Idle; is = refl; fits = tt }
 
--- the index and the root of a protection
-pub index_few : (why : Why) → index_by why ≤ 2
-index_few (Opens (Gets key)) = omega arith
-index_few (Opens (Changes kept)) = omega arith
-index_few (Opens (Holds key)) = omega arith
-index_few (Opens (Enqueues kept)) = omega arith
-index_few (Opens Dequeues) = omega arith
-index_few (FollowsHead head tail) = omega arith
-index_few (Fills task) = omega arith
-index_few (ClearsNext next) = omega arith
-index_few (Clears (Gets key) next) = omega arith
-index_few (Clears (Changes kept) next) = omega arith
-index_few (Clears (Holds key) next) = omega arith
-index_few (Clears (Enqueues kept) next) = omega arith
-index_few (Clears Dequeues next) = omega arith
-index_few (Finishes task next) = omega arith
-index_few (GivesUp answer) = omega arith
-index_few (Retires answer) = omega arith
-index_few (Tidies later) = omega arith
-index_few Advances = omega arith
-index_few (Releases key) = omega arith
+-- the index of a task, of a protection, and of what a machine is run for
+task_few : (task : Task) → index_of task ≤ 2
+task_few (Gets key) = omega arith
+task_few (Changes kept) = omega arith
+task_few (Holds key) = omega arith
+task_few (Enqueues kept) = omega arith
+task_few Dequeues = omega arith
+
+pub index_few : (why : Why) → protects (kind_of why) ≡ true → index_by why ≤ 2
+index_few (Opens task) h = task_few task
+index_few (FollowsHead head tail) h = omega arith
+index_few why h = absurd (cc)
+
+pub index_in_seat : (config : Config) (why : Why) → 3 ≤ config.indexes → WhyIn config why → index_by why < config.indexes
+index_in_seat config (Opens task) b y = let f = task_few task in omega arith
+index_in_seat config (Clears task next) b y = let f = task_few task in omega arith
+index_in_seat config (Releases let_go) b y = y.below
+index_in_seat config why b y = omega arith
+
+pub reloads_protect : (k : Kind) → reloads k ≡ true → protects k ≡ true
+reloads_protect ToFollow h = refl
+reloads_protect k h = absurd (cc)
 
 bucket_there : (layout : Layout) (key : ℕ) → 1 ≤ layout.config.buckets → has layout (Bucket (key % layout.config.buckets)) ≡ true
 bucket_there layout key b = let c : key % layout.config.buckets < layout.config.buckets = omega arith in grind (arith, nat_tests)
@@ -126,7 +130,7 @@ protect_in layout clock v why aim index root n (LoadClock tries) post l t r e d 
 protect_in layout clock v why aim index root n (PublishEra era tries) post l t r e d = index_in clock era (tag_of post index) _ refl e.most (omega arith)
 protect_in layout clock v why aim index root n (LoadLink era tries) post l t r e d = tt
 protect_in layout clock v why aim index root n (CheckClock era tries link) post l t r e d = tt
-protect_in layout clock v why aim index root n PublishRequest post l t r e d = let b = bounds_of layout v in let i = b.indexes.0 in let f = index_few why in let a = r.shape.at in
+protect_in layout clock v why aim index root n PublishRequest post l t r e d = let b = bounds_of layout v in let i = b.indexes.0 in let f = index_few why r.suited in let a = r.shape.at in
     record { request = requests.Pending (tag_of post index) index (link_number post.layout root); is = refl; fits = record { root = root; is = ap (λ (t : Layout). link_number t root) l; fits = record { few = t; at = omega arith; there = root_there layout why root b.buckets.0 r.shape.of d } } }
 protect_in layout clock v why aim index root n LoadOwnClock post l t r e d = tt
 protect_in layout clock v why aim index root n (PublishHelper first era last) post l t r e d = helper_in clock era e.most
@@ -174,7 +178,7 @@ base_in layout clock v mem why (Protect aim index root steps at) post l t r e d 
 base_in layout clock v mem why (Reload parent index slot era steps) post l t r e d = tt
 base_in layout clock v mem why (Clear index) post l t r e d = let f = t index in index_in clock 0 (tag_of post index) _ refl (omega arith) (omega arith)
 base_in layout clock v mem why Finish post l t r e d = tt
-base_in layout clock v mem why Release post l t r e d = tt
+base_in layout clock v mem why (Release index) post l t r e d = tt
 base_in layout clock v mem why (Allocate at) post l t r e d = allocate_in layout clock at e
 base_in layout clock v mem why (Write slot row place) post l t r e d = tt
 base_in layout clock v mem why (GiveUp slot) post l t r e d = λ word. tt
@@ -197,11 +201,19 @@ dequeue_in : (layout : Layout) (clock : ℕ) (at : DequeueAt) → MoveIn layout 
 dequeue_in layout clock (LoadTail head) = tt
 dequeue_in layout clock at = tt
 
-work_in : (layout : Layout) (clock : ℕ) (work : Work) (post : Post) → MoveIn layout clock (work_move work post)
-work_in layout clock (Getting key at) post = get_in layout clock at
-work_in layout clock (Changing kept at) post = change_in layout clock kept at post
-work_in layout clock (Enqueuing kept at) post = enqueue_in layout clock kept at
-work_in layout clock (Dequeuing at) post = dequeue_in layout clock at
+keep_in : (layout : Layout) (clock : ℕ) (at : KeepAt) (post : Post) → ((index : ℕ) → tag_of post index < 4294967295) → work_eras clock (Keeping at) → MoveIn layout clock (keep_move at post)
+keep_in layout clock (Loosens let_go) post t e = tt
+keep_in layout clock (LoadHeld from index) post t e = tt
+keep_in layout clock (StoreHeld from index era) post t e = let f = t index in index_in clock era (tag_of post index) _ refl e (omega arith)
+keep_in layout clock (Looks index key at) post t e = get_in layout clock at
+keep_in layout clock (Misses index) post t e = tt
+
+work_in : (layout : Layout) (clock : ℕ) (work : Work) (post : Post) → ((index : ℕ) → tag_of post index < 4294967295) → work_eras clock work → MoveIn layout clock (work_move work post)
+work_in layout clock (Getting key at) post t e = get_in layout clock at
+work_in layout clock (Changing kept at) post t e = change_in layout clock kept at post
+work_in layout clock (Enqueuing kept at) post t e = enqueue_in layout clock kept at
+work_in layout clock (Dequeuing at) post t e = dequeue_in layout clock at
+work_in layout clock (Keeping at) post t e = keep_in layout clock at post t e
 
 scan_in : (layout : Layout) (clock : ℕ) (at : ScanAt) (post : Post) → MoveIn layout clock (scan_move at post)
 scan_in layout clock (ReadGuard number) post = tt
@@ -213,7 +225,7 @@ pub phase_in : (layout : Layout) (clock : ℕ) (v : is_valid layout ≡ true) (m
 phase_in layout clock v mem Idle post l t r e d = tt
 phase_in layout clock v mem (Runs why base) post l t r e d = base_in layout clock v mem why base post l t r e d
 phase_in layout clock v mem (Scans later at) post l t r e d = scan_in layout clock at post
-phase_in layout clock v mem (Works work) post l t r e d = work_in layout clock work post
+phase_in layout clock v mem (Works work) post l t r e d = work_in layout clock work post t e
 
 -- the clock
 clock_stays : (last clock : ℕ) → clock ≤ last → ClockIn last clock clock
@@ -252,7 +264,7 @@ base_clock layout mem (Protect aim index root steps at) post m e = protect_clock
 base_clock layout mem (Reload parent index slot era steps) post m e = clock_stays layout.config.last_era (mem Clock) m
 base_clock layout mem (Clear index) post m e = clock_stays layout.config.last_era (mem Clock) m
 base_clock layout mem Finish post m e = clock_stays layout.config.last_era (mem Clock) m
-base_clock layout mem Release post m e = clock_stays layout.config.last_era (mem Clock) m
+base_clock layout mem (Release index) post m e = clock_stays layout.config.last_era (mem Clock) m
 base_clock layout mem (Allocate at) post m e = allocate_clock layout.config.last_era mem at m
 base_clock layout mem (Write slot row place) post m e = clock_stays layout.config.last_era (mem Clock) m
 base_clock layout mem (GiveUp slot) post m e = clock_stays layout.config.last_era (mem Clock) m
@@ -275,11 +287,19 @@ dequeue_clock : (mem : Place → ℕ) (at : DequeueAt) → written mem (dequeue_
 dequeue_clock mem (LoadTail head) = refl
 dequeue_clock mem at = refl
 
+keep_clock : (mem : Place → ℕ) (at : KeepAt) (post : Post) → written mem (keep_move at post) Clock ≡ mem Clock
+keep_clock mem (Loosens let_go) post = refl
+keep_clock mem (LoadHeld from index) post = refl
+keep_clock mem (StoreHeld from index era) post = refl
+keep_clock mem (Looks index key at) post = get_keeps Clock mem at
+keep_clock mem (Misses index) post = refl
+
 work_clock : (mem : Place → ℕ) (work : Work) (post : Post) → written mem (work_move work post) Clock ≡ mem Clock
 work_clock mem (Getting key at) post = get_keeps Clock mem at
 work_clock mem (Changing kept at) post = change_clock mem kept at post
 work_clock mem (Enqueuing kept at) post = enqueue_clock mem kept at
 work_clock mem (Dequeuing at) post = dequeue_clock mem at
+work_clock mem (Keeping at) post = keep_clock mem at post
 
 scan_clock : (mem : Place → ℕ) (at : ScanAt) (post : Post) → written mem (scan_move at post) Clock ≡ mem Clock
 scan_clock mem (ReadGuard number) post = refl

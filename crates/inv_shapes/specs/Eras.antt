@@ -21,7 +21,7 @@ use Rattle.wfe_core.specs.Phases.AllocateAt.{LoadBirth, ClaimSlot, StoreLife}
 use Rattle.wfe_core.specs.Phases.RetireAt.{LoadLife, LoadRetire, StoreRetired}
 use Rattle.wfe_core.specs.Phases.MoveAt.{LoadEra, LoadRequest, ShowEra, LoadAsked, CheckEra, AnswerAsked, LoadReserved, HandOver, HideEra, HideLate, ExchangeClock}
 use Rattle.wfe_core.specs.Phases.Base.{Begin, Protect, Reload, Clear, Finish, Release, Allocate, Write, GiveUp, Retire, Move as Moves}
-use Rattle.wfe_core.specs.Calls.{Phase, Idle, Runs, Scans, Works}
+use Rattle.wfe_core.specs.Calls.{StoreHeld, Work, Keeping, Phase, Idle, Runs, Scans, Works}
 use Rattle.wfe_core.specs.World.{World}
 use Rattle.inv_shapes.specs.Frame.{Seated}
 use Rattle.inv_shapes.specs.Seats.{PostFits}
@@ -209,18 +209,23 @@ base_eras layout clock post (Protect aim index root steps at) = protect_eras clo
 base_eras layout clock post (Reload parent index slot era steps) = era ≤ clock
 base_eras layout clock post (Clear index) = Unit {0}
 base_eras layout clock post Finish = Unit {0}
-base_eras layout clock post Release = Unit {0}
+base_eras layout clock post (Release index) = Unit {0}
 base_eras layout clock post (Allocate at) = allocate_eras clock at
 base_eras layout clock post (Write slot row place) = Unit {0}
 base_eras layout clock post (GiveUp slot) = Unit {0}
 base_eras layout clock post (Retire at) = retire_eras clock at
 base_eras layout clock post (Moves at) = move_eras layout clock at
 
+-- the era that a copy has found
+abbrev pub work_eras : ℕ → Work → Type 0
+work_eras clock (Keeping (StoreHeld from index era)) = era ≤ clock
+work_eras clock work = Unit {0}
+
 abbrev pub PhaseEras : Layout → ℕ → Post → Phase → Type 0
 PhaseEras layout clock post Idle = Unit {0}
 PhaseEras layout clock post (Runs why base) = base_eras layout clock post base
 PhaseEras layout clock post (Scans later at) = Unit {0}
-PhaseEras layout clock post (Works work) = Unit {0}
+PhaseEras layout clock post (Works work) = work_eras clock work
 
 -- the post's interval is what the seat's interval word shows
 pub record PostEras (layout : Layout) (seat clock word : ℕ) (post : Post) : Type 0 where

@@ -38,7 +38,7 @@ why_more (GivesUp answer) = 0
 why_more (Retires answer) = 0
 why_more (Tidies later) = later_more later
 why_more Advances = 0
-why_more (Releases key) = 0
+why_more (Releases let_go) = 0
 
 abbrev pub more : Phase → ℕ
 more Idle = 1

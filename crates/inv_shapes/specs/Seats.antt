@@ -1,7 +1,7 @@
 -- The static shape of each seat: its post is the seat's own, and each phase is one that its scheme and its call come to.
 use Rattle.wfe_core.specs.Calls.{Advances, Clears, ClearsNext, Fills, Finishes, FollowsHead, GivesUp, Opens, Releases, Retires, Tidies, Why, Changes, Dequeues, Enqueues, Gets, Holds, Task, GiveBack, ReadGuard, ScanAt, Idle, Phase, Runs, Scans, Works}
 use Rattle.wfe_core.specs.Phases.{Aim, Alone, Follows, Base, Endless, Failed, Tries, ProtectAt, MoveAt, AllocateAt}
-use Rattle.wfe_core.specs.Rounds.{index_of, key_of}
+use Rattle.wfe_core.specs.Rounds.{index_of, kept_row, key_of, let_index}
 use Rattle.std.specs.Prelude.{ℕ, ◌%◌, Bool, false, true, nat_le, ◌&&◌, nat_lt, not, ◌≡◌, None, length, ◌≤◌}
 use Rattle.wfe_core.specs.defs.declared.event.Root.{Root}
 use Rattle.wfe_core.specs.defs.declared.event.Root.TheVariants as roots
@@ -15,8 +15,8 @@ use Rattle.wfe_core.specs.words.declared.config.Config.{Config}
 use Rattle.wfe_core.specs.WriteRow.{first_written, last_written}
 use Rattle.wfe_core.specs.Links.{parent_of}
 use Rattle.wfe_core.specs.declared.post.Post.{Post}
-use Rattle.inv_shapes.specs.Frame.{SpanStands, Seated}
-use Rattle.wfe_core.specs.Posts.{stands}
+use Rattle.inv_shapes.specs.Frame.{SpanStands, WorkFits, Seated}
+use Rattle.wfe_core.specs.Posts.{withdrawn}
 use Rattle.wfe_core.specs.words.declared.layout.Layout.{Layout}
 use Rattle.wfe_core.specs.Guards.{guards}
 use Rattle.wfe_core.specs.World.{World}
@@ -33,7 +33,7 @@ aim_by (GivesUp answer) = Alone
 aim_by (Retires answer) = Alone
 aim_by (Tidies later) = Alone
 aim_by Advances = Alone
-aim_by (Releases key) = Alone
+aim_by (Releases let_go) = Alone
 
 -- the index that is protected or cleared
 abbrev pub index_by : Why → ℕ
@@ -47,7 +47,7 @@ index_by (GivesUp answer) = 0
 index_by (Retires answer) = 0
 index_by (Tidies later) = 0
 index_by Advances = 0
-index_by (Releases key) = 2
+index_by (Releases let_go) = let_index let_go
 
 -- the root of a task in a table with so many buckets
 abbrev pub task_root : ℕ → Task → Root
@@ -68,7 +68,7 @@ root_by buckets (GivesUp answer) = roots.Head
 root_by buckets (Retires answer) = roots.Head
 root_by buckets (Tidies later) = roots.Head
 root_by buckets Advances = roots.Head
-root_by buckets (Releases key) = roots.Head
+root_by buckets (Releases let_go) = roots.Head
 
 -- what a machine is run for
 pub data Kind : Type 0 where
@@ -93,7 +93,7 @@ kind_of (GivesUp answer) = ToGiveUp
 kind_of (Retires answer) = ToRetire
 kind_of (Tidies later) = ToMove
 kind_of Advances = ToMove
-kind_of (Releases key) = ToRelease
+kind_of (Releases let_go) = ToRelease
 
 abbrev pub begins : Kind → Bool
 begins ToOpen = true
@@ -144,7 +144,7 @@ suits (Protect aim index root steps at) kind = protects kind
 suits (Reload parent index slot era steps) kind = reloads kind
 suits (Clear index) kind = clears kind
 suits Finish kind = finishes kind
-suits Release kind = releases kind
+suits (Release index) kind = releases kind
 suits (Allocate at) kind = fills kind
 suits (Write slot row place) kind = fills kind
 suits (GiveUp slot) kind = gives_up kind
@@ -213,7 +213,7 @@ base_fits config (Protect aim index root steps at) = protect_fits config.scheme 
 base_fits config (Reload parent index slot era steps) = true
 base_fits config (Clear index) = not (has_one_interval config.scheme)
 base_fits config Finish = has_one_interval config.scheme
-base_fits config Release = has_one_interval config.scheme
+base_fits config (Release index) = has_one_interval config.scheme
 base_fits config (Allocate at) = allocate_fits config.slots at
 base_fits config (Write slot row place) = nat_le (first_written row) place && nat_le place (last_written row)
 base_fits config (GiveUp slot) = true
@@ -236,17 +236,18 @@ Shaped buckets why (Begin at) = Unit {0}
 Shaped buckets why (Protect aim index root steps at) = Aimed buckets why aim index root
 Shaped buckets why (Reload parent index slot era steps) = Reloads buckets why parent index
 Shaped buckets why (Clear index) = index ≡ index_by why
+Shaped buckets why (Release index) = index ≡ index_by why
 Shaped buckets why base = Unit {0}
 
 -- what a machine's phase says of the post: where an interval begins none stands, within a round one does, and where it
--- is finished no row is held
+-- is finished no row is kept
 abbrev pub Posted : Base → Post → Type 0
 Posted (Begin at) post = post.span ≡ None
 Posted (Protect aim index root steps at) post = SpanStands post
 Posted (Reload parent index slot era steps) post = SpanStands post
 Posted (Clear index) post = Unit {0}
-Posted Finish post = stands post 2 ≡ None
-Posted Release post = Unit {0}
+Posted Finish post = kept_row post ≡ None
+Posted (Release index) post = kept_row (withdrawn post index) ≡ None
 Posted (Allocate at) post = SpanStands post
 Posted (Write slot row place) post = SpanStands post
 Posted base post = Unit {0}
@@ -266,7 +267,7 @@ abbrev pub PhaseFits : Layout → Post → Phase → Type 0
 PhaseFits layout post Idle = Unit {0}
 PhaseFits layout post (Runs why base) = Run layout why base post
 PhaseFits layout post (Scans later at) = scan_fits layout.config at ≡ true
-PhaseFits layout post (Works work) = SpanStands post
+PhaseFits layout post (Works work) = WorkFits post work
 
 -- a post of this seat and layout
 pub record PostFits (table : Layout) (number : ℕ) (post : Post) : Type 0 where

@@ -25,7 +25,8 @@ use Rattle.wfe_core.specs.Phases.RetireAt.{LoadLife, LoadRetire, StoreRetired}
 use Rattle.wfe_core.specs.Phases.MoveAt.{CheckEra, AnswerAsked, LoadReserved, HandOver}
 use Rattle.wfe_core.specs.Phases.Base.{Begin, Protect, Reload, Clear, Finish, Release, Allocate, Write, GiveUp, Retire, Move as Moves}
 use Rattle.wfe_core.specs.Phases.Ending.{Done, Protected, Followed, Allocated, Retired, Clocked}
-use Rattle.wfe_core.specs.Calls.{ChangeKept, EnqueueKept, Task, Gets, Changes, Holds, Enqueues, Dequeues, Next, Again, MakeRoom, Answering, Retiring, AfterScan, Answered, Repeated, Counted, GetAt, FindVersion, FindCount, FindKey, FindValue, ChangeAt, LoadVersion, LoadCount, LoadKey, LoadValue, ExchangeRoot, EnqueueAt, LoadNumber, LoadNext, PassTail, ExchangeNext, ExchangeTail, DequeueAt, LoadTail, SwingTail, TakeNumber, TakeValue, ExchangeHead, Work, Getting, Changing, Enqueuing, Dequeuing, ScanAt, ReadGuard, GiveBack, Why, Opens, FollowsHead, Fills, ClearsNext, Clears, Finishes, GivesUp, Retires, Tidies, Advances, Releases, Phase, Idle, Runs, Scans, Works, CallTurn}
+use Rattle.wfe_core.specs.Calls.{ChangeKept, EnqueueKept, Task, Gets, Changes, Holds, Enqueues, Dequeues, Next, Again, MakeRoom, Answering, Retiring, AfterScan, Answered, Repeated, Counted, GetAt, FindVersion, FindCount, FindKey, FindValue, ChangeAt, LoadVersion, LoadCount, LoadKey, LoadValue, ExchangeRoot, EnqueueAt, LoadNumber, LoadNext, PassTail, ExchangeNext, ExchangeTail, DequeueAt, LoadTail, SwingTail, TakeNumber, TakeValue, ExchangeHead, Work, Getting, Changing, Enqueuing, Dequeuing, KeepAt, Loosens, LoadHeld, StoreHeld, Looks, Misses, Keeping, ScanAt, ReadGuard, GiveBack, Why, Opens, FollowsHead, Fills, ClearsNext, Clears, Finishes, GivesUp, Retires, Tidies, Advances, Releases, Phase, Idle, Runs, Scans, Works, CallTurn}
+use Rattle.wfe_core.specs.Rounds.{let_index}
 use Rattle.wfe_core.specs.World.{World, finds}
 use Rattle.wfe_core.specs.Locals.{Local}
 use Rattle.inv_shapes.specs.Frame.{phase_left}
@@ -75,6 +76,11 @@ LaterIn config (Answered answer) = Unit {0}
 LaterIn config (Repeated task) = TaskIn config task
 LaterIn config Counted = Unit {0}
 
+-- an index at which a row may stand between calls
+pub record KeptIn (config : Config) (index : ℕ) : Type 0 where
+  pub kept : 2 ≤ index
+  pub below : index < config.indexes
+
 -- what comes after a machine
 abbrev pub WhyIn : Config → Why → Type 0
 WhyIn config (Opens task) = TaskIn config task
@@ -87,7 +93,7 @@ WhyIn config (GivesUp answer) = Unit {0}
 WhyIn config (Retires answer) = Unit {0}
 WhyIn config (Tidies later) = LaterIn config later
 WhyIn config Advances = Unit {0}
-WhyIn config (Releases key) = Unit {0}
+WhyIn config (Releases let_go) = KeptIn config (let_index let_go)
 
 -- the link that a protection has loaded
 abbrev pub ProtectIn : ℕ → ProtectAt → Type 0
@@ -129,7 +135,7 @@ BaseIn layout (Protect aim index root steps at) = ProtectsIn layout root at
 BaseIn layout (Reload parent index slot era steps) = (parent ≤ layout.config.slots) × (slot ≤ layout.config.slots)
 BaseIn layout (Clear index) = Unit {0}
 BaseIn layout Finish = Unit {0}
-BaseIn layout Release = Unit {0}
+BaseIn layout (Release index) = Unit {0}
 BaseIn layout (Allocate at) = Unit {0}
 BaseIn layout (Write slot row place) = (slot ≤ layout.config.slots) × RowIn layout.config row
 BaseIn layout (GiveUp slot) = slot ≤ layout.config.slots
@@ -186,11 +192,25 @@ DequeueIn slots (TakeNumber head next) = (head ≤ slots) × (next ≤ slots)
 DequeueIn slots (TakeValue head next number) = (head ≤ slots) × (next ≤ slots)
 DequeueIn slots (ExchangeHead head next number value) = (head ≤ slots) × (next ≤ slots)
 
+-- a copy goes upwards
+pub record CopyIn (config : Config) (from index : ℕ) : Type 0 where
+  pub kept : 2 ≤ from
+  pub rises : from < index
+  pub below : index < config.indexes
+
+abbrev pub KeepIn : Config → KeepAt → Type 0
+KeepIn config (Loosens let_go) = KeptIn config (let_index let_go)
+KeepIn config (LoadHeld from index) = CopyIn config from index
+KeepIn config (StoreHeld from index era) = CopyIn config from index
+KeepIn config (Looks index key at) = KeptIn config index × GetIn config at
+KeepIn config (Misses index) = KeptIn config index
+
 abbrev pub WorkIn : Config → Work → Type 0
 WorkIn config (Getting key at) = GetIn config at
 WorkIn config (Changing kept at) = ChangeIn config kept × ChangeAtIn config kept at
 WorkIn config (Enqueuing kept at) = EnqueueIn config kept × EnqueueAtIn config kept at
 WorkIn config (Dequeuing at) = DequeueIn config.slots at
+WorkIn config (Keeping at) = KeepIn config at
 
 -- what goes back and what is left are no more than the rows
 pub record BackIn (slots : ℕ) (desk : Desk) (slot : ℕ) : Type 0 where
@@ -300,11 +320,19 @@ dequeue_finds config (TakeNumber head next) found = found ≤ config.last_versio
 dequeue_finds config (TakeValue head next number) found = Unit {0}
 dequeue_finds config (ExchangeHead head next number value) found = Unit {0}
 
+abbrev pub keep_finds : Config → KeepAt → ℕ → Type 0
+keep_finds config (Loosens let_go) found = Unit {0}
+keep_finds config (LoadHeld from index) found = Unit {0}
+keep_finds config (StoreHeld from index era) found = Unit {0}
+keep_finds config (Looks index key at) found = get_finds config at found
+keep_finds config (Misses index) found = Unit {0}
+
 abbrev pub work_finds : Config → Work → ℕ → Type 0
 work_finds config (Getting key at) found = get_finds config at found
 work_finds config (Changing kept at) found = change_finds config at found
 work_finds config (Enqueuing kept at) found = enqueue_finds config at found
 work_finds config (Dequeuing at) found = dequeue_finds config at found
+work_finds config (Keeping at) found = keep_finds config at found
 
 -- the list is no longer than the rows when a scan ends reading, and has the entry that goes back
 abbrev pub scan_lists : Config → Desk → ScanAt → Type 0

@@ -7,6 +7,7 @@ ghost use Rattle.wfe_core.specs.words.Place.Place.{Clock};
 ghost use Rattle.wfe_core.specs.words.declared.layout.Layout.{Layout as Table};
 ghost use Rattle.wfe_core.specs.defs.declared.call.Call.{Call};
 ghost use Rattle.wfe_core.specs.MayStep.{MayStep};
+ghost use Rattle.wfe_core.specs.Locals.{may_begin};
 ghost use Rattle.wfe_core.specs.World.{World, start, begin, step};
 ghost use Rattle.inv_shapes.specs.Code.{CodeNeeds};
 ghost use Rattle.inv_shapes.specs.Eras.{Eras, ErasNeeds};
@@ -33,11 +34,11 @@ pub fn words_decode()
 {}
 
 /// Each link in a word or a phase is null or leads to a row of the table, each slot that a seat knows
-/// is such a row, and versions, numbers and pairs that a call keeps are in range, from the start on
-/// and over every step and every call that begins.
+/// is such a row, and versions, numbers, pairs and indexes that a call keeps are in range, from the
+/// start on and over every step and every call that begins.
 pub fn links_stay_within()
     ensures start { (layout : Table) → Slots (start layout) }
-    ensures begin { (w : World) (i : ℕ) (call : Call) → Slots w → Slots (begin w i call) }
+    ensures begin { (w : World) (i : ℕ) (call : Call) → is_valid w.layout ≡ true → may_begin w.layout.config call ≡ true → Slots w → Slots (begin w i call) }
     ensures step { (w : World) (i : ℕ) → is_valid w.layout ≡ true → Seats w → Eras w → Slots w → SlotsNeeds w i → Slots (step w i) }
 {}
 
@@ -59,7 +60,7 @@ pub fn steps_are_ready()
 /// requests.
 pub fn phases_give()
     ensures guards { (w : World) → is_valid w.layout ≡ true → Seats w → Slots w → GivesGuards w }
-    ensures clears { (w : World) → is_valid w.layout ≡ true → Seats w → GivesClears w }
+    ensures clears { (w : World) → is_valid w.layout ≡ true → Seats w → Slots w → GivesClears w }
     ensures walks { (w : World) → Seats w → GivesWalks w }
     ensures births { (w : World) → Eras w → GivesBirths w }
     ensures links { (w : World) → Slots w → GivesLinks w }

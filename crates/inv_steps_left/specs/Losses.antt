@@ -8,7 +8,7 @@ use Rattle.inv_contents.specs.model.Posts.{counted}
 use Rattle.inv_contents.specs.model.Phases.{Base, Walk, Ends, Protected}
 use Rattle.inv_contents.specs.model.Phases.AllocateAt.{ClaimSlot}
 use Rattle.inv_contents.specs.model.Phases.Base.{Allocate, Reload}
-use Rattle.inv_contents.specs.model.Calls.{ChangeKept, EnqueueKept, Task, Gets, Changes, Holds, Enqueues, Dequeues, Next, Again, MakeRoom, Answering, Retiring, AfterScan, Answered, Repeated, Counted, Why, Opens, FollowsHead, Fills, ClearsNext, Clears, Finishes, GivesUp, Retires, Tidies, Advances, Releases, ExchangeRoot, PassTail, ExchangeNext, SwingTail, ExchangeHead, Work, Getting, Changing, Enqueuing, Dequeuing, Phase, Idle, Runs, Scans, Works}
+use Rattle.inv_contents.specs.model.Calls.{ChangeKept, EnqueueKept, Task, Gets, Changes, Holds, Enqueues, Dequeues, Next, Again, MakeRoom, Answering, Retiring, AfterScan, Answered, Repeated, Counted, Why, Opens, FollowsHead, Fills, ClearsNext, Clears, Finishes, GivesUp, Retires, Tidies, Advances, Releases, ExchangeRoot, PassTail, ExchangeNext, SwingTail, ExchangeHead, Work, Getting, Changing, Enqueuing, Dequeuing, Keeping, Phase, Idle, Runs, Scans, Works}
 use Rattle.inv_contents.specs.model.World.{World, finds}
 use Rattle.inv_contents.specs.words.Schemes.{has_one_interval}
 
@@ -88,13 +88,15 @@ why_fit c rounds base (GivesUp answer) = Unit {0}
 why_fit c rounds base (Retires answer) = Unit {0}
 why_fit c rounds base (Tidies later) = later_fit c rounds later
 why_fit c rounds base Advances = Unit {0}
-why_fit c rounds base (Releases key) = rounds ≡ 0
+why_fit c rounds base (Releases let_go) = rounds ≡ 0
 
+-- a call that works on what is kept has found no root yet
 abbrev pub work_fit : Config → ℕ → Work → Type 0
 work_fit c rounds (Getting key at) = InRound (rounds_most c (Gets key)) rounds
 work_fit c rounds (Changing kept at) = InRound (rounds_most c (Changes kept)) rounds
 work_fit c rounds (Enqueuing kept at) = InRound (rounds_most c (Enqueues kept)) rounds
 work_fit c rounds (Dequeuing at) = InRound (rounds_most c Dequeues) rounds
+work_fit c rounds (Keeping at) = rounds ≡ 0
 
 abbrev pub phase_fit : Config → ℕ → Phase → Type 0
 phase_fit c rounds Idle = Unit {0}

@@ -7,7 +7,7 @@ use Rattle.inv_contents.specs.defs.declared.event.Root.TheVariants as roots
 use Rattle.inv_contents.specs.model.Phases.{Base}
 use Rattle.inv_contents.specs.model.Rest.{is_told, lost_by}
 use Rattle.inv_contents.specs.model.Rounds.{key_of}
-use Rattle.inv_contents.specs.model.Calls.{ChangeKept, EnqueueKept, Task, Gets, Changes, Holds, Enqueues, Dequeues, Next, Again, MakeRoom, Answering, Retiring, AfterScan, Answered, Repeated, Counted, Why, Opens, FollowsHead, Fills, ClearsNext, Clears, Finishes, GivesUp, Retires, Tidies, Advances, Releases, EnqueueAt, LoadNumber, LoadNext, PassTail, ExchangeNext, ExchangeTail, DequeueAt, LoadTail, SwingTail, TakeNumber, TakeValue, ExchangeHead, Work, Getting, Changing, Enqueuing, Dequeuing, Phase, Idle, Runs, Scans, Works}
+use Rattle.inv_contents.specs.model.Calls.{ChangeKept, EnqueueKept, Task, Gets, Changes, Holds, Enqueues, Dequeues, Next, Again, MakeRoom, Answering, Retiring, AfterScan, Answered, Repeated, Counted, Why, Opens, FollowsHead, Fills, ClearsNext, Clears, Finishes, GivesUp, Retires, Tidies, Advances, Releases, EnqueueAt, LoadNumber, LoadNext, PassTail, ExchangeNext, ExchangeTail, DequeueAt, LoadTail, SwingTail, TakeNumber, TakeValue, ExchangeHead, Work, Getting, Changing, Enqueuing, Dequeuing, Keeping, Phase, Idle, Runs, Scans, Works}
 use Rattle.inv_contents.specs.model.World.{World}
 use Rattle.inv_contents.specs.rows.Queue.{Line}
 
@@ -106,7 +106,7 @@ why_paced t rounds base (GivesUp answer) = Unit {0}
 why_paced t rounds base (Retires answer) = Unit {0}
 why_paced t rounds base (Tidies later) = later_paced t later rounds
 why_paced t rounds base Advances = Unit {0}
-why_paced t rounds base (Releases key) = Unit {0}
+why_paced t rounds base (Releases let_go) = Unit {0}
 
 abbrev pub enqueue_paced : Tally → EnqueueKept → EnqueueAt → ℕ → Type 0
 enqueue_paced t kept LoadNumber lost = tail_since t kept lost
@@ -127,6 +127,7 @@ work_paced t (Getting key at) lost = Unit {0}
 work_paced t (Changing kept at) lost = root_since t kept lost
 work_paced t (Enqueuing kept at) lost = enqueue_paced t kept at lost
 work_paced t (Dequeuing at) lost = dequeue_paced t at lost
+work_paced t (Keeping at) lost = Unit {0}
 
 -- how many rounds a seat's call has lost, by where it stands
 abbrev pub phase_paced : Tally → ℕ → Phase → Type 0

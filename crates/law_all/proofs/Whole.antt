@@ -1,19 +1,19 @@
 -- Each law is proved in its crate; here they are joined.
-use Rattle.law_held.proofs.reuse.Reuse.Keeps as reuse
+use Rattle.law_steps.proofs.held.reuse.Reuse.Keeps as reuse
 use Rattle.law_steps.proofs.answers.Lawful.Counts as steps
 use Rattle.law_steps.proofs.answers.Lawful.Maps as maps
 use Rattle.law_steps.proofs.answers.Lawful.Queues as queues
-use Rattle.law_held.proofs.reuse.Once.Births as births
-use Rattle.law_held.proofs.reuse.Once.Keeps as once
-use Rattle.law_held.proofs.reuse.Blocks.Counts as counts
-use Rattle.law_held.proofs.reuse.Blocks.Keeps as scans
-use Rattle.law_held.proofs.reuse.Blocks.Shown as reads
+use Rattle.law_steps.proofs.held.reuse.Once.Births as births
+use Rattle.law_steps.proofs.held.reuse.Once.Keeps as once
+use Rattle.law_steps.proofs.held.reuse.Blocks.Counts as counts
+use Rattle.law_steps.proofs.held.reuse.Blocks.Keeps as scans
+use Rattle.law_steps.proofs.held.reuse.Blocks.Shown as reads
 use Rattle.law_steps.proofs.eras.EraLaw.Keeps as eras
 use Rattle.law_steps.proofs.answers.AnswersTold.Answering as answers
-use Rattle.law_held.proofs.places.Placing.Keeps as placing
-use Rattle.law_held.proofs.places.Ordering.Linked as nexts
-use Rattle.law_held.proofs.places.Ordering.Ordered as order
-use Rattle.law_held.proofs.places.BareEnds as bare
+use Rattle.law_steps.proofs.held.places.Placing.Keeps as placing
+use Rattle.law_steps.proofs.held.places.Ordering.Linked as nexts
+use Rattle.law_steps.proofs.held.places.Ordering.Ordered as order
+use Rattle.law_steps.proofs.held.places.BareEnds as bare
 use Rattle.law_reasons.proofs.Reasons.Keeps as reasons
 use Rattle.law_steps.proofs.answers.Turns.Counted as turns
 use Rattle.law_steps.proofs.turns.Counting.Bounded as bounded
@@ -22,19 +22,19 @@ use Rattle.law_steps.proofs.turns.Handovers as handed
 use Rattle.law_steps.proofs.answers.OneStep.OneStep as one_step
 use Rattle.law_steps.proofs.turns.TryCounts as tries
 use Rattle.law_steps.proofs.scans.ClockTimes.Timely as times
-use Rattle.law_held.proofs.Indexes.Clears as clears
-use Rattle.law_held.proofs.Roots.Finding as finds
-use Rattle.law_held.proofs.Indexes.Indexing as indexes
-use Rattle.law_held.proofs.Roots.Following as follows
-use Rattle.law_held.proofs.Roots.Linking as links
-use Rattle.law_held.proofs.Roots.Sources as sources
+use Rattle.law_steps.proofs.held.Indexes.Clears as clears
+use Rattle.law_steps.proofs.held.Roots.Finding as finds
+use Rattle.law_steps.proofs.held.Indexes.Indexing as indexes
+use Rattle.law_steps.proofs.held.Roots.Following as follows
+use Rattle.law_steps.proofs.held.Roots.Linking as links
+use Rattle.law_steps.proofs.held.Roots.Sources as sources
 use Rattle.law_steps.proofs.inv.Finish as finishes
 use Rattle.law_steps.proofs.eras.Current.Keeps as current
 use Rattle.law_steps.proofs.Rising.RiseKeeps as rising
-use Rattle.law_held.proofs.NextRows.Following as behind
-use Rattle.law_held.proofs.GotRows.Gots as gots
-use Rattle.law_held.proofs.Resting.Resting as rests
-use Rattle.law_held.proofs.Held.Throughout as throughout
+use Rattle.law_steps.proofs.held.NextRows.Following as behind
+use Rattle.law_steps.proofs.held.GotRows.Gots as gots
+use Rattle.law_steps.proofs.held.Resting.Resting as rests
+use Rattle.law_steps.proofs.held.Held.Throughout as throughout
 use Rattle.law_reasons.proofs.Full.Keeps as rooms
 use Rattle.law_reasons.proofs.Repeats.Keeps as repeating
 use Rattle.law_steps.proofs.turns.Withdrawals.Due as due_words
@@ -46,7 +46,7 @@ use Rattle.law_steps.proofs.CallCounts.Ends as call_counts
 use Rattle.law_steps.proofs.answers.OpenCalls as open_calls
 use Rattle.law_steps.proofs.scans.FewRetired.Few as few
 use Rattle.law_steps.proofs.scans.FewRetired.Plain as plain
-use Rattle.law_held.proofs.Indexes.Alone as alone
+use Rattle.law_steps.proofs.held.Indexes.Alone as alone
 use Rattle.law_steps.proofs.eras.EraLaw.Guards as named
 use Rattle.law_reasons.proofs.Ranges.Records as ranges
 use Rattle.law_steps.proofs.turns.Withdrawals.Entries as next_withdrawals
@@ -80,6 +80,7 @@ kept layout items valid =
           reuse = reuse.records_keep_reuse layout items valid;
           clears = clears.records_clear_rows layout items valid;
           indexes = indexes.records_use_indexes layout items valid;
+          copies = indexes.records_copy_rows layout items valid;
         };
         rows = record {
           free = once.records_keep_once layout items valid;

@@ -1,4 +1,4 @@
-pub use Rattle.law_held.specs as held
+pub use Rattle.law_steps.specs.held as held
 pub use Rattle.law_steps.specs.inv as inv
 pub use Rattle.law_letter.specs as letter
 pub use Rattle.law_reasons.specs as reasons

@@ -26,8 +26,8 @@ pub fn records_keep_queue()
 {}
 
 /// Where a call ends, in the record of any history, its answer is one that such a call may have, and
-/// since its beginning it has told of the map and of the queue just the event that the answer says, or
-/// nothing where the answer says none.
+/// since its beginning it has told of the map, of the queue and of copies just the event that the
+/// answer says, or nothing where the answer says none.
 pub fn records_keep_answers()
     ensures { RecordsKeepAnswers }
 {}

@@ -42,7 +42,8 @@ pub fn records_retire_current()
 
 /// The upper end of what a guard is told to publish was the clock at a position of the call that
 /// tells it, whichever guard it is: an own index, helper or interval word, or the index word that a
-/// mover of the clock hands over.
+/// mover of the clock hands over. A copy alone may publish an older one: the interval that the index
+/// word publishes from which it copies.
 pub fn records_reserve_current()
     ensures { RecordsReserveCurrent }
 {}

@@ -1,5 +1,6 @@
 pub use Rattle.law_places.proofs as places
 pub use Rattle.law_places.proofs.reuse as reuse
+pub use Rattle.law_turns.proofs as turns
 pub mod GotRows
 pub mod Held
 pub mod Indexes

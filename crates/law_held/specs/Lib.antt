@@ -1,1 +1,2 @@
+pub use Rattle.law_turns.specs as turns
 pub mod Records

@@ -5,7 +5,7 @@ use Rattle.wfe_core.specs.words.declared.layout.Layout.{Layout}
 use Rattle.law_places.specs.inv.history.History.{Item, record_of}
 use Rattle.laws.specs.HistoryHolds.{StoodThroughout, SourceLaw, FindLaw, GotLaw, LinkLaw, FollowLaw, BehindLaw, RestLaw}
 use Rattle.laws.specs.HistoryHolds.{LoneLaw}
-use Rattle.laws.specs.HistoryHolds.{ClearLaw, IndexLaw}
+use Rattle.laws.specs.HistoryHolds.{ClearLaw, CopyLaw, IndexLaw}
 
 -- each history's record keeps it, whatever calls begin and whichever seats make their steps
 abbrev pub RecordsClearRows : Type 0
@@ -14,6 +14,10 @@ RecordsClearRows = (layout : Layout) (items : List Item) → is_valid layout ≡
 -- each history's record keeps it, whatever calls begin and whichever seats make their steps
 abbrev pub RecordsUseIndexes : Type 0
 RecordsUseIndexes = (layout : Layout) (items : List Item) → is_valid layout ≡ true → IndexLaw (record_of layout items)
+
+-- each history's record keeps it, whatever calls begin and whichever seats make their steps
+abbrev pub RecordsCopyRows : Type 0
+RecordsCopyRows = (layout : Layout) (items : List Item) → is_valid layout ≡ true → CopyLaw (record_of layout items)
 
 -- each history's record keeps it, whatever calls begin and whichever seats make their steps
 abbrev pub RecordsHoldThroughout : Type 0
@@ -45,7 +49,7 @@ RecordsFollowNexts = (layout : Layout) (items : List Item) → is_valid layout �
 
 -- each history's record keeps it, whatever calls begin and whichever seats make their steps
 abbrev pub RecordsRestGuards : Type 0
-RecordsRestGuards = (layout : Layout) (items : List Item) → is_valid layout ≡ true → RestLaw layout.config.scheme (record_of layout items)
+RecordsRestGuards = (layout : Layout) (items : List Item) → is_valid layout ≡ true → RestLaw layout.config (record_of layout items)
 
 -- each history's record keeps it, whatever calls begin and whichever seats make their steps
 abbrev pub RecordsHoldAlone : Type 0

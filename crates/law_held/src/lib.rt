@@ -2,7 +2,7 @@
 //! a theorem.
 #![tactic(auto)]
 
-ghost use Rattle.law_held.specs.Records.{RecordsClearRows, RecordsFindRoots, RecordsFindSources, RecordsFollowHead, RecordsFollowNexts, RecordsHoldAlone, RecordsHoldThroughout, RecordsLinkHeld, RecordsRestGuards, RecordsTellRows, RecordsUseIndexes};
+ghost use Rattle.law_held.specs.Records.{RecordsClearRows, RecordsCopyRows, RecordsFindRoots, RecordsFindSources, RecordsFollowHead, RecordsFollowNexts, RecordsHoldAlone, RecordsHoldThroughout, RecordsLinkHeld, RecordsRestGuards, RecordsTellRows, RecordsUseIndexes};
 
 /// Where a seat links a row at a root, the row that the root had stands at its index 0; where it links
 /// one behind a row of the queue, that row does. What the head is linked to stands at its index 1, and
@@ -48,15 +48,22 @@ pub fn records_clear_rows()
     ensures { RecordsClearRows }
 {}
 
-/// A hold protects and clears at index 2, where only a release clears too; a dequeue protects and
-/// clears at indexes 0 and 1, and each other call that protects at index 0.
+/// A hold protects and clears at index 2, where only a release and a drop of it clear too; a dequeue
+/// protects and clears at indexes 0 and 1, and each other call that protects at index 0. A copy clears
+/// where it copies to, and a drop at its index.
 pub fn records_use_indexes()
     ensures { RecordsUseIndexes }
 {}
 
+/// A row that is told to be copied stands at the index that it is copied from. The seat's call is the
+/// copy from that index to the other, which goes upwards from an index from 2 on.
+pub fn records_copy_rows()
+    ensures { RecordsCopyRows }
+{}
+
 /// A seat whose call ends leaves nothing published at its helper word and at its indexes 0 and 1. At
-/// index 2 it publishes as long as a row is held there, and else nothing; under 2GE its interval word
-/// does so.
+/// each index from 2 on it publishes as long as a row stands there, and else nothing; under 2GE its
+/// interval word does so as long as a row stands at any of them.
 pub fn records_rest_guards()
     ensures { RecordsRestGuards }
 {}
@@ -68,8 +75,8 @@ pub fn records_hold_throughout()
     ensures { RecordsHoldThroughout }
 {}
 
-/// Where a seat tells at an index that a row stands, or that there is none, nothing stands at that
-/// index of the seat.
+/// Where a seat tells at an index that a row stands, or that there is none, or copies one there,
+/// nothing stands at that index of the seat.
 pub fn records_hold_alone()
     ensures { RecordsHoldAlone }
 {}

@@ -40,13 +40,14 @@ one_more kind (other ∷ told) event = by (kind other) (kind event) (one_more ki
     by false true h = h
     by false false h = h
 
--- events of the map and of the queue
+-- events of the map, of the queue and of copies
 abbrev is_told : Event → Bool
 is_told (events.Got bucket version key value) = true
 is_told (events.Put bucket version key value) = true
 is_told (events.Removed bucket version key) = true
 is_told (events.Queued number value) = true
 is_told (events.Taken number value) = true
+is_told (events.Copied from index slot) = true
 is_told event = false
 
 -- a kind of these alone
@@ -63,6 +64,7 @@ told_one kind o (events.Put bucket version key value) told = one_more kind told 
 told_one kind o (events.Removed bucket version key) told = one_more kind told (events.Removed bucket version key)
 told_one kind o (events.Queued number value) told = one_more kind told (events.Queued number value)
 told_one kind o (events.Taken number value) told = one_more kind told (events.Taken number value)
+told_one kind o (events.Copied from index slot) told = one_more kind told (events.Copied from index slot)
 told_one kind o event told = silent kind event (matching kind told) (o event refl)
 
 told_entry : (kind : Event → Bool) → OfTold kind → (i k : ℕ) (p : Past) (event : Event) (same : Bool) → (i == k) ≡ same → matching kind (told_of i p) ≡ seen (counted_by kind) 0 i p → matching kind (told_of i (Then p k event)) ≡ seen (counted_by kind) 0 i (Then p k event)
@@ -98,6 +100,7 @@ quiet_to event (events.Put bucket version key value) h = absurd (cc)
 quiet_to event (events.Removed bucket version key) h = absurd (cc)
 quiet_to event (events.Queued number value) h = absurd (cc)
 quiet_to event (events.Taken number value) h = absurd (cc)
+quiet_to event (events.Copied from index slot) h = absurd (cc)
 quiet_to event other h = refl
 
 owed_once : (n i : ℕ) (p : Past) (call : Call) (answer : Answer) → strong.same_told (told_of i p) (strong.owes n call answer) ≡ true → weak.told_once i p (weak.owes n call answer) ≡ true
@@ -106,6 +109,8 @@ owed_once n i p (calls.Put key value) (answers.Done version clock) h = told_once
 owed_once n i p (calls.Remove key) (answers.Done version clock) h = told_once i p (events.Removed (key % n) version key) (quiet_to (events.Removed (key % n) version key)) h
 owed_once n i p (calls.Enqueue value) (answers.Queued number) h = told_once i p (events.Queued number value) (quiet_to (events.Queued number value)) h
 owed_once n i p calls.Dequeue (answers.Taken number value clock) h = told_once i p (events.Taken number value) (quiet_to (events.Taken number value)) h
+owed_once n i p (calls.Copy from index) (answers.Copied slot) h = told_once i p (events.Copied from index slot) (quiet_to (events.Copied from index slot)) h
+owed_once n i p (calls.PutIf key value wanted) (answers.Done version clock) h = told_once i p (events.Put (key % n) version key value) (quiet_to (events.Put (key % n) version key value)) h
 owed_once n i p call answer h = refl
 
 answer_by : (n i : ℕ) (p : Past) (call : Option Call) (answer : Answer) → strong.answer_right n call (told_of i p) answer ≡ true → weak.answer_right n i p call answer ≡ true
@@ -169,6 +174,29 @@ release_by : (i : ℕ) (p : Past) (answer : Answer) → Each lone_ok p → Each 
 release_by i p answers.Released l c h = rw (bare_one i 2 p l c) h
 release_by i p answer l c h = refl
 
+copy_by : (i from index : ℕ) (p : Past) (answer : Answer) → Each lone_ok p → Each clears_ok p → strong.copy_reason i from index p answer ≡ true → weak.copy_reason i from index p answer ≡ true
+copy_by i from index p (answers.Copied slot) l c h = rw (stands_one i from slot p l c, stands_one i index slot p l c) h
+copy_by i from index p answers.Nothing l c h = rw (bare_one i from p l c) h
+copy_by i from index p answer l c h = refl
+
+drop_by : (i index : ℕ) (p : Past) (answer : Answer) → Each lone_ok p → Each clears_ok p → strong.drop_reason i index p answer ≡ true → weak.drop_reason i index p answer ≡ true
+drop_by i index p answers.Dropped l c h = rw (bare_one i index p l c) h
+drop_by i index p answer l c h = refl
+
+look_by : (i index key : ℕ) (p : Past) (answer : Answer) → Each lone_ok p → Each clears_ok p → strong.look_reason i index key p answer ≡ true → weak.look_reason i index key p answer ≡ true
+look_by i index key p (answers.Looked slot version value) l c h = rw (stands_one i index slot p l c) h
+look_by i index key p answers.Nothing l c h = rw (bare_one i index p l c) h
+look_by i index key p answer l c h = refl
+
+put_if_by : (c : Config) (i b key wanted : ℕ) (p : Past) (answer : Answer) → strong.put_if_reason c i b key wanted p answer ≡ true → weak.put_if_reason c i b key wanted p answer ≡ true
+put_if_by c i b key wanted p (answers.Done version clock) h =
+    both (version == wanted + 1) (weak.put_reason c i b key p (answers.Done version clock)) (first_of (version == wanted + 1) (strong.put_reason c i b key p (answers.Done version clock)) h)
+    (put_by c i b key p (answers.Done version clock) (rest_of (version == wanted + 1) (strong.put_reason c i b key p (answers.Done version clock)) h))
+put_if_by c i b key wanted p (answers.Stale version) h = h
+put_if_by c i b key wanted p (answers.Spent number) h = h
+put_if_by c i b key wanted p (answers.BucketFull version) h = h
+put_if_by c i b key wanted p answer h = refl
+
 scan_by : (config : Config) (i : ℕ) (p : Past) (answer : Answer) → answers_scan config i p answer ≡ true → weak.scan_reason i p answer ≡ true
 scan_by config i p (answers.Scanned kept back) h = rest_of (times i is_read p == guards config) (kept == length (list_of i p) && back == times i is_back p) h
 scan_by config i p answer h = refl
@@ -181,6 +209,10 @@ reason_by c i p (Some calls.Dequeue) answer l k s h = dequeue_by i p answer h
 reason_by c i p (Some (calls.Hold key)) answer l k s h = hold_by i (bucket_of c.buckets key) p answer l k h
 reason_by c i p (Some calls.Release) answer l k s h = release_by i p answer l k h
 reason_by c i p (Some calls.Scan) answer l k s h = scan_by c i p answer (s refl)
+reason_by c i p (Some (calls.Copy from index)) answer l k s h = copy_by i from index p answer l k h
+reason_by c i p (Some (calls.DropIndex index)) answer l k s h = drop_by i index p answer l k h
+reason_by c i p (Some (calls.Look index key)) answer l k s h = look_by i index key p answer l k h
+reason_by c i p (Some (calls.PutIf key value wanted)) answer l k s h = put_if_by c i (bucket_of c.buckets key) key wanted p answer h
 reason_by c i p (Some (calls.Get key)) answer l k s h = refl
 reason_by c i p (Some calls.Advance) answer l k s h = refl
 reason_by c i p None answer l k s h = refl
@@ -209,6 +241,10 @@ empty_by c i p (Some calls.Release) h = refl
 empty_by c i p (Some calls.Scan) h = refl
 empty_by c i p (Some (calls.Get key)) h = refl
 empty_by c i p (Some calls.Advance) h = refl
+empty_by c i p (Some (calls.Copy from index)) h = refl
+empty_by c i p (Some (calls.DropIndex index)) h = refl
+empty_by c i p (Some (calls.Look index key)) h = refl
+empty_by c i p (Some (calls.PutIf key value wanted)) h = refl
 empty_by c i p None h = refl
 
 empty_answer : (c : Config) (i steps : ℕ) (p : Past) (answer : Answer) → strong.reason c i p (began_of i p) answer ≡ true → empty_ok p i (events.End steps answer) ≡ true
@@ -239,6 +275,8 @@ refused_by (answers.Absent version) true h = absurd (cc)
 refused_by (answers.Absent version) false h = refl
 refused_by (answers.Spent number) true h = absurd (cc)
 refused_by (answers.Spent number) false h = refl
+refused_by (answers.Stale version) true h = absurd (cc)
+refused_by (answers.Stale version) false h = refl
 refused_by answers.Empty true h = absurd (cc)
 refused_by answers.Empty false h = refl
 refused_by answer changed h = refl

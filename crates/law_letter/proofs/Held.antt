@@ -1,7 +1,7 @@
 -- The laws on what stands, from those of histories, in which one row stands at an index at most.
 use Rattle.std.proofs.Common.{ℕ, ◌≡◌, Bool, true, false, refl, sym, arith, None, Some, Option, subst, ◌∙◌, ◌+◌}
 use Rattle.std.proofs.lemmas.Bool.Decides.{nat_tests}
-use Rattle.std.specs.Prelude.{◌==◌, if◌then◌else◌, ◌&&◌, ◌||◌, not, is_none, nat_lt}
+use Rattle.std.specs.Prelude.{◌==◌, if◌then◌else◌, ◌&&◌, ◌||◌, not, is_none, nat_le, nat_lt, suc, zero, ◌<◌}
 use Rattle.laws.proofs.records.Entries.{each_before, each_of_entries, entries_of_each}
 use Rattle.laws.proofs.records.defs.Facts.{both, or_along}
 use Rattle.laws.proofs.Along.{row_of}
@@ -20,14 +20,13 @@ use Rattle.laws.specs.defs.declared.call.Call.{Call}
 use Rattle.laws.specs.defs.declared.call.Call.TheVariants as calls
 use Rattle.laws.specs.defs.declared.event.Event.{Event}
 use Rattle.laws.specs.defs.declared.event.Event.TheVariants as events
-use Rattle.laws.specs.defs.declared.event.Guard.TheVariants.{Index, Whole}
+use Rattle.laws.specs.defs.declared.event.Guard.TheVariants.{Helper, Index, Whole}
 use Rattle.laws.specs.defs.declared.event.Root.TheVariants as roots
 use Rattle.laws.specs.defs.declared.lifetime.Interval.{Interval}
 use Rattle.laws.specs.records.Record.{Past, Each, held_since, begins}
 use Rattle.laws.specs.records.Record.Past.{Start, Then}
 use Rattle.laws.specs.words.declared.config.Config.{Config}
-use Rattle.laws.specs.words.declared.config.SchemeKind.{SchemeKind}
-use Rattle.laws.specs.words.declared.config.SchemeKind.TheVariants.{He, Ibr, Wfe}
+use Rattle.laws.specs.words.Schemes.{has_one_interval}
 use Rattle.law_letter.proofs.Each.{follows, follow_both, each_weaker, counted_by, times_seen, related}
 use Rattle.law_letter.proofs.Stands.{stands_one, bare_one, one_stands, one_row}
 
@@ -56,6 +55,10 @@ holds_by (Some (calls.Hold key)) index h = grind (arith, nat_tests)
 holds_by (Some calls.Release) index h = absurd (cc)
 holds_by (Some calls.Advance) index h = absurd (cc)
 holds_by (Some calls.Scan) index h = absurd (cc)
+holds_by (Some (calls.PutIf key value version)) index h = grind (arith, nat_tests)
+holds_by (Some (calls.Copy from to)) index h = absurd (cc)
+holds_by (Some (calls.DropIndex dropped)) index h = absurd (cc)
+holds_by (Some (calls.Look at key)) index h = absurd (cc)
 holds_by None index h = absurd (cc)
 
 misses_by : (call : Option Call) (index : ℕ) → protects_at call index ≡ true → may_miss call index ≡ true
@@ -68,6 +71,10 @@ misses_by (Some (calls.Hold key)) index h = grind (arith, nat_tests)
 misses_by (Some calls.Release) index h = absurd (cc)
 misses_by (Some calls.Advance) index h = absurd (cc)
 misses_by (Some calls.Scan) index h = absurd (cc)
+misses_by (Some (calls.PutIf key value version)) index h = grind (arith, nat_tests)
+misses_by (Some (calls.Copy from to)) index h = absurd (cc)
+misses_by (Some (calls.DropIndex dropped)) index h = absurd (cc)
+misses_by (Some (calls.Look at key)) index h = absurd (cc)
 misses_by None index h = absurd (cc)
 
 clears_by : (call : Option Call) (index : ℕ) → clears_at call index ≡ true → may_clear call index ≡ true
@@ -80,6 +87,10 @@ clears_by (Some (calls.Hold key)) index h = grind (arith, nat_tests)
 clears_by (Some calls.Release) index h = grind (arith, nat_tests)
 clears_by (Some calls.Advance) index h = absurd (cc)
 clears_by (Some calls.Scan) index h = absurd (cc)
+clears_by (Some (calls.PutIf key value version)) index h = grind (arith, nat_tests)
+clears_by (Some (calls.Copy from to)) index h = grind (arith, nat_tests)
+clears_by (Some (calls.DropIndex dropped)) index h = grind (arith, nat_tests)
+clears_by (Some (calls.Look at key)) index h = absurd (cc)
 clears_by None index h = absurd (cc)
 
 index_part : (p : Past) (i : ℕ) (event : Event) → strong.indexes_ok p i event ≡ true → standing.indexes_ok p i event ≡ true
@@ -88,11 +99,27 @@ index_part p i (events.Null index steps) h = misses_by (began_of i p) index h
 index_part p i (events.Clear index slot) h = clears_by (began_of i p) index h
 index_part p i event h = refl
 
+-- what is copied stands where it is copied from, and nothing where it is copied to
+copied_by : (call stood bare low up : Bool) → (call && (stood && (low && up))) ≡ true → bare ≡ true → (call && (stood && (bare && (low && up)))) ≡ true
+copied_by true true bare low up h b = both bare (low && up) b h
+copied_by true false bare low up h b = absurd (cc)
+copied_by false stood bare low up h b = absurd (cc)
+
+copies_by : (r : Past) → Each lone_ok r → Each clears_ok r → Each strong.copies_ok r → Each standing.copies_ok r
+copies_by Start l c h = tt
+copies_by (Then p i event) l c h = (entry event l.0 l.1 c.1 h.0, copies_by p l.1 c.1 h.1)
+  where
+    entry : (event : Event) → lone_ok p i event ≡ true → Each lone_ok p → Each clears_ok p → strong.copies_ok p i event ≡ true → standing.copies_ok p i event ≡ true
+    entry (events.Copied from index slot) alone l c h =
+        rw (stands_one i from slot p l c, bare_one i index p l c) (copied_by (standing.is_copy from index (began_of i p)) (is_row slot (stood_at i from p)) (is_none (stood_at i index p)) (nat_le 2 from) (nat_lt from index) h alone)
+    entry event alone l c h = refl
+
 pub standing_kept : (r : Past) → LoneLaw r → HistoryStands r → Standing r
 standing_kept r l h =
     record {
       clears = entries_of_each standing.clears_ok r (follows clears_ok standing.clears_ok (λ p i event a b e g. clear_part p i event a b g) r (each_of_entries lone_ok r l) (each_of_entries clears_ok r h.clears) (each_of_entries clears_ok r h.clears));
       indexes = entries_of_each standing.indexes_ok r (each_weaker strong.indexes_ok standing.indexes_ok index_part r (each_of_entries strong.indexes_ok r h.indexes));
+      copies = entries_of_each standing.copies_ok r (copies_by r (each_of_entries lone_ok r l) (each_of_entries clears_ok r h.clears) (each_of_entries strong.copies_ok r h.copies));
     }
 
 -- a row that stands is the one
@@ -196,14 +223,43 @@ alike_by None (Some slot) = refl
 alike_by (Some span) None = refl
 alike_by (Some span) (Some slot) = refl
 
-rest_by : (scheme : SchemeKind) (i : ℕ) (p : Past) → Each lone_ok p → Each clears_ok p → strong.guards_rest scheme i p ≡ true → weak.guards_rest scheme i p ≡ true
-rest_by He i p l c h = rw (bare_one i 2 p l c, ← alike_by (value_of (Index i 2) p) (stood_at i 2 p)) h
-rest_by Ibr i p l c h = rw (bare_one i 2 p l c, ← alike_by (value_of (Whole i) p) (stood_at i 2 p)) h
-rest_by Wfe i p l c h = rw (bare_one i 2 p l c, ← alike_by (value_of (Index i 2) p) (stood_at i 2 p)) h
+-- what a seat keeps at indexes from 2 on
+keeps_by : (i : ℕ) (p : Past) (below : ℕ) → Each lone_ok p → Each clears_ok p → weak.keeps_none i p below ≡ is_none (strong.kept_below i p below)
+keeps_by i p zero l c = refl
+keeps_by i p (suc j) l c = rw (keeps_by i p j l c, bare_one i j p l c) (one_more (nat_lt j 2) (stood_at i j p) (strong.kept_below i p j))
+  where
+    one_more : (low : Bool) (x kept : Option ℕ) → ((low || is_none x) && is_none kept) ≡ is_none (strong.first_of kept (if low then None else x))
+    one_more true x None = refl
+    one_more true x (Some slot) = refl
+    one_more false None None = refl
+    one_more false None (Some slot) = refl
+    one_more false (Some other) None = refl
+    one_more false (Some other) (Some slot) = refl
 
-rest_part : (scheme : SchemeKind) (p : Past) (i : ℕ) (event : Event) → Each lone_ok p → Each clears_ok p → strong.rests_ok scheme p i event ≡ true → weak.rests_ok scheme p i event ≡ true
-rest_part scheme p i (events.End steps answer) l c h = rest_by scheme i p l c h
-rest_part scheme p i event l c h = refl
+span_part : (config : Config) → has_one_interval config.scheme ≡ true → (p : Past) (i : ℕ) (event : Event) → Each lone_ok p → Each clears_ok p → strong.spans_ok config p i event ≡ true → weak.rests_ok config p i event ≡ true
+span_part config one p i (events.End steps answer) l c h = rw (one, keeps_by i p config.indexes l c, ← alike_by (value_of (Whole i) p) (strong.kept_below i p config.indexes)) h
+span_part config one p i event l c h = refl
+
+-- each index word below a number
+index_by : (i j : ℕ) (p : Past) → Each lone_ok p → Each clears_ok p → strong.index_rests i p j ≡ true → weak.index_rests i p j ≡ true
+index_by i j p l c h = rw (bare_one i j p l c, ← alike_by (value_of (Index i j) p) (stood_at i j p)) h
+
+indexes_by : (i : ℕ) (p : Past) (below : ℕ) → Each lone_ok p → Each clears_ok p → ((j : ℕ) → j < below → strong.index_rests i p j ≡ true) → weak.indexes_rest i p below ≡ true
+indexes_by i p zero l c h = refl
+indexes_by i p (suc j) l c h =
+    both (weak.index_rests i p j) (weak.indexes_rest i p j) (index_by i j p l c (h j (omega arith))) (indexes_by i p j l c (λ k low. h k (omega (arith, low))))
+
+words_by : (config : Config) → has_one_interval config.scheme ≡ false → (r : Past) → Each lone_ok r → Each clears_ok r → Each strong.helpers_ok r → ((j : ℕ) → j < config.indexes → Each (strong.words_ok j) r) → Each (weak.rests_ok config) r
+words_by config one Start l c h w = tt
+words_by config one (Then p i event) l c h w = (entry event l.1 c.1 h.0 (λ j low. (w j low).0), words_by config one p l.1 c.1 h.1 (λ j low. (w j low).1))
+  where
+    entry : (event : Event) → Each lone_ok p → Each clears_ok p → strong.helpers_ok p i event ≡ true → ((j : ℕ) → j < config.indexes → strong.words_ok j p i event ≡ true) → weak.rests_ok config p i event ≡ true
+    entry (events.End steps answer) l c h w = rw one (both (is_none (value_of (Helper i) p)) (weak.indexes_rest i p config.indexes) h (indexes_by i p config.indexes l c w))
+    entry event l c h w = refl
+
+rests_by : (config : Config) (r : Past) → Each lone_ok r → Each clears_ok r → strong.RestLaw config r → (one : Bool) → has_one_interval config.scheme ≡ one → Each (weak.rests_ok config) r
+rests_by config r l c h true e = follows (strong.spans_ok config) (weak.rests_ok config) (λ p i event a b x g. span_part config e p i event a b g) r l c (each_of_entries (strong.spans_ok config) r (h.spans e))
+rests_by config r l c h false e = words_by config e r l c (each_of_entries strong.helpers_ok r (h.helpers e)) (λ j low. each_of_entries (strong.words_ok j) r (h.words e j low))
 
 pub holding : (config : Config) (r : Past) → LoneLaw r → HistoryStands r → HistoryHolds config r → HoldLaw config r
 holding config r lone s h =
@@ -217,5 +273,5 @@ holding config r lone s h =
       links = entries_of_each (weak.links_ok config.slots) r (follows (strong.links_ok config.slots) (weak.links_ok config.slots) (λ p i event a b e g. link_part config.slots p i event a b g) r l c (each_of_entries (strong.links_ok config.slots) r h.links));
       behind = entries_of_each (weak.behind_ok config.slots) r (follow_both (strong.follows_ok config.slots) (strong.behind_ok config.slots) (weak.behind_ok config.slots) (behind_part config.slots) r l c (each_of_entries (strong.follows_ok config.slots) r h.follows) (each_of_entries (strong.behind_ok config.slots) r h.behind));
       bare = entries_of_each weak.bare_ok r (follow_both (strong.bare_ok 0) (strong.bare_ok 1) weak.bare_ok bare_part r l c (each_of_entries (strong.bare_ok 0) r (h.bare 0)) (each_of_entries (strong.bare_ok 1) r (h.bare 1)));
-      rests = entries_of_each (weak.rests_ok config.scheme) r (follows (strong.rests_ok config.scheme) (weak.rests_ok config.scheme) (λ p i event a b e g. rest_part config.scheme p i event a b g) r l c (each_of_entries (strong.rests_ok config.scheme) r h.rests));
+      rests = entries_of_each (weak.rests_ok config) r (rests_by config r l c h.rests (has_one_interval config.scheme) refl);
     }

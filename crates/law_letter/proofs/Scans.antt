@@ -82,6 +82,10 @@ begin_fits all (calls.Get key) y h = (h, refl, refl)
 begin_fits all calls.Dequeue y h = (h, refl, refl)
 begin_fits all (calls.Hold key) y h = (h, refl, refl)
 begin_fits all calls.Release y h = (h, refl, refl)
+begin_fits all (calls.Copy from index) y h = (h, refl, refl)
+begin_fits all (calls.DropIndex index) y h = (h, refl, refl)
+begin_fits all (calls.Look index key) y h = (h, refl, refl)
+begin_fits all (calls.PutIf key value version) y h = (record { whole = h; begins = refl; scanned = refl; seeking = λ e g. refl }, refl, refl)
 
 -- a row is retired
 no_scan : (call : Option Call) → cuts_one call ≡ true → is_scan_call call ≡ false
@@ -92,6 +96,10 @@ no_scan (Some (calls.Get key)) h = refl
 no_scan (Some (calls.Enqueue value)) h = refl
 no_scan (Some (calls.Hold key)) h = refl
 no_scan (Some calls.Release) h = refl
+no_scan (Some (calls.Copy from index)) h = refl
+no_scan (Some (calls.DropIndex index)) h = refl
+no_scan (Some (calls.Look index key)) h = refl
+no_scan (Some (calls.PutIf key value version)) h = refl
 no_scan (Some calls.Advance) h = refl
 no_scan (Some calls.Scan) h = absurd (cc)
 no_scan None h = refl
@@ -104,6 +112,10 @@ no_advance (Some (calls.Get key)) h = refl
 no_advance (Some (calls.Enqueue value)) h = refl
 no_advance (Some (calls.Hold key)) h = refl
 no_advance (Some calls.Release) h = refl
+no_advance (Some (calls.Copy from index)) h = refl
+no_advance (Some (calls.DropIndex index)) h = refl
+no_advance (Some (calls.Look index key)) h = refl
+no_advance (Some (calls.PutIf key value version)) h = refl
 no_advance (Some calls.Advance) h = absurd (cc)
 no_advance (Some calls.Scan) h = refl
 no_advance None h = refl

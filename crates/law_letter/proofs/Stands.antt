@@ -15,9 +15,10 @@ abbrev pub one_row : Option ℕ → List ℕ
 one_row None = []
 one_row (Some slot) = slot ∷ []
 
--- an event of the seat at what stands at index j: a Held or Null comes where nothing does, and a Clear takes what stands
+-- an event of the seat at what stands at index j: a Held or a Copied comes where nothing does, and a Clear takes what stands
 abbrev lone_by : ℕ → Event → Option ℕ → Bool
 lone_by j (events.Held index slot steps) x = if j == index then is_none x else true
+lone_by j (events.Copied from index slot) x = if j == index then is_none x else true
 lone_by j (events.Clear index slot) x = if j == index then is_row slot x else true
 lone_by j event x = true
 
@@ -33,6 +34,7 @@ cleared_one slot x false h = refl
 
 one_by : (j : ℕ) (event : Event) (x : Option ℕ) → lone_by j event x ≡ true → standing_by j event (one_row x) ≡ one_row (stood_by j event x)
 one_by j (events.Held index slot steps) x h = held_one slot x (j == index) h
+one_by j (events.Copied from index slot) x h = held_one slot x (j == index) h
 one_by j (events.Clear index slot) x h = cleared_one slot x (j == index) h
 one_by j event x h = refl
 
@@ -47,6 +49,7 @@ here_row f slot index j false e h = refl
 
 lone_here : (i j : ℕ) (p : Past) (event : Event) → lone_ok p i event ≡ true → clears_ok p i event ≡ true → lone_by j event (stood_at i j p) ≡ true
 lone_here i j p (events.Held index slot steps) h c = here_none (λ (m : ℕ). stood_at i m p) index j (j == index) refl h
+lone_here i j p (events.Copied from index slot) h c = here_none (λ (m : ℕ). stood_at i m p) index j (j == index) refl h
 lone_here i j p (events.Clear index slot) h c = here_row (λ (m : ℕ). stood_at i m p) slot index j (j == index) refl c
 lone_here i j p event h c = refl
 

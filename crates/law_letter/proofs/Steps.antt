@@ -24,7 +24,7 @@ advance_few true spent steps most h = h
 advance_few false true steps most h = grind (arith, nat_tests)
 advance_few false false steps most h = grind (arith, nat_tests)
 
-steps_by : (config : Config) (call : Call) (backs : ℕ) (answer : Answer) (steps : ℕ) → strong.steps_right config call backs answer steps ≡ true → weak.steps_right config call backs steps ≡ true
+steps_by : (config : Config) (call : Call) (backs : ℕ) (answer : Answer) (steps : ℕ) → strong.steps_right config call backs answer steps ≡ true → weak.steps_right config call backs answer steps ≡ true
 steps_by config calls.Release backs answer steps h = h
 steps_by config calls.Scan backs answer steps h = h
 steps_by config calls.Advance backs answer steps h = advance_few (is_wfe config.scheme) (is_era_spent answer) steps (clock_most config.seats) h
@@ -34,8 +34,12 @@ steps_by config (calls.Put key value) backs answer steps h = refl
 steps_by config (calls.Remove key) backs answer steps h = refl
 steps_by config (calls.Enqueue value) backs answer steps h = refl
 steps_by config calls.Dequeue backs answer steps h = refl
+steps_by config (calls.Copy from index) backs answer steps h = h
+steps_by config (calls.DropIndex index) backs answer steps h = h
+steps_by config (calls.Look index key) backs answer steps h = h
+steps_by config (calls.PutIf key value version) backs answer steps h = refl
 
-began_by : (config : Config) (call : Option Call) (backs : ℕ) (answer : Answer) (steps : ℕ) → strong.began_steps config call backs answer steps ≡ true → weak.began_steps config call backs steps ≡ true
+began_by : (config : Config) (call : Option Call) (backs : ℕ) (answer : Answer) (steps : ℕ) → strong.began_steps config call backs answer steps ≡ true → weak.began_steps config call backs answer steps ≡ true
 began_by config None backs answer steps h = refl
 began_by config (Some call) backs answer steps h = steps_by config call backs answer steps h
 

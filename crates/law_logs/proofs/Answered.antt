@@ -11,7 +11,7 @@ use Rattle.wfe_core.specs.words.declared.config.Config.{Config}
 use Rattle.laws.specs.StateAt.{bucket_of, count_of, pairs_at, queued_of, value_at}
 use Rattle.std.specs.Prelude.{is_some}
 use Rattle.law_all.specs.inv.history.Record.{Past, tells}
-use Rattle.law_logs.specs.Answered.{IsAbsent, IsDone, IsEmpty, IsFull, IsGot, IsKept, IsLast, IsMet, IsQueued, IsRow, IsSpent, IsTaken, Says}
+use Rattle.law_logs.specs.Answered.{IsAbsent, IsDone, IsDoneAt, IsEmpty, IsFull, IsFullAt, IsGot, IsKept, IsLast, IsLooked, IsMet, IsQueued, IsRow, IsSpent, IsSpentAt, IsStale, IsTaken, Says}
 use Rattle.law_logs.specs.Versions.{AtMost, Counts, counts_of}
 use Rattle.law_logs.proofs.Counts.{most_along}
 use Rattle.law_logs.proofs.Grows.{Grows, more_count, more_queued, same_changes, same_queued, same_row, tells_along}
@@ -49,11 +49,37 @@ full_on c low from p q b key version a g s = record {
   value_is = value_on b version key p q g s.met.until ∙ s.value_is;
 }
 
+done_at_on : (c : Config) (low from : Counts) (p q : Past) (b key : ℕ) (change : Change) (wanted version : ℕ) → AtMost low from → Grows p q
+    → IsDoneAt c from p b key change wanted version → IsDoneAt c low q b key change wanted version
+done_at_on c low from p q b key change wanted version a g s = record { done = done_on c low from p q b key change version a g s.done; next = s.next }
+
+full_at_on : (c : Config) (low from : Counts) (p q : Past) (b key wanted version : ℕ) → AtMost low from → Grows p q → IsFullAt c from p b key wanted version
+    → IsFullAt c low q b key wanted version
+full_at_on c low from p q b key wanted version a g s = record { full = full_on c low from p q b key version a g s.full; same = s.same }
+
+stale_on : (low from : Counts) (p q : Past) (b wanted version : ℕ) → AtMost low from → Grows p q → IsStale from p b wanted version → IsStale low q b wanted version
+stale_on low from p q b wanted version a g s = record { met = met_on low from p q b version a g s.met; other = s.other }
+
+looked_on : (p q : Past) (key slot version : ℕ) (value : Option ℕ) → Grows p q → IsLooked p key slot version value → IsLooked q key slot version value
+looked_on p q key slot version value g s =
+    let m = more_count s.bucket p q g in
+    record {
+      bucket = s.bucket;
+      some = s.some;
+      had = omega (arith, m, s.had);
+      row_is = same_row s.bucket version p q g s.had ∙ s.row_is;
+      value_is = s.value_is ∙ sym (value_on s.bucket version key p q g s.had);
+    }
+
 absent_on : (low from : Counts) (p q : Past) (b key version : ℕ) → AtMost low from → Grows p q → IsAbsent from p b key version → IsAbsent low q b key version
 absent_on low from p q b key version a g s = record { met = met_on low from p q b version a g s.met; value_is = value_on b version key p q g s.met.until ∙ s.value_is }
 
 spent_on : (c : Config) (low from : Counts) (p q : Past) (b version : ℕ) → AtMost low from → Grows p q → IsSpent c from p b version → IsSpent c low q b version
 spent_on c low from p q b version a g s = record { met = met_on low from p q b version a g s.met; final = s.final }
+
+spent_at_on : (c : Config) (low from : Counts) (p q : Past) (b wanted version : ℕ) → AtMost low from → Grows p q → IsSpentAt c from p b wanted version
+    → IsSpentAt c low q b wanted version
+spent_at_on c low from p q b wanted version a g s = record { spent = spent_on c low from p q b version a g s.spent; same = s.same }
 
 kept_on : (c : Config) (low from : Counts) (p q : Past) (b key version : ℕ) → AtMost low from → Grows p q → IsKept c from p b key version → IsKept c low q b key version
 kept_on c low from p q b key version a g s = record {
@@ -103,6 +129,11 @@ says_on c low from p q (calls.Get key) (answers.Got version value) a g s = got_o
 says_on c low from p q (calls.Put key value) (answers.Done version clock) a g s = done_on c low from p q (bucket_of c.buckets key) key (changes.Put key value) version a g s
 says_on c low from p q (calls.Put key value) (answers.BucketFull version) a g s = full_on c low from p q (bucket_of c.buckets key) key version a g s
 says_on c low from p q (calls.Put key value) (answers.Spent version) a g s = spent_on c low from p q (bucket_of c.buckets key) version a g s
+says_on c low from p q (calls.PutIf key value wanted) (answers.Done version clock) a g s = done_at_on c low from p q (bucket_of c.buckets key) key (changes.Put key value) wanted version a g s
+says_on c low from p q (calls.PutIf key value wanted) (answers.BucketFull version) a g s = full_at_on c low from p q (bucket_of c.buckets key) key wanted version a g s
+says_on c low from p q (calls.PutIf key value wanted) (answers.Spent version) a g s = spent_at_on c low from p q (bucket_of c.buckets key) wanted version a g s
+says_on c low from p q (calls.PutIf key value wanted) (answers.Stale version) a g s = stale_on low from p q (bucket_of c.buckets key) wanted version a g s
+says_on c low from p q (calls.Look index key) (answers.Looked slot version value) a g s = looked_on p q key slot version value g s
 says_on c low from p q (calls.Remove key) (answers.Done version clock) a g s = done_on c low from p q (bucket_of c.buckets key) key (changes.Removed key) version a g s
 says_on c low from p q (calls.Remove key) (answers.Absent version) a g s = absent_on low from p q (bucket_of c.buckets key) key version a g s
 says_on c low from p q (calls.Remove key) (answers.Spent version) a g s = kept_on c low from p q (bucket_of c.buckets key) key version a g s

@@ -82,7 +82,7 @@ either_same : (same : Bool) (call : Option Call) → (if same then call else cal
 either_same true call = refl
 either_same false call = refl
 
-same_call : (k i : ℕ) (p : Past) (event : Event) → begins k p i event ≡ false → began_of k (Then p i event) ≡ began_of k p
+pub same_call : (k i : ℕ) (p : Past) (event : Event) → begins k p i event ≡ false → began_of k (Then p i event) ≡ began_of k p
 same_call k i p (events.Begin call) e = if_false (k == i) (Some call) (began_of k p) e
 same_call k i p event e = either_same (k == i) (began_of k p)
 

@@ -32,6 +32,7 @@ use Rattle.law_logs.proofs.Holds.{told_row}
 use Rattle.law_logs.proofs.Ledgers.{ledger_began}
 use Rattle.law_logs.proofs.Meets.{Rises, call_rises, logs_extend}
 use Rattle.law_logs.proofs.Says.{rows_now, says_now}
+use Rattle.law_logs.proofs.Shows.{shown_version}
 
 -- the laws that a record keeps, by recursion
 pub record Lawful (c : Config) (r : Past) : Type 0 where
@@ -134,7 +135,8 @@ answers_by c k steps p answer (Some call) e h r l g = record {
   call = call;
   began = e;
   says = says_now c k p call answer (told_of k p) (rest_of (suits call answer) (same_told (told_of k p) (owes c.buckets call answer)) h) r (begun_most k p) g.heard
-      (λ key slot same held. told_row c k p key slot l.order.1 l.sources.1 (e ∙ ap (λ (x : Call). Some x) same) held);
+      (λ key slot same held. told_row c k p key slot l.order.1 l.sources.1 (e ∙ ap (λ (x : Call). Some x) same) held)
+      (λ slot bucket version shows. shown_version c.buckets c.slots slot bucket version p l.order.1 l.map.1 shows);
   rows = rows_now c k steps p call answer r (λ s low. (l.full s low).0);
 }
 

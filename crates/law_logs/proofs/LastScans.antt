@@ -211,7 +211,7 @@ begin_reads layout made i k call false e f g =
 
 steady : (layout : Layout) → Steady (Keeps layout)
 steady layout = record {
-  begins = λ made i call b y g. record { table = g.table; known = inv_begin made.world i call y g.known; seats = λ k. begin_reads layout made i k call (k == i) refl y g };
+  begins = λ made i call b y m g. record { table = g.table; known = inv_begin made.world i call y m g.known; seats = λ k. begin_reads layout made i k call (k == i) refl y g };
   steps = λ made i b y g. record { table = g.table; known = inv_kept made.world i b g.known; seats = λ k. step_reads layout made i k (k == i) refl g };
 }
 

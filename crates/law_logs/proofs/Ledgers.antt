@@ -169,7 +169,7 @@ begin_matches n made i k call false e g =
 
 steady : (n : ℕ) → Steady (Keeps n)
 steady n = record {
-  begins = λ made i call b y g. record { kept = answering.begin_keeps n made i call y g.kept; matches = λ k. begin_matches n made i k call (k == i) refl g };
+  begins = λ made i call b y m g. record { kept = answering.begin_keeps n made i call y m g.kept; matches = λ k. begin_matches n made i k call (k == i) refl g };
   steps = λ made i b y g. record { kept = answering.step_keeps n made i b y g.kept; matches = λ k. step_matches n made i k (k == i) refl y g };
 }
 

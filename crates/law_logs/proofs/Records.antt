@@ -156,6 +156,12 @@ changes_are_read = record {
       let done = logs_answer layout items k p.before p.later (record { call = calls.Put key value; answer = answers.Done version clock; notes = put }) d p.cut in
       let got = logs_answer layout items m g.before g.later (record { call = calls.Get other; answer = answers.Got version found; notes = get }) d g.cut in
       read_after layout.config (counts_of done.begun.from) (counts_of got.begun.from) (record_of layout items) (bucket_of n key) (bucket_of n other) key other version (changes.Put key value) found same done.says got.says;
+  puts_at = λ layout items k m key value wanted other version clock found put get d same p g.
+      let n : ℕ = layout.config.buckets in
+      let done = logs_answer layout items k p.before p.later (record { call = calls.PutIf key value wanted; answer = answers.Done version clock; notes = put }) d p.cut in
+      let got = logs_answer layout items m g.before g.later (record { call = calls.Get other; answer = answers.Got version found; notes = get }) d g.cut in
+      let says = done.says in
+      read_after layout.config (counts_of done.begun.from) (counts_of got.begun.from) (record_of layout items) (bucket_of n key) (bucket_of n other) key other version (changes.Put key value) found same says.done got.says;
   removes = λ layout items k m key other version clock found removal get d same p g.
       let n : ℕ = layout.config.buckets in
       let done = logs_answer layout items k p.before p.later (record { call = calls.Remove key; answer = answers.Done version clock; notes = removal }) d p.cut in

@@ -14,7 +14,7 @@ use Rattle.law_all.specs.inv.history.Record.{Past, Each}
 use Rattle.law_all.specs.inv.history.Record.Past.{Start, Then}
 
 -- the last entry links a row at the bucket's root
-abbrev is_linking : ℕ → Past → Bool
+abbrev pub is_linking : ℕ → Past → Bool
 is_linking b Start = false
 is_linking b (Then p i (events.Link (roots.Bucket bucket) slot)) = b == bucket
 is_linking b (Then p i event) = false

@@ -1,6 +1,7 @@
 -- What calls of threads on one table say together: the law of runs, by its parts.
 pub mod Agrees
 pub mod Answered
+pub mod Bare
 pub mod Bounds
 pub mod Calls
 pub mod Changes
@@ -9,6 +10,8 @@ pub mod Closes
 pub mod Early
 pub mod Entries
 pub mod Eras
+pub mod Keeping
+pub mod Keeps
 pub mod Kept
 pub mod Lawful
 pub mod Listed
@@ -22,6 +25,7 @@ pub mod Rests
 pub mod Rises
 pub mod Rows
 pub mod Seats
+pub mod Shelves
 pub mod Stages
 pub mod Sums
 pub mod Tellings

@@ -1,7 +1,7 @@
 -- Where a call ends, its answer says what is so: by what the call has told, by its reason, and by what its hold has found.
-use Rattle.std.proofs.Common.{ℕ, ◌≡◌, ◌≤◌, ◌<◌, ◌+◌, ◌-◌, ◌⊎◌, inl, inr, true, false, List, [], ◌∷◌, length, take, get_or, Option, Some, None, refl, sym, ap, ◌∙◌, subst, arith}
+use Rattle.std.proofs.Common.{ℕ, ◌≡◌, ◌≤◌, ◌<◌, ◌+◌, ◌-◌, ◌⊎◌, inl, inr, true, false, List, [], ◌∷◌, length, take, get_or, Bool, Option, Some, None, refl, sym, ap, ◌∙◌, subst, arith}
 use Rattle.std.proofs.lemmas.List.{take_more}
-use Rattle.std.specs.Prelude.{◌==◌, ◌&&◌, ◌||◌, not, nat_le, nat_lt, is_some}
+use Rattle.std.specs.Prelude.{◌==◌, ◌&&◌, ◌||◌, not, nat_le, nat_lt, is_none, is_some}
 use Rattle.std.proofs.lemmas.Bool.Decides.{nat_tests}
 use Rattle.wfe_core.proofs.Facts.{either_true, false_of_not, first_of, rest_of, number_is, le_of_test, same_number}
 use Rattle.laws.proofs.Along.{row_of}
@@ -12,23 +12,30 @@ use Rattle.wfe_core.specs.defs.declared.call.Answer.{Answer}
 use Rattle.wfe_core.specs.defs.declared.call.Answer.TheVariants as answers
 use Rattle.wfe_core.specs.defs.declared.call.Call.{Call}
 use Rattle.wfe_core.specs.defs.declared.call.Call.TheVariants as calls
+use Rattle.wfe_core.specs.defs.declared.call.ClockMove.{ClockMove}
 use Rattle.wfe_core.specs.defs.declared.event.Event.{Event}
 use Rattle.wfe_core.specs.defs.declared.event.Event.TheVariants as events
 use Rattle.wfe_core.specs.defs.declared.fold.Change.{Change}
 use Rattle.wfe_core.specs.defs.declared.fold.Change.TheVariants as changes
 use Rattle.wfe_core.specs.words.declared.config.Config.{Config}
-use Rattle.laws.specs.AnswerLaw.{full_ok}
-use Rattle.laws.specs.HistoryAnswers.{owes, reason, same_told}
+use Rattle.laws.specs.AnswerLaw.{full_ok, shows_value, tells_none}
+use Rattle.laws.specs.HistoryAnswers.{look_reason, owes, put_if_reason, reason, same_told}
 use Rattle.laws.specs.ScanLaw.{guards}
-use Rattle.laws.specs.StateAt.{all_taken, begun_at, bucket_of, changes_of, count_of, had_version, has_told, is_give, is_read, is_row, is_there, pairs_at, queued_of, stood_at, taken_of, taken_since, times, value_at, was_current, was_empty}
+use Rattle.laws.specs.StateAt.{all_taken, begun_at, bucket_of, changes_of, count_of, had_version, has_told, is_give, is_read, is_row, is_there, pairs_at, queued_of, same_value, shows_of, stood_at, RowShows, taken_of, taken_since, times, value_at, was_current, was_empty}
+use Rattle.laws.specs.StateAt.RowShows.{LinkedAt, ShowsVersion, Unlinked}
 use Rattle.law_all.specs.inv.history.Record.{Past, begins}
 use Rattle.law_all.specs.inv.history.Record.Past.{Start, Then}
-use Rattle.law_logs.specs.Answered.{IsAbsent, IsCrowded, IsDone, IsEmpty, IsFull, IsGot, IsKept, IsLast, IsQueued, IsRow, IsSpent, Says, SaysOfRows, value_left}
+use Rattle.law_logs.specs.Answered.{IsAbsent, IsCrowded, IsDone, IsDoneAt, IsEmpty, IsFull, IsFullAt, IsGot, IsKept, IsLast, IsLooked, IsQueued, IsRow, IsSpent, IsSpentAt, IsStale, Says, SaysOfRows, value_left}
 use Rattle.law_logs.specs.Versions.{AtMost, Counts, counts_of}
 use Rattle.law_logs.proofs.Answered.{empty_on}
 use Rattle.law_logs.proofs.Counts.{begun_counts, begun_most, begun_unless, most_same}
 use Rattle.law_logs.proofs.Grows.{grows_entry}
-use Rattle.law_logs.proofs.Heard.{AllHeard, ChangeHeard, QueuedHeard, heard_one, met_now, same_got, same_put, same_queued_event, same_removed, same_taken}
+use Rattle.law_logs.proofs.Heard.{AllHeard, ChangeHeard, QueuedHeard, heard_one, met_now, same_got, same_put, same_queued_event, same_removed, same_taken, value_of}
+use Rattle.law_logs.proofs.Shows.{IsVersion}
+
+bare_of : (x : Option ℕ) → is_none x ≡ true → x ≡ None
+bare_of None h = refl
+bare_of (Some n) h = absurd (cc)
 
 none_of : (x : Option ℕ) → not (is_some x) ≡ true → x ≡ None
 none_of None h = refl
@@ -118,6 +125,71 @@ spent_remove c k b key version p h low =
       there = rest_of (version == count_of b p) (is_there b version key p) r;
     }
 
+-- of a put at a version
+done_at_now : (c : Config) (k key value wanted version : ℕ) (clock : ClockMove) (p : Past) (told : List Event)
+    → same_told told (events.Put (bucket_of c.buckets key) version key value ∷ []) ≡ true → AllHeard c.buckets (begun_counts k p) p told
+    → put_if_reason c k (bucket_of c.buckets key) key wanted p (answers.Done version clock) ≡ true
+    → IsDoneAt c (begun_counts k p) p (bucket_of c.buckets key) key (changes.Put key value) wanted version
+done_at_now c k key value wanted version clock p told s a r =
+    let b : ℕ = bucket_of c.buckets key in
+    let could : Bool = had_version b (version - 1) p && (is_there b (version - 1) key p || nat_lt (length (pairs_at b (version - 1) p)) c.pairs) in
+    let most = rest_of (version == wanted + 1) (nat_le version c.last_version && could) r in
+    record {
+      done = put_now c k p told key value version s a (first_of (nat_le version c.last_version) could most);
+      next = number_is version (wanted + 1) (first_of (version == wanted + 1) (nat_le version c.last_version && could) r);
+    }
+
+full_at_now : (c : Config) (k b key wanted version : ℕ) (p : Past) → put_if_reason c k b key wanted p (answers.BucketFull version) ≡ true
+    → IsFullAt c (begun_counts k p) p b key wanted version
+full_at_now c k b key wanted version p r =
+    let full : Bool = was_current k b version p && (nat_lt version c.last_version && (length (pairs_at b version p) == c.pairs && not (is_there b version key p))) in
+    record { full = full_now c k b key version p (rest_of (version == wanted) full r); same = number_is version wanted (first_of (version == wanted) full r) }
+
+spent_at_now : (c : Config) (k b key wanted version : ℕ) (p : Past) → put_if_reason c k b key wanted p (answers.Spent version) ≡ true
+    → AtMost (begun_counts k p) (counts_of p) → IsSpentAt c (begun_counts k p) p b wanted version
+spent_at_now c k b key wanted version p r low =
+    let spent : Bool = version == c.last_version && version == count_of b p in
+    record { spent = spent_put c k b version p (rest_of (version == wanted) spent r) low; same = number_is version wanted (first_of (version == wanted) spent r) }
+
+stale_now : (c : Config) (k b key wanted version : ℕ) (p : Past) → put_if_reason c k b key wanted p (answers.Stale version) ≡ true
+    → IsStale (begun_counts k p) p b wanted version
+stale_now c k b key wanted version p r = record {
+  met = met_now k b version p (first_of (was_current k b version p) (not (version == wanted)) r);
+  other = false_of_not (version == wanted) (rest_of (was_current k b version p) (not (version == wanted)) r);
+}
+
+-- what a look tells is what the row shows
+record Shown (key slot version : ℕ) (value : Option ℕ) (p : Past) : Type 0 where
+  bucket : ℕ
+  shows : shows_of slot p ≡ ShowsVersion bucket version
+  value_is : value ≡ value_at bucket version key p
+
+shown_by : (key slot version : ℕ) (value : Option ℕ) (p : Past) (shows : RowShows) → shows_of slot p ≡ shows → shows_value version key value p shows ≡ true
+    → Shown key slot version value p
+shown_by key slot version value p Unlinked e h = absurd (cc)
+shown_by key slot version value p (LinkedAt bucket) e h = absurd (cc)
+shown_by key slot version value p (ShowsVersion bucket shown) e h =
+    let same : version ≡ shown = number_is version shown (first_of (version == shown) (same_value value (value_at bucket shown key p)) h) in
+    record {
+      bucket = bucket;
+      shows = e ∙ ap (ShowsVersion bucket) (sym same);
+      value_is = value_of value (value_at bucket shown key p) (rest_of (version == shown) (same_value value (value_at bucket shown key p)) h)
+          ∙ ap (λ (x : ℕ). value_at bucket x key p) (sym same);
+    }
+
+shown_now : (k index key slot version : ℕ) (value : Option ℕ) (p : Past) → look_reason k index key p (answers.Looked slot version value) ≡ true
+    → Shown key slot version value p
+shown_now k index key slot version value p r =
+    shown_by key slot version value p (shows_of slot p) refl
+    (rest_of (is_row slot (stood_at k index p)) (shows_value version key value p (shows_of slot p)) r)
+
+looked_now : (k index key slot version : ℕ) (value : Option ℕ) (p : Past) → look_reason k index key p (answers.Looked slot version value) ≡ true
+    → ((bucket shown : ℕ) → shows_of slot p ≡ ShowsVersion bucket shown → IsVersion bucket shown slot p) → IsLooked p key slot version value
+looked_now k index key slot version value p r f =
+    let s : Shown key slot version value p = shown_now k index key slot version value p r in
+    let v = f s.bucket version s.shows in
+    record { bucket = s.bucket; some = v.some; had = v.had; row_is = v.row_is; value_is = s.value_is }
+
 queued_now : (c : Config) (from : Counts) (p : Past) (number value : ℕ) → nat_le number c.last_version ≡ true → QueuedHeard from p number value → IsQueued c from p value number
 queued_now c from p number value most h = record { since = h.since; until = h.until; most = le_of_test number c.last_version most; value_is = h.value_is }
 
@@ -147,27 +219,33 @@ empty_now k (Then p i event) h =
 
 -- by call and answer
 pub says_now : (c : Config) (k : ℕ) (p : Past) (call : Call) (answer : Answer) (told : List Event) → same_told told (owes c.buckets call answer) ≡ true → reason c k p (Some call) answer ≡ true → AtMost (begun_counts k p) (counts_of p) → AllHeard c.buckets (begun_counts k p) p told
-    → ((key slot : ℕ) → call ≡ calls.Hold key → has_told k (is_held 2 slot) p ≡ true → IsRow (begun_counts k p) p (bucket_of c.buckets key) slot) → Says c (begun_counts k p) p call answer
-says_now c k p (calls.Get key) (answers.Got version value) told s r low a f = got_now c k p told key version value s a
-says_now c k p (calls.Put key value) (answers.Done version clock) told s r low a f =
+    → ((key slot : ℕ) → call ≡ calls.Hold key → has_told k (is_held 2 slot) p ≡ true → IsRow (begun_counts k p) p (bucket_of c.buckets key) slot)
+    → ((slot bucket version : ℕ) → shows_of slot p ≡ ShowsVersion bucket version → IsVersion bucket version slot p) → Says c (begun_counts k p) p call answer
+says_now c k p (calls.Get key) (answers.Got version value) told s r low a f v = got_now c k p told key version value s a
+says_now c k p (calls.Put key value) (answers.Done version clock) told s r low a f v =
     let b : ℕ = bucket_of c.buckets key in
     put_now c k p told key value version s a (first_of (nat_le version c.last_version) (had_version b (version - 1) p && (is_there b (version - 1) key p || nat_lt (length (pairs_at b (version - 1) p)) c.pairs)) r)
-says_now c k p (calls.Put key value) (answers.BucketFull version) told s r low a f = full_now c k (bucket_of c.buckets key) key version p r
-says_now c k p (calls.Put key value) (answers.Spent version) told s r low a f = spent_put c k (bucket_of c.buckets key) version p r low
-says_now c k p (calls.Remove key) (answers.Done version clock) told s r low a f =
+says_now c k p (calls.Put key value) (answers.BucketFull version) told s r low a f v = full_now c k (bucket_of c.buckets key) key version p r
+says_now c k p (calls.Put key value) (answers.Spent version) told s r low a f v = spent_put c k (bucket_of c.buckets key) version p r low
+says_now c k p (calls.PutIf key value wanted) (answers.Done version clock) told s r low a f v = done_at_now c k key value wanted version clock p told s a r
+says_now c k p (calls.PutIf key value wanted) (answers.BucketFull version) told s r low a f v = full_at_now c k (bucket_of c.buckets key) key wanted version p r
+says_now c k p (calls.PutIf key value wanted) (answers.Spent version) told s r low a f v = spent_at_now c k (bucket_of c.buckets key) key wanted version p r low
+says_now c k p (calls.PutIf key value wanted) (answers.Stale version) told s r low a f v = stale_now c k (bucket_of c.buckets key) key wanted version p r
+says_now c k p (calls.Look index key) (answers.Looked slot version value) told s r low a f v = looked_now k index key slot version value p r (v slot)
+says_now c k p (calls.Remove key) (answers.Done version clock) told s r low a f v =
     let b : ℕ = bucket_of c.buckets key in
     remove_now c k p told key version s a (first_of (nat_le version c.last_version) (had_version b (version - 1) p && is_there b (version - 1) key p) r)
-says_now c k p (calls.Remove key) (answers.Absent version) told s r low a f = absent_now k (bucket_of c.buckets key) key version p r
-says_now c k p (calls.Remove key) (answers.Spent version) told s r low a f = spent_remove c k (bucket_of c.buckets key) key version p r low
-says_now c k p (calls.Enqueue value) (answers.Queued number) told s r low a f = queued_now c (begun_counts k p) p number value r (heard_one c.buckets (begun_counts k p) p (events.Queued number value) told (same_queued_event number value) s a)
-says_now c k p (calls.Enqueue value) (answers.Spent number) told s r low a f = last_now c k number p r low
-says_now c k p calls.Dequeue (answers.Taken number value clock) told s r low a f = heard_one c.buckets (begun_counts k p) p (events.Taken number value) told (same_taken number value) s a
-says_now c k p calls.Dequeue answers.Empty told s r low a f = empty_now k p (first_of (was_empty k p) (has_told k (is_null 1) p) r)
-says_now c k p (calls.Hold key) (answers.Holding slot) told s r low a f = f key slot refl (first_of (has_told k (is_held 2 slot) p) (is_row slot (stood_at k 2 p)) r)
-says_now c k p (calls.Hold key) answers.Nothing told s r low a f =
+says_now c k p (calls.Remove key) (answers.Absent version) told s r low a f v = absent_now k (bucket_of c.buckets key) key version p r
+says_now c k p (calls.Remove key) (answers.Spent version) told s r low a f v = spent_remove c k (bucket_of c.buckets key) key version p r low
+says_now c k p (calls.Enqueue value) (answers.Queued number) told s r low a f v = queued_now c (begun_counts k p) p number value r (heard_one c.buckets (begun_counts k p) p (events.Queued number value) told (same_queued_event number value) s a)
+says_now c k p (calls.Enqueue value) (answers.Spent number) told s r low a f v = last_now c k number p r low
+says_now c k p calls.Dequeue (answers.Taken number value clock) told s r low a f v = heard_one c.buckets (begun_counts k p) p (events.Taken number value) told (same_taken number value) s a
+says_now c k p calls.Dequeue answers.Empty told s r low a f v = empty_now k p (first_of (was_empty k p) (has_told k (is_null 1) p) r)
+says_now c k p (calls.Hold key) (answers.Holding slot) told s r low a f v = f key slot refl (first_of (has_told k (is_held 2 slot) p) (is_row slot (stood_at k 2 p)) r)
+says_now c k p (calls.Hold key) answers.Nothing told s r low a f v =
     let b : ℕ = bucket_of c.buckets key in
     number_is (begun_at k b p) 0 (rest_of (has_told k (is_null 2) p) (begun_at k b p == 0) r)
-says_now c k p call answer told s r low a f = tt
+says_now c k p call answer told s r low a f v = tt
 
 -- what it says of rows
 crowded_now : (c : Config) (k : ℕ) (p : Past) → ((s : ℕ) → s ≤ c.slots → (not (has_told k is_give p) && (times k is_read p == guards c && taken_since c.slots k s p)) ≡ true) → IsCrowded c k p
@@ -182,10 +260,27 @@ crowded_now c k p f =
 
 pub rows_now : (c : Config) (k steps : ℕ) (p : Past) (call : Call) (answer : Answer) → reason c k p (Some call) answer ≡ true → ((s : ℕ) → s ≤ c.slots → full_ok c s p k (events.End steps answer) ≡ true) → SaysOfRows c k p call answer
 rows_now c k steps p (calls.Put key value) answers.Full r f = crowded_now c k p f
+rows_now c k steps p (calls.PutIf key value wanted) answers.Full r f = crowded_now c k p f
 rows_now c k steps p (calls.Remove key) answers.Full r f = crowded_now c k p f
 rows_now c k steps p (calls.Enqueue value) answers.Full r f = crowded_now c k p f
 rows_now c k steps p (calls.Hold key) (answers.Holding slot) r f = record {
   told = first_of (has_told k (is_held 2 slot) p) (is_row slot (stood_at k 2 p)) r;
   stands = row_of slot (stood_at k 2 p) (rest_of (has_told k (is_held 2 slot) p) (is_row slot (stood_at k 2 p)) r);
 }
+rows_now c k steps p calls.Release answers.Released r f = bare_of (stood_at k 2 p) r
+rows_now c k steps p (calls.DropIndex index) answers.Dropped r f = bare_of (stood_at k index p) r
+rows_now c k steps p (calls.Copy from index) (answers.Copied slot) r f = record {
+  stood = row_of slot (stood_at k from p) (first_of (is_row slot (stood_at k from p)) (is_row slot (stood_at k index p)) r);
+  stands = row_of slot (stood_at k index p) (rest_of (is_row slot (stood_at k from p)) (is_row slot (stood_at k index p)) r);
+}
+rows_now c k steps p (calls.Copy from index) answers.Nothing r f = bare_of (stood_at k from p) (first_of (is_none (stood_at k from p)) (tells_none k p) r)
+rows_now c k steps p (calls.Look index key) (answers.Looked slot version value) r f =
+    let s : Shown key slot version value p = shown_now k index key slot version value p r in
+    record {
+      bucket = s.bucket;
+      stands = row_of slot (stood_at k index p) (first_of (is_row slot (stood_at k index p)) (shows_value version key value p (shows_of slot p)) r);
+      shows = s.shows;
+      value_is = s.value_is;
+    }
+rows_now c k steps p (calls.Look index key) answers.Nothing r f = bare_of (stood_at k index p) r
 rows_now c k steps p call answer r f = tt

@@ -54,14 +54,14 @@ backs_noted k (Then p i event) = back_entry (k == i) event (ledger_of k p) (back
 
 -- the law where a group's call ended
 group_right : (c : Config) (k : ℕ) (r : Past) (before : List Group) (group : Group) → EachEntry (end_ok c) r → IsEnded k r before group
-    → steps_right c group.call (length group.notes.back) group.notes.steps ≡ true
+    → steps_right c group.call (length group.notes.back) group.answer group.notes.steps ≡ true
 group_right c k r before group law e =
     let steps : ℕ = group.notes.steps in
     let backs : backs_of k e.at ≡ length group.notes.back = sym (backs_noted k e.at) ∙ ap (λ (x : Notes). length x.back) (sym e.notes) in
-    let right : began_steps c (began_of k e.at) (backs_of k e.at) steps ≡ true = law e.at k (events.End steps group.answer) e.later e.cut in
-    let called : steps_right c group.call (backs_of k e.at) steps ≡ true =
-    subst (λ (x : Option Call). began_steps c x (backs_of k e.at) steps ≡ true) e.call right in
-    subst (λ (x : ℕ). steps_right c group.call x steps ≡ true) backs called
+    let right : began_steps c (began_of k e.at) (backs_of k e.at) group.answer steps ≡ true = law e.at k (events.End steps group.answer) e.later e.cut in
+    let called : steps_right c group.call (backs_of k e.at) group.answer steps ≡ true =
+    subst (λ (x : Option Call). began_steps c x (backs_of k e.at) group.answer steps ≡ true) e.call right in
+    subst (λ (x : ℕ). steps_right c group.call x group.answer steps ≡ true) backs called
 
 pub logs_take_few_steps : LogsTakeFewSteps
 logs_take_few_steps layout items k before later group d h =

@@ -1,6 +1,6 @@
 -- What a call's answer says of the map and of the queue, by the counts where the call began and a record that has its end; and what it
 -- says of rows, at its end.
-use Rattle.std.specs.Prelude.{ℕ, ◌≡◌, ◌≤◌, ◌<◌, ◌-◌, List, length, slice_index_or, Option, None, Some, true, false}
+use Rattle.std.specs.Prelude.{ℕ, ◌≡◌, ◌≤◌, ◌<◌, ◌+◌, ◌-◌, ◌==◌, List, length, slice_index_or, Option, None, Some, true, false}
 use Rattle.wfe_core.specs.defs.Entry.{Entry}
 use Rattle.wfe_core.specs.defs.Events.{is_held}
 use Rattle.wfe_core.specs.defs.Pairs.{changed}
@@ -12,7 +12,8 @@ use Rattle.wfe_core.specs.defs.declared.fold.Change.{Change}
 use Rattle.wfe_core.specs.defs.declared.fold.Change.TheVariants as changes
 use Rattle.wfe_core.specs.words.declared.config.Config.{Config}
 use Rattle.laws.specs.ScanLaw.{guards}
-use Rattle.laws.specs.StateAt.{bucket_of, count_of, has_told, is_give, is_read, is_there, pairs_at, queued_of, row_at, stood_at, taken_of, taken_since, times, value_at}
+use Rattle.laws.specs.StateAt.{bucket_of, count_of, has_told, is_give, is_read, is_there, pairs_at, queued_of, row_at, shows_of, stood_at, taken_of, taken_since, times, value_at}
+use Rattle.laws.specs.StateAt.RowShows.{ShowsVersion}
 use Rattle.law_all.specs.inv.history.Record.{Past, tells}
 use Rattle.law_logs.specs.Versions.{AtMost, Counts, counts_of}
 
@@ -61,6 +62,35 @@ pub record IsKept (c : Config) (from : Counts) (last : Past) (b key version : �
   pub spent : IsSpent c from last b version
   pub there : is_there b version key last ≡ true
 
+-- the change was wanted at the version before
+pub record IsDoneAt (c : Config) (from : Counts) (last : Past) (b key : ℕ) (change : Change) (wanted version : ℕ) : Type 0 where
+  pub done : IsDone c from last b key change version
+  pub next : version ≡ wanted + 1
+
+-- the bucket is full at the version that was wanted
+pub record IsFullAt (c : Config) (from : Counts) (last : Past) (b key wanted version : ℕ) : Type 0 where
+  pub full : IsFull c from last b key version
+  pub same : version ≡ wanted
+
+-- the version that was wanted is the last one allowed
+pub record IsSpentAt (c : Config) (from : Counts) (last : Past) (b wanted version : ℕ) : Type 0 where
+  pub spent : IsSpent c from last b version
+  pub same : version ≡ wanted
+
+-- the bucket had another version than was wanted
+pub record IsStale (from : Counts) (last : Past) (b wanted version : ℕ) : Type 0 where
+  pub met : IsMet from last b version
+  pub other : (version == wanted) ≡ false
+
+-- the slot is that of some bucket's row at this version, which need not have been current since the beginning, and the key has this value
+-- there
+pub record IsLooked (last : Past) (key slot version : ℕ) (value : Option ℕ) : Type 0 where
+  pub bucket : ℕ
+  pub some : 1 ≤ version
+  pub had : version ≤ count_of bucket last
+  pub row_is : row_at bucket version last ≡ Some slot
+  pub value_is : value ≡ value_at bucket version key last
+
 -- the value was queued under this number since the beginning
 pub record IsQueued (c : Config) (from : Counts) (last : Past) (value number : ℕ) : Type 0 where
   pub since : from.queued < number
@@ -101,6 +131,12 @@ Says c from last (calls.Get key) (answers.Got version value) = IsGot from last (
 Says c from last (calls.Put key value) (answers.Done version clock) = IsDone c from last (bucket_of c.buckets key) key (changes.Put key value) version
 Says c from last (calls.Put key value) (answers.BucketFull version) = IsFull c from last (bucket_of c.buckets key) key version
 Says c from last (calls.Put key value) (answers.Spent version) = IsSpent c from last (bucket_of c.buckets key) version
+Says c from last (calls.PutIf key value wanted) (answers.Done version clock) =
+    IsDoneAt c from last (bucket_of c.buckets key) key (changes.Put key value) wanted version
+Says c from last (calls.PutIf key value wanted) (answers.BucketFull version) = IsFullAt c from last (bucket_of c.buckets key) key wanted version
+Says c from last (calls.PutIf key value wanted) (answers.Spent version) = IsSpentAt c from last (bucket_of c.buckets key) wanted version
+Says c from last (calls.PutIf key value wanted) (answers.Stale version) = IsStale from last (bucket_of c.buckets key) wanted version
+Says c from last (calls.Look index key) (answers.Looked slot version value) = IsLooked last key slot version value
 Says c from last (calls.Remove key) (answers.Done version clock) = IsDone c from last (bucket_of c.buckets key) key (changes.Removed key) version
 Says c from last (calls.Remove key) (answers.Absent version) = IsAbsent from last (bucket_of c.buckets key) key version
 Says c from last (calls.Remove key) (answers.Spent version) = IsKept c from last (bucket_of c.buckets key) key version
@@ -118,6 +154,18 @@ pub record IsStanding (k : ℕ) (at : Past) (slot : ℕ) : Type 0 where
   pub told : has_told k (is_held 2 slot) at ≡ true
   pub stands : stood_at k 2 at ≡ Some slot
 
+-- the row stands at the index that was copied from and at the one that it was copied to
+pub record IsCopied (k from index : ℕ) (at : Past) (slot : ℕ) : Type 0 where
+  pub stood : stood_at k from at ≡ Some slot
+  pub stands : stood_at k index at ≡ Some slot
+
+-- the row stands at the index, and shows this version of a bucket, where the key has this value
+pub record IsShown (k index key : ℕ) (at : Past) (slot version : ℕ) (value : Option ℕ) : Type 0 where
+  pub bucket : ℕ
+  pub stands : stood_at k index at ≡ Some slot
+  pub shows : shows_of slot at ≡ ShowsVersion bucket version
+  pub value_is : value ≡ value_at bucket version key at
+
 -- The call was given no row, and has read each guard once. Since the last row that went back then, or since the last guard that it
 -- read, each row was taken at a position.
 pub record IsCrowded (c : Config) (k : ℕ) (at : Past) : Type 0 where
@@ -128,7 +176,14 @@ pub record IsCrowded (c : Config) (k : ℕ) (at : Past) : Type 0 where
 -- what an answer says of rows, at the position where the call of seat k ends: only there, since a row that stands may be let go later
 abbrev pub SaysOfRows : Config → ℕ → Past → Call → Answer → Type 0
 SaysOfRows c k at (calls.Put key value) answers.Full = IsCrowded c k at
+SaysOfRows c k at (calls.PutIf key value wanted) answers.Full = IsCrowded c k at
 SaysOfRows c k at (calls.Remove key) answers.Full = IsCrowded c k at
 SaysOfRows c k at (calls.Enqueue value) answers.Full = IsCrowded c k at
 SaysOfRows c k at (calls.Hold key) (answers.Holding slot) = IsStanding k at slot
+SaysOfRows c k at calls.Release answers.Released = stood_at k 2 at ≡ None
+SaysOfRows c k at (calls.DropIndex index) answers.Dropped = stood_at k index at ≡ None
+SaysOfRows c k at (calls.Copy from index) (answers.Copied slot) = IsCopied k from index at slot
+SaysOfRows c k at (calls.Copy from index) answers.Nothing = stood_at k from at ≡ None
+SaysOfRows c k at (calls.Look index key) (answers.Looked slot version value) = IsShown k index key at slot version value
+SaysOfRows c k at (calls.Look index key) answers.Nothing = stood_at k index at ≡ None
 SaysOfRows c k at call answer = Unit {0}

@@ -92,13 +92,14 @@ LogsAnswer =
     → ((world_of layout items).seat k).log ≡ before ++ group ∷ later
     → IsAnswered layout.config k (record_of layout items) before group
 
--- each call in the log of a seat has taken the steps that the law allows it, where so many rows went back in it as its notes tell
+-- each call in the log of a seat has taken the steps that the law allows it with its answer, where so many rows went back in it as its
+-- notes tell
 abbrev pub LogsTakeFewSteps : Type 0
 LogsTakeFewSteps =
     (layout : Layout) (items : List Item) (k : ℕ) (before later : List Group) (group : Group)
     → is_valid layout ≡ true
     → ((world_of layout items).seat k).log ≡ before ++ group ∷ later
-    → steps_right layout.config group.call (length group.notes.back) group.notes.steps ≡ true
+    → steps_right layout.config group.call (length group.notes.back) group.answer group.notes.steps ≡ true
 
 -- a scan answers how many rows went back in it: as many as its notes tell
 abbrev pub ScansTellBacks : Type 0
@@ -139,6 +140,13 @@ pub record ChangesAreRead : Type 0 where
       → is_valid layout ≡ true
       → bucket_of layout.config.buckets other ≡ bucket_of layout.config.buckets key
       → IsIn ((world_of layout items).seat k).log (record { call = calls.Put key value; answer = answers.Done version clock; notes = put })
+      → IsIn ((world_of layout items).seat m).log (record { call = calls.Get other; answer = answers.Got version found; notes = get })
+      → found ≡ (if key == other then Some value else value_at (bucket_of layout.config.buckets key) (version - 1) other (record_of layout items))
+  pub puts_at :
+      (layout : Layout) (items : List Item) (k m : ℕ) (key value wanted other version : ℕ) (clock : ClockMove) (found : Option ℕ) (put get : Notes)
+      → is_valid layout ≡ true
+      → bucket_of layout.config.buckets other ≡ bucket_of layout.config.buckets key
+      → IsIn ((world_of layout items).seat k).log (record { call = calls.PutIf key value wanted; answer = answers.Done version clock; notes = put })
       → IsIn ((world_of layout items).seat m).log (record { call = calls.Get other; answer = answers.Got version found; notes = get })
       → found ≡ (if key == other then Some value else value_at (bucket_of layout.config.buckets key) (version - 1) other (record_of layout items))
   pub removes :

@@ -17,9 +17,10 @@ use Rattle.wfe_core.specs.defs.declared.fold.Change.{Change}
 use Rattle.wfe_core.specs.defs.declared.fold.Change.TheVariants as changes
 use Rattle.wfe_core.specs.defs.declared.lifetime.Lifetime.{Lifetime}
 use Rattle.wfe_core.specs.words.declared.config.Config.{Config}
-use Rattle.laws.specs.AnswerLaw.{is_advance, is_refusal, owes, retires_for, suits}
+use Rattle.laws.specs.AnswerLaw.{is_advance, owes, retires_for, suits}
 use Rattle.laws.specs.StateAt.{Filling, bucket_of, is_among, numbered_from, one, without_one}
-use Rattle.law_logs.specs.Versions.{number_queued, number_taken, version_told}
+use Rattle.law_logs.specs.Kept.{Keeping, kept_in, looked_in}
+use Rattle.law_logs.specs.Versions.{number_queued, number_taken, seen_in, version_told}
 
 -- The table as it was closed: the clock, each bucket with its version and its pairs, the items of the queue with their numbers, and the
 -- rows that are taken.
@@ -67,6 +68,11 @@ abbrev pub retire_told : Option Lifetime → List Event
 retire_told None = []
 retire_told (Some life) = events.Retire life.slot life.birth life.retire ∷ []
 
+-- what a call tells of the map or of the queue; that a copy was made stands in its answer
+abbrev pub change_told : (buckets : ℕ) → Call → Answer → Option Event
+change_told n (calls.Copy from index) answer = None
+change_told n call answer = owes n call answer
+
 -- one call, in a table with so many buckets: it begins; what went back early, the row that it was given, what it did of the map or of
 -- the queue, the row that it gave up, the row that it retired, and what went back later; and it ends
 abbrev pub events_of : (buckets : ℕ) → Group → List Event
@@ -74,7 +80,7 @@ events_of n group =
     events.Begin group.call
     ∷ (backs (early_backs group.notes)
     ++ (give_told group.notes.given
-    ++ (one_told (owes n group.call group.answer)
+    ++ (one_told (change_told n group.call group.answer)
     ++ (unused_told group.notes.unused group.notes.given
     ++ (retire_told group.notes.retired
     ++ (backs (late_backs group.notes)
@@ -146,6 +152,17 @@ clock_told (answers.Taken number value clock) = Some clock
 clock_told (answers.Clock clock) = Some clock
 clock_told answer = None
 
+-- a copy, a drop and a look, which print no more than that they begin and end
+abbrev pub is_bare : Call → Bool
+is_bare (calls.Copy from index) = true
+is_bare (calls.DropIndex index) = true
+is_bare (calls.Look index key) = true
+is_bare call = false
+
+-- no row was given, and none went back
+abbrev pub NoRow : Notes → Type 0
+NoRow notes = (notes.given ≡ None) × (notes.back ≡ [])
+
 -- A call and its answer.
 pub record IsRight (c : Config) (before : List Group) (group : Group) : Type 0 where
   -- the answer is one that the call may have
@@ -160,6 +177,8 @@ pub record IsRight (c : Config) (before : List Group) (group : Group) : Type 0 w
   pub clock : (move : ClockMove) → clock_told group.answer ≡ Some move → is_still move ≡ (if is_due c.every before group then false else true)
   -- a scan counts what went back
   pub back : (kept back : ℕ) → group.answer ≡ answers.Scanned kept back → back ≡ length group.notes.back
+  -- a copy, a drop and a look are given no row, and none goes back in them
+  pub bare : is_bare group.call ≡ true → NoRow group.notes
 
 -- Each answer is right, as far as its call's own events and the calls of the seat before it show.
 pub record AnswersLaw (c : Config) (logs : List (List Group)) : Type 0 where
@@ -171,6 +190,7 @@ pub record AnswersLaw (c : Config) (logs : List (List Group)) : Type 0 where
 -- the change that a call has made
 abbrev pub change_made : Call → Answer → Option Change
 change_made (calls.Put key value) (answers.Done version clock) = Some (changes.Put key value)
+change_made (calls.PutIf key value wanted) (answers.Done version clock) = Some (changes.Put key value)
 change_made (calls.Remove key) (answers.Done version clock) = Some (changes.Removed key)
 change_made call answer = None
 
@@ -224,6 +244,16 @@ ReadsRight c made (calls.Put key value) (answers.Done version clock) =
 ReadsRight c made (calls.Put key value) (answers.BucketFull version) =
     IsAway (made (bucket_of c.buckets key)) key version × (length (pairs_by (made (bucket_of c.buckets key)) version) ≡ c.pairs)
 ReadsRight c made (calls.Put key value) (answers.Spent version) = version ≡ length (made (bucket_of c.buckets key))
+ReadsRight c made (calls.PutIf key value wanted) (answers.Done version clock) =
+    IsMade (made (bucket_of c.buckets key)) (changes.Put key value) version
+    (could_put c.pairs (pairs_by (made (bucket_of c.buckets key)) (version - 1)) key)
+    × (version ≡ wanted + 1)
+ReadsRight c made (calls.PutIf key value wanted) (answers.BucketFull version) =
+    (IsAway (made (bucket_of c.buckets key)) key version × (length (pairs_by (made (bucket_of c.buckets key)) version) ≡ c.pairs))
+    × (version ≡ wanted)
+ReadsRight c made (calls.PutIf key value wanted) (answers.Spent version) = (version ≡ length (made (bucket_of c.buckets key))) × (version ≡ wanted)
+ReadsRight c made (calls.PutIf key value wanted) (answers.Stale version) =
+    (version ≤ length (made (bucket_of c.buckets key))) × ((version == wanted) ≡ false)
 ReadsRight c made (calls.Remove key) (answers.Done version clock) =
     IsMade (made (bucket_of c.buckets key)) (changes.Removed key) version
     (is_some (value_in (pairs_by (made (bucket_of c.buckets key)) (version - 1)) key))
@@ -241,7 +271,8 @@ pub record VersionsLaw (c : Config) (logs : List (List Group)) (closed : AtClose
   pub pairs : (b : ℕ) → b < c.buckets → (bucket_in b closed).pairs ≡ pairs_after (made b)
   pub reads : (before : List Group) (group : Group) → IsCall logs before group → ReadsRight c made group.call group.answer
 
--- A seat's versions of a bucket never fall, and a change has a greater one than all that it told before.
+-- A seat's versions of a bucket, but those of its looks, never fall, and a change has a greater one than all that it told before; its looks before
+-- have told none that is later than the one before the change.
 pub record RisesLaw (c : Config) (logs : List (List Group)) : Type 0 where
   pub never_fall :
       (one two : Group) (b low high : ℕ)
@@ -255,6 +286,59 @@ pub record RisesLaw (c : Config) (logs : List (List Group)) : Type 0 where
       → is_version c.buckets b low (version_told one.call one.answer) ≡ true
       → is_change_of c.buckets b high two ≡ true
       → low < high
+  pub after_looks :
+      (before : List Group) (group : Group) (b version : ℕ)
+      → IsCall logs before group
+      → is_change_of c.buckets b version group ≡ true
+      → looked_in c.buckets b before ≤ version - 1
+
+-- What is kept at indexes from 2 on.
+
+-- the bucket of the hold that a row came from
+abbrev pub bucket_kept : Config → Keeping → ℕ
+bucket_kept c kept = bucket_of c.buckets kept.key
+
+-- the row is kept at the index after these calls
+pub record IsKept (before : List Group) (index slot : ℕ) : Type 0 where
+  pub kept : Keeping
+  pub at : kept_in index before ≡ Some kept
+  pub slot_is : kept.slot ≡ slot
+
+-- A look shows the row that is kept at its index, and its key's value in a version of the bucket of the hold that the row came from. That is
+-- no earlier than what the seat told of the bucket before that hold, by its looks or by other calls.
+pub record IsLook (c : Config) (made : ℕ → List Change) (before : List Group) (index key slot version : ℕ) (value : Option ℕ) : Type 0 where
+  pub row : IsKept before index slot
+  pub some : 1 ≤ version
+  pub had : version ≤ length (made (bucket_kept c row.kept))
+  pub value_is : value ≡ value_in (pairs_by (made (bucket_kept c row.kept)) version) key
+  pub since : seen_in c.buckets (bucket_kept c row.kept) row.kept.before ≤ version
+  pub since_looks : looked_in c.buckets (bucket_kept c row.kept) row.kept.before ≤ version
+
+-- What a copy and a look answer is what the calls of their seat before them left at the index. A copy and a look that answer Nothing find
+-- nothing there.
+abbrev pub KeptRight : Config → (ℕ → List Change) → List Group → Call → Answer → Type 0
+KeptRight c made before (calls.Copy from index) (answers.Copied slot) = IsKept before from slot
+KeptRight c made before (calls.Copy from index) answers.Nothing = kept_in from before ≡ None
+KeptRight c made before (calls.Look index key) (answers.Looked slot version value) = IsLook c made before index key slot version value
+KeptRight c made before (calls.Look index key) answers.Nothing = kept_in index before ≡ None
+KeptRight c made before call answer = Unit {0}
+
+-- the index of a look that has found a row, and the version that the row shows
+abbrev pub look_made : Call → Answer → Option (ℕ × ℕ)
+look_made (calls.Look index key) (answers.Looked slot version value) = Some (index, version)
+look_made call answer = None
+
+-- Copies and looks are right by what the seat keeps, and looks at a row that came from one hold show one version.
+pub record KeepsLaw (c : Config) (logs : List (List Group)) (made : ℕ → List Change) : Type 0 where
+  pub right : (before : List Group) (group : Group) → IsCall logs before group → KeptRight c made before group.call group.answer
+  pub same :
+      (one two : Group) (kept : Keeping) (first second : ℕ × ℕ)
+      → (h : InOrder logs one two)
+      → look_made one.call one.answer ≡ Some first
+      → look_made two.call two.answer ≡ Some second
+      → kept_in first.0 h.before ≡ Some kept
+      → kept_in second.0 (h.before ++ one ∷ h.between) ≡ Some kept
+      → first.1 ≡ second.1
 
 -- The queue.
 
@@ -407,6 +491,7 @@ pub record RunLaw (c : Config) (logs : List (List Group)) (closed : AtClose) : T
   pub answered : AnswersLaw c logs
   pub versions : VersionsLaw c logs closed made
   pub rises : RisesLaw c logs
+  pub keeps : KeepsLaw c logs made
   pub queue : QueueLaw c logs closed queued taken
   pub rows : RowsLaw c logs closed
   pub lists : ListsLaw logs

@@ -1,8 +1,8 @@
 -- What the logs of seats are that are all between calls, by the history that comes there: the law of runs, and its parts.
-use Rattle.std.specs.Prelude.{List, None, Option, Some, drop, false, filter, length, map, true, ℕ, ◌+◌, ◌<◌, ◌==◌, ◌≡◌, ◌≤◌}
+use Rattle.std.specs.Prelude.{List, None, Some, drop, false, filter, length, map, true, ℕ, ◌+◌, ◌<◌, ◌==◌, ◌≡◌, ◌≤◌}
 use Rattle.std.specs.List.{range_with_len}
 use Rattle.wfe_core.specs.Locals.{Group}
-use Rattle.wfe_core.specs.World.{World, is_busy}
+use Rattle.wfe_core.specs.World.{is_busy}
 use Rattle.wfe_core.specs.defs.declared.call.Answer.TheVariants as answers
 use Rattle.wfe_core.specs.words.Place.{is_valid, row_count}
 use Rattle.wfe_core.specs.words.declared.config.Config.{Config}
@@ -10,7 +10,7 @@ use Rattle.wfe_core.specs.words.declared.layout.Layout.{Layout}
 use Rattle.laws.specs.StateAt.{changes_of, clock_of, count_of, filling_at, numbered_from, one, queued_of, taken_at, taken_of}
 use Rattle.law_all.specs.inv.history.History.{Item, record_of, world_of}
 use Rattle.law_all.specs.inv.history.Record.{Past}
-use Rattle.law_logs.specs.RunLaw.{AnswersLaw, AtClose, ErasLaw, InOrder, IsCall, ListsLaw, QueuesRight, ReadsRight, RisesLaw, RowsLaw, RunLaw, backs_in, clock_told, era_spent, era_told, gives, is_change_of, is_moved_to, is_queued_as, is_taken_as, once_up_to, total, total_of, unuseds}
+use Rattle.law_logs.specs.RunLaw.{AnswersLaw, AtClose, InOrder, IsCall, KeepsLaw, ListsLaw, QueuesRight, ReadsRight, RisesLaw, RunLaw, backs_in, clock_told, era_spent, era_told, gives, is_change_of, is_moved_to, is_queued_as, is_taken_as, once_up_to, total, total_of, unuseds}
 
 -- a history whose seats are all between calls at its end
 pub record AtRest (layout : Layout) (items : List Item) : Type 0 where
@@ -88,6 +88,10 @@ RunsTick = (layout : Layout) (items : List Item) → AtRest layout items → Tic
 -- What goes back is on the seat's list.
 abbrev pub RunsList : Type 0
 RunsList = (layout : Layout) (items : List Item) → AtRest layout items → ListsLaw (logs_of layout items)
+
+-- Copies and looks are right by what their seat keeps.
+abbrev pub RunsKeep : Type 0
+RunsKeep = (layout : Layout) (items : List Item) → AtRest layout items → KeepsLaw layout.config (logs_of layout items) (λ b. changes_of b (record_of layout items))
 
 -- the law of runs
 abbrev pub RunsAreLawful : Type 0

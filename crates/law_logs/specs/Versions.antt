@@ -24,12 +24,17 @@ pub record AtMost (low high : Counts) : Type 0 where
   pub queued : low.queued ≤ high.queued
   pub taken : low.taken ≤ high.taken
 
--- the key of a call whose answer tells a version of the key's bucket, and that version
+-- The key of a call whose answer tells a version of the key's bucket, and that version. What a look tells is left aside: it may be that
+-- of a row that was replaced long ago.
 abbrev pub version_told : Call → Answer → Option (ℕ × ℕ)
 version_told (calls.Get key) (answers.Got version value) = Some (key, version)
 version_told (calls.Put key value) (answers.Done version clock) = Some (key, version)
 version_told (calls.Put key value) (answers.BucketFull version) = Some (key, version)
 version_told (calls.Put key value) (answers.Spent version) = Some (key, version)
+version_told (calls.PutIf key value wanted) (answers.Done version clock) = Some (key, version)
+version_told (calls.PutIf key value wanted) (answers.BucketFull version) = Some (key, version)
+version_told (calls.PutIf key value wanted) (answers.Spent version) = Some (key, version)
+version_told (calls.PutIf key value wanted) (answers.Stale version) = Some (key, version)
 version_told (calls.Remove key) (answers.Done version clock) = Some (key, version)
 version_told (calls.Remove key) (answers.Absent version) = Some (key, version)
 version_told (calls.Remove key) (answers.Spent version) = Some (key, version)

@@ -3,7 +3,7 @@
 //! together. Each function here does nothing, and carries a theorem.
 #![tactic(auto)]
 
-ghost use Rattle.law_logs.specs.Runs.{RunsAddUp, RunsAgree, RunsAreLawful, RunsList, RunsTick};
+ghost use Rattle.law_logs.specs.Runs.{RunsAddUp, RunsAgree, RunsAreLawful, RunsKeep, RunsList, RunsTick};
 ghost use Rattle.law_logs.specs.Records.{CallsAnswer, ChangesAreRead, GetsAgree, HoldsSeeNothing, LogsAnswer, LogsAreCut, LogsExtend, LogsGrow, LogsMeet, LogsRise, LogsTakeFewSteps, RecordReads, RecordsGrow, RecordsKeepLogs, ScansTellBacks, TurnsLeaveNotes};
 
 /// A turn of a seat leaves the notes of its call as they were. What the turn tells is noted where the
@@ -38,15 +38,20 @@ pub fn logs_are_cut()
 /// Each call in a seat's log: its answer says what is so of its bucket or of the queue, at a version
 /// or number no older than those where it began; and what its seat had met before is no newer than
 /// these. Where it ends, the row that a hold answers stands at index 2 of its seat. A call that is
-/// answered Full was given no row and has read each guard, and since then each row was taken.
+/// answered Full was given no row and has read each guard, and since then each row was taken. What a
+/// copy answers stands at both indexes; what a look answers stands at its index, and shows the version
+/// and the value; after a release or a drop nothing stands there.
 pub fn logs_answer()
     ensures { LogsAnswer }
 {}
 
-/// Each call in a seat's log, whatever the other seats did meanwhile: a release takes one step; a call that only
-/// scans one for each guard and one for each row that its notes say went back; an advance `7 * seats + 3` at most
-/// under Wait-Free Eras, and else two at most. Under Wait-Free Eras a hold takes `3 * tries + 16` at most, and a
-/// get `3 * tries + 18` and one for each pair that a bucket may have.
+/// Each call in a seat's log, whatever the other seats did meanwhile: a release and a drop take one
+/// step; a copy that is made two under Hazard Eras and Wait-Free Eras, and any other one; a look that
+/// finds nothing one, and any other three at most and one for each pair that a bucket may have; a
+/// call that only scans one for each guard and one for each row that its notes say went back; an
+/// advance `7 * seats + 3` at most under Wait-Free Eras, and else two at most. Under Wait-Free Eras a
+/// hold takes `3 * tries + 16` at most, and a get `3 * tries + 18` and one for each pair that a
+/// bucket may have.
 pub fn logs_take_few_steps()
     ensures { LogsTakeFewSteps }
 {}
@@ -68,9 +73,9 @@ pub fn holds_see_nothing()
     ensures { HoldsSeeNothing }
 {}
 
-/// Where a get answers the version of a put or a remove that is done, in the same bucket, it tells what
-/// that change left: of the change's own key the value put, or none; and of each other key its value at
-/// the version before. The two calls may be of one seat or of two.
+/// Where a get answers the version of a put, at a version or not, or a remove that is done, in the
+/// same bucket, it tells what that change left: of the change's own key the value put, or none; and
+/// of each other key its value at the version before. The two calls may be of one seat or of two.
 pub fn changes_are_read()
     ensures { ChangesAreRead }
 {}
@@ -110,6 +115,13 @@ pub fn runs_add_up()
 /// What answers say of the map and of the queue is so by the record, and within a seat it rises.
 pub fn runs_agree()
     ensures { RunsAgree }
+{}
+
+/// What a copy and a look answer is right by what their seat keeps: a look shows the row that a hold
+/// found, by way of copies or not, at a version no earlier than those that the seat told of the bucket
+/// before that hold, and each look at that row shows the same version.
+pub fn runs_keep()
+    ensures { RunsKeep }
 {}
 
 /// What answers say of the clock is so by the record, and within a seat eras rise.

@@ -1,6 +1,6 @@
--- Where a call ends its seat is idle, and so nothing stands at its indexes but 2.
-use Rattle.std.proofs.Common.{ℕ, ◌≡◌, ◌<◌, Bool, true, false, List, [], ◌∷◌, ◌++◌, Option, Some, None, refl, sym, ap, ◌∙◌, subst}
-use Rattle.std.specs.Prelude.{◌==◌, ◌||◌, not, nat_lt, is_none, if◌then◌else◌}
+-- Where a call ends its seat is idle, and so nothing stands at its indexes below 2.
+use Rattle.std.proofs.Common.{ℕ, ◌≡◌, ◌<◌, Bool, true, false, List, [], ◌∷◌, ◌++◌, Option, Some, None, refl, sym, ap, ◌∙◌, subst, arith}
+use Rattle.std.specs.Prelude.{◌==◌, ◌||◌, nat_le, nat_lt, is_none, if◌then◌else◌}
 use Rattle.wfe_core.specs.words.Place.{is_valid}
 use Rattle.wfe_core.specs.words.declared.layout.Layout.{Layout}
 use Rattle.wfe_core.specs.defs.declared.call.Answer.{Answer}
@@ -8,11 +8,12 @@ use Rattle.wfe_core.specs.defs.declared.event.Event.{Event}
 use Rattle.wfe_core.specs.defs.declared.event.Event.TheVariants as events
 use Rattle.wfe_core.specs.declared.post.Post.{Post}
 use Rattle.wfe_core.specs.Calls.{Phase, CallTurn, CallOutcome, GoesOn, Answers}
-use Rattle.wfe_core.specs.Locals.{told_by, told_end, turn}
+use Rattle.wfe_core.specs.Locals.{may_begin, told_by, told_end, turn}
+use Rattle.std.proofs.lemmas.Bool.Decides.{nat_tests}
 use Rattle.wfe_core.specs.Posts.{stands}
 use Rattle.wfe_core.specs.World.{World, finds, is_busy, step}
 use Rattle.wfe_core.proofs.Facts.{first_of, rest_of}
-use Rattle.law_answers.specs.inv.covers.Rests.{Vacant, vacant}
+use Rattle.law_answers.specs.inv.covers.Rests.{Vacant, spare, vacant}
 use Rattle.law_answers.proofs.inv.covers.Held.{stepped_phase}
 use Rattle.law_answers.specs.inv.shapes.Frame.{phase_left}
 use Rattle.law_answers.specs.inv.Inv.{Inv}
@@ -20,7 +21,7 @@ use Rattle.law_answers.specs.inv.history.Record.{Past, Each, tells_of}
 use Rattle.law_answers.specs.inv.history.Record.Past.{Then}
 use Rattle.law_answers.proofs.inv.history.Entries.{entries_of_each}
 use Rattle.law_answers.specs.inv.history.History.{Item, Begins, Steps, Made, fits, done, done_if, made_of, first_made, record_of, world_of}
-use Rattle.law_answers.proofs.inv.history.Along.{begins_right, low_seat, made_snoc, paths_keep}
+use Rattle.law_answers.proofs.inv.history.Along.{begins_right, begins_within, low_seat, made_snoc, paths_keep}
 use Rattle.laws.specs.StateAt.{stood_at}
 use Rattle.law_reuse.proofs.Reuse.Keeps.{record_stands}
 use Rattle.law_answers.proofs.inv.history.AllOf.{all_of}
@@ -54,14 +55,17 @@ end_stood i j count answer q = by (i == i)
     by true = refl
     by false = refl
 
-bare_by : (x : Option ℕ) (two : Bool) → (not two ≡ true → x ≡ None) → (is_none x || two) ≡ true
-bare_by None two h = refl
+bare_by : (x : Option ℕ) (kept : Bool) → (kept ≡ false → x ≡ None) → (is_none x || kept) ≡ true
+bare_by None kept h = refl
 bare_by (Some s) true h = refl
 bare_by (Some s) false h = let e = h refl in absurd (cc)
 
+low_spare : (j : ℕ) → nat_le 2 j ≡ false → spare j ≡ true
+low_spare j h = grind (arith, nat_tests)
+
 end_each : (i j : ℕ) (post last : Post) (outcome : CallOutcome) (q : Past) → Vacant (vacant (phase_left outcome)) last → stood_at i j (tells_of q i (told_end post outcome)) ≡ stands last j → Each (bare_ok j) q → Each (bare_ok j) (tells_of q i (told_end post outcome))
 end_each i j post last (GoesOn phase) q v e g = g
-end_each i j post last (Answers answer) q v e g = (bare_by (stood_at i j q) (j == 2) (λ h. sym (end_stood i j post.steps answer q) ∙ e ∙ v j h), g)
+end_each i j post last (Answers answer) q v e g = (bare_by (stood_at i j q) (nat_le 2 j) (λ h. sym (end_stood i j post.steps answer q) ∙ e ∙ v j (low_spare j h)), g)
 
 step_each : (i j : ℕ) (t : CallTurn) (last : Post) (p : Past) → all_of is_open t.told ≡ true → Vacant (vacant (phase_left t.outcome)) last → stood_at i j (tells_of p i (told_by t)) ≡ stands last j → Each (bare_ok j) p → Each (bare_ok j) (tells_of p i (told_by t))
 step_each i j t last p o v e g =
@@ -87,7 +91,9 @@ step_bare layout made i b y s g =
 item_bare : (layout : Layout) (made : Made) (item : Item) (fit : Bool) → fits made.world item ≡ fit → Stood (done_if made item fit) → Bare layout made → Bare layout (done_if made item fit)
 item_bare layout made item false f s g = g
 item_bare layout made (Begins i call) true f s g =
-    record { answers = answering.begin_keeps layout.config.buckets made i call (begins_right i made.world.layout.config.seats (is_busy made.world i) f) g.answers; law = λ j. (refl, g.law j) }
+    let seats : ℕ = made.world.layout.config.seats in
+    let may : Bool = may_begin made.world.layout.config call in
+    record { answers = answering.begin_keeps layout.config.buckets made i call (begins_right i seats (is_busy made.world i) may f) (begins_within i seats (is_busy made.world i) may f) g.answers; law = λ j. (refl, g.law j) }
 item_bare layout made (Steps i) true f s g =
     step_bare layout made i (low_seat i made.world.layout.config.seats (is_busy made.world i) f) (rest_of (nat_lt i made.world.layout.config.seats) (is_busy made.world i) f) s g
 

@@ -48,8 +48,8 @@ pub fn records_link_nexts()
     ensures { RecordsLinkNexts }
 {}
 
-/// Where a call of a seat ends, nothing stands at any index of the seat but 2, at which a held row
-/// stays.
+/// Where a call of a seat ends, nothing stands at any index of the seat but those from 2 on, at which
+/// kept rows stay.
 pub fn records_end_bare()
     ensures { RecordsEndBare }
 {}

@@ -3,6 +3,8 @@ pub mod Deciding
 pub mod Emptied
 pub mod Keeps
 pub mod Later
+pub mod Missing
 pub mod Reading
 pub mod Refusing
 pub mod Saying
+pub mod Shows

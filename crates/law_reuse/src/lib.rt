@@ -32,7 +32,7 @@ pub fn always_shown()
 {}
 
 /// By the record of each history what stands at an index of a seat is what the seat told to hold
-/// there last and not to clear since.
+/// or to copy there last and not to clear since.
 pub fn record_stands()
     ensures { RecordStands }
 {}

@@ -1,5 +1,5 @@
 -- The plain reader of runs judges as the law does.
-use Rattle.std.proofs.Common.{Bool, List, None, Option, Some, [], ap, arith, drop, false, length, refl, subst, suc, sym, true, ℕ, ◌+◌, ◌<◌, ◌==◌, ◌∙◌, ◌≡◌, ◌≤◌}
+use Rattle.std.proofs.Common.{Bool, List, None, Option, Some, [], ap, arith, drop, false, length, refl, subst, suc, sym, true, ℕ, ◌++◌, ◌+◌, ◌<◌, ◌==◌, ◌∙◌, ◌∷◌, ◌≡◌, ◌≤◌}
 use Rattle.std.proofs.lemmas.Bool.Decides.{Decides-and, Decides-eqb}
 use Rattle.std.specs.Bool.{Decides}
 use Rattle.std.specs.List.{list_all, range_with_len, slice_get}
@@ -14,12 +14,13 @@ use Rattle.laws.specs.AnswerLaw.{retires_for, suits}
 use Rattle.laws.specs.StateAt.{bucket_of, is_among, numbered_from, one}
 use Rattle.law_logs.specs.Versions.{version_told}
 use Rattle.law_logs.specs.RunLaw as law
-use Rattle.law_run_worked.specs.Readers.{Bullet, Holds, ReadersJudge, Sentence, back_ok, bullets, change_in, changes_rise_ok, clock_ok, each_below, each_call, each_pair, empty_ok, final_ok, full_ok, if_some_ok, kept_ok, made_in, moved_by, never_fall_ok, once_ok, plain_ok, queued_by, queued_in, queues_ok, reads, reads_ok, rises_ok, same_pairs, sentences_of, spent_ok, taken_by, taken_in, takes, tellers, versions_ok}
+use Rattle.law_run_worked.specs.Readers.{Bullet, Holds, ReadersJudge, Sentence, back_ok, bare_ok, bullets, change_in, changes_rise_ok, clock_ok, each_below, each_call, each_pair, empty_ok, final_ok, full_ok, if_some_ok, keeps_ok, kept_ok, later_ok, made_in, moved_by, never_fall_ok, once_ok, plain_ok, queued_by, queued_in, queues_ok, reads, reads_ok, rises_ok, same_ok, same_pairs, sentences_of, spent_ok, taken_by, taken_in, takes, tellers, versions_ok}
 use Rattle.law_run_worked.specs.Runs.{Run}
-use Rattle.law_run_worked.proofs.Made.{changes_told, made_is, queued_is, reads_of, taken_is}
+use Rattle.law_run_worked.proofs.Keeps.{Later, Same, decides_keeps, decides_later, decides_same}
+use Rattle.law_run_worked.proofs.Made.{changes_told, keeps_of, made_is, queued_is, reads_of, taken_is}
 use Rattle.law_run_worked.proofs.Numbers.{decides_once, decides_single}
-use Rattle.law_run_worked.proofs.Splits.{decides_below, decides_call, decides_pair, get_read}
-use Rattle.law_run_worked.proofs.Tests.{LessBy, Less, Versions, decides_back, decides_clock, decides_empty, decides_final, decides_full, decides_kept, decides_less, decides_most, decides_numbers, decides_pairs, decides_plain, decides_queues, decides_reads, decides_rises, decides_slots, decides_some, decides_versions, itself}
+use Rattle.law_run_worked.proofs.Splits.{decides_below, decides_call, decides_pair, decides_two, get_read}
+use Rattle.law_run_worked.proofs.Tests.{LessBy, Less, Versions, decides_back, decides_bare, decides_clock, decides_empty, decides_final, decides_full, decides_kept, decides_less, decides_most, decides_numbers, decides_pairs, decides_plain, decides_queues, decides_reads, decides_rises, decides_slots, decides_some, decides_versions, itself}
 
 -- a sentence of a bullet
 part : (run : Run) (bullet : Bullet) (place : ℕ) (sentence : Sentence) → takes run bullet ≡ true
@@ -79,6 +80,12 @@ counted_all run =
     (λ before group. (kept back : ℕ) → group.answer ≡ answers.Scanned kept back → back ≡ length group.notes.back)
     (λ before group. decides_back group.answer (length group.notes.back)) run.logs
 
+bare_all : (run : Run) → Decides (reads run Sentence.Bare) (EachCall run (λ before group. law.is_bare group.call ≡ true → law.NoRow group.notes))
+bare_all run =
+    decides_call (λ before group. bare_ok (law.is_bare group.call) group.notes.given group.notes.back)
+    (λ before group. law.is_bare group.call ≡ true → law.NoRow group.notes)
+    (λ before group. decides_bare (law.is_bare group.call) group.notes.given group.notes.back) run.logs
+
 answered : (run : Run) → Decides (takes run Bullet.Answers) (Holds run Bullet.Answers)
 answered run = (
   (λ e.
@@ -92,6 +99,7 @@ answered run = (
               retires = (retires_all run).0 (part run Bullet.Answers 4 Sentence.Retires e refl) before group k;
               clock = (clock_all run).0 (part run Bullet.Answers 5 Sentence.Clock e refl) before group k;
               back = (counted_all run).0 (part run Bullet.Answers 6 Sentence.Counted e refl) before group k;
+              bare = (bare_all run).0 (part run Bullet.Answers 7 Sentence.Bare e refl) before group k;
             };
       }),
   (λ h.
@@ -101,7 +109,8 @@ answered run = (
       (both (reads run Sentence.Full) _ ((full_all run).1 (λ before group k. (h.right before group k).full))
       (both (reads run Sentence.Retires) _ ((retires_all run).1 (λ before group k. (h.right before group k).retires))
       (both (reads run Sentence.Clock) _ ((clock_all run).1 (λ before group k. (h.right before group k).clock))
-      (both (reads run Sentence.Counted) _ ((counted_all run).1 (λ before group k. (h.right before group k).back)) refl))))))),
+      (both (reads run Sentence.Counted) _ ((counted_all run).1 (λ before group k. (h.right before group k).back))
+      (both (reads run Sentence.Bare) _ ((bare_all run).1 (λ before group k. (h.right before group k).bare)) refl)))))))),
 )
 
 -- Versions.
@@ -200,16 +209,57 @@ changes_rise_all run =
     (λ one two. Higher (law.is_change two) run.config.buckets (version_told one.call one.answer) (version_told two.call two.answer))
     (λ one two. decides_higher (law.is_change two) run.config.buckets (version_told one.call one.answer) (version_told two.call two.answer)) run.logs
 
+after_looks_all : (run : Run)
+    → Decides (reads run Sentence.AfterLooks)
+    (EachCall run (λ before group. Later run.config.buckets (law.is_change group) before (version_told group.call group.answer)))
+after_looks_all run =
+    decides_call (λ before group. later_ok run.config.buckets (law.is_change group) before (version_told group.call group.answer))
+    (λ before group. Later run.config.buckets (law.is_change group) before (version_told group.call group.answer))
+    (λ before group. decides_later run.config.buckets (law.is_change group) before (version_told group.call group.answer)) run.logs
+
 rises : (run : Run) → Decides (takes run Bullet.Rises) (Holds run Bullet.Rises)
 rises run = (
   (λ e.
       record {
         never_fall = λ one two b low high k. (never_fall_all run).0 (part run Bullet.Rises 0 Sentence.NeverFall e refl) one two k b low high;
         changes_rise = λ one two b low high k. (changes_rise_all run).0 (part run Bullet.Rises 1 Sentence.ChangesRise e refl) one two k b low high;
+        after_looks = λ before group b version k. (after_looks_all run).0 (part run Bullet.Rises 2 Sentence.AfterLooks e refl) before group k b version;
       }),
   (λ h.
       both (reads run Sentence.NeverFall) _ ((never_fall_all run).1 (λ one two k b low high. h.never_fall one two b low high k))
-      (both (reads run Sentence.ChangesRise) _ ((changes_rise_all run).1 (λ one two k b low high. h.changes_rise one two b low high k)) refl)),
+      (both (reads run Sentence.ChangesRise) _ ((changes_rise_all run).1 (λ one two k b low high. h.changes_rise one two b low high k))
+      (both (reads run Sentence.AfterLooks) _ ((after_looks_all run).1 (λ before group k b version. h.after_looks before group b version k)) refl))),
+)
+
+-- What is kept.
+
+kept_right_all : (run : Run) (made : ℕ → List Change)
+    → Decides (each_call (λ before group. keeps_ok run.config made before group.call group.answer) run.logs)
+    (EachCall run (λ before group. law.KeptRight run.config made before group.call group.answer))
+kept_right_all run made =
+    decides_call (λ before group. keeps_ok run.config made before group.call group.answer)
+    (λ before group. law.KeptRight run.config made before group.call group.answer)
+    (λ before group. decides_keeps run.config made before group.call group.answer) run.logs
+
+same_all : (run : Run)
+    → Decides (reads run Sentence.Same)
+    ((one two : Group) (k : law.InOrder run.logs one two)
+    → Same k.before (law.look_made one.call one.answer) (k.before ++ one ∷ k.between) (law.look_made two.call two.answer))
+same_all run =
+    decides_two (λ early one before two. same_ok early (law.look_made one.call one.answer) before (law.look_made two.call two.answer))
+    (λ early one before two. Same early (law.look_made one.call one.answer) before (law.look_made two.call two.answer))
+    (λ early between one two. decides_same early between one (law.look_made one.call one.answer) (law.look_made two.call two.answer)) run.logs
+
+keeps : (run : Run) → Decides (takes run Bullet.Keeps) (Holds run Bullet.Keeps)
+keeps run = (
+  (λ e.
+      record {
+        right = (kept_right_all run (made_in run.config.buckets run.logs)).0 (part run Bullet.Keeps 0 Sentence.KeptRight e refl);
+        same = λ one two kept first second k a b g i. (same_all run).0 (part run Bullet.Keeps 1 Sentence.Same e refl) one two k kept first second a b g i;
+      }),
+  (λ h.
+      both (reads run Sentence.KeptRight) _ ((kept_right_all run (made_in run.config.buckets run.logs)).1 h.right)
+      (both (reads run Sentence.Same) _ ((same_all run).1 (λ one two k kept first second a b g i. h.same one two kept first second k a b g i)) refl)),
 )
 
 -- The queue.
@@ -448,6 +498,7 @@ of_bullet : (run : Run) (bullet : Bullet) → 1 ≤ run.config.buckets → Decid
 of_bullet run Bullet.Answers some = answered run
 of_bullet run Bullet.Versions some = versions run some
 of_bullet run Bullet.Rises some = rises run
+of_bullet run Bullet.Keeps some = keeps run
 of_bullet run Bullet.Queue some = queue run
 of_bullet run Bullet.Rows some = rows run
 of_bullet run Bullet.Lists some = lists run
@@ -456,11 +507,16 @@ of_bullet run Bullet.Eras some = eras run
 taken_by_all : (run : Run) (bullet : Bullet) (place : ℕ) → list_all (takes run) bullets ≡ true → slice_get bullets place ≡ Some bullet → takes run bullet ≡ true
 taken_by_all run bullet place e at = get_read (takes run) bullets place bullet e at
 
+-- the changes of a key's bucket are those that calls tell
+told_at : (run : Run) (made : ℕ → List Change) → 1 ≤ run.config.buckets → law.VersionsLaw run.config run.logs run.closed made
+    → (key : ℕ) → made_in run.config.buckets run.logs (bucket_of run.config.buckets key) ≡ made (bucket_of run.config.buckets key)
+told_at run made some h key = made_is run.config run.logs run.closed made h (bucket_of run.config.buckets key) (key_below key run.config.buckets some)
+
 of_law : (run : Run) → 1 ≤ run.config.buckets → Decides (list_all (takes run) bullets) (law.RunLaw run.config run.logs run.closed)
 of_law run some = (
   (λ e.
       let by_versions = (versions run some).0 (taken_by_all run Bullet.Versions 1 e refl) in
-      let by_queue = (queue run).0 (taken_by_all run Bullet.Queue 3 e refl) in
+      let by_queue = (queue run).0 (taken_by_all run Bullet.Queue 4 e refl) in
       record {
         made = by_versions.0;
         queued = by_queue.0;
@@ -468,19 +524,26 @@ of_law run some = (
         answered = (answered run).0 (taken_by_all run Bullet.Answers 0 e refl);
         versions = by_versions.1;
         rises = (rises run).0 (taken_by_all run Bullet.Rises 2 e refl);
+        keeps =
+            keeps_of run.config run.logs (made_in run.config.buckets run.logs) by_versions.0 (told_at run by_versions.0 some by_versions.1)
+            ((keeps run).0 (taken_by_all run Bullet.Keeps 3 e refl));
         queue = by_queue.2;
-        rows = (rows run).0 (taken_by_all run Bullet.Rows 4 e refl);
-        lists = (lists run).0 (taken_by_all run Bullet.Lists 5 e refl);
-        eras = (eras run).0 (taken_by_all run Bullet.Eras 6 e refl);
+        rows = (rows run).0 (taken_by_all run Bullet.Rows 5 e refl);
+        lists = (lists run).0 (taken_by_all run Bullet.Lists 6 e refl);
+        eras = (eras run).0 (taken_by_all run Bullet.Eras 7 e refl);
       }),
   (λ h.
+      let made : ℕ → List Change = made_in run.config.buckets run.logs in
+      let same : (key : ℕ) → h.made (bucket_of run.config.buckets key) ≡ made (bucket_of run.config.buckets key) =
+      λ key. sym (told_at run h.made some h.versions key) in
       both (takes run Bullet.Answers) _ ((answered run).1 h.answered)
       (both (takes run Bullet.Versions) _ ((versions run some).1 (h.made, h.versions))
       (both (takes run Bullet.Rises) _ ((rises run).1 h.rises)
+      (both (takes run Bullet.Keeps) _ ((keeps run).1 (keeps_of run.config run.logs h.made made same h.keeps))
       (both (takes run Bullet.Queue) _ ((queue run).1 (h.queued, h.taken, h.queue))
       (both (takes run Bullet.Rows) _ ((rows run).1 h.rows)
       (both (takes run Bullet.Lists) _ ((lists run).1 h.lists)
-      (both (takes run Bullet.Eras) _ ((eras run).1 h.eras) refl))))))),
+      (both (takes run Bullet.Eras) _ ((eras run).1 h.eras) refl)))))))),
 )
 
 pub readers_judge : ReadersJudge

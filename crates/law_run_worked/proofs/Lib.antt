@@ -1,4 +1,5 @@
 pub mod Judges
+pub mod Keeps
 pub mod Made
 pub mod Numbers
 pub mod Splits

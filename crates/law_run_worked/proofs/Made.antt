@@ -16,7 +16,7 @@ use Rattle.wfe_core.specs.defs.declared.fold.Change.TheVariants as changes
 use Rattle.wfe_core.specs.words.declared.config.Config.{Config}
 use Rattle.laws.specs.StateAt.{bucket_of}
 use Rattle.law_logs.specs.Versions.{number_queued, version_told}
-use Rattle.law_logs.specs.RunLaw.{AtClose, IsAway, IsCall, IsMade, IsThere, QueueLaw, QueuesRight, ReadsRight, VersionsLaw, change_made, could_put, has_number, is_change_of, is_queued_as, is_version, pairs_by, total_of}
+use Rattle.law_logs.specs.RunLaw.{AtClose, IsAway, IsCall, IsLook, IsMade, IsThere, KeepsLaw, KeptRight, QueueLaw, QueuesRight, ReadsRight, VersionsLaw, bucket_kept, change_made, could_put, has_number, is_change_of, is_queued_as, is_version, pairs_by, total_of}
 use Rattle.law_run_worked.specs.Readers.{change_by, change_in, find_call, greatest, listed, made_in, queued_by, queued_in, taken_by, taken_in, tellers, value_by, value_of_call, version_in}
 use Rattle.law_run_worked.specs.Readers as readers
 use Rattle.law_run_worked.proofs.Numbers.{count_more, greatest_is, once_within, total_more}
@@ -131,6 +131,11 @@ change_read c made b version (calls.Put key value) (answers.Done told clock) e h
     let is : told ≡ version = number_is told version (rest_of (bucket_of c.buckets key == b) (told == version) e) in
     subst (λ x. slice_get (made x) (version - 1) ≡ Some (changes.Put key value)) at
     (subst (λ x. slice_get (made (bucket_of c.buckets key)) (x - 1) ≡ Some (changes.Put key value)) is h.is)
+change_read c made b version (calls.PutIf key value wanted) (answers.Done told clock) e h =
+    let at : bucket_of c.buckets key ≡ b = number_is (bucket_of c.buckets key) b (first_of (bucket_of c.buckets key == b) (told == version) e) in
+    let is : told ≡ version = number_is told version (rest_of (bucket_of c.buckets key == b) (told == version) e) in
+    subst (λ x. slice_get (made x) (version - 1) ≡ Some (changes.Put key value)) at
+    (subst (λ x. slice_get (made (bucket_of c.buckets key)) (x - 1) ≡ Some (changes.Put key value)) is h.0.is)
 change_read c made b version (calls.Remove key) (answers.Done told clock) e h =
     let at : bucket_of c.buckets key ≡ b = number_is (bucket_of c.buckets key) b (first_of (bucket_of c.buckets key == b) (told == version) e) in
     let is : told ≡ version = number_is told version (rest_of (bucket_of c.buckets key == b) (told == version) e) in
@@ -163,12 +168,46 @@ reads_of c made other same (calls.Put key value) (answers.Done version clock) h 
 reads_of c made other same (calls.Put key value) (answers.BucketFull version) h =
     subst (λ cs. IsAway cs key version × (length (pairs_by cs version) ≡ c.pairs)) (same key) h
 reads_of c made other same (calls.Put key value) (answers.Spent version) h = subst (λ (cs : List Change). version ≡ length cs) (same key) h
+reads_of c made other same (calls.PutIf key value wanted) (answers.Done version clock) h =
+    subst (λ cs. IsMade cs (changes.Put key value) version (could_put c.pairs (pairs_by cs (version - 1)) key) × (version ≡ wanted + 1)) (same key) h
+reads_of c made other same (calls.PutIf key value wanted) (answers.BucketFull version) h =
+    subst (λ cs. (IsAway cs key version × (length (pairs_by cs version) ≡ c.pairs)) × (version ≡ wanted)) (same key) h
+reads_of c made other same (calls.PutIf key value wanted) (answers.Spent version) h =
+    subst (λ (cs : List Change). (version ≡ length cs) × (version ≡ wanted)) (same key) h
+reads_of c made other same (calls.PutIf key value wanted) (answers.Stale version) h =
+    subst (λ (cs : List Change). (version ≤ length cs) × ((version == wanted) ≡ false)) (same key) h
 reads_of c made other same (calls.Remove key) (answers.Done version clock) h =
     subst (λ cs. IsMade cs (changes.Removed key) version (is_some (value_in (pairs_by cs (version - 1)) key))) (same key) h
 reads_of c made other same (calls.Remove key) (answers.Absent version) h = subst (λ cs. IsAway cs key version) (same key) h
 reads_of c made other same (calls.Remove key) (answers.Spent version) h =
     subst (λ cs. IsThere cs key version × (version ≡ length cs)) (same key) h
 reads_of c made other same call answer h = h
+
+-- the same of what is said of rows that are kept
+look_of : (c : Config) (made other : ℕ → List Change) → ((key : ℕ) → made (bucket_of c.buckets key) ≡ other (bucket_of c.buckets key))
+    → (before : List Group) (index key slot version : ℕ) (value : Option ℕ) → IsLook c made before index key slot version value
+    → IsLook c other before index key slot version value
+look_of c made other same before index key slot version value h =
+    let at : made (bucket_kept c h.row.kept) ≡ other (bucket_kept c h.row.kept) = same h.row.kept.key in
+    record {
+      row = h.row;
+      some = h.some;
+      had = subst (λ (cs : List Change). version ≤ length cs) at h.had;
+      value_is = subst (λ (cs : List Change). value ≡ value_in (pairs_by cs version) key) at h.value_is;
+      since = h.since;
+      since_looks = h.since_looks;
+    }
+
+right_of : (c : Config) (made other : ℕ → List Change) → ((key : ℕ) → made (bucket_of c.buckets key) ≡ other (bucket_of c.buckets key))
+    → (before : List Group) (call : Call) (answer : Answer) → KeptRight c made before call answer → KeptRight c other before call answer
+right_of c made other same before (calls.Look index key) (answers.Looked slot version value) h =
+    look_of c made other same before index key slot version value h
+right_of c made other same before call answer h = h
+
+pub keeps_of : (c : Config) (logs : List (List Group)) (made other : ℕ → List Change)
+    → ((key : ℕ) → made (bucket_of c.buckets key) ≡ other (bucket_of c.buckets key)) → KeepsLaw c logs made → KeepsLaw c logs other
+keeps_of c logs made other same law =
+    record { right = λ before group k. right_of c made other same before group.call group.answer (law.right before group k); same = law.same }
 
 -- Values queued.
 

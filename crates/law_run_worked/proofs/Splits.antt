@@ -6,7 +6,7 @@ use Rattle.std.specs.List.{list_all, slice_get}
 use Rattle.wfe_core.proofs.Facts.{both, first_of, rest_of}
 use Rattle.wfe_core.specs.Locals.{Group}
 use Rattle.law_logs.specs.RunLaw.{InOrder, IsCall}
-use Rattle.law_run_worked.specs.Readers.{each_below, each_call, each_in, each_pair}
+use Rattle.law_run_worked.specs.Readers.{each_below, each_call, each_in, each_pair, each_two}
 
 -- of each call of a log
 
@@ -103,6 +103,48 @@ pub decides_pair : (test : Group → Group → Bool) (P : Group → Group → Ty
 decides_pair test P each logs = (
   (λ e one two k. (each one two).0 (pair_read test logs one two e k)),
   (λ h. pair_kept test logs (λ one two k. (each one two).1 (h one two k))),
+)
+
+-- of the same two, each with the calls before it
+
+two_read : (test : List Group → Group → List Group → Group → Bool) (logs : List (List Group)) (one two : Group) → each_two test logs ≡ true
+    → (k : InOrder logs one two) → test k.before one (k.before ++ one ∷ k.between) two ≡ true
+two_read test logs one two e k =
+    in_read (λ early x. test early x (k.before ++ one ∷ k.between) two) [] k.before one k.between
+    (call_read (λ before x. each_in (λ early y. test early y before x) [] before) logs (k.before ++ one ∷ k.between) two e
+    (record {
+      later = k.later;
+      log = record {
+        seat = k.log.seat;
+        at = subst (λ log. slice_get logs k.log.seat ≡ Some log) (sym (append_assoc k.before (one ∷ k.between) (two ∷ k.later))) k.log.at;
+      };
+    }))
+
+two_kept : (test : List Group → Group → List Group → Group → Bool) (logs : List (List Group))
+    → ((one two : Group) (k : InOrder logs one two) → test k.before one (k.before ++ one ∷ k.between) two ≡ true) → each_two test logs ≡ true
+two_kept test logs h =
+    call_kept (λ before x. each_in (λ early y. test early y before x) [] before) logs (λ before two k.
+    in_kept (λ early y. test early y before two) [] before (λ front one between e.
+    subst (λ b. test front one b two ≡ true) (sym e)
+    (h one two (record {
+      before = front;
+      between = between;
+      later = k.later;
+      log = record {
+        seat = k.log.seat;
+        at =
+            subst (λ log. slice_get logs k.log.seat ≡ Some log) (append_assoc front (one ∷ between) (two ∷ k.later))
+            (subst (λ b. slice_get logs k.log.seat ≡ Some (b ++ two ∷ k.later)) e k.log.at);
+      };
+    }))))
+
+pub decides_two : (test : List Group → Group → List Group → Group → Bool) (P : List Group → Group → List Group → Group → Type 0)
+    → ((early between : List Group) (one two : Group) → Decides (test early one (early ++ one ∷ between) two) (P early one (early ++ one ∷ between) two))
+    → (logs : List (List Group))
+    → Decides (each_two test logs) ((one two : Group) (k : InOrder logs one two) → P k.before one (k.before ++ one ∷ k.between) two)
+decides_two test P each logs = (
+  (λ e one two k. (each k.before k.between one two).0 (two_read test logs one two e k)),
+  (λ h. two_kept test logs (λ one two k. (each k.before k.between one two).1 (h one two k))),
 )
 
 -- of each number below another

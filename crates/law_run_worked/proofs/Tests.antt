@@ -1,5 +1,5 @@
 -- The tests of single calls and of two calls decide what the law of runs says of them.
-use Rattle.std.proofs.Common.{Bool, List, None, Option, Some, [], ap, ap₂, arith, false, length, refl, subst, sym, true, ℕ, ◌-◌, ◌<◌, ◌∙◌, ◌∷◌, ◌≡◌, ◌≤◌}
+use Rattle.std.proofs.Common.{Bool, List, None, Option, Some, [], ap, ap₂, arith, false, length, refl, subst, sym, true, ℕ, ◌+◌, ◌-◌, ◌<◌, ◌∙◌, ◌∷◌, ◌≡◌, ◌≤◌}
 use Rattle.std.proofs.lemmas.Bool.Decides.{Decides-and, Decides-eqb, Decides-like, nat_tests}
 use Rattle.std.specs.Bool.{Decides}
 use Rattle.std.specs.Prelude.{if◌then◌else◌, is_some, nat_le, nat_lt, not, slice_get, ◌&&◌, ◌==◌}
@@ -15,12 +15,15 @@ use Rattle.wfe_core.specs.defs.declared.fold.Change.TheVariants as changes
 use Rattle.wfe_core.specs.words.declared.config.Config.{Config}
 use Rattle.laws.specs.StateAt.{bucket_of, same_value}
 use Rattle.law_logs.specs.RunLaw.{IsAway, IsMade, IsThere, QueuesRight, ReadsRight, could_put, has_number, is_still, is_version, pairs_by}
-use Rattle.law_run_worked.specs.Readers.{away_ok, back_ok, clock_ok, empty_ok, final_ok, full_ok, if_some_ok, is_this, kept_ok, made_ok, plain_ok, queues_ok, reads_ok, rises_ok, same_numbers, same_pairs, versions_ok}
+use Rattle.law_run_worked.specs.Readers.{away_ok, back_ok, bare_ok, clock_ok, empty_ok, final_ok, full_ok, if_some_ok, is_this, kept_ok, made_ok, plain_ok, queues_ok, reads_ok, rises_ok, same_numbers, same_pairs, versions_ok}
 
 -- of numbers and values
 
 pub itself : (b : Bool) → Decides b (b ≡ true)
 itself b = ((λ e. e), (λ e. e))
+
+decides_other : (b : Bool) → Decides (not b) (b ≡ false)
+decides_other b = ((λ t. false_of_not b t), (λ t. not_of_false b t))
 
 pub decides_most : (a b : ℕ) → Decides (nat_le a b) (a ≤ b)
 decides_most a b = ((λ t. grind (arith, nat_tests)), (λ t. grind (arith, nat_tests)))
@@ -123,6 +126,12 @@ decides_kept (answers.Scanned kept back) many = (
 )
 decides_kept answer many = ((λ t kept back e. absurd (cc)), (λ h. refl))
 
+pub decides_bare : (bare : Bool) (given : Option (ℕ × ℕ)) (back : List ℕ) → Decides (bare_ok bare given back) (bare ≡ true → (given ≡ None) × (back ≡ []))
+decides_bare true None [] = ((λ t e. (refl, refl)), (λ h. refl))
+decides_bare true None (slot ∷ slots) = ((λ t e. absurd (cc)), (λ h. let none = (h refl).1 in absurd (cc)))
+decides_bare true (Some row) back = ((λ t e. absurd (cc)), (λ h. let none = (h refl).0 in absurd (cc)))
+decides_bare false given back = ((λ t e. absurd (cc)), (λ h. refl))
+
 -- of what an answer says of its bucket
 
 decides_none : (x : Option ℕ) → Decides (not (is_some x)) (x ≡ None)
@@ -160,6 +169,22 @@ decides_reads c made (calls.Put key value) (answers.BucketFull version) =
     Decides-and (away_ok (made (bucket_of c.buckets key)) key version) (length (pairs_by (made (bucket_of c.buckets key)) version) == c.pairs)
     (decides_away (made (bucket_of c.buckets key)) key version) (Decides-eqb (length (pairs_by (made (bucket_of c.buckets key)) version)) c.pairs)
 decides_reads c made (calls.Put key value) (answers.Spent version) = Decides-eqb version (length (made (bucket_of c.buckets key)))
+decides_reads c made (calls.PutIf key value wanted) (answers.Done version clock) =
+    let could : Bool = could_put c.pairs (pairs_by (made (bucket_of c.buckets key)) (version - 1)) key in
+    Decides-and (made_ok (made (bucket_of c.buckets key)) (changes.Put key value) version could) (version == wanted + 1)
+    (decides_made (made (bucket_of c.buckets key)) (changes.Put key value) version could) (Decides-eqb version (wanted + 1))
+decides_reads c made (calls.PutIf key value wanted) (answers.BucketFull version) =
+    let many : ℕ = length (pairs_by (made (bucket_of c.buckets key)) version) in
+    Decides-and (away_ok (made (bucket_of c.buckets key)) key version && many == c.pairs) (version == wanted)
+    (Decides-and (away_ok (made (bucket_of c.buckets key)) key version) (many == c.pairs)
+    (decides_away (made (bucket_of c.buckets key)) key version) (Decides-eqb many c.pairs))
+    (Decides-eqb version wanted)
+decides_reads c made (calls.PutIf key value wanted) (answers.Spent version) =
+    Decides-and (version == length (made (bucket_of c.buckets key))) (version == wanted)
+    (Decides-eqb version (length (made (bucket_of c.buckets key)))) (Decides-eqb version wanted)
+decides_reads c made (calls.PutIf key value wanted) (answers.Stale version) =
+    Decides-and (nat_le version (length (made (bucket_of c.buckets key)))) (not (version == wanted))
+    (decides_most version (length (made (bucket_of c.buckets key)))) (decides_other (version == wanted))
 decides_reads c made (calls.Remove key) (answers.Done version clock) =
     decides_made (made (bucket_of c.buckets key)) (changes.Removed key) version
     (is_some (value_in (pairs_by (made (bucket_of c.buckets key)) (version - 1)) key))

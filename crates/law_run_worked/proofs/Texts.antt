@@ -14,14 +14,15 @@ use Rattle.wfe_core.specs.defs.declared.event.Event.{Event}
 use Rattle.wfe_core.specs.defs.declared.event.Event.TheVariants as events
 use Rattle.wfe_core.specs.defs.declared.lifetime.Lifetime.{Lifetime}
 use Rattle.wfe_core.specs.words.declared.config.Config.{Config}
-use Rattle.laws.specs.AnswerLaw.{owes}
 use Rattle.laws.specs.StateAt.{same_value}
-use Rattle.law_logs.specs.RunLaw.{AtClose, IsRun, backs, call_made, early_backs, events_of, events_of_all, give_told, late_backs, one_told, retire_told, unused_told}
-use Rattle.law_run_worked.specs.Shared.{shared_setting}
+use Rattle.law_logs.specs.RunLaw.{AtClose, IsRun, backs, call_made, change_told, early_backs, events_of, events_of_all, give_told, late_backs, one_told, retire_told, unused_told}
 use Rattle.law_run_worked.specs.WrongTexts.{IsNoRun, Text, WrongTextsRefused, wrong_texts}
 use Rattle.law_run_worked.specs.Texts.{Stand, after_lines, between, is_done, lines_ok, lost, next, same_call, same_told, stand, told_next}
 
 -- What is the same.
+
+two : (a b : ℕ) → (a == a && b == b) ≡ true
+two a b = both (a == a) (b == b) (same_number a) (same_number b)
 
 same_own_call : (call : Call) → same_call call call ≡ true
 same_own_call (calls.Get key) = same_number key
@@ -33,19 +34,22 @@ same_own_call (calls.Hold key) = same_number key
 same_own_call calls.Release = refl
 same_own_call calls.Advance = refl
 same_own_call calls.Scan = refl
+same_own_call (calls.Copy from index) = two from index
+same_own_call (calls.DropIndex index) = same_number index
+same_own_call (calls.Look index key) = two index key
+same_own_call (calls.PutIf key value version) = both (key == key) (value == value && version == version) (same_number key) (two value version)
 
 same_own_value : (value : Option ℕ) → same_value value value ≡ true
 same_own_value None = refl
 same_own_value (Some value) = same_number value
 
-two : (a b : ℕ) → (a == a && b == b) ≡ true
-two a b = both (a == a) (b == b) (same_number a) (same_number b)
-
-same_owed : (n : ℕ) (call : Call) (answer : Answer) → same_told (owes n call answer) (owes n call answer) ≡ true
+same_owed : (n : ℕ) (call : Call) (answer : Answer) → same_told (change_told n call answer) (change_told n call answer) ≡ true
 same_owed n (calls.Get key) (answers.Got version value) =
     both (key % n == key % n && version == version) (key == key && same_value value value) (two (key % n) version)
     (both (key == key) (same_value value value) (same_number key) (same_own_value value))
 same_owed n (calls.Put key value) (answers.Done version clock) =
+    both (key % n == key % n && version == version) (key == key && value == value) (two (key % n) version) (two key value)
+same_owed n (calls.PutIf key value wanted) (answers.Done version clock) =
     both (key % n == key % n && version == version) (key == key && value == value) (two (key % n) version) (two key value)
 same_owed n (calls.Remove key) (answers.Done version clock) =
     both (key % n == key % n && version == version) (key == key) (two (key % n) version) (same_number key)
@@ -54,10 +58,12 @@ same_owed n calls.Dequeue (answers.Taken number value clock) = two number value
 same_owed n call answer = refl
 
 -- what a call has done of the map or of the queue is read as that
-owed_next : (n : ℕ) (s : Stand) (call : Call) (answer : Answer) (event : Event) → owes n call answer ≡ Some event → next n s event ≡ told_next s event
+owed_next : (n : ℕ) (s : Stand) (call : Call) (answer : Answer) (event : Event) → change_told n call answer ≡ Some event → next n s event ≡ told_next s event
 owed_next n s (calls.Get key) (answers.Got version value) event e =
     let same : events.Got (key % n) version key value ≡ event = cc in subst (λ x. next n s x ≡ told_next s x) same refl
 owed_next n s (calls.Put key value) (answers.Done version clock) event e =
+    let same : events.Put (key % n) version key value ≡ event = cc in subst (λ x. next n s x ≡ told_next s x) same refl
+owed_next n s (calls.PutIf key value wanted) (answers.Done version clock) event e =
     let same : events.Put (key % n) version key value ≡ event = cc in subst (λ x. next n s x ≡ told_next s x) same refl
 owed_next n s (calls.Remove key) (answers.Done version clock) event e =
     let same : events.Removed (key % n) version key ≡ event = cc in subst (λ x. next n s x ≡ told_next s x) same refl
@@ -81,12 +87,12 @@ early_read n script call (slot ∷ slots) = early_read n script call slots
 -- late backs and the end, from any stage of a call
 late_read : (n : ℕ) (stage : ℕ) (script : List Call) (call : Call) (given : Option ℕ) (slots : List ℕ) (steps : ℕ) (answer : Answer)
     → (nat_le 1 stage && nat_le stage 6) ≡ true
-    → after_lines n (stand stage script (Some call) given (owes n call answer)) (backs slots ++ events.End steps answer ∷ []) ≡ between script
+    → after_lines n (stand stage script (Some call) given (change_told n call answer)) (backs slots ++ events.End steps answer ∷ []) ≡ between script
 late_read n stage script call given [] steps answer live =
     ap (λ b. if b then between script else lost)
-    (both (nat_le 1 stage && nat_le stage 6) (same_told (owes n call answer) (owes n call answer)) live (same_owed n call answer))
+    (both (nat_le 1 stage && nat_le stage 6) (same_told (change_told n call answer) (change_told n call answer)) live (same_owed n call answer))
 late_read n stage script call given (slot ∷ slots) steps answer live =
-    let told : Option Event = owes n call answer in
+    let told : Option Event = change_told n call answer in
     by_cases (stage == 1)
     (after_lines n (stand stage script (Some call) given told) (backs (slot ∷ slots) ++ events.End steps answer ∷ []) ≡ between script)
     (λ t.
@@ -108,12 +114,12 @@ late_read n stage script call given (slot ∷ slots) steps answer live =
 retire_read : (n : ℕ) (stage : ℕ) (script : List Call) (call : Call) (given : Option ℕ) (retired : Option Lifetime) (slots : List ℕ) (steps : ℕ)
     (answer : Answer)
     → (nat_le 1 stage && nat_le stage 4) ≡ true
-    → after_lines n (stand stage script (Some call) given (owes n call answer)) (retire_told retired ++ (backs slots ++ events.End steps answer ∷ []))
+    → after_lines n (stand stage script (Some call) given (change_told n call answer)) (retire_told retired ++ (backs slots ++ events.End steps answer ∷ []))
     ≡ between script
 retire_read n stage script call given None slots steps answer live = late_read n stage script call given slots steps answer (grind (arith, nat_tests))
 retire_read n stage script call given (Some life) slots steps answer live =
     ap (λ b.
-    after_lines n (if b then stand 5 script (Some call) given (owes n call answer) else lost) (backs slots ++ events.End steps answer ∷ [])) live
+    after_lines n (if b then stand 5 script (Some call) given (change_told n call answer) else lost) (backs slots ++ events.End steps answer ∷ [])) live
     ∙ late_read n 5 script call given slots steps answer refl
 
 -- a row given up before that
@@ -125,7 +131,7 @@ unused_read : (n : ℕ) (stage : ℕ) (script : List Call) (call : Call) (given 
     (steps : ℕ) (answer : Answer)
     → (nat_le 1 stage && nat_le stage 3) ≡ true
     → ((row : ℕ × ℕ) → given ≡ Some row → (stage == 2 || stage == 3) ≡ true)
-    → after_lines n (stand stage script (Some call) (slot_given given) (owes n call answer))
+    → after_lines n (stand stage script (Some call) (slot_given given) (change_told n call answer))
     (unused_told unused given ++ (retire_told retired ++ (backs slots ++ events.End steps answer ∷ [])))
     ≡ between script
 unused_read n stage script call given false retired slots steps answer live some =
@@ -134,7 +140,7 @@ unused_read n stage script call None true retired slots steps answer live some =
     retire_read n stage script call None retired slots steps answer (grind (arith, nat_tests))
 unused_read n stage script call (Some row) true retired slots steps answer live some =
     ap (λ b.
-    after_lines n (if b then stand 4 script (Some call) (Some row.0) (owes n call answer) else lost)
+    after_lines n (if b then stand 4 script (Some call) (Some row.0) (change_told n call answer) else lost)
     (retire_told retired ++ (backs slots ++ events.End steps answer ∷ [])))
     (both (stage == 2 || stage == 3) (row.0 == row.0) (some row refl) (same_number row.0))
     ∙ retire_read n 4 script call (Some row.0) retired slots steps answer refl
@@ -142,7 +148,7 @@ unused_read n stage script call (Some row) true retired slots steps answer live 
 -- what was done of the map or of the queue before that
 told_read : (n : ℕ) (stage : ℕ) (script : List Call) (call : Call) (given : Option (ℕ × ℕ)) (unused : Bool) (retired : Option Lifetime) (slots : List ℕ)
     (steps : ℕ) (answer : Answer) (owed : Option Event)
-    → owes n call answer ≡ owed
+    → change_told n call answer ≡ owed
     → (stage == 1 || stage == 2) ≡ true
     → ((row : ℕ × ℕ) → given ≡ Some row → (stage == 2 || stage == 3) ≡ true)
     → after_lines n (stand stage script (Some call) (slot_given given) None)
@@ -168,12 +174,12 @@ give_read : (n : ℕ) (script : List Call) (call : Call) (given : Option (ℕ ×
     (answer : Answer)
     → after_lines n (stand 1 script (Some call) None None)
     (give_told given
-    ++ (one_told (owes n call answer) ++ (unused_told unused given ++ (retire_told retired ++ (backs slots ++ events.End steps answer ∷ [])))))
+    ++ (one_told (change_told n call answer) ++ (unused_told unused given ++ (retire_told retired ++ (backs slots ++ events.End steps answer ∷ [])))))
     ≡ between script
 give_read n script call None unused retired slots steps answer =
-    told_read n 1 script call None unused retired slots steps answer (owes n call answer) refl refl (λ row e. absurd (cc))
+    told_read n 1 script call None unused retired slots steps answer (change_told n call answer) refl refl (λ row e. absurd (cc))
 give_read n script call (Some row) unused retired slots steps answer =
-    told_read n 2 script call (Some row) unused retired slots steps answer (owes n call answer) refl refl (λ other e. refl)
+    told_read n 2 script call (Some row) unused retired slots steps answer (change_told n call answer) refl refl (λ other e. refl)
 
 -- all lines of a call
 call_read : (n : ℕ) (script : List Call) (group : Group) → after_lines n (between (group.call ∷ script)) (events_of n group) ≡ between script
@@ -182,7 +188,7 @@ call_read n script group =
     let notes : Notes = group.notes in
     let more : List Event =
     give_told notes.given
-    ++ (one_told (owes n call group.answer)
+    ++ (one_told (change_told n call group.answer)
     ++ (unused_told notes.unused notes.given ++ (retire_told notes.retired ++ (backs (late_backs notes) ++ events.End notes.steps group.answer ∷ [])))) in
     ap (λ b. after_lines n (if b then stand 1 script (Some call) None None else lost) (backs (early_backs notes) ++ more)) (same_own_call call)
     ∙ joined n (stand 1 script (Some call) None None) (backs (early_backs notes)) more
@@ -212,12 +218,12 @@ run_read c scripts seats closed run =
 -- What the reader turns down is of no run.
 
 abbrev is_wrong : Text → Bool
-is_wrong text = not (lines_ok shared_setting.buckets text.scripts text.seats)
+is_wrong text = not (lines_ok text.config.buckets text.scripts text.seats)
 
 no_run : (text : Text) → is_wrong text ≡ true → IsNoRun text
 no_run text e closed run =
-    let none : lines_ok shared_setting.buckets text.scripts text.seats ≡ false = false_of_not (lines_ok shared_setting.buckets text.scripts text.seats) e in
-    let one : lines_ok shared_setting.buckets text.scripts text.seats ≡ true = run_read shared_setting text.scripts text.seats closed run in
+    let none : lines_ok text.config.buckets text.scripts text.seats ≡ false = false_of_not (lines_ok text.config.buckets text.scripts text.seats) e in
+    let one : lines_ok text.config.buckets text.scripts text.seats ≡ true = run_read text.config text.scripts text.seats closed run in
     cc
 
 no_runs : (texts : List Text) → list_all is_wrong texts ≡ true → AllByRecursion IsNoRun texts

@@ -9,6 +9,7 @@ use Rattle.law_run_worked.specs.Refusals.{IsRefused, Wrong, code, judged, judged
 use Rattle.law_run_worked.specs.WrongAnswers.{WrongAnswersRefused, wrong_answers}
 use Rattle.law_run_worked.specs.WrongEras.{WrongErasRefused, wrong_eras}
 use Rattle.law_run_worked.specs.WrongLists.{WrongListsRefused, wrong_lists}
+use Rattle.law_run_worked.specs.WrongLooks.{WrongLooksRefused, wrong_looks}
 use Rattle.law_run_worked.specs.WrongQueues.{WrongQueuesRefused, wrong_queues}
 use Rattle.law_run_worked.specs.WrongRises.{WrongRisesRefused, wrong_rises}
 use Rattle.law_run_worked.specs.WrongRows.{WrongRowsRefused, wrong_rows}
@@ -23,6 +24,7 @@ place_of : (bullet : Bullet) → slice_get bullets (code bullet) ≡ Some bullet
 place_of Bullet.Answers = refl
 place_of Bullet.Versions = refl
 place_of Bullet.Rises = refl
+place_of Bullet.Keeps = refl
 place_of Bullet.Queue = refl
 place_of Bullet.Rows = refl
 place_of Bullet.Lists = refl
@@ -72,6 +74,9 @@ wrong_versions_refused = record { alone = all_refused wrong_versions refl; sente
 
 pub wrong_rises_refused : WrongRisesRefused
 wrong_rises_refused = record { alone = all_refused wrong_rises refl; sentences = refl }
+
+pub wrong_looks_refused : WrongLooksRefused
+wrong_looks_refused = record { alone = all_refused wrong_looks refl; sentences = refl }
 
 pub wrong_queues_refused : WrongQueuesRefused
 wrong_queues_refused = record { alone = all_refused wrong_queues refl; sentences = refl }

@@ -1,4 +1,5 @@
 pub mod Crowded
+pub mod Kept
 pub mod Loose
 pub mod Readers
 pub mod Refusals
@@ -9,6 +10,7 @@ pub mod Texts
 pub mod WrongAnswers
 pub mod WrongEras
 pub mod WrongLists
+pub mod WrongLooks
 pub mod WrongQueues
 pub mod WrongRises
 pub mod WrongRows

@@ -14,7 +14,8 @@ use Rattle.wfe_core.specs.defs.declared.fold.Change.TheVariants as changes
 use Rattle.wfe_core.specs.words.declared.config.Config.{Config}
 use Rattle.laws.specs.AnswerLaw.{retires_for, suits}
 use Rattle.laws.specs.StateAt.{bucket_of, is_among, numbered_from, one, same_value}
-use Rattle.law_logs.specs.Versions.{number_queued, number_taken, version_told}
+use Rattle.law_logs.specs.Kept.{Keeping, kept_in, looked_in}
+use Rattle.law_logs.specs.Versions.{number_queued, number_taken, seen_in, version_told}
 use Rattle.law_logs.specs.RunLaw as law
 use Rattle.law_run_worked.specs.Runs.{Run}
 
@@ -30,6 +31,10 @@ each_call test logs = list_all (λ log. each_in test [] log) logs
 
 abbrev pub each_pair : (Group → Group → Bool) → List (List Group) → Bool
 each_pair test logs = each_call (λ before two. list_all (λ one. test one two) before) logs
+
+-- of each two calls of one seat, each with the calls before it
+abbrev pub each_two : (List Group → Group → List Group → Group → Bool) → List (List Group) → Bool
+each_two test logs = each_call (λ before two. each_in (λ early one. test early one before two) [] before) logs
 
 abbrev pub each_below : ℕ → (ℕ → Bool) → Bool
 each_below zero test = true
@@ -150,6 +155,12 @@ abbrev pub back_ok : Answer → ℕ → Bool
 back_ok (answers.Scanned kept back) many = back == many
 back_ok answer many = true
 
+abbrev pub bare_ok : (bare : Bool) → Option (ℕ × ℕ) → (back : List ℕ) → Bool
+bare_ok true None [] = true
+bare_ok true None (slot ∷ slots) = false
+bare_ok true (Some row) back = false
+bare_ok false given back = true
+
 abbrev pub kept_ok : Answer → ℕ → Bool
 kept_ok (answers.Scanned kept back) many = kept == many
 kept_ok answer many = true
@@ -170,6 +181,16 @@ reads_ok c made (calls.Put key value) (answers.Done version clock) =
 reads_ok c made (calls.Put key value) (answers.BucketFull version) =
     away_ok (made (bucket_of c.buckets key)) key version && length (law.pairs_by (made (bucket_of c.buckets key)) version) == c.pairs
 reads_ok c made (calls.Put key value) (answers.Spent version) = version == length (made (bucket_of c.buckets key))
+reads_ok c made (calls.PutIf key value wanted) (answers.Done version clock) =
+    made_ok (made (bucket_of c.buckets key)) (changes.Put key value) version
+    (law.could_put c.pairs (law.pairs_by (made (bucket_of c.buckets key)) (version - 1)) key)
+    && version == wanted + 1
+reads_ok c made (calls.PutIf key value wanted) (answers.BucketFull version) =
+    (away_ok (made (bucket_of c.buckets key)) key version && length (law.pairs_by (made (bucket_of c.buckets key)) version) == c.pairs)
+    && version == wanted
+reads_ok c made (calls.PutIf key value wanted) (answers.Spent version) = version == length (made (bucket_of c.buckets key)) && version == wanted
+reads_ok c made (calls.PutIf key value wanted) (answers.Stale version) =
+    nat_le version (length (made (bucket_of c.buckets key))) && not (version == wanted)
 reads_ok c made (calls.Remove key) (answers.Done version clock) =
     made_ok (made (bucket_of c.buckets key)) (changes.Removed key) version
     (is_some (value_in (law.pairs_by (made (bucket_of c.buckets key)) (version - 1)) key))
@@ -186,6 +207,31 @@ queues_ok c queued (calls.Enqueue value) (answers.Spent number) = length queued 
 queues_ok c queued calls.Dequeue (answers.Taken number value clock) = same_value (slice_get queued (number - 1)) (Some value)
 queues_ok c queued call answer = true
 
+-- a row is kept, in this slot
+abbrev pub row_ok : Option Keeping → (slot : ℕ) → Bool
+row_ok None slot = false
+row_ok (Some kept) slot = kept.slot == slot
+
+-- the row shows a version that its hold's bucket had, and no earlier one than was told of the bucket before that hold, by looks or others
+abbrev pub shows_ok : Config → List Change → Keeping → (key version : ℕ) → Option ℕ → Bool
+shows_ok c cs kept key version value =
+    nat_le 1 version
+    && (nat_le version (length cs)
+    && (same_value value (value_in (law.pairs_by cs version) key)
+    && (nat_le (seen_in c.buckets (law.bucket_kept c kept) kept.before) version
+    && nat_le (looked_in c.buckets (law.bucket_kept c kept) kept.before) version)))
+
+abbrev pub look_ok : Config → (ℕ → List Change) → Option Keeping → (key slot version : ℕ) → Option ℕ → Bool
+look_ok c made None key slot version value = false
+look_ok c made (Some kept) key slot version value = kept.slot == slot && shows_ok c (made (law.bucket_kept c kept)) kept key version value
+
+abbrev pub keeps_ok : Config → (ℕ → List Change) → List Group → Call → Answer → Bool
+keeps_ok c made before (calls.Copy from index) (answers.Copied slot) = row_ok (kept_in from before) slot
+keeps_ok c made before (calls.Copy from index) answers.Nothing = not (is_some (kept_in from before))
+keeps_ok c made before (calls.Look index key) (answers.Looked slot version value) = look_ok c made (kept_in index before) key slot version value
+keeps_ok c made before (calls.Look index key) answers.Nothing = not (is_some (kept_in index before))
+keeps_ok c made before call answer = true
+
 -- Tests of two calls of one seat.
 
 -- where both tell a version of one bucket, it passes the test
@@ -201,10 +247,28 @@ abbrev pub changes_rise_ok : (buckets : ℕ) → (one two : Group) → Bool
 changes_rise_ok n one two =
     if law.is_change two then versions_ok (λ low high. nat_lt low high) n (version_told one.call one.answer) (version_told two.call two.answer) else true
 
+-- looks before a change have told no later version of its bucket than the one before it
+abbrev pub later_ok : (buckets : ℕ) → (change : Bool) → List Group → Option (ℕ × ℕ) → Bool
+later_ok n true before (Some told) = nat_le (looked_in n (bucket_of n told.0) before) (told.1 - 1)
+later_ok n true before None = true
+later_ok n false before told = true
+
 abbrev pub rises_ok : Option ℕ → Option ℕ → Bool
 rises_ok None high = true
 rises_ok (Some low) None = true
 rises_ok (Some low) (Some high) = nat_lt low high
+
+-- two rows that a seat keeps are from one hold: as many calls were before it
+abbrev pub one_hold : Option Keeping → Option Keeping → Bool
+one_hold None two = false
+one_hold (Some one) None = false
+one_hold (Some one) (Some two) = one.key == two.key && (one.slot == two.slot && length one.before == length two.before)
+
+-- two looks at rows from one hold, each with the calls before it, show one version
+abbrev pub same_ok : List Group → Option (ℕ × ℕ) → List Group → Option (ℕ × ℕ) → Bool
+same_ok early None before two = true
+same_ok early (Some one) before None = true
+same_ok early (Some one) before (Some two) = if one_hold (kept_in one.0 early) (kept_in two.0 before) then one.1 == two.1 else true
 
 abbrev pub empty_ok : (taken : ℕ) → Option ℕ → Answer → Bool
 empty_ok taken (Some number) answers.Empty = nat_le number taken
@@ -233,6 +297,7 @@ pub data Sentence : Type 0 where
   Retires : Sentence
   Clock : Sentence
   Counted : Sentence
+  Bare : Sentence
   -- of versions
   Buckets : Sentence
   Version : Sentence
@@ -242,6 +307,10 @@ pub data Sentence : Type 0 where
   -- of what rises
   NeverFall : Sentence
   ChangesRise : Sentence
+  AfterLooks : Sentence
+  -- of what is kept
+  KeptRight : Sentence
+  Same : Sentence
   -- of the queue
   MostTaken : Sentence
   OnceQueued : Sentence
@@ -276,6 +345,7 @@ reads run Sentence.Full = each_call (λ before group. full_ok group.answer group
 reads run Sentence.Retires = each_call (λ before group. law.retired_in group == retires_for group.answer) run.logs
 reads run Sentence.Clock = each_call (λ before group. clock_ok (law.clock_told group.answer) (law.is_due run.config.every before group)) run.logs
 reads run Sentence.Counted = each_call (λ before group. back_ok group.answer (length group.notes.back)) run.logs
+reads run Sentence.Bare = each_call (λ before group. bare_ok (law.is_bare group.call) group.notes.given group.notes.back) run.logs
 reads run Sentence.Buckets = length run.closed.buckets == run.config.buckets
 reads run Sentence.Version = each_below run.config.buckets (λ b. (law.bucket_in b run.closed).version == length (made_in run.config.buckets run.logs b))
 reads run Sentence.Once =
@@ -287,6 +357,11 @@ reads run Sentence.NeverFall =
     each_pair (λ one two. never_fall_ok run.config.buckets one two) run.logs
 reads run Sentence.ChangesRise =
     each_pair (λ one two. changes_rise_ok run.config.buckets one two) run.logs
+reads run Sentence.AfterLooks =
+    each_call (λ before group. later_ok run.config.buckets (law.is_change group) before (version_told group.call group.answer)) run.logs
+reads run Sentence.KeptRight = each_call (λ before group. keeps_ok run.config (made_in run.config.buckets run.logs) before group.call group.answer) run.logs
+reads run Sentence.Same =
+    each_two (λ early one before two. same_ok early (law.look_made one.call one.answer) before (law.look_made two.call two.answer)) run.logs
 reads run Sentence.MostTaken = nat_le (taken_in run.logs) (length (queued_in run.logs))
 reads run Sentence.OnceQueued = once_ok queued_by (length (queued_in run.logs)) run.logs
 reads run Sentence.OnceTaken = once_ok taken_by (taken_in run.logs) run.logs
@@ -319,18 +394,21 @@ pub data Bullet : Type 0 where
   Answers : Bullet
   Versions : Bullet
   Rises : Bullet
+  Keeps : Bullet
   Queue : Bullet
   Rows : Bullet
   Lists : Bullet
   Eras : Bullet
 
 abbrev pub bullets : List Bullet
-bullets = Bullet.Answers ∷ Bullet.Versions ∷ Bullet.Rises ∷ Bullet.Queue ∷ Bullet.Rows ∷ Bullet.Lists ∷ Bullet.Eras ∷ []
+bullets = Bullet.Answers ∷ Bullet.Versions ∷ Bullet.Rises ∷ Bullet.Keeps ∷ Bullet.Queue ∷ Bullet.Rows ∷ Bullet.Lists ∷ Bullet.Eras ∷ []
 
 abbrev pub sentences_of : Bullet → List Sentence
-sentences_of Bullet.Answers = Sentence.Seats ∷ Sentence.Suits ∷ Sentence.Allowed ∷ Sentence.Full ∷ Sentence.Retires ∷ Sentence.Clock ∷ Sentence.Counted ∷ []
+sentences_of Bullet.Answers =
+    Sentence.Seats ∷ Sentence.Suits ∷ Sentence.Allowed ∷ Sentence.Full ∷ Sentence.Retires ∷ Sentence.Clock ∷ Sentence.Counted ∷ Sentence.Bare ∷ []
 sentences_of Bullet.Versions = Sentence.Buckets ∷ Sentence.Version ∷ Sentence.Once ∷ Sentence.Pairs ∷ Sentence.Reads ∷ []
-sentences_of Bullet.Rises = Sentence.NeverFall ∷ Sentence.ChangesRise ∷ []
+sentences_of Bullet.Rises = Sentence.NeverFall ∷ Sentence.ChangesRise ∷ Sentence.AfterLooks ∷ []
+sentences_of Bullet.Keeps = Sentence.KeptRight ∷ Sentence.Same ∷ []
 sentences_of Bullet.Queue =
     Sentence.MostTaken ∷ Sentence.OnceQueued ∷ Sentence.OnceTaken ∷ Sentence.Right
     ∷ Sentence.QueuedRise ∷ Sentence.TakenRise ∷ Sentence.Left ∷ Sentence.Empty ∷ []
@@ -342,11 +420,13 @@ sentences_of Bullet.Eras = Sentence.Most ∷ Sentence.OnceMoved ∷ Sentence.Lat
 abbrev pub takes : Run → Bullet → Bool
 takes run bullet = list_all (reads run) (sentences_of bullet)
 
--- the law of the bullet holds of the run, whatever the changes of the buckets, the values queued and their number may be
+-- the law of the bullet holds of the run, whatever the changes of the buckets, the values queued and their number may be; what is said of rows that
+-- are kept, by the changes that calls tell
 abbrev pub Holds : Run → Bullet → Type 0
 Holds run Bullet.Answers = law.AnswersLaw run.config run.logs
 Holds run Bullet.Versions = (made : ℕ → List Change) × law.VersionsLaw run.config run.logs run.closed made
 Holds run Bullet.Rises = law.RisesLaw run.config run.logs
+Holds run Bullet.Keeps = law.KeepsLaw run.config run.logs (made_in run.config.buckets run.logs)
 Holds run Bullet.Queue = (queued : List ℕ) × (taken : ℕ) × law.QueueLaw run.config run.logs run.closed queued taken
 Holds run Bullet.Rows = law.RowsLaw run.config run.logs run.closed
 Holds run Bullet.Lists = law.ListsLaw run.logs

@@ -39,10 +39,11 @@ abbrev pub code : Bullet → ℕ
 code Bullet.Answers = 0
 code Bullet.Versions = 1
 code Bullet.Rises = 2
-code Bullet.Queue = 3
-code Bullet.Rows = 4
-code Bullet.Lists = 5
-code Bullet.Eras = 6
+code Bullet.Keeps = 3
+code Bullet.Queue = 4
+code Bullet.Rows = 5
+code Bullet.Lists = 6
+code Bullet.Eras = 7
 
 abbrev pub judged_by : Wrong → Bullet → Bool
 judged_by it other = if code other == code it.bullet then not (takes it.run other) else takes it.run other

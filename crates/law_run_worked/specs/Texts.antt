@@ -5,7 +5,8 @@ use Rattle.wfe_core.specs.defs.declared.call.Call.{Call}
 use Rattle.wfe_core.specs.defs.declared.call.Call.TheVariants as calls
 use Rattle.wfe_core.specs.defs.declared.event.Event.{Event}
 use Rattle.wfe_core.specs.defs.declared.event.Event.TheVariants as events
-use Rattle.laws.specs.AnswerLaw.{owes, same_event}
+use Rattle.laws.specs.AnswerLaw.{same_event}
+use Rattle.law_logs.specs.RunLaw.{change_told}
 
 abbrev pub same_call : Call → Call → Bool
 same_call (calls.Get key) (calls.Get other) = key == other
@@ -17,6 +18,10 @@ same_call (calls.Hold key) (calls.Hold other) = key == other
 same_call calls.Release calls.Release = true
 same_call calls.Advance calls.Advance = true
 same_call calls.Scan calls.Scan = true
+same_call (calls.Copy from index) (calls.Copy lower higher) = from == lower && index == higher
+same_call (calls.DropIndex index) (calls.DropIndex other) = index == other
+same_call (calls.Look index key) (calls.Look other sought) = index == other && key == sought
+same_call (calls.PutIf key value version) (calls.PutIf other worth wanted) = key == other && (value == worth && version == wanted)
 same_call call other = false
 
 abbrev pub same_told : Option Event → Option Event → Bool
@@ -57,7 +62,7 @@ is_slot slot (Some other) = slot == other
 
 abbrev pub ended_ok : (buckets : ℕ) → Option Call → Answer → Option Event → Bool
 ended_ok n None answer told = false
-ended_ok n (Some call) answer told = same_told (owes n call answer) told
+ended_ok n (Some call) answer told = same_told (change_told n call answer) told
 
 -- after one line more
 abbrev pub next : (buckets : ℕ) → Stand → Event → Stand

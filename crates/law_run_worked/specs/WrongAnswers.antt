@@ -1,13 +1,15 @@
 -- Runs that the law of answers alone refuses.
 use Rattle.std.specs.Prelude.{List, None, Some, [], false, true, ◌∷◌}
+use Rattle.wfe_core.specs.Desks.{no_notes}
 use Rattle.wfe_core.specs.defs.declared.call.Answer.TheVariants as answers
 use Rattle.wfe_core.specs.defs.declared.call.Call.TheVariants as calls
 use Rattle.wfe_core.specs.defs.declared.call.ClockMove.TheVariants as moves
 use Rattle.law_logs.specs.RunLaw.{no_bucket}
 use Rattle.law_run_worked.specs.Crowded.{crowded}
+use Rattle.law_run_worked.specs.Kept.{kept}
 use Rattle.law_run_worked.specs.Readers.{Bullet, Sentence}
 use Rattle.law_run_worked.specs.Refusals.{AreRefused, Wrong, wrong}
-use Rattle.law_run_worked.specs.Runs.{Run, answering, group, life, noting, notes, setting, setting_as, with_seat, without_call}
+use Rattle.law_run_worked.specs.Runs.{Run, answering, group, life, noting, notes, setting, setting_as, then_call, with_seat, without_call}
 use Rattle.law_run_worked.specs.Shared.{shared}
 use Rattle.law_run_worked.specs.Spent.{spent}
 
@@ -26,10 +28,29 @@ abbrev pub wrong_answers : List Wrong
 wrong_answers =
     -- a seat more than the table has
     wrong shared (with_seat ∷ []) Bullet.Answers (Sentence.Seats ∷ [])
+    -- a copy is given a row, which it gives up, and rows go back in a look and in a drop
+    ∷ wrong kept (noting 1 2 (λ n. record n { given = Some (3, 2); unused = true }) ∷ []) Bullet.Answers (Sentence.Bare ∷ [])
+    ∷ wrong kept
+    (then_call 0 (group (calls.Look 2 0) answers.Nothing (notes 1 None false None (0 ∷ []) 0))
+    ∷ noting 0 5 (λ n. record n { back = 1 ∷ [] })
+    ∷ answering 0 5 (answers.Scanned 1 1) ∷ [])
+    Bullet.Answers (Sentence.Bare ∷ [])
+    ∷ wrong kept
+    (then_call 0 (group (calls.DropIndex 2) answers.Dropped (notes 1 None false None (0 ∷ []) 0))
+    ∷ noting 0 5 (λ n. record n { back = 1 ∷ [] })
+    ∷ answering 0 5 (answers.Scanned 1 1) ∷ [])
+    Bullet.Answers (Sentence.Bare ∷ [])
     -- a get answers as a release
     ∷ wrong shared (answering 0 6 answers.Released ∷ []) Bullet.Answers (Sentence.Suits ∷ [])
     -- a release answers as a hold
     ∷ wrong crowded (answering 0 2 answers.Nothing ∷ []) Bullet.Answers (Sentence.Suits ∷ [])
+    -- a copy answers as a hold, a look as a get, a drop as a release, and a put at a version that its key is absent
+    ∷ wrong kept (then_call 1 (group (calls.Copy 2 3) (answers.Holding 2) no_notes) ∷ []) Bullet.Answers (Sentence.Suits ∷ [])
+    ∷ wrong kept (then_call 1 (group (calls.Look 2 0) (answers.Got 3 (Some 11)) no_notes) ∷ []) Bullet.Answers (Sentence.Suits ∷ [])
+    ∷ wrong kept (answering 1 16 answers.Released ∷ []) Bullet.Answers (Sentence.Suits ∷ [])
+    ∷ wrong kept (answering 0 4 (answers.Absent 3) ∷ []) Bullet.Answers (Sentence.Suits ∷ [])
+    -- and a put that names no version is stale
+    ∷ wrong kept (then_call 1 (group (calls.Put 0 99) (answers.Stale 3) no_notes) ∷ []) Bullet.Answers (Sentence.Suits ∷ [])
     -- done above the last version
     ∷ wrong shared (setting_as (λ c. record c { last_version = 4 }) ∷ []) Bullet.Answers (Sentence.Allowed ∷ [])
     -- queued above the last number

@@ -4,9 +4,10 @@ use Rattle.wfe_core.specs.Desks.{no_notes}
 use Rattle.wfe_core.specs.defs.declared.call.Answer.TheVariants as answers
 use Rattle.wfe_core.specs.defs.declared.call.Call.TheVariants as calls
 use Rattle.law_run_worked.specs.Crowded.{crowded}
+use Rattle.law_run_worked.specs.Kept.{kept}
 use Rattle.law_run_worked.specs.Readers.{Bullet, Sentence}
 use Rattle.law_run_worked.specs.Refusals.{AreRefused, Wrong, wrong}
-use Rattle.law_run_worked.specs.Runs.{answering, group, in_call, then_call}
+use Rattle.law_run_worked.specs.Runs.{answering, before_call, group, in_call, then_call}
 use Rattle.law_run_worked.specs.Shared.{shared}
 
 abbrev pub wrong_rises : List Wrong
@@ -21,7 +22,23 @@ wrong_rises =
     ∷ in_call 0 6 (λ g. record g { call = calls.Get 1 }) ∷ [])
     Bullet.Rises (Sentence.NeverFall ∷ [])
     -- a change has a version that its seat told before
-    ∷ wrong shared (answering 0 6 (answers.Got 5 None) ∷ []) Bullet.Rises (Sentence.ChangesRise ∷ []) ∷ []
+    ∷ wrong shared (answering 0 6 (answers.Got 5 None) ∷ []) Bullet.Rises (Sentence.ChangesRise ∷ [])
+    -- a put at a version is done at one that its seat told before, and at one below that
+    ∷ wrong kept (before_call 0 1 (group (calls.Get 0) (answers.Got 2 (Some 11)) no_notes) ∷ []) Bullet.Rises (Sentence.ChangesRise ∷ [])
+    ∷ wrong kept
+    (before_call 0 1 (group (calls.PutIf 0 99 1) (answers.Stale 3) no_notes) ∷ [])
+    Bullet.Rises (Sentence.NeverFall ∷ Sentence.ChangesRise ∷ [])
+    -- a put is done at a version that a look of its seat told before, and at one below that
+    ∷ wrong kept
+    (before_call 0 1 (group (calls.Look 2 0) (answers.Looked 7 2 (Some 11)) no_notes)
+    ∷ before_call 0 1 (group (calls.Hold 0) (answers.Holding 7) no_notes) ∷ [])
+    Bullet.Rises (Sentence.AfterLooks ∷ [])
+    ∷ wrong kept
+    (before_call 0 1 (group (calls.Look 2 0) (answers.Looked 7 3 (Some 11)) no_notes)
+    ∷ before_call 0 1 (group (calls.Hold 0) (answers.Holding 7) no_notes) ∷ [])
+    Bullet.Rises (Sentence.AfterLooks ∷ [])
+    -- a put at a version is stale at an earlier one than its seat told before
+    ∷ wrong kept (answering 1 4 (answers.Stale 0) ∷ []) Bullet.Rises (Sentence.NeverFall ∷ []) ∷ []
 
 abbrev pub WrongRisesRefused : Type 0
 WrongRisesRefused = AreRefused wrong_rises

@@ -1,28 +1,37 @@
 -- Lines that are of no run, whatever the table is that was left: a line is missing, told twice, or stands in another place, or the calls are not
 -- those of the scripts.
 use Rattle.std.specs.List.{AllByRecursion}
-use Rattle.std.specs.Prelude.{List, None, [], drop, take, ℕ, ◌++◌, ◌∷◌}
+use Rattle.std.specs.Prelude.{List, None, Some, [], drop, take, ℕ, ◌++◌, ◌∷◌}
 use Rattle.wfe_core.specs.defs.declared.call.Answer.TheVariants as answers
 use Rattle.wfe_core.specs.defs.declared.call.Call.{Call}
 use Rattle.wfe_core.specs.defs.declared.call.Call.TheVariants as calls
 use Rattle.wfe_core.specs.defs.declared.call.ClockMove.TheVariants as moves
 use Rattle.wfe_core.specs.defs.declared.event.Event.{Event}
 use Rattle.wfe_core.specs.defs.declared.event.Event.TheVariants as events
+use Rattle.wfe_core.specs.words.declared.config.Config.{Config}
 use Rattle.law_logs.specs.RunLaw.{AtClose, IsRun}
+use Rattle.law_run_worked.specs.Kept.{kept_lines_0, kept_lines_1, kept_scripts, kept_setting}
 use Rattle.law_run_worked.specs.Runs.{at_place}
 use Rattle.law_run_worked.specs.Shared.{shared_lines_0, shared_lines_1, shared_scripts, shared_setting}
 
--- the scripts of the seats, and what each seat printed
+-- a setting, the scripts of the seats, and what each seat printed
 pub record Text : Type 0 where
+  pub config : Config
   pub scripts : List (List Call)
   pub seats : List (List Event)
 
 abbrev shared_text : Text
-shared_text = record { scripts = shared_scripts; seats = shared_lines_0 ∷ shared_lines_1 ∷ [] }
+shared_text = record { config = shared_setting; scripts = shared_scripts; seats = shared_lines_0 ∷ shared_lines_1 ∷ [] }
+
+abbrev kept_text : Text
+kept_text = record { config = kept_setting; scripts = kept_scripts; seats = kept_lines_0 ∷ kept_lines_1 ∷ [] }
 
 -- in the place of a seat's line these are printed; lines count from 0
+abbrev line_in : Text → (seat place : ℕ) → List Event → Text
+line_in text seat place lines = record text { seats = at_place seat (λ told. at_place place (λ line. lines) told ∷ []) text.seats }
+
 abbrev line_as : (seat place : ℕ) → List Event → Text
-line_as seat place lines = record shared_text { seats = at_place seat (λ told. at_place place (λ line. lines) told ∷ []) shared_text.seats }
+line_as seat place lines = line_in shared_text seat place lines
 
 -- the lines are the same, and the scripts are others
 abbrev scripts_as : List (List Call) → Text
@@ -70,10 +79,21 @@ wrong_texts =
     ∷ script_as 1 (λ script. calls.Put 1 54 ∷ calls.Put 2 71 ∷ drop 2 script)
     -- a seat has no script, and a script no seat
     ∷ scripts_as (take 1 shared_scripts)
-    ∷ scripts_as (shared_scripts ++ [] ∷ []) ∷ []
+    ∷ scripts_as (shared_scripts ++ [] ∷ [])
+    -- a copy tells what was copied before it ends, and a look what it read
+    ∷ line_in kept_text 1 6 (events.Copied 2 3 0 ∷ events.End 2 (answers.Copied 0) ∷ [])
+    ∷ line_in kept_text 1 8 (events.Got 0 1 0 (Some 10) ∷ events.End 4 (answers.Looked 0 1 (Some 10)) ∷ [])
+    -- a put at a version does not tell its change, or tells one and is stale
+    ∷ line_in kept_text 0 6 []
+    ∷ line_in kept_text 1 10 (events.Put 0 2 0 77 ∷ events.End 9 (answers.Stale 2) ∷ [])
+    -- a put at another version, a copy to another index, a look for another key, and a drop of another index than the script's
+    ∷ line_in kept_text 0 4 (events.Begin (calls.PutIf 0 11 0) ∷ [])
+    ∷ line_in kept_text 1 5 (events.Begin (calls.Copy 2 4) ∷ [])
+    ∷ line_in kept_text 1 7 (events.Begin (calls.Look 3 2) ∷ [])
+    ∷ line_in kept_text 1 21 (events.Begin (calls.DropIndex 4) ∷ []) ∷ []
 
 abbrev pub IsNoRun : Text → Type 0
-IsNoRun text = (closed : AtClose) → IsRun shared_setting text.scripts text.seats closed → ⊥
+IsNoRun text = (closed : AtClose) → IsRun text.config text.scripts text.seats closed → ⊥
 
 abbrev pub WrongTextsRefused : Type 0
 WrongTextsRefused = AllByRecursion IsNoRun wrong_texts

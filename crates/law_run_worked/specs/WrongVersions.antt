@@ -8,6 +8,7 @@ use Rattle.wfe_core.specs.defs.declared.call.Call.TheVariants as calls
 use Rattle.wfe_core.specs.defs.declared.call.ClockMove.TheVariants as moves
 use Rattle.law_logs.specs.RunLaw.{no_bucket}
 use Rattle.law_run_worked.specs.Crowded.{crowded}
+use Rattle.law_run_worked.specs.Kept.{kept}
 use Rattle.law_run_worked.specs.Readers.{Bullet, Sentence}
 use Rattle.law_run_worked.specs.Refusals.{AreRefused, Wrong, wrong}
 use Rattle.law_run_worked.specs.Runs.{answering, before_call, bucket_as, closing, group, in_call, life, noting, setting_as, then_call, without_call}
@@ -66,7 +67,27 @@ wrong_versions =
     -- a remove is refused as spent where its key is absent
     ∷ wrong spent (in_call 0 1 (λ g. record g { call = calls.Remove 2 }) ∷ []) Bullet.Versions (Sentence.Reads ∷ [])
     -- a remove is refused as spent where its bucket was changed less often
-    ∷ wrong shared (in_call 1 6 (λ g. record g { call = calls.Remove 2; answer = answers.Spent 9 }) ∷ []) Bullet.Versions (Sentence.Reads ∷ []) ∷ []
+    ∷ wrong shared (in_call 1 6 (λ g. record g { call = calls.Remove 2; answer = answers.Spent 9 }) ∷ []) Bullet.Versions (Sentence.Reads ∷ [])
+    -- a put at a version is done, and its version is not the next one
+    ∷ wrong kept (in_call 0 1 (λ g. record g { call = calls.PutIf 0 11 0 }) ∷ []) Bullet.Versions (Sentence.Reads ∷ [])
+    ∷ wrong kept (in_call 0 1 (λ g. record g { call = calls.PutIf 0 11 2 }) ∷ []) Bullet.Versions (Sentence.Reads ∷ [])
+    -- a put at a version has the version of another change
+    ∷ wrong kept (before_call 1 0 (group (calls.PutIf 0 10 0) (answers.Done 1 moves.Still) no_notes) ∷ []) Bullet.Versions (Sentence.Once ∷ [])
+    -- a put at a version of a new key is done where a row has no room
+    ∷ wrong kept (setting_as (λ c. record c { pairs = 1 }) ∷ []) Bullet.Versions (Sentence.Reads ∷ [])
+    -- a put at a version is stale at that version
+    ∷ wrong kept (in_call 1 4 (λ g. record g { call = calls.PutIf 0 77 2 }) ∷ []) Bullet.Versions (Sentence.Reads ∷ [])
+    -- a put at a version is stale at one that its bucket never had
+    ∷ wrong kept (then_call 1 (group (calls.PutIf 0 77 1) (answers.Stale 4) no_notes) ∷ []) Bullet.Versions (Sentence.Reads ∷ [])
+    -- a put at a version finds its bucket full at another version
+    ∷ wrong crowded (in_call 1 3 (λ g. record g { call = calls.PutIf 2 84 5 }) ∷ []) Bullet.Versions (Sentence.Reads ∷ [])
+    -- a put at a version finds its bucket full where its key is, and where there was room
+    ∷ wrong crowded (in_call 1 3 (λ g. record g { call = calls.PutIf 0 84 6 }) ∷ []) Bullet.Versions (Sentence.Reads ∷ [])
+    ∷ wrong crowded (in_call 1 3 (λ g. record g { call = calls.PutIf 2 84 5; answer = answers.BucketFull 5 }) ∷ []) Bullet.Versions (Sentence.Reads ∷ [])
+    -- a put at a version is refused as spent at another version
+    ∷ wrong kept (in_call 0 4 (λ g. record g { call = calls.PutIf 0 13 2 }) ∷ []) Bullet.Versions (Sentence.Reads ∷ [])
+    -- a put at a version is refused as spent where its bucket was changed less often
+    ∷ wrong kept (in_call 0 4 (λ g. record g { call = calls.PutIf 1 13 3 }) ∷ []) Bullet.Versions (Sentence.Reads ∷ []) ∷ []
 
 abbrev pub WrongVersionsRefused : Type 0
 WrongVersionsRefused = AreRefused wrong_versions

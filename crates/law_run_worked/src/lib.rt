@@ -3,6 +3,7 @@
 #![tactic(auto)]
 
 ghost use Rattle.law_run_worked.specs.Crowded.{CrowdedWorked};
+ghost use Rattle.law_run_worked.specs.Kept.{KeptWorked};
 ghost use Rattle.law_run_worked.specs.Loose.{LooseTaken};
 ghost use Rattle.law_run_worked.specs.Readers.{ReadersJudge};
 ghost use Rattle.law_run_worked.specs.Shared.{SharedWorked};
@@ -10,6 +11,7 @@ ghost use Rattle.law_run_worked.specs.Spent.{SpentWorked};
 ghost use Rattle.law_run_worked.specs.WrongAnswers.{WrongAnswersRefused};
 ghost use Rattle.law_run_worked.specs.WrongEras.{WrongErasRefused};
 ghost use Rattle.law_run_worked.specs.WrongLists.{WrongListsRefused};
+ghost use Rattle.law_run_worked.specs.WrongLooks.{WrongLooksRefused};
 ghost use Rattle.law_run_worked.specs.WrongQueues.{WrongQueuesRefused};
 ghost use Rattle.law_run_worked.specs.WrongRises.{WrongRisesRefused};
 ghost use Rattle.law_run_worked.specs.WrongRows.{WrongRowsRefused};
@@ -37,6 +39,11 @@ pub fn a_crowded_table_is_worked()
     ensures { CrowdedWorked }
 {}
 
+/// A seat keeps two versions of a bucket, copies and looks at them, and another puts at versions.
+pub fn kept_rows_are_worked()
+    ensures { KeptWorked }
+{}
+
 /// Runs that are wrong by a sentence on answers: that bullet alone refuses each of them.
 pub fn wrong_answers_are_refused()
     ensures { WrongAnswersRefused }
@@ -50,6 +57,11 @@ pub fn wrong_versions_are_refused()
 /// The same of versions that a seat tells one after another.
 pub fn wrong_rises_are_refused()
     ensures { WrongRisesRefused }
+{}
+
+/// The same of sentences on copies and looks.
+pub fn wrong_looks_are_refused()
+    ensures { WrongLooksRefused }
 {}
 
 /// The same of sentences on the queue.

@@ -1,8 +1,9 @@
-pub use Rattle.law_turns.proofs.inv as inv
-pub use Rattle.law_turns.proofs.answers as answers
+pub use Rattle.law_held.proofs.turns.inv as inv
+pub use Rattle.law_held.proofs.turns.answers as answers
 pub use Rattle.law_scans.proofs.eras as eras
 pub use Rattle.law_scans.proofs as scans
-pub use Rattle.law_turns.proofs as turns
+pub use Rattle.law_held.proofs.turns as turns
+pub use Rattle.law_held.proofs as held
 pub mod Asking
 pub mod CallCounts
 pub mod Raises

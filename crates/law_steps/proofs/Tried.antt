@@ -1,6 +1,7 @@
 -- How many tries a protection has made, and that their eras rise.
-use Rattle.std.proofs.Common.{ℕ, ◌≡◌, Bool, true, false, Option, Some, None, refl, ap, ◌∙◌, subst}
-use Rattle.std.specs.Prelude.{◌==◌, ◌&&◌, ◌||◌, is_some, if◌then◌else◌}
+use Rattle.std.proofs.Common.{ℕ, ◌≡◌, ◌<◌, arith, Bool, true, false, Option, Some, None, refl, ap, ◌∙◌, subst}
+use Rattle.std.proofs.lemmas.Bool.Decides.{nat_tests}
+use Rattle.std.specs.Prelude.{◌==◌, ◌&&◌, ◌||◌, is_some, nat_lt, if◌then◌else◌}
 use Rattle.wfe_core.specs.words.Schemes.{is_he, is_wfe}
 use Rattle.wfe_core.specs.words.declared.config.Config.{Config}
 use Rattle.wfe_core.specs.words.declared.config.SchemeKind.{SchemeKind}
@@ -11,13 +12,15 @@ use Rattle.wfe_core.specs.defs.declared.event.Event.TheVariants as events
 use Rattle.wfe_core.specs.defs.declared.event.Guard.TheVariants.{Helper, Index, Whole}
 use Rattle.wfe_core.specs.defs.declared.lifetime.Interval.{Interval}
 use Rattle.wfe_core.proofs.Facts.{both, first_of, number_is, rest_of}
-use Rattle.law_turns.proofs.inv.history.Entries.{each_before, each_of_entries}
-use Rattle.law_turns.specs.inv.history.History.{record_of}
-use Rattle.law_turns.specs.inv.history.Record.{Past, Each}
-use Rattle.law_turns.specs.inv.history.Record.Past.{Start, Then}
+use Rattle.law_held.proofs.turns.inv.history.Entries.{each_before, each_of_entries}
+use Rattle.law_held.specs.turns.inv.history.History.{record_of}
+use Rattle.law_held.specs.turns.inv.history.Record.{Past, Each}
+use Rattle.law_held.specs.turns.inv.history.Record.Past.{Start, Then}
 use Rattle.law_scans.proofs.eras.EraLaw.Guards.{records_name_guards}
-use Rattle.law_turns.proofs.TryEntries.{entries_tried}
-use Rattle.laws.specs.StateAt.{is_index_word, reserves_of, value_of}
+use Rattle.law_held.proofs.turns.TryEntries.{entries_tried}
+use Rattle.laws.specs.StateAt.{began_of, is_index_word, reserves_of, value_of}
+use Rattle.laws.specs.HistoryHolds.{indexes_ok}
+use Rattle.law_held.proofs.Indexes.Indexing.{protects_below, records_use_indexes}
 use Rattle.laws.specs.HistorySteps.{era_rises}
 use Rattle.laws.specs.StateAt.{era_grows}
 use Rattle.laws.specs.StepLaw.{event_tried}
@@ -41,7 +44,7 @@ one_rises : (c : Config) (p : Past) (i : ℕ) (event : Event) (wfe : Bool) → i
 one_rises c p i (events.Reserve (Index seat index) span) true w g h = rw w h
 one_rises c p i (events.Reserve (Index seat index) span) false w g h =
     let e : value_of (Helper i) p ≡ None = no_helper c i p w g in
-    let q : era_grows (value_of (Index seat index) p) span ≡ true = subst (λ (x : Option Interval). (is_some x || era_grows (value_of (Index seat index) p) span) ≡ true) e h in
+    let q : (nat_lt 2 index || false || era_grows (value_of (Index seat index) p) span) ≡ true = subst (λ (x : Option Interval). (nat_lt 2 index || is_some x || era_grows (value_of (Index seat index) p) span) ≡ true) e h in
     rw w q
 one_rises c p i (events.Reserve (Helper seat) span) wfe w g h = refl
 one_rises c p i (events.Reserve (Whole seat) span) wfe w g h = refl
@@ -55,36 +58,41 @@ records_raise_tries layout items d before i event later cut =
     let g : Each (guards_ok c) (Then before i event) = each_before (guards_ok c) (Then before i event) later (subst (λ (r : Past). Each (guards_ok c) r) cut all) in
     one_rises c before i event (is_wfe c.scheme) refl g.1 (records_raise_eras layout items d before i event later cut)
 
--- under Hazard Eras all rise
-grown : (scheme : SchemeKind) (x y : Bool) → is_he scheme ≡ true → ((is_wfe scheme && x) || y) ≡ true → y ≡ true
-grown He x y e h = h
-grown Ibr x y e h = absurd (cc)
-grown Wfe x y e h = absurd (cc)
+-- under Hazard Eras all rise of an index that protects
+grown : (scheme : SchemeKind) (high x y : Bool) → is_he scheme ≡ true → high ≡ false → (high || (is_wfe scheme && x) || y) ≡ true → y ≡ true
+grown He true x y e n h = absurd (cc)
+grown He false x y e n h = h
+grown Ibr high x y e n h = absurd (cc)
+grown Wfe high x y e n h = absurd (cc)
 
 told_rises : (last span : Option Interval) (before : Bool) → era_grows last span ≡ true → before ≡ true → rises_on last span before ≡ true
 told_rises last None before h b = refl
 told_rises last (Some span) before h b = both (era_grows last (Some span)) before h b
 
-word_rises : (i j seat index : ℕ) (p : Past) (span : Option Interval) (before same : Bool) → is_index_word i j (Index seat index) ≡ same → era_grows (value_of (Index seat index) p) span ≡ true → before ≡ true → (if same then rises_on (value_of (Index i j) p) span before else before) ≡ true
-word_rises i j seat index p span before true e h b =
+word_rises : (i j seat index : ℕ) (p : Past) (span : Option Interval) (before same : Bool) → is_index_word i j (Index seat index) ≡ same → nat_lt 2 j ≡ false → (nat_lt 2 index ≡ false → era_grows (value_of (Index seat index) p) span ≡ true) → before ≡ true → (if same then rises_on (value_of (Index i j) p) span before else before) ≡ true
+word_rises i j seat index p span before true e n h b =
     let q : seat ≡ i = number_is seat i (first_of (seat == i) (index == j) e) in
     let r : index ≡ j = number_is index j (rest_of (seat == i) (index == j) e) in
     let v : value_of (Index seat index) p ≡ value_of (Index i j) p = ap (λ (k : ℕ). value_of (Index k index) p) q ∙ ap (λ (m : ℕ). value_of (Index i m) p) r in
-    told_rises (value_of (Index i j) p) span before (subst (λ (x : Option Interval). era_grows x span ≡ true) v h) b
-word_rises i j seat index p span before false e h b = b
+    told_rises (value_of (Index i j) p) span before (subst (λ (x : Option Interval). era_grows x span ≡ true) v (h (ap (nat_lt 2) r ∙ n))) b
+word_rises i j seat index p span before false e n h b = b
 
-all_rise : (scheme : SchemeKind) (i j : ℕ) (p : Past) → is_he scheme ≡ true → Each (try_rises scheme) p → rising_of i j p ≡ true
-all_rise scheme i j Start e g = refl
-all_rise scheme i j (Then p k (events.Reserve (Index seat index) span)) e g =
-    word_rises i j seat index p span (rising_of i j p) (is_index_word i j (Index seat index)) refl (grown scheme (is_some (value_of (Helper k) p)) (era_grows (value_of (Index seat index) p) span) e g.0) (all_rise scheme i j p e g.1)
-all_rise scheme i j (Then p k (events.Reserve (Helper seat) span)) e g = all_rise scheme i j p e g.1
-all_rise scheme i j (Then p k (events.Reserve (Whole seat) span)) e g = all_rise scheme i j p e g.1
-all_rise scheme i j (Then p k event) e g = all_rise scheme i j p e g.1
+all_rise : (scheme : SchemeKind) (i j : ℕ) (p : Past) → is_he scheme ≡ true → nat_lt 2 j ≡ false → Each (try_rises scheme) p → rising_of i j p ≡ true
+all_rise scheme i j Start e n g = refl
+all_rise scheme i j (Then p k (events.Reserve (Index seat index) span)) e n g =
+    word_rises i j seat index p span (rising_of i j p) (is_index_word i j (Index seat index)) refl n (λ low. grown scheme (nat_lt 2 index) (is_some (value_of (Helper k) p)) (era_grows (value_of (Index seat index) p) span) e low g.0) (all_rise scheme i j p e n g.1)
+all_rise scheme i j (Then p k (events.Reserve (Helper seat) span)) e n g = all_rise scheme i j p e n g.1
+all_rise scheme i j (Then p k (events.Reserve (Whole seat) span)) e n g = all_rise scheme i j p e n g.1
+all_rise scheme i j (Then p k event) e n g = all_rise scheme i j p e n g.1
 
-found_rises : (scheme : SchemeKind) (p : Past) (i : ℕ) (event : Event) → is_he scheme ≡ true → Each (try_rises scheme) p → found_rising p i event ≡ true
-found_rises scheme p i (events.Held index slot steps) e g = all_rise scheme i index p e g
-found_rises scheme p i (events.Null index steps) e g = all_rise scheme i index p e g
-found_rises scheme p i event e g = refl
+-- a protection is at an index of its call, and those are below 3
+low_index : (index : ℕ) → index < 3 → nat_lt 2 index ≡ false
+low_index index h = grind (arith, nat_tests)
+
+found_rises : (scheme : SchemeKind) (p : Past) (i : ℕ) (event : Event) → is_he scheme ≡ true → indexes_ok p i event ≡ true → Each (try_rises scheme) p → found_rising p i event ≡ true
+found_rises scheme p i (events.Held index slot steps) e n g = all_rise scheme i index p e (low_index index (protects_below (began_of i p) index n)) g
+found_rises scheme p i (events.Null index steps) e n g = all_rise scheme i index p e (low_index index (protects_below (began_of i p) index n)) g
+found_rises scheme p i event e n g = refl
 
 pub records_count_tries : RecordsCountTries
 records_count_tries layout items d e before i event later cut =
@@ -92,4 +100,4 @@ records_count_tries layout items d e before i event later cut =
     let one : Entry = record { seat = i; event = event } in
     let all : Each (try_rises scheme) (record_of layout items) = each_of_entries (try_rises scheme) (record_of layout items) (records_raise_tries layout items d) in
     let g : Each (try_rises scheme) (Then before i event) = each_before (try_rises scheme) (Then before i event) later (subst (λ (r : Past). Each (try_rises scheme) r) cut all) in
-    both (event_tried (λ j. reserves_of i j before) event) (found_rising before i event) (entries_tried layout items d e before i event later cut) (found_rises scheme before i event e g.1)
+    both (event_tried (λ j. reserves_of i j before) event) (found_rising before i event) (entries_tried layout items d e before i event later cut) (found_rises scheme before i event e (records_use_indexes layout items d before i event later cut) g.1)

@@ -3,7 +3,7 @@ use Rattle.std.specs.Prelude.{List, true, ◌≡◌}
 use Rattle.wfe_core.specs.words.Place.{is_valid}
 use Rattle.wfe_core.specs.words.Schemes.{is_wfe, is_he, is_ibr}
 use Rattle.wfe_core.specs.words.declared.layout.Layout.{Layout}
-use Rattle.law_turns.specs.inv.history.History.{Item, record_of}
+use Rattle.law_held.specs.turns.inv.history.History.{Item, record_of}
 use Rattle.laws.specs.HistorySteps.{AskLaw}
 use Rattle.laws.specs.HistoryEras.{SpansRise}
 use Rattle.laws.specs.HistorySteps.{ErasRise, HelperLaw, ShowLaw, TakeLaw, RaiseLaw, EndLaw}

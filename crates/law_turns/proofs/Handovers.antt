@@ -1,28 +1,28 @@
 -- A hand-over is to a seat that waits in its slow path, and so publishes.
-use Rattle.std.proofs.Common.{ℕ, ◌≡◌, ◌<◌, ◌+◌, Bool, true, false, List, [], ◌∷◌, ◌++◌, refl, arith, subst}
+use Rattle.std.proofs.Common.{ℕ, ◌≡◌, ◌<◌, ◌+◌, Bool, true, false, List, [], ◌∷◌, ◌++◌, Option, Some, None, refl, arith, subst}
 use Rattle.std.proofs.lemmas.Bool.Decides.{nat_tests}
 use Rattle.std.specs.Prelude.{◌==◌, ◌&&◌, ◌||◌, nat_le, if◌then◌else◌, nat_lt}
 use Rattle.wfe_core.specs.words.Packed.{reservation_word}
 use Rattle.wfe_core.specs.words.declared.layout.Layout.{Layout}
 use Rattle.wfe_core.specs.defs.declared.event.Event.{Event}
 use Rattle.wfe_core.specs.declared.post.Post.{Post}
-use Rattle.wfe_core.specs.Posts.{stands, counted}
-use Rattle.wfe_core.specs.Rounds.{scheme_of, clear_told}
+use Rattle.wfe_core.specs.Posts.{cleared, reserves_index, stands, counted}
+use Rattle.wfe_core.specs.Rounds.{scheme_of, clear_told, let_index}
 use Rattle.wfe_core.specs.World.{World, finds, told_in}
 use Rattle.wfe_core.specs.Phases.{ProtectAt, Base}
 use Rattle.wfe_core.specs.Phases.ProtectAt.{LoadOwnClock, PublishHelper, LoadOwnLink, CheckOwnClock, AnswerOwn, LoadAnswer, TakeAnswer}
 use Rattle.wfe_core.specs.Phases.MoveAt.{HandOver}
 use Rattle.wfe_core.specs.Phases.Base.{Protect, Move}
-use Rattle.wfe_core.specs.Calls.{Why, ReadGuard, GiveBack, Phase, Idle, Runs, Scans, Works}
-use Rattle.wfe_core.specs.words.Schemes.{is_ibr}
-use Rattle.law_answers.proofs.inv.history.Passes.{Closed, First, step_goes, scan_told}
+use Rattle.wfe_core.specs.Calls.{Why, ReadGuard, GiveBack, KeepAt, Loosens, LoadHeld, StoreHeld, Looks, Misses, Work, Keeping, Phase, Idle, Runs, Scans, Works}
+use Rattle.wfe_core.specs.words.Schemes.{has_one_interval, is_ibr}
+use Rattle.law_answers.proofs.inv.history.Passes.{Closed, First, copied_told, keep_told, work_told, step_goes, scan_told}
 use Rattle.law_answers.specs.inv.history.History.{Made}
 use Rattle.law_answers.specs.inv.history.Turns.{EachTurn}
 use Rattle.law_answers.proofs.OneStep.Along.{Kept, history_keeps}
 use Rattle.law_turns.proofs.Counting.Counting.{Keeps, published, since_of, begin_kept, step_kept, first_kept}
 use Rattle.law_turns.proofs.Counting.Fits.{Fits, own, base_own, paced, taken}
 use Rattle.law_answers.proofs.inv.history.MayTell.{Tells, may_store, base_index, hands, same_span, base_shows, base_all}
-use Rattle.law_turns.proofs.Counting.Told.{is_dull, all_dull, quiet_dull, clear_dull}
+use Rattle.law_turns.proofs.Counting.Told.{is_dull, all_dull, quiet_dull, clear_dull, cleared_dull}
 use Rattle.wfe_core.specs.defs.declared.event.Guard.TheVariants.{Helper, Index, Whole}
 use Rattle.wfe_core.specs.Links.{link_number}
 use Rattle.law_answers.specs.inv.Inv.{Inv}
@@ -126,6 +126,27 @@ base_meets layout made h i why (Move (HandOver era seat tag index root link old)
     slow_published s.at s.steps (published h seat index) (since_of h seat index) s.slow (first_of (paced s.at s.steps (published h seat index) (since_of h seat index)) (nat_le s.steps (w.seat seat).post.steps && taken index s.at (stands (w.seat seat).post 2)) o)
 base_meets layout made h i why base a b e g = tt
 
+-- a copy stores a word of the seat's own
+copied_handed : (i : ℕ) (x : ℕ → ℕ → ℕ) (from index : ℕ) (post : Post) (reserved : List Event) (o : Option ℕ) → events_handed i x reserved ≡ true → events_handed i x (copied_told from index post reserved o) ≡ true
+copied_handed i x from index post reserved None r = refl
+copied_handed i x from index post reserved (Some slot) r =
+    handed_along i x (cleared index (stands post index) ++ reserved) (events.Copied from index slot ∷ []) (handed_along i x (cleared index (stands post index)) reserved (dull_handed i x (cleared index (stands post index)) (cleared_dull index (stands post index))) r) refl
+
+keep_handed : (i : ℕ) (x : ℕ → ℕ → ℕ) (at : KeepAt) (post : Post) → post.seat ≡ i → events_handed i x (keep_told at post) ≡ true
+keep_handed i x (Loosens let_go) post s = dull_handed i x (cleared (let_index let_go) (stands post (let_index let_go))) (cleared_dull (let_index let_go) (stands post (let_index let_go)))
+keep_handed i x (LoadHeld from index) post s = by (has_one_interval (scheme_of post))
+  where
+    by : (one : Bool) → events_handed i x (if one then copied_told from index post [] (stands post from) else []) ≡ true
+    by true = copied_handed i x from index post [] (stands post from) refl
+    by false = refl
+keep_handed i x (StoreHeld from index era) post s = copied_handed i x from index post (reserves_index post index era) (stands post from) (let e : (post.seat == i) ≡ true = grind (arith, nat_tests) in rw e refl)
+keep_handed i x (Looks index key at) post s = refl
+keep_handed i x (Misses index) post s = refl
+
+work_handed : (i : ℕ) (x : ℕ → ℕ → ℕ) (work : Work) (post : Post) → post.seat ≡ i → events_handed i x (work_told work post) ≡ true
+work_handed i x (Keeping at) post s = keep_handed i x at post s
+work_handed i x work post s = refl
+
 phase_handed : (layout : Layout) (made : Made) (h : schedule.History) (i : ℕ) (phase : Phase) → Inv made.world → i < made.world.layout.config.seats → (made.world.seat i).phase ≡ phase → Keeps layout made h → First (λ post told. events_handed i (published h) told ≡ true) phase (counted (made.world.seat i).post) (finds made.world i)
 phase_handed layout made h i Idle a b e g = refl
 phase_handed layout made h i (Runs why base) a b e g =
@@ -135,7 +156,7 @@ phase_handed layout made h i (Runs why base) a b e g =
     base_handed i (published h) base (counted (made.world.seat i).post) (finds made.world i) p.seat (base_meets layout made h i why base a b e g)
 phase_handed layout made h i (Scans later (ReadGuard number)) a b e g = dull_handed i (published h) (scan_told (ReadGuard number) (counted (made.world.seat i).post) (finds made.world i)) refl
 phase_handed layout made h i (Scans later (GiveBack place slot)) a b e g = refl
-phase_handed layout made h i (Works work) a b e g = refl
+phase_handed layout made h i (Works work) a b e g = let k = a.known in let f = k.seats.fits i in work_handed i (published h) work (counted (made.world.seat i).post) f.post.seat
 
 step_handed : (layout : Layout) (made : Made) (h : schedule.History) (i : ℕ) → Inv made.world → i < made.world.layout.config.seats → Keeps layout made h → handed_right h i (told_in made.world i) ≡ true
 step_handed layout made h i a b g = step_goes (λ post told. events_handed i (published h) told ≡ true) (handed_closed i (published h)) (made.world.seat i).phase (counted (made.world.seat i).post) (made.world.seat i).desk (finds made.world i) (phase_handed layout made h i (made.world.seat i).phase a b refl g)
@@ -147,7 +168,7 @@ record Handovers (layout : Layout) (made : Made) (h : schedule.History) : Type 0
 
 kept : (layout : Layout) → is_ibr layout.config.scheme ≡ false → Kept (Handovers layout)
 kept layout n = record {
-  begins = λ made h i call a b f g. record { keeps = begin_kept layout made h i call f g.keeps; law = g.law };
+  begins = λ made h i call a b f m g. record { keeps = begin_kept layout made h i call f g.keeps; law = g.law };
   steps = λ made h i a b y g. record { keeps = step_kept layout made h i n a b y g.keeps; law = (step_handed layout made h i a.known b g.keeps, g.law) };
 }
 

@@ -24,7 +24,7 @@ use Rattle.wfe_core.specs.Calls.{Task, Gets, Changes, Holds, Enqueues, Dequeues,
 use Rattle.wfe_core.proofs.Facts.{both, first_of, rest_of, false_not_true, and_true, three_more, le_of_test}
 use Rattle.wfe_core.specs.words.Schemes.{is_ibr, is_he}
 use Rattle.law_answers.specs.inv.shapes.Seats.{protects, reloads, kind_of, index_by, root_by}
-use Rattle.law_answers.proofs.inv.history.Passes.{Closed, First, step_goes}
+use Rattle.law_answers.proofs.inv.history.Passes.{Closed, First, step_goes, work_told}
 use Rattle.law_answers.specs.inv.history.Turns as schedule
 use Rattle.law_answers.specs.inv.history.Turns.History.{Blank, Turns}
 use Rattle.law_answers.specs.inv.history.History.{Made, first_made}
@@ -38,7 +38,7 @@ use Rattle.law_turns.proofs.Counting.Fits.{since, tried}
 use Rattle.law_turns.proofs.Counting.Passing.{he_tried, or_he}
 use Rattle.law_turns.proofs.Counting.Protects.{Site, x_next}
 use Rattle.law_turns.proofs.Counting.Runs.{x_after, phase_x, Stage, Seat, bump_low, site_of, stage_of}
-use Rattle.law_answers.proofs.inv.history.MayTell.{concluded_told, held_any, is_find, no_find}
+use Rattle.law_answers.proofs.inv.history.MayTell.{concluded_told, held_any, is_find, no_find, work_all}
 use Rattle.law_turns.proofs.Counting.Told.{is_dull, all_dull, quiet_dull, clear_dull, dull_unfound}
 use Rattle.law_answers.proofs.inv.requests.Paced.{wfe_not_he}
 use Rattle.law_answers.proofs.inv.history.AllOf.{all_of, of_weaker}
@@ -125,7 +125,7 @@ run_tried x u layout why (Reload parent index slot era made) post found count e 
     let i : (index == 1) ≡ true = rw (a.at) (reload_index why r.suited) in
     tried_if x (found == parent + 1) (ends (with_row post index slot) (events.Held index slot (bump made) ∷ []) (Followed (follow_ends.Followed slot))) (ends post [] (Followed (follow_ends.RootMoved found)))
     (and_true (event_tried x (events.Held index slot (bump made))) (rw i (rw b (one_step_more made (x index) m)))) refl
-run_tried x u layout why Release post found count e s = absurd (false_not_true (is_ibr layout.config.scheme) s.scheme s.run.fits)
+run_tried x u layout why (Release index) post found count e s = absurd (false_not_true (is_ibr layout.config.scheme) s.scheme s.run.fits)
 run_tried x u layout why base post found count e s = unfound_tried (x_after x base) (machine.after base post found).told (no_find base post found refl)
 
 turn_tried : (x u : ℕ → ℕ) (layout : Layout) (i : ℕ) (phase : Phase) (post : Post) (found : ℕ) → is_he (scheme_of post) ≡ true → Seat x u layout i phase post → First (λ p told. events_tried (λ j. phase_x phase j (x j)) told ≡ true) phase (counted post) found
@@ -133,7 +133,7 @@ turn_tried x u layout i Idle post found e s = refl
 turn_tried x u layout i (Runs why base) post found e s = run_tried x u layout why base (counted post) found post.steps e (stage_of x u layout i why base post found s)
 turn_tried x u layout i (Scans later (ReadGuard number)) post found e s = refl
 turn_tried x u layout i (Scans later (GiveBack place slot)) post found e s = refl
-turn_tried x u layout i (Works work) post found e s = refl
+turn_tried x u layout i (Works work) post found e s = unfound_tried (λ j. phase_x (Works work) j (x j)) (work_told work (counted post)) (work_all (λ event. not (is_find event)) (λ index slot. refl) (λ from index slot. refl) (λ seat index era. refl) work (counted post))
 
 event_same : (x y : ℕ → ℕ) (event : Event) → ((j : ℕ) → y j ≡ x j) → event_tried x event ≡ true → event_tried y event ≡ true
 event_same x y (events.Held index slot n) p h = rw (p index) h
@@ -167,7 +167,7 @@ step_law layout made h i e a b y g =
 
 pub kept : (layout : Layout) → is_he layout.config.scheme ≡ true → Kept (Tries layout)
 kept layout e = record {
-  begins = λ made h i call a b f g. record { keeps = begin_kept layout made h i call f g.keeps; law = g.law };
+  begins = λ made h i call a b f m g. record { keeps = begin_kept layout made h i call f g.keeps; law = g.law };
   steps = λ made h i a b y g. record { keeps = step_kept layout made h i (not_ibr layout.config.scheme e) a b y g.keeps; law = (step_law layout made h i e a b y g.keeps, g.law) };
 }
 

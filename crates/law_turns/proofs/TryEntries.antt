@@ -28,7 +28,7 @@ use Rattle.law_answers.specs.inv.shapes.Seats.{PhaseFits, base_fits}
 use Rattle.law_answers.proofs.inv.history.AllOf.{all_of}
 use Rattle.law_answers.proofs.inv.history.Entries.{entries_of_each}
 use Rattle.law_answers.proofs.inv.history.MayTell as may
-use Rattle.law_answers.proofs.inv.history.MayTell.{Passes, is_find, is_index, no_find, no_index, step_all, stores_index}
+use Rattle.law_answers.proofs.inv.history.MayTell.{Passes, is_find, is_index, no_find, no_index, step_all, stores_index, work_all}
 use Rattle.law_answers.proofs.inv.history.Passes.{First, is_quiet}
 use Rattle.law_answers.proofs.OneStep.Along.{Around, Kept, history_keeps}
 use Rattle.law_answers.proofs.Turns.Counted.{histories_count}
@@ -113,7 +113,7 @@ phase_unfound Idle post there h = refl
 phase_unfound (Runs why base) post there h = no_find base post there h
 phase_unfound (Scans later (ReadGuard number)) post there h = refl
 phase_unfound (Scans later (GiveBack place slot)) post there h = refl
-phase_unfound (Works work) post there h = refl
+phase_unfound (Works work) post there h = work_all unfound (λ index slot. refl) (λ from index slot. refl) (λ seat index era. refl) work post
 
 phase_unindexed : (layout : Layout) (phase : Phase) (post last : Post) (there : ℕ) → is_he layout.config.scheme ≡ true → PhaseFits layout last phase → phase_finds phase ≡ true → First (λ p told. all_of unindexed told ≡ true) phase post there
 phase_unindexed layout (Runs why base) post last there e f h = no_index base post there (find_stores layout.config base e f.fits h)
@@ -146,7 +146,7 @@ step_entries layout made h i e a t r g = by (phase_finds phase) refl
 
 kept : (layout : Layout) → is_he layout.config.scheme ≡ true → Kept (Entries layout)
 kept layout e = let c = counts.kept layout e in record {
-  begins = λ made h i call a b f g. record { tries = c.begins made h i call a b f g.tries; law = (refl, g.law) };
+  begins = λ made h i call a b f m g. record { tries = c.begins made h i call a b f m g.tries; law = (refl, g.law) };
   steps = λ made h i a b y g. let t : Tries layout (done made (Steps i)) (schedule.History.Turns h i (told_in made.world i)) = c.steps made h i a b y g.tries in record { tries = t; law = step_entries layout made h i e a g.tries.keeps.table t.law.0 g.law };
 }
 

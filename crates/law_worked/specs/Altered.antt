@@ -12,7 +12,7 @@ use Rattle.wfe_core.specs.defs.declared.event.Event.TheVariants as events
 use Rattle.wfe_core.specs.defs.declared.lifetime.Interval.{Interval}
 use Rattle.wfe_core.specs.Guards.{from_to}
 
--- a call with the next key or value, or of another kind
+-- a call with the next key, value, index or version, or of another kind
 abbrev pub other_call : Call → Call
 other_call (calls.Get key) = calls.Get (key + 1)
 other_call (calls.Put key value) = calls.Put key (value + 1)
@@ -23,6 +23,10 @@ other_call (calls.Hold key) = calls.Get key
 other_call calls.Release = calls.Advance
 other_call calls.Advance = calls.Scan
 other_call calls.Scan = calls.Advance
+other_call (calls.Copy from index) = calls.Copy from (index + 1)
+other_call (calls.DropIndex index) = calls.DropIndex (index + 1)
+other_call (calls.Look index key) = calls.Look index (key + 1)
+other_call (calls.PutIf key value version) = calls.PutIf key value (version + 1)
 
 abbrev pub other_clock : ClockMove → ClockMove
 other_clock moves.Still = moves.Moved 2
@@ -46,6 +50,10 @@ other_answer answers.Nothing = answers.Empty
 other_answer answers.Released = answers.Nothing
 other_answer (answers.Clock outcome) = answers.Clock (other_clock outcome)
 other_answer (answers.Scanned kept back) = answers.Scanned kept (back + 1)
+other_answer (answers.Copied slot) = answers.Copied (slot + 1)
+other_answer answers.Dropped = answers.Released
+other_answer (answers.Looked slot version value) = answers.Looked slot (version + 1) value
+other_answer (answers.Stale version) = answers.Stale (version + 1)
 
 -- the next era, or the first where there is none
 abbrev pub other_span : Option Interval → Option Interval
@@ -68,6 +76,7 @@ other_event (events.Back slot) = events.Back (slot + 1)
 other_event (events.Held index slot steps) = events.Held index (slot + 1) steps
 other_event (events.Null index steps) = events.Held index 0 steps
 other_event (events.Clear index slot) = events.Clear index (slot + 1)
+other_event (events.Copied from index slot) = events.Copied from index (slot + 1)
 other_event (events.Put bucket version key value) = events.Put bucket version key (value + 1)
 other_event (events.Removed bucket version key) = events.Removed bucket (version + 1) key
 other_event (events.Got bucket version key value) = events.Got bucket (version + 1) key value

@@ -12,7 +12,7 @@ use Rattle.wfe_core.specs.defs.declared.event.Root.TheVariants as roots
 use Rattle.wfe_core.specs.Guards.{from_to}
 use Rattle.model_history.specs.History.{Item}
 use Rattle.model_history.specs.Among.{call, said, setting, to_end}
-use Rattle.law_worked.specs.Judges.Law.{Calls, Clears, Indexes, Reuse, Free, Placing, Order, Nexts, Retiring, Backs, Blocks, Reads, Due, Room, Eras, Moves, Births, Retires, Current, Single, Rising, Guards, Throughout, Sources, Finds, Gots, Links, Behind, Bare, Rests, Map, Values, Emptied, Steps, Withdrawals, Tries, Raises, Asks, CallSteps, Told, Reasons, Full, Lacks, Counted, Refusals, Clock, Repeats, Alone, Named, Ranges}
+use Rattle.law_worked.specs.Judges.Law.{Calls, Clears, Indexes, Copies, Reuse, Free, Placing, Order, Nexts, Retiring, Backs, Blocks, Reads, Due, Room, Eras, Moves, Births, Retires, Current, Single, Rising, Guards, Throughout, Sources, Finds, Gots, Links, Behind, Bare, Rests, Map, Values, Emptied, Steps, Withdrawals, Tries, Raises, Asks, CallSteps, Told, Reasons, Full, Lacks, Counted, Refusals, Clock, Repeats, Alone, Named, Ranges}
 use Rattle.law_worked.specs.Refusals.{IsWorked, Row, row}
 
 abbrev pub full_setting : Layout
@@ -95,6 +95,7 @@ full_table =
     row Calls (0 ∷ 7 ∷ 8 ∷ 11 ∷ 12 ∷ 22 ∷ 23 ∷ 36 ∷ 37 ∷ 40 ∷ 41 ∷ []) (0 ∷ 7 ∷ 8 ∷ 11 ∷ 12 ∷ 22 ∷ 23 ∷ 36 ∷ 37 ∷ 40 ∷ 41 ∷ 60 ∷ []) (0 ∷ 6 ∷ 7 ∷ 8 ∷ 10 ∷ 11 ∷ 12 ∷ 21 ∷ 22 ∷ 23 ∷ 35 ∷ 36 ∷ 37 ∷ 39 ∷ 40 ∷ 41 ∷ 59 ∷ []) [] []
     ∷ row Clears (10 ∷ 14 ∷ 25 ∷ 33 ∷ 43 ∷ 52 ∷ []) (19 ∷ 26 ∷ 34 ∷ 38 ∷ 44 ∷ 57 ∷ []) (25 ∷ 33 ∷ 43 ∷ []) (10 ∷ 14 ∷ 19 ∷ 25 ∷ 26 ∷ 33 ∷ 34 ∷ 38 ∷ 43 ∷ 44 ∷ 52 ∷ 57 ∷ []) []
     ∷ row Indexes (8 ∷ 37 ∷ []) [] (37 ∷ []) (8 ∷ 37 ∷ []) []
+    ∷ row Copies [] [] [] [] []
     ∷ row Reuse (19 ∷ 38 ∷ []) [] [] (2 ∷ 10 ∷ 14 ∷ 19 ∷ 38 ∷ 53 ∷ []) []
     ∷ row Free (3 ∷ 50 ∷ []) (3 ∷ 15 ∷ 50 ∷ 53 ∷ []) [] (3 ∷ 15 ∷ 50 ∷ 53 ∷ []) []
     ∷ row Placing (3 ∷ 4 ∷ 15 ∷ 16 ∷ 53 ∷ 54 ∷ []) (3 ∷ 4 ∷ 15 ∷ 16 ∷ 53 ∷ 54 ∷ []) (3 ∷ 15 ∷ 53 ∷ []) (3 ∷ 4 ∷ 15 ∷ 16 ∷ 53 ∷ 54 ∷ []) []

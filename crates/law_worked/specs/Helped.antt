@@ -12,7 +12,7 @@ use Rattle.wfe_core.specs.defs.declared.event.Root.TheVariants as roots
 use Rattle.wfe_core.specs.Guards.{from_to}
 use Rattle.model_history.specs.History.{Item, times}
 use Rattle.model_history.specs.Among.{call, said, setting, to_end}
-use Rattle.law_worked.specs.Judges.Law.{Calls, Clears, Indexes, Reuse, Free, Placing, Order, Nexts, Retiring, Backs, Blocks, Reads, Due, Room, Eras, Moves, Births, Retires, Current, Single, Rising, Guards, Throughout, Sources, Finds, Gots, Links, Behind, Bare, Rests, Map, Values, Emptied, Steps, Withdrawals, Tries, Raises, Asks, CallSteps, Told, Reasons, Full, Lacks, Counted, Refusals, Clock, Repeats, Alone, Named, Ranges}
+use Rattle.law_worked.specs.Judges.Law.{Calls, Clears, Indexes, Copies, Reuse, Free, Placing, Order, Nexts, Retiring, Backs, Blocks, Reads, Due, Room, Eras, Moves, Births, Retires, Current, Single, Rising, Guards, Throughout, Sources, Finds, Gots, Links, Behind, Bare, Rests, Map, Values, Emptied, Steps, Withdrawals, Tries, Raises, Asks, CallSteps, Told, Reasons, Full, Lacks, Counted, Refusals, Clock, Repeats, Alone, Named, Ranges}
 use Rattle.law_worked.specs.Refusals.{IsWorked, Row, row}
 
 abbrev pub helped_setting : Layout
@@ -73,6 +73,7 @@ helped_table =
     row Calls (0 ∷ 7 ∷ 8 ∷ 10 ∷ 12 ∷ 13 ∷ 17 ∷ 28 ∷ 38 ∷ 39 ∷ []) (0 ∷ 7 ∷ 8 ∷ 10 ∷ 12 ∷ 13 ∷ 16 ∷ 17 ∷ 27 ∷ 28 ∷ 33 ∷ 38 ∷ 39 ∷ 42 ∷ []) (0 ∷ 6 ∷ 8 ∷ 10 ∷ 11 ∷ 15 ∷ 17 ∷ 26 ∷ 28 ∷ 32 ∷ 37 ∷ 38 ∷ 39 ∷ 41 ∷ []) [] []
     ∷ row Clears (19 ∷ 36 ∷ []) (24 ∷ 40 ∷ []) [] (19 ∷ 24 ∷ 36 ∷ 40 ∷ []) []
     ∷ row Indexes (8 ∷ []) [] [] (8 ∷ 39 ∷ []) []
+    ∷ row Copies [] [] [] [] []
     ∷ row Reuse [] [] [] (2 ∷ 19 ∷ []) []
     ∷ row Free [] (3 ∷ 20 ∷ []) [] (3 ∷ []) []
     ∷ row Placing (3 ∷ 4 ∷ 17 ∷ 20 ∷ 21 ∷ []) (3 ∷ 4 ∷ 20 ∷ 21 ∷ []) (3 ∷ 20 ∷ []) (3 ∷ 4 ∷ 20 ∷ 21 ∷ []) []

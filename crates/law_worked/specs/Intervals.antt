@@ -12,7 +12,7 @@ use Rattle.wfe_core.specs.defs.declared.event.Root.TheVariants as roots
 use Rattle.wfe_core.specs.Guards.{from_to}
 use Rattle.model_history.specs.History.{Item}
 use Rattle.model_history.specs.Among.{call, said, setting, to_end}
-use Rattle.law_worked.specs.Judges.Law.{Calls, Clears, Indexes, Reuse, Free, Placing, Order, Nexts, Retiring, Backs, Blocks, Reads, Due, Room, Eras, Moves, Births, Retires, Current, Single, Rising, Guards, Throughout, Sources, Finds, Gots, Links, Behind, Bare, Rests, Map, Values, Emptied, Steps, Withdrawals, Tries, Raises, Asks, CallSteps, Told, Reasons, Full, Lacks, Counted, Refusals, Clock, Repeats, Alone, Named, Ranges}
+use Rattle.law_worked.specs.Judges.Law.{Calls, Clears, Indexes, Copies, Reuse, Free, Placing, Order, Nexts, Retiring, Backs, Blocks, Reads, Due, Room, Eras, Moves, Births, Retires, Current, Single, Rising, Guards, Throughout, Sources, Finds, Gots, Links, Behind, Bare, Rests, Map, Values, Emptied, Steps, Withdrawals, Tries, Raises, Asks, CallSteps, Told, Reasons, Full, Lacks, Counted, Refusals, Clock, Repeats, Alone, Named, Ranges}
 use Rattle.law_worked.specs.Refusals.{IsWorked, Row, row}
 
 abbrev pub intervals_setting : Layout
@@ -74,6 +74,7 @@ intervals_table =
     row Calls (0 ∷ 7 ∷ 8 ∷ 11 ∷ 12 ∷ 14 ∷ 15 ∷ 20 ∷ 21 ∷ 34 ∷ 35 ∷ 39 ∷ []) (0 ∷ 7 ∷ 8 ∷ 11 ∷ 12 ∷ 14 ∷ 15 ∷ 20 ∷ 21 ∷ 34 ∷ 35 ∷ 38 ∷ 39 ∷ 43 ∷ []) (0 ∷ 6 ∷ 8 ∷ 10 ∷ 12 ∷ 13 ∷ 15 ∷ 19 ∷ 21 ∷ 33 ∷ 35 ∷ 37 ∷ 39 ∷ 42 ∷ []) [] []
     ∷ row Clears (10 ∷ 17 ∷ 23 ∷ []) (19 ∷ 28 ∷ 36 ∷ []) [] (10 ∷ 17 ∷ 19 ∷ 23 ∷ 28 ∷ 36 ∷ []) []
     ∷ row Indexes (8 ∷ 35 ∷ []) [] (35 ∷ []) (8 ∷ 35 ∷ []) []
+    ∷ row Copies [] [] [] [] []
     ∷ row Reuse (19 ∷ 28 ∷ 36 ∷ []) [] [] (2 ∷ 10 ∷ 17 ∷ 19 ∷ 23 ∷ 28 ∷ 36 ∷ []) []
     ∷ row Free (3 ∷ []) (3 ∷ 24 ∷ 42 ∷ []) [] (3 ∷ []) []
     ∷ row Placing (3 ∷ 4 ∷ 24 ∷ 25 ∷ []) (3 ∷ 4 ∷ 24 ∷ 25 ∷ []) (3 ∷ 24 ∷ []) (3 ∷ 4 ∷ 24 ∷ 25 ∷ []) []

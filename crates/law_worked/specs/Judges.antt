@@ -28,6 +28,7 @@ pub data Law : Type 0 where
   Calls : Law
   Clears : Law
   Indexes : Law
+  Copies : Law
   Reuse : Law
   Free : Law
   Placing : Law
@@ -83,27 +84,37 @@ freed (events.Unused slot) = Some slot
 freed (events.Back slot) = Some slot
 freed event = None
 
--- no row is freed or given that stands at an index of these seats
-abbrev pub unheld : ℕ → ℕ → Test
-unheld s zero p i e = true
-unheld s (suc k) p i e = reuse_ok k 0 s p i e && reuse_ok k 1 s p i e && reuse_ok k 2 s p i e && unheld s k p i e
+-- the row is not freed or given while it stands at one of so many indexes of a seat
+abbrev unheld_at : (indexes k s : ℕ) → Test
+unheld_at zero k s p i e = true
+unheld_at (suc j) k s p i e = reuse_ok k j s p i e && unheld_at j k s p i e
 
-abbrev pub unheld_if : Option ℕ → ℕ → Test
-unheld_if None seats p i e = true
-unheld_if (Some s) seats p i e = unheld s seats p i e
+-- no row is freed or given that stands at an index of these seats
+abbrev unheld : (indexes s seats : ℕ) → Test
+unheld indexes s zero p i e = true
+unheld indexes s (suc k) p i e = unheld_at indexes k s p i e && unheld indexes s k p i e
+
+abbrev unheld_if : Option ℕ → Config → Test
+unheld_if None c p i e = true
+unheld_if (Some s) c p i e = unheld c.indexes s c.seats p i e
 
 -- what stands at an index is held
 abbrev rows_held : Config → (k j : ℕ) → List ℕ → Past → Bool
 rows_held c k j [] p = true
 rows_held c k j (s ∷ rows) p = holds.is_held c k j s p && rows_held c k j rows p
 
+abbrev seat_held : Config → (k indexes : ℕ) → Past → Bool
+seat_held c k zero p = true
+seat_held c k (suc j) p = rows_held c k j (standing_of k j p) p && seat_held c k j p
+
 abbrev pub all_held : Config → ℕ → Past → Bool
 all_held c zero p = true
-all_held c (suc k) p = rows_held c k 0 (standing_of k 0 p) p && rows_held c k 1 (standing_of k 1 p) p && rows_held c k 2 (standing_of k 2 p) p && all_held c k p
+all_held c (suc k) p = seat_held c k c.indexes p && all_held c k p
 
 -- only these events change what stands, what is taken, and what is published
 abbrev pub held_by : Config → Event → Past → Bool
 held_by c (events.Held index slot steps) p = all_held c c.seats p
+held_by c (events.Copied from index slot) p = all_held c c.seats p
 held_by c (events.Reserve guard span) p = all_held c c.seats p
 held_by c (events.Give slot birth) p = all_held c c.seats p
 held_by c (events.Unused slot) p = all_held c c.seats p
@@ -137,16 +148,22 @@ raises_by Ibr p i e = steps.raise_ok p i e
 raises_by He p i e = true
 raises_by Wfe p i e = true
 
-abbrev asks_by : SchemeKind → ℕ → Test
-asks_by Wfe tries p i e = steps.ask_ok tries 0 p i e && steps.ask_ok tries 1 p i e && steps.ask_ok tries 2 p i e
-asks_by He tries p i e = true
-asks_by Ibr tries p i e = true
+-- at each of so many indexes
+abbrev asks_at : (tries indexes : ℕ) → Test
+asks_at tries zero p i e = true
+asks_at tries (suc j) p i e = steps.ask_ok tries j p i e && asks_at tries j p i e
+
+abbrev asks_by : SchemeKind → (tries indexes : ℕ) → Test
+asks_by Wfe tries indexes p i e = asks_at tries indexes p i e
+asks_by He tries indexes p i e = true
+asks_by Ibr tries indexes p i e = true
 
 abbrev pub test_of : Config → Law → Test
 test_of c Calls p i e = open_ok p i e
 test_of c Clears p i e = standing.clears_ok p i e
 test_of c Indexes p i e = standing.indexes_ok p i e
-test_of c Reuse p i e = unheld_if (freed e) c.seats p i e
+test_of c Copies p i e = standing.copies_ok p i e
+test_of c Reuse p i e = unheld_if (freed e) c p i e
 test_of c Free p i e = once.free_ok c.slots p i e
 test_of c Placing p i e = once.placing_ok p i e
 test_of c Order p i e = once.order_ok c.slots p i e
@@ -172,7 +189,7 @@ test_of c Gots p i e = holds.gots_ok p i e
 test_of c Links p i e = holds.links_ok c.slots p i e
 test_of c Behind p i e = holds.behind_ok c.slots p i e
 test_of c Bare p i e = holds.bare_ok p i e
-test_of c Rests p i e = holds.rests_ok c.scheme p i e
+test_of c Rests p i e = holds.rests_ok c p i e
 test_of c Map p i e = map_ok c.buckets p i e
 test_of c Values p i e = queue_ok p i e
 test_of c Emptied p i e = empty_ok p i e
@@ -180,7 +197,7 @@ test_of c Steps p i e = steps_by c.scheme c.tries p i e
 test_of c Withdrawals p i e = withdrawals_by c.scheme p i e
 test_of c Tries p i e = tries_by c.scheme p i e
 test_of c Raises p i e = raises_by c.scheme p i e
-test_of c Asks p i e = asks_by c.scheme c.tries p i e
+test_of c Asks p i e = asks_by c.scheme c.tries c.indexes p i e
 test_of c CallSteps p i e = steps.end_ok c p i e
 test_of c Told p i e = answers.answers_ok c.buckets p i e
 test_of c Reasons p i e = answers.reasons_ok c p i e

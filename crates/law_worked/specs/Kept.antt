@@ -12,7 +12,7 @@ use Rattle.wfe_core.specs.defs.declared.event.Root.TheVariants as roots
 use Rattle.wfe_core.specs.Guards.{from_to}
 use Rattle.model_history.specs.History.{Item}
 use Rattle.model_history.specs.Among.{call, said, setting, to_end}
-use Rattle.law_worked.specs.Judges.Law.{Calls, Clears, Indexes, Reuse, Free, Placing, Order, Nexts, Retiring, Backs, Blocks, Reads, Due, Room, Eras, Moves, Births, Retires, Current, Single, Rising, Guards, Throughout, Sources, Finds, Gots, Links, Behind, Bare, Rests, Map, Values, Emptied, Steps, Withdrawals, Tries, Raises, Asks, CallSteps, Told, Reasons, Full, Lacks, Counted, Refusals, Clock, Repeats, Alone, Named, Ranges}
+use Rattle.law_worked.specs.Judges.Law.{Calls, Clears, Indexes, Copies, Reuse, Free, Placing, Order, Nexts, Retiring, Backs, Blocks, Reads, Due, Room, Eras, Moves, Births, Retires, Current, Single, Rising, Guards, Throughout, Sources, Finds, Gots, Links, Behind, Bare, Rests, Map, Values, Emptied, Steps, Withdrawals, Tries, Raises, Asks, CallSteps, Told, Reasons, Full, Lacks, Counted, Refusals, Clock, Repeats, Alone, Named, Ranges}
 use Rattle.law_worked.specs.Refusals.{IsWorked, Row, row}
 
 abbrev pub kept_setting : Layout
@@ -73,6 +73,7 @@ kept_table =
     row Calls (0 ∷ 7 ∷ 8 ∷ 11 ∷ 12 ∷ 29 ∷ 30 ∷ 34 ∷ []) (0 ∷ 7 ∷ 8 ∷ 11 ∷ 12 ∷ 29 ∷ 30 ∷ 33 ∷ 34 ∷ 42 ∷ []) (0 ∷ 6 ∷ 8 ∷ 10 ∷ 12 ∷ 28 ∷ 30 ∷ 32 ∷ 34 ∷ 41 ∷ []) [] []
     ∷ row Clears (10 ∷ 14 ∷ []) (19 ∷ 31 ∷ []) [] (10 ∷ 14 ∷ 19 ∷ 31 ∷ []) []
     ∷ row Indexes (8 ∷ []) [] [] (8 ∷ 30 ∷ []) []
+    ∷ row Copies [] [] [] [] []
     ∷ row Reuse (19 ∷ 31 ∷ []) [] [] (2 ∷ 10 ∷ 14 ∷ 19 ∷ 31 ∷ []) []
     ∷ row Free (3 ∷ []) (3 ∷ 15 ∷ 41 ∷ []) [] (3 ∷ []) []
     ∷ row Placing (3 ∷ 4 ∷ 12 ∷ 15 ∷ 16 ∷ []) (3 ∷ 4 ∷ 15 ∷ 16 ∷ []) (3 ∷ 15 ∷ []) (3 ∷ 4 ∷ 15 ∷ 16 ∷ []) []

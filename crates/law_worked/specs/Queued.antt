@@ -12,7 +12,7 @@ use Rattle.wfe_core.specs.defs.declared.event.Root.TheVariants as roots
 use Rattle.wfe_core.specs.Guards.{from_to}
 use Rattle.model_history.specs.History.{Item}
 use Rattle.model_history.specs.Among.{call, said, setting, to_end}
-use Rattle.law_worked.specs.Judges.Law.{Calls, Clears, Indexes, Reuse, Free, Placing, Order, Nexts, Retiring, Backs, Blocks, Reads, Due, Room, Eras, Moves, Births, Retires, Current, Single, Rising, Guards, Throughout, Sources, Finds, Gots, Links, Behind, Bare, Rests, Map, Values, Emptied, Steps, Withdrawals, Tries, Raises, Asks, CallSteps, Told, Reasons, Full, Lacks, Counted, Refusals, Clock, Repeats, Alone, Named, Ranges}
+use Rattle.law_worked.specs.Judges.Law.{Calls, Clears, Indexes, Copies, Reuse, Free, Placing, Order, Nexts, Retiring, Backs, Blocks, Reads, Due, Room, Eras, Moves, Births, Retires, Current, Single, Rising, Guards, Throughout, Sources, Finds, Gots, Links, Behind, Bare, Rests, Map, Values, Emptied, Steps, Withdrawals, Tries, Raises, Asks, CallSteps, Told, Reasons, Full, Lacks, Counted, Refusals, Clock, Repeats, Alone, Named, Ranges}
 use Rattle.law_worked.specs.Refusals.{IsWorked, Row, row}
 
 abbrev pub queued_setting : Layout
@@ -87,6 +87,7 @@ queued_table =
     row Calls (0 ∷ 9 ∷ 10 ∷ 19 ∷ 20 ∷ 33 ∷ 34 ∷ 47 ∷ 48 ∷ []) (0 ∷ 9 ∷ 10 ∷ 19 ∷ 20 ∷ 33 ∷ 34 ∷ 47 ∷ 48 ∷ 56 ∷ []) (0 ∷ 8 ∷ 9 ∷ 10 ∷ 18 ∷ 19 ∷ 20 ∷ 32 ∷ 33 ∷ 34 ∷ 46 ∷ 47 ∷ 48 ∷ 55 ∷ []) [] []
     ∷ row Clears (2 ∷ 12 ∷ 22 ∷ 24 ∷ 36 ∷ 38 ∷ 50 ∷ []) (7 ∷ 17 ∷ 28 ∷ 30 ∷ 42 ∷ 44 ∷ 54 ∷ []) [] (2 ∷ 7 ∷ 12 ∷ 17 ∷ 22 ∷ 24 ∷ 28 ∷ 30 ∷ 36 ∷ 38 ∷ 42 ∷ 44 ∷ 50 ∷ 54 ∷ []) []
     ∷ row Indexes (20 ∷ []) [] [] (20 ∷ 34 ∷ 48 ∷ []) []
+    ∷ row Copies [] [] [] [] []
     ∷ row Reuse [] [] [] (12 ∷ []) []
     ∷ row Free [] (3 ∷ 13 ∷ []) [] (3 ∷ []) []
     ∷ row Placing (3 ∷ 4 ∷ 10 ∷ 13 ∷ 14 ∷ []) (3 ∷ 4 ∷ 13 ∷ 14 ∷ []) (3 ∷ 13 ∷ []) (3 ∷ 4 ∷ 13 ∷ 14 ∷ []) []

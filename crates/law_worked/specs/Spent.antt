@@ -12,7 +12,7 @@ use Rattle.wfe_core.specs.defs.declared.event.Root.TheVariants as roots
 use Rattle.wfe_core.specs.Guards.{from_to}
 use Rattle.model_history.specs.History.{Item}
 use Rattle.model_history.specs.Among.{call, said, setting, to_end}
-use Rattle.law_worked.specs.Judges.Law.{Calls, Clears, Indexes, Reuse, Free, Placing, Order, Nexts, Retiring, Backs, Blocks, Reads, Due, Room, Eras, Moves, Births, Retires, Current, Single, Rising, Guards, Throughout, Sources, Finds, Gots, Links, Behind, Bare, Rests, Map, Values, Emptied, Steps, Withdrawals, Tries, Raises, Asks, CallSteps, Told, Reasons, Full, Lacks, Counted, Refusals, Clock, Repeats, Alone, Named, Ranges}
+use Rattle.law_worked.specs.Judges.Law.{Calls, Clears, Indexes, Copies, Reuse, Free, Placing, Order, Nexts, Retiring, Backs, Blocks, Reads, Due, Room, Eras, Moves, Births, Retires, Current, Single, Rising, Guards, Throughout, Sources, Finds, Gots, Links, Behind, Bare, Rests, Map, Values, Emptied, Steps, Withdrawals, Tries, Raises, Asks, CallSteps, Told, Reasons, Full, Lacks, Counted, Refusals, Clock, Repeats, Alone, Named, Ranges}
 use Rattle.law_worked.specs.Refusals.{IsWorked, Row, row}
 
 abbrev pub spent_setting : Layout
@@ -86,6 +86,7 @@ spent_table =
     row Calls (0 ∷ 4 ∷ 5 ∷ 12 ∷ 13 ∷ 23 ∷ 24 ∷ 29 ∷ 30 ∷ 35 ∷ 36 ∷ 45 ∷ 46 ∷ []) (0 ∷ 4 ∷ 5 ∷ 12 ∷ 13 ∷ 23 ∷ 24 ∷ 29 ∷ 30 ∷ 35 ∷ 36 ∷ 45 ∷ 46 ∷ 55 ∷ []) (0 ∷ 3 ∷ 4 ∷ 5 ∷ 11 ∷ 12 ∷ 13 ∷ 22 ∷ 23 ∷ 24 ∷ 28 ∷ 29 ∷ 30 ∷ 34 ∷ 35 ∷ 36 ∷ 44 ∷ 45 ∷ 46 ∷ 54 ∷ []) [] []
     ∷ row Clears (15 ∷ 26 ∷ 32 ∷ 38 ∷ 48 ∷ []) (20 ∷ 27 ∷ 33 ∷ 43 ∷ 53 ∷ []) (26 ∷ 32 ∷ []) (15 ∷ 20 ∷ 26 ∷ 27 ∷ 32 ∷ 33 ∷ 38 ∷ 43 ∷ 48 ∷ 53 ∷ []) []
     ∷ row Indexes [] [] [] [] []
+    ∷ row Copies [] [] [] [] []
     ∷ row Reuse [] [] [] (2 ∷ 7 ∷ 15 ∷ 26 ∷ 32 ∷ 48 ∷ []) []
     ∷ row Free [] (8 ∷ 16 ∷ 39 ∷ 49 ∷ []) [] (8 ∷ 16 ∷ 39 ∷ []) []
     ∷ row Placing (8 ∷ 9 ∷ 13 ∷ 16 ∷ 17 ∷ 39 ∷ 40 ∷ 46 ∷ 49 ∷ 50 ∷ []) (8 ∷ 9 ∷ 16 ∷ 17 ∷ 39 ∷ 40 ∷ 49 ∷ 50 ∷ []) (8 ∷ 16 ∷ 39 ∷ 49 ∷ []) (8 ∷ 9 ∷ 16 ∷ 17 ∷ 39 ∷ 40 ∷ 49 ∷ 50 ∷ []) []

@@ -13,7 +13,7 @@ use Rattle.model_record.specs.defs.declared.event.Event.{Event}
 use Rattle.model_record.specs.defs.declared.event.Event.TheVariants as events
 use Rattle.wfe_words.specs.declared.config.Config.{Config}
 use Rattle.laws.specs.ScanLaw.{guards, blocks_of}
-use Rattle.laws.specs.StateAt.{retires_of, changed_of, seen, same_value, began_of, count_of, is_there, pairs_at, was_current, queued_of, has_told, begun_at, is_bare, stands, bucket_of, taken_since, clock_of, taken_of, tails_of, finds_of, times, is_read, is_back, is_give, list_of, is_among}
+use Rattle.laws.specs.StateAt.{retires_of, changed_of, seen, same_value, began_of, count_of, is_there, pairs_at, was_current, queued_of, has_told, begun_at, is_bare, stands, bucket_of, taken_since, clock_of, taken_of, tails_of, finds_of, times, is_read, is_back, is_give, list_of, is_among, RowShows, ShowsVersion, shows_of, value_at}
 
 -- the answers that a call may have
 abbrev pub suits : Call → Answer → Bool
@@ -36,15 +36,27 @@ suits (calls.Hold key) answers.Nothing = true
 suits calls.Release answers.Released = true
 suits calls.Advance (answers.Clock clock) = true
 suits calls.Scan (answers.Scanned kept back) = true
+suits (calls.Copy from index) (answers.Copied slot) = true
+suits (calls.Copy from index) answers.Nothing = true
+suits (calls.DropIndex index) answers.Dropped = true
+suits (calls.Look index key) (answers.Looked slot version value) = true
+suits (calls.Look index key) answers.Nothing = true
+suits (calls.PutIf key value wanted) (answers.Done version clock) = true
+suits (calls.PutIf key value wanted) (answers.Stale version) = true
+suits (calls.PutIf key value wanted) answers.Full = true
+suits (calls.PutIf key value wanted) (answers.BucketFull version) = true
+suits (calls.PutIf key value wanted) (answers.Spent number) = true
 suits call answer = false
 
--- what a call with this answer has told of the map or of the queue, in a table with so many buckets
+-- what a call with this answer has told of the map, of the queue or of a copy, in a table with so many buckets
 abbrev pub owes : ℕ → Call → Answer → Option Event
 owes n (calls.Get key) (answers.Got version value) = Some (events.Got (key % n) version key value)
 owes n (calls.Put key value) (answers.Done version clock) = Some (events.Put (key % n) version key value)
 owes n (calls.Remove key) (answers.Done version clock) = Some (events.Removed (key % n) version key)
 owes n (calls.Enqueue value) (answers.Queued number) = Some (events.Queued number value)
 owes n calls.Dequeue (answers.Taken number value clock) = Some (events.Taken number value)
+owes n (calls.Copy from index) (answers.Copied slot) = Some (events.Copied from index slot)
+owes n (calls.PutIf key value wanted) (answers.Done version clock) = Some (events.Put (key % n) version key value)
 owes n call answer = None
 
 abbrev pub same_event : Event → Event → Bool
@@ -53,6 +65,7 @@ same_event (events.Put b version key value) (events.Put b' version' key' value')
 same_event (events.Removed b version key) (events.Removed b' version' key') = (b == b' && version == version') && key == key'
 same_event (events.Queued number value) (events.Queued number' value') = number == number' && value == value'
 same_event (events.Taken number value) (events.Taken number' value') = number == number' && value == value'
+same_event (events.Copied from index slot) (events.Copied from' index' slot') = from == from' && (index == index' && slot == slot')
 same_event event other = false
 
 -- the call of seat i told the event once
@@ -121,6 +134,41 @@ abbrev pub scan_reason : ℕ → Past → Answer → Bool
 scan_reason i p (answers.Scanned kept back) = kept == length (list_of i p) && back == times i is_back p
 scan_reason i p answer = true
 
+-- the call of seat i has told nothing since it began
+abbrev pub tells_none : ℕ → Past → Bool
+tells_none i p = times i (λ (event : Event). true) p == 0
+
+-- a copy: the call told it once, and the row stands at both indexes; or nothing stands where it copies from, and the call told nothing
+abbrev pub copy_reason : (i from index : ℕ) → Past → Answer → Bool
+copy_reason i from index p (answers.Copied slot) = stands i from slot p && stands i index slot p
+copy_reason i from index p answers.Nothing = is_bare i from p && tells_none i p
+copy_reason i from index p answer = true
+
+-- a drop: nothing stands at the index
+abbrev pub drop_reason : (i index : ℕ) → Past → Answer → Bool
+drop_reason i index p answers.Dropped = is_bare i index p
+drop_reason i index p answer = true
+
+-- the row shows this version of its bucket, and the key has this value there
+abbrev pub shows_value : (version key : ℕ) → (value : Option ℕ) → Past → RowShows → Bool
+shows_value version key value p (ShowsVersion bucket shown) = version == shown && same_value value (value_at bucket shown key p)
+shows_value version key value p shows = false
+
+-- a look: the row stands at the index, and shows the version and the key's value; or nothing stands there
+abbrev pub look_reason : (i index key : ℕ) → Past → Answer → Bool
+look_reason i index key p (answers.Looked slot version value) = stands i index slot p && shows_value version key value p (shows_of slot p)
+look_reason i index key p answers.Nothing = is_bare i index p
+look_reason i index key p answer = true
+
+-- a put that names a version, by that version: it is done or refused as a put where the bucket is at it, and stale where the bucket was
+-- at another
+abbrev pub put_if_reason : Config → (i b key wanted : ℕ) → Past → Answer → Bool
+put_if_reason c i b key wanted p (answers.Done version clock) = version == wanted + 1 && put_reason c i b key p (answers.Done version clock)
+put_if_reason c i b key wanted p (answers.Stale version) = was_current i b version p && not (version == wanted)
+put_if_reason c i b key wanted p (answers.Spent version) = version == wanted && put_reason c i b key p (answers.Spent version)
+put_if_reason c i b key wanted p (answers.BucketFull version) = version == wanted && put_reason c i b key p (answers.BucketFull version)
+put_if_reason c i b key wanted p answer = true
+
 -- by the call of seat i that gives the answer
 abbrev pub reason : Config → ℕ → Past → Option Call → Answer → Bool
 reason c i p (Some (calls.Put key value)) answer = put_reason c i (bucket_of c.buckets key) key p answer
@@ -129,6 +177,10 @@ reason c i p (Some (calls.Enqueue value)) answer = enqueue_reason c p answer
 reason c i p (Some calls.Dequeue) answer = dequeue_reason i p answer
 reason c i p (Some (calls.Hold key)) answer = hold_reason i (bucket_of c.buckets key) p answer
 reason c i p (Some calls.Release) answer = release_reason i p answer
+reason c i p (Some (calls.Copy from index)) answer = copy_reason i from index p answer
+reason c i p (Some (calls.DropIndex index)) answer = drop_reason i index p answer
+reason c i p (Some (calls.Look index key)) answer = look_reason i index key p answer
+reason c i p (Some (calls.PutIf key value wanted)) answer = put_if_reason c i (bucket_of c.buckets key) key wanted p answer
 reason c i p (Some calls.Scan) answer = scan_reason i p answer
 reason c i p call answer = true
 
@@ -164,6 +216,8 @@ has_number c p = nat_lt (length (queued_of p)) c.last_version
 -- by the call of seat i: at a version or a position of it nothing but a row was lacking
 abbrev pub lacks_row : Config → ℕ → Past → Option Call → Bool
 lacks_row c i p (Some (calls.Put key value)) = any_up_to (put_at c i (bucket_of c.buckets key) key p) (count_of (bucket_of c.buckets key) p)
+lacks_row c i p (Some (calls.PutIf key value wanted)) =
+    any_up_to (λ (version : ℕ). version == wanted && put_at c i (bucket_of c.buckets key) key p version) (count_of (bucket_of c.buckets key) p)
 lacks_row c i p (Some (calls.Remove key)) = any_up_to (remove_at c i (bucket_of c.buckets key) key p) (count_of (bucket_of c.buckets key) p)
 lacks_row c i p (Some (calls.Enqueue value)) = held_since (begins i) (has_number c) p
 lacks_row c i p call = false
@@ -190,6 +244,7 @@ is_refusal answers.Full = true
 is_refusal (answers.BucketFull version) = true
 is_refusal (answers.Absent version) = true
 is_refusal (answers.Spent number) = true
+is_refusal (answers.Stale version) = true
 is_refusal answers.Empty = true
 is_refusal answer = false
 
@@ -262,6 +317,7 @@ clocks_ok config p i event = true
 abbrev pub moves_of : Config → Option Call → Past → ℕ
 moves_of c (Some (calls.Put key value)) p = count_of (bucket_of c.buckets key) p
 moves_of c (Some (calls.Remove key)) p = count_of (bucket_of c.buckets key) p
+moves_of c (Some (calls.PutIf key value version)) p = count_of (bucket_of c.buckets key) p
 moves_of c (Some (calls.Enqueue value)) p = length (queued_of p) + tails_of p
 moves_of c (Some calls.Dequeue) p = taken_of p + tails_of p
 moves_of c call p = 0
@@ -284,7 +340,8 @@ pub record AnswerLaw (config : Config) (r : Past) : Type 0 where
   -- a call's answer is of a kind that it may have, and the call told once what it answers of map and queue
   pub told : EachEntry (answers_ok config.buckets) r
   -- a change is done or refused by its bucket's pairs at a version of its call, and so are an enqueue, a dequeue and a hold by what the
-  -- queue and the bucket had; what a hold answers stands, and after a release nothing does; a scan counts what it kept and gave back
+  -- queue and the bucket had; what a hold or a copy answers stands, and after a release or a drop nothing does; a look answers what the
+  -- row shows that stands; a scan counts what it kept and gave back
   pub reasons : EachEntry (reasons_ok config) r
   -- a call that answers Full was given no row and had one block, and since then each row was taken at a position
   pub full : (s : ℕ) → s ≤ config.slots → EachEntry (full_ok config s) r

@@ -5,7 +5,7 @@ use Rattle.model_record.specs.defs.declared.call.Call.{Call}
 use Rattle.model_record.specs.defs.declared.call.Call.TheVariants as calls
 use Rattle.model_record.specs.defs.declared.event.Event.{Event}
 use Rattle.model_record.specs.defs.declared.event.Event.TheVariants as events
-use Rattle.model_record.specs.defs.declared.event.Guard.TheVariants.{Helper}
+use Rattle.model_record.specs.defs.declared.event.Guard.TheVariants.{Helper, Index}
 use Rattle.model_record.specs.defs.declared.lifetime.Interval.{Interval}
 use Rattle.wfe_words.specs.Schemes.{has_one_interval, is_wfe}
 use Rattle.wfe_words.specs.declared.config.Config.{Config}
@@ -41,13 +41,23 @@ abbrev pub retire_ok : Test
 retire_ok p i (events.Retire slot birth retire) = birth == birth_of slot p && (has_cut i slot p && was_clock (own i (cuts slot)) retire p)
 retire_ok p i event = true
 
--- the upper end of what a guard is told to publish was the clock at a position of the call that tells it
+-- the upper end of what a guard is told to publish was the clock at a position of the call that tells it, unless a copy tells it
 abbrev pub upper_current : (seat : ℕ) → Option Interval → Past → Bool
 upper_current i None p = true
 upper_current i (Some span) p = was_clock (begins i) span.hi p
 
+-- both are intervals, and the same
+abbrev pub same_interval : Option Interval → Option Interval → Bool
+same_interval (Some a) (Some b) = a.lo == b.lo && a.hi == b.hi
+same_interval a b = false
+
+-- in a copy, what the index word publishes from which it copies
+abbrev pub is_copied : (seat : ℕ) → Option Call → Option Interval → Past → Bool
+is_copied i (Some (calls.Copy from index)) span p = same_interval span (value_of (Index i from) p)
+is_copied i call span p = false
+
 abbrev pub current_ok : Test
-current_ok p i (events.Reserve guard span) = upper_current i span p
+current_ok p i (events.Reserve guard span) = upper_current i span p || is_copied i (began_of i p) span p
 current_ok p i event = true
 
 -- one era alone, but where the scheme has one interval for a seat
@@ -69,11 +79,6 @@ abbrev pub rising_ok : SchemeKind → Test
 rising_ok scheme p i (events.Reserve guard span) = not (has_one_interval scheme) || span_rises (value_of guard p) span
 rising_ok scheme p i event = true
 
--- both are intervals, and the same
-abbrev pub same_interval : Option Interval → Option Interval → Bool
-same_interval (Some a) (Some b) = a.lo == b.lo && a.hi == b.hi
-same_interval a b = false
-
 -- A seat tells of its own guards, but for one case under Wait-Free Eras: an index word, of the interval that the seat's own helper
 -- word publishes.
 abbrev pub guard_ok : SchemeKind → Test
@@ -90,7 +95,8 @@ pub record EraLaw (config : Config) (r : Past) : Type 0 where
   pub births : EachEntry birth_ok r
   -- a row is retired with its birth era, and a retire era that was the clock at a position after its cut
   pub retires : EachEntry retire_ok r
-  -- the upper end of what a guard is told to publish was the clock at a position of the call that tells it
+  -- the upper end of what a guard is told to publish was the clock at a position of the call that tells it; in a copy it may be the
+  -- interval that the index word publishes from which it copies
   pub current : EachEntry current_ok r
   -- a guard publishes one era, but under 2GE
   pub single : EachEntry (single_ok config.scheme) r

@@ -11,10 +11,10 @@ use Rattle.model_record.specs.defs.declared.call.ClockMove.{ClockMove}
 use Rattle.model_record.specs.defs.declared.event.Event.TheVariants as events
 use Rattle.model_record.specs.defs.declared.event.Event.{Event}
 use Rattle.wfe_words.specs.declared.config.Config.{Config}
-use Rattle.laws.specs.AnswerLaw.{enqueue_reason, from_of, is_advance, lacks_ok, moves_before, moves_of, retires_for, same_event, suits}
+use Rattle.laws.specs.AnswerLaw.{enqueue_reason, from_of, is_advance, lacks_ok, moves_before, moves_of, retires_for, same_event, suits, shows_value, tells_none}
 use Rattle.laws.specs.HistoryScans.{Search, search_of}
 use Rattle.laws.specs.ScanLaw.{guards}
-use Rattle.laws.specs.StateAt.{began_of, begun_at, bucket_of, changed_of, clock_of, count_of, finds_of, had_version, has_told, is_row, is_there, pairs_at, retires_of, seen, stood_at, taken_since, told, told_of, was_current, was_empty}
+use Rattle.laws.specs.StateAt.{began_of, begun_at, bucket_of, changed_of, clock_of, count_of, finds_of, had_version, has_told, is_row, is_there, pairs_at, retires_of, seen, stood_at, taken_since, told, told_of, was_current, was_empty, shows_of}
 
 abbrev pub counts_right : Event → ℕ → Bool
 counts_right (events.End steps answer) before = before == retires_for answer
@@ -101,6 +101,8 @@ owes n (calls.Put key value) (answers.Done version clock) = events.Put (key % n)
 owes n (calls.Remove key) (answers.Done version clock) = events.Removed (key % n) version key ∷ []
 owes n (calls.Enqueue value) (answers.Queued number) = events.Queued number value ∷ []
 owes n calls.Dequeue (answers.Taken number value clock) = events.Taken number value ∷ []
+owes n (calls.Copy from index) (answers.Copied slot) = events.Copied from index slot ∷ []
+owes n (calls.PutIf key value wanted) (answers.Done version clock) = events.Put (key % n) version key value ∷ []
 owes n call answer = []
 
 abbrev pub same_told : List Event → List Event → Bool
@@ -161,6 +163,32 @@ abbrev pub release_reason : ℕ → Past → Answer → Bool
 release_reason i p answers.Released = is_none (stood_at i 2 p)
 release_reason i p answer = true
 
+-- a copy: the call told it once, and the row stands at both indexes; or nothing stands where it copies from, and the call told nothing
+abbrev pub copy_reason : (i from index : ℕ) → Past → Answer → Bool
+copy_reason i from index p (answers.Copied slot) = is_row slot (stood_at i from p) && is_row slot (stood_at i index p)
+copy_reason i from index p answers.Nothing = is_none (stood_at i from p) && tells_none i p
+copy_reason i from index p answer = true
+
+-- a drop: nothing stands at the index
+abbrev pub drop_reason : (i index : ℕ) → Past → Answer → Bool
+drop_reason i index p answers.Dropped = is_none (stood_at i index p)
+drop_reason i index p answer = true
+
+-- a look: the row stands at the index, and shows the version and the key's value; or nothing stands there
+abbrev pub look_reason : (i index key : ℕ) → Past → Answer → Bool
+look_reason i index key p (answers.Looked slot version value) = is_row slot (stood_at i index p) && shows_value version key value p (shows_of slot p)
+look_reason i index key p answers.Nothing = is_none (stood_at i index p)
+look_reason i index key p answer = true
+
+-- a put that names a version, by that version: it is done or refused as a put where the bucket is at it, and stale where the bucket was
+-- at another
+abbrev pub put_if_reason : Config → (i b key wanted : ℕ) → Past → Answer → Bool
+put_if_reason c i b key wanted p (answers.Done version clock) = version == wanted + 1 && put_reason c i b key p (answers.Done version clock)
+put_if_reason c i b key wanted p (answers.Stale version) = was_current i b version p && not (version == wanted)
+put_if_reason c i b key wanted p (answers.Spent version) = version == wanted && put_reason c i b key p (answers.Spent version)
+put_if_reason c i b key wanted p (answers.BucketFull version) = version == wanted && put_reason c i b key p (answers.BucketFull version)
+put_if_reason c i b key wanted p answer = true
+
 -- by the call of seat i that gives the answer
 abbrev pub reason : Config → ℕ → Past → Option Call → Answer → Bool
 reason c i p (Some (calls.Put key value)) answer = put_reason c i (bucket_of c.buckets key) key p answer
@@ -169,6 +197,10 @@ reason c i p (Some (calls.Enqueue value)) answer = enqueue_reason c p answer
 reason c i p (Some calls.Dequeue) answer = dequeue_reason i p answer
 reason c i p (Some (calls.Hold key)) answer = hold_reason i (bucket_of c.buckets key) p answer
 reason c i p (Some calls.Release) answer = release_reason i p answer
+reason c i p (Some (calls.Copy from index)) answer = copy_reason i from index p answer
+reason c i p (Some (calls.DropIndex index)) answer = drop_reason i index p answer
+reason c i p (Some (calls.Look index key)) answer = look_reason i index key p answer
+reason c i p (Some (calls.PutIf key value wanted)) answer = put_if_reason c i (bucket_of c.buckets key) key wanted p answer
 reason c i p call answer = true
 
 -- where a call ends, its answer has its reason

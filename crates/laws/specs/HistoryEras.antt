@@ -8,10 +8,10 @@ use Rattle.model_record.specs.defs.declared.lifetime.Interval.{Interval}
 use Rattle.wfe_words.specs.Schemes.{is_ibr}
 use Rattle.wfe_words.specs.declared.config.Config.{Config}
 use Rattle.wfe_words.specs.declared.config.SchemeKind.{SchemeKind}
-use Rattle.laws.specs.EraLaw.{guard_ok, upper_current}
+use Rattle.laws.specs.EraLaw.{guard_ok, upper_current, is_copied}
 use Rattle.laws.specs.HistoryScans.Course.{Advancing, MayScan, MustScan, Plain, Reading}
 use Rattle.laws.specs.HistoryScans.{Course, plain_tally}
-use Rattle.laws.specs.StateAt.{birth_of, clock_of, cuts, value_of, was_clock}
+use Rattle.laws.specs.StateAt.{birth_of, clock_of, cuts, value_of, was_clock, began_of}
 
 abbrev pub may_move : Course → Bool
 may_move Plain = false
@@ -67,7 +67,7 @@ abbrev pub RetiresCurrent : Past → Type 0
 RetiresCurrent r = EachEntry retire_current r
 
 abbrev pub reserve_current : Test
-reserve_current p i (events.Reserve guard span) = upper_current i span p
+reserve_current p i (events.Reserve guard span) = upper_current i span p || is_copied i (began_of i p) span p
 reserve_current p i event = true
 
 abbrev pub ReservesCurrent : Past → Type 0
@@ -106,7 +106,7 @@ pub record HistoryEras (config : Config) (r : Past) : Type 0 where
   pub births : BirthLaw r
   -- a row is retired with a retire era that was the clock at a position after its seat has told its cut
   pub retires_current : RetiresCurrent r
-  -- the upper end of what a guard is told to publish was the clock at a position of the call that tells it
+  -- the upper end of what a guard is told to publish was the clock at a position of the call that tells it, but for a copy
   pub reserves_current : ReservesCurrent r
   -- an interval of 2GE begins with one era; until it is withdrawn its lower end is kept and each change raises its upper end
   pub spans_rise : SpansRise r

@@ -1,5 +1,7 @@
 -- What stands at an index of a seat in each history, where one row does at most, and what protections find.
-use Rattle.std.specs.Prelude.{Bool, List, None, Option, Some, false, if◌then◌else◌, is_none, is_some, not, true, ℕ, ◌&&◌, ◌==◌, ◌||◌, ◌≡◌}
+use Rattle.laws.specs.Standing.{is_copy}
+use Rattle.wfe_words.specs.Schemes.{has_one_interval}
+use Rattle.std.specs.Prelude.{Bool, List, None, Option, Some, false, if◌then◌else◌, is_none, is_some, not, true, ℕ, ◌&&◌, ◌==◌, ◌||◌, ◌≡◌, nat_le, nat_lt, suc, zero, ◌<◌}
 use Rattle.model_record.specs.Record.{EachEntry, Past, Test, begins, held_since, tells}
 use Rattle.model_record.specs.defs.Entry.{Entry}
 use Rattle.model_record.specs.defs.declared.call.Call.TheVariants as calls
@@ -9,8 +11,6 @@ use Rattle.model_record.specs.defs.declared.event.Guard.TheVariants.{Helper, Ind
 use Rattle.model_record.specs.defs.declared.event.Root.TheVariants as roots
 use Rattle.model_record.specs.defs.declared.lifetime.Interval.{Interval}
 use Rattle.wfe_words.specs.declared.config.Config.{Config}
-use Rattle.wfe_words.specs.declared.config.SchemeKind.TheVariants.{He, Ibr, Wfe}
-use Rattle.wfe_words.specs.declared.config.SchemeKind.{SchemeKind}
 use Rattle.laws.specs.HoldLaw.{finds_ok, has_had, is_held, is_last}
 use Rattle.laws.specs.NoReuse.{is_reuse}
 use Rattle.laws.specs.Once.{is_slot}
@@ -36,14 +36,17 @@ abbrev pub protects_at : Option Call → ℕ → Bool
 protects_at (Some (calls.Get key)) index = index == 0
 protects_at (Some (calls.Put key value)) index = index == 0
 protects_at (Some (calls.Remove key)) index = index == 0
+protects_at (Some (calls.PutIf key value version)) index = index == 0
 protects_at (Some (calls.Enqueue value)) index = index == 0
 protects_at (Some calls.Dequeue) index = index == 0 || index == 1
 protects_at (Some (calls.Hold key)) index = index == 2
 protects_at call index = false
 
--- a call clears where it protects, and a release at index 2
+-- a call clears where it protects, a release at index 2, a drop at its index, and a copy where it copies to
 abbrev pub clears_at : Option Call → ℕ → Bool
 clears_at (Some calls.Release) index = index == 2
+clears_at (Some (calls.DropIndex dropped)) index = (index == dropped) && nat_le 2 dropped
+clears_at (Some (calls.Copy from to)) index = (index == to) && (nat_le 2 from && nat_lt from to)
 clears_at call index = protects_at call index
 
 -- So index 2 is held only in a hold and cleared only in a hold or a release, and index 1 is used only in a dequeue.
@@ -56,14 +59,24 @@ indexes_ok p i event = true
 abbrev pub IndexLaw : Past → Type 0
 IndexLaw r = EachEntry indexes_ok r
 
--- where a seat tells at an index that a row stands, or that there is none, nothing stands at that index of the seat
+-- where a seat tells at an index that a row stands, or that there is none, or copies one there, nothing stands at that index of the seat
 abbrev pub lone_ok : Test
 lone_ok p i (events.Held index slot steps) = is_none (stood_at i index p)
 lone_ok p i (events.Null index steps) = is_none (stood_at i index p)
+lone_ok p i (events.Copied from index slot) = is_none (stood_at i index p)
 lone_ok p i event = true
 
 abbrev pub LoneLaw : Past → Type 0
 LoneLaw r = EachEntry lone_ok r
+
+-- a row that is copied stands where it is copied from, and the copy, which the call is of, goes upwards from an index from 2 on
+abbrev pub copies_ok : Test
+copies_ok p i (events.Copied from index slot) =
+    is_copy from index (began_of i p) && (is_row slot (stood_at i from p) && (nat_le 2 from && nat_lt from index))
+copies_ok p i event = true
+
+abbrev pub CopyLaw : Past → Type 0
+CopyLaw r = EachEntry copies_ok r
 
 -- wherever the record is cut, a row that stands at an index of a seat is taken, and the guard of that index publishes an interval that
 -- meets the row's life
@@ -146,13 +159,18 @@ behind_ok slots p i event = true
 abbrev pub BehindLaw : (slots : ℕ) → Past → Type 0
 BehindLaw slots r = EachEntry (behind_ok slots) r
 
--- at an End of a seat nothing stands at its index j, but for index 2
+-- at an End of a seat nothing stands at its index j, but for those from 2 on
 abbrev pub bare_ok : ℕ → Test
-bare_ok j p i (events.End steps answer) = is_none (stood_at i j p) || j == 2
+bare_ok j p i (events.End steps answer) = is_none (stood_at i j p) || nat_le 2 j
 bare_ok j p i event = true
 
 abbrev pub BareLaw : Past → Type 0
 BareLaw r = (j : ℕ) → EachEntry (bare_ok j) r
+
+-- the first of two, if it is one, and else the other
+abbrev pub first_of : Option ℕ → Option ℕ → Option ℕ
+first_of None other = other
+first_of (Some slot) other = Some slot
 
 -- an interval is published exactly where a row stands
 abbrev pub is_alike : Option Interval → Option ℕ → Bool
@@ -160,27 +178,34 @@ is_alike None None = true
 is_alike (Some span) (Some slot) = true
 is_alike span slot = false
 
--- the helper word of seat i and its index words 0 and 1 publish nothing, and its index word 2 where a row stands there
-abbrev pub words_rest : ℕ → Past → Bool
-words_rest i p =
-    is_none (value_of (Helper i) p)
-    && (is_none (value_of (Index i 0) p)
-    && (is_none (value_of (Index i 1) p)
-    && is_alike (value_of (Index i 2) p) (stood_at i 2 p)))
+-- an index word publishes where a row stands, and those of 0 and 1 publish nothing
+abbrev pub index_rests : ℕ → Past → (index : ℕ) → Bool
+index_rests i p j = if nat_lt j 2 then is_none (value_of (Index i j) p) else is_alike (value_of (Index i j) p) (stood_at i j p)
 
--- under 2GE the seat's interval word publishes where a row stands at index 2
-abbrev pub guards_rest : SchemeKind → ℕ → Past → Bool
-guards_rest He i p = words_rest i p
-guards_rest Ibr i p = is_alike (value_of (Whole i) p) (stood_at i 2 p)
-guards_rest Wfe i p = words_rest i p
+-- what stands at the first index from 2 up to below a number at which something stands
+abbrev pub kept_below : ℕ → Past → (below : ℕ) → Option ℕ
+kept_below i p zero = None
+kept_below i p (suc j) = first_of (kept_below i p j) (if nat_lt j 2 then None else stood_at i j p)
 
--- so it is where a call of the seat ends
-abbrev pub rests_ok : SchemeKind → Test
-rests_ok scheme p i (events.End steps answer) = guards_rest scheme i p
-rests_ok scheme p i event = true
+-- where a call ends, under 2GE the seat's interval word publishes where a row stands at an index from 2 on
+abbrev pub spans_ok : Config → Test
+spans_ok config p i (events.End steps answer) = is_alike (value_of (Whole i) p) (kept_below i p config.indexes)
+spans_ok config p i event = true
 
-abbrev pub RestLaw : SchemeKind → Past → Type 0
-RestLaw scheme r = EachEntry (rests_ok scheme) r
+-- under the other schemes its helper word publishes nothing
+abbrev pub helpers_ok : Test
+helpers_ok p i (events.End steps answer) = is_none (value_of (Helper i) p)
+helpers_ok p i event = true
+
+-- and an index word where a row stands at the index
+abbrev pub words_ok : (index : ℕ) → Test
+words_ok j p i (events.End steps answer) = index_rests i p j
+words_ok j p i event = true
+
+pub record RestLaw (config : Config) (r : Past) : Type 0 where
+  pub spans : has_one_interval config.scheme ≡ true → EachEntry (spans_ok config) r
+  pub helpers : has_one_interval config.scheme ≡ false → EachEntry helpers_ok r
+  pub words : has_one_interval config.scheme ≡ false → (j : ℕ) → j < config.indexes → EachEntry (words_ok j) r
 
 -- A row stands at an index of a seat from the Held that tells so to the Clear. While it does, it is not used again.
 pub record HistoryStands (r : Past) : Type 0 where
@@ -188,8 +213,10 @@ pub record HistoryStands (r : Past) : Type 0 where
   pub reuse : ReuseLaw r
   -- a seat tells that a row stands at an index no more only where the row stands there
   pub clears : ClearLaw r
-  -- only holds and releases use index 2, and only dequeues index 1
+  -- only holds and what lets go of them use index 2, only dequeues index 1, and only copies and drops those above 2
   pub indexes : IndexLaw r
+  -- what is copied stands where it is copied from
+  pub copies : CopyLaw r
 
 -- What stands is covered, and was there to be found.
 pub record HistoryHolds (config : Config) (r : Past) : Type 0 where
@@ -207,7 +234,7 @@ pub record HistoryHolds (config : Config) (r : Past) : Type 0 where
   pub follows : FollowLaw config.slots r
   -- what is held at index 1 is the next row of the head's row; where nothing is, the head's row had no next one at a position of the call
   pub behind : BehindLaw config.slots r
-  -- where a call ends nothing stands at an index of its seat but 2
+  -- where a call ends nothing stands at an index of its seat below 2
   pub bare : BareLaw r
   -- where a call ends its seat's guards publish nothing, but for what is held on
-  pub rests : RestLaw config.scheme r
+  pub rests : RestLaw config r

@@ -88,6 +88,7 @@ RetireLaw r = EachEntry retiring_ok r
 abbrev pub cuts_one : Option Call → Bool
 cuts_one (Some (calls.Put key value)) = true
 cuts_one (Some (calls.Remove key)) = true
+cuts_one (Some (calls.PutIf key value version)) = true
 cuts_one (Some calls.Dequeue) = true
 cuts_one call = false
 

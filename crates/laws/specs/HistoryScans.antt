@@ -49,6 +49,7 @@ pub record Tally : Type 0 where
 abbrev pub first_course : Call → Course
 first_course (calls.Put key value) = MayScan
 first_course (calls.Remove key) = MayScan
+first_course (calls.PutIf key value version) = MayScan
 first_course (calls.Enqueue value) = MayScan
 first_course calls.Advance = Advancing
 first_course calls.Scan = MustScan false
@@ -136,6 +137,7 @@ pub record Search : Type 0 where
 abbrev pub seeks_row : Call → Bool
 seeks_row (calls.Put key value) = true
 seeks_row (calls.Remove key) = true
+seeks_row (calls.PutIf key value version) = true
 seeks_row (calls.Enqueue value) = true
 seeks_row call = false
 

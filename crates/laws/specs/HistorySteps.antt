@@ -3,7 +3,7 @@ use Rattle.std.specs.Prelude.{Bool, List, None, Option, Some, [], false, if◌th
 use Rattle.model_record.specs.Record.{EachEntry, Past, Test, tells_of}
 use Rattle.model_record.specs.Turns.History.{Blank, Starts, Turns}
 use Rattle.model_record.specs.Turns.{EachTurn, History, record_of}
-use Rattle.model_record.specs.defs.Bounds.{clock_most, get_most, hold_most, next_over_most, next_told_most, over_most, told_most}
+use Rattle.model_record.specs.defs.Bounds.{clock_most, get_most, hold_most, next_over_most, next_told_most, over_most, told_most, look_most}
 use Rattle.model_record.specs.defs.declared.call.Answer.TheVariants as answers
 use Rattle.model_record.specs.defs.declared.call.Answer.{Answer}
 use Rattle.model_record.specs.defs.declared.call.Call.TheVariants as calls
@@ -12,7 +12,7 @@ use Rattle.model_record.specs.defs.declared.call.ClockMove.TheVariants as moves
 use Rattle.model_record.specs.defs.declared.event.Event.TheVariants as events
 use Rattle.model_record.specs.defs.declared.event.Event.{Event}
 use Rattle.model_record.specs.defs.declared.event.Guard.TheVariants.{Helper, Index}
-use Rattle.wfe_words.specs.Schemes.{is_he, is_ibr, is_wfe}
+use Rattle.wfe_words.specs.Schemes.{is_he, is_ibr, is_wfe, has_one_interval}
 use Rattle.wfe_words.specs.declared.config.Config.{Config}
 use Rattle.wfe_words.specs.declared.config.SchemeKind.{SchemeKind}
 use Rattle.laws.specs.HistoryEras.{may_move}
@@ -20,11 +20,11 @@ use Rattle.laws.specs.HistoryScans.{plain_tally}
 use Rattle.laws.specs.HistoryTurns.{turns_since}
 use Rattle.laws.specs.ScanLaw.{guards}
 use Rattle.laws.specs.StateAt.{backs_of, began_of, era_grows, is_found, is_helper, last_of, reserves_of, shown_by, shown_of, times, told, tried_of, value_of}
-use Rattle.laws.specs.StepLaw.{event_tried, few_steps, has_tried, raise_ok}
+use Rattle.laws.specs.StepLaw.{event_tried, few_steps, has_tried, raise_ok, is_made, is_nothing}
 
 -- so are those that a seat whose helper word publishes nothing tells of an index word, until that publishes nothing
 abbrev pub era_rises : Test
-era_rises p i (events.Reserve (Index seat index) span) = is_some (value_of (Helper i) p) || era_grows (value_of (Index seat index) p) span
+era_rises p i (events.Reserve (Index seat index) span) = nat_lt 2 index || is_some (value_of (Helper i) p) || era_grows (value_of (Index seat index) p) span
 era_rises p i event = true
 
 abbrev pub ErasRise : Past → Type 0
@@ -33,7 +33,7 @@ ErasRise r = EachEntry era_rises r
 -- an era of an index word is later than the one that the word publishes, but for those that a seat tells under Wait-Free Eras while
 -- its helper word publishes
 abbrev pub try_rises : SchemeKind → Test
-try_rises scheme p i (events.Reserve (Index seat index) span) = (is_wfe scheme && is_some (value_of (Helper i) p)) || era_grows (value_of (Index seat index) p) span
+try_rises scheme p i (events.Reserve (Index seat index) span) = nat_lt 2 index || (is_wfe scheme && is_some (value_of (Helper i) p)) || era_grows (value_of (Index seat index) p) span
 try_rises scheme p i event = true
 
 abbrev pub TriesRise : SchemeKind → Past → Type 0
@@ -175,6 +175,9 @@ is_era_spent answer = false
 -- the steps that a call with this answer takes, where so many rows went back in it
 abbrev pub steps_right : Config → Call → (backs : ℕ) → Answer → (steps : ℕ) → Bool
 steps_right config calls.Release backs answer steps = steps == 1
+steps_right config (calls.DropIndex index) backs answer steps = steps == 1
+steps_right config (calls.Copy from index) backs answer steps = steps == (if not (has_one_interval config.scheme) && is_made answer then 2 else 1)
+steps_right config (calls.Look index key) backs answer steps = if is_nothing answer then steps == 1 else nat_le steps (look_most config.pairs)
 steps_right config calls.Scan backs answer steps = steps == guards config + backs
 steps_right config calls.Advance backs answer steps =
     if is_wfe config.scheme then nat_le steps (clock_most config.seats) else steps == (if is_era_spent answer then 1 else 2)

@@ -38,6 +38,8 @@ is_root config root = true
 
 abbrev pub is_answer : Config → Answer → Bool
 is_answer config (answers.Holding slot) = nat_le slot config.slots
+is_answer config (answers.Copied slot) = nat_le slot config.slots
+is_answer config (answers.Looked slot version value) = nat_le slot config.slots
 is_answer config answer = true
 
 -- the indexes, rows and buckets of an event are those of the table
@@ -52,6 +54,7 @@ is_in_range config (events.Back slot) = nat_le slot config.slots
 is_in_range config (events.Held index slot steps) = nat_lt index config.indexes && nat_le slot config.slots
 is_in_range config (events.Null index steps) = nat_lt index config.indexes
 is_in_range config (events.Clear index slot) = nat_lt index config.indexes && nat_le slot config.slots
+is_in_range config (events.Copied from index slot) = nat_lt from config.indexes && (nat_lt index config.indexes && nat_le slot config.slots)
 is_in_range config (events.Put bucket version key value) = nat_lt bucket config.buckets
 is_in_range config (events.Removed bucket version key) = nat_lt bucket config.buckets
 is_in_range config (events.Got bucket version key value) = nat_lt bucket config.buckets

@@ -1,5 +1,5 @@
 -- What protections hold.
-use Rattle.std.specs.Prelude.{Bool, ℕ, ◌&&◌, List, Some, true, ◌≡◌, Option, false, ◌%◌, None, ◌==◌, ◌||◌, not, if◌then◌else◌, is_none, [], ◌∷◌}
+use Rattle.std.specs.Prelude.{Bool, ℕ, ◌&&◌, List, Some, true, ◌≡◌, Option, false, ◌%◌, None, ◌==◌, ◌||◌, not, if◌then◌else◌, is_none, [], ◌∷◌, nat_lt, suc, zero}
 use Rattle.model_record.specs.Record.{Past, tells, begins, held_since, Test, EachEntry}
 use Rattle.model_record.specs.defs.Entry.{Entry}
 use Rattle.model_record.specs.defs.Events.{is_null}
@@ -39,6 +39,7 @@ abbrev pub has_had : Config → ℕ → Past → Option Call → Option ℕ → 
 has_had c i p (Some (calls.Get key)) found = held_since (begins i) (λ (q : Past). same_value found (bucket_at (key % c.buckets) q)) p
 has_had c i p (Some (calls.Put key value)) found = held_since (begins i) (λ (q : Past). same_value found (bucket_at (key % c.buckets) q)) p
 has_had c i p (Some (calls.Remove key)) found = held_since (begins i) (λ (q : Past). same_value found (bucket_at (key % c.buckets) q)) p
+has_had c i p (Some (calls.PutIf key value version)) found = held_since (begins i) (λ (q : Past). same_value found (bucket_at (key % c.buckets) q)) p
 has_had c i p (Some (calls.Hold key)) found = held_since (begins i) (λ (q : Past). same_value found (bucket_at (key % c.buckets) q)) p
 has_had c i p (Some (calls.Enqueue value)) found = held_since (begins i) (λ (q : Past). same_value found (Some (tail_at c.slots q))) p
 has_had c i p (Some calls.Dequeue) found = held_since (begins i) (λ (q : Past). same_value found (Some (head_at c.slots q))) p
@@ -113,22 +114,32 @@ abbrev pub is_alike : Option Interval → (bare : Bool) → Bool
 is_alike None bare = bare
 is_alike (Some span) bare = not bare
 
--- the helper word of seat i and its index words 0 and 1 publish nothing, and its index word 2 where a row stands there
-abbrev pub words_rest : ℕ → Past → Bool
-words_rest i p =
-    is_none (value_of (Helper i) p)
-    && (is_none (value_of (Index i 0) p)
-    && (is_none (value_of (Index i 1) p)
-    && is_alike (value_of (Index i 2) p) (is_bare i 2 p)))
+-- of the seat's indexes below a number, 0 and 1 publish nothing, and each other where a row stands there
+abbrev pub index_rests : ℕ → Past → (index : ℕ) → Bool
+index_rests i p j = if nat_lt j 2 then is_none (value_of (Index i j) p) else is_alike (value_of (Index i j) p) (is_bare i j p)
 
--- under 2GE the seat's interval word publishes where a row stands at index 2
-abbrev pub guards_rest : SchemeKind → ℕ → Past → Bool
-guards_rest scheme i p = if has_one_interval scheme then is_alike (value_of (Whole i) p) (is_bare i 2 p) else words_rest i p
+abbrev pub indexes_rest : ℕ → Past → (below : ℕ) → Bool
+indexes_rest i p zero = true
+indexes_rest i p (suc j) = index_rests i p j && indexes_rest i p j
+
+-- the helper word of seat i publishes nothing, nor do its index words 0 and 1, and each other where a row stands there
+abbrev pub words_rest : Config → ℕ → Past → Bool
+words_rest config i p = is_none (value_of (Helper i) p) && indexes_rest i p config.indexes
+
+-- no row stands at an index of the seat from 2 up to below a number
+abbrev pub keeps_none : ℕ → Past → (below : ℕ) → Bool
+keeps_none i p zero = true
+keeps_none i p (suc j) = (nat_lt j 2 || is_bare i j p) && keeps_none i p j
+
+-- under 2GE the seat's interval word publishes where a row stands at an index from 2 on
+abbrev pub guards_rest : Config → ℕ → Past → Bool
+guards_rest config i p =
+    if has_one_interval config.scheme then is_alike (value_of (Whole i) p) (keeps_none i p config.indexes) else words_rest config i p
 
 -- so it is where a call of the seat ends
-abbrev pub rests_ok : SchemeKind → Test
-rests_ok scheme p i (events.End steps answer) = guards_rest scheme i p
-rests_ok scheme p i event = true
+abbrev pub rests_ok : Config → Test
+rests_ok config p i (events.End steps answer) = guards_rest config i p
+rests_ok config p i event = true
 
 -- What stands is covered, and was there to be found.
 pub record HoldLaw (config : Config) (r : Past) : Type 0 where
@@ -148,4 +159,4 @@ pub record HoldLaw (config : Config) (r : Past) : Type 0 where
   -- where a call ends nothing stands at index 0 or 1 of its seat
   pub bare : EachEntry bare_ok r
   -- where a call ends its seat's guards publish nothing, but for what is held on
-  pub rests : EachEntry (rests_ok config.scheme) r
+  pub rests : EachEntry (rests_ok config) r

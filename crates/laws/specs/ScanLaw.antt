@@ -130,6 +130,7 @@ blocks_of config i p = seen (blocks_by (guards config) config.every) no_blocks i
 abbrev pub is_given_one : Option Call → Bool
 is_given_one (Some (calls.Put key value)) = true
 is_given_one (Some (calls.Remove key)) = true
+is_given_one (Some (calls.PutIf key value version)) = true
 is_given_one (Some (calls.Enqueue value)) = true
 is_given_one call = false
 

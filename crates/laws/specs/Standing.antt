@@ -1,10 +1,10 @@
 -- Calls and what stands: calls in turn, where a seat may clear, and which calls use which indexes.
-use Rattle.std.specs.Prelude.{ℕ, Bool, false, true, Option, Some, ◌==◌, if◌then◌else◌, not}
+use Rattle.std.specs.Prelude.{ℕ, Bool, false, true, Option, Some, ◌==◌, if◌then◌else◌, not, ◌&&◌, ◌||◌, nat_le, nat_lt}
 use Rattle.model_record.specs.Record.{Test, EachEntry, Past}
 use Rattle.model_record.specs.defs.declared.call.Call.{Call}
 use Rattle.model_record.specs.defs.declared.call.Call.TheVariants as calls
 use Rattle.model_record.specs.defs.declared.event.Event.TheVariants as events
-use Rattle.laws.specs.StateAt.{stands, began_of, is_dequeue, is_open}
+use Rattle.laws.specs.StateAt.{stands, began_of, is_bare, is_dequeue, is_open}
 
 -- a call begins where its seat is in none, and all else is told in a call
 abbrev pub open_ok : Test
@@ -34,9 +34,28 @@ may_hold call index = if index == 2 then is_hold call else (if index == 1 then i
 abbrev pub may_miss : Option Call → ℕ → Bool
 may_miss call index = if index == 1 then is_dequeue call else true
 
--- a call may clear this index: 2 a hold or a release, and 1 a dequeue
+-- a drop of what stands at this index
+abbrev pub is_drop : ℕ → Option Call → Bool
+is_drop index (Some (calls.DropIndex dropped)) = dropped == index
+is_drop index call = false
+
+-- a copy to this index
+abbrev pub is_copy_to : ℕ → Option Call → Bool
+is_copy_to index (Some (calls.Copy from to)) = to == index
+is_copy_to index call = false
+
+-- a copy from this index to that
+abbrev pub is_copy : (from index : ℕ) → Option Call → Bool
+is_copy from index (Some (calls.Copy one other)) = one == from && other == index
+is_copy from index call = false
+
+-- a call may clear this index: 1 a dequeue, 2 a hold, a release or a drop, and those above 2 a copy to it or a drop
 abbrev pub may_clear : Option Call → ℕ → Bool
-may_clear call index = if index == 2 then lets_go call else (if index == 1 then is_dequeue call else true)
+may_clear call index =
+    if index == 0 then true
+    else if index == 1 then is_dequeue call
+    else if index == 2 then lets_go call || is_drop 2 call
+    else is_copy_to index call || is_drop index call
 
 abbrev pub indexes_ok : Test
 indexes_ok p i (events.Held index slot steps) = may_hold (began_of i p) index
@@ -44,9 +63,19 @@ indexes_ok p i (events.Null index steps) = may_miss (began_of i p) index
 indexes_ok p i (events.Clear index slot) = may_clear (began_of i p) index
 indexes_ok p i event = true
 
--- What seats clear, and at which indexes.
+-- A Copied is told in a copy of these indexes, which goes upwards from an index from 2 on. The row stands at the one, and nothing at the
+-- other.
+abbrev pub copies_ok : Test
+copies_ok p i (events.Copied from index slot) =
+    is_copy from index (began_of i p) && (stands i from slot p && (is_bare i index p && (nat_le 2 from && nat_lt from index)))
+copies_ok p i event = true
+
+-- What seats clear and copy, and at which indexes.
 pub record Standing (r : Past) : Type 0 where
   -- a seat tells that a row stands at an index no more only where the row stands there
   pub clears : EachEntry clears_ok r
-  -- index 2 is held only in a hold, and cleared only in a hold or a release; index 1 is used only in a dequeue
+  -- index 2 is held only in a hold, and cleared only in a hold, a release or a drop of it; index 1 is used only in a dequeue; an index
+  -- above 2 is cleared only in a copy to it or a drop of it
   pub indexes : EachEntry indexes_ok r
+  -- what stands is copied in a copy, upwards, to an index at which nothing stands
+  pub copies : EachEntry copies_ok r

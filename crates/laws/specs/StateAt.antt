@@ -70,7 +70,7 @@ abbrev pub began_of : ℕ → Past → Option Call
 began_of k Start = None
 began_of k (Then p i event) = if k == i then began_by event (began_of k p) else began_of k p
 
--- what it has told of the map and of the queue since
+-- what it has told of the map, of the queue and of copies since
 abbrev pub with_told : Event → List Event → List Event
 with_told (events.Begin call) before = []
 with_told (events.Got bucket version key value) before = before ++ events.Got bucket version key value ∷ []
@@ -78,6 +78,7 @@ with_told (events.Put bucket version key value) before = before ++ events.Put bu
 with_told (events.Removed bucket version key) before = before ++ events.Removed bucket version key ∷ []
 with_told (events.Queued number value) before = before ++ events.Queued number value ∷ []
 with_told (events.Taken number value) before = before ++ events.Taken number value ∷ []
+with_told (events.Copied from index slot) before = before ++ events.Copied from index slot ∷ []
 with_told event before = before
 
 abbrev pub told_of : ℕ → Past → List Event
@@ -108,10 +109,11 @@ abbrev pub is_one_of : ℕ → List ℕ → Bool
 is_one_of slot [] = false
 is_one_of slot (other ∷ rows) = (slot == other) || is_one_of slot rows
 
--- what an event of a seat makes of the rows that stand at its index j: a Held adds its row, whatever stands there, and a Clear takes
--- its own row away, and no other
+-- what an event of a seat makes of the rows that stand at its index j: a Held or a Copied adds its row, whatever stands there, and a
+-- Clear takes its own row away, and no other
 abbrev pub standing_by : ℕ → Event → List ℕ → List ℕ
 standing_by j (events.Held index slot steps) rows = if j == index then slot ∷ rows else rows
+standing_by j (events.Copied from index slot) rows = if j == index then slot ∷ rows else rows
 standing_by j (events.Clear index slot) rows = if j == index then without_row slot rows else rows
 standing_by j event rows = rows
 
@@ -120,7 +122,7 @@ abbrev pub standing_of : ℕ → ℕ → Past → List ℕ
 standing_of k j Start = []
 standing_of k j (Then p i e) = if k == i then standing_by j e (standing_of k j p) else standing_of k j p
 
--- row s stands at index j of seat k: the seat told Held of it there, and since then no Clear of it there
+-- row s stands at index j of seat k: the seat told Held of it there, or Copied, and since then no Clear of it there
 abbrev pub stands : (k j s : ℕ) → Past → Bool
 stands k j s p = is_one_of s (standing_of k j p)
 
@@ -133,6 +135,7 @@ is_bare k j p = is_empty (standing_of k j p)
 -- what an event of a seat makes of what stood at its index j
 abbrev pub stood_by : ℕ → Event → Option ℕ → Option ℕ
 stood_by j (events.Held index slot steps) x = if j == index then Some slot else x
+stood_by j (events.Copied from index slot) x = if j == index then Some slot else x
 stood_by j (events.Clear index slot) x = if j == index then None else x
 stood_by j event x = x
 
@@ -150,6 +153,7 @@ abbrev pub has_root : Option Call → Bool
 has_root (Some (calls.Get key)) = true
 has_root (Some (calls.Put key value)) = true
 has_root (Some (calls.Remove key)) = true
+has_root (Some (calls.PutIf key value version)) = true
 has_root (Some (calls.Enqueue value)) = true
 has_root (Some calls.Dequeue) = true
 has_root call = false
@@ -528,11 +532,12 @@ abbrev pub rising_of : (seat index : ℕ) → Past → Bool
 rising_of i j Start = true
 rising_of i j (Then p k event) = rising_by i j (value_of (Index i j) p) event (rising_of i j p)
 
--- an interval is one more; none, and what a protection ends with, begin anew
+-- an interval is one more; none, what a protection ends with, and a copy, which is no protection, begin anew
 abbrev pub tried_by : (seat index : ℕ) → Event → ℕ → ℕ
 tried_by i j (events.Reserve guard span) before = if is_index_word i j guard then one_more span before else before
 tried_by i j (events.Held index slot steps) before = if index == j then 0 else before
 tried_by i j (events.Null index steps) before = if index == j then 0 else before
+tried_by i j (events.Copied from index slot) before = if index == j then 0 else before
 tried_by i j event before = before
 
 -- how often seat i has published its index word j in the protection that is under way there: since it published nothing, and since
@@ -541,11 +546,12 @@ abbrev pub tried_of : (seat index : ℕ) → Past → ℕ
 tried_of i j Start = 0
 tried_of i j (Then p k event) = if i == k then tried_by i j event (tried_of i j p) else tried_of i j p
 
--- none, and what a protection ends with, begin anew
+-- none, what a protection ends with, and a copy begin anew
 abbrev pub own_last_by : (seat index : ℕ) → Event → Option Interval → Option Interval
 own_last_by i j (events.Reserve guard span) before = if is_index_word i j guard then span else before
 own_last_by i j (events.Held index slot steps) before = if index == j then None else before
 own_last_by i j (events.Null index steps) before = if index == j then None else before
+own_last_by i j (events.Copied from index slot) before = if index == j then None else before
 own_last_by i j event before = before
 
 -- what seat i itself told last that its index word j publishes, in the protection that is under way there
@@ -557,6 +563,7 @@ abbrev pub own_rising_by : (seat index : ℕ) → (last : Option Interval) → E
 own_rising_by i j last (events.Reserve guard span) before = if is_index_word i j guard then rises_on last span before else before
 own_rising_by i j last (events.Held index slot steps) before = if index == j then true else before
 own_rising_by i j last (events.Null index steps) before = if index == j then true else before
+own_rising_by i j last (events.Copied from index slot) before = if index == j then true else before
 own_rising_by i j last event before = before
 
 -- the eras that seat i itself has told of its index word j in that protection rose
@@ -710,6 +717,28 @@ row_by b v p event before = before
 abbrev pub row_at : (b v : ℕ) → Past → Option ℕ
 row_at b v Start = None
 row_at b v (Then p i event) = row_by b v p event (row_at b v p)
+
+-- which version of which bucket a row shows, if any. `Unlinked`: it was never linked at a bucket's root; `LinkedAt`: it was linked there
+-- last, and no change was told since; `ShowsVersion`: the first change told after that had this version
+pub data RowShows : Type 0 where
+  Unlinked : RowShows
+  LinkedAt : (bucket : ℕ) → RowShows
+  ShowsVersion : (bucket version : ℕ) → RowShows
+
+abbrev pub changed_to : (version : ℕ) → RowShows → RowShows
+changed_to version Unlinked = Unlinked
+changed_to version (LinkedAt bucket) = ShowsVersion bucket version
+changed_to version (ShowsVersion bucket first) = ShowsVersion bucket first
+
+abbrev pub shows_by : ℕ → Event → RowShows → RowShows
+shows_by s (events.Link (roots.Bucket bucket) slot) before = if s == slot then LinkedAt bucket else before
+shows_by s (events.Put bucket version key value) before = changed_to version before
+shows_by s (events.Removed bucket version key) before = changed_to version before
+shows_by s event before = before
+
+abbrev pub shows_of : ℕ → Past → RowShows
+shows_of s Start = Unlinked
+shows_of s (Then p i event) = shows_by s event (shows_of s p)
 
 -- The queue.
 

@@ -2,13 +2,15 @@
 use Rattle.std.specs.Prelude.{Bool, None, Option, Some, false, if◌then◌else◌, is_none, is_some, nat_le, not, true, ℕ, ◌&&◌, ◌*◌, ◌+◌, ◌==◌, ◌||◌, ◌≡◌}
 use Rattle.model_record.specs.Record.Past.{Start, Then}
 use Rattle.model_record.specs.Record.{EachEntry, Past, Test}
-use Rattle.model_record.specs.defs.Bounds.{clock_most, get_most, hold_most, next_told_most, told_most}
+use Rattle.model_record.specs.defs.Bounds.{clock_most, get_most, hold_most, look_most, next_told_most, told_most}
+use Rattle.model_record.specs.defs.declared.call.Answer.{Answer}
+use Rattle.model_record.specs.defs.declared.call.Answer.TheVariants as answers
 use Rattle.model_record.specs.defs.declared.call.Call.TheVariants as calls
 use Rattle.model_record.specs.defs.declared.call.Call.{Call}
 use Rattle.model_record.specs.defs.declared.event.Event.TheVariants as events
 use Rattle.model_record.specs.defs.declared.event.Event.{Event}
 use Rattle.model_record.specs.defs.declared.event.Guard.TheVariants.{Helper}
-use Rattle.wfe_words.specs.Schemes.{is_he, is_ibr, is_wfe}
+use Rattle.wfe_words.specs.Schemes.{has_one_interval, is_he, is_ibr, is_wfe}
 use Rattle.wfe_words.specs.declared.config.Config.{Config}
 use Rattle.laws.specs.ScanLaw.{guards}
 use Rattle.laws.specs.StateAt.{backs_of, began_of, is_found, is_helper, own_rising_of, raised_of, reserves_of, rising_of, tried_of, value_of}
@@ -77,22 +79,35 @@ abbrev pub ask_ok : (tries index : ℕ) → Test
 ask_ok tries j p i (events.Reserve (Helper k) (Some span)) = not (k == i) || has_tried tries i j p
 ask_ok tries j p i event = true
 
--- the steps that a call takes, where so many rows went back in it
-abbrev pub steps_right : Config → Call → (backs : ℕ) → (steps : ℕ) → Bool
-steps_right config calls.Release backs steps = steps == 1
-steps_right config calls.Scan backs steps = steps == guards config + backs
-steps_right config calls.Advance backs steps = if is_wfe config.scheme then nat_le steps (clock_most config.seats) else nat_le steps 2
-steps_right config (calls.Hold key) backs steps = not (is_wfe config.scheme) || nat_le steps (hold_most config.tries)
-steps_right config (calls.Get key) backs steps = not (is_wfe config.scheme) || nat_le steps (get_most config.tries config.pairs)
-steps_right config call backs steps = true
+-- a copy answers that it was made
+abbrev pub is_made : Answer → Bool
+is_made (answers.Copied slot) = true
+is_made answer = false
 
-abbrev pub began_steps : Config → Option Call → (backs : ℕ) → (steps : ℕ) → Bool
-began_steps config None backs steps = true
-began_steps config (Some call) backs steps = steps_right config call backs steps
+-- nothing stood there
+abbrev pub is_nothing : Answer → Bool
+is_nothing answers.Nothing = true
+is_nothing answer = false
+
+-- the steps that a call with this answer takes, where so many rows went back in it
+abbrev pub steps_right : Config → Call → (backs : ℕ) → Answer → (steps : ℕ) → Bool
+steps_right config calls.Release backs answer steps = steps == 1
+steps_right config (calls.DropIndex index) backs answer steps = steps == 1
+steps_right config (calls.Copy from index) backs answer steps = steps == (if not (has_one_interval config.scheme) && is_made answer then 2 else 1)
+steps_right config (calls.Look index key) backs answer steps = if is_nothing answer then steps == 1 else nat_le steps (look_most config.pairs)
+steps_right config calls.Scan backs answer steps = steps == guards config + backs
+steps_right config calls.Advance backs answer steps = if is_wfe config.scheme then nat_le steps (clock_most config.seats) else nat_le steps 2
+steps_right config (calls.Hold key) backs answer steps = not (is_wfe config.scheme) || nat_le steps (hold_most config.tries)
+steps_right config (calls.Get key) backs answer steps = not (is_wfe config.scheme) || nat_le steps (get_most config.tries config.pairs)
+steps_right config call backs answer steps = true
+
+abbrev pub began_steps : Config → Option Call → (backs : ℕ) → Answer → (steps : ℕ) → Bool
+began_steps config None backs answer steps = true
+began_steps config (Some call) backs answer steps = steps_right config call backs answer steps
 
 -- so it is with the last call that the seat began
 abbrev pub end_ok : Config → Test
-end_ok config p i (events.End steps answer) = began_steps config (began_of i p) (backs_of i p) steps
+end_ok config p i (events.End steps answer) = began_steps config (began_of i p) (backs_of i p) answer steps
 end_ok config p i event = true
 
 -- Bounds and counts of steps, as the record shows them.
@@ -109,5 +124,5 @@ pub record StepLaw (config : Config) (r : Past) : Type 0 where
   -- under Wait-Free Eras a seat whose protection at an index is under way publishes its helper word only after it has published tries + 1
   -- rising eras there itself
   pub asks : is_wfe config.scheme ≡ true → (j : ℕ) → EachEntry (ask_ok config.tries j) r
-  -- the steps of releases, scans and advances, and under Wait-Free Eras of holds and gets
+  -- the steps of releases, drops, copies, looks, scans and advances, and under Wait-Free Eras of holds and gets
   pub calls : EachEntry (end_ok config) r

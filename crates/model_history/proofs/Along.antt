@@ -3,6 +3,7 @@ use Rattle.std.proofs.Common.{ℕ, ◌≡◌, ◌<◌, Bool, true, false, List, 
 use Rattle.std.proofs.lemmas.Bool.Decides.{nat_tests}
 use Rattle.std.specs.Prelude.{◌&&◌, not, nat_lt}
 use Rattle.wfe_core.specs.defs.declared.call.Call.{Call}
+use Rattle.wfe_core.specs.Locals.{may_begin}
 use Rattle.wfe_core.specs.World.{is_busy}
 use Rattle.model_history.specs.History.{Item, Begins, Steps, Made, fits, done, done_if, did, made_from, made_of, first_made, world_of}
 use Rattle.wfe_core.proofs.Facts.{rest_of}
@@ -12,19 +13,25 @@ use Rattle.wfe_core.specs.words.declared.layout.Layout.{Layout}
 pub low_seat : (seat seats : ℕ) (b : Bool) → (nat_lt seat seats && b) ≡ true → seat < seats
 low_seat seat seats b h = grind (arith, nat_tests)
 
-pub begins_right : (seat seats : ℕ) (busy : Bool) → (nat_lt seat seats && not busy) ≡ true → busy ≡ false
-begins_right seat seats true h = absurd (grind (arith, nat_tests))
-begins_right seat seats false h = refl
+pub begins_right : (seat seats : ℕ) (busy may : Bool) → (nat_lt seat seats && (not busy && may)) ≡ true → busy ≡ false
+begins_right seat seats true may h = absurd (grind (arith, nat_tests))
+begins_right seat seats false may h = refl
+
+pub begins_within : (seat seats : ℕ) (busy may : Bool) → (nat_lt seat seats && (not busy && may)) ≡ true → may ≡ true
+begins_within seat seats busy true h = refl
+begins_within seat seats busy false h = absurd (grind (arith, nat_tests))
 
 -- a property of what items come to, which each item that fits keeps
 pub record Steady (K : Made → Type 0) : Type 0 where
-  pub begins : (made : Made) (i : ℕ) (call : Call) → i < made.world.layout.config.seats → is_busy made.world i ≡ false → K made → K (done made (Begins i call))
+  pub begins : (made : Made) (i : ℕ) (call : Call) → i < made.world.layout.config.seats → is_busy made.world i ≡ false → may_begin made.world.layout.config call ≡ true → K made → K (done made (Begins i call))
   pub steps : (made : Made) (i : ℕ) → i < made.world.layout.config.seats → is_busy made.world i ≡ true → K made → K (done made (Steps i))
 
 pub item_keeps : (K : Made → Type 0) → Steady K → (made : Made) (item : Item) (fit : Bool) → fits made.world item ≡ fit → K made → K (done_if made item fit)
 item_keeps K s made item false f g = g
 item_keeps K s made (Begins i call) true f g =
-    s.begins made i call (low_seat i made.world.layout.config.seats (not (is_busy made.world i)) f) (begins_right i made.world.layout.config.seats (is_busy made.world i) f) g
+    let seats : ℕ = made.world.layout.config.seats in
+    let may : Bool = may_begin made.world.layout.config call in
+    s.begins made i call (low_seat i seats (not (is_busy made.world i) && may) f) (begins_right i seats (is_busy made.world i) may f) (begins_within i seats (is_busy made.world i) may f) g
 item_keeps K s made (Steps i) true f g =
     s.steps made i (low_seat i made.world.layout.config.seats (is_busy made.world i) f) (rest_of (nat_lt i made.world.layout.config.seats) (is_busy made.world i) f) g
 

@@ -21,9 +21,10 @@ use Rattle.wfe_core.specs.Locals.{told_by}
 use Rattle.wfe_core.specs.Machine as machine
 use Rattle.wfe_core.specs.Memory.{bump}
 use Rattle.wfe_core.specs.MoveClock as movers
-use Rattle.wfe_core.specs.Posts.{stands, cleared, reserves_helper, lower, upper}
+use Rattle.wfe_core.specs.Posts.{stands, cleared, reserves_helper, reserves_index, lower, upper}
 use Rattle.wfe_core.specs.Protect as protects
-use Rattle.wfe_core.specs.Rounds.{scheme_of, clear_told}
+use Rattle.wfe_core.specs.Rounds.{scheme_of, clear_told, let_index}
+use Rattle.wfe_core.specs.words.Schemes.{has_one_interval}
 use Rattle.wfe_core.specs.SlowPath.{asking, own_request}
 use Rattle.wfe_core.specs.Steps as steps
 use Rattle.wfe_core.specs.WriteRow.{last_written}
@@ -34,10 +35,10 @@ use Rattle.wfe_core.specs.Phases.AllocateAt.{ClaimSlot}
 use Rattle.wfe_core.specs.Phases.RetireAt.{StoreRetired}
 use Rattle.wfe_core.specs.Phases.MoveAt.{LoadEra, LoadRequest, ShowEra, LoadAsked, CheckEra, AnswerAsked, LoadReserved, HandOver, HideEra, HideLate, ExchangeClock}
 use Rattle.wfe_core.specs.Phases.Base.{Begin, Protect, Reload, Clear, Finish, Release, Allocate, Write, GiveUp, Retire, Move}
-use Rattle.wfe_core.specs.Calls.{Phase}
+use Rattle.wfe_core.specs.Calls.{Phase, KeepAt, Loosens, LoadHeld, StoreHeld, Looks, Misses, Work, Getting, Changing, Enqueuing, Dequeuing, Keeping}
 use Rattle.wfe_core.proofs.Facts.{same_number, number_is, both, first_of, rest_of, and_true, false_not_true}
 use Rattle.model_history.proofs.AllOf.{all_of, of_along, of_weaker}
-use Rattle.model_history.proofs.Passes.{is_quiet, Closed, First, step_goes}
+use Rattle.model_history.proofs.Passes.{is_quiet, Closed, First, copied_told, keep_told, step_goes, work_told}
 
 abbrev pub same_span : Option Interval → Option Interval → Bool
 same_span None None = true
@@ -103,7 +104,7 @@ abbrev pub base_whole : Base → Bool
 base_whole (Begin at) = begin_whole at
 base_whole (Protect aim index root made at) = at_whole at
 base_whole Finish = true
-base_whole Release = true
+base_whole (Release index) = true
 base_whole base = false
 
 abbrev pub may_store : Base → Post → (found : ℕ) → Guard → Bool
@@ -185,7 +186,7 @@ finds_row base index n = finds_none base index n
 -- the steps after which what stood at an index stands no more
 abbrev pub clears : Base → (index : ℕ) → Bool
 clears (Clear own) index = index == own
-clears Release index = index == 2
+clears (Release own) index = index == own
 clears base index = false
 
 -- the step that takes an answer
@@ -352,7 +353,7 @@ shape_of (Protect aim index root made at) post found = protect_shape aim index r
 shape_of (Reload parent index slot era made) post found = shape_if _ post found (found == parent + 1) _ _ (Single (events.Held index slot (bump made)) refl (own_two index (bump made))) (Silent refl)
 shape_of (Clear index) post found = cleared_shape (Clear index) post found index (Index post.seat index) (stands post index) (same_number index) (own_index post.seat index None false)
 shape_of Finish post found = Single (events.Reserve (Whole post.seat) None) refl (own_span post.seat None)
-shape_of Release post found = cleared_shape Release post found 2 (Whole post.seat) (stands post 2) refl (own_span post.seat None)
+shape_of (Release index) post found = cleared_shape (Release index) post found index (Whole post.seat) (stands post index) (same_number index) (own_span post.seat None)
 shape_of (Allocate (ClaimSlot birth walk)) post found = claim_shape birth walk post found (allocates.is_claimed found walk.slot) refl
 shape_of (Write slot row place) post found = shape_if _ post found (place == last_written row) _ _ (Silent refl) (Silent refl)
 shape_of (GiveUp slot) post found = Single (events.Unused slot) refl (same_number slot)
@@ -392,7 +393,7 @@ publishes (Begin at) = begin_whole at
 publishes (Protect aim index root made at) = at_stores at
 publishes (Clear index) = true
 publishes Finish = true
-publishes Release = true
+publishes (Release index) = true
 publishes (Move at) = move_stores at
 publishes base = false
 
@@ -481,6 +482,34 @@ cleared_all ok index o c = cleared_any (λ told. all_of ok told ≡ true) index 
 
 pub clear_all : (ok : Event → Bool) (scheme : SchemeKind) (post : Post) (index : ℕ) → ((index slot : ℕ) → ok (events.Clear index slot) ≡ true) → all_of ok (clear_told scheme post index) ≡ true
 clear_all ok scheme post index c = clear_any (λ told. all_of ok told ≡ true) scheme post index refl (λ slot. and_true (ok (events.Clear index slot)) (c index slot))
+
+-- what a step of a call on what is kept tells: a row that is let go, or copied, with the era that is published for it
+copied_all : (ok : Event → Bool) (from index : ℕ) (post : Post) (reserved : List Event) (o : Option ℕ) → all_of ok (cleared index (stands post index)) ≡ true → all_of ok reserved ≡ true → ((slot : ℕ) → ok (events.Copied from index slot) ≡ true) → all_of ok (copied_told from index post reserved o) ≡ true
+copied_all ok from index post reserved None c r p = refl
+copied_all ok from index post reserved (Some slot) c r p =
+    of_along ok (cleared index (stands post index) ++ reserved) (events.Copied from index slot ∷ []) (of_along ok (cleared index (stands post index)) reserved c r) (and_true (ok (events.Copied from index slot)) (p slot))
+
+pub keep_all : (ok : Event → Bool) → ((index slot : ℕ) → ok (events.Clear index slot) ≡ true) → ((from index slot : ℕ) → ok (events.Copied from index slot) ≡ true) → ((seat index era : ℕ) → ok (events.Reserve (Index seat index) (one_era era)) ≡ true)
+    → (at : KeepAt) (post : Post) → all_of ok (keep_told at post) ≡ true
+keep_all ok c p r (Loosens let_go) post = cleared_all ok (let_index let_go) (stands post (let_index let_go)) c
+keep_all ok c p r (LoadHeld from index) post = by (has_one_interval (scheme_of post))
+  where
+    by : (one : Bool) → all_of ok (if one then copied_told from index post [] (stands post from) else []) ≡ true
+    by true = copied_all ok from index post [] (stands post from) (cleared_all ok index (stands post index) c) refl (p from index)
+    by false = refl
+keep_all ok c p r (StoreHeld from index era) post =
+    copied_all ok from index post (reserves_index post index era) (stands post from) (cleared_all ok index (stands post index) c) (and_true (ok (events.Reserve (Index post.seat index) (one_era era))) (r post.seat index era)) (p from index)
+keep_all ok c p r (Looks index key at) post = refl
+keep_all ok c p r (Misses index) post = refl
+
+-- so of any work
+pub work_all : (ok : Event → Bool) → ((index slot : ℕ) → ok (events.Clear index slot) ≡ true) → ((from index slot : ℕ) → ok (events.Copied from index slot) ≡ true) → ((seat index era : ℕ) → ok (events.Reserve (Index seat index) (one_era era)) ≡ true)
+    → (work : Work) (post : Post) → all_of ok (work_told work post) ≡ true
+work_all ok c p r (Keeping at) post = keep_all ok c p r at post
+work_all ok c p r (Getting key at) post = refl
+work_all ok c p r (Changing kept at) post = refl
+work_all ok c p r (Enqueuing kept at) post = refl
+work_all ok c p r (Dequeuing at) post = refl
 
 -- a test that all passes which comes after a machine
 pub record Passes (ok : Event → Bool) : Type 0 where

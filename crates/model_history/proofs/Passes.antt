@@ -23,14 +23,17 @@ use Rattle.wfe_core.specs.Dequeue as dequeues
 use Rattle.wfe_core.specs.Enqueue as enqueues
 use Rattle.wfe_core.specs.Get as gets
 use Rattle.wfe_core.specs.Guards.{guards, guard_at, eras_in, published}
+use Rattle.wfe_core.specs.Keep as keeps
 use Rattle.wfe_core.specs.Locals.{told_by, told_end}
 use Rattle.wfe_core.specs.Machine as machine
+use Rattle.wfe_core.specs.Posts.{cleared, reserves_index, stands, with_row, withdrawn}
 use Rattle.wfe_core.specs.Scan as scan
 use Rattle.wfe_core.specs.Steps as steps
-use Rattle.wfe_core.specs.Rounds.{scheme_of, bucket_of, index_of, taken_of, finish_base, clear_base, clear_post, clear_told, given_up, closed, finishing_by, finishing, clearing_by, clearing, clearing_next_by, clearing_next}
+use Rattle.wfe_core.specs.Rounds.{scheme_of, bucket_of, index_of, taken_of, finish_base, clear_base, clear_post, clear_told, given_up, closed, finishing_by, finishing, clearing_by, clearing, clearing_next_by, clearing_next, let_index}
+use Rattle.wfe_core.specs.words.Schemes.{has_one_interval}
 use Rattle.wfe_core.specs.Phases.{Base, Ending, Outcome, Goes, Ends}
 use Rattle.wfe_core.specs.Phases.Ending.{Done, Protected, Followed, Allocated, Retired, Clocked}
-use Rattle.wfe_core.specs.Calls.{Task, Gets, Changes, Holds, Enqueues, Dequeues, Next, Again, MakeRoom, Answering, Retiring, AfterScan, Answered, Repeated, Counted, ChangeKept, EnqueueKept, GetAt, FindVersion, FindCount, FindKey, FindValue, ChangeAt, LoadVersion, LoadCount, LoadKey, LoadValue, ExchangeRoot, EnqueueAt, LoadNumber, LoadNext, PassTail, ExchangeNext, ExchangeTail, DequeueAt, SwingTail, ExchangeHead, Work, Getting, Changing, Enqueuing, Dequeuing, ScanAt, ReadGuard, GiveBack, Why, Opens, FollowsHead, Fills, ClearsNext, Clears, Finishes, GivesUp, Retires, Tidies, Advances, Releases, Phase, Idle, Runs, Scans, Works, CallTurn, CallOutcome, GoesOn, Answers}
+use Rattle.wfe_core.specs.Calls.{Task, Gets, Changes, Holds, Enqueues, Dequeues, Next, Again, MakeRoom, Answering, Retiring, AfterScan, Answered, Repeated, Counted, ChangeKept, EnqueueKept, GetAt, FindVersion, FindCount, FindKey, FindValue, ChangeAt, LoadVersion, LoadCount, LoadKey, LoadValue, ExchangeRoot, EnqueueAt, LoadNumber, LoadNext, PassTail, ExchangeNext, ExchangeTail, DequeueAt, SwingTail, ExchangeHead, Work, Getting, Changing, Enqueuing, Dequeuing, Keeping, KeepAt, Loosens, LoadHeld, StoreHeld, Looks, Misses, LetGo, Released, Rehold, Dropped, ScanAt, ReadGuard, GiveBack, Why, Opens, FollowsHead, Fills, ClearsNext, Clears, Finishes, GivesUp, Retires, Tidies, Advances, Releases, Phase, Idle, Runs, Scans, Works, CallTurn, CallOutcome, GoesOn, Answers}
 use Rattle.model_history.proofs.AllOf.{all_of, of_along}
 
 -- events of what calls read and link, and of their end
@@ -72,6 +75,44 @@ Left P t = P t.post t.told
 abbrev pub scan_told : ScanAt → Post → ℕ → List Event
 scan_told (ReadGuard number) post found = events.Read (guard_at post.layout.config number) (eras_in (guard_at post.layout.config number) found) ∷ []
 scan_told (GiveBack place slot) post found = events.Back slot ∷ []
+
+-- what a step of a call on what is kept leaves, and what it tells
+abbrev pub copied_post : (index : ℕ) → Post → Option ℕ → Post
+copied_post index post None = post
+copied_post index post (Some slot) = with_row post index slot
+
+abbrev pub copied_told : (from index : ℕ) → Post → (reserved : List Event) → Option ℕ → List Event
+copied_told from index post reserved None = []
+copied_told from index post reserved (Some slot) = cleared index (stands post index) ++ reserved ++ events.Copied from index slot ∷ []
+
+abbrev pub keep_post : KeepAt → Post → Post
+keep_post (Loosens let_go) post = withdrawn post (let_index let_go)
+keep_post (LoadHeld from index) post = if has_one_interval (scheme_of post) then copied_post index post (stands post from) else post
+keep_post (StoreHeld from index era) post = copied_post index post (stands post from)
+keep_post (Looks index key at) post = post
+keep_post (Misses index) post = post
+
+abbrev pub keep_told : KeepAt → Post → List Event
+keep_told (Loosens let_go) post = cleared (let_index let_go) (stands post (let_index let_go))
+keep_told (LoadHeld from index) post = if has_one_interval (scheme_of post) then copied_told from index post [] (stands post from) else []
+keep_told (StoreHeld from index era) post = copied_told from index post (reserves_index post index era) (stands post from)
+keep_told (Looks index key at) post = []
+keep_told (Misses index) post = []
+
+-- a step of the other works leaves the post and tells nothing before what comes after it
+abbrev pub work_post : Work → Post → Post
+work_post (Getting key at) post = post
+work_post (Changing kept at) post = post
+work_post (Enqueuing kept at) post = post
+work_post (Dequeuing at) post = post
+work_post (Keeping at) post = keep_post at post
+
+abbrev pub work_told : Work → Post → List Event
+work_told (Getting key at) post = []
+work_told (Changing kept at) post = []
+work_told (Enqueuing kept at) post = []
+work_told (Dequeuing at) post = []
+work_told (Keeping at) post = keep_told at post
 
 -- a get may tell the version that it knows, and 0 where its protection ends with null
 abbrev pub get_allows : (ℕ → ℕ → Type 0) → ℕ → GetAt → Type 0
@@ -165,7 +206,7 @@ deciding_by_goes P0 P A c kept post desk told (Some answer) h = clearing_goes P0
 deciding_by_goes P0 P A c kept post desk told None h = c.weak post told h
 
 deciding_goes : (P0 P : Post → List Event → Type 0) (A : ℕ → ℕ → Type 0) (c : Closing P0 P A) (kept : ChangeKept) (post : Post) (desk : Desk) (told : List Event) → P0 post told → Left P (alters.deciding kept post desk told)
-deciding_goes P0 P A c kept post desk told h = deciding_by_goes P0 P A c kept post desk told (alters.refusal post.layout.config kept.version kept.pairs kept.change) h
+deciding_goes P0 P A c kept post desk told h = deciding_by_goes P0 P A c kept post desk told (alters.refused post.layout.config kept) h
 
 reading_goes : (P0 P : Post → List Event → Type 0) (A : ℕ → ℕ → Type 0) (c : Closing P0 P A) (kept : ChangeKept) (slot count : ℕ) (post : Post) (desk : Desk) (on : Bool) → P0 post [] → Left P (alters.reading kept slot count post desk on)
 reading_goes P0 P A c kept slot count post desk true h = c.weak post [] h
@@ -222,11 +263,47 @@ dequeue_goes P0 P A c (ExchangeHead head next number value) post desk found h = 
 dequeue_goes P0 P A c at post desk found h = c.weak post [] h
 
 -- a step of a call's own
-work_goes : (P0 P : Post → List Event → Type 0) (A : ℕ → ℕ → Type 0) (c : Closing P0 P A) (work : Work) (post : Post) (desk : Desk) (found : ℕ) → work_allows A work → P0 post [] → Left P (steps.work_turn work post desk found)
+released_goes : (P0 P : Post → List Event → Type 0) (A : ℕ → ℕ → Type 0) (c : Closing P0 P A) (let_go : LetGo) (post : Post) (desk : Desk) (told : List Event) → P0 post told → Left P (keeps.released let_go post desk told)
+released_goes P0 P A c Released post desk told h = c.weak post told h
+released_goes P0 P A c (Rehold key) post desk told h = c.weak post told h
+released_goes P0 P A c (Dropped index) post desk told h = c.weak post told h
+
+-- a call on what is kept
+copied_goes : (P0 P : Post → List Event → Type 0) (A : ℕ → ℕ → Type 0) (c : Closing P0 P A) (from index : ℕ) (post : Post) (desk : Desk) (reserved : List Event) (o : Option ℕ) → P0 (copied_post index post o) (copied_told from index post reserved o) → Left P (keeps.copied from index post desk reserved o)
+copied_goes P0 P A c from index post desk reserved None h = c.weak post [] h
+copied_goes P0 P A c from index post desk reserved (Some slot) h = c.weak (with_row post index slot) (copied_told from index post reserved (Some slot)) h
+
+load_held_goes : (P0 P : Post → List Event → Type 0) (A : ℕ → ℕ → Type 0) (c : Closing P0 P A) (from index : ℕ) (post : Post) (desk : Desk) (found : ℕ) (one : Bool) → P0 (if one then copied_post index post (stands post from) else post) (if one then copied_told from index post [] (stands post from) else []) → Left P (keeps.load_held from index post desk found one)
+load_held_goes P0 P A c from index post desk found true h = copied_goes P0 P A c from index post desk [] (stands post from) h
+load_held_goes P0 P A c from index post desk found false h = c.weak post [] h
+
+looking_goes : (P0 P : Post → List Event → Type 0) (A : ℕ → ℕ → Type 0) (c : Closing P0 P A) (index key slot version count : ℕ) (post : Post) (desk : Desk) (on : Bool) (pair : ℕ) → P0 post [] → Left P (keeps.looking index key slot version count post desk on pair)
+looking_goes P0 P A c index key slot version count post desk true pair h = c.weak post [] h
+looking_goes P0 P A c index key slot version count post desk false pair h = c.weak post [] h
+
+looked_key_goes : (P0 P : Post → List Event → Type 0) (A : ℕ → ℕ → Type 0) (c : Closing P0 P A) (index key slot version count pair : ℕ) (post : Post) (desk : Desk) (own : Bool) → P0 post [] → Left P (keeps.looked_key index key slot version count pair post desk own)
+looked_key_goes P0 P A c index key slot version count pair post desk true h = c.weak post [] h
+looked_key_goes P0 P A c index key slot version count pair post desk false h = looking_goes P0 P A c index key slot version count post desk (nat_lt (pair + 1) count) (pair + 1) h
+
+look_goes : (P0 P : Post → List Event → Type 0) (A : ℕ → ℕ → Type 0) (c : Closing P0 P A) (index key : ℕ) (at : GetAt) (post : Post) (desk : Desk) (found : ℕ) → P0 post [] → Left P (keeps.look_turn index key at post desk found)
+look_goes P0 P A c index key (FindVersion slot) post desk found h = c.weak post [] h
+look_goes P0 P A c index key (FindCount slot version) post desk found h = looking_goes P0 P A c index key slot version found post desk (nat_lt 0 found) 0 h
+look_goes P0 P A c index key (FindKey slot version count pair) post desk found h = looked_key_goes P0 P A c index key slot version count pair post desk (found == key) h
+look_goes P0 P A c index key (FindValue slot version pair) post desk found h = c.weak post [] h
+
+keep_goes : (P0 P : Post → List Event → Type 0) (A : ℕ → ℕ → Type 0) (c : Closing P0 P A) (at : KeepAt) (post : Post) (desk : Desk) (found : ℕ) → P0 (keep_post at post) (keep_told at post) → Left P (keeps.keep_turn at post desk found)
+keep_goes P0 P A c (Loosens let_go) post desk found h = released_goes P0 P A c let_go (withdrawn post (let_index let_go)) desk (cleared (let_index let_go) (stands post (let_index let_go))) h
+keep_goes P0 P A c (LoadHeld from index) post desk found h = load_held_goes P0 P A c from index post desk found (has_one_interval (scheme_of post)) h
+keep_goes P0 P A c (StoreHeld from index era) post desk found h = copied_goes P0 P A c from index post desk (reserves_index post index era) (stands post from) h
+keep_goes P0 P A c (Looks index key at) post desk found h = look_goes P0 P A c index key at post desk found h
+keep_goes P0 P A c (Misses index) post desk found h = c.weak post [] h
+
+work_goes : (P0 P : Post → List Event → Type 0) (A : ℕ → ℕ → Type 0) (c : Closing P0 P A) (work : Work) (post : Post) (desk : Desk) (found : ℕ) → work_allows A work → P0 (work_post work post) (work_told work post) → Left P (steps.work_turn work post desk found)
 work_goes P0 P A c (Getting key at) post desk found a h = get_goes P0 P A c key at post desk found a h
 work_goes P0 P A c (Changing kept at) post desk found a h = change_goes P0 P A c kept at post desk found h
 work_goes P0 P A c (Enqueuing kept at) post desk found a h = enqueue_goes P0 P A c kept at post desk found h
 work_goes P0 P A c (Dequeuing at) post desk found a h = dequeue_goes P0 P A c at post desk found h
+work_goes P0 P A c (Keeping at) post desk found a h = keep_goes P0 P A c at post desk found h
 
 -- a scan
 scanned_goes : (P0 P : Post → List Event → Type 0) (A : ℕ → ℕ → Type 0) (c : Closing P0 P A) (later : AfterScan) (post : Post) (desk : Desk) (told : List Event) → P0 post told → Left P (scan.scanned later post desk told)
@@ -333,10 +410,6 @@ advanced_goes P0 P A c (Followed end) post desk told h = c.weak post told h
 advanced_goes P0 P A c (Allocated end) post desk told h = c.weak post told h
 advanced_goes P0 P A c (Retired life) post desk told h = c.weak post told h
 
-released_goes : (P0 P : Post → List Event → Type 0) (A : ℕ → ℕ → Type 0) (c : Closing P0 P A) (key : Option ℕ) (post : Post) (desk : Desk) (told : List Event) → P0 post told → Left P (steps.released key post desk told)
-released_goes P0 P A c None post desk told h = c.weak post told h
-released_goes P0 P A c (Some key) post desk told h = c.weak post told h
-
 resume_goes : (P0 P : Post → List Event → Type 0) (A : ℕ → ℕ → Type 0) (c : Closing P0 P A) (why : Why) (ending : Ending) (post : Post) (desk : Desk) (told : List Event) → why_allows A why ending → P0 post told → Left P (steps.resume why ending post desk told)
 resume_goes P0 P A c (Opens task) ending post desk told a h = opened_goes P0 P A c task ending post desk told a h
 resume_goes P0 P A c (FollowsHead head tail) ending post desk told a h = followed_by_goes P0 P A c head tail ending post desk told h
@@ -348,7 +421,7 @@ resume_goes P0 P A c (GivesUp answer) ending post desk told a h = c.weak post to
 resume_goes P0 P A c (Retires answer) ending post desk told a h = retired_by_goes P0 P A c answer ending post desk told h
 resume_goes P0 P A c (Tidies later) ending post desk told a h = tidied_goes P0 P A c later ending post desk told h
 resume_goes P0 P A c Advances ending post desk told a h = advanced_goes P0 P A c ending post desk told h
-resume_goes P0 P A c (Releases key) ending post desk told a h = released_goes P0 P A c key post desk told h
+resume_goes P0 P A c (Releases let_go) ending post desk told a h = released_goes P0 P A c let_go post desk told h
 
 -- a step of a seat, and the end of its call
 resumed_goes : (P0 P : Post → List Event → Type 0) (A : ℕ → ℕ → Type 0) (c : Closing P0 P A) (why : Why) (desk : Desk) (post : Post) (told : List Event) (outcome : Outcome) → outcome_allows A why outcome → P0 post told → Left P (steps.resumed why desk post told outcome)
@@ -360,7 +433,7 @@ abbrev pub First : (Post → List Event → Type 0) → Phase → Post → ℕ �
 First P Idle post found = P post []
 First P (Runs why base) post found = P (machine.after base post found).post (machine.after base post found).told
 First P (Scans later at) post found = P post (scan_told at post found)
-First P (Works work) post found = P post []
+First P (Works work) post found = P (work_post work post) (work_told work post)
 
 turn_goes : (P0 P : Post → List Event → Type 0) (A : ℕ → ℕ → Type 0) (c : Closing P0 P A) (phase : Phase) (post : Post) (desk : Desk) (found : ℕ) → phase_allows A phase post found → First P0 phase post found → Left P (steps.phase_turn phase post desk found)
 turn_goes P0 P A c Idle post desk found a h = c.weak post [] h

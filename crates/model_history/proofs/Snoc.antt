@@ -2,6 +2,7 @@
 use Rattle.std.proofs.Common.{List, [], ap, false, refl, subst, sym, true, ℕ, ◌++◌, ◌<◌, ◌∙◌, ◌∷◌, ◌≡◌}
 use Rattle.wfe_core.specs.words.declared.layout.Layout.{Layout}
 use Rattle.wfe_core.specs.defs.declared.call.Call.{Call}
+use Rattle.wfe_core.specs.Locals.{may_begin}
 use Rattle.wfe_core.specs.World.{World, begin, is_busy, step}
 use Rattle.wfe_core.proofs.Facts.{fits_busy, fits_free}
 use Rattle.model_history.specs.History.{Begins, Item, Made, Steps, done, done_if, first_made, fits, made_of, world_of}
@@ -9,7 +10,7 @@ use Rattle.model_history.proofs.Along.{items_keep, made_snoc}
 
 -- no item changes the table's layout
 pub layout_is : (layout : Layout) (items : List Item) → (world_of layout items).layout ≡ layout
-layout_is layout items = items_keep (λ (made : Made). made.world.layout ≡ layout) (record { begins = λ made i call h b e. e; steps = λ made i h b e. e }) items (first_made layout) refl
+layout_is layout items = items_keep (λ (made : Made). made.world.layout ≡ layout) (record { begins = λ made i call h b may e. e; steps = λ made i h b e. e }) items (first_made layout) refl
 
 -- an item that fits is done
 fit_done : (layout : Layout) (items : List Item) (item : Item) → fits (world_of layout items) item ≡ true → world_of layout (items ++ item ∷ []) ≡ (done (made_of layout items) item).world
@@ -25,9 +26,10 @@ one_step layout items i h b =
     let w : World = world_of layout items in
     fit_done layout items (Steps i) (fits_busy i w.layout.config.seats (is_busy w i) (within layout items i h) b)
 
--- a call begins on a seat that is not busy
-pub one_begin : (layout : Layout) (items : List Item) (i : ℕ) (call : Call) → i < layout.config.seats → is_busy (world_of layout items) i ≡ false
+-- a call begins on a seat that is not busy, and names indexes that it may name
+pub one_begin : (layout : Layout) (items : List Item) (i : ℕ) (call : Call) → i < layout.config.seats → is_busy (world_of layout items) i ≡ false → may_begin layout.config call ≡ true
     → world_of layout (items ++ Begins i call ∷ []) ≡ begin (world_of layout items) i call
-one_begin layout items i call h b =
+one_begin layout items i call h b m =
     let w : World = world_of layout items in
-    fit_done layout items (Begins i call) (fits_free i w.layout.config.seats (is_busy w i) (within layout items i h) b)
+    let may : may_begin w.layout.config call ≡ true = subst (λ (table : Layout). may_begin table.config call ≡ true) (sym (layout_is layout items)) m in
+    fit_done layout items (Begins i call) (fits_free i w.layout.config.seats (is_busy w i) (may_begin w.layout.config call) (within layout items i h) b may)

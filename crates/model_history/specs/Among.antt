@@ -56,6 +56,10 @@ call_code (calls.Hold key) = 5 ∷ key ∷ []
 call_code calls.Release = 6 ∷ []
 call_code calls.Advance = 7 ∷ []
 call_code calls.Scan = 8 ∷ []
+call_code (calls.Copy from index) = 9 ∷ from ∷ index ∷ []
+call_code (calls.DropIndex index) = 10 ∷ index ∷ []
+call_code (calls.Look index key) = 11 ∷ index ∷ key ∷ []
+call_code (calls.PutIf key value version) = 12 ∷ key ∷ value ∷ version ∷ []
 
 abbrev answer_code : Answer → List ℕ
 answer_code (answers.Got version value) = 0 ∷ version ∷ value_code value
@@ -72,6 +76,10 @@ answer_code answers.Nothing = 10 ∷ []
 answer_code answers.Released = 11 ∷ []
 answer_code (answers.Clock outcome) = 12 ∷ clock_code outcome
 answer_code (answers.Scanned kept back) = 13 ∷ kept ∷ back ∷ []
+answer_code (answers.Copied slot) = 14 ∷ slot ∷ []
+answer_code answers.Dropped = 15 ∷ []
+answer_code (answers.Looked slot version value) = 16 ∷ slot ∷ version ∷ value_code value
+answer_code (answers.Stale version) = 17 ∷ version ∷ []
 
 abbrev event_code : Event → List ℕ
 event_code (events.Begin call) = 0 ∷ call_code call
@@ -93,6 +101,7 @@ event_code (events.Removed bucket version key) = 15 ∷ bucket ∷ version ∷ k
 event_code (events.Got bucket version key value) = 16 ∷ bucket ∷ version ∷ key ∷ value_code value
 event_code (events.Queued number value) = 17 ∷ number ∷ value ∷ []
 event_code (events.Taken number value) = 18 ∷ number ∷ value ∷ []
+event_code (events.Copied from index slot) = 19 ∷ from ∷ index ∷ slot ∷ []
 
 abbrev same_numbers : List ℕ → List ℕ → Bool
 same_numbers [] [] = true

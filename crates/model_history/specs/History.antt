@@ -6,7 +6,7 @@ use Rattle.wfe_core.specs.defs.declared.event.Event.TheVariants as events
 use Rattle.model_record.specs.Record.{Past, tells_of}
 use Rattle.model_record.specs.Record.Past.{Start, Then}
 use Rattle.wfe_core.specs.Calls.{CallTurn}
-use Rattle.wfe_core.specs.Locals.{Local, move, turn, told_by}
+use Rattle.wfe_core.specs.Locals.{Local, move, turn, told_by, may_begin}
 use Rattle.wfe_core.specs.Memory.{Move, place_in, found}
 use Rattle.wfe_core.specs.World.{World, start, is_busy, stepped, begin}
 
@@ -20,9 +20,9 @@ pub record Made : Type 0 where
   pub world : World
   pub past : Past
 
--- a call begins only on a seat that is not busy, and only a busy seat makes a step
+-- a call begins only on a seat that is not busy, and names indexes that it may name; only a busy seat makes a step
 abbrev pub fits : World → Item → Bool
-fits w (Begins i call) = nat_lt i w.layout.config.seats && not (is_busy w i)
+fits w (Begins i call) = nat_lt i w.layout.config.seats && (not (is_busy w i) && may_begin w.layout.config call)
 fits w (Steps i) = nat_lt i w.layout.config.seats && is_busy w i
 
 abbrev pub begun_by : Made → ℕ → Call → Made

@@ -17,7 +17,7 @@ use Rattle.wfe_bucketmap.specs.declared.change_at.Changed.{Changed}
 use Rattle.wfe_bucketmap.specs.declared.change_at.Changed.TheVariants as leads
 
 abbrev pub kept_of : Kept → ChangeKept
-kept_of kept = record { change = kept.change; taken = kept.taken; walked = kept.walked; link = kept.link; version = kept.version; pairs = kept.pairs }
+kept_of kept = record { change = kept.change; wanted = kept.wanted; taken = kept.taken; walked = kept.walked; link = kept.link; version = kept.version; pairs = kept.pairs }
 
 abbrev pub at_of : At → ChangeAt
 at_of (ats.LoadVersion slot) = LoadVersion slot

@@ -1,4 +1,4 @@
-// The call that changes a bucket: a put or a remove.
+// The call that changes a bucket: a put, at any version or at one, or a remove.
 ghost use Rattle.std.specs.Prelude.{◌≡◌, ◌<◌, ◌≤◌, ◌+◌, [], length, List, None, false};
 ghost use Rattle.wfe_core.specs.defs.declared.event.Event.{Event};
 ghost use Rattle.wfe_core.specs.CallReady.{ChangeFits, IsCallPlausible, IsCallReady};
@@ -9,7 +9,7 @@ ghost use Rattle.wfe_core.specs.Change.{new_row, no_room as model_no_room};
 ghost use Rattle.wfe_core.specs.Ready.{RootFits};
 ghost use Rattle.wfe_core.specs.Phases.Ending.{Protected};
 ghost use Rattle.wfe_core.specs.Rounds.{clearing, closed as model_closed, root_of, round};
-ghost use Rattle.wfe_core.specs.Steps.{filled_by, opened, phase_turn, written_row};
+ghost use Rattle.wfe_core.specs.Steps.{changing, filled_by, opened, phase_turn, written_row};
 ghost use Rattle.wfe_core.specs.Valid.{IsValid};
 ghost use Rattle.wfe_core.specs.WriteRow.{writing};
 ghost use Rattle.wfe_core.specs.declared.post.Post.{Post as ModelPost};
@@ -35,14 +35,16 @@ pub struct ChangeBucket<S: Scheme> {
 }
 
 impl<S: Scheme> ChangeBucket<S> {
-    /// The call that makes this change, before its first step.
+    /// The call that makes this change, where it names a version at that one alone, before its first
+    /// step.
     #[inline(always)]
-    pub fn new(change: Change) -> ChangeBucket<S>
-        ensures { (post : ModelPost) → ⟦<ChangeBucket<S> as CallMachine>⟧.phase result post ≡ round (Changes (record { change = change; taken = None; walked = false; link = 0; version = 0; pairs = [] })) post }
+    pub fn new(change: Change, wanted: Option<u64>) -> ChangeBucket<S>
+        ensures { (post : ModelPost) → ⟦<ChangeBucket<S> as CallMachine>⟧.phase result post ≡ round (changing change wanted) post }
     {
         ChangeBucket {
             kept: Kept {
                 change,
+                wanted,
                 taken: None,
                 walked: false,
                 link: 0,

@@ -3,7 +3,7 @@ ghost use Rattle.std.specs.Prelude.{◌≡◌, ◌<◌, ◌≤◌, ◌+◌, [], 
 ghost use Rattle.wfe_core.specs.defs.Pairs.{changed};
 ghost use Rattle.wfe_core.specs.defs.declared.event.Event.{Event as ModelEvent};
 ghost use Rattle.wfe_core.specs.CallReady.{ChangeFits, change_plausible, change_ready};
-ghost use Rattle.wfe_core.specs.Change.{at_link, change_move, change_turn, changed_bucket, deciding, exchanged, reading, refusal, told_change, with_change};
+ghost use Rattle.wfe_core.specs.Change.{at_link, change_move, change_turn, changed_bucket, deciding, exchanged, reading, refusal, refused, told_change, with_change};
 ghost use Rattle.wfe_core.specs.Desks.{Desk};
 ghost use Rattle.wfe_core.specs.Memory.{numbered};
 ghost use Rattle.wfe_core.specs.Rounds.{key_of};
@@ -14,11 +14,13 @@ ghost use Rattle.wfe_bucketmap.specs.Changes.{at_of, kept_of, led, next_of};
 use wfe_core::{Answer, Change, ClockMove, Event, Op, Post, Root, Told};
 use wfe_slots::Pairs;
 
-// What a change keeps: the row that it has taken and not linked, whether a walk for one has failed,
-// and, from the root loaded last, the link, the version and the pairs.
+// What a change keeps: the version at which alone it is made, if it names one, the row that it has
+// taken and not linked, whether a walk for one has failed, and, from the root loaded last, the link,
+// the version and the pairs.
 #[derive(Drop)]
 pub struct Kept {
     pub change: Change,
+    pub wanted: Option<u64>,
     pub taken: Option<u32>,
     pub walked: bool,
     pub link: u64,
@@ -175,7 +177,7 @@ impl Kept {
         ensures turn { (desk : Desk) (told : List ModelEvent) → deciding (kept_of self.old) post.now desk told ≡ led (kept_of self.new) result post.now desk told }
         ensures fits { ChangeFits post.now (kept_of self.new) }
     {
-        match self.refusal(post) {
+        match self.refused(post) {
             Some(answer) => Changed::Ends(ChangeEnd::Answers(answer)),
             None => {
                 self.change();
@@ -184,7 +186,20 @@ impl Kept {
         }
     }
 
-    // Why the change is refused, if it is.
+    // Why the change is refused, if it is. A version other than the one that it names comes first.
+    #[inline(always)]
+    fn refused(&self, post: &Post) -> Option<Answer>
+        requires { IsValid post.now }
+        ensures { result ≡ refused post.now.layout.config (kept_of self.now) }
+    {
+        let version = self.version;
+        match self.wanted {
+            Some(wanted) if version != wanted => Some(Answer::Stale { version }),
+            _ => self.refusal(post),
+        }
+    }
+
+    // Why the change is refused at any version that it names, if it is.
     #[inline(always)]
     fn refusal(&self, post: &Post) -> Option<Answer>
         requires { IsValid post.now }

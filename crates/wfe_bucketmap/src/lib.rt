@@ -1,13 +1,17 @@
-//! The calls of the map, over any scheme. Those that change a bucket stand here: a put and a remove are
-//! one machine, with the change that it makes. The others are handed on.
+//! The calls of the map, over any scheme. Those that change a bucket stand here: the puts and a remove
+//! are one machine, with the change that it makes. The others are handed on.
 #![tactic(auto)]
 
 mod change;
 mod change_at;
 mod change_state;
 mod put;
+mod put_if;
 mod remove;
 
 pub use put::Put;
+pub use put_if::PutIf;
 pub use remove::Remove;
-pub use wfe_bucketmap_read::{Advance, Get, He, Hold, Ibr, Release, Scheme, Wfe};
+pub use wfe_bucketmap_read::{
+    Advance, CopyIndex, DropIndex, Get, He, Hold, Ibr, Look, Release, Scheme, Wfe,
+};

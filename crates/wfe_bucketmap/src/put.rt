@@ -21,7 +21,7 @@ impl<S: Scheme> Put<S> {
         ensures { (post : ModelPost) → ⟦<Put<S> as CallMachine>⟧.phase result post ≡ first_phase (calls.Put key value) post }
     {
         Put {
-            change: ChangeBucket::new(Change::Put { key, value }),
+            change: ChangeBucket::new(Change::Put { key, value }, None),
         }
     }
 }

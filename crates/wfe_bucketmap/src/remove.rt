@@ -21,7 +21,7 @@ impl<S: Scheme> Remove<S> {
         ensures { (post : ModelPost) → ⟦<Remove<S> as CallMachine>⟧.phase result post ≡ first_phase (calls.Remove key) post }
     {
         Remove {
-            change: ChangeBucket::new(Change::Removed { key }),
+            change: ChangeBucket::new(Change::Removed { key }, None),
         }
     }
 }

@@ -12,6 +12,13 @@ find_of (finds.Count slot version) = FindCount slot version
 find_of (finds.Key slot version count pair) = FindKey slot version count pair
 find_of (finds.Value slot version pair) = FindValue slot version pair
 
+-- the row that is read
+abbrev pub slot_in : GetAt → ℕ
+slot_in (FindVersion slot) = slot
+slot_in (FindCount slot version) = slot
+slot_in (FindKey slot version count pair) = slot
+slot_in (FindValue slot version pair) = slot
+
 -- what a step leads to: the next, or what is told
 pub data Leading : Type 0 where
   GoesTo : GetAt → Leading

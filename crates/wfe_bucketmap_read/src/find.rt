@@ -1,12 +1,12 @@
-// What a get reads of a row: the version, the count, the keys in order up to its own, and that key's
-// value.
+// What a get or a look reads of a row: the version, the count, the keys in order up to its own, and
+// that key's value.
 ghost use Rattle.std.specs.Prelude.{◌≡◌, ◌≤◌, true};
 ghost use Rattle.wfe_core.specs.words.Place.{is_valid};
 ghost use Rattle.wfe_core.specs.CallReady.{get_plausible, get_ready};
 ghost use Rattle.wfe_core.specs.Get.{get_move};
 ghost use Rattle.wfe_core.specs.Memory.{numbered};
 ghost use Rattle.wfe_core.specs.Valid.{IsValid};
-ghost use Rattle.wfe_bucketmap_read.specs.Finds.{find_of, found_by, found_of, pair_by};
+ghost use Rattle.wfe_bucketmap_read.specs.Finds.{find_of, found_by, found_of, pair_by, slot_in};
 
 use wfe_core::{Op, Post};
 
@@ -41,6 +41,19 @@ pub enum Found {
 }
 
 impl Find {
+    // The row that is read.
+    #[inline(always)]
+    pub fn slot(self) -> u32
+        ensures { result ≡ slot_in (find_of self) }
+    {
+        match self {
+            Find::Version { slot } => slot,
+            Find::Count { slot, .. } => slot,
+            Find::Key { slot, .. } => slot,
+            Find::Value { slot, .. } => slot,
+        }
+    }
+
     // The operation of the step.
     #[inline(always)]
     pub fn next_op(&self, post: &Post) -> Op

@@ -1,12 +1,12 @@
 // The call that holds the row of a key.
-ghost use Rattle.std.specs.Prelude.{◌≡◌, ◌≤◌, [], length, Some};
+ghost use Rattle.std.specs.Prelude.{◌≡◌, ◌≤◌, [], length};
 ghost use Rattle.wfe_core.specs.CallReady.{IsCallPlausible, IsCallReady};
-ghost use Rattle.wfe_core.specs.Calls.{Holds, Releases, Runs};
+ghost use Rattle.wfe_core.specs.Calls.{Holds, Rehold};
 ghost use Rattle.wfe_core.specs.DeskHeld.{desk_of};
 ghost use Rattle.wfe_core.specs.Phases.Ending.{Protected};
 ghost use Rattle.wfe_core.specs.Posts.{stands};
-ghost use Rattle.wfe_core.specs.Ready.{IsReady, Plausible, RootFits};
-ghost use Rattle.wfe_core.specs.Rounds.{root_of, round};
+ghost use Rattle.wfe_core.specs.Ready.{RootFits};
+ghost use Rattle.wfe_core.specs.Rounds.{letting, root_of, round};
 ghost use Rattle.wfe_core.specs.Steps.{holding, opened, phase_turn};
 ghost use Rattle.wfe_core.specs.Valid.{IsValid};
 ghost use Rattle.wfe_core.specs.declared.post.Post.{Post};
@@ -14,6 +14,7 @@ ghost use Rattle.wfe_call_rounds.specs.Steps.{SameSeat, Steps};
 ghost use Rattle.wfe_bucketmap_read.specs.Holds.{hold_phase};
 
 use crate::hold_at::HoldAt;
+use crate::letting::{let_op, take_let};
 use wfe_call_rounds::{Rounds, Scheme, close, open, take_close, take_open};
 use wfe_core::{Answer, CallMachine, Desk, Machine, Op, Post, ProtectEnd, Root, Told};
 
@@ -84,30 +85,28 @@ impl<S: Scheme> Hold<S> {
         }
     }
 
-    // A step of the release of what was held before.
+    // The first step of the release of what was held before.
     #[inline(always)]
     fn release(
         &mut self,
-        mut machine: S::Release,
         post: &mut Post,
         desk: &Desk,
         found: u64,
         told: &mut Told,
     ) -> Option<Answer>
         requires valid { IsValid post.old }
-        requires ready { IsReady (S.Release.phase machine) post.old }
-        requires plausible { Plausible (S.Release.phase machine) post.old found }
+        requires scheme { post.old.layout.config.scheme ≡ S.kind }
         requires empty { told.old ≡ [] }
-        ensures steps { Steps (phase_turn (Runs (Releases (Some self.old.key)) (S.Release.phase machine)) post.old (desk_of desk.now) found) post.new (desk_of desk.now) told.new result (hold_phase ⟦<S as Rounds>⟧.all_phases S.Release.phase self.new.key self.new.at post.new) }
+        ensures steps { Steps (phase_turn (letting (Rehold self.old.key) post.old) post.old (desk_of desk.now) found) post.new (desk_of desk.now) told.new result (hold_phase ⟦<S as Rounds>⟧.all_phases S.Release.phase self.new.key self.new.at post.new) }
         ensures seat { SameSeat post.old post.new told.new 4 }
     {
-        match machine.take(post, found, told) {
-            Some(()) => {
-                self.at = HoldAt::Rounds;
+        match take_let::<S>(2, post, found, told) {
+            Some(machine) => {
+                self.at = HoldAt::Releases(machine);
                 None
             }
             None => {
-                self.at = HoldAt::Releases(machine);
+                self.at = HoldAt::Rounds;
                 None
             }
         }
@@ -125,7 +124,7 @@ impl<S: Scheme> Hold<S> {
         ensures seat { SameSeat post.old post.new told.new 4 }
     {
         match post.standing[2] {
-            Some(_) => self.release(S::release(), post, desk, found, told),
+            Some(_) => self.release(post, desk, found, told),
             None => self.start(post, desk, found, told),
         }
     }
@@ -186,7 +185,7 @@ impl<S: Scheme> CallMachine for Hold<S> {
     fn next_op(&self, post: &Post, _desk: &Desk) -> Op {
         match &self.at {
             HoldAt::Starts => match post.standing[2] {
-                Some(_) => S::release().next_op(post),
+                Some(_) => let_op::<S>(2, post),
                 None => open::<S>(post, 2, root_for(self.key, post)).next_op(post),
             },
             HoldAt::Releases(machine) => machine.next_op(post),

@@ -1,17 +1,25 @@
-//! The calls of the map that change no bucket, each a machine over any scheme, and the move of the clock
-//! as a call.
+//! The calls of the map that change no bucket and those on rows that are kept between calls, each a
+//! machine over any scheme, and the move of the clock as a call.
 #![tactic(auto)]
 
 mod advance;
+mod copy;
+mod drop_index;
 mod find;
 mod get;
 mod get_at;
+mod guard;
 mod hold;
 mod hold_at;
+mod letting;
+mod look;
 mod release;
 
 pub use advance::Advance;
+pub use copy::CopyIndex;
+pub use drop_index::DropIndex;
 pub use get::Get;
 pub use hold::Hold;
+pub use look::Look;
 pub use release::Release;
 pub use wfe_call_rounds::{He, Ibr, Scheme, Wfe};

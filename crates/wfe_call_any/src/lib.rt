@@ -1,11 +1,16 @@
 //! A call of any kind as one machine, over any scheme, and under each of the schemes.
 #![tactic(auto)]
 
+mod keeping;
 mod running;
 mod scheme_calls;
 
+pub use keeping::{Keeping, KeepingOf};
 pub use running::{CallOf, Running, begin_call};
 pub use scheme_calls::{HeCall, IbrCall, WfeCall};
-pub use wfe_bucketmap::{Advance, Get, He, Hold, Ibr, Put, Release, Remove, Scheme, Wfe};
+pub use wfe_bucketmap::{
+    Advance, CopyIndex, DropIndex, Get, He, Hold, Ibr, Look, Put, PutIf, Release, Remove, Scheme,
+    Wfe,
+};
 pub use wfe_msqueue::{Dequeue, Enqueue};
 pub use wfe_scan::Scan;

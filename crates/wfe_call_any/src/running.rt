@@ -3,7 +3,10 @@ ghost use Rattle.std.specs.Prelude.{◌≡◌};
 ghost use Rattle.wfe_core.specs.Steps.{first_phase};
 ghost use Rattle.wfe_core.specs.declared.post.Post.{Post};
 
-use wfe_bucketmap::{Advance, Get, Hold, Put, Release, Remove, Scheme};
+use crate::keeping::{Keeping, KeepingOf};
+use wfe_bucketmap::{
+    Advance, CopyIndex, DropIndex, Get, Hold, Look, Put, PutIf, Release, Remove, Scheme,
+};
 use wfe_core::{Answer, Call, CallMachine, Desk, Layout, Op, Post, Told};
 use wfe_msqueue::{Dequeue, Enqueue};
 use wfe_scan::Scan;
@@ -13,21 +16,21 @@ use wfe_scan::Scan;
 pub enum Running<
     G: CallMachine,
     P: CallMachine,
+    I: CallMachine,
     M: CallMachine,
     E: CallMachine,
     D: CallMachine,
-    H: CallMachine,
-    R: CallMachine,
+    K: CallMachine,
     A: CallMachine,
     N: CallMachine,
 > {
     Gets(G),
     Puts(P),
+    PutsIf(I),
     Removes(M),
     Enqueues(E),
     Dequeues(D),
-    Holds(H),
-    Releases(R),
+    Keeps(K),
     Advances(A),
     Scans(N),
 }
@@ -35,29 +38,29 @@ pub enum Running<
 impl<
     G: CallMachine,
     P: CallMachine,
+    I: CallMachine,
     M: CallMachine,
     E: CallMachine,
     D: CallMachine,
-    H: CallMachine,
-    R: CallMachine,
+    K: CallMachine,
     A: CallMachine,
     N: CallMachine,
-> CallMachine for Running<G, P, M, E, D, H, R, A, N> {
+> CallMachine for Running<G, P, I, M, E, D, K, A, N> {
     ghost use Rattle.wfe_call_any.specs.Runs.{AllSuit, running_phase};
 
-    ghost suits = { AllSuit G.suits P.suits M.suits E.suits D.suits H.suits R.suits A.suits N.suits };
+    ghost suits = { AllSuit G.suits P.suits I.suits M.suits E.suits D.suits K.suits A.suits N.suits };
 
-    ghost phase = { running_phase G.phase P.phase M.phase E.phase D.phase H.phase R.phase A.phase N.phase };
+    ghost phase = { running_phase G.phase P.phase I.phase M.phase E.phase D.phase K.phase A.phase N.phase };
 
     fn next_op(&self, post: &Post, desk: &Desk) -> Op {
         match self {
             Running::Gets(machine) => machine.next_op(post, desk),
             Running::Puts(machine) => machine.next_op(post, desk),
+            Running::PutsIf(machine) => machine.next_op(post, desk),
             Running::Removes(machine) => machine.next_op(post, desk),
             Running::Enqueues(machine) => machine.next_op(post, desk),
             Running::Dequeues(machine) => machine.next_op(post, desk),
-            Running::Holds(machine) => machine.next_op(post, desk),
-            Running::Releases(machine) => machine.next_op(post, desk),
+            Running::Keeps(machine) => machine.next_op(post, desk),
             Running::Advances(machine) => machine.next_op(post, desk),
             Running::Scans(machine) => machine.next_op(post, desk),
         }
@@ -73,11 +76,11 @@ impl<
         match self {
             Running::Gets(machine) => machine.take(post, desk, found, told),
             Running::Puts(machine) => machine.take(post, desk, found, told),
+            Running::PutsIf(machine) => machine.take(post, desk, found, told),
             Running::Removes(machine) => machine.take(post, desk, found, told),
             Running::Enqueues(machine) => machine.take(post, desk, found, told),
             Running::Dequeues(machine) => machine.take(post, desk, found, told),
-            Running::Holds(machine) => machine.take(post, desk, found, told),
-            Running::Releases(machine) => machine.take(post, desk, found, told),
+            Running::Keeps(machine) => machine.take(post, desk, found, told),
             Running::Advances(machine) => machine.take(post, desk, found, told),
             Running::Scans(machine) => machine.take(post, desk, found, told),
         }
@@ -88,11 +91,11 @@ impl<
 pub type CallOf<S> = Running<
     Get<S>,
     Put<S>,
+    PutIf<S>,
     Remove<S>,
     Enqueue<S>,
     Dequeue<S>,
-    Hold<S>,
-    Release<S>,
+    KeepingOf<S>,
     Advance<S>,
     Scan,
 >;
@@ -107,9 +110,19 @@ pub fn begin_call<S: Scheme>(layout: Layout, call: Call) -> CallOf<S>
         Call::Remove { key } => Running::Removes(Remove::new(key)),
         Call::Enqueue { value } => Running::Enqueues(Enqueue::new(value)),
         Call::Dequeue => Running::Dequeues(Dequeue::new()),
-        Call::Hold { key } => Running::Holds(Hold::new(key)),
-        Call::Release => Running::Releases(Release::new()),
+        Call::Hold { key } => Running::Keeps(Keeping::Holds(Hold::new(key))),
+        Call::Release => Running::Keeps(Keeping::Releases(Release::new())),
         Call::Advance => Running::Advances(Advance::new()),
         Call::Scan => Running::Scans(Scan::new(layout)),
+        Call::Copy { from, index } => {
+            Running::Keeps(Keeping::Copies(CopyIndex::new(from, index)))
+        }
+        Call::DropIndex { index } => Running::Keeps(Keeping::Drops(DropIndex::new(index))),
+        Call::Look { index, key } => Running::Keeps(Keeping::Looks(Look::new(index, key))),
+        Call::PutIf {
+            key,
+            value,
+            version,
+        } => Running::PutsIf(PutIf::new(key, value, version)),
     }
 }

@@ -15,7 +15,7 @@ use Rattle.wfe_server.specs.server_replay.Sunk.{Outside}
 use Rattle.wfe_server.proofs.server_replay.Lines.{good_taken}
 use Rattle.wfe_server.proofs.server_replay.Parts.{all_taken}
 use Rattle.wfe_server.proofs.server_replay.Plays.{valid_of}
-use Rattle.law_all.proofs.Whole.{histories_are_lawful}
+use Rattle.wfe_server_run.proofs.all.Whole.{histories_are_lawful}
 use Rattle.wfe_cli.specs.Headline.{AreLawful, GivenLawful, HasLaws, IsBroken, Keeps, Promises, Summarizes, entries_in}
 
 pub given_lawful : GivenLawful

@@ -12,7 +12,7 @@ use Rattle.wfe_trace.specs.declared.reason.Status.TheVariants as statuses
 use Rattle.wfe_server.specs.server_replay.Given.{Given, IsTaken, given_out, given_record, items, layout_of, past_entries}
 use Rattle.wfe_server.specs.server_replay.Replay.{IsCutOff, IsRefused, IsReplayed, IsStopped, all_lines, closed_lines}
 use Rattle.wfe_server.specs.server_replay.Sunk.{Outside}
-use Rattle.law_all.specs.Whole.{IsLawful}
+use Rattle.wfe_server_run.specs.all.Whole.{IsLawful}
 
 -- the history of the lines is lawful, and what is put out of it tells the entries of its record, in order
 pub record HasLaws (given : Given) : Type 0 where

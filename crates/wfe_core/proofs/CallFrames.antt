@@ -20,20 +20,21 @@ use Rattle.wfe_core.specs.declared.ends.ProtectEnd.TheVariants as protect_ends
 use Rattle.wfe_core.specs.declared.post.Post.{Post}
 use Rattle.wfe_core.specs.Frames.{SamePlace, StaysInPlace}
 use Rattle.wfe_core.specs.Desks.{Desk, noting}
-use Rattle.wfe_core.specs.Posts.{counted}
+use Rattle.wfe_core.specs.Posts.{counted, withdrawn}
 use Rattle.wfe_core.specs.Phases.{Base, Ending, Outcome, Goes, Ends}
 use Rattle.wfe_core.specs.Phases.Ending.{Protected, Followed, Allocated, Retired, Clocked}
 use Rattle.wfe_core.specs.Machine.{after}
-use Rattle.wfe_core.specs.Calls.{ChangeKept, EnqueueKept, Task, Gets, Changes, Holds, Enqueues, Dequeues, Next, Again, MakeRoom, Answering, Retiring, AfterScan, Answered, Repeated, Counted, Why, Opens, FollowsHead, Fills, ClearsNext, Clears, Finishes, GivesUp, Retires, Tidies, Advances, Releases, ScanAt, ReadGuard, GiveBack, GetAt, FindVersion, FindCount, FindKey, FindValue, ChangeAt, LoadVersion, LoadCount, LoadKey, LoadValue, ExchangeRoot, EnqueueAt, LoadNumber, LoadNext, PassTail, ExchangeNext, ExchangeTail, DequeueAt, LoadTail, SwingTail, TakeNumber, TakeValue, ExchangeHead, Work, Getting, Changing, Enqueuing, Dequeuing, Phase, Idle, Runs, Scans, Works, CallTurn, CallOutcome, GoesOn, Answers}
-use Rattle.wfe_core.specs.Rounds.{scheme_of, clear_post, closed, finishing_by, finishing, clearing_by, clearing, clearing_next_by, clearing_next, given_up}
+use Rattle.wfe_core.specs.Calls.{ChangeKept, EnqueueKept, Task, Gets, Changes, Holds, Enqueues, Dequeues, Next, Again, MakeRoom, Answering, Retiring, AfterScan, Answered, Repeated, Counted, Why, Opens, FollowsHead, Fills, ClearsNext, Clears, Finishes, GivesUp, Retires, Tidies, Advances, Releases, LetGo, Released, Rehold, Dropped, KeepAt, Loosens, LoadHeld, StoreHeld, Looks, Misses, ScanAt, ReadGuard, GiveBack, GetAt, FindVersion, FindCount, FindKey, FindValue, ChangeAt, LoadVersion, LoadCount, LoadKey, LoadValue, ExchangeRoot, EnqueueAt, LoadNumber, LoadNext, PassTail, ExchangeNext, ExchangeTail, DequeueAt, LoadTail, SwingTail, TakeNumber, TakeValue, ExchangeHead, Work, Getting, Changing, Enqueuing, Dequeuing, Keeping, Phase, Idle, Runs, Scans, Works, CallTurn, CallOutcome, GoesOn, Answers}
+use Rattle.wfe_core.specs.Rounds.{scheme_of, clear_post, closed, finishing_by, finishing, clearing_by, clearing, clearing_next_by, clearing_next, given_up, let_index}
 use Rattle.wfe_core.specs.Rounds as rounds
 use Rattle.wfe_core.specs.Get.{got, finding, found_key, get_turn}
 use Rattle.wfe_core.specs.Change.{with_read, answer_done, told_linked, at_link, with_walked, no_room, deciding_by, deciding, reading, exchanged, change_turn}
 use Rattle.wfe_core.specs.Enqueue.{told_link, item_walked, appending, at_next, appended, enqueue_turn}
 use Rattle.wfe_core.specs.Dequeue.{followed_row, followed, taken, dequeue_turn}
+use Rattle.wfe_core.specs.Keep.{copied, keep_turn, load_held, look_turn, looked_key, looking, released}
 use Rattle.wfe_core.specs.Scan.{Entry, scanned, giving_back, scan_turn}
 use Rattle.wfe_core.specs.Scan as scan
-use Rattle.wfe_core.specs.Steps.{opened_row, opened_null, opened, filled_by, written_row, filled, followed_by, tidying, retired_by, tidied, advanced, released, resume, resumed, work_turn, phase_turn}
+use Rattle.wfe_core.specs.Steps.{opened_row, opened_null, opened, filled_by, written_row, filled, followed_by, tidying, retired_by, tidied, advanced, resume, resumed, work_turn, phase_turn}
 use Rattle.wfe_core.specs.Locals.{Local, settled_by, turn, told_by}
 use Rattle.wfe_core.proofs.Schemes.{each_clear_post}
 use Rattle.wfe_core.proofs.Frames.{same, same_along, after_same}
@@ -166,11 +167,47 @@ dequeue_same (TakeNumber head next) post desk found = same post
 dequeue_same (TakeValue head next number) post desk found = same post
 dequeue_same (ExchangeHead head next number value) post desk found = taken_same head next number value post desk _
 
+released_same : (let_go : LetGo) (post : Post) (desk : Desk) (told : List Event) → SamePlace post (released let_go post desk told).post
+released_same Released post desk told = same post
+released_same (Rehold key) post desk told = same post
+released_same (Dropped index) post desk told = same post
+
+copied_same : (from index : ℕ) (post : Post) (desk : Desk) (reserved : List Event) (o : Option ℕ) → SamePlace post (copied from index post desk reserved o).post
+copied_same from index post desk reserved None = same post
+copied_same from index post desk reserved (Some slot) = record { layout = refl; seat = refl }
+
+load_held_same : (from index : ℕ) (post : Post) (desk : Desk) (found : ℕ) (one : Bool) → SamePlace post (load_held from index post desk found one).post
+load_held_same from index post desk found true = copied_same from index post desk [] _
+load_held_same from index post desk found false = same post
+
+looking_same : (index key slot version count : ℕ) (post : Post) (desk : Desk) (more : Bool) (pair : ℕ) → SamePlace post (looking index key slot version count post desk more pair).post
+looking_same index key slot version count post desk true pair = same post
+looking_same index key slot version count post desk false pair = same post
+
+looked_key_same : (index key slot version count pair : ℕ) (post : Post) (desk : Desk) (own : Bool) → SamePlace post (looked_key index key slot version count pair post desk own).post
+looked_key_same index key slot version count pair post desk true = same post
+looked_key_same index key slot version count pair post desk false = looking_same index key slot version count post desk _ _
+
+look_same : (index key : ℕ) (at : GetAt) (post : Post) (desk : Desk) (found : ℕ) → SamePlace post (look_turn index key at post desk found).post
+look_same index key (FindVersion slot) post desk found = same post
+look_same index key (FindCount slot version) post desk found = looking_same index key slot version found post desk _ 0
+look_same index key (FindKey slot version count pair) post desk found = looked_key_same index key slot version count pair post desk _
+look_same index key (FindValue slot version pair) post desk found = same post
+
+keep_same : (at : KeepAt) (post : Post) (desk : Desk) (found : ℕ) → SamePlace post (keep_turn at post desk found).post
+keep_same (Loosens let_go) post desk found =
+    same_along post (withdrawn post (let_index let_go)) _ (record { layout = refl; seat = refl }) (released_same let_go (withdrawn post (let_index let_go)) desk _)
+keep_same (LoadHeld from index) post desk found = load_held_same from index post desk found _
+keep_same (StoreHeld from index era) post desk found = copied_same from index post desk _ _
+keep_same (Looks index key at) post desk found = look_same index key at post desk found
+keep_same (Misses index) post desk found = same post
+
 work_same : (work : Work) (post : Post) (desk : Desk) (found : ℕ) → SamePlace post (work_turn work post desk found).post
 work_same (Getting key at) post desk found = get_same key at post desk found
 work_same (Changing kept at) post desk found = change_same kept at post desk found
 work_same (Enqueuing kept at) post desk found = enqueue_same kept at post desk found
 work_same (Dequeuing at) post desk found = dequeue_same at post desk found
+work_same (Keeping at) post desk found = keep_same at post desk found
 
 scanned_same : (later : AfterScan) (post : Post) (desk : Desk) (told : List Event) → SamePlace post (scanned later post desk told).post
 scanned_same (Answered answer) post desk told = same post
@@ -256,10 +293,6 @@ advanced_same : (ending : Ending) (post : Post) (desk : Desk) (told : List Event
 advanced_same (Clocked clock) post desk told = same post
 advanced_same ending post desk told = same post
 
-released_same : (key : Option ℕ) (post : Post) (desk : Desk) (told : List Event) → SamePlace post (released key post desk told).post
-released_same None post desk told = same post
-released_same (Some key) post desk told = same post
-
 resume_same : (why : Why) (ending : Ending) (post : Post) (desk : Desk) (told : List Event) → SamePlace post (resume why ending post desk told).post
 resume_same (Opens task) ending post desk told = opened_same task ending post desk told
 resume_same (FollowsHead head tail) ending post desk told = followed_by_same head tail ending post desk told
@@ -271,7 +304,7 @@ resume_same (GivesUp answer) ending post desk told = same post
 resume_same (Retires answer) ending post desk told = retired_same answer ending post desk told
 resume_same (Tidies later) ending post desk told = tidied_same later ending post desk told
 resume_same Advances ending post desk told = advanced_same ending post desk told
-resume_same (Releases key) ending post desk told = released_same key post desk told
+resume_same (Releases let_go) ending post desk told = released_same let_go post desk told
 
 resumed_same : (why : Why) (desk : Desk) (post : Post) (told : List Event) (o : Outcome) → SamePlace post (resumed why desk post told o).post
 resumed_same why desk post told (Goes base) = same post

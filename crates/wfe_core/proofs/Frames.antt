@@ -85,7 +85,7 @@ after_same (Protect aim index root steps (RaiseUpper era)) post found = record {
 after_same (Reload parent index slot era steps) post found = same_if _ post _ _ (record { layout = refl; seat = refl }) (same post)
 after_same (Clear index) post found = record { layout = refl; seat = refl }
 after_same Finish post found = record { layout = refl; seat = refl }
-after_same Release post found = record { layout = refl; seat = refl }
+after_same (Release index) post found = record { layout = refl; seat = refl }
 after_same (Allocate LoadBirth) post found = same post
 after_same (Allocate (ClaimSlot birth walk)) post found =
     same_if (is_claimed found walk.slot) post _ _ (walking_same birth post (walk_past post.layout.config.slots walk found)) (record { layout = refl; seat = refl })

@@ -8,9 +8,9 @@ use Rattle.wfe_defs.specs.declared.event.Guard.TheVariants.{Index, Whole}
 use Rattle.wfe_core.specs.declared.post.Post.{Post}
 use Rattle.wfe_core.specs.Guards.{own_guard}
 use Rattle.wfe_core.specs.Phases.{Base}
-use Rattle.wfe_core.specs.Phases.Base.{Clear, Release}
+use Rattle.wfe_core.specs.Phases.Base.{Clear}
 use Rattle.wfe_core.specs.Posts.{stands, withdrawn, cleared}
-use Rattle.wfe_core.specs.Rounds.{begin_span, begin_where, begin_base, clear_base, clear_post, clear_told, finish_span, finish_base, release_base}
+use Rattle.wfe_core.specs.Rounds.{begin_span, begin_where, begin_base, clear_base, clear_post, clear_told, finish_span, finish_base, kept_row, release_base, release_span}
 use Rattle.wfe_defs.proofs.Facts.{if_by}
 
 pub each_begin : (scheme : SchemeKind) (post : Post) (P : Option Base → Type 0) → P None → P (begin_span post.span) → P (begin_base scheme post)
@@ -20,8 +20,8 @@ each_begin scheme post P f t = by (has_one_interval scheme)
     by false = f
     by true = t
 
-pub each_finish : (scheme : SchemeKind) (post : Post) (P : Option Base → Type 0) → P None → P (finish_span (stands post 2)) → P (finish_base scheme post)
-each_finish scheme post P f t = if_by (has_one_interval scheme) (finish_span (stands post 2)) None P (λ e. t) (λ e. f)
+pub each_finish : (scheme : SchemeKind) (post : Post) (P : Option Base → Type 0) → P None → P (finish_span (kept_row post)) → P (finish_base scheme post)
+each_finish scheme post P f t = if_by (has_one_interval scheme) (finish_span (kept_row post)) None P (λ e. t) (λ e. f)
 
 pub each_clear : (scheme : SchemeKind) (index : ℕ) (P : Option Base → Type 0) → P (Some (Clear index)) → P None → P (clear_base scheme index)
 each_clear scheme index P f t = if_by (has_one_interval scheme) None (Some (Clear index)) P (λ e. t) (λ e. f)
@@ -32,8 +32,8 @@ each_clear_post scheme post index P f t = if_by (has_one_interval scheme) (withd
 pub each_clear_told : (scheme : SchemeKind) (post : Post) (index : ℕ) (P : List Event → Type 0) → P [] → P (cleared index (stands post index)) → P (clear_told scheme post index)
 each_clear_told scheme post index P f t = if_by (has_one_interval scheme) (cleared index (stands post index)) [] P (λ e. t) (λ e. f)
 
-pub each_release : (scheme : SchemeKind) (P : Base → Type 0) → P (Clear 2) → P Release → P (release_base scheme)
-each_release scheme P f t = if_by (has_one_interval scheme) Release (Clear 2) P (λ e. t) (λ e. f)
+pub each_release : (scheme : SchemeKind) (post : Post) (index : ℕ) (P : Option Base → Type 0) → P (Some (Clear index)) → P (release_span index (kept_row (withdrawn post index))) → P (release_base scheme post index)
+each_release scheme post index P f t = if_by (has_one_interval scheme) (release_span index (kept_row (withdrawn post index))) (Some (Clear index)) P (λ e. t) (λ e. f)
 
 pub each_guard : (scheme : SchemeKind) (seat index : ℕ) (P : Guard → Type 0) → P (Index seat index) → P (Whole seat) → P (own_guard scheme seat index)
 each_guard scheme seat index P f t = if_by (has_one_interval scheme) (Whole seat) (Index seat index) P (λ e. t) (λ e. f)

@@ -8,9 +8,10 @@ use Rattle.wfe_core.specs.Guards.{guards}
 use Rattle.wfe_core.specs.Phases.{RetireAt, Base}
 use Rattle.wfe_core.specs.Phases.RetireAt.{LoadLife, LoadRetire, StoreRetired}
 use Rattle.wfe_core.specs.Phases.Base.{Retire}
-use Rattle.wfe_core.specs.Ready.{SlotFits, LinkFits, IsReady, Plausible}
+use Rattle.wfe_core.specs.Ready.{IndexFits, SlotFits, LinkFits, IsReady, Plausible}
+use Rattle.wfe_core.specs.Rounds.{let_index}
 use Rattle.wfe_core.specs.Scan.{read_before}
-use Rattle.wfe_core.specs.Calls.{ChangeKept, EnqueueKept, Task, Gets, Changes, Holds, Enqueues, Dequeues, AfterScan, Answered, Repeated, Counted, Why, Opens, FollowsHead, Fills, ClearsNext, Clears, Finishes, GivesUp, Retires, Tidies, Advances, Releases, ScanAt, ReadGuard, GiveBack, GetAt, FindVersion, FindCount, FindKey, FindValue, ChangeAt, LoadVersion, LoadCount, LoadKey, LoadValue, ExchangeRoot, EnqueueAt, LoadNumber, LoadNext, PassTail, ExchangeNext, ExchangeTail, DequeueAt, LoadTail, SwingTail, TakeNumber, TakeValue, ExchangeHead, Work, Getting, Changing, Enqueuing, Dequeuing, Phase, Idle, Runs, Scans, Works}
+use Rattle.wfe_core.specs.Calls.{ChangeKept, EnqueueKept, Task, Gets, Changes, Holds, Enqueues, Dequeues, AfterScan, Answered, Repeated, Counted, Why, Opens, FollowsHead, Fills, ClearsNext, Clears, Finishes, GivesUp, Retires, Tidies, Advances, Releases, ScanAt, ReadGuard, GiveBack, GetAt, FindVersion, FindCount, FindKey, FindValue, ChangeAt, LoadVersion, LoadCount, LoadKey, LoadValue, ExchangeRoot, EnqueueAt, LoadNumber, LoadNext, PassTail, ExchangeNext, ExchangeTail, DequeueAt, LoadTail, SwingTail, TakeNumber, TakeValue, ExchangeHead, Work, Getting, Changing, Enqueuing, Dequeuing, Keeping, KeepAt, Loosens, LoadHeld, StoreHeld, Looks, Misses, Phase, Idle, Runs, Scans, Works}
 
 -- a version of a bucket, or a number of the queue
 abbrev pub VersionFits : Post → ℕ → Type 0
@@ -90,7 +91,7 @@ why_ready (GivesUp answer) base post desk = Unit {0}
 why_ready (Retires answer) base post desk = RetireFits base desk
 why_ready (Tidies later) base post desk = LaterFits post later
 why_ready Advances base post desk = Unit {0}
-why_ready (Releases key) base post desk = Unit {0}
+why_ready (Releases let_go) base post desk = Unit {0}
 
 abbrev pub get_ready : GetAt → Post → Type 0
 get_ready (FindVersion slot) post = SlotFits post slot
@@ -119,11 +120,23 @@ dequeue_ready (TakeNumber head next) post = (SlotFits post head) × (SlotFits po
 dequeue_ready (TakeValue head next number) post = (SlotFits post head) × (SlotFits post next)
 dequeue_ready (ExchangeHead head next number value) post = (SlotFits post head) × (SlotFits post next)
 
+-- a copy goes upwards, from an index from 2 on
+abbrev pub CopyFits : Post → (from index : ℕ) → Type 0
+CopyFits post from index = (2 ≤ from) × (from < index) × IndexFits post index
+
+abbrev pub keep_ready : KeepAt → Post → Type 0
+keep_ready (Loosens let_go) post = IndexFits post (let_index let_go)
+keep_ready (LoadHeld from index) post = CopyFits post from index
+keep_ready (StoreHeld from index era) post = CopyFits post from index
+keep_ready (Looks index key at) post = get_ready at post
+keep_ready (Misses index) post = IndexFits post index
+
 abbrev pub work_ready : Work → Post → Type 0
 work_ready (Getting key at) post = get_ready at post
 work_ready (Changing kept at) post = (ChangeFits post kept) × change_ready kept at post
 work_ready (Enqueuing kept at) post = (EnqueueFits post kept) × enqueue_ready kept at post
 work_ready (Dequeuing at) post = dequeue_ready at post
+work_ready (Keeping at) post = keep_ready at post
 
 -- the entry at the place is of this slot, and what went back is no more than the rows
 pub record BackFits (post : Post) (desk : Desk) (place slot : ℕ) : Type 0 where
@@ -173,11 +186,19 @@ dequeue_plausible (TakeNumber head next) post found = VersionFits post found
 dequeue_plausible (TakeValue head next number) post found = Unit {0}
 dequeue_plausible (ExchangeHead head next number value) post found = Unit {0}
 
+abbrev pub keep_plausible : KeepAt → Post → ℕ → Type 0
+keep_plausible (Loosens let_go) post found = Unit {0}
+keep_plausible (LoadHeld from index) post found = Unit {0}
+keep_plausible (StoreHeld from index era) post found = Unit {0}
+keep_plausible (Looks index key at) post found = get_plausible at post found
+keep_plausible (Misses index) post found = Unit {0}
+
 abbrev pub work_plausible : Work → Post → ℕ → Type 0
 work_plausible (Getting key at) post found = get_plausible at post found
 work_plausible (Changing kept at) post found = change_plausible at post found
 work_plausible (Enqueuing kept at) post found = enqueue_plausible at post found
 work_plausible (Dequeuing at) post found = dequeue_plausible at post found
+work_plausible (Keeping at) post found = keep_plausible at post found
 
 -- what the word may hold that a step finds
 abbrev pub IsCallPlausible : Phase → Post → ℕ → Type 0

@@ -9,10 +9,12 @@ use Rattle.wfe_core.specs.declared.post.Post.{Post}
 use Rattle.wfe_core.specs.Desks.{Desk}
 use Rattle.wfe_core.specs.Phases.{Base}
 
--- a put or remove: the row that it has taken, whether a walk has failed, and, from the root loaded last, the link, the
--- version, and the pairs: those read so far, and once the new row is decided those that it gets
+-- a put or remove: the version at which alone it is to be made, if it names one; the row that it has taken, whether a walk
+-- has failed, and, from the root loaded last, the link, the version, and the pairs: those read so far, and once the new row
+-- is decided those that it gets
 pub record ChangeKept : Type 0 where
   pub change : Change
+  pub wanted : Option ℕ
   pub taken : Option ℕ
   pub walked : Bool
   pub link : ℕ
@@ -49,10 +51,16 @@ pub data AfterScan : Type 0 where
   Repeated : Task → AfterScan
   Counted : AfterScan
 
+-- what is let go, and what comes then: a release answers, or another key is held; or what stands at an index is dropped
+pub data LetGo : Type 0 where
+  Released : LetGo
+  Rehold : (key : ℕ) → LetGo
+  Dropped : (index : ℕ) → LetGo
+
 -- what comes after a machine. `Opens`: begin, then the protection of the task's root. `FollowsHead`: a dequeue follows the
 -- next link, with the head's row and the tail's link. `Fills`: a row is taken and written. `ClearsNext`: index 1, and then
 -- the task's index. `Clears` and `Finishes`: a round ends. `GivesUp`, `Retires`: the answer is known. `Tidies`: the clock
--- is moved before a scan. `Advances`: the clock is moved alone. `Releases`: what was held is let go, before another key is held
+-- is moved before a scan. `Advances`: the clock is moved alone. `Releases`: what stood at an index from 2 on is let go
 pub data Why : Type 0 where
   Opens : Task → Why
   FollowsHead : (head tail : ℕ) → Why
@@ -64,7 +72,7 @@ pub data Why : Type 0 where
   Retires : Answer → Why
   Tidies : AfterScan → Why
   Advances : Why
-  Releases : (key : Option ℕ) → Why
+  Releases : LetGo → Why
 
 pub data ScanAt : Type 0 where
   ReadGuard : (number : ℕ) → ScanAt
@@ -97,12 +105,23 @@ pub data DequeueAt : Type 0 where
   TakeValue : (head next number : ℕ) → DequeueAt
   ExchangeHead : (head next number value : ℕ) → DequeueAt
 
+-- the calls that work on what stands at indexes from 2 on. `Loosens`: under 2GE something is let go, and the interval stays.
+-- `LoadHeld`, `StoreHeld`: what an index publishes is copied to another. `Looks`: the row that stands at an index is read.
+-- `Misses`: nothing stands there
+pub data KeepAt : Type 0 where
+  Loosens : LetGo → KeepAt
+  LoadHeld : (from index : ℕ) → KeepAt
+  StoreHeld : (from index era : ℕ) → KeepAt
+  Looks : (index key : ℕ) → GetAt → KeepAt
+  Misses : (index : ℕ) → KeepAt
+
 -- the steps of a call's own
 pub data Work : Type 0 where
   Getting : (key : ℕ) → GetAt → Work
   Changing : ChangeKept → ChangeAt → Work
   Enqueuing : EnqueueKept → EnqueueAt → Work
   Dequeuing : DequeueAt → Work
+  Keeping : KeepAt → Work
 
 -- where a seat stands
 pub data Phase : Type 0 where

@@ -48,6 +48,15 @@ refusal config version pairs (changes.Removed key) =
     else if version == config.last_version then Some (answers.Spent version)
     else None
 
+-- where a change names a version, it is refused first at another
+abbrev pub stale_or : Option ℕ → ℕ → Option Answer → Option Answer
+stale_or None version other = other
+stale_or (Some wanted) version other = if version == wanted then other else Some (answers.Stale version)
+
+-- why the change is refused, if it is
+abbrev pub refused : Config → ChangeKept → Option Answer
+refused config kept = stale_or kept.wanted kept.version (refusal config kept.version kept.pairs kept.change)
+
 -- the row that is written
 abbrev pub new_row : ChangeKept → RowOf
 new_row kept = MapRow (kept.version + 1) kept.pairs
@@ -70,7 +79,7 @@ deciding_by kept post desk told None = goes_on post desk told (Runs (Fills (Chan
 -- the row is read: it is refused, or the new one is filled
 abbrev pub deciding : ChangeKept → Post → Desk → List Event → CallTurn
 deciding kept post desk told =
-    deciding_by kept post desk told (refusal post.layout.config kept.version kept.pairs kept.change)
+    deciding_by kept post desk told (refused post.layout.config kept)
 
 -- the root was protected with this link
 abbrev pub at_link : ChangeKept → ℕ → ChangeKept

@@ -16,6 +16,7 @@ pub mod Frames
 pub mod Get
 pub mod Guards
 pub mod Held
+pub mod Keep
 pub mod Links
 pub mod Locals
 pub mod Machine

@@ -1,5 +1,6 @@
 -- A seat's local state, and what a step and the start of a call make of it.
-use Rattle.std.specs.Prelude.{ℕ, ◌==◌, ◌+◌, Bool, true, false, if◌then◌else◌, List, [], ◌∷◌, ◌++◌}
+use Rattle.std.specs.Prelude.{ℕ, ◌==◌, ◌+◌, ◌&&◌, nat_le, nat_lt, Bool, true, false, if◌then◌else◌, List, [], ◌∷◌, ◌++◌}
+use Rattle.wfe_words.specs.declared.config.Config.{Config}
 use Rattle.wfe_words.specs.declared.layout.Layout.{Layout}
 use Rattle.wfe_defs.specs.declared.call.Answer.{Answer}
 use Rattle.wfe_defs.specs.declared.call.Call.{Call}
@@ -95,6 +96,13 @@ settled l t = settled_by l t.post (noting t.desk (told_by t)) (rounds_told l.rou
 -- the seat after a step that found this
 abbrev pub after : Local → ℕ → Local
 after l found = settled l (turn l found)
+
+-- the indexes that a call names are some at which a row may stand between calls, and a copy goes upwards
+abbrev pub may_begin : Config → Call → Bool
+may_begin config (names.Copy from index) = nat_le 2 from && (nat_lt from index && nat_lt index config.indexes)
+may_begin config (names.DropIndex index) = nat_le 2 index && nat_lt index config.indexes
+may_begin config (names.Look index key) = nat_le 2 index && nat_lt index config.indexes
+may_begin config call = true
 
 -- steps are counted from a call's start
 abbrev pub begun_post : Post → Post

@@ -94,7 +94,7 @@ pub data Base : Type 0 where
   Reload : (parent index slot era steps : ℕ) → Base
   Clear : (index : ℕ) → Base
   Finish : Base
-  Release : Base
+  Release : (index : ℕ) → Base
   Allocate : AllocateAt → Base
   Write : (slot : ℕ) → RowOf → (place : ℕ) → Base
   GiveUp : (slot : ℕ) → Base

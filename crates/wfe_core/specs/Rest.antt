@@ -15,7 +15,7 @@ use Rattle.wfe_core.specs.Phases.RetireAt.{LoadLife, LoadRetire, StoreRetired}
 use Rattle.wfe_core.specs.Phases.MoveAt.{LoadEra, LoadRequest, ShowEra, LoadAsked, CheckEra, AnswerAsked, LoadReserved, HandOver, HideEra, HideLate, ExchangeClock}
 use Rattle.wfe_core.specs.Phases.Base.{Begin, Protect, Reload, Clear, Finish, Release, Allocate, Write, GiveUp, Retire, Move}
 use Rattle.wfe_core.specs.WriteRow.{last_written}
-use Rattle.wfe_core.specs.Calls.{Task, Gets, Changes, Holds, Enqueues, Dequeues, Next, Again, MakeRoom, Answering, Retiring, AfterScan, Answered, Repeated, Counted, Why, Opens, FollowsHead, Fills, ClearsNext, Clears, Finishes, GivesUp, Retires, Tidies, Advances, Releases, ScanAt, ReadGuard, GiveBack, GetAt, FindVersion, FindCount, FindKey, FindValue, ChangeAt, LoadVersion, LoadCount, LoadKey, LoadValue, ExchangeRoot, EnqueueAt, LoadNumber, LoadNext, PassTail, ExchangeNext, ExchangeTail, DequeueAt, LoadTail, SwingTail, TakeNumber, TakeValue, ExchangeHead, Work, Getting, Changing, Enqueuing, Dequeuing, Phase, Idle, Runs, Scans, Works}
+use Rattle.wfe_core.specs.Calls.{Task, Gets, Changes, Holds, Enqueues, Dequeues, Next, Again, MakeRoom, Answering, Retiring, AfterScan, Answered, Repeated, Counted, Why, Opens, FollowsHead, Fills, ClearsNext, Clears, Finishes, GivesUp, Retires, Tidies, Advances, Releases, LetGo, Released, Rehold, Dropped, KeepAt, Loosens, LoadHeld, StoreHeld, Looks, Misses, ScanAt, ReadGuard, GiveBack, GetAt, FindVersion, FindCount, FindKey, FindValue, ChangeAt, LoadVersion, LoadCount, LoadKey, LoadValue, ExchangeRoot, EnqueueAt, LoadNumber, LoadNext, PassTail, ExchangeNext, ExchangeTail, DequeueAt, LoadTail, SwingTail, TakeNumber, TakeValue, ExchangeHead, Work, Getting, Changing, Enqueuing, Dequeuing, Keeping, Phase, Idle, Runs, Scans, Works}
 use Rattle.wfe_core.specs.Locals.{Local}
 use Rattle.wfe_core.specs.Rounds.{taken_of}
 use Rattle.wfe_core.specs.World.{World}
@@ -108,7 +108,7 @@ base_left config (Protect aim index root steps at) = protect_left config at + ai
 base_left config (Reload parent index slot era steps) = 1
 base_left config (Clear index) = 1
 base_left config Finish = 1
-base_left config Release = 1
+base_left config (Release index) = 1
 base_left config (Allocate at) = allocate_left at config
 base_left config (Write slot row place) = last_written row + 1 - place
 base_left config (GiveUp slot) = 1
@@ -222,6 +222,12 @@ filling_left config lives rounds task (Allocate at) =
     + ending_most config lives
 filling_left config lives rounds task base = base_left config base + 5 + task_left config lives task (rounds - 1)
 
+-- what comes once something is let go
+abbrev pub let_left : Config → ℕ → LetGo → ℕ
+let_left config lives Released = 0
+let_left config lives (Rehold key) = open_left config (Holds key) + task_left config lives (Holds key) 0
+let_left config lives (Dropped index) = 0
+
 abbrev pub why_left : Config → ℕ → ℕ → Base → Why → ℕ
 why_left config lives rounds base (Opens task) =
     base_left config base + round_left config task + task_left config lives task (lost_by rounds (is_told base))
@@ -234,8 +240,7 @@ why_left config lives rounds base (GivesUp answer) = 1
 why_left config lives rounds base (Retires answer) = base_left config base + room_most config (lives + 1)
 why_left config lives rounds base (Tidies later) = base_left config base + scan_most config lives + later_left config lives rounds later
 why_left config lives rounds base Advances = base_left config base
-why_left config lives rounds base (Releases None) = 1
-why_left config lives rounds base (Releases (Some key)) = 1 + open_left config (Holds key) + task_left config lives (Holds key) 0
+why_left config lives rounds base (Releases let_go) = 1 + let_left config lives let_go
 
 abbrev pub get_left : Config → GetAt → ℕ
 get_left config (FindVersion slot) = config.pairs + 5
@@ -265,12 +270,20 @@ dequeue_left config (TakeNumber head next) = 6
 dequeue_left config (TakeValue head next number) = 5
 dequeue_left config (ExchangeHead head next number value) = 4
 
+abbrev pub keep_left : Config → ℕ → KeepAt → ℕ
+keep_left config lives (Loosens let_go) = 1 + let_left config lives let_go
+keep_left config lives (LoadHeld from index) = 2
+keep_left config lives (StoreHeld from index era) = 1
+keep_left config lives (Looks index key at) = get_left config at
+keep_left config lives (Misses index) = 1
+
 abbrev pub work_left : Config → ℕ → ℕ → Work → ℕ
 work_left config lives rounds (Getting key at) = get_left config at + task_left config lives (Gets key) (rounds - 1)
 work_left config lives rounds (Changing kept at) =
     change_left config (length kept.pairs) at + task_left config lives (Changes kept) (rounds - 1)
 work_left config lives rounds (Enqueuing kept at) = enqueue_left at (task_left config lives (Enqueues kept) (rounds - 1))
 work_left config lives rounds (Dequeuing at) = dequeue_left config at + task_left config lives Dequeues (rounds - 1)
+work_left config lives rounds (Keeping at) = keep_left config lives at
 
 -- the steps that are left where no try sees a greater era
 abbrev pub phase_left : Config → ℕ → List Lifetime → Phase → ℕ

@@ -1,5 +1,5 @@
 -- How a round of a call begins and ends under each scheme.
-use Rattle.std.specs.Prelude.{ℕ, ◌%◌, Bool, true, false, List, [], ◌++◌, Option, Some, None, if◌then◌else◌}
+use Rattle.std.specs.Prelude.{ℕ, ◌%◌, Bool, true, false, List, [], ◌++◌, Option, Some, None, if◌then◌else◌, drop, ◌∷◌}
 pub use Rattle.wfe_words.specs.Schemes.{helps}
 use Rattle.wfe_words.specs.Schemes.{has_one_interval}
 use Rattle.wfe_words.specs.declared.config.SchemeKind.{SchemeKind}
@@ -22,7 +22,7 @@ use Rattle.wfe_core.specs.Phases.BeginAt.{LoadLower}
 use Rattle.wfe_core.specs.Phases.RetireAt.{LoadLife}
 use Rattle.wfe_core.specs.Phases.MoveAt.{LoadEra}
 use Rattle.wfe_core.specs.Phases.Base.{Begin, Protect, Clear, Finish, Release, GiveUp, Retire, Move}
-use Rattle.wfe_core.specs.Calls.{AfterScan, Task, Gets, Changes, Holds, Enqueues, Dequeues, Next, Again, MakeRoom, Answering, Retiring, Repeated, Phase, Runs, CallTurn, goes_on, Opens, ClearsNext, Clears, Finishes, GivesUp, Retires, Tidies}
+use Rattle.wfe_core.specs.Calls.{AfterScan, Task, Gets, Changes, Holds, Enqueues, Dequeues, Next, Again, MakeRoom, Answering, Retiring, Repeated, Phase, Runs, CallTurn, goes_on, Opens, ClearsNext, Clears, Finishes, GivesUp, Retires, Tidies, Releases, LetGo, Released, Rehold, Dropped, Works, Keeping, Loosens}
 use Rattle.wfe_core.specs.Calls as calls
 
 -- the scheme of a post's table
@@ -95,17 +95,45 @@ clear_post scheme post index = if has_one_interval scheme then withdrawn post in
 abbrev pub clear_told : SchemeKind → Post → ℕ → List Event
 clear_told scheme post index = if has_one_interval scheme then cleared index (stands post index) else []
 
--- the interval stays while a row is held
+-- the first row of these indexes that stands
+abbrev pub first_row : List (Option ℕ) → Option ℕ
+first_row [] = None
+first_row (None ∷ rows) = first_row rows
+first_row (Some slot ∷ rows) = Some slot
+
+-- what stands at the first index from 2 on at which something stands: it stands between calls too
+abbrev pub kept_row : Post → Option ℕ
+kept_row post = first_row (drop 2 post.standing)
+
+-- the interval stays while a row is kept
 abbrev pub finish_span : Option ℕ → Option Base
 finish_span None = Some Finish
 finish_span (Some slot) = None
 
 abbrev pub finish_base : SchemeKind → Post → Option Base
-finish_base scheme post = if has_one_interval scheme then finish_span (stands post 2) else None
+finish_base scheme post = if has_one_interval scheme then finish_span (kept_row post) else None
 
--- what is held is let go, and an interval with it
-abbrev pub release_base : SchemeKind → Base
-release_base scheme = if has_one_interval scheme then Release else Clear 2
+-- what stands at an index is let go: an interval goes with it where no other row is kept, and else no machine is needed
+abbrev pub release_span : ℕ → Option ℕ → Option Base
+release_span index None = Some (Release index)
+release_span index (Some slot) = None
+
+abbrev pub release_base : SchemeKind → Post → ℕ → Option Base
+release_base scheme post index = if has_one_interval scheme then release_span index (kept_row (withdrawn post index)) else Some (Clear index)
+
+-- the index of what is let go
+abbrev pub let_index : LetGo → ℕ
+let_index Released = 2
+let_index (Rehold key) = 2
+let_index (Dropped index) = index
+
+abbrev pub letting_by : LetGo → Option Base → Phase
+letting_by let_go (Some base) = Runs (Releases let_go) base
+letting_by let_go None = Works (Keeping (Loosens let_go))
+
+-- something is let go
+abbrev pub letting : LetGo → Post → Phase
+letting let_go post = letting_by let_go (release_base (scheme_of post) post (let_index let_go))
 
 abbrev pub move_base : SchemeKind → Base
 move_base scheme = Move (LoadEra (helps scheme))

@@ -47,7 +47,7 @@ after_raise_upper aim index root n era post =
 abbrev pub after_finish : Post → Turn
 after_finish post = ends (with_span post None) (reserves_span post None) Done
 
--- Release. The same, and what stood at index 2 stands no more.
-abbrev pub after_release : Post → Turn
-after_release post =
-    ends (with_span (withdrawn post 2) None) (cleared 2 (stands post 2) ++ reserves_span post None) Done
+-- Release. The same, and what stood at the index stands no more.
+abbrev pub after_release : ℕ → Post → Turn
+after_release index post =
+    ends (with_span (withdrawn post index) None) (cleared index (stands post index) ++ reserves_span post None) Done

@@ -7,6 +7,7 @@ use Rattle.wfe_defs.specs.declared.call.Call.{Call}
 use Rattle.wfe_defs.specs.declared.call.Call.TheVariants as names
 use Rattle.wfe_defs.specs.declared.call.ClockMove.{ClockMove}
 use Rattle.wfe_defs.specs.declared.event.Event.{Event}
+use Rattle.wfe_defs.specs.declared.fold.Change.{Change}
 use Rattle.wfe_defs.specs.declared.fold.Change.TheVariants as changes
 use Rattle.wfe_core.specs.declared.ends.AllocateEnd.{AllocateEnd}
 use Rattle.wfe_core.specs.declared.ends.AllocateEnd.TheVariants as allocate_ends
@@ -19,13 +20,14 @@ use Rattle.wfe_core.specs.Phases.{Ending, Protected, Followed, Allocated, Retire
 use Rattle.wfe_core.specs.Posts.{stands}
 use Rattle.wfe_core.specs.WriteRow.{writing}
 use Rattle.wfe_core.specs.Machine.{base_move, after}
-use Rattle.wfe_core.specs.Calls.{Task, Gets, Changes, Holds, Enqueues, Dequeues, Next, Again, Answering, AfterScan, Answered, Repeated, Counted, Why, Opens, FollowsHead, Fills, ClearsNext, Clears, Finishes, GivesUp, Retires, Tidies, Advances, Releases, ReadGuard, FindVersion, LoadVersion, ExchangeRoot, LoadNumber, ExchangeNext, LoadTail, Work, Getting, Changing, Enqueuing, Dequeuing, Phase, Idle, Runs, Scans, Works, CallTurn, goes_on}
+use Rattle.wfe_core.specs.Calls.{Task, Gets, Changes, Holds, Enqueues, Dequeues, Next, Again, Answering, AfterScan, Answered, Repeated, Counted, Why, Opens, FollowsHead, Fills, ClearsNext, Clears, Finishes, GivesUp, Retires, Tidies, Advances, Releases, Released, Rehold, Dropped, LoadHeld, Looks, Misses, Keeping, ReadGuard, FindVersion, LoadVersion, ExchangeRoot, LoadNumber, ExchangeNext, LoadTail, Work, Getting, Changing, Enqueuing, Dequeuing, Phase, Idle, Runs, Scans, Works, CallTurn, goes_on}
 use Rattle.wfe_core.specs.Calls as calls
-use Rattle.wfe_core.specs.Rounds.{scheme_of, first_tidy, opening, round, release_base, move_base, closed, finishing, clearing, with_clock}
+use Rattle.wfe_core.specs.Rounds.{scheme_of, first_tidy, opening, round, letting, move_base, closed, finishing, clearing, with_clock}
 use Rattle.wfe_core.specs.Get.{get_move, get_turn, got}
 use Rattle.wfe_core.specs.Change.{change_move, change_turn, deciding, at_link, with_taken, with_walked, no_room, new_row}
 use Rattle.wfe_core.specs.Enqueue.{enqueue_move, enqueue_turn, item_taken, item_walked, new_item}
 use Rattle.wfe_core.specs.Dequeue.{dequeue_move, dequeue_turn, followed}
+use Rattle.wfe_core.specs.Keep.{keep_move, keep_turn, released}
 use Rattle.wfe_core.specs.Scan.{scan_move, scan_turn}
 
 abbrev pub work_move : Work → Post → Move
@@ -33,6 +35,7 @@ work_move (Getting key at) post = get_move at
 work_move (Changing kept at) post = change_move kept at post
 work_move (Enqueuing kept at) post = enqueue_move kept at
 work_move (Dequeuing at) post = dequeue_move at
+work_move (Keeping at) post = keep_move at post
 
 -- the operation of a phase; a seat between calls has none, and stands for a load that nobody makes
 abbrev pub phase_move : Phase → Post → Move
@@ -50,6 +53,7 @@ work_turn (Getting key at) post desk found = get_turn key at post desk found
 work_turn (Changing kept at) post desk found = change_turn kept at post desk found
 work_turn (Enqueuing kept at) post desk found = enqueue_turn kept at post desk found
 work_turn (Dequeuing at) post desk found = dequeue_turn at post desk found
+work_turn (Keeping at) post desk found = keep_turn at post desk found
 
 -- the task's root was protected, and leads to a row
 abbrev pub opened_row : Task → ℕ → Post → Desk → List Event → CallTurn
@@ -124,10 +128,6 @@ abbrev pub advanced : Ending → Post → Desk → List Event → CallTurn
 advanced (Clocked clock) post desk told = calls.answers post desk told (answers.Clock clock)
 advanced ending post desk told = goes_on post desk told Idle
 
-abbrev pub released : Option ℕ → Post → Desk → List Event → CallTurn
-released None post desk told = calls.answers post desk told answers.Released
-released (Some key) post desk told = goes_on post desk told (round (Holds key) post)
-
 -- a machine has ended: what comes after it
 abbrev pub resume : Why → Ending → Post → Desk → List Event → CallTurn
 resume (Opens task) ending post desk told = opened task ending post desk told
@@ -140,7 +140,7 @@ resume (GivesUp answer) ending post desk told = calls.answers post desk told ans
 resume (Retires answer) ending post desk told = retired_by answer ending post desk told
 resume (Tidies later) ending post desk told = tidied later ending post desk told
 resume Advances ending post desk told = advanced ending post desk told
-resume (Releases key) ending post desk told = released key post desk told
+resume (Releases let_go) ending post desk told = released let_go post desk told
 
 -- a machine has made a step
 abbrev pub resumed : Why → Desk → Post → List Event → Outcome → CallTurn
@@ -160,19 +160,34 @@ phase_turn (Works work) post desk found = work_turn work post desk found
 -- what is held is let go before another key is held
 abbrev pub holding : ℕ → Post → Option ℕ → Phase
 holding key post None = round (Holds key) post
-holding key post (Some slot) = Runs (Releases (Some key)) (release_base (scheme_of post))
+holding key post (Some slot) = letting (Rehold key) post
+
+-- a put or remove that names a version, or none, and has done nothing
+abbrev pub changing : Change → Option ℕ → Task
+changing change wanted = Changes (record { change = change; wanted = wanted; taken = None; walked = false; link = 0; version = 0; pairs = [] })
+
+-- what stands at an index is copied or looked at, if something does
+abbrev pub copying : (from index : ℕ) → Option ℕ → Phase
+copying from index None = Works (Keeping (Misses from))
+copying from index (Some slot) = Works (Keeping (LoadHeld from index))
+
+abbrev pub looking_at : (index key : ℕ) → Option ℕ → Phase
+looking_at index key None = Works (Keeping (Misses index))
+looking_at index key (Some slot) = Works (Keeping (Looks index key (FindVersion slot)))
 
 -- a call's first phase
 abbrev pub first_phase : Call → Post → Phase
 first_phase (names.Get key) post = round (Gets key) post
-first_phase (names.Put key value) post =
-    round (Changes (record { change = changes.Put key value; taken = None; walked = false; link = 0; version = 0; pairs = [] })) post
-first_phase (names.Remove key) post =
-    round (Changes (record { change = changes.Removed key; taken = None; walked = false; link = 0; version = 0; pairs = [] })) post
+first_phase (names.Put key value) post = round (changing (changes.Put key value) None) post
+first_phase (names.Remove key) post = round (changing (changes.Removed key) None) post
 first_phase (names.Enqueue value) post =
     round (Enqueues (record { value = value; taken = None; walked = false; tail = 0; number = 0 })) post
 first_phase names.Dequeue post = round Dequeues post
 first_phase (names.Hold key) post = holding key post (stands post 2)
-first_phase names.Release post = Runs (Releases None) (release_base (scheme_of post))
+first_phase names.Release post = letting Released post
 first_phase names.Advance post = Runs Advances (move_base (scheme_of post))
 first_phase names.Scan post = Scans Counted (ReadGuard 0)
+first_phase (names.Copy from index) post = copying from index (stands post from)
+first_phase (names.DropIndex index) post = letting (Dropped index) post
+first_phase (names.Look index key) post = looking_at index key (stands post index)
+first_phase (names.PutIf key value version) post = round (changing (changes.Put key value) (Some version)) post

@@ -157,8 +157,8 @@ pub and_right_false : (a b : Bool) → b ≡ false → (a && b) ≡ false
 and_right_false true b h = h
 and_right_false false b h = refl
 
-pub fits_free : (seat seats : ℕ) (busy : Bool) → seat < seats → busy ≡ false → (nat_lt seat seats && not busy) ≡ true
-fits_free seat seats busy h b = let low : nat_lt seat seats ≡ true = grind (arith, nat_tests) in rw (low, b) refl
+pub fits_free : (seat seats : ℕ) (busy may : Bool) → seat < seats → busy ≡ false → may ≡ true → (nat_lt seat seats && (not busy && may)) ≡ true
+fits_free seat seats busy may h b m = let low : nat_lt seat seats ≡ true = grind (arith, nat_tests) in rw (low, b, m) refl
 
 pub fits_busy : (seat seats : ℕ) (busy : Bool) → seat < seats → busy ≡ true → (nat_lt seat seats && busy) ≡ true
 fits_busy seat seats busy h b = let low : nat_lt seat seats ≡ true = grind (arith, nat_tests) in rw (low, b) refl

@@ -26,6 +26,10 @@ hold_most tries = 3 * tries + 16
 abbrev pub get_most : (tries pairs : ℕ) → ℕ
 get_most tries pairs = 3 * tries + 18 + pairs
 
+-- a look, which loads a version, a count, a key for each of so many pairs at most, and one value
+abbrev pub look_most : (pairs : ℕ) → ℕ
+look_most pairs = 3 + pairs
+
 -- a move of the clock that helps so many seats
 abbrev pub clock_most : (seats : ℕ) → ℕ
 clock_most seats = 7 * seats + 3

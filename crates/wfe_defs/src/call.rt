@@ -15,6 +15,14 @@ pub enum Call {
     Advance,
     /// Reads all guards, and gives back the retired rows that none of them covers.
     Scan,
+    /// Protects what stands at an index from 2 on at a higher one too.
+    Copy { from: u32, index: u32 },
+    /// Lets go of what stands at an index from 2 on.
+    DropIndex { index: u32 },
+    /// Reads the key's value in the row that stands at an index from 2 on.
+    Look { index: u32, key: u64 },
+    /// A put where the bucket is at this version, and at no other.
+    PutIf { key: u64, value: u64, version: u64 },
 }
 
 /// How one try to move the clock ended.
@@ -81,5 +89,20 @@ pub enum Answer {
     Scanned {
         kept: u32,
         back: u32,
+    },
+    /// The row that stands at both indexes.
+    Copied {
+        slot: u32,
+    },
+    Dropped,
+    /// The row that stands at the index, its version, and the key's value there.
+    Looked {
+        slot: u32,
+        version: u64,
+        value: Option<u64>,
+    },
+    /// The bucket's version is another than the call names.
+    Stale {
+        version: u64,
     },
 }

@@ -91,6 +91,12 @@ pub enum Event {
         index: u32,
         slot: u32,
     },
+    /// What stands at an index stands at a higher one too.
+    Copied {
+        from: u32,
+        index: u32,
+        slot: u32,
+    },
     Put {
         bucket: u32,
         version: u64,

@@ -17,7 +17,7 @@ use Rattle.wfe_core.specs.Calls.{CallTurn, GoesOn, Phase}
 use Rattle.wfe_core.specs.Desks.{Desk, no_notes}
 use Rattle.wfe_core.specs.Steps.{first_phase}
 use Rattle.wfe_core.specs.declared.post.Post.{Post}
-use Rattle.wfe_core.specs.Locals.{begun_post, busy_in, told_by}
+use Rattle.wfe_core.specs.Locals.{begun_post, busy_in, may_begin, told_by}
 use Rattle.wfe_core.specs.MayStep.{MayStep}
 use Rattle.wfe_core.specs.Rest.{rest}
 use Rattle.wfe_core.specs.World.{World, begin, is_busy, step}
@@ -31,7 +31,7 @@ use Rattle.law_answers.specs.inv.Inv.{Inv}
 use Rattle.law_answers.proofs.inv.Inv.Kept.{inv_ready}
 use Rattle.law_answers.proofs.inv.Inv.Reached.{inv_reached}
 use Rattle.law_answers.specs.Heard.{IsCounted}
-use Rattle.law_answers.proofs.Turns.Counted.{histories_count}
+use Rattle.law_answers.proofs.Turns.Counted.{first_busy, histories_count}
 use Rattle.wfe_drive.specs.Reached.{IsReached, first_table, units_left}
 use Rattle.wfe_core.proofs.Facts.{fits_free, fits_busy}
 
@@ -127,12 +127,12 @@ unit_falls old new seat told answer r u h b =
     fewer count left old new h e f = omega (h, e, f, arith)
 
 -- a start is a beginning more
-pub start_reached : (table : TableView) (seat : ℕ) (call : Call) → IsReached table → seat < table.layout.config.seats → busy_in (seat_at table seat).phase ≡ false → IsReached (after_start table seat call)
-start_reached table seat call r h b =
+pub start_reached : (table : TableView) (seat : ℕ) (call : Call) → IsReached table → seat < table.layout.config.seats → busy_in (seat_at table seat).phase ≡ false → may_begin table.layout.config call ≡ true → IsReached (after_start table seat call)
+start_reached table seat call r h b may =
     let w : World = world_of table.layout r.items in
     let s : Shows table w = r.shows in
     let k : At table seat r.items = at_seat table seat r h in
-    let f : fits w (Begins seat call) ≡ true = fits_free seat w.layout.config.seats (is_busy w seat) k.below (sym (busy-shown table w seat s) ∙ b) in
+    let f : fits w (Begins seat call) ≡ true = fits_free seat w.layout.config.seats (is_busy w seat) (may_begin w.layout.config call) k.below (sym (busy-shown table w seat s) ∙ b) (subst (λ (layout : Layout). may_begin layout.config call ≡ true) (sym s.layout) may) in
     let e : world_of table.layout (r.items ++ Begins seat call ∷ []) ≡ begin w seat call = ap (λ (m : Made). m.world) (made_snoc (first_made table.layout) r.items (Begins seat call) ∙ fit_done (made_of table.layout r.items) (Begins seat call) f) in
     record {
       valid = r.valid;
@@ -238,14 +238,14 @@ pub record Began (table : TableView) (seat : ℕ) (call : Call) (v w : SeatView)
   pub is : record { layout = table.layout; words = table.words; seats = slice_set table.seats seat w } ≡ after_start table seat call
   pub reached : IsReached (record { layout = table.layout; words = table.words; seats = slice_set table.seats seat w })
 
-pub began_from : (table now : TableView) (seat : ℕ) (call : Call) (v w : SeatView) → table ≡ now → IsReached table → seat < now.layout.config.seats → busy_in (seat_at now seat).phase ≡ false → v ≡ get_or table.seats seat v
+pub began_from : (table now : TableView) (seat : ℕ) (call : Call) (v w : SeatView) → table ≡ now → IsReached table → seat < now.layout.config.seats → busy_in (seat_at now seat).phase ≡ false → may_begin now.layout.config call ≡ true → v ≡ get_or table.seats seat v
     → w ≡ begun_seat v call → Began table seat call v w
-began_from table now seat call v w n r h b e view =
+began_from table now seat call v w n r h b may e view =
     let l : seat < table.layout.config.seats = subst (λ (t : TableView). seat < t.layout.config.seats) (sym n) h in
     let y : busy_in (seat_at table seat).phase ≡ false = subst (λ (t : TableView). busy_in (seat_at t seat).phase ≡ false) (sym n) b in
     let is : record { layout = table.layout; words = table.words; seats = slice_set table.seats seat w } ≡ after_start table seat call =
     ap (λ (x : SeatView). with_seat table table.words seat x) (view ∙ ap (λ (x : SeatView). begun_seat x call) (seat_is table seat v r l e)) in
-    record { is = is; reached = subst IsReached (sym is) (start_reached table seat call r l y) }
+    record { is = is; reached = subst IsReached (sym is) (start_reached table seat call r l y (subst (λ (t : TableView). may_begin t.layout.config call ≡ true) (sym n) may)) }
 
 -- the layout of the seat in a place
 pub layout_from : (table now : TableView) (seat : ℕ) (v : SeatView) → table ≡ now → IsReached table → seat < now.layout.config.seats → v ≡ get_or table.seats seat v → v.post.layout ≡ table.layout
@@ -267,6 +267,10 @@ table_first layout list views seat count h e low high is =
 pub table_reached : (layout : Layout) (list : List ℕ) (views : List SeatView) (seat count : ℕ) → is_valid layout ≡ true → HoldsStart layout list → views ≡ map (fresh_seat layout) (range_with_len 0 seat) → seat ≤ count → count ≤ seat → count ≡ layout.config.seats
     → IsReached (record { layout = layout; words = list; seats = views })
 table_reached layout list views seat count d h e low high is = subst IsReached (sym (table_first layout list views seat count h e low high is)) (first_reached layout list d h)
+
+-- a call that begins is under way
+pub begun_busy : (v : SeatView) (call : Call) → busy_in (first_phase call (begun_post v.post)) ≡ true
+begun_busy v call = first_busy call (record { phase = v.phase; post = v.post; desk = v.desk; call = call; rounds = 0; log = [] })
 
 -- a seat whose phase, post and desk are those of a call that begins
 pub seat_begun : (v w : SeatView) (call : Call) → w.phase ≡ first_phase call (begun_post v.post) → w.post ≡ begun_post v.post → w.desk ≡ record v.desk { notes = no_notes } → w ≡ begun_seat v call

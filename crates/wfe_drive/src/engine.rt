@@ -2,7 +2,7 @@
 ghost use Rattle.std.specs.Prelude.{◌≡◌, ◌<◌, [], IfOk, IsTrue, false, true};
 ghost use Rattle.wfe_core.specs.words.Place.{is_valid};
 ghost use Rattle.wfe_drive_cells.specs.Unit.{IsUnit, after_start, seat_at};
-ghost use Rattle.wfe_core.specs.Locals.{busy_in};
+ghost use Rattle.wfe_core.specs.Locals.{busy_in, may_begin};
 ghost use Rattle.wfe_drive.specs.Reached.{first_table, units_left};
 
 use crate::Rig;
@@ -36,10 +36,11 @@ pub trait Engine: Sized + Drop {
         requires { seat < (table self.now).layout.config.seats }
         ensures { result ≡ false };
 
-    /// A call of the seat begins. No word changes, and no memory is taken.
+    /// A call of the seat begins, which names indexes in their ranges. No word changes, and no memory is taken.
     fn start(&mut self, seat: u32, call: Call)
         requires seat { seat < (table self.old).layout.config.seats }
         requires free { busy_in (seat_at (table self.old) seat).phase ≡ false }
+        requires may { may_begin (table self.old).layout.config call ≡ true }
         ensures { table self.new ≡ after_start (table self.old) seat call };
 
     /// Makes one unit of the seat's call: exactly one operation on the words, and exactly one step of

@@ -3,7 +3,7 @@ ghost use Rattle.std.specs.Prelude.{◌≡◌, ◌<◌, [], IfOk, true, false};
 ghost use Rattle.wfe_core.specs.words.Place.{is_valid};
 ghost use Rattle.wfe_drive_cells.specs.Memory.{HoldsStart};
 ghost use Rattle.wfe_drive_cells.specs.Unit.{IsUnit, after_start, seat_at};
-ghost use Rattle.wfe_core.specs.Locals.{busy_in};
+ghost use Rattle.wfe_core.specs.Locals.{busy_in, may_begin};
 ghost use Rattle.wfe_core.specs.Steps.{first_phase};
 ghost use Rattle.wfe_core.specs.declared.post.Post.{Post};
 ghost use Rattle.wfe_drive.specs.Reached.{first_table, units_left};
@@ -86,10 +86,11 @@ impl<C: Cells> Rig<C> {
         self.seats[seat as usize].busy()
     }
 
-    /// A call of the seat begins. No word changes, and no memory is taken.
+    /// A call of the seat begins, which names indexes in their ranges. No word changes, and no memory is taken.
     pub fn start(&mut self, seat: u32, call: Call)
         requires seat { seat < self.old.layout.config.seats }
         requires free { busy_in (seat_at self.old seat).phase ≡ false }
+        requires may { may_begin self.old.layout.config call ≡ true }
         ensures table { self.new ≡ after_start self.old seat call }
     {
         let engaged = begin_under(self.layout, call);

@@ -1,5 +1,6 @@
 // A rig in the hands of a test, with the record of what its units told.
 ghost use Rattle.std.specs.Prelude.{◌≡◌};
+ghost use Rattle.wfe_core.specs.Locals.{may_begin};
 
 use std::alloc::Global;
 use std::test::Fail;
@@ -10,6 +11,18 @@ use wfe_drive_cells::{MakeCells, PlainCells};
 /// How many units a call is given at most before a test gives up.
 const MOST: u32 = 10_000;
 
+// Whether the indexes that the call names are in their ranges.
+fn names_indexes(config: Config, call: &Call) -> bool
+    ensures { result ≡ may_begin config call.now }
+{
+    match *call {
+        Call::Copy { from, index } => 2 <= from && (from < index && index < config.indexes),
+        Call::DropIndex { index } => 2 <= index && index < config.indexes,
+        Call::Look { index, .. } => 2 <= index && index < config.indexes,
+        _ => true,
+    }
+}
+
 /// A rig over plain cells. Each method tests what the rig needs of its caller, and does nothing where
 /// that does not hold.
 #[derive(Drop)]
@@ -18,12 +31,12 @@ pub struct Bench {
     config: Config,
     /// The events of all units so far, each with its seat.
     pub record: Vec<(u32, Event)>,
-    ghost seated: { rig.layout.config.seats ≡ config.seats },
+    ghost seated: { rig.layout.config ≡ config },
 }
 
 impl Bench {
-    /// A table at its start.
-    pub fn new(alloc: Global, config: Config) -> Result<Bench, Fail> {
+    // A table at its start.
+    fn new(alloc: Global, config: Config) -> Result<Bench, Fail> {
         let layout = Layout::new(config)?;
         let cells = PlainCells::make(alloc, layout)?;
         Ok(Bench {
@@ -43,9 +56,10 @@ impl Bench {
         seat < self.config.seats && self.rig.busy(seat)
     }
 
-    /// Begins a call of a seat that is free. It answers whether it did.
+    /// Begins a call of a seat that is free, which names indexes in their ranges. It answers whether it
+    /// did.
     pub fn start(&mut self, seat: u32, call: Call) -> bool {
-        if seat >= self.config.seats || self.rig.busy(seat) {
+        if seat >= self.config.seats || self.rig.busy(seat) || !names_indexes(self.config, &call) {
             return false;
         }
         self.rig.start(seat, call);
@@ -97,4 +111,17 @@ impl Bench {
         }
         self.run(seat)
     }
+}
+
+/// Hands a table at its start to a test. The table is dropped here, so that no crate of tests has to prove
+/// how its machines are dropped.
+pub fn on_bench<T, F: FnOnce(&mut Bench) -> Result<T, Fail>>(
+    alloc: Global,
+    config: Config,
+    test: F,
+) -> Result<T, Fail>
+    requires { F.IsAlwaysCallable test }
+{
+    let mut bench = Bench::new(alloc, config)?;
+    test(&mut bench)
 }

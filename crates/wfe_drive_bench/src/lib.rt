@@ -3,4 +3,4 @@
 
 mod bench;
 
-pub use bench::Bench;
+pub use bench::{Bench, on_bench};

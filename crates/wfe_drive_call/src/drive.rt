@@ -1,32 +1,36 @@
 // The steps of a call, one operation after another, from its beginning to its answer.
 ghost use Rattle.std.specs.Prelude.{◌≡◌, true};
 ghost use Rattle.laws.specs.AnswerLaw.{suits};
-ghost use Rattle.wfe_core.specs.Calls.{Idle};
+ghost use Rattle.wfe_core.specs.Calls.{Changes, Idle};
 ghost use Rattle.wfe_core.specs.DeskHeld.{HasRoom};
 ghost use Rattle.wfe_core.specs.Frames.{SamePlace};
-ghost use Rattle.wfe_core.specs.Locals.{busy_in};
+ghost use Rattle.wfe_core.specs.Locals.{may_begin};
+ghost use Rattle.wfe_core.specs.Rounds.{round};
 ghost use Rattle.wfe_core.specs.Steps.{first_phase};
 ghost use Rattle.wfe_core.specs.words.declared.config.SchemeKind.TheVariants.{He as HeKind, Ibr as IbrKind, Wfe as WfeKind};
 ghost use Rattle.wfe_core.specs.defs.declared.call.Call.TheVariants.{Get as GetCall};
+ghost use Rattle.wfe_drive_change.specs.Changing.{first_kept};
 ghost use Rattle.wfe_drive_change.specs.drive_words.Called.{Called, Here, Makes, at_phase};
 ghost use Rattle.wfe_drive_change.specs.drive_words.Ran.{Answered};
 
 use wfe_core::{Answer, Call, CallMachine, Change, Desk, Post, SchemeKind};
 use wfe_drive_change::change_bucket;
 use wfe_drive_change::queue::on_words::{
-    Advance, Dequeue, Enqueue, Get, He, Hold, Ibr, Put, Release, Remove, Scan, Scheme, Wfe, Words,
-    drive_on, get_he, get_ibr, get_wfe,
+    Advance, CopyIndex, Dequeue, DropIndex, Enqueue, Get, He, Hold, Ibr, Look, Put, PutIf, Release,
+    Remove, Scan, Scheme, Wfe, Words, drive_on, get_he, get_ibr, get_wfe,
 };
-use wfe_drive_change::queue::{dequeue_he, enqueue_he};
+use wfe_drive_change::queue::{dequeue_item, enqueue_item};
 
 /// Makes a whole call of the seat of this post and desk on its words, and answers as the call does.
-/// No call of the seat may be under way. Each operation is the one that the call's state asks for,
+/// No call of the seat may be under way, and the call must be one that may begin: it names indexes in
+/// range. Each operation is the one that the call's state asks for,
 /// and the answer is one that the call may have. It takes no memory, and every call ends.
 #[inline(always)]
 pub fn drive_call<W: Words>(words: &mut W, post: &mut Post, desk: &mut Desk, call: Call) -> Answer
     requires valid { W.valid words.old }
     requires here { Here (W.at words.old) (at_phase Idle post.old desk.old) }
     requires room { HasRoom desk.old post.old.layout }
+    requires may { may_begin post.old.layout.config call ≡ true }
     ensures valid { W.valid words.new }
     ensures same { W.same words.old words.new }
     ensures here { Here (W.at words.new) (at_phase Idle post.new desk.new) }
@@ -47,8 +51,8 @@ pub fn drive_call<W: Words>(words: &mut W, post: &mut Post, desk: &mut Desk, cal
     }
 }
 
-/// Makes the steps of a call that has begun under Hazard Eras. A get, a put, a remove, an enqueue and a
-/// dequeue make them without a machine.
+/// Makes the steps of a call that has begun under Hazard Eras. A get, a put, a put that names a version,
+/// a remove, an enqueue and a dequeue make them without a machine.
 #[inline(always)]
 fn drive_he<W: Words>(words: &mut W, post: &mut Post, desk: &mut Desk, call: Call) -> Answer
     requires valid { W.valid words.old }
@@ -64,16 +68,24 @@ fn drive_he<W: Words>(words: &mut W, post: &mut Post, desk: &mut Desk, call: Cal
 {
     match call {
         Call::Get { key } => get_he(words, post, desk, key),
-        Call::Put { key, value } => change_bucket(words, post, desk, Change::Put { key, value }),
-        Call::Remove { key } => change_bucket(words, post, desk, Change::Removed { key }),
-        Call::Enqueue { value } => enqueue_he(words, post, desk, value),
-        Call::Dequeue => dequeue_he(words, post, desk),
+        Call::Put { key, value } => {
+            change_bucket(words, post, desk, Change::Put { key, value }, None)
+        }
+        Call::Remove { key } => change_bucket(words, post, desk, Change::Removed { key }, None),
+        Call::PutIf {
+            key,
+            value,
+            version,
+        } => change_bucket(words, post, desk, Change::Put { key, value }, Some(version)),
+        Call::Enqueue { value } => enqueue_item(words, post, desk, value),
+        Call::Dequeue => dequeue_item(words, post, desk),
         _ => drive_under::<W, He>(words, post, desk, call),
     }
 }
 
 /// Makes the steps of a call that has begun under Wait-Free Eras. A get makes them without a machine up
-/// to its request for help, and a put and a remove make them without their machine.
+/// to its request for help, and a put, a put that names a version, a remove, an enqueue and a dequeue make
+/// them without their machine.
 #[inline(always)]
 fn drive_wfe<W: Words>(words: &mut W, post: &mut Post, desk: &mut Desk, call: Call) -> Answer
     requires valid { W.valid words.old }
@@ -89,14 +101,23 @@ fn drive_wfe<W: Words>(words: &mut W, post: &mut Post, desk: &mut Desk, call: Ca
 {
     match call {
         Call::Get { key } => get_wfe(words, post, desk, key),
-        Call::Put { key, value } => change_bucket(words, post, desk, Change::Put { key, value }),
-        Call::Remove { key } => change_bucket(words, post, desk, Change::Removed { key }),
+        Call::Put { key, value } => {
+            change_bucket(words, post, desk, Change::Put { key, value }, None)
+        }
+        Call::Remove { key } => change_bucket(words, post, desk, Change::Removed { key }, None),
+        Call::PutIf {
+            key,
+            value,
+            version,
+        } => change_bucket(words, post, desk, Change::Put { key, value }, Some(version)),
+        Call::Enqueue { value } => enqueue_item(words, post, desk, value),
+        Call::Dequeue => dequeue_item(words, post, desk),
         _ => drive_under::<W, Wfe>(words, post, desk, call),
     }
 }
 
-/// Makes the steps of a call that has begun under 2GE. A get of a seat that holds no row makes them
-/// without a machine.
+/// Makes the steps of a call that has begun under 2GE. A get, a put, a put that names a version and a
+/// remove of a seat that keeps no row make them without a machine.
 #[inline(always)]
 fn drive_ibr<W: Words>(words: &mut W, post: &mut Post, desk: &mut Desk, call: Call) -> Answer
     requires valid { W.valid words.old }
@@ -112,11 +133,27 @@ fn drive_ibr<W: Words>(words: &mut W, post: &mut Post, desk: &mut Desk, call: Ca
 {
     match call {
         Call::Get { key } => get_free(words, post, desk, key, call),
+        Call::Put { key, value } => {
+            change_free(words, post, desk, Change::Put { key, value }, None, call)
+        }
+        Call::Remove { key } => change_free(words, post, desk, Change::Removed { key }, None, call),
+        Call::PutIf {
+            key,
+            value,
+            version,
+        } => change_free(
+            words,
+            post,
+            desk,
+            Change::Put { key, value },
+            Some(version),
+            call,
+        ),
         _ => drive_under::<W, Ibr>(words, post, desk, call),
     }
 }
 
-/// Makes the steps of a get under 2GE, as the seat holds a row or none.
+/// Makes the steps of a get under 2GE, as the seat keeps a row or none: the interval would end now.
 #[inline(always)]
 fn get_free<W: Words>(
     words: &mut W,
@@ -137,13 +174,41 @@ fn get_free<W: Words>(
         (W.stands words.old) (W.stands words.new)
         (at_phase (first_phase call post.old) post.old desk.old) (at_phase Idle post.new desk.new) }
 {
-    let held = post.standing[2];
     match post.span {
-        None => match held {
-            None => get_ibr(words, post, desk, key),
-            Some(_) => drive_under::<W, Ibr>(words, post, desk, call),
+        None => match Ibr::finish(post) {
+            Some(_) => get_ibr(words, post, desk, key),
+            None => drive_under::<W, Ibr>(words, post, desk, call),
         },
         Some(_) => drive_under::<W, Ibr>(words, post, desk, call),
+    }
+}
+
+/// Makes the steps of a put or a remove under 2GE, as the seat keeps a row or none: the interval would
+/// end now.
+#[inline(always)]
+fn change_free<W: Words>(
+    words: &mut W,
+    post: &mut Post,
+    desk: &mut Desk,
+    change: Change,
+    wanted: Option<u64>,
+    call: Call,
+) -> Answer
+    requires valid { W.valid words.old }
+    requires first { first_phase call post.old ≡ round (Changes (first_kept change wanted)) post.old }
+    requires scheme { post.old.layout.config.scheme ≡ IbrKind }
+    requires here { Here (W.at words.old) (at_phase (first_phase call post.old) post.old desk.old) }
+    requires room { HasRoom desk.old post.old.layout }
+    ensures valid { W.valid words.new }
+    ensures same { W.same words.old words.new }
+    ensures room { HasRoom desk.new post.new.layout }
+    ensures made { Makes (λ ops l m. Answered l ops result m) (W.at words.old) (W.at words.new)
+        (W.stands words.old) (W.stands words.new)
+        (at_phase (first_phase call post.old) post.old desk.old) (at_phase Idle post.new desk.new) }
+{
+    match Ibr::finish(post) {
+        Some(_) => change_bucket(words, post, desk, change, wanted),
+        None => drive_under::<W, Ibr>(words, post, desk, call),
     }
 }
 
@@ -179,6 +244,22 @@ fn drive_under<W: Words, S: Scheme>(
             let layout = post.layout;
             drive(words, Scan::new(layout), post, desk, call)
         }
+        Call::Copy { from, index } => {
+            drive(words, CopyIndex::<S>::new(from, index), post, desk, call)
+        }
+        Call::DropIndex { index } => drive(words, DropIndex::<S>::new(index), post, desk, call),
+        Call::Look { index, key } => drive(words, Look::<S>::new(index, key), post, desk, call),
+        Call::PutIf {
+            key,
+            value,
+            version,
+        } => drive(
+            words,
+            PutIf::<S>::new(key, value, version),
+            post,
+            desk,
+            call,
+        ),
     }
 }
 
@@ -193,7 +274,6 @@ fn drive<W: Words, M: CallMachine>(
 ) -> Answer
     requires valid { W.valid words.old }
     requires first { M.phase machine post.old ≡ first_phase _call post.old }
-    requires busy { busy_in (M.phase machine post.old) ≡ true }
     requires here { Here (W.at words.old) (at_phase (first_phase _call post.old) post.old desk.old) }
     requires suits { M.suits post.old.layout.config.scheme }
     requires room { HasRoom desk.old post.old.layout }

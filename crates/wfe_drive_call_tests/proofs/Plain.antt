@@ -7,7 +7,7 @@ use Rattle.wfe_core.specs.Calls.{Idle}
 use Rattle.wfe_core.specs.DeskHeld.{desk_of}
 use Rattle.wfe_core.specs.Desks.{Desk, new_desk}
 use Rattle.wfe_core.specs.Frames.{SamePlace}
-use Rattle.wfe_core.specs.Locals.{Local, after, asks, begun, busy_in, fresh}
+use Rattle.wfe_core.specs.Locals.{Local, after, asks, begun, busy_in, fresh, may_begin}
 use Rattle.wfe_core.specs.MayStep.{MayStep}
 use Rattle.wfe_core.specs.World.{World, begin, finds, is_busy, step}
 use Rattle.wfe_core.specs.Posts.{new_post}
@@ -52,13 +52,13 @@ pub first_at : (layout : Layout) (list : List ℕ) → is_valid layout ≡ true 
 first_at layout list v b h = at_by layout 0 [] list 0 (fresh layout 0) v b refl (sym (memory-start layout list h)) h.count refl refl refl
 
 -- a call begins
-pub begun_at : (list : List ℕ) (steps : ℕ) (l : Local) (call : Call) → IsAt list steps l → busy_in l.phase ≡ false → IsAt list 0 (begun l call)
-begun_at list steps l call a b =
+pub begun_at : (list : List ℕ) (steps : ℕ) (l : Local) (call : Call) → IsAt list steps l → busy_in l.phase ≡ false → may_begin l.post.layout.config call ≡ true → IsAt list 0 (begun l call)
+begun_at list steps l call a b m =
     let c : Comes l = a.comes in
     let i : ℕ = l.post.seat in
     let w : World = world l c in
     let free : is_busy w i ≡ false = ap (λ (k : Local). busy_in k.phase) c.stands ∙ b in
-    let e : world_of l.post.layout (c.items ++ Begins i call ∷ []) ≡ begin w i call = one_begin l.post.layout c.items i call c.below free in
+    let e : world_of l.post.layout (c.items ++ Begins i call ∷ []) ≡ begin w i call = one_begin l.post.layout c.items i call c.below free m in
     at_by l.post.layout i (c.items ++ Begins i call ∷ []) list 0 (begun l call) c.valid c.below
     (ap (λ (x : World). x.seat i) e ∙ begin_begins w i call ∙ ap (λ (k : Local). begun k call) c.stands) (ap (λ (x : World). x.mem) e ∙ a.mem) a.count refl refl refl
 

@@ -3,6 +3,7 @@
 ghost use Rattle.std.specs.Prelude.{◌≡◌, ◌<◌, IfOk, true};
 ghost use Rattle.wfe_core.specs.Calls.{Idle};
 ghost use Rattle.wfe_core.specs.DeskHeld.{HasRoom};
+ghost use Rattle.wfe_core.specs.Locals.{may_begin};
 ghost use Rattle.wfe_drive_call.specs.drive_words.Called.{Here, at_phase};
 ghost use Rattle.wfe_drive_call_tests.specs.Plain.{IsAt};
 
@@ -58,7 +59,7 @@ impl Words for KeptCells {
     }
 }
 
-// The setting of each test.
+// The setting of most tests.
 fn single(scheme: SchemeKind) -> Config {
     Config {
         scheme,
@@ -74,13 +75,21 @@ fn single(scheme: SchemeKind) -> Config {
     }
 }
 
+// One with an index more, to which a row may be copied.
+fn wide(scheme: SchemeKind) -> Config {
+    Config {
+        indexes: 4,
+        ..single(scheme)
+    }
+}
+
 // The words of a new table with its seat's post and desk.
 #[tactic(auto, using(wfe_core::proofs::Ranges::bounds_of))]
-fn table(alloc: Global, scheme: SchemeKind) -> Result<(KeptCells, Post, Desk), Fail>
+fn table(alloc: Global, config: Config) -> Result<(KeptCells, Post, Desk), Fail>
     ensures here { IfOk result (λ t. Here (IsAt t.0.cells t.0.steps) (at_phase Idle t.1 t.2)) }
     ensures room { IfOk result (λ t. HasRoom t.2 t.1.layout) }
 {
-    let layout = Layout::new(single(scheme))?;
+    let layout = Layout::new(config)?;
     let words = KeptCells {
         cells: PlainCells::make(alloc, layout)?,
         steps: 0,
@@ -92,15 +101,29 @@ fn table(alloc: Global, scheme: SchemeKind) -> Result<(KeptCells, Post, Desk), F
     Ok((words, post, desk))
 }
 
+// Whether the indexes that the call names are in their ranges.
+fn names_indexes(config: Config, call: Call) -> bool
+    ensures { result ≡ may_begin config call }
+{
+    match call {
+        Call::Copy { from, index } => 2 <= from && (from < index && index < config.indexes),
+        Call::DropIndex { index } => 2 <= index && index < config.indexes,
+        Call::Look { index, .. } => 2 <= index && index < config.indexes,
+        _ => true,
+    }
+}
+
 // Makes the calls on a new table, and wants of each its answer and as many steps as are said.
 fn make<R: Abort + AllocGlobal>(
     rt: &R,
-    scheme: SchemeKind,
+    config: Config,
     calls: &[(Call, u64, Answer)],
 ) -> Result<KeptCells, Fail> {
-    let (mut words, mut post, mut desk) = table(rt.alloc(), scheme)?;
+    let scheme = config.scheme;
+    let (mut words, mut post, mut desk) = table(rt.alloc(), config)?;
     for (call, steps, want) in calls {
         let before = words.kept.len();
+        assert!(rt; names_indexes(post.layout.config(), *call));
         let answer = drive_call(&mut words, &mut post, &mut desk, *call);
         assert_eq!(rt; answer, *want, "{call:?} under {scheme:?}");
         assert_eq!(rt; post.steps, *steps, "{call:?} under {scheme:?}");
@@ -130,7 +153,7 @@ fn value_of<W: Words>(words: &mut W, post: &mut Post, desk: &mut Desk, key: u64)
 
 #[test]
 fn a_get_has_one_kind_of_answer(rt: HostRuntime) -> Result<(), Fail> {
-    let (mut words, mut post, mut desk) = table(rt.alloc(), SchemeKind::Wfe)?;
+    let (mut words, mut post, mut desk) = table(rt.alloc(), single(SchemeKind::Wfe))?;
     assert_eq!(rt; value_of(&mut words, &mut post, &mut desk, 7), None);
     Ok(())
 }
@@ -151,13 +174,21 @@ fn put(value: u64) -> Call {
     Call::Put { key: 7, value }
 }
 
+fn put_if(value: u64, version: u64) -> Call {
+    Call::PutIf {
+        key: 7,
+        value,
+        version,
+    }
+}
+
 #[test]
 fn operations_are_kept_in_the_order_of_the_calls(rt: HostRuntime) -> Result<(), Fail> {
     let calls = [
         (put(70), 13, done(1, ClockMove::Still)),
         (Call::Get { key: 7 }, 9, got(1, Some(70))),
     ];
-    let words = make(&rt, SchemeKind::He, &calls)?;
+    let words = make(&rt, single(SchemeKind::He), &calls)?;
     let kept = &words.kept;
     assert_eq!(rt; kept.len(), 22);
     // Both calls begin with a load of the clock, which has not moved.
@@ -183,7 +214,7 @@ fn calls_of_the_map_answer_in_their_steps(rt: HostRuntime) -> Result<(), Fail> {
             (remove, removed, done(3, moved(3))),
             (remove, 7, Answer::Absent { version: 3 }),
         ];
-        make(&rt, scheme, &calls)?;
+        make(&rt, single(scheme), &calls)?;
     }
     Ok(())
 }
@@ -206,7 +237,7 @@ fn calls_of_the_queue_answer_in_their_steps(rt: HostRuntime) -> Result<(), Fail>
             (Call::Enqueue { value: 6 }, 15, Answer::Queued { number: 2 }),
             (Call::Dequeue, taken, first),
         ];
-        make(&rt, scheme, &calls)?;
+        make(&rt, single(scheme), &calls)?;
     }
     Ok(())
 }
@@ -229,7 +260,45 @@ fn other_calls_answer_in_their_steps(rt: HostRuntime) -> Result<(), Fail> {
             (Call::Advance, moves, clock),
             (Call::Scan, reads, scanned),
         ];
-        make(&rt, scheme, &calls)?;
+        make(&rt, single(scheme), &calls)?;
+    }
+    Ok(())
+}
+
+#[test]
+fn calls_on_kept_rows_answer_in_their_steps(rt: HostRuntime) -> Result<(), Fail> {
+    for (scheme, copied, read, changed, again) in [
+        (SchemeKind::He, 2, 9, 26, 28),
+        (SchemeKind::Ibr, 1, 6, 20, 25),
+        (SchemeKind::Wfe, 2, 9, 28, 30),
+    ] {
+        let copy = Call::Copy { from: 2, index: 3 };
+        let look = Call::Look { index: 3, key: 7 };
+        let looked = Answer::Looked {
+            slot: 0,
+            version: 1,
+            value: Some(70),
+        };
+        let calls = [
+            (copy, 1, Answer::Nothing),
+            (look, 1, Answer::Nothing),
+            (put(70), 13, done(1, ClockMove::Still)),
+            (Call::Hold { key: 7 }, 4, Answer::Holding { slot: 0 }),
+            (copy, copied, Answer::Copied { slot: 0 }),
+            (Call::Release, 1, Answer::Released),
+            (copy, 1, Answer::Nothing),
+            (look, 4, looked),
+            (Call::Get { key: 7 }, read, got(1, Some(70))),
+            (put_if(71, 0), read, Answer::Stale { version: 1 }),
+            (put_if(71, 1), changed, done(2, moved(2))),
+            (look, 4, looked),
+            (Call::DropIndex { index: 3 }, 1, Answer::Dropped),
+            (look, 1, Answer::Nothing),
+            // From here on no row is kept.
+            (put_if(72, 1), 9, Answer::Stale { version: 2 }),
+            (put_if(72, 2), again, done(3, moved(3))),
+        ];
+        make(&rt, wide(scheme), &calls)?;
     }
     Ok(())
 }

@@ -12,8 +12,8 @@ use Rattle.wfe_core.specs.declared.desk.Desk.{Desk as HeldDesk}
 use Rattle.wfe_core.specs.declared.post.Post.{Post}
 use Rattle.wfe_drive_queue.specs.drive_words.drive_cells.Unit.{seat_after}
 use Rattle.wfe_drive_queue.specs.drive_words.Called.{at_phase}
-use Rattle.wfe_drive_queue.specs.drive_words.Pieces.{seat_of}
-use Rattle.wfe_drive_queue.proofs.drive_words.Turning.{with_steps}
+use Rattle.wfe_drive_queue.specs.drive_runs.Pieces.{seat_of}
+use Rattle.wfe_drive_queue.proofs.drive_runs.Turning.{with_steps}
 
 -- the clock is moved, as the scheme has it
 pub ends_for_room : (kept : ChangeKept) (post : Post) (desk : Desk) (help : Bool) → help ≡ helps (scheme_of post)

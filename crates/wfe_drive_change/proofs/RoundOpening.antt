@@ -1,11 +1,11 @@
 -- A round begins: the root is protected, and its row is read or there is none.
-use Rattle.std.proofs.Common.{Bool, List, None, Option, Some, [], ap, false, refl, subst, sym, ℕ, ◌+◌, ◌∙◌, ◌≡◌}
+use Rattle.std.proofs.Common.{Bool, List, None, Option, Some, [], ap, false, subst, sym, ℕ, ◌+◌, ◌∙◌, ◌≡◌}
 use Rattle.wfe_core.specs.words.Schemes.{has_one_interval}
 use Rattle.wfe_core.specs.defs.declared.call.Answer.{Answer}
 use Rattle.wfe_core.specs.defs.declared.event.Event.{Event}
 use Rattle.wfe_core.specs.defs.declared.event.Root.{Root}
 use Rattle.wfe_core.specs.Calls.{Answering, ChangeKept, Changes, Changing, Fills, LoadVersion, Opens, Phase, Runs, Why, Works}
-use Rattle.wfe_core.specs.Change.{at_link, deciding_by, filling, refusal, with_change}
+use Rattle.wfe_core.specs.Change.{at_link, deciding_by, filling, refused, with_change}
 use Rattle.wfe_core.specs.DeskHeld.{desk_of}
 use Rattle.wfe_core.specs.Desks.{Desk, noting}
 use Rattle.wfe_core.specs.Locals.{Local}
@@ -18,9 +18,8 @@ use Rattle.wfe_core.specs.declared.desk.Desk.{Desk as HeldDesk}
 use Rattle.wfe_core.specs.declared.post.Post.{Post}
 use Rattle.wfe_drive_queue.specs.drive_words.drive_cells.Unit.{SeatView, seat_after}
 use Rattle.wfe_drive_queue.specs.drive_words.Called.{at_phase}
-use Rattle.wfe_drive_queue.specs.drive_words.Pieces.{LeadsSo, Outer, end_of}
-use Rattle.wfe_drive_queue.proofs.drive_words.Closing.{clears_is}
-use Rattle.wfe_drive_queue.proofs.drive_words.Turning.{went_on}
+use Rattle.wfe_drive_queue.specs.drive_runs.Pieces.{LeadsSo, Outer, end_of}
+use Rattle.wfe_drive_queue.proofs.drive_runs.Turning.{went_on}
 use Rattle.wfe_drive_change.specs.Changing.{read_at, works_at}
 use Rattle.wfe_drive_change.proofs.RowFilling.{clears_noted}
 
@@ -36,14 +35,6 @@ round_opens kept post held root one r =
 pub root_outer : (kept : ChangeKept) (post : Post) (root : Root) → root ≡ root_of (Changes kept) post → Outer root
 root_outer kept post root r = subst Outer (sym r) tt
 
--- what is read is the post's
-pub read_post : (kept : ChangeKept) (post : Post) (desk : Desk) → has_one_interval (scheme_of post) ≡ false → (read_at kept post desk).post ≡ post
-read_post kept post desk one = either (refusal post.layout.config kept.version kept.pairs kept.change)
-  where
-    either : (refused : Option Answer) → (seat_after (deciding_by kept post desk [] refused)).post ≡ post
-    either None = refl
-    either (Some answer) = ap (λ (v : SeatView). v.post) (clears_is (Changes kept) (Answering answer) post desk refl one)
-
 -- which leads to a row
 pub leads_to_row : (kept : ChangeKept) (slot era : ℕ) (post : Post) (before : Desk) (told : List Event) (held : HeldDesk) → desk_of held ≡ noting before told
     → seat_after (resume (Opens (Changes kept)) (Protected (end_of (Some slot) era)) post before told) ≡ works_at (at_link kept (slot + 1)) (LoadVersion slot) post (desk_of held)
@@ -52,9 +43,9 @@ leads_to_row kept slot era post before told held d = went_on (Works (Changing (a
 -- or to none
 pub leads_to_none : (kept as_kept : ChangeKept) (era : ℕ) (post : Post) (before : Desk) (told : List Event) (held : HeldDesk) → desk_of held ≡ noting before told → as_kept ≡ at_link kept 0
     → seat_after (resume (Opens (Changes kept)) (Protected (end_of None era)) post before told) ≡ read_at as_kept post (desk_of held)
-leads_to_none kept as_kept era post before told held d k = either (refusal post.layout.config 0 [] kept.change) ∙ ap (λ (other : ChangeKept). read_at other post (desk_of held)) (sym k)
+leads_to_none kept as_kept era post before told held d k = either (refused post.layout.config (at_link kept 0)) ∙ ap (λ (other : ChangeKept). read_at other post (desk_of held)) (sym k)
   where
-    either : (refused : Option Answer) → seat_after (deciding_by (at_link kept 0) post before told refused) ≡ seat_after (deciding_by (at_link kept 0) post (desk_of held) [] refused)
+    either : (why : Option Answer) → seat_after (deciding_by (at_link kept 0) post before told why) ≡ seat_after (deciding_by (at_link kept 0) post (desk_of held) [] why)
     either None = went_on (Runs (Fills (Changes (with_change (at_link kept 0)))) (filling (with_change (at_link kept 0)))) post before told held d
     either (Some answer) = clears_noted (at_link kept 0) (Answering answer) post before told held d
 

@@ -3,7 +3,7 @@ use Rattle.std.proofs.Common.{List, None, Option, Some, [], ap, sym, ℕ, ◌∙
 use Rattle.wfe_core.specs.defs.declared.call.Answer.{Answer}
 use Rattle.wfe_core.specs.defs.declared.event.Event.{Event}
 use Rattle.wfe_core.specs.Calls.{Answering, ChangeKept, Changes, Next}
-use Rattle.wfe_core.specs.Change.{deciding_by, filling, filling_by, refusal, with_change}
+use Rattle.wfe_core.specs.Change.{deciding_by, filling, filling_by, refused, with_change}
 use Rattle.wfe_core.specs.DeskHeld.{desk_of}
 use Rattle.wfe_core.specs.Desks.{Desk, noting}
 use Rattle.wfe_core.specs.Phases.AllocateAt.{LoadBirth}
@@ -12,16 +12,16 @@ use Rattle.wfe_core.specs.Rounds.{clearing}
 use Rattle.wfe_core.specs.declared.desk.Desk.{Desk as HeldDesk}
 use Rattle.wfe_core.specs.declared.post.Post.{Post}
 use Rattle.wfe_drive_queue.specs.drive_words.drive_cells.Unit.{seat_after}
-use Rattle.wfe_drive_queue.proofs.drive_words.Closing.{clearing_noted}
+use Rattle.wfe_drive_queue.proofs.drive_runs.Closing.{clearing_noted}
 use Rattle.wfe_drive_change.specs.Changing.{clears_at, fills_at, read_at, writes_at}
 
 -- the change is refused, or a row is filled
-pub refused : (kept : ChangeKept) (post : Post) (desk : Desk) (answer : Answer) → Some answer ≡ refusal post.layout.config kept.version kept.pairs kept.change → read_at kept post desk ≡ clears_at kept (Answering answer) post desk
-refused kept post desk answer r = ap (λ (refused : Option Answer). seat_after (deciding_by kept post desk [] refused)) (sym r)
+pub refuses : (kept : ChangeKept) (post : Post) (desk : Desk) (answer : Answer) → Some answer ≡ refused post.layout.config kept → read_at kept post desk ≡ clears_at kept (Answering answer) post desk
+refuses kept post desk answer r = ap (λ (why : Option Answer). seat_after (deciding_by kept post desk [] why)) (sym r)
 
-pub decided : (kept as_kept : ChangeKept) (post : Post) (desk : Desk) → None ≡ refusal post.layout.config kept.version kept.pairs kept.change → as_kept ≡ with_change kept → read_at kept post desk ≡ fills_at as_kept (filling as_kept) post desk
+pub decided : (kept as_kept : ChangeKept) (post : Post) (desk : Desk) → None ≡ refused post.layout.config kept → as_kept ≡ with_change kept → read_at kept post desk ≡ fills_at as_kept (filling as_kept) post desk
 decided kept as_kept post desk r k =
-    ap (λ (refused : Option Answer). seat_after (deciding_by kept post desk [] refused)) (sym r) ∙ ap (λ (other : ChangeKept). fills_at other (filling other) post desk) (sym k)
+    ap (λ (why : Option Answer). seat_after (deciding_by kept post desk [] why)) (sym r) ∙ ap (λ (other : ChangeKept). fills_at other (filling other) post desk) (sym k)
 
 -- one is taken already
 pub fills_taken : (kept : ChangeKept) (slot : ℕ) (post : Post) (desk : Desk) → kept.taken ≡ Some slot → fills_at kept (filling kept) post desk ≡ writes_at kept slot 1 post desk

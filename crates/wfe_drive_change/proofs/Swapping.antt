@@ -15,7 +15,7 @@ use Rattle.wfe_core.specs.declared.op.Op.{Op}
 use Rattle.wfe_core.specs.declared.post.Post.{Post}
 use Rattle.wfe_drive_queue.specs.drive_words.drive_cells.Unit.{SeatView, seat_after}
 use Rattle.wfe_drive_queue.specs.drive_words.Path.{Leads, StepsOn}
-use Rattle.wfe_drive_queue.proofs.drive_words.Closing.{clearing_noted}
+use Rattle.wfe_drive_queue.proofs.drive_runs.Closing.{clearing_noted}
 use Rattle.wfe_drive_queue.proofs.drive_words.Leading.{leads_as}
 use Rattle.wfe_drive_change.specs.Changing.{clears_at, step_post, works_at}
 

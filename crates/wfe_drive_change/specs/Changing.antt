@@ -1,5 +1,5 @@
 -- The states of a seat whose call is a change, and what its code keeps, as in the model.
-use Rattle.std.specs.Prelude.{[], None, false, length, nat_lt, ℕ}
+use Rattle.std.specs.Prelude.{[], None, Option, false, length, nat_lt, ℕ}
 use Rattle.wfe_core.specs.defs.declared.call.Answer.TheVariants as answers
 use Rattle.wfe_core.specs.defs.declared.call.ClockMove.TheVariants as moves
 use Rattle.wfe_core.specs.defs.declared.fold.Change.{Change}
@@ -12,17 +12,17 @@ use Rattle.wfe_core.specs.Steps.{run_turn}
 use Rattle.wfe_core.specs.WriteRow.{after_write}
 use Rattle.wfe_core.specs.declared.post.Post.{Post}
 use Rattle.wfe_drive_queue.specs.drive_words.drive_cells.Unit.{SeatView, seat_after}
-use Rattle.wfe_drive_queue.specs.drive_words.Pieces.{clearing_at}
+use Rattle.wfe_drive_queue.specs.drive_runs.Pieces.{clearing_at}
 use Rattle.wfe_drive_change.specs.declared.kept.Kept.{Kept}
 use Rattle.wfe_drive_change.specs.declared.kept.RoundEnd.{RoundEnd}
 use Rattle.wfe_drive_change.specs.declared.kept.RoundEnd.TheVariants as round_ends
 
 abbrev pub kept_of : Kept → ChangeKept
-kept_of kept = record { change = kept.change; taken = kept.taken; walked = kept.walked; link = kept.link; version = kept.version; pairs = kept.pairs }
+kept_of kept = record { change = kept.change; wanted = kept.wanted; taken = kept.taken; walked = kept.walked; link = kept.link; version = kept.version; pairs = kept.pairs }
 
 -- what a change keeps before its first round
-abbrev pub first_kept : Change → ChangeKept
-first_kept change = record { change = change; taken = None; walked = false; link = 0; version = 0; pairs = [] }
+abbrev pub first_kept : Change → (wanted : Option ℕ) → ChangeKept
+first_kept change wanted = record { change = change; wanted = wanted; taken = None; walked = false; link = 0; version = 0; pairs = [] }
 
 -- what comes once the round's protection is cleared
 abbrev pub next_of : RoundEnd → Next

@@ -4,6 +4,7 @@ ghost use Rattle.wfe_core.specs.Change.{filling, no_room as room_sought, with_ch
 ghost use Rattle.wfe_core.specs.DeskHeld.{HasRoom, desk_of};
 ghost use Rattle.wfe_drive_queue.specs.drive_words.Called.{Here};
 ghost use Rattle.wfe_drive_queue.specs.drive_words.Path.{Leads};
+ghost use Rattle.wfe_drive_queue.specs.drive_runs.Pieces.{IsFree};
 ghost use Rattle.wfe_drive_change.specs.Changing.{clears_at, fills_at, kept_of, next_of, writes_at};
 
 use crate::exchange::exchange;
@@ -34,12 +35,14 @@ fn row_for<W: Words>(
 ) -> Option<u32>
     requires valid { W.valid words.old }
     requires room { HasRoom desk.old post.old.layout }
+    requires free { IsFree post.old }
     requires here { Here (W.at words.old) (fills_at (kept_of kept.old) (filling (kept_of kept.old)) post.old (desk_of desk.old)) }
     ensures valid { W.valid words.new }
     ensures same { W.same words.old words.new }
     ensures rest { W.rest words.new ≤ W.rest words.old }
     ensures room { HasRoom desk.new post.new.layout }
     ensures layout { post.new.layout ≡ post.old.layout }
+    ensures free { IsFree post.new }
     ensures taken { MatchOption result
         (Leads (W.at words.old) (W.at words.new) (W.stands words.old) (W.stands words.new)
         (fills_at (kept_of kept.old) (filling (kept_of kept.old)) post.old (desk_of desk.old)) (clears_at (kept_of kept.new) (room_sought (kept_of kept.old).walked) post.new (desk_of desk.new)))
@@ -73,11 +76,13 @@ fn link_row<W: Words>(
 ) -> RoundEnd
     requires valid { W.valid words.old }
     requires taken { (kept_of kept.old).taken ≡ Some slot }
+    requires free { IsFree post.old }
     requires here { Here (W.at words.old) (writes_at (kept_of kept.old) slot 1 post.old (desk_of _desk.now)) }
     ensures valid { W.valid words.new }
     ensures same { W.same words.old words.new }
     ensures rest { W.rest words.new < W.rest words.old }
     ensures layout { post.new.layout ≡ post.old.layout }
+    ensures free { IsFree post.new }
     ensures leads { Leads (W.at words.old) (W.at words.new) (W.stands words.old) (W.stands words.new)
         (writes_at (kept_of kept.old) slot 1 post.old (desk_of _desk.now)) (clears_at (kept_of kept.new) (next_of result) post.new (desk_of _desk.now)) }
 {
@@ -97,12 +102,14 @@ pub fn fill_row<W: Words>(
 ) -> RoundEnd
     requires valid { W.valid words.old }
     requires room { HasRoom desk.old post.old.layout }
+    requires free { IsFree post.old }
     requires here { Here (W.at words.old) (fills_at (with_change (kept_of kept.old)) (filling (with_change (kept_of kept.old))) post.old (desk_of desk.old)) }
     ensures valid { W.valid words.new }
     ensures same { W.same words.old words.new }
     ensures rest { W.rest words.new ≤ W.rest words.old }
     ensures room { HasRoom desk.new post.new.layout }
     ensures layout { post.new.layout ≡ post.old.layout }
+    ensures free { IsFree post.new }
     ensures leads { Leads (W.at words.old) (W.at words.new) (W.stands words.old) (W.stands words.new)
         (fills_at (with_change (kept_of kept.old)) (filling (with_change (kept_of kept.old))) post.old (desk_of desk.old)) (clears_at (kept_of kept.new) (next_of result) post.new (desk_of desk.new)) }
 {

@@ -2,7 +2,7 @@
 ghost use Rattle.std.specs.Prelude.{◌≡◌, ◌<◌, ◌≤◌, length};
 ghost use Rattle.wfe_core.specs.defs.Pairs.{changed};
 ghost use Rattle.wfe_core.specs.Calls.{Changes};
-ghost use Rattle.wfe_core.specs.Change.{at_link, changed_bucket, refusal, with_change};
+ghost use Rattle.wfe_core.specs.Change.{at_link, changed_bucket, refusal, refused, with_change};
 ghost use Rattle.wfe_core.specs.Ready.{RootFits};
 ghost use Rattle.wfe_core.specs.Rounds.{key_of, root_of};
 ghost use Rattle.wfe_core.specs.Valid.{IsValid};
@@ -11,11 +11,13 @@ ghost use Rattle.wfe_drive_change.specs.Changing.{first_kept, kept_of, next_of};
 use wfe_core::{Answer, Change, Post, Root};
 use wfe_slots::Pairs;
 
-// The row that it has taken and not linked, whether a walk for one has failed, and, from the root
-// loaded last, the link, the version and the pairs: those of the new row once it is decided.
+// The version at which alone it is to be made, if it names one; the row that it has taken and not
+// linked, whether a walk for one has failed, and, from the root loaded last, the link, the version and
+// the pairs: those of the new row once it is decided.
 #[derive(Drop)]
 pub struct Kept {
     pub change: Change,
+    pub wanted: Option<u64>,
     pub taken: Option<u32>,
     pub walked: bool,
     pub link: u32,
@@ -47,11 +49,12 @@ fn key_in(change: &Change) -> u64
 impl Kept {
     // What a change keeps before its first round.
     #[inline(always)]
-    pub fn new(change: Change) -> Kept
-        ensures { kept_of result ≡ first_kept change }
+    pub fn new(change: Change, wanted: Option<u64>) -> Kept
+        ensures { kept_of result ≡ first_kept change wanted }
     {
         Kept {
             change,
+            wanted,
             taken: None,
             walked: false,
             link: 0,
@@ -91,10 +94,21 @@ impl Kept {
         self.pairs.clear();
     }
 
-    // Why the change is refused, if it is.
+    // Why the change is refused, if it is. A version other than the one that it names comes first.
     #[inline(always)]
-    pub fn refusal(&self, post: &Post) -> Option<Answer>
-        requires { IsValid post.now }
+    pub fn refused(&self, post: &Post) -> Option<Answer>
+        ensures { result ≡ refused post.now.layout.config (kept_of self.now) }
+    {
+        let version = self.version;
+        match self.wanted {
+            Some(wanted) if version != wanted => Some(Answer::Stale { version }),
+            _ => self.refusal(post),
+        }
+    }
+
+    // Why the change is refused at any version that it names, if it is.
+    #[inline(always)]
+    fn refusal(&self, post: &Post) -> Option<Answer>
         ensures { result ≡ refusal post.now.layout.config (kept_of self.now).version (kept_of self.now).pairs (kept_of self.now).change }
     {
         let version = self.version;

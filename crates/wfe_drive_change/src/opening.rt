@@ -1,44 +1,52 @@
 // The beginning of a round: the bucket's root is protected, and its row is read.
-ghost use Rattle.std.specs.Prelude.{◌≡◌, ◌<◌, ◌≤◌, ◌+◌, ℕ, false, IfSome};
-ghost use Rattle.wfe_core.specs.words.Schemes.{has_one_interval};
-ghost use Rattle.wfe_core.specs.Calls.{Changes, LoadVersion, Runs, Why};
+ghost use Rattle.std.specs.Prelude.{◌≡◌, ◌<◌, ◌≤◌, ◌+◌, ℕ, IfSome};
+ghost use Rattle.wfe_core.specs.Calls.{Changes, LoadVersion, Opens};
 ghost use Rattle.wfe_core.specs.Change.{at_link};
 ghost use Rattle.wfe_core.specs.DeskHeld.{HasRoom, desk_of};
 ghost use Rattle.wfe_core.specs.Phases.Ending.{Protected as ProtectedEnd};
 ghost use Rattle.wfe_core.specs.Ready.{SlotFits};
-ghost use Rattle.wfe_core.specs.Rounds.{protect_base, round, scheme_of};
-ghost use Rattle.wfe_core.specs.Valid.{IsValid};
+ghost use Rattle.wfe_core.specs.Rounds.{root_of, round};
 ghost use Rattle.wfe_drive_queue.specs.drive_words.Called.{Here, at_phase};
 ghost use Rattle.wfe_drive_queue.specs.drive_words.Path.{Leads};
-ghost use Rattle.wfe_drive_queue.specs.drive_words.Pieces.{LeadsSo, Outer, end_of};
+ghost use Rattle.wfe_drive_queue.specs.drive_runs.Pieces.{IsFree, LeadsSo, end_of};
 ghost use Rattle.wfe_drive_change.specs.Changing.{kept_of, read_at, works_at};
 
 use crate::kept::Kept;
 use crate::read::read_row;
 use wfe_core::{Desk, Post, Root, SchemeKind};
-use wfe_drive_queue::on_words::{Words, hold_he, hold_wfe};
+use wfe_drive_queue::on_words::{Words, hold_he, hold_ibr, hold_wfe, open_span};
 
-// Protects a root under the schemes that clear an index by a step, and answers the row that it holds.
+// Begins a round, by a protection of its root, and answers the row that it holds.
 #[inline(always)]
-fn hold_root<W: Words>(words: &mut W, post: &mut Post, desk: &mut Desk, root: Root) -> Option<u32>
+fn hold_root<W: Words>(
+    words: &mut W,
+    post: &mut Post,
+    desk: &mut Desk,
+    _kept: &Kept,
+    root: Root,
+) -> Option<u32>
     requires valid { W.valid words.old }
-    requires clears { has_one_interval post.old.layout.config.scheme ≡ false }
-    requires outer { Outer root }
-    requires here { (why : Why) × Here (W.at words.old) (at_phase (Runs why (protect_base (scheme_of post.old) 0 root)) post.old desk.old) }
+    requires root { root ≡ root_of (Changes (kept_of _kept.now)) post.old }
+    requires free { IsFree post.old }
+    requires here { Here (W.at words.old) (at_phase (round (Changes (kept_of _kept.now)) post.old) post.old desk.old) }
     requires room { HasRoom desk.old post.old.layout }
     ensures valid { W.valid words.new }
     ensures same { W.same words.old words.new }
     ensures rest { W.rest words.new < W.rest words.old }
     ensures room { HasRoom desk.new post.new.layout }
     ensures layout { post.new.layout ≡ post.old.layout }
+    ensures free { IsFree post.new }
     ensures fits { IfSome result (λ slot. SlotFits post.new slot) }
-    ensures leads { (why : Why) → Here (W.at words.old) (at_phase (Runs why (protect_base (scheme_of post.old) 0 root)) post.old desk.old) → (era : ℕ)
-        × LeadsSo (W.at words.old) (W.at words.new) (W.stands words.old) (W.stands words.new) (at_phase (Runs why (protect_base (scheme_of post.old) 0 root)) post.old desk.old) why (ProtectedEnd (end_of result era)) post.new desk.new }
+    ensures leads { (era : ℕ) × LeadsSo (W.at words.old) (W.at words.new) (W.stands words.old) (W.stands words.new)
+        (at_phase (round (Changes (kept_of _kept.now)) post.old) post.old desk.old) (Opens (Changes (kept_of _kept.now))) (ProtectedEnd (end_of result era)) post.new desk.new }
 {
     match post.layout.config().scheme {
         SchemeKind::Wfe => hold_wfe(words, post, desk, 0, root),
         SchemeKind::He => hold_he(words, post, desk, 0, root),
-        SchemeKind::Ibr => hold_he(words, post, desk, 0, root),
+        SchemeKind::Ibr => {
+            let span = open_span(words, post, desk);
+            hold_ibr(words, post, desk, 0, root, span)
+        }
     }
 }
 
@@ -47,12 +55,13 @@ fn hold_root<W: Words>(words: &mut W, post: &mut Post, desk: &mut Desk, root: Ro
 fn read_held<W: Words>(words: &mut W, post: &mut Post, _desk: &Desk, kept: &mut Kept, slot: u32)
     requires valid { W.valid words.old }
     requires slot { slot ≤ post.old.layout.config.slots }
+    requires free { IsFree post.old }
     requires here { Here (W.at words.old) (works_at (at_link (kept_of kept.old) (slot + 1)) (LoadVersion slot) post.old (desk_of _desk.now)) }
     ensures valid { W.valid words.new }
     ensures same { W.same words.old words.new }
     ensures rest { W.rest words.new ≤ W.rest words.old }
-    ensures own { IsValid post.new }
     ensures layout { post.new.layout ≡ post.old.layout }
+    ensures free { IsFree post.new }
     ensures leads { Leads (W.at words.old) (W.at words.new) (W.stands words.old) (W.stands words.new)
         (works_at (at_link (kept_of kept.old) (slot + 1)) (LoadVersion slot) post.old (desk_of _desk.now)) (read_at (kept_of kept.new) post.new (desk_of _desk.now)) }
 {
@@ -62,24 +71,24 @@ fn read_held<W: Words>(words: &mut W, post: &mut Post, _desk: &Desk, kept: &mut 
     post.steps = steps;
 }
 
-// Begins a round, under the schemes that clear an index by a step.
+// Begins a round.
 #[inline(always)]
 pub fn open_round<W: Words>(words: &mut W, post: &mut Post, desk: &mut Desk, kept: &mut Kept)
     requires valid { W.valid words.old }
-    requires clears { has_one_interval post.old.layout.config.scheme ≡ false }
+    requires free { IsFree post.old }
     requires room { HasRoom desk.old post.old.layout }
     requires here { Here (W.at words.old) (at_phase (round (Changes (kept_of kept.old)) post.old) post.old desk.old) }
     ensures valid { W.valid words.new }
     ensures same { W.same words.old words.new }
-    ensures rest { W.rest words.new ≤ W.rest words.old }
+    ensures rest { W.rest words.new < W.rest words.old }
     ensures room { HasRoom desk.new post.new.layout }
-    ensures own { IsValid post.new }
     ensures layout { post.new.layout ≡ post.old.layout }
+    ensures free { IsFree post.new }
     ensures leads { Leads (W.at words.old) (W.at words.new) (W.stands words.old) (W.stands words.new)
         (at_phase (round (Changes (kept_of kept.old)) post.old) post.old desk.old) (read_at (kept_of kept.new) post.new (desk_of desk.new)) }
 {
     let root = kept.root(post);
-    match hold_root(words, post, desk, root) {
+    match hold_root(words, post, desk, kept, root) {
         Some(slot) => read_held(words, post, desk, kept, slot),
         None => kept.protected(0),
     }

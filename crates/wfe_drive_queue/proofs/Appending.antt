@@ -1,8 +1,8 @@
 -- The steps of an enqueue, as its turns in the model.
 use Rattle.wfe_core.specs.declared.desk.Desk.{Desk as HeldDesk}
 use Rattle.wfe_core.specs.declared.ends.AllocateEnd.TheVariants as allocate_ends
-use Rattle.wfe_drive_words.proofs.Turning.{went_on}
-use Rattle.wfe_drive_words.proofs.Leading.{leads_as}
+use Rattle.wfe_drive_runs.proofs.Turning.{went_on}
+use Rattle.wfe_drive_runs.proofs.drive_words.Leading.{leads_as}
 use Rattle.wfe_drive_queue.specs.drive_words.Path.{Leads}
 use Rattle.wfe_drive_queue.specs.drive_words.Called.{at_phase}
 use Rattle.wfe_core.specs.declared.op.Op.{Op}
@@ -13,22 +13,17 @@ use Rattle.wfe_core.specs.DeskHeld.{desk_of}
 use Rattle.wfe_core.specs.Change.{no_room}
 use Rattle.std.proofs.Common.{Bool, List, None, ap, arith, false, refl, true, ℕ, ◌+◌, ◌==◌, ◌∙◌, ◌≡◌, Some, sym}
 use Rattle.std.proofs.lemmas.Bool.{eq-eqb, ne_eqb}
-use Rattle.wfe_core.specs.words.declared.config.SchemeKind.{SchemeKind}
 use Rattle.wfe_core.specs.defs.declared.call.Answer.TheVariants as answers
 use Rattle.wfe_core.specs.defs.declared.event.Root.{Root}
 use Rattle.wfe_core.specs.defs.declared.event.Root.TheVariants as roots
-use Rattle.wfe_core.specs.Calls.{Again, Answering, EnqueueKept, Enqueues, Enqueuing, ExchangeTail, Fills, Opens, PassTail, Runs, Task, Works, LoadNumber}
+use Rattle.wfe_core.specs.Calls.{Again, Answering, EnqueueKept, Enqueues, Enqueuing, ExchangeTail, Fills, LoadNumber, Opens, PassTail, Runs, Works}
 use Rattle.wfe_core.specs.Desks.{Desk, noting}
 use Rattle.wfe_core.specs.Enqueue.{appended, appending, at_next, filling, told_link, new_item}
-use Rattle.wfe_core.specs.Rounds.{clearing, index_of, opening, protect_base, root_of, scheme_of}
+use Rattle.wfe_core.specs.Rounds.{clearing}
 use Rattle.wfe_core.specs.declared.post.Post.{Post}
 use Rattle.wfe_drive_queue.specs.drive_words.drive_cells.Unit.{SeatView, seat_after}
-use Rattle.wfe_drive_queue.specs.drive_words.Pieces.{clearing_at, seat_of, LeadsSo, end_of}
-use Rattle.wfe_drive_words.proofs.Closing.{clearing_noted}
-
--- a round's protection under a scheme
-pub opening_is : (task : Task) (post : Post) (kind : SchemeKind) → scheme_of post ≡ kind → opening task post ≡ Runs (Opens task) (protect_base kind (index_of task) (root_of task post))
-opening_is task post kind e = ap (λ (k : SchemeKind). Runs (Opens task) (protect_base k (index_of task) (root_of task post))) e
+use Rattle.wfe_drive_queue.specs.drive_runs.Pieces.{clearing_at, seat_of, LeadsSo, end_of}
+use Rattle.wfe_drive_runs.proofs.Closing.{clearing_noted}
 
 -- the next link was read
 pub at_passes : (kept : EnqueueKept) (next : ℕ) (post : Post) (desk : Desk) → (next ≡ 0 → ⊥) → seat_after (at_next kept next post desk (next == 0)) ≡ seat_of (Works (Enqueuing kept (PassTail next))) post desk

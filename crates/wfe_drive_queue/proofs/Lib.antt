@@ -1,3 +1,4 @@
-pub use Rattle.wfe_drive_words.proofs as drive_words
+pub use Rattle.wfe_drive_runs.proofs as drive_runs
+pub use Rattle.wfe_drive_runs.proofs.drive_words as drive_words
 pub mod Appending
 pub mod Taking

@@ -1,8 +1,8 @@
 -- The steps of a dequeue, as its turns in the model.
 use Rattle.wfe_core.specs.declared.desk.Desk.{Desk as HeldDesk}
 use Rattle.wfe_core.specs.declared.ends.FollowEnd.TheVariants as follow_ends
-use Rattle.wfe_drive_words.proofs.Turning.{went_on}
-use Rattle.wfe_drive_words.proofs.Leading.{leads_as}
+use Rattle.wfe_drive_runs.proofs.Turning.{went_on}
+use Rattle.wfe_drive_runs.proofs.drive_words.Leading.{leads_as}
 use Rattle.wfe_drive_queue.specs.drive_words.Path.{Leads}
 use Rattle.wfe_drive_queue.specs.drive_words.Called.{at_phase}
 use Rattle.wfe_core.specs.declared.op.Op.{Op}
@@ -22,9 +22,9 @@ use Rattle.wfe_core.specs.Enqueue.{told_link}
 use Rattle.wfe_core.specs.Rounds.{clearing_next}
 use Rattle.wfe_core.specs.declared.post.Post.{Post}
 use Rattle.wfe_drive_queue.specs.drive_words.drive_cells.Unit.{seat_after, SeatView}
-use Rattle.wfe_drive_queue.specs.drive_words.Pieces.{clearing_next_at, LeadsSo, clearing_at, end_of}
+use Rattle.wfe_drive_queue.specs.drive_runs.Pieces.{clearing_next_at, LeadsSo, clearing_at, end_of}
 use Rattle.wfe_drive_queue.proofs.Appending.{link_quiet}
-use Rattle.wfe_drive_words.proofs.Closing.{clearing_next_noted, clearing_noted}
+use Rattle.wfe_drive_runs.proofs.Closing.{clearing_next_noted, clearing_noted}
 
 -- the tail was moved on
 pub swung : (next : ℕ) (same : Bool) (post : Post) (desk : Desk) → seat_after (clearing_next Again post desk (told_link roots.Tail next same)) ≡ clearing_next_at Again post desk

@@ -4,8 +4,8 @@ use Rattle.wfe_core.specs.Calls.{Again, Answering, EnqueueKept, Enqueues, Enqueu
 use Rattle.wfe_core.specs.Change.{no_room}
 use Rattle.wfe_core.specs.Desks.{Desk}
 use Rattle.wfe_core.specs.declared.post.Post.{Post}
-use Rattle.wfe_drive_words.specs.drive_cells.Unit.{SeatView}
-use Rattle.wfe_drive_words.specs.Pieces.{clearing_at, seat_of}
+use Rattle.wfe_drive_runs.specs.drive_words.drive_cells.Unit.{SeatView}
+use Rattle.wfe_drive_runs.specs.Pieces.{clearing_at, seat_of}
 use Rattle.wfe_drive_queue.specs.declared.item.Item.{Item}
 use Rattle.wfe_drive_queue.specs.declared.item.RoundEnd.{RoundEnd}
 use Rattle.wfe_drive_queue.specs.declared.item.RoundEnd.TheVariants as ends

@@ -10,12 +10,12 @@ ghost use Rattle.wfe_core.specs.Valid.{IsValid};
 ghost use Rattle.wfe_drive_queue.specs.Items.{kept_of, next_of};
 ghost use Rattle.wfe_drive_queue.specs.drive_words.Called.{Here};
 ghost use Rattle.wfe_drive_queue.specs.drive_words.Path.{Leads};
-ghost use Rattle.wfe_drive_queue.specs.drive_words.Pieces.{clearing_at, seat_of};
+ghost use Rattle.wfe_drive_queue.specs.drive_runs.Pieces.{clearing_at, seat_of};
 ghost use Rattle.wfe_drive_queue.specs.drive_words.drive_cells.Unit.{seat_after};
 
 use crate::item::{Item, RoundEnd};
 use wfe_core::{Answer, Op, Post};
-use wfe_drive_words::{Words, load_cell, step};
+use wfe_drive_runs::{Words, load_cell, step};
 
 // Reads the number of the tail's row, and then its next link, which it answers.
 #[inline(always)]

@@ -1,7 +1,7 @@
 // A dequeue, round by round: the head's row and the row after it are protected, the item there is read,
 // and the head is moved to it; then the row that the head left is retired.
-ghost use Rattle.std.specs.Prelude.{◌≡◌, ◌≤◌, ◌<◌};
-ghost use Rattle.wfe_core.specs.words.declared.config.SchemeKind.TheVariants.{He as HeKind};
+ghost use Rattle.std.specs.Prelude.{◌≡◌, ◌≤◌, ◌<◌, false};
+ghost use Rattle.wfe_core.specs.words.Schemes.{has_one_interval};
 ghost use Rattle.wfe_core.specs.defs.declared.call.Call.TheVariants.{Dequeue as DequeueCall};
 ghost use Rattle.wfe_core.specs.Calls.{Dequeues, Dequeuing, Idle, LoadTail, Works};
 ghost use Rattle.wfe_core.specs.DeskHeld.{HasRoom, desk_of};
@@ -10,17 +10,18 @@ ghost use Rattle.wfe_core.specs.Steps.{first_phase};
 ghost use Rattle.wfe_drive_queue.specs.Taking.{next_of};
 ghost use Rattle.wfe_drive_queue.specs.drive_words.Called.{Here, at_phase};
 ghost use Rattle.wfe_drive_queue.specs.drive_words.Path.{Closes, Leads};
-ghost use Rattle.wfe_drive_queue.specs.drive_words.Pieces.{clearing_at, clearing_next_at};
+ghost use Rattle.wfe_drive_queue.specs.drive_runs.Pieces.{clearing_at, clearing_next_at};
 
 use crate::take::{TakeEnd, read_end, swing_tail, take};
 use wfe_core::{Answer, Desk, FollowEnd, Post, Root};
-use wfe_drive_words::{Words, close, close_next, follow_he, hold_he, note_steps, retire};
+use wfe_drive_runs::{Words, close, close_next, follow_next, hold_root, note_steps, retire};
 
-/// Makes a dequeue under Hazard Eras from its first step to its answer.
+/// Makes a dequeue from its first step to its answer, under the schemes that clear an index by a step:
+/// Hazard Eras and Wait-Free Eras.
 #[inline(always)]
-pub fn dequeue_he<W: Words>(words: &mut W, post: &mut Post, desk: &mut Desk) -> Answer
+pub fn dequeue_item<W: Words>(words: &mut W, post: &mut Post, desk: &mut Desk) -> Answer
     requires valid { W.valid words.old }
-    requires scheme { post.old.layout.config.scheme ≡ HeKind }
+    requires clears { has_one_interval post.old.layout.config.scheme ≡ false }
     requires here { Here (W.at words.old) (at_phase (first_phase DequeueCall post.old) post.old desk.old) }
     requires room { HasRoom desk.old post.old.layout }
     ensures valid { W.valid words.new }
@@ -56,18 +57,20 @@ pub fn dequeue_he<W: Words>(words: &mut W, post: &mut Post, desk: &mut Desk) -> 
 
 // A round up to its end.
 #[inline(always)]
-fn take_item<W: Words>(words: &mut W, post: &mut Post, desk: &Desk) -> TakeEnd
+fn take_item<W: Words>(words: &mut W, post: &mut Post, desk: &mut Desk) -> TakeEnd
     requires valid { W.valid words.old }
-    requires scheme { post.old.layout.config.scheme ≡ HeKind }
-    requires here { Here (W.at words.old) (at_phase (opening Dequeues post.old) post.old desk.now) }
+    requires clears { has_one_interval post.old.layout.config.scheme ≡ false }
+    requires here { Here (W.at words.old) (at_phase (opening Dequeues post.old) post.old desk.old) }
+    requires room { HasRoom desk.old post.old.layout }
     ensures valid { W.valid words.new }
     ensures same { W.same words.old words.new }
     ensures rest { W.rest words.new ≤ W.rest words.old }
+    ensures room { HasRoom desk.new post.new.layout }
     ensures layout { post.new.layout ≡ post.old.layout }
     ensures leads { Leads (W.at words.old) (W.at words.new) (W.stands words.old) (W.stands words.new)
-        (at_phase (opening Dequeues post.old) post.old desk.now) (clearing_at Dequeues (next_of result) post.new (desk_of desk.now)) }
+        (at_phase (opening Dequeues post.old) post.old desk.old) (clearing_at Dequeues (next_of result) post.new (desk_of desk.new)) }
 {
-    match hold_he(words, post, desk, 0, Root::Head) {
+    match hold_root(words, post, desk, 0, Root::Head) {
         Some(head) => {
             let ending = take_next(words, post, desk, head);
             close_next(words, post);
@@ -79,19 +82,21 @@ fn take_item<W: Words>(words: &mut W, post: &mut Post, desk: &Desk) -> TakeEnd
 
 // The head's row is held.
 #[inline(always)]
-fn take_next<W: Words>(words: &mut W, post: &mut Post, desk: &Desk, head: u32) -> TakeEnd
+fn take_next<W: Words>(words: &mut W, post: &mut Post, desk: &mut Desk, head: u32) -> TakeEnd
     requires valid { W.valid words.old }
-    requires scheme { post.old.layout.config.scheme ≡ HeKind }
-    requires here { Here (W.at words.old) (at_phase (Works (Dequeuing (LoadTail head))) post.old desk.now) }
+    requires clears { has_one_interval post.old.layout.config.scheme ≡ false }
+    requires here { Here (W.at words.old) (at_phase (Works (Dequeuing (LoadTail head))) post.old desk.old) }
+    requires room { HasRoom desk.old post.old.layout }
     ensures valid { W.valid words.new }
     ensures same { W.same words.old words.new }
     ensures rest { W.rest words.new ≤ W.rest words.old }
+    ensures room { HasRoom desk.new post.new.layout }
     ensures layout { post.new.layout ≡ post.old.layout }
     ensures leads { Leads (W.at words.old) (W.at words.new) (W.stands words.old) (W.stands words.new)
-        (at_phase (Works (Dequeuing (LoadTail head))) post.old desk.now) (clearing_next_at (next_of result) post.new (desk_of desk.now)) }
+        (at_phase (Works (Dequeuing (LoadTail head))) post.old desk.old) (clearing_next_at (next_of result) post.new (desk_of desk.new)) }
 {
     let tail = read_end(words, post, head);
-    match follow_he(words, post, desk, head) {
+    match follow_next(words, post, desk, head) {
         FollowEnd::Followed { slot } => {
             if tail == head as u64 + 1 {
                 swing_tail(words, post, head, slot);

@@ -1,7 +1,7 @@
 // An enqueue, round by round: the tail's row is protected, an item is written and linked after it, and
 // the tail is moved; a round that another enqueue was before is made again.
-ghost use Rattle.std.specs.Prelude.{◌≡◌, ◌≤◌, ◌<◌};
-ghost use Rattle.wfe_core.specs.words.declared.config.SchemeKind.TheVariants.{He as HeKind};
+ghost use Rattle.std.specs.Prelude.{◌≡◌, ◌≤◌, ◌<◌, false};
+ghost use Rattle.wfe_core.specs.words.Schemes.{has_one_interval};
 ghost use Rattle.wfe_core.specs.defs.declared.call.Call.TheVariants.{Enqueue as EnqueueCall};
 ghost use Rattle.wfe_core.specs.Calls.{Enqueues, Fills, Idle, Runs};
 ghost use Rattle.wfe_core.specs.Change.{no_room as model_no_room};
@@ -12,19 +12,20 @@ ghost use Rattle.wfe_core.specs.Steps.{first_phase};
 ghost use Rattle.wfe_drive_queue.specs.Items.{kept_of, next_of};
 ghost use Rattle.wfe_drive_queue.specs.drive_words.Called.{Here, at_phase};
 ghost use Rattle.wfe_drive_queue.specs.drive_words.Path.{Closes, Leads};
-ghost use Rattle.wfe_drive_queue.specs.drive_words.Pieces.{clearing_at};
+ghost use Rattle.wfe_drive_queue.specs.drive_runs.Pieces.{clearing_at};
 
 use crate::append::{append, pass_tail, read_tail};
 use crate::fill::fill;
 use crate::item::{Item, RoundEnd};
 use wfe_core::{Answer, Desk, Post, Root};
-use wfe_drive_words::{Words, close, give_up, hold_he, note_steps, tidy};
+use wfe_drive_runs::{Words, close, give_up, helps, hold_root, note_steps, tidy};
 
-/// Makes an enqueue under Hazard Eras from its first step to its answer.
+/// Makes an enqueue from its first step to its answer, under the schemes that clear an index by a step:
+/// Hazard Eras and Wait-Free Eras.
 #[inline(always)]
-pub fn enqueue_he<W: Words>(words: &mut W, post: &mut Post, desk: &mut Desk, value: u64) -> Answer
+pub fn enqueue_item<W: Words>(words: &mut W, post: &mut Post, desk: &mut Desk, value: u64) -> Answer
     requires valid { W.valid words.old }
-    requires scheme { post.old.layout.config.scheme ≡ HeKind }
+    requires clears { has_one_interval post.old.layout.config.scheme ≡ false }
     requires here { Here (W.at words.old) (at_phase (first_phase (EnqueueCall value) post.old) post.old desk.old) }
     requires room { HasRoom desk.old post.old.layout }
     ensures valid { W.valid words.new }
@@ -46,7 +47,8 @@ pub fn enqueue_he<W: Words>(words: &mut W, post: &mut Post, desk: &mut Desk, val
         match ending {
             RoundEnd::Again => {}
             RoundEnd::MakeRoom => {
-                tidy(words, false, post, desk);
+                let helps = helps(post.layout.config().scheme);
+                tidy(words, helps, post, desk);
             }
             RoundEnd::Answers(answer) => match item.taken {
                 Some(slot) => return give_up(words, post, desk, slot, answer),
@@ -63,7 +65,7 @@ pub fn enqueue_he<W: Words>(words: &mut W, post: &mut Post, desk: &mut Desk, val
 #[inline(always)]
 fn link_item<W: Words>(words: &mut W, post: &mut Post, desk: &mut Desk, item: &mut Item) -> RoundEnd
     requires valid { W.valid words.old }
-    requires scheme { post.old.layout.config.scheme ≡ HeKind }
+    requires clears { has_one_interval post.old.layout.config.scheme ≡ false }
     requires here { Here (W.at words.old) (at_phase (opening (Enqueues (kept_of item.old)) post.old) post.old desk.old) }
     requires room { HasRoom desk.old post.old.layout }
     ensures valid { W.valid words.new }
@@ -75,7 +77,7 @@ fn link_item<W: Words>(words: &mut W, post: &mut Post, desk: &mut Desk, item: &m
         (at_phase (opening (Enqueues (kept_of item.old)) post.old) post.old desk.old)
         (clearing_at (Enqueues (kept_of item.new)) (next_of result) post.new (desk_of desk.new)) }
 {
-    match hold_he(words, post, desk, 0, Root::Tail) {
+    match hold_root(words, post, desk, 0, Root::Tail) {
         Some(tail) => item.tail = tail,
         None => return RoundEnd::Again,
     }

@@ -10,7 +10,7 @@ ghost use Rattle.wfe_drive_queue.specs.drive_words.Path.{Leads};
 
 use crate::item::Item;
 use wfe_core::{AllocateEnd, Desk, Post};
-use wfe_drive_words::{Words, take_row, write_item};
+use wfe_drive_runs::{Words, take_row, write_item};
 
 // Answers the row that has the item now, or none where no row was free.
 #[inline(always)]

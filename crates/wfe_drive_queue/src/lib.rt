@@ -8,6 +8,6 @@ mod fill;
 mod item;
 mod take;
 
-pub use dequeue::dequeue_he;
-pub use enqueue::enqueue_he;
-pub use wfe_drive_words as on_words;
+pub use dequeue::dequeue_item;
+pub use enqueue::enqueue_item;
+pub use wfe_drive_runs as on_words;

@@ -11,10 +11,10 @@ ghost use Rattle.wfe_core.specs.Valid.{IsValid};
 ghost use Rattle.wfe_drive_queue.specs.Taking.{next_of};
 ghost use Rattle.wfe_drive_queue.specs.drive_words.Called.{Here};
 ghost use Rattle.wfe_drive_queue.specs.drive_words.Path.{Leads};
-ghost use Rattle.wfe_drive_queue.specs.drive_words.Pieces.{clearing_next_at, seat_of};
+ghost use Rattle.wfe_drive_queue.specs.drive_runs.Pieces.{clearing_next_at, seat_of};
 
 use wfe_core::{Op, Post};
-use wfe_drive_words::{Words, load_cell, step};
+use wfe_drive_runs::{Words, load_cell, step};
 
 // How a round ends once the head is held: another round comes, the queue is empty, or the item of this
 // number and value was taken, and the head has left a row.

@@ -13,7 +13,7 @@ use Rattle.wfe_core.specs.words.Place.{is_valid, words}
 use Rattle.wfe_core.specs.words.declared.layout.Layout.{Layout}
 use Rattle.wfe_core.specs.defs.declared.call.Call.{Call}
 use Rattle.wfe_core.specs.Frames.{SamePlace}
-use Rattle.wfe_core.specs.Locals.{Local, after, asks, begun, busy_in}
+use Rattle.wfe_core.specs.Locals.{Local, after, asks, begun, busy_in, may_begin}
 use Rattle.wfe_core.specs.MayStep.{MayStep}
 use Rattle.wfe_core.specs.World.{World, begin, finds, is_busy, step}
 use Rattle.wfe_core.proofs.CallFrames.{stays_in_place}
@@ -40,15 +40,16 @@ pub record Entered (layout : Layout) (items later : List Item) (i : ℕ) (l : Lo
   pub own_is : (world_of layout (items ++ later)).seat i ≡ l
   pub others : (k : ℕ) → (k == i) ≡ false → (world_of layout (items ++ later)).seat k ≡ (world_of layout items).seat k
 
-pub enters : (layout : Layout) (items : List Item) (i : ℕ) (l : Local) (call : Option Call) → i < layout.config.seats → ((c : Call) → call ≡ Some c → busy_in l.phase ≡ false) → (world_of layout items).seat i ≡ l
+pub enters : (layout : Layout) (items : List Item) (i : ℕ) (l : Local) (call : Option Call) → i < layout.config.seats → ((c : Call) → call ≡ Some c → (busy_in l.phase ≡ false) × (may_begin layout.config c ≡ true)) → (world_of layout items).seat i ≡ l
     → Entered layout items (entry i call) i (entered l call)
 enters layout items i l None h free e =
     let same : world_of layout (items ++ []) ≡ world_of layout items = ap (world_of layout) (append-nil items) in
     record { mem = ap (λ (w : World). w.mem) same; own_is = ap (λ (w : World). w.seat i) same ∙ e; others = λ k q. ap (λ (w : World). w.seat k) same }
 enters layout items i l (Some call) h free e =
     let w : World = world_of layout items in
-    let idle : is_busy w i ≡ false = ap (λ (k : Local). busy_in k.phase) e ∙ free call refl in
-    let now : world_of layout (items ++ Begins i call ∷ []) ≡ begin w i call = one_begin layout items i call h idle in
+    let may = free call refl in
+    let idle : is_busy w i ≡ false = ap (λ (k : Local). busy_in k.phase) e ∙ may.0 in
+    let now : world_of layout (items ++ Begins i call ∷ []) ≡ begin w i call = one_begin layout items i call h idle may.1 in
     record {
       mem = ap (λ (v : World). v.mem) now;
       own_is = ap (λ (v : World). v.seat i) now ∙ upd_here w.seat i (begun (w.seat i) call) ∙ ap (λ (k : Local). begun k call) e;

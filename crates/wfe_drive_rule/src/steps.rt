@@ -1,6 +1,6 @@
 // A seat's steps on the shared table, and the beginning of its calls.
 ghost use Rattle.std.specs.Prelude.{◌≡◌, None, false, true};
-ghost use Rattle.wfe_core.specs.Locals.{after, asks, begun, busy_in};
+ghost use Rattle.wfe_core.specs.Locals.{after, asks, begun, busy_in, may_begin};
 ghost use Rattle.wfe_drive_rule.specs.Handles.{IsResting, IsSeated, IsSized};
 ghost use Rattle.wfe_drive_rule.specs.Moves.{Told};
 ghost use Rattle.wfe_drive_rule.specs.Views.{call_in, own, seat_of, standing};
@@ -8,12 +8,13 @@ ghost use Rattle.wfe_drive_rule.specs.Views.{call_in, own, seat_of, standing};
 use crate::rule::{Handle, Ledger, OneStep};
 use wfe_core::{Call, Op};
 
-/// A call of the handle's seat begins, where none is under way. No word changes: the seat's slot,
+/// A call of the handle's seat begins, one that may begin, where none is under way. No word changes: the seat's slot,
 /// whose number is the seat's, holds the call until its first step.
 pub fn begin(table: &Ledger, handle: &mut Handle, slot: usize, call: Call)
     requires ids { handle.old.table_id ≡ table.now.table_id }
     requires seated { IsSeated table.now.key slot handle.old.me }
     requires resting { IsResting handle.old.me }
+    requires may { may_begin table.now.key.config call ≡ true }
     ensures ids { (handle.new.table_id ≡ handle.old.table_id) × (handle.new.id ≡ handle.old.id) }
     ensures seated { IsSeated table.now.key slot handle.new.me }
     ensures view { handle.new.me.0 ≡ handle.old.me.0 }

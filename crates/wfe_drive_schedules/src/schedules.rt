@@ -5,7 +5,7 @@ use rand_pcg::Pcg32;
 use std::process::Abort;
 use std::test::Fail;
 use wfe_core::{Call, Config, Event, Guard, Interval, SchemeKind};
-use wfe_drive_bench::Bench;
+use wfe_drive_bench::{Bench, on_bench};
 
 /// How many turns a schedule has.
 const TURNS: u32 = 3_000;
@@ -25,18 +25,57 @@ fn table(scheme: SchemeKind, seats: u32, slots: u32, every: u32) -> Config {
     }
 }
 
-// How many guards a scan reads, 12 to each seat at most.
-fn guards(config: Config) -> usize {
-    let seats = config.seats.min(64) as usize;
-    match config.scheme {
-        SchemeKind::He => 3 * seats,
-        SchemeKind::Ibr => seats,
-        SchemeKind::Wfe => 4 * seats,
+// One with three indexes for rows that stay protected, and with wide rows.
+fn wide_table(scheme: SchemeKind, seats: u32, slots: u32, every: u32) -> Config {
+    Config {
+        indexes: 5,
+        pairs: 14,
+        ..table(scheme, seats, slots, every)
     }
 }
 
-// A call by a random word.
-fn call_of(word: u32) -> Call {
+// How many guards a scan reads.
+fn guards(config: Config) -> usize {
+    let seats = config.seats.min(64) as usize;
+    let indexes = config.indexes.min(8) as usize;
+    match config.scheme {
+        SchemeKind::He => indexes * seats,
+        SchemeKind::Ibr => seats,
+        SchemeKind::Wfe => (indexes + 1) * seats,
+    }
+}
+
+// A call by a random word: each other one is on rows that stay protected, where the table has indexes for
+// more than one.
+fn call_of(config: Config, word: u32) -> Call {
+    if config.indexes > 3 && word % 2 == 0 {
+        call_on_kept(word / 2)
+    } else {
+        other_call(word)
+    }
+}
+
+// A call on rows that stay protected, or a conditional put. A copy that does not go upwards never begins.
+fn call_on_kept(word: u32) -> Call {
+    let key = (word / 8 % 4) as u64;
+    let index = 2 + word / 32 % 3;
+    match word % 8 {
+        0 => Call::Hold { key },
+        1 | 2 => Call::Copy {
+            from: 2 + word / 32 % 2,
+            index: 3 + word / 64 % 2,
+        },
+        3 => Call::Look { index, key },
+        4 | 5 | 6 => Call::DropIndex { index },
+        _ => Call::PutIf {
+            key,
+            value: (word / 64) as u64,
+            version: (word / 64 % 32) as u64,
+        },
+    }
+}
+
+fn other_call(word: u32) -> Call {
     let key = (word / 16 % 4) as u64;
     let value = (word / 64) as u64;
     match word % 16 {
@@ -67,25 +106,33 @@ fn look<R: Abort>(rt: &R, bench: &mut Bench, watch: &mut Watch, seed: u64) -> Re
 
 // Plays a schedule: at each turn a random seat begins a random call if it is free, and makes some units
 // of it, one alone or so many that others are overtaken. In the end each call is run to its end.
-fn play<R: Abort + AllocGlobal>(rt: &R, config: Config, seed: u64) -> Result<Watch, Fail> {
-    let mut bench = Bench::new(rt.alloc(), config)?;
+fn play_on<R: Abort + AllocGlobal>(
+    rt: &R,
+    bench: &mut Bench,
+    config: Config,
+    seed: u64,
+) -> Result<Watch, Fail> {
     let mut watch = Watch::new(rt.alloc(), config.slots, guards(config))?;
     let mut words = Pcg32::new(seed, 0);
     for _ in 0..TURNS {
         let word: u32 = words.next_word();
         let seat = word % 4;
         if !bench.busy(seat) {
-            bench.start(seat, call_of(words.next_word()));
+            bench.start(seat, call_of(config, words.next_word()));
         }
         bench.units(seat, 1 + word / 4 % 8 * (word / 32 % 8))?;
-        look(rt, &mut bench, &mut watch, seed)?;
+        look(rt, bench, &mut watch, seed)?;
     }
     for seat in 0..4 {
         bench.run(seat)?;
         assert!(rt; !bench.busy(seat), "seat {seat}, seed {seed}");
-        look(rt, &mut bench, &mut watch, seed)?;
+        look(rt, bench, &mut watch, seed)?;
     }
     Ok(watch)
+}
+
+fn play<R: Abort + AllocGlobal>(rt: &R, config: Config, seed: u64) -> Result<Watch, Fail> {
+    on_bench(rt.alloc(), config, |bench| play_on(rt, bench, config, seed))
 }
 
 #[test]
@@ -104,6 +151,22 @@ fn no_schedule_lets_a_row_be_used_too_early(rt: HostRuntime) -> Result<(), Fail>
         }
         let asks = scheme == SchemeKind::Wfe;
         assert_eq!(rt; asked > 10, asks, "{scheme:?}");
+    }
+    Ok(())
+}
+
+#[test]
+fn no_schedule_with_copies_lets_a_row_be_used_too_early(rt: HostRuntime) -> Result<(), Fail> {
+    for scheme in [SchemeKind::He, SchemeKind::Ibr, SchemeKind::Wfe] {
+        for (seats, slots, every) in [(2, 12, 1), (4, 24, 2)] {
+            let config = wide_table(scheme, seats, slots, every);
+            for seed in 0..3 {
+                let watch = play(&rt, config, seed)?;
+                assert!(rt; watch.copied > 10, "{config:?}, seed {seed}");
+                assert!(rt; watch.back > 10, "{config:?}, seed {seed}");
+                assert!(rt; watch.kept > 10, "{config:?}, seed {seed}");
+            }
+        }
     }
     Ok(())
 }
@@ -132,6 +195,15 @@ const HELD: (u32, Event) = (
         index: 2,
         slot: 0,
         steps: 4,
+    },
+);
+
+const COPIED: (u32, Event) = (
+    1,
+    Event::Copied {
+        from: 2,
+        index: 3,
+        slot: 0,
     },
 );
 
@@ -179,6 +251,9 @@ fn a_row_that_goes_back_wrongly_is_noticed(rt: HostRuntime) -> Result<(), Fail> 
     expect_breach(&rt, &[GIVEN, RETIRED], other, Breach::BackUnretired)?;
     let sound = [GIVEN, HELD, RETIRED, none, before];
     expect_breach(&rt, &sound, BACK, Breach::BackWhileStanding)?;
+    let cleared = (1, Event::Clear { index: 2, slot: 0 });
+    let sound = [GIVEN, HELD, COPIED, cleared, RETIRED, none, before];
+    expect_breach(&rt, &sound, BACK, Breach::BackWhileStanding)?;
     let sound = [GIVEN, RETIRED, none, within];
     expect_breach(&rt, &sound, BACK, Breach::BackThoughMet)?;
     expect_breach(&rt, &[GIVEN, RETIRED, none], BACK, Breach::ScanCutShort)
@@ -202,5 +277,6 @@ fn a_row_that_is_not_taken_is_neither_held_nor_retired(rt: HostRuntime) -> Resul
     expect_breach(&rt, &[GIVEN, RETIRED], RETIRED, Breach::RetiredUntaken)?;
     let cleared = (1, Event::Clear { index: 2, slot: 0 });
     expect_breach(&rt, &[GIVEN], cleared, Breach::ClearedUnheld)?;
-    expect_breach(&rt, &[GIVEN, HELD, cleared], cleared, Breach::ClearedUnheld)
+    expect_breach(&rt, &[GIVEN, HELD, cleared], cleared, Breach::ClearedUnheld)?;
+    expect_breach(&rt, &[GIVEN, HELD, cleared], COPIED, Breach::CopiedUnheld)
 }

@@ -22,6 +22,8 @@ pub enum Breach {
     ScanCutShort,
     RetiredUntaken,
     HeldUntaken,
+    /// What is copied does not stand where the copy is from.
+    CopiedUnheld,
     ClearedUnheld,
 }
 
@@ -39,6 +41,8 @@ pub struct Watch {
     guards: usize,
     /// How many rows were held.
     pub held: u32,
+    /// How many rows were copied.
+    pub copied: u32,
     /// How many rows went back.
     pub back: u32,
     /// How many rows a scan kept.
@@ -63,6 +67,7 @@ impl Watch {
             read: Vec::new(alloc),
             guards,
             held: 0,
+            copied: 0,
             back: 0,
             kept: 0,
             asked: 0,
@@ -120,6 +125,12 @@ impl Watch {
             } => {
                 self.asked = self.asked.saturating_add(1);
                 Ok(None)
+            }
+            Event::Copied { from, index, slot } => {
+                self.copied = self.copied.saturating_add(1);
+                let breach = self.copy((seat, from, slot));
+                self.standing.push((seat, index, slot))?;
+                Ok(breach)
             }
             Event::Clear { index, slot } => Ok(self.clear((seat, index, slot))),
             _ => Ok(None),
@@ -235,6 +246,11 @@ impl Watch {
         } else {
             None
         }
+    }
+
+    fn copy(&self, held: (u32, u32, u32)) -> Option<Breach> {
+        let stands = self.standing.iter().any(|entry| *entry == held);
+        (!stands).then_some(Breach::CopiedUnheld)
     }
 
     fn clear(&mut self, held: (u32, u32, u32)) -> Option<Breach> {

@@ -7,8 +7,8 @@ use std::fmt::Debug;
 use std::process::Abort;
 use std::test::Fail;
 use wfe_drive_shared::{
-    ClockMove, Config, Done, EnqueueRefusal, Got, PutRefusal, Queued, RemoveRefusal, Scanned,
-    SchemeKind, Seat, Shared,
+    ClockMove, Config, Done, EnqueueRefusal, Got, Looked, PutIfRefusal, PutRefusal, Queued,
+    RemoveRefusal, Scanned, SchemeKind, Seat, Shared,
 };
 
 /// A table and its seats, in number order.
@@ -19,14 +19,16 @@ pub struct Two {
     ghost of: { All (λ seat. IsOf seat shared) seats.items },
 }
 
-/// A whole call, and what it has to answer. A put is of the value 10.
+/// A whole call, and what it has to answer. A put is of the value 10, and a look at index 2.
 #[derive(Clone, Copy, Debug)]
 pub enum Answered {
     Get(u64, Got),
     Put(u64, Result<Done, PutRefusal>),
+    PutIf(u64, u64, Result<Done, PutIfRefusal>),
     Remove(u64, Result<Done, RemoveRefusal>),
     Enqueue(u64, Result<Queued, EnqueueRefusal>),
     Hold(u64, Option<u32>),
+    Look(u64, Option<Looked>),
     Release,
     Scan(Scanned),
 }
@@ -102,12 +104,27 @@ fn expect_call<R: Abort>(rt: &R, shared: &Shared, seat: &mut Seat, call: Answere
     match call {
         Answered::Get(key, want) => expect(rt, call, shared.get(seat, key), want),
         Answered::Put(key, want) => expect(rt, call, shared.put(seat, key, 10), want),
+        Answered::PutIf(key, version, want) => {
+            expect(rt, call, shared.put_if(seat, key, 10, version), want)
+        }
         Answered::Remove(key, want) => expect(rt, call, shared.remove(seat, key), want),
         Answered::Enqueue(value, want) => expect(rt, call, shared.enqueue(seat, value), want),
         Answered::Hold(key, want) => expect(rt, call, shared.hold(seat, key), want),
+        Answered::Look(key, want) => look(rt, shared, seat, key, want),
         Answered::Release => shared.release(seat),
         Answered::Scan(want) => expect(rt, call, shared.scan(seat), want),
     }
+}
+
+fn look<R: Abort>(rt: &R, shared: &Shared, seat: &mut Seat, key: u64, want: Option<Looked>)
+    requires { IsOf seat.old shared.now }
+    ensures { IsOf seat.new shared.now }
+{
+    if shared.layout().config().indexes <= 2 {
+        panic!(rt; "no index to look at")
+    }
+    let call = Answered::Look(key, want);
+    expect(rt, call, shared.look(seat, 2, key), want);
 }
 
 fn expect<R: Abort, A: PartialEq + Debug + Drop>(rt: &R, call: Answered, answer: A, want: A) {

@@ -1,15 +1,15 @@
 -- How many steps a call that a seat has made took, whatever the other seats did meanwhile.
-use Rattle.std.proofs.Common.{Bool, [], ap, arith, false, length, subst, true, ℕ, ◌*◌, ◌+◌, ◌∙◌, ◌≡◌, ◌≤◌}
+use Rattle.std.proofs.Common.{Bool, Option, [], ap, arith, false, length, subst, true, ℕ, ◌*◌, ◌+◌, ◌∙◌, ◌≡◌, ◌≤◌}
 use Rattle.std.proofs.lemmas.Bool.Decides.{nat_tests}
-use Rattle.std.specs.Prelude.{if◌then◌else◌, nat_le, not, ◌==◌, ◌||◌}
-use Rattle.wfe_core.proofs.Facts.{number_is}
+use Rattle.std.specs.Prelude.{if◌then◌else◌, nat_le, not, ◌&&◌, ◌==◌, ◌||◌}
+use Rattle.wfe_core.proofs.Facts.{le_of_test, number_is}
 use Rattle.wfe_core.specs.Guards.{guards}
 use Rattle.wfe_core.specs.Locals.{Local}
 use Rattle.wfe_core.specs.defs.declared.call.Answer.{Answer}
 use Rattle.wfe_core.specs.defs.declared.call.Answer.TheVariants as answers
 use Rattle.wfe_core.specs.defs.declared.call.Call.{Call}
 use Rattle.wfe_core.specs.defs.declared.call.Call.TheVariants as calls
-use Rattle.wfe_core.specs.words.Schemes.{is_wfe}
+use Rattle.wfe_core.specs.words.Schemes.{has_one_interval, is_wfe}
 use Rattle.wfe_core.specs.words.declared.config.Config.{Config}
 use Rattle.wfe_core.specs.words.declared.config.SchemeKind.{SchemeKind}
 use Rattle.wfe_core.specs.words.declared.config.SchemeKind.TheVariants.{Wfe}
@@ -22,7 +22,7 @@ use Rattle.wfe_drive_shared.specs.Public.{SeatNow, steps_of}
 
 -- the steps are those that the law allows the call
 bounded : (layout : Layout) (old new : SeatNow) (call : Call) (answer : Answer) → IsMade layout old new call answer
-    → steps_right layout.config call (length new.track.local.desk.notes.back) (steps_of new) ≡ true
+    → steps_right layout.config call (length new.track.local.desk.notes.back) answer (steps_of new) ≡ true
 bounded layout old new call answer m =
     let t = m.tracked in
     logs_take_few_steps layout new.track.past (seat_of new.track) old.track.local.log [] (group_of call answer new) t.valid
@@ -49,6 +49,36 @@ hold_bounded layout old new key answer m =
 -- bounds under each scheme
 pub release_bounded : (layout : Layout) (old new : SeatNow) (answer : Answer) → IsMade layout old new calls.Release answer → steps_of new ≡ 1
 release_bounded layout old new answer m = number_is (steps_of new) 1 (bounded layout old new calls.Release answer m)
+
+pub drop_bounded : (layout : Layout) (old new : SeatNow) (index : ℕ) (answer : Answer) → IsMade layout old new (calls.DropIndex index) answer → steps_of new ≡ 1
+drop_bounded layout old new index answer m = number_is (steps_of new) 1 (bounded layout old new (calls.DropIndex index) answer m)
+
+-- a copy that is made takes a step more where an index publishes an era of its own
+one_or_two : (one : Bool) (steps : ℕ) → (steps == (if not one && true then 2 else 1)) ≡ true → steps ≡ (if one then 1 else 2)
+one_or_two true steps h = number_is steps 1 h
+one_or_two false steps h = number_is steps 2 h
+
+pub copied_bounded : (layout : Layout) (old new : SeatNow) (from index slot : ℕ) → IsMade layout old new (calls.Copy from index) (answers.Copied slot)
+    → steps_of new ≡ (if has_one_interval layout.config.scheme then 1 else 2)
+copied_bounded layout old new from index slot m =
+    one_or_two (has_one_interval layout.config.scheme) (steps_of new) (bounded layout old new (calls.Copy from index) (answers.Copied slot) m)
+
+one_step : (many : Bool) (steps : ℕ) → (steps == (if many && false then 2 else 1)) ≡ true → steps ≡ 1
+one_step true steps h = number_is steps 1 h
+one_step false steps h = number_is steps 1 h
+
+pub uncopied_bounded : (layout : Layout) (old new : SeatNow) (from index : ℕ) → IsMade layout old new (calls.Copy from index) answers.Nothing → steps_of new ≡ 1
+uncopied_bounded layout old new from index m =
+    one_step (not (has_one_interval layout.config.scheme)) (steps_of new) (bounded layout old new (calls.Copy from index) answers.Nothing m)
+
+-- a look reads a version, a count, the keys and a value
+pub looked_bounded : (layout : Layout) (old new : SeatNow) (index key slot version : ℕ) (value : Option ℕ) → IsMade layout old new (calls.Look index key) (answers.Looked slot version value)
+    → steps_of new ≤ 3 + layout.config.pairs
+looked_bounded layout old new index key slot version value m =
+    le_of_test (steps_of new) (3 + layout.config.pairs) (bounded layout old new (calls.Look index key) (answers.Looked slot version value) m)
+
+pub unlooked_bounded : (layout : Layout) (old new : SeatNow) (index key : ℕ) → IsMade layout old new (calls.Look index key) answers.Nothing → steps_of new ≡ 1
+unlooked_bounded layout old new index key m = number_is (steps_of new) 1 (bounded layout old new (calls.Look index key) answers.Nothing m)
 
 few : (helped : Bool) (steps more less : ℕ) → (if helped then nat_le steps more else nat_le steps less) ≡ true
     → steps ≤ (if helped then more else less)

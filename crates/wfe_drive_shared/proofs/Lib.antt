@@ -1,7 +1,9 @@
 pub use Rattle.wfe_drive_closed.proofs as closed
+pub use Rattle.law_logs.proofs as logs
 pub mod Backs
 pub mod Bounded
 pub mod Gathered
+pub mod Kept
 pub mod LeftWords
 pub mod Made
 pub mod Ruled

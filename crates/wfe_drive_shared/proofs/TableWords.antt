@@ -1,15 +1,17 @@
 -- What a step of a handle's seat gives the words of its call.
-use Rattle.std.proofs.Common.{List, [], ap, arith, true, ℕ, ◌++◌, ◌+◌, ◌<◌, ◌∙◌, ◌∷◌, ◌≡◌}
+use Rattle.std.proofs.Common.{List, [], ap, arith, subst, sym, true, ℕ, ◌++◌, ◌+◌, ◌<◌, ◌∙◌, ◌∷◌, ◌≡◌}
 use Rattle.std.proofs.lemmas.List.{append_assoc}
 use Rattle.std.specs.Prelude.{None, ◌-◌, ◌^◌}
 use Rattle.wfe_core.specs.words.declared.layout.Layout.{Layout}
-use Rattle.wfe_core.specs.Locals.{Local, after, busy_in}
+use Rattle.wfe_core.specs.defs.declared.call.Call.{Call}
+use Rattle.wfe_core.specs.Locals.{Local, after, busy_in, may_begin}
 use Rattle.wfe_drive_rule.specs.history.History.{Item, Steps}
 use Rattle.wfe_drive_call.specs.drive_words.Comes.{Comes, Given}
 use Rattle.wfe_drive_call.proofs.drive_words.Histories.{few_steps, settles}
 use Rattle.wfe_drive_rule.specs.Handles.{IsSeated}
 use Rattle.wfe_drive_rule.specs.Moves.{Told}
 use Rattle.wfe_drive_rule.specs.Views.{Handle, Track, call_in, entered, own, seat_of, standing}
+use Rattle.wfe_drive_rule.proofs.Allowed.{entered_same}
 use Rattle.wfe_drive_rule.proofs.Standing.{handles_stand, steps_tell}
 
 -- a history comes to the state at which a handle's seat stands, with the call of its slot begun
@@ -17,6 +19,12 @@ pub comes_standing : (layout : Layout) (slot : ℕ) (handle : Handle) → IsSeat
 comes_standing layout slot handle s =
     let t = handles_stand layout slot handle s in
     record { items = (own handle.0).past ++ t.more; valid = t.comes.valid; below = t.comes.seat; stands = t.comes.stands }
+
+-- a call that may begin where the seat stands may begin in the table's setting
+pub may_standing : (layout : Layout) (slot : ℕ) (handle : Handle) (l : Local) (call : Call) → IsSeated layout slot handle → standing handle ≡ l → may_begin l.post.layout.config call ≡ true → may_begin layout.config call ≡ true
+may_standing layout slot handle l call s e may =
+    let table : l.post.layout ≡ layout = ap (λ (k : Local). k.post.layout) (sym e) ∙ (entered_same (own handle.0).local (call_in handle.1)).layout ∙ s.tracked.layout_is in
+    subst (λ (d : Layout). may_begin d.config call ≡ true) table may
 
 pub record StepMade (me later : Handle) (found : ℕ) : Type 0 where
   pub given : Given (standing me) found

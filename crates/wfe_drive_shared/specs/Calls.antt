@@ -15,6 +15,9 @@ use Rattle.wfe_drive_call.specs.drive_words.Called.{Ends}
 use Rattle.wfe_drive_rule.specs.Handles.{IsTracked}
 use Rattle.wfe_drive_rule.specs.Views.{seat_of}
 use Rattle.wfe_drive_shared.specs.Public.{SeatNow}
+use Rattle.wfe_drive_shared.specs.declared.calls.Looked.{Looked}
+use Rattle.wfe_drive_shared.specs.declared.calls.PutIfRefusal.{PutIfRefusal}
+use Rattle.wfe_drive_shared.specs.declared.calls.PutIfRefusal.TheVariants as put_ifs
 use Rattle.wfe_drive_shared.specs.declared.calls.PutRefusal.{PutRefusal}
 use Rattle.wfe_drive_shared.specs.declared.calls.PutRefusal.TheVariants as puts
 use Rattle.wfe_drive_shared.specs.declared.calls.RemoveRefusal.{RemoveRefusal}
@@ -50,6 +53,12 @@ put_answer puts.Full = answers.Full
 put_answer (puts.BucketFull version) = answers.BucketFull version
 put_answer (puts.Spent number) = answers.Spent number
 
+abbrev pub put_if_answer : PutIfRefusal → Answer
+put_if_answer (put_ifs.Stale version) = answers.Stale version
+put_if_answer (put_ifs.Spent number) = answers.Spent number
+put_if_answer (put_ifs.BucketFull version) = answers.BucketFull version
+put_if_answer put_ifs.Full = answers.Full
+
 abbrev pub remove_answer : RemoveRefusal → Answer
 remove_answer (removes.Absent version) = answers.Absent version
 remove_answer (removes.Spent number) = answers.Spent number
@@ -63,3 +72,12 @@ enqueue_answer enqueues.Full = answers.Full
 abbrev pub hold_answer : Option ℕ → Answer
 hold_answer None = answers.Nothing
 hold_answer (Some slot) = answers.Holding slot
+
+-- a copy protects a row at another index, and a look reads one; or nothing stands there
+abbrev pub copy_answer : Option ℕ → Answer
+copy_answer None = answers.Nothing
+copy_answer (Some slot) = answers.Copied slot
+
+abbrev pub look_answer : Option Looked → Answer
+look_answer None = answers.Nothing
+look_answer (Some looked) = answers.Looked looked.slot looked.version looked.value

@@ -1,7 +1,8 @@
 -- What callers see of a shared table and of a seat.
-use Rattle.std.specs.Prelude.{List, map, ℕ, ◌≡◌}
+use Rattle.std.specs.Prelude.{List, Option, map, ℕ, ◌≡◌}
 use Rattle.std.specs.List.{range_with_len}
 use Rattle.atomic_table.specs.Seated.{TableId}
+use Rattle.wfe_core.specs.Posts.{stands}
 use Rattle.wfe_core.specs.words.declared.layout.Layout.{Layout}
 use Rattle.wfe_drive_rule.specs.Views.{Track, fresh_track}
 
@@ -18,6 +19,10 @@ pub record SeatNow : Type 0 where
 -- how many steps its last call took: `notes` shows it
 abbrev pub steps_of : SeatNow → ℕ
 steps_of seat = seat.track.local.desk.notes.steps
+
+-- the row that stands at one of its indexes, if there is one
+abbrev pub stands_at : SeatNow → ℕ → Option ℕ
+stands_at seat index = stands seat.track.local.post index
 
 -- the seat is this table's
 pub record IsOf (seat : SeatNow) (shared : TableNow) : Type 0 where

@@ -1,12 +1,12 @@
 // The calls on a seat, each with what its caller is given. A call takes no memory and never waits.
-ghost use Rattle.std.specs.Prelude.{◌≡◌, ◌≤◌, ◌+◌, ◌*◌, if◌then◌else◌, MatchResult};
+ghost use Rattle.std.specs.Prelude.{◌≡◌, ◌≤◌, ◌<◌, ◌+◌, ◌*◌, if◌then◌else◌, MatchOption, MatchResult, option_map};
 ghost use Rattle.wfe_core.specs.Guards.{guards};
 ghost use Rattle.wfe_core.specs.defs.declared.call.Answer.TheVariants as answers;
 ghost use Rattle.wfe_core.specs.defs.declared.call.Call.TheVariants as calls;
-ghost use Rattle.wfe_core.specs.words.Schemes.{is_wfe};
+ghost use Rattle.wfe_core.specs.words.Schemes.{has_one_interval, is_wfe};
 ghost use Rattle.wfe_core.specs.words.declared.config.SchemeKind.TheVariants as schemes;
-ghost use Rattle.wfe_drive_shared.specs.Calls.{IsMade, enqueue_answer, hold_answer, put_answer, remove_answer};
-ghost use Rattle.wfe_drive_shared.specs.Public.{IsOf, steps_of};
+ghost use Rattle.wfe_drive_shared.specs.Calls.{IsMade, copy_answer, enqueue_answer, hold_answer, look_answer, put_answer, put_if_answer, remove_answer};
+ghost use Rattle.wfe_drive_shared.specs.Public.{IsOf, stands_at, steps_of};
 
 use crate::seat::Seat;
 use crate::shared::Shared;
@@ -47,6 +47,15 @@ pub struct Scanned {
     pub back: u32,
 }
 
+/// What a row that stands at an index of the seat shows of a key: the row's slot, the version of its
+/// bucket, and the key's value at that version.
+#[derive(Clone, Copy, Debug, PartialEq, Eq)]
+pub struct Looked {
+    pub slot: u32,
+    pub version: u64,
+    pub value: Option<u64>,
+}
+
 /// The queue was empty.
 #[derive(Clone, Copy, Debug, PartialEq, Eq)]
 pub struct Empty;
@@ -60,6 +69,19 @@ pub enum PutRefusal {
     BucketFull { version: u64 },
     /// The bucket's version is the last.
     Spent { number: u64 },
+}
+
+/// Why a put that names a version changed nothing.
+#[derive(Clone, Copy, Debug, PartialEq, Eq)]
+pub enum PutIfRefusal {
+    /// The bucket had this version, and another one was named.
+    Stale { version: u64 },
+    /// The bucket's version, which was named, is the last.
+    Spent { number: u64 },
+    /// The row at this version, which was named, had no room for another key.
+    BucketFull { version: u64 },
+    /// No row was free.
+    Full,
 }
 
 /// Why a remove changed nothing.
@@ -111,6 +133,35 @@ impl Shared {
             Answer::Full => Err(PutRefusal::Full),
             Answer::BucketFull { version } => Err(PutRefusal::BucketFull { version }),
             Answer::Spent { number } => Err(PutRefusal::Spent { number }),
+            _ => unreachable!(),
+        }
+    }
+
+    /// Gives the key this value where its bucket is at this version.
+    pub fn put_if(
+        &self,
+        seat: &mut Seat,
+        key: u64,
+        value: u64,
+        version: u64,
+    ) -> Result<Done, PutIfRefusal>
+        requires of { IsOf seat.old self.now }
+        ensures of { IsOf seat.new self.now }
+        ensures made { MatchResult result
+            (λ done. IsMade self.now.layout seat.old seat.new (calls.PutIf key value version) (answers.Done done.version done.clock))
+            (λ refusal. IsMade self.now.layout seat.old seat.new (calls.PutIf key value version) (put_if_answer refusal)) }
+    {
+        let call = Call::PutIf {
+            key,
+            value,
+            version,
+        };
+        match self.call(seat, call) {
+            Answer::Done { version, clock } => Ok(Done { version, clock }),
+            Answer::Stale { version } => Err(PutIfRefusal::Stale { version }),
+            Answer::Spent { number } => Err(PutIfRefusal::Spent { number }),
+            Answer::BucketFull { version } => Err(PutIfRefusal::BucketFull { version }),
+            Answer::Full => Err(PutIfRefusal::Full),
             _ => unreachable!(),
         }
     }
@@ -198,6 +249,69 @@ impl Shared {
     {
         match self.call(seat, Call::Release) {
             Answer::Released => {}
+            _ => unreachable!(),
+        }
+    }
+
+    /// Protects the row that stands at one index at a higher one too, and gives its slot, or none where no
+    /// row stands there. What stood at the higher index is let go. It takes two steps at most.
+    #[tactic(auto, using(crate::proofs::Bounded::copied_bounded, crate::proofs::Bounded::uncopied_bounded, crate::proofs::Kept::copied_stood, crate::proofs::Kept::uncopied_stood, crate::proofs::Kept::copy_may))]
+    pub fn copy(&self, seat: &mut Seat, from: u32, index: u32) -> Option<u32>
+        requires of { IsOf seat.old self.now }
+        requires kept { 2 ≤ from }
+        requires upwards { from < index }
+        requires range { index < self.now.layout.config.indexes }
+        ensures of { IsOf seat.new self.now }
+        ensures made { IsMade self.now.layout seat.old seat.new (calls.Copy from index) (copy_answer result) }
+        ensures stood { result ≡ stands_at seat.old from }
+        ensures bound { MatchOption result (steps_of seat.new ≡ 1) (λ _. steps_of seat.new ≡ (if has_one_interval self.now.layout.config.scheme then 1 else 2)) }
+    {
+        match self.call(seat, Call::Copy { from, index }) {
+            Answer::Copied { slot } => Some(slot),
+            Answer::Nothing => None,
+            _ => unreachable!(),
+        }
+    }
+
+    /// Lets go of what stands at an index, in one step.
+    #[tactic(auto, using(crate::proofs::Bounded::drop_bounded, crate::proofs::Kept::drop_may))]
+    pub fn drop_index(&self, seat: &mut Seat, index: u32)
+        requires of { IsOf seat.old self.now }
+        requires kept { 2 ≤ index }
+        requires range { index < self.now.layout.config.indexes }
+        ensures of { IsOf seat.new self.now }
+        ensures made { IsMade self.now.layout seat.old seat.new (calls.DropIndex index) answers.Dropped }
+        ensures bound { steps_of seat.new ≡ 1 }
+    {
+        match self.call(seat, Call::DropIndex { index }) {
+            Answer::Dropped => {}
+            _ => unreachable!(),
+        }
+    }
+
+    /// What the row that stands at an index shows of the key, or none where no row stands there. The row may
+    /// have been replaced long ago. Whatever the other threads do, it takes no more steps than `bound` says.
+    #[tactic(auto, using(crate::proofs::Bounded::looked_bounded, crate::proofs::Bounded::unlooked_bounded, crate::proofs::Kept::looked_stood, crate::proofs::Kept::unlooked_stood, crate::proofs::Kept::look_may))]
+    pub fn look(&self, seat: &mut Seat, index: u32, key: u64) -> Option<Looked>
+        requires of { IsOf seat.old self.now }
+        requires kept { 2 ≤ index }
+        requires range { index < self.now.layout.config.indexes }
+        ensures of { IsOf seat.new self.now }
+        ensures made { IsMade self.now.layout seat.old seat.new (calls.Look index key) (look_answer result) }
+        ensures stood { option_map (λ looked. looked.slot) result ≡ stands_at seat.old index }
+        ensures bound { MatchOption result (steps_of seat.new ≡ 1) (λ _. steps_of seat.new ≤ 3 + self.now.layout.config.pairs) }
+    {
+        match self.call(seat, Call::Look { index, key }) {
+            Answer::Looked {
+                slot,
+                version,
+                value,
+            } => Some(Looked {
+                slot,
+                version,
+                value,
+            }),
+            Answer::Nothing => None,
             _ => unreachable!(),
         }
     }

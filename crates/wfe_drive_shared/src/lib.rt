@@ -12,7 +12,8 @@ mod shared;
 mod words;
 
 pub use calls::{
-    Done, Empty, EnqueueRefusal, Got, PutRefusal, Queued, RemoveRefusal, Scanned, Taken,
+    Done, Empty, EnqueueRefusal, Got, Looked, PutIfRefusal, PutRefusal, Queued, RemoveRefusal,
+    Scanned, Taken,
 };
 pub use close::CloseError;
 pub use facts::seats_meet_no_more_than_there_is;

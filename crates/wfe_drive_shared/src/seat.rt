@@ -2,6 +2,7 @@
 ghost use Rattle.std.specs.Prelude.{◌≡◌, ◌<◌, ◌≤◌, ◌∷◌, [], All, IfOk, IfSome, true, Some, None};
 ghost use Rattle.wfe_core.specs.words.Place.{is_valid};
 ghost use Rattle.wfe_core.specs.Held.{notes_of, report_of};
+ghost use Rattle.wfe_core.specs.Locals.{may_begin};
 ghost use Rattle.law_logs.specs.Versions.{met_by, met_in, seen_in, version_told};
 ghost use Rattle.wfe_drive_rule.specs.Handles.{IsGathered, IsResting, IsSeated, IsSized};
 ghost use Rattle.wfe_drive_rule.specs.Views.{fresh_track, own, seat_of};
@@ -71,6 +72,7 @@ impl Seat {
         requires table { self.old.table ≡ ledger.now.table_id }
         requires layout { self.old.track.local.post.layout ≡ ledger.now.key }
         requires sized { IsSized ledger.now.table_id ledger.now.key }
+        requires may { may_begin ledger.now.key.config call ≡ true }
         ensures table { self.new.table ≡ self.old.table }
         ensures layout { self.new.track.local.post.layout ≡ self.old.track.local.post.layout }
         ensures made { IsMade ledger.now.key self.old self.new call result }
@@ -87,6 +89,7 @@ impl Seat {
         requires table { self.old.table ≡ ledger.now.table_id }
         requires layout { self.old.track.local.post.layout ≡ ledger.now.key }
         requires sized { IsSized ledger.now.table_id ledger.now.key }
+        requires may { may_begin ledger.now.key.config call ≡ true }
         ensures table { self.new.table ≡ self.old.table }
         ensures layout { self.new.track.local.post.layout ≡ self.old.track.local.post.layout }
         ensures made { IsMade ledger.now.key self.old self.new call result }
@@ -133,7 +136,8 @@ impl Seat {
     }
 
     /// The greatest version that a call of this seat has answered for the bucket, the number of a
-    /// refused change of a bucket at its last version included; 0 before the first.
+    /// refused change of a bucket at its last version included, and what looks show left aside; 0 before
+    /// the first.
     pub fn seen(&self, bucket: u32) -> u64
         requires { bucket < self.now.track.local.post.layout.config.buckets }
         ensures { result ≡ seen_in self.now.track.local.post.layout.config.buckets bucket self.now.track.local.log }
@@ -178,6 +182,13 @@ fn version_told(call: Call, answer: Answer) -> Option<(u64, u64)>
         },
         Call::Put { key, .. } => match answer {
             Answer::Done { version, .. } | Answer::BucketFull { version } => Some((key, version)),
+            Answer::Spent { number } => Some((key, number)),
+            _ => None,
+        },
+        Call::PutIf { key, .. } => match answer {
+            Answer::Done { version, .. }
+            | Answer::BucketFull { version }
+            | Answer::Stale { version } => Some((key, version)),
             Answer::Spent { number } => Some((key, number)),
             _ => None,
         },

@@ -5,8 +5,8 @@ ghost use Rattle.wfe_drive_shared.specs.Public.{IsOf};
 use std::alloc::Global;
 use std::test::Fail;
 use wfe_drive_shared::{
-    Answer, Call, Closed, Config, Done, Empty, EnqueueRefusal, PutRefusal, Queued, RemoveRefusal,
-    SchemeKind, Seat, Shared, Taken,
+    Answer, Call, Closed, Config, Done, Empty, EnqueueRefusal, Looked, PutIfRefusal, PutRefusal,
+    Queued, RemoveRefusal, SchemeKind, Seat, Shared, Taken,
 };
 
 /// A table and its seats, in number order. Each method tests what the table needs of its caller, and
@@ -47,7 +47,7 @@ impl Bench {
         if number >= self.seats.len() {
             return None;
         }
-        Some(make(&self.shared, &mut self.seats[number], call))
+        make(&self.shared, &mut self.seats[number], call)
     }
 
     /// Ends the table with all of its seats.
@@ -57,37 +57,76 @@ impl Bench {
     }
 }
 
-fn make(shared: &Shared, seat: &mut Seat, call: Call) -> Answer
+fn make(shared: &Shared, seat: &mut Seat, call: Call) -> Option<Answer>
+    requires { IsOf seat.old shared.now }
+    ensures { IsOf seat.new shared.now }
+{
+    match call {
+        Call::Advance => Some(Answer::Clock {
+            outcome: shared.advance(seat),
+        }),
+        Call::Scan => {
+            let scanned = shared.scan(seat);
+            Some(Answer::Scanned {
+                kept: scanned.kept,
+                back: scanned.back,
+            })
+        }
+        Call::Hold { .. } | Call::Release => keep(shared, seat, call),
+        Call::Copy { .. } | Call::DropIndex { .. } | Call::Look { .. } => keep(shared, seat, call),
+        _ => change(shared, seat, call),
+    }
+}
+
+// A call on the map or on the queue.
+fn change(shared: &Shared, seat: &mut Seat, call: Call) -> Option<Answer>
     requires { IsOf seat.old shared.now }
     ensures { IsOf seat.new shared.now }
 {
     match call {
         Call::Get { key } => {
             let got = shared.get(seat, key);
-            Answer::Got {
+            Some(Answer::Got {
                 version: got.version,
                 value: got.value,
-            }
+            })
         }
-        Call::Put { key, value } => put_answer(shared.put(seat, key, value)),
-        Call::Remove { key } => remove_answer(shared.remove(seat, key)),
-        Call::Enqueue { value } => enqueue_answer(shared.enqueue(seat, value)),
-        Call::Dequeue => dequeue_answer(shared.dequeue(seat)),
-        Call::Hold { key } => hold_answer(shared.hold(seat, key)),
+        Call::Put { key, value } => Some(put_answer(shared.put(seat, key, value))),
+        Call::PutIf {
+            key,
+            value,
+            version,
+        } => Some(put_if_answer(shared.put_if(seat, key, value, version))),
+        Call::Remove { key } => Some(remove_answer(shared.remove(seat, key))),
+        Call::Enqueue { value } => Some(enqueue_answer(shared.enqueue(seat, value))),
+        Call::Dequeue => Some(dequeue_answer(shared.dequeue(seat))),
+        _ => None,
+    }
+}
+
+// A call on the rows that the seat keeps, where the table has the indexes and rows may be kept there.
+fn keep(shared: &Shared, seat: &mut Seat, call: Call) -> Option<Answer>
+    requires { IsOf seat.old shared.now }
+    ensures { IsOf seat.new shared.now }
+{
+    let indexes = shared.layout().config().indexes;
+    match call {
+        Call::Hold { key } => Some(hold_answer(shared.hold(seat, key))),
         Call::Release => {
             shared.release(seat);
-            Answer::Released
+            Some(Answer::Released)
         }
-        Call::Advance => Answer::Clock {
-            outcome: shared.advance(seat),
-        },
-        Call::Scan => {
-            let scanned = shared.scan(seat);
-            Answer::Scanned {
-                kept: scanned.kept,
-                back: scanned.back,
-            }
+        Call::Copy { from, index } if 2 <= from && from < index && index < indexes => {
+            Some(copy_answer(shared.copy(seat, from, index)))
         }
+        Call::DropIndex { index } if 2 <= index && index < indexes => {
+            shared.drop_index(seat, index);
+            Some(Answer::Dropped)
+        }
+        Call::Look { index, key } if 2 <= index && index < indexes => {
+            Some(look_answer(shared.look(seat, index, key)))
+        }
+        _ => None,
     }
 }
 
@@ -97,6 +136,16 @@ fn put_answer(answer: Result<Done, PutRefusal>) -> Answer {
         Err(PutRefusal::Full) => Answer::Full,
         Err(PutRefusal::BucketFull { version }) => Answer::BucketFull { version },
         Err(PutRefusal::Spent { number }) => Answer::Spent { number },
+    }
+}
+
+fn put_if_answer(answer: Result<Done, PutIfRefusal>) -> Answer {
+    match answer {
+        Ok(Done { version, clock }) => Answer::Done { version, clock },
+        Err(PutIfRefusal::Stale { version }) => Answer::Stale { version },
+        Err(PutIfRefusal::Spent { number }) => Answer::Spent { number },
+        Err(PutIfRefusal::BucketFull { version }) => Answer::BucketFull { version },
+        Err(PutIfRefusal::Full) => Answer::Full,
     }
 }
 
@@ -137,6 +186,30 @@ fn dequeue_answer(answer: Result<Taken, Empty>) -> Answer {
 fn hold_answer(answer: Option<u32>) -> Answer {
     match answer {
         Some(slot) => Answer::Holding { slot },
+        None => Answer::Nothing,
+    }
+}
+
+fn copy_answer(answer: Option<u32>) -> Answer {
+    match answer {
+        Some(slot) => Answer::Copied { slot },
+        None => Answer::Nothing,
+    }
+}
+
+fn look_answer(answer: Option<Looked>) -> Answer {
+    match answer {
+        Some(
+            Looked {
+                slot,
+                version,
+                value,
+            },
+        ) => Answer::Looked {
+            slot,
+            version,
+            value,
+        },
         None => Answer::Nothing,
     }
 }

@@ -7,6 +7,10 @@ mod bench;
 #[cfg(test)]
 mod closing;
 #[cfg(test)]
+mod kept;
+#[cfg(test)]
 mod one_thread;
 #[cfg(test)]
 mod parts;
+#[cfg(test)]
+mod versions;

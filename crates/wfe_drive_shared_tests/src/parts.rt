@@ -106,3 +106,11 @@ pub fn double(scheme: SchemeKind) -> Config {
         ..single(scheme)
     }
 }
+
+/// The same with an index more, at which rows may be kept.
+pub fn keeping(scheme: SchemeKind) -> Config {
+    Config {
+        indexes: 4,
+        ..double(scheme)
+    }
+}

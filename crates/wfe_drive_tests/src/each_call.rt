@@ -6,7 +6,7 @@ use crate::parts::{Part, play_parts};
 use std::process::Abort;
 use std::test::Fail;
 use wfe_core::{Answer, Call, ClockMove, Config, SchemeKind};
-use wfe_drive_bench::Bench;
+use wfe_drive_bench::on_bench;
 
 const HE: SchemeKind = SchemeKind::He;
 
@@ -84,8 +84,7 @@ fn scanned(kept: u32, back: u32) -> Answer {
 
 // Plays the parts on a table of this setting.
 fn play<R: Abort + AllocGlobal>(rt: &R, config: Config, parts: &[(u32, Part)]) -> Result<(), Fail> {
-    let mut bench = Bench::new(rt.alloc(), config)?;
-    play_parts(rt, &mut bench, parts)
+    on_bench(rt.alloc(), config, |bench| play_parts(rt, bench, parts))
 }
 
 #[test]

@@ -4,7 +4,7 @@ use crate::parts::play_parts;
 use std::process::Abort;
 use std::test::Fail;
 use wfe_core::{Answer, Call, ClockMove, Config, Event, Guard, Interval, SchemeKind};
-use wfe_drive_bench::Bench;
+use wfe_drive_bench::{Bench, on_bench};
 
 // Two seats of Wait-Free Eras that try once.
 const PAIR: Config = Config {
@@ -39,8 +39,7 @@ fn reserve(guard: Guard, era: u32) -> Event {
 
 // The first row is linked, and seat 0's protection of it at index 2 has loaded the clock, published era 1 and
 // loaded the link. Then seat 1 moves the clock to 2.
-fn overtaken_once<R: Abort + AllocGlobal>(rt: &R) -> Result<Bench, Fail> {
-    let mut bench = Bench::new(rt.alloc(), PAIR)?;
+fn overtake_once<R: Abort>(rt: &R, bench: &mut Bench) -> Result<(), Fail> {
     let done = Answer::Done {
         version: 1,
         clock: ClockMove::Still,
@@ -51,8 +50,7 @@ fn overtaken_once<R: Abort + AllocGlobal>(rt: &R) -> Result<Bench, Fail> {
         (0, Goes(3)),
         (1, Makes(Call::Advance, MOVE, moved(2))),
     ];
-    play_parts(rt, &mut bench, &parts)?;
-    Ok(bench)
+    play_parts(rt, bench, &parts)
 }
 
 // Whether seat 0 told just these events, in this order, from the place of the record on.
@@ -68,12 +66,11 @@ fn expect_told<R: Abort>(rt: &R, bench: &Bench, from: usize, want: &[Event]) {
     assert_eq!(rt; place, want.len());
 }
 
-#[test]
-fn a_reader_whose_try_fails_answers_its_own_request(rt: HostRuntime) -> Result<(), Fail> {
-    let mut bench = overtaken_once(&rt)?;
+fn answer_own_request<R: Abort>(rt: &R, bench: &mut Bench) -> Result<(), Fail> {
+    overtake_once(rt, bench)?;
     let from = bench.record.len();
     let answer = Answer::Holding { slot: 0 };
-    play_parts(&rt, &mut bench, &[(0, Ends(14, answer))])?;
+    play_parts(rt, bench, &[(0, Ends(14, answer))])?;
     let index = Guard::Index { seat: 0, index: 2 };
     let helper = Guard::Helper { seat: 0 };
     let want = [
@@ -91,8 +88,13 @@ fn a_reader_whose_try_fails_answers_its_own_request(rt: HostRuntime) -> Result<(
         },
         Event::End { steps: 14, answer },
     ];
-    expect_told(&rt, &bench, from, &want);
+    expect_told(rt, bench, from, &want);
     Ok(())
+}
+
+#[test]
+fn a_reader_whose_try_fails_answers_its_own_request(rt: HostRuntime) -> Result<(), Fail> {
+    on_bench(rt.alloc(), PAIR, |bench| answer_own_request(&rt, bench))
 }
 
 // Seat 1 stands at its next exchange of the clock before the request is published, so it does not meet
@@ -100,9 +102,8 @@ fn a_reader_whose_try_fails_answers_its_own_request(rt: HostRuntime) -> Result<(
 // meets the request: it answers it with the first row and era 3, hands this reservation over to the reader's
 // index word, and moves the clock to 4, all after the reader's twelfth step. Both turns under the
 // helper word are lost then, and the reader finds the answer.
-#[test]
-fn a_reader_that_loses_both_turns_takes_the_movers_answer(rt: HostRuntime) -> Result<(), Fail> {
-    let mut bench = overtaken_once(&rt)?;
+fn take_movers_answer<R: Abort>(rt: &R, bench: &mut Bench) -> Result<(), Fail> {
+    overtake_once(rt, bench)?;
     let parts = [
         (1, Begins(Call::Advance)),
         (1, Goes(3)),
@@ -110,10 +111,10 @@ fn a_reader_that_loses_both_turns_takes_the_movers_answer(rt: HostRuntime) -> Re
         (1, Ends(MOVE, moved(3))),
         (0, Goes(5)),
     ];
-    play_parts(&rt, &mut bench, &parts)?;
+    play_parts(rt, bench, &parts)?;
     let before = bench.record.len();
     let meets = Makes(Call::Advance, MOVE + 7, moved(4));
-    play_parts(&rt, &mut bench, &[(1, meets)])?;
+    play_parts(rt, bench, &[(1, meets)])?;
     let index = Guard::Index { seat: 0, index: 2 };
     let handed = bench
         .record
@@ -123,7 +124,7 @@ fn a_reader_that_loses_both_turns_takes_the_movers_answer(rt: HostRuntime) -> Re
     assert!(rt; handed);
     let from = bench.record.len();
     let answer = Answer::Holding { slot: 0 };
-    play_parts(&rt, &mut bench, &[(0, Ends(17, answer))])?;
+    play_parts(rt, bench, &[(0, Ends(17, answer))])?;
     let want = [
         reserve(index, 3),
         Event::Held {
@@ -137,6 +138,11 @@ fn a_reader_that_loses_both_turns_takes_the_movers_answer(rt: HostRuntime) -> Re
         },
         Event::End { steps: 17, answer },
     ];
-    expect_told(&rt, &bench, from, &want);
+    expect_told(rt, bench, from, &want);
     Ok(())
+}
+
+#[test]
+fn a_reader_that_loses_both_turns_takes_the_movers_answer(rt: HostRuntime) -> Result<(), Fail> {
+    on_bench(rt.alloc(), PAIR, |bench| take_movers_answer(&rt, bench))
 }

@@ -1,7 +1,6 @@
 -- How a get ends under 2GE, where its seat holds no row.
-use Rattle.std.proofs.Common.{Bool, List, None, Option, Some, [], ap, arith, refl, sym, true, ℕ, ◌+◌, ◌-◌, ◌++◌, ◌==◌, ◌∙◌, ◌∷◌, ◌≡◌, ◌≢◌, if◌then◌else◌, slice_set}
+use Rattle.std.proofs.Common.{Bool, List, None, Option, Some, [], ap, arith, refl, sym, true, ℕ, ◌+◌, ◌-◌, ◌++◌, ◌==◌, ◌∙◌, ◌∷◌, ◌≡◌, drop, if◌then◌else◌, slice_set}
 use Rattle.std.proofs.lemmas.Bool.{eq-eqb}
-use Rattle.std.proofs.lemmas.List.{get_or-set_other}
 use Rattle.wfe_core.specs.words.Schemes.{has_one_interval}
 use Rattle.wfe_core.specs.words.declared.config.SchemeKind.{SchemeKind}
 use Rattle.wfe_core.specs.words.declared.config.SchemeKind.TheVariants.{Ibr}
@@ -28,7 +27,7 @@ use Rattle.wfe_core.specs.Steps.{first_phase}
 use Rattle.wfe_core.specs.declared.desk.Desk.{Desk as HeldDesk}
 use Rattle.wfe_core.specs.declared.op.Op.{Op}
 use Rattle.wfe_core.specs.Posts.{cleared, stands, withdrawn}
-use Rattle.wfe_core.specs.Rounds.{begin_span, begin_where, bucket_of, clearing_by, finish_base, finish_span, finishing_by, protect_base, root_of, round_by, scheme_of}
+use Rattle.wfe_core.specs.Rounds.{begin_span, begin_where, bucket_of, clearing_by, finish_base, finish_span, finishing_by, first_row, kept_row, protect_base, root_of, round_by, scheme_of}
 use Rattle.wfe_core.specs.declared.post.Post.{Post}
 use Rattle.wfe_drive_cells.specs.Unit.{SeatView, seat_after}
 use Rattle.wfe_drive_words.specs.Called.{Here, at_phase}
@@ -47,7 +46,7 @@ cleared-noted notes (Some slot) = refl
 abbrev pub ends_at : ℕ → (version : ℕ) → Option ℕ → Post → Desk → SeatView
 ends_at key version value post desk = record { phase = Runs (Finishes (Gets key) (Answering (answers.Got version value))) Finish; post = post; desk = desk }
 
-pub got_ends : (key version : ℕ) (value : Option ℕ) (post : Post) (desk : Desk) (told : List Event) → has_one_interval (scheme_of post) ≡ true → stands (withdrawn post 0) 2 ≡ None
+pub got_ends : (key version : ℕ) (value : Option ℕ) (post : Post) (desk : Desk) (told : List Event) → has_one_interval (scheme_of post) ≡ true → kept_row (withdrawn post 0) ≡ None
     → noted_all desk.notes (told ++ events.Got (bucket_of post key) version key value ∷ [] ++ cleared 0 (stands post 0) ++ []) ≡ desk.notes
     → seat_after (got key version value post desk told) ≡ ends_at key version value (withdrawn post 0) desk
 got_ends key version value post desk told one free quiet =
@@ -58,25 +57,27 @@ got_ends key version value post desk told one free quiet =
     let clears : Bool → SeatView = λ b. seat_after (clearing_by (Gets key) (Answering answer) post desk first (if b then None else Some (Clear 0))) in
     let closed : Bool → Post = λ b. if b then left else post in
     let closes : Bool → SeatView = λ b. seat_after (finishing_by (Gets key) (Answering answer) (closed b) desk (first ++ (if b then cleared 0 (stands post 0) else [])) (finish_base (scheme_of (closed b)) (closed b))) in
-    let finishes : Bool → SeatView = λ b. seat_after (finishing_by (Gets key) (Answering answer) left desk more (if b then finish_span (stands left 2) else None)) in
+    let finishes : Bool → SeatView = λ b. seat_after (finishing_by (Gets key) (Answering answer) left desk more (if b then finish_span (kept_row left) else None)) in
     let last : Option ℕ → SeatView = λ held. seat_after (finishing_by (Gets key) (Answering answer) left desk more (finish_span held)) in
     ap clears one ∙ ap closes one ∙ ap finishes one ∙ ap last free ∙ ap (λ (notes : Notes). ends_at key version value left (record desk { notes = notes })) quiet
 
 -- of a row that was read, or of none
-stands-left : (null : Bool) (post : Post) (slot steps : ℕ) → stands post 2 ≡ None → stands (withdrawn (record (standing_by null post slot) { steps = steps }) 0) 2 ≡ None
-stands-left null post slot steps free =
-    let other : 2 ≢ 0 = λ e. absurd (omega (arith, e)) in
-    ap (λ (p : Post). stands p 2) (post-cleared null post slot steps) ∙ get_or-set_other post.standing 0 2 None None other ∙ free
+kept-beside : (rows : List (Option ℕ)) → first_row (drop 2 (slice_set rows 0 None)) ≡ first_row (drop 2 rows)
+kept-beside [] = refl
+kept-beside (row ∷ rows) = refl
 
-pub found_ends : (key : ℕ) (post : Post) (bucket link : ℕ) (desk : Desk) (steps : ℕ) (found : Found) → scheme_of post ≡ Ibr → stands post 2 ≡ None
+kept-left : (null : Bool) (post : Post) (slot steps : ℕ) → kept_row post ≡ None → kept_row (withdrawn (record (standing_by null post slot) { steps = steps }) 0) ≡ None
+kept-left null post slot steps free = ap kept_row (post-cleared null post slot steps) ∙ kept-beside post.standing ∙ free
+
+pub found_ends : (key : ℕ) (post : Post) (bucket link : ℕ) (desk : Desk) (steps : ℕ) (found : Found) → scheme_of post ≡ Ibr → kept_row post ≡ None
     → found_at key (held_reader post bucket link desk steps) found ≡ ending_at key post desk steps found
 found_ends key post bucket link desk steps found kind free =
     let p : Post = read_post (held_reader post bucket link desk steps) found.steps in
     let one : has_one_interval (scheme_of p) ≡ true = ap has_one_interval (scheme-stays (link == 0) post (link - 1) ∙ kind) in
-    got_ends key found.version found.value p desk [] one (stands-left (link == 0) post (link - 1) (steps + found.steps) free) (cleared-noted desk.notes (stands p 0))
+    got_ends key found.version found.value p desk [] one (kept-left (link == 0) post (link - 1) (steps + found.steps) free) (cleared-noted desk.notes (stands p 0))
     ∙ ap (λ (q : Post). ends_at key found.version found.value q desk) (post-cleared (link == 0) post (link - 1) (steps + found.steps))
 
-pub null_ends : (key : ℕ) (post : Post) (bucket link n era : ℕ) (desk : Desk) (steps : ℕ) → scheme_of post ≡ Ibr → stands post 2 ≡ None → link ≡ 0
+pub null_ends : (key : ℕ) (post : Post) (bucket link n era : ℕ) (desk : Desk) (steps : ℕ) → scheme_of post ≡ Ibr → kept_row post ≡ None → link ≡ 0
     → held_at (get_trial key desk 0) 0 (roots.Bucket bucket) n link era steps post ≡ ending_at key post desk steps (record { version = 0; value = None; steps = 0 })
 null_ends key post bucket link n era desk steps kind free e =
     let p : Post = record post { steps = steps } in
@@ -84,7 +85,7 @@ null_ends key post bucket link n era desk steps kind free e =
     let one : has_one_interval (scheme_of p) ≡ true = ap has_one_interval kind in
     let zero : steps ≡ steps + 0 = omega arith in
     ap (held_by key n (link - 1) era p desk) test
-    ∙ got_ends key 0 None p desk (events.Null 0 n ∷ []) one (stands-left true post 0 steps free) (cleared-noted desk.notes (stands p 0))
+    ∙ got_ends key 0 None p desk (events.Null 0 n ∷ []) one (kept-left true post 0 steps free) (cleared-noted desk.notes (stands p 0))
     ∙ ap (λ (k : ℕ). ends_at key 0 None (record post { standing = slice_set post.standing 0 None; steps = k }) desk) zero
 
 -- a get begins with an interval, and then protects its bucket's root

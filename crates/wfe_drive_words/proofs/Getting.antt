@@ -25,7 +25,7 @@ use Rattle.wfe_core.specs.Memory.{Store, numbered}
 use Rattle.wfe_core.specs.Phases.Base.{Clear}
 use Rattle.wfe_core.specs.Phases.Ending.{Protected}
 use Rattle.wfe_core.specs.Posts.{cleared, index_word, reserves_index, stands, with_row, withdrawn}
-use Rattle.wfe_core.specs.Rounds.{begin_where, bucket_of, clearing_by, finish_span, finishing_by, protect_at, protect_base, root_of, round_by, scheme_of}
+use Rattle.wfe_core.specs.Rounds.{begin_where, bucket_of, clearing_by, finish_span, finishing_by, kept_row, protect_at, protect_base, root_of, round_by, scheme_of}
 use Rattle.wfe_core.specs.Steps.{first_phase, opened}
 use Rattle.wfe_core.specs.declared.ends.ProtectEnd.TheVariants as protect_ends
 use Rattle.wfe_core.specs.declared.desk.Desk.{Desk as HeldDesk}
@@ -81,7 +81,7 @@ closed_by key post bucket link held new steps found n one d s =
     let left : Post = withdrawn stood 0 in
     let told : List Event = cleared 0 (stands stood 0) ++ reserves_index stood 0 0 in
     let none : has_one_interval (scheme_of left) ≡ false = ap has_one_interval (scheme-stays null post (link - 1)) ∙ one in
-    let turn : taken seat n ≡ calls.answers left desk told answer = ap (λ (has : Bool). finishing_by (Gets key) (Answering answer) left desk told (if has then finish_span (stands left 2) else None)) none in
+    let turn : taken seat n ≡ calls.answers left desk told answer = ap (λ (has : Bool). finishing_by (Gets key) (Answering answer) left desk told (if has then finish_span (kept_row left) else None)) none in
     let noted : noting desk (told ++ events.End total answer ∷ []) ≡ desk_of new = ap (λ (notes : Notes). let k : Desk = record desk { notes = notes } in k) (end-noted desk.notes (stands stood 0) (guards.Index stood.seat 0) (one_era 0) total answer) ∙ sym d in
     let is : seat_after (taken seat n) ≡ at_phase Idle (record post { standing = slice_set post.standing 0 None; steps = total }) new =
     ap seat_after turn

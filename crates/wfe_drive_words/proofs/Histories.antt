@@ -49,7 +49,7 @@ may_take l n g b =
 -- the answers along a history
 answers_kept : (layout : Layout) (items : List Item) → is_valid layout ≡ true → Keeps layout.config.buckets (made_of layout items)
 answers_kept layout items d =
-    items_keep (Keeps layout.config.buckets) (record { begins = λ made i call b y g. begin_keeps layout.config.buckets made i call y g; steps = λ made i b y g. step_keeps layout.config.buckets made i b y g })
+    items_keep (Keeps layout.config.buckets) (record { begins = λ made i call b y m g. begin_keeps layout.config.buckets made i call y m g; steps = λ made i b y g. step_keeps layout.config.buckets made i b y g })
     items (first_made layout) (first_keeps layout d)
 
 pub settles : (l : Local) (n : ℕ) → Given l n → busy_in l.phase ≡ true → Settles l n

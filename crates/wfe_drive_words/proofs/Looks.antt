@@ -12,6 +12,7 @@ use Rattle.wfe_core.specs.Phases.ProtectAt.{CheckUpper, LoadWithin, RaiseUpper}
 use Rattle.wfe_core.specs.Protect.{protected}
 use Rattle.wfe_core.specs.Spans.{eras_word}
 use Rattle.wfe_core.specs.Steps.{run_turn}
+use Rattle.wfe_core.specs.Valid.{IsValid}
 use Rattle.wfe_core.specs.declared.op.Op.{Op}
 use Rattle.wfe_core.specs.declared.post.Post.{Post}
 use Rattle.wfe_drive_cells.specs.Unit.{SeatView, seat_after}
@@ -84,26 +85,30 @@ raised t index root lo hi seen post n x s =
 abbrev pub looking : Trial → (made steps : ℕ) → Trial
 looking t made steps = record t { made = made; steps = t.steps + steps }
 
-pub looks_none : (at : Local → Type 0) (stands : List (Op × ℕ) → Type 0) (t : Trial) (index : ℕ) (root : Root) (lo : ℕ) (post : Post)
-    → (n : ℕ) × Leads at at stands stands (protecting t index root LoadWithin (spanned post lo lo)) (protecting (looking t n 0) index root LoadWithin (spanned post lo lo))
-looks_none at stands t index root lo post =
+pub looks_none : (at : Local → Type 0) (stands : List (Op × ℕ) → Type 0) (t : Trial) (index : ℕ) (root : Root) (lo hi : ℕ) (post : Post)
+    → (n : ℕ) × Leads at at stands stands (protecting t index root LoadWithin (spanned post lo hi)) (protecting (looking t n 0) index root LoadWithin (spanned post lo hi))
+looks_none at stands t index root lo hi post =
     let e : t.steps ≡ t.steps + 0 = omega arith in
-    (t.made, leads_as _ _ (ap (λ (steps : ℕ). protecting (record t { steps = steps }) index root LoadWithin (spanned post lo lo)) e) (leads_none at stands (protecting t index root LoadWithin (spanned post lo lo))))
+    (t.made, leads_as _ _ (ap (λ (steps : ℕ). protecting (record t { steps = steps }) index root LoadWithin (spanned post lo hi)) e) (leads_none at stands (protecting t index root LoadWithin (spanned post lo hi))))
 
-pub looks_more : {at0 at1 at2 : Local → Type 0} {stands0 stands1 stands2 : List (Op × ℕ) → Type 0} (t : Trial) (index : ℕ) (root : Root) (lo hi seen : ℕ) (post : Post) (n steps : ℕ)
-    → Leads at0 at1 stands0 stands1 (protecting t index root LoadWithin (spanned post lo lo)) (protecting (looking t n steps) index root LoadWithin (spanned post lo hi))
+pub looks_more : {at0 at1 at2 : Local → Type 0} {stands0 stands1 stands2 : List (Op × ℕ) → Type 0} (t : Trial) (index : ℕ) (root : Root) (lo first hi seen : ℕ) (post : Post) (n steps : ℕ)
+    → Leads at0 at1 stands0 stands1 (protecting t index root LoadWithin (spanned post lo first)) (protecting (looking t n steps) index root LoadWithin (spanned post lo hi))
     → Leads at1 at2 stands1 stands2 (protecting (looking t n steps) index root LoadWithin (spanned post lo hi)) (looked_at (looking t n steps) index root lo hi post (Raised seen))
-    → (m : ℕ) × Leads at0 at2 stands0 stands2 (protecting t index root LoadWithin (spanned post lo lo)) (protecting (looking t m (steps + 3)) index root LoadWithin (spanned post lo seen))
-looks_more t index root lo hi seen post n steps x y =
+    → (m : ℕ) × Leads at0 at2 stands0 stands2 (protecting t index root LoadWithin (spanned post lo first)) (protecting (looking t m (steps + 3)) index root LoadWithin (spanned post lo seen))
+looks_more t index root lo first hi seen post n steps x y =
     let m : ℕ = bump (bump (bump n)) in
     let e : t.steps + steps + 3 ≡ t.steps + (steps + 3) = omega arith in
     (m, leads_as _ _ (ap (λ (s : ℕ). protecting (record t { made = m; steps = s }) index root LoadWithin (spanned post lo seen)) e) (then_leads x y))
 
-pub looks_held : {at0 at1 at2 : Local → Type 0} {stands0 stands1 stands2 : List (Op × ℕ) → Type 0} (t : Trial) (index : ℕ) (root : Root) (lo hi link : ℕ) (post : Post) (n steps : ℕ)
-    → Leads at0 at1 stands0 stands1 (protecting t index root LoadWithin (spanned post lo lo)) (protecting (looking t n steps) index root LoadWithin (spanned post lo hi))
+pub looks_held : {at0 at1 at2 : Local → Type 0} {stands0 stands1 stands2 : List (Op × ℕ) → Type 0} (t : Trial) (index : ℕ) (root : Root) (lo first hi link : ℕ) (post : Post) (n steps : ℕ)
+    → Leads at0 at1 stands0 stands1 (protecting t index root LoadWithin (spanned post lo first)) (protecting (looking t n steps) index root LoadWithin (spanned post lo hi))
     → Leads at1 at2 stands1 stands2 (protecting (looking t n steps) index root LoadWithin (spanned post lo hi)) (looked_at (looking t n steps) index root lo hi post (Stands link))
-    → (m : ℕ) × Leads at0 at2 stands0 stands2 (protecting t index root LoadWithin (spanned post lo lo)) (within_at t index root lo post m (record { link = link; era = hi; steps = steps + 2 }))
-looks_held t index root lo hi link post n steps x y =
+    → (m : ℕ) × Leads at0 at2 stands0 stands2 (protecting t index root LoadWithin (spanned post lo first)) (within_at t index root lo post m (record { link = link; era = hi; steps = steps + 2 }))
+looks_held t index root lo first hi link post n steps x y =
     let m : ℕ = bump (bump n) in
     let e : t.steps + steps + 2 ≡ t.steps + (steps + 2) = omega arith in
     (m, leads_as _ _ (ap (λ (s : ℕ). held_at t index root m link hi s (spanned post lo hi)) e) (then_leads x y))
+
+-- steps do not make a post less valid
+pub valid_steps : (post : Post) (steps : ℕ) → IsValid post → IsValid (record post { steps = steps })
+valid_steps post steps v = record { layout = v.layout; bounds = v.bounds; seat = v.seat; cursor = v.cursor; tags = v.tags; standing = v.standing; span = v.span; all_tags = v.all_tags; all_standing = v.all_standing }

@@ -8,7 +8,7 @@ use Rattle.wfe_core.specs.Calls.{Answers, CallOutcome, CallTurn, GoesOn, Idle, P
 use Rattle.wfe_core.specs.DeskHeld.{Took, desk_of}
 use Rattle.wfe_core.specs.Desks.{Desk, no_notes, noting}
 use Rattle.wfe_core.specs.Frames.{SamePlace}
-use Rattle.wfe_core.specs.Locals.{Local, after, asks, begun, begun_post, busy_in, rounds_told, settled_by, told_by, turn}
+use Rattle.wfe_core.specs.Locals.{Local, after, asks, begun, begun_post, busy_in, may_begin, rounds_told, settled_by, told_by, turn}
 use Rattle.wfe_core.specs.Steps.{first_phase}
 use Rattle.wfe_core.specs.declared.desk.Desk.{Desk as HeldDesk}
 use Rattle.wfe_core.specs.declared.op.Op.{Op}
@@ -140,6 +140,18 @@ makes_answer at0 at1 at2 stands0 stands1 stands2 first seat op n post held told 
   stands = stands_more stands0 stands1 stands2 d.ops (op, n) d.stands more;
 }
 
+-- what the words' clauses say of a call that begins, at each state
+abbrev pub Starts : (at_old at_new : Local → Type 0) → Call → Type 0
+Starts at_old at_new call = (l : Local) → at_old l → busy_in l.phase ≡ false → may_begin l.post.layout.config call ≡ true → at_new (begun l call)
+
+pub may_shown : (l : Local) (seat : SeatView) (call : Call) → shown l ≡ seat → may_begin seat.post.layout.config call ≡ true → may_begin l.post.layout.config call ≡ true
+may_shown l seat call e m = ap (λ (v : SeatView). may_begin v.post.layout.config call) e ∙ m
+
+-- the code may begin it
+pub starts_at : (at : Local → Type 0) (post : Post) (held : HeldDesk) (call : Call) → Here at (at_phase Idle post held) → may_begin post.layout.config call ≡ true
+    → (l : Local) × at l × (busy_in l.phase ≡ false) × (may_begin l.post.layout.config call ≡ true)
+starts_at at post held call h m = (h.local, h.there, busy_shown h.local (at_phase Idle post held) false h.is refl, may_shown h.local (at_phase Idle post held) call h.is m)
+
 -- a call begins
 begun_shown : (l : Local) (call : Call) (post : Post) (old new : HeldDesk) (phase : Phase) → shown l ≡ at_phase Idle post old → phase ≡ first_phase call (begun_post post) → desk_of new ≡ record (desk_of old) { notes = no_notes }
     → shown (begun l call) ≡ at_phase phase (begun_post post) new
@@ -149,22 +161,22 @@ begun_shown l call post old new phase e p d =
     ∙ ap (λ (desk : Desk). let v : SeatView = record { phase = begins.phase; post = begins.post; desk = desk } in v) (sym d)
     ∙ ap (λ (x : Phase). let v : SeatView = record { phase = x; post = begins.post; desk = desk_of new } in v) (sym p)
 
-pub here_begun : (at_old at_new : Local → Type 0) (call : Call) (post : Post) (old new : HeldDesk) (phase : Phase) → Here at_old (at_phase Idle post old) → ((l : Local) → at_old l → busy_in l.phase ≡ false → at_new (begun l call))
+pub here_begun : (at_old at_new : Local → Type 0) (call : Call) (post : Post) (old new : HeldDesk) (phase : Phase) → Here at_old (at_phase Idle post old) → Starts at_old at_new call → may_begin post.layout.config call ≡ true
     → phase ≡ first_phase call (begun_post post) → desk_of new ≡ record (desk_of old) { notes = no_notes } → Here at_new (at_phase phase (begun_post post) new)
-here_begun at_old at_new call post old new phase h begins p d = record {
+here_begun at_old at_new call post old new phase h begins m p d = record {
   local = begun h.local call;
-  there = begins h.local h.there (busy_shown h.local (at_phase Idle post old) false h.is refl);
+  there = begins h.local h.there (busy_shown h.local (at_phase Idle post old) false h.is refl) (may_shown h.local (at_phase Idle post old) call h.is m);
   is = begun_shown h.local call post old new phase h.is p d;
 }
 
 -- and what it has made once it is answered
 pub called_by : (at0 at1 at2 : Local → Type 0) (stands0 stands1 stands2 : List (Op × ℕ) → Type 0) (call : Call) (answer : Answer) (post : Post) (old new : HeldDesk) (phase : Phase) (seat : SeatView)
-    → ((l : Local) → at0 l → busy_in l.phase ≡ false → at1 (begun l call)) → ((xs : List (Op × ℕ)) → stands0 xs → stands1 xs) → phase ≡ first_phase call (begun_post post) → desk_of new ≡ record (desk_of old) { notes = no_notes }
+    → Starts at0 at1 call → may_begin post.layout.config call ≡ true → ((xs : List (Op × ℕ)) → stands0 xs → stands1 xs) → phase ≡ first_phase call (begun_post post) → desk_of new ≡ record (desk_of old) { notes = no_notes }
     → Makes (λ ops l m. Answered l ops answer m) at1 at2 stands1 stands2 (at_phase phase (begun_post post) new) seat → Called call answer at0 at2 stands0 stands2 (at_phase Idle post old) seat
-called_by at0 at1 at2 stands0 stands1 stands2 call answer post old new phase seat begins stays p d m = record {
+called_by at0 at1 at2 stands0 stands1 stands2 call answer post old new phase seat begins may stays p d m = record {
   ops = m.ops;
   each = λ l a e.
-      let first : at1 (begun l call) = begins l a (busy_shown l (at_phase Idle post old) false e refl) in
+      let first : at1 (begun l call) = begins l a (busy_shown l (at_phase Idle post old) false e refl) (may_shown l (at_phase Idle post old) call e may) in
       let to : LeadsTo (λ ops l m. Answered l ops answer m) at2 seat m.ops (begun l call) = m.each (begun l call) first (begun_shown l call post old new phase e p d) in
       record { left = to.left; by = record { answered = to.by; left = left_by l call m.ops answer to.left to.by }; there = to.there; is = to.is };
   stands = λ xs s. m.stands xs (stays xs s);

@@ -1,4 +1,4 @@
-// A get under 2GE of a seat that holds no row: an interval begins, the row of the key's bucket is
+// A get under 2GE of a seat that keeps no row: an interval begins, the row of the key's bucket is
 // protected and read, and the interval ends.
 ghost use Rattle.std.specs.Prelude.{◌≡◌, ◌<◌, ◌+◌, ◌^◌, ℕ};
 ghost use Rattle.wfe_core.specs.words.Place.Place.{Interval};
@@ -11,8 +11,8 @@ ghost use Rattle.wfe_core.specs.DeskHeld.{HasRoom, desk_of};
 ghost use Rattle.wfe_core.specs.Desks.{Desk as ModelDesk};
 ghost use Rattle.wfe_core.specs.Memory.{Store as Stores, numbered};
 ghost use Rattle.wfe_core.specs.Phases.BeginAt.{LoadLower};
-ghost use Rattle.wfe_core.specs.Posts.{stands};
 ghost use Rattle.wfe_core.specs.Ready.{LinkFits};
+ghost use Rattle.wfe_core.specs.Rounds.{kept_row};
 ghost use Rattle.wfe_core.specs.Steps.{first_phase};
 ghost use Rattle.wfe_core.specs.Valid.{IsValid};
 ghost use Rattle.wfe_core.specs.declared.post.Post.{Post as ModelPost};
@@ -32,7 +32,7 @@ pub fn get_ibr<W: Words>(words: &mut W, post: &mut Post, desk: &mut Desk, key: u
     requires valid { W.valid words.old }
     requires scheme { post.old.layout.config.scheme ≡ IbrKind }
     requires span { post.old.span ≡ None }
-    requires free { stands post.old 2 ≡ None }
+    requires free { kept_row post.old ≡ None }
     requires here { Here (W.at words.old) (at_phase (first_phase (GetCall key) post.old) post.old desk.old) }
     requires room { HasRoom desk.old post.old.layout }
     ensures valid { W.valid words.new }
@@ -42,20 +42,21 @@ pub fn get_ibr<W: Words>(words: &mut W, post: &mut Post, desk: &mut Desk, key: u
         (at_phase (first_phase (GetCall key) post.old) post.old desk.old) (at_phase Idle post.new desk.new) }
 {
     let root = root_for(key, post);
-    let era = begin(words, post);
-    let guarded = protect_within(words, post, root, era);
+    let era = begin_span(words, post);
+    let guarded = protect_within(words, post, root, era, era);
     let found = find_within(words, post, key, guarded.link);
     end_get(words, post, desk, found, guarded.steps + 2)
 }
 
 // An interval begins, at the clock that it answers.
 #[inline(always)]
-fn begin<W: Words>(words: &mut W, post: &Post) -> u32
+pub fn begin_span<W: Words>(words: &mut W, post: &Post) -> u32
     requires valid { W.valid words.old }
     requires own { IsValid post.now }
     requires here { (task : Task) × (desk : ModelDesk) × (steps : ℕ) × Here (W.at words.old) (beginning_at task desk post.now steps LoadLower) }
     ensures valid { W.valid words.new }
     ensures same { W.same words.old words.new }
+    ensures rest { W.rest words.new < W.rest words.old }
     ensures leads { (task : Task) (desk : ModelDesk) (steps : ℕ) → Here (W.at words.old) (beginning_at task desk post.now steps LoadLower)
         → Leads (W.at words.old) (W.at words.new) (W.stands words.old) (W.stands words.new) (beginning_at task desk post.now steps LoadLower) (begun_at task desk post.now (steps + 2) result) }
 {
@@ -75,7 +76,7 @@ fn find_within<W: Words>(words: &mut W, post: &Post, key: u64, link: u32) -> Fou
     ensures valid { W.valid words.new }
     ensures same { W.same words.old words.new }
     ensures few { result.steps < 2 ^ 32 }
-    ensures leads { (p : ModelPost) (desk : ModelDesk) (bucket n era steps : ℕ) → p.layout ≡ post.now.layout → p.layout.config.scheme ≡ IbrKind → stands p 2 ≡ None
+    ensures leads { (p : ModelPost) (desk : ModelDesk) (bucket n era steps : ℕ) → p.layout ≡ post.now.layout → p.layout.config.scheme ≡ IbrKind → kept_row p ≡ None
         → Here (W.at words.old) (held_at (get_trial key desk 0) 0 (roots.Bucket bucket) n link era steps p)
         → Leads (W.at words.old) (W.at words.new) (W.stands words.old) (W.stands words.new)
         (held_at (get_trial key desk 0) 0 (roots.Bucket bucket) n link era steps p) (ending_at key p desk steps result) }
@@ -92,7 +93,7 @@ fn find_within<W: Words>(words: &mut W, post: &Post, key: u64, link: u32) -> Fou
 
 // A store of no interval into the seat's word.
 #[inline(always)]
-fn store_none(post: &Post) -> Op
+pub fn store_none(post: &Post) -> Op
     requires { IsValid post.now }
     ensures { result ≡ numbered post.now.layout (Stores (Interval post.now.seat) 0) }
 {

@@ -58,25 +58,26 @@ pub fn look<W: Words>(words: &mut W, post: &Post, root: Root, lo: u32, hi: u32) 
     Looked::Raised { era }
 }
 
-// A protection that begins under the interval of one era.
+// A protection under an interval from one era to another, of which the upper end is raised.
 #[inline(always)]
-pub fn protect_within<W: Words>(words: &mut W, post: &Post, root: Root, first: u32) -> Guarded
+pub fn protect_within<W: Words>(words: &mut W, post: &Post, root: Root, lo: u32, hi: u32) -> Guarded
     requires valid { W.valid words.old }
     requires own { IsValid post.now }
     requires root { RootFits post.now.layout root }
-    requires here { (t : Trial) × (index : ℕ) × Here (W.at words.old) (protecting t index root LoadWithin (spanned post.now first first)) }
+    requires here { (t : Trial) × (index : ℕ) × Here (W.at words.old) (protecting t index root LoadWithin (spanned post.now lo hi)) }
     ensures valid { W.valid words.new }
     ensures same { W.same words.old words.new }
     ensures rest { W.rest words.new < W.rest words.old }
     ensures fits { LinkFits post.now result.link }
+    ensures raised { IsValid (spanned post.now lo result.era) }
     ensures few { result.steps < 2 ^ 62 + 3 }
-    ensures leads { (t : Trial) (index : ℕ) → Here (W.at words.old) (protecting t index root LoadWithin (spanned post.now first first)) → (n : ℕ)
-        × Leads (W.at words.old) (W.at words.new) (W.stands words.old) (W.stands words.new) (protecting t index root LoadWithin (spanned post.now first first)) (within_at t index root first post.now n result) }
+    ensures leads { (t : Trial) (index : ℕ) → Here (W.at words.old) (protecting t index root LoadWithin (spanned post.now lo hi)) → (n : ℕ)
+        × Leads (W.at words.old) (W.at words.new) (W.stands words.old) (W.stands words.new) (protecting t index root LoadWithin (spanned post.now lo hi)) (within_at t index root lo post.now n result) }
 {
-    let mut era = first;
+    let mut era = hi;
     let mut steps = 0;
     loop {
-        match look(words, post, root, first, era) {
+        match look(words, post, root, lo, era) {
             Looked::Stands { link } => {
                 return Guarded {
                     link,

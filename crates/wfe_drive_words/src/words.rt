@@ -1,6 +1,6 @@
 // The words of a table in the hands of one seat, so that one loop makes calls on all kinds of them.
 ghost use Rattle.std.specs.Prelude.{◌≡◌, ◌<◌, ◌++◌, ◌∷◌, [], ℕ, List, true, false};
-ghost use Rattle.wfe_core.specs.Locals.{Local, after, asks, begun, busy_in};
+ghost use Rattle.wfe_core.specs.Locals.{Local, after, asks, begun, busy_in, may_begin};
 ghost use Rattle.wfe_core.specs.declared.op.Op.{Op as Operation};
 ghost use Rattle.wfe_drive_words.specs.Comes.{Comes, Given};
 
@@ -32,14 +32,15 @@ pub trait Words: Drop {
     /// A history comes to each state at which the seat may be.
     ghost comes: { (w : Self) (l : Local) → valid w → at w l → Comes l };
 
-    /// A call of the seat begins. No word changes.
+    /// A call of the seat begins, one that may begin in the table's setting. No word changes.
     fn start(&mut self, call: Call)
         requires valid { valid self.old }
-        requires idle { (l : Local) × at self.old l × (busy_in l.phase ≡ false) }
+        requires idle { (l : Local) × at self.old l × (busy_in l.phase ≡ false)
+            × (may_begin l.post.layout.config call ≡ true) }
         ensures valid { valid self.new }
         ensures same { same self.old self.new }
         ensures at { (l : Local) → at self.old l → busy_in l.phase ≡ false
-            → at self.new (begun l call) }
+            → may_begin l.post.layout.config call ≡ true → at self.new (begun l call) }
         ensures stands { (xs : List (Operation × ℕ)) → stands self.old xs → stands self.new xs };
 
     /// Performs the operation that the seat's call asks for, in one atomic step. It answers the

@@ -32,4 +32,4 @@ abbrev pub finish_phase : IbrFinish → Base
 finish_phase m = Finish
 
 abbrev pub release_phase : IbrRelease → Base
-release_phase m = Release
+release_phase m = Release m.index

@@ -1,4 +1,4 @@
-// An interval is withdrawn: at the end of a call, or with the row that is held.
+// An interval is withdrawn: at the end of a call, or with the last row that is kept.
 ghost use Rattle.std.specs.Prelude.{◌≡◌};
 ghost use Rattle.wfe_core.specs.Phases.Base.{Finish, Release};
 ghost use Rattle.wfe_ibr.specs.Phases.{finish_phase, release_phase};
@@ -47,16 +47,18 @@ impl Machine for IbrFinish {
     }
 }
 
-/// Withdraws the seat's interval and lets go of the row that is held at index 2, in one step.
+/// Withdraws the seat's interval and lets go of what stands at an index, in one step.
 #[derive(Drop)]
-pub struct IbrRelease {}
+pub struct IbrRelease {
+    index: u32,
+}
 
 impl IbrRelease {
     #[inline(always)]
-    pub fn new() -> IbrRelease
-        ensures { release_phase result ≡ Release }
+    pub fn new(index: u32) -> IbrRelease
+        ensures { release_phase result ≡ Release index }
     {
-        IbrRelease {}
+        IbrRelease { index }
     }
 }
 
@@ -80,10 +82,11 @@ impl Machine for IbrRelease {
 
     #[inline(always)]
     fn take(&mut self, post: &mut Post, _found: u64, told: &mut Told) -> Option<()> {
-        if let Some(slot) = post.standing[2] {
-            told.push(Event::Clear { index: 2, slot });
+        let index = self.index;
+        if let Some(slot) = post.standing[index as usize] {
+            told.push(Event::Clear { index, slot });
         }
-        post.standing[2] = None;
+        post.standing[index as usize] = None;
         post.span = None;
         told.push(Event::Reserve {
             guard: Guard::Whole { seat: post.seat },

@@ -3,6 +3,7 @@
 
 mod follow;
 mod follow_at;
+mod kept;
 mod rounds;
 mod scheme;
 mod schemes;

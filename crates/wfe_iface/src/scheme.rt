@@ -59,14 +59,18 @@ pub trait Scheme {
         ensures steps { post.new.steps ≡ post.old.steps }
         ensures few { length told.new ≤ length told.old + 1 };
 
-    /// What a round ends with, once its indexes are cleared.
+    /// What a round ends with, once its indexes are cleared. Where the scheme has one interval it stays
+    /// while a row stands at an index from 2 on.
     fn finish(post: &Post) -> Option<Self::Finish>
         requires { IsValid post.now }
         ensures { phases Self.Finish.phase result ≡ finish_base kind post.now };
 
-    /// What is held at index 2 is let go.
-    fn release() -> Self::Release
-        ensures { Self.Release.phase result ≡ release_base kind };
+    /// What stands at an index of the seat is let go. None where the scheme has one interval and a row
+    /// stands at another index from 2 on: the interval stays then.
+    fn release(post: &Post, index: u32) -> Option<Self::Release>
+        requires valid { IsValid post.now }
+        requires index { IndexFits post.now index }
+        ensures { phases Self.Release.phase result ≡ release_base kind post.now index };
 
     // Each machine ends as the model's does.
 

@@ -4,6 +4,7 @@ ghost use Rattle.std.specs.Prelude.{true, false, refl};
 ghost use Rattle.wfe_core.specs.words.declared.config.SchemeKind.{SchemeKind as Kind};
 
 use crate::Scheme;
+use crate::kept::first_row;
 use wfe_core::{Event, Post, Told};
 use wfe_fast::WfeProtect;
 use wfe_he::{HeClear, HeProtect};
@@ -70,8 +71,8 @@ impl Scheme for He {
     }
 
     #[inline(always)]
-    fn release() -> HeClear {
-        HeClear::new(2)
+    fn release(_post: &Post, index: u32) -> Option<HeClear> {
+        Some(HeClear::new(index))
     }
 }
 
@@ -130,15 +131,20 @@ impl Scheme for Ibr {
 
     #[inline(always)]
     fn finish(post: &Post) -> Option<IbrFinish> {
-        if post.standing[2].is_some() {
+        if first_row(&post.standing[2..]).is_some() {
             return None;
         }
         Some(IbrFinish::new())
     }
 
     #[inline(always)]
-    fn release() -> IbrRelease {
-        IbrRelease::new()
+    fn release(post: &Post, index: u32) -> Option<IbrRelease> {
+        let mut left = post.standing;
+        left[index as usize] = None;
+        if first_row(&left[2..]).is_some() {
+            return None;
+        }
+        Some(IbrRelease::new(index))
     }
 }
 
@@ -194,7 +200,7 @@ impl Scheme for Wfe {
     }
 
     #[inline(always)]
-    fn release() -> HeClear {
-        HeClear::new(2)
+    fn release(_post: &Post, index: u32) -> Option<HeClear> {
+        Some(HeClear::new(index))
     }
 }

@@ -23,6 +23,7 @@ use Rattle.wfe_server.specs.Tally.{Tells, lines_told}
 use Rattle.wfe_server.specs.Summary.{Counts, summary_of}
 use Rattle.wfe_server.specs.declared.summary.Summary.{Summary}
 use Rattle.wfe_server_out.specs.Heard.{Hears, HearsSome, Seen}
+use Rattle.wfe_server.proofs.Calls.{turn_fits}
 use Rattle.wfe_server.specs.Turns.{commands_of, generated, seeded, setting, trace_of, turn_call, turn_seat, turn_units}
 use Rattle.wfe_server.proofs.Bare.{strip_heard, strip_played, stripped}
 
@@ -57,7 +58,7 @@ words_taken (a ∷ b ∷ words) given e =
     let g1 : Given = with_line (commands.Run seat) given in
     let g2 : Given = with_line (commands.Call seat (turn_call a b)) g1 in
     let g3 : Given = with_line (commands.Step seat (turn_units b)) g2 in
-    (low, refl, (low, run_free given seat e (seat_low a), ((low, units_some b, units_low b), refl, words_taken words g3 e)))
+    (low, refl, ((low, turn_fits given.config a b), run_free given seat e (seat_low a), ((low, units_some b, units_low b), refl, words_taken words g3 e)))
 
 pub generated_taken : (seed turns : ℕ) → IsTaken (trace_of (generated seed turns))
 generated_taken seed turns = record { config = setting_good; lines = words_taken (first_words pcg32 (2 * turns) (seeded seed)) (no_lines 1 setting) refl }

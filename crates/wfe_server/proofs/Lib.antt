@@ -1,5 +1,6 @@
 pub use Rattle.wfe_server_replay.proofs as server_replay
 pub mod Bare
+pub mod Calls
 pub mod Counted
 pub mod Going
 pub mod HandedBack

@@ -1,5 +1,6 @@
 // A table that takes the lines of a generated trace.
 ghost use Rattle.std.specs.Prelude.{◌≡◌, ◌<◌, ◌≤◌, [], ◌∷◌, OnOk, OnErr, IfOk, true, false};
+ghost use Rattle.wfe_core.specs.Locals.{may_begin};
 ghost use Rattle.wfe_outside.specs.defs.Entry.{entry};
 ghost use Rattle.wfe_server_replay.specs.drive.Reached.{first_table, units_left};
 ghost use Rattle.wfe_server.specs.Summary.{Counts};
@@ -133,6 +134,7 @@ impl<E: Engine> Table<E> {
     ) -> Result<(), Fault>
         requires seat { seat < self.old.played.table.layout.config.seats }
         requires free { is_playing seat self.old.played ≡ false }
+        requires may { may_begin self.old.played.table.layout.config call ≡ true }
         ensures after { self.new.played ≡ started self.old.played seat call }
         ensures ok { OnOk result (Tells (boxed stands) watchers.old watchers.new self.old.summary self.new.summary (told_piece (entry seat (Event.Begin call)) ∷ [])) }
         ensures err { OnErr result (HearsSome (boxed stands) watchers.old watchers.new (heard_of (told_piece (entry seat (Event.Begin call)) ∷ []))) }

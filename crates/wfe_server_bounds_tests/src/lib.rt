@@ -3,8 +3,4 @@
 #![tactic(auto)]
 
 #[cfg(test)]
-mod reading;
-#[cfg(test)]
-mod rules;
-#[cfg(test)]
 mod stopped;

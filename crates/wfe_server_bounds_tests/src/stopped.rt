@@ -1,22 +1,50 @@
 // One seat stops at each unit of its call, from none to all of them, and the other makes seven calls.
-use crate::reading::Reading;
 use std::process::Abort;
 use std::test::Fail;
-use wfe_drive_table::TableCells;
-use wfe_outside::{MemSink, MemSource, WatchRow, Watcher};
-use wfe_server::{Rig, replay};
+use wfe_outside::{MemSink, MemSource, WatchRow};
+use wfe_server_bench::replay_by_rules;
 use wfe_trace::Status;
 
 // Slots of the table.
 const SLOTS: u32 = 8;
 
-// The sizes of the table.
-const SIZES: &str =
-    "seats 2\nindexes 3\nslots 8\nbuckets 1\ntries 2\nevery 1\nlast_era 100\nlast_version 100\nbegin\n";
+// The sizes of the table but for its indexes.
+const SIZES: &str = "slots 8\nbuckets 1\ntries 2\nevery 1\nlast_era 100\nlast_version 100\nbegin\n";
 
-// The calls of the seat that stops.
+// A version with the indexes of a seat, and what the seat that stops has done before.
+#[derive(Clone, Copy)]
+struct Start {
+    version: u32,
+    indexes: u32,
+    before: &'static str,
+}
+
+const FREE: Start = Start {
+    version: 1,
+    indexes: 3,
+    before: "",
+};
+
+const HOLDING: Start = Start {
+    version: 3,
+    indexes: 4,
+    before: "1 hold 7\n1 run\n",
+};
+
+// The calls of a seat with nothing in hand.
 const CALLS: [&str; 9] = [
     "get 7", "put 7 9", "remove 7", "enq 5", "deq", "hold 7", "release", "advance", "scan",
+];
+
+// The calls of a seat that holds a row.
+const HELD_CALLS: [&str; 7] = [
+    "copy 2 3",
+    "look 2 7",
+    "drop 2",
+    "hold 7",
+    "release",
+    "put_if 7 9 1",
+    "put_if 7 9 5",
 ];
 
 // What the other seat does then.
@@ -27,13 +55,24 @@ const AFTER: &str =
 const MOST: u32 = 100;
 
 // The trace in which the call stops after so many units.
-fn trace_of<R: AllocGlobal>(rt: &R, scheme: &str, call: &str, units: u32) -> Result<String, Fail> {
+fn trace_of<R: AllocGlobal>(
+    rt: &R,
+    start: Start,
+    scheme: &str,
+    call: &str,
+    units: u32,
+) -> Result<String, Fail> {
+    let Start {
+        version,
+        indexes,
+        before,
+    } = start;
     let stop = match units {
         0 => String::new(rt.alloc()),
         _ => format!(in rt.alloc(); "1 step {units}\n")?,
     };
     Ok(format!(in rt.alloc();
-        "wfe 1\nscheme {scheme}\n{SIZES}0 put 7 1\n0 run\n1 {call}\n{stop}{AFTER}"
+        "wfe {version}\nscheme {scheme}\nseats 2\nindexes {indexes}\n{SIZES}0 put 7 1\n0 run\n{before}1 {call}\n{stop}{AFTER}"
     )?)
 }
 
@@ -52,23 +91,25 @@ fn lines_with(record: &[u8], start: &[u8]) -> u64 {
 fn read<R: Abort + AllocGlobal>(rt: &R, trace: &str) -> Result<(MemSink, WatchRow), Fail> {
     let mut source = MemSource::new(rt.alloc(), trace.as_bytes(), &[])?;
     let mut sink = MemSink::new(rt.alloc(), 65_536, &[])?;
-    let mut watchers: Vec<Box<dyn Watcher>> = Vec::new(rt.alloc());
-    watchers.push(Box::new(rt.alloc(), Reading::new(rt.alloc(), SLOTS))?)?;
-    let status = replay::<Rig<TableCells>, MemSource, MemSink>(
-        rt.alloc(),
-        &mut source,
-        &mut sink,
-        &mut watchers,
-    );
-    assert_eq!(rt; status, Status::Done, "{trace}");
-    let Some(watcher) = watchers.pop() else {
-        return Err(Fail::new("the watcher is gone"));
+    let Some((status, row)) = replay_by_rules(rt.alloc(), SLOTS, &mut source, &mut sink) else {
+        return Err(Fail::new("memory ran out"));
     };
-    assert_eq!(rt; watcher.rows(), 1);
-    Ok((sink, watcher.row(0)))
+    assert_eq!(rt; status, Status::Done, "{trace}");
+    Ok((sink, row))
 }
 
-// The call of the seat that stops had ended where the other seat's next one began.
+// The record of the call that stops, from its begin on: that of the seat's last call.
+fn since_begin(record: &[u8]) -> &[u8] {
+    let mut rest = record;
+    for start in 0..record.len() {
+        if record[start..].starts_with(b"\n1 begin ") {
+            rest = &record[start..];
+        }
+    }
+    rest
+}
+
+// It had ended where the other seat's next one began.
 fn had_ended(record: &[u8]) -> bool {
     for line in record.split(|byte| *byte == b'\n') {
         if line.starts_with(b"1 end ") {
@@ -83,9 +124,14 @@ fn had_ended(record: &[u8]) -> bool {
 
 // Stops the call after none of its units, after one, and so on to all of them. Where the trace ends, the
 // call goes on to its own end.
-fn stop_everywhere<R: Abort + AllocGlobal>(rt: &R, scheme: &str, call: &str) -> Result<(), Fail> {
+fn stop_everywhere<R: Abort + AllocGlobal>(
+    rt: &R,
+    start: Start,
+    scheme: &str,
+    call: &str,
+) -> Result<(), Fail> {
     for units in 0..MOST {
-        let trace = trace_of(rt, scheme, call, units)?;
+        let trace = trace_of(rt, start, scheme, call, units)?;
         let (sink, row) = read(rt, trace.as_str())?;
         assert_eq!(rt; (row.b, row.c), (0, 0), "{trace}");
         let entries = lines_with(sink.bytes(), b"0 ").saturating_add(lines_with(
@@ -94,10 +140,11 @@ fn stop_everywhere<R: Abort + AllocGlobal>(rt: &R, scheme: &str, call: &str) -> 
         ));
         assert_eq!(rt; row.a, entries, "{trace}");
         assert_eq!(rt; lines_with(sink.bytes(), b"0 end "), 8, "{trace}");
-        assert_eq!(rt; lines_with(sink.bytes(), b"1 end "), 1, "{trace}");
-        if had_ended(sink.bytes()) {
+        let rest = since_begin(sink.bytes());
+        assert_eq!(rt; lines_with(rest, b"1 end "), 1, "{trace}");
+        if had_ended(rest) {
             let end = format!(in rt.alloc(); "1 end {units} ")?;
-            assert_eq!(rt; lines_with(sink.bytes(), end.as_bytes()), 1, "{trace}");
+            assert_eq!(rt; lines_with(rest, end.as_bytes()), 1, "{trace}");
             return Ok(());
         }
     }
@@ -108,7 +155,17 @@ fn stop_everywhere<R: Abort + AllocGlobal>(rt: &R, scheme: &str, call: &str) -> 
 fn a_seat_may_stop_at_each_unit_of_each_call(rt: HostRuntime) -> Result<(), Fail> {
     for scheme in ["he", "ibr", "wfe"] {
         for call in CALLS {
-            stop_everywhere(&rt, scheme, call)?;
+            stop_everywhere(&rt, FREE, scheme, call)?;
+        }
+    }
+    Ok(())
+}
+
+#[test]
+fn a_seat_may_stop_with_a_row_in_hand(rt: HostRuntime) -> Result<(), Fail> {
+    for scheme in ["he", "ibr", "wfe"] {
+        for call in HELD_CALLS {
+            stop_everywhere(&rt, HOLDING, scheme, call)?;
         }
     }
     Ok(())

@@ -68,7 +68,7 @@ lines_out-more given (first ∷ lines) line =
 given_out-more : (given : Given) (line : Command) → given_out (with_line line given) ≡ given_out given ++ line_pieces line given
 given_out-more given line = ap (λ (ps : List Piece). Text (header_line given.version given.config) ∷ ps) (lines_out-more (no_lines given.version given.config) given.lines line)
 
-taken-more : (given : Given) (lines : List Command) (line : Command) → AreTaken given lines → IsCommandWithin given.config.seats line → is_refused keeper line (with_lines lines given) ≡ false → AreTaken given (lines ++ line ∷ [])
+taken-more : (given : Given) (lines : List Command) (line : Command) → AreTaken given lines → IsCommandWithin given.config line → is_refused keeper line (with_lines lines given) ≡ false → AreTaken given (lines ++ line ∷ [])
 taken-more given [] line taken within free = (within, subst (λ (g : Given). is_refused keeper line g ≡ false) (with_no_lines given) free, tt)
 taken-more given (first ∷ lines) line taken within free =
     (taken.0, taken.1, taken-more (with_line first given) lines line taken.2 within (subst (λ (g : Given). is_refused keeper line g ≡ false) (sym (with_lines-first given first lines)) free))
@@ -86,11 +86,11 @@ units_kept given line s after out is a = record { plays = a.plays; out_is = a.ou
 seats_of : (given : Given) (s : Played) → Plays (layout_of given) (given_made given) s → s.table.layout.config.seats ≡ given.config.seats
 seats_of given s p = ap (λ (layout : Layout). layout.config.seats) (sym p.shows.layout ∙ p.goes.table)
 
-line_kept : (given : Given) (line : Command) (s : Played) → Plays (layout_of given) (given_made given) s → IsCommandWithin given.config.seats line → is_refused keeper line given ≡ false → LineKept given line s (played line s) (played_out line s)
+line_kept : (given : Given) (line : Command) (s : Played) → Plays (layout_of given) (given_made given) s → IsCommandWithin given.config line → is_refused keeper line given ≡ false → LineKept given line s (played line s) (played_out line s)
 line_kept given (commands.Call seat call) s p within free = record {
-  plays = begin_plays (layout_of given) (given_made given) s seat call p within free;
+  plays = begin_plays (layout_of given) (given_made given) s seat call p within.0 free within.1;
   out_is = refl;
-  heard = ap (λ (ps : List Piece). heard_of (ps ++ [])) (sym (pieces_fit (given_made given) (Begins seat call) _ (begin_fit (layout_of given) (given_made given) seat call p.goes within free)));
+  heard = ap (λ (ps : List Piece). heard_of (ps ++ [])) (sym (pieces_fit (given_made given) (Begins seat call) _ (begin_fit (layout_of given) (given_made given) seat call p.goes within.0 free within.1)));
 }
 line_kept given (commands.Step seat units) s p within free = units_kept given (commands.Step seat units) s _ _ refl (units_play units seat (layout_of given) (given_made given) s within.0 p)
 line_kept given (commands.Run seat) s p within free = units_kept given (commands.Run seat) s _ _ refl (units_play call_most seat (layout_of given) (given_made given) s within p)
@@ -126,7 +126,7 @@ heard_more given line here before =
     ∙ sym (made_entries (items_of given.config.seats line) (given_made given))
     ∙ ap (λ (m : Made). past_entries m.past) (sym (made_more given line))
 
-pub taken : (line : Command) (given : Given) → IsCommandWithin given.config.seats line → is_refused keeper line given ≡ false → Good given → Taken line given
+pub taken : (line : Command) (given : Given) → IsCommandWithin given.config line → is_refused keeper line given ≡ false → Good given → Taken line given
 taken line given within free g =
     let k : LineKept given line (played_of given) (played line (played_of given)) (played_out line (played_of given)) = line_kept given line (played_of given) g.plays within free in
     let t : IsTaken given = g.taken in
@@ -163,7 +163,7 @@ pub record Kept (given : Given) : Type 0 where
   pub shows : Shows (played_of given).table (given_world given)
   pub garbage : (played_of given).garbage ≡ given_garbage given
   pub busy : (seat : ℕ) → is_playing seat (played_of given) ≡ is_busy (given_world given) seat
-  pub out : (line : Command) → IsCommandWithin given.config.seats line → is_refused keeper line given ≡ false → played_out line (played_of given) ≡ line_pieces line given
+  pub out : (line : Command) → IsCommandWithin given.config line → is_refused keeper line given ≡ false → played_out line (played_of given) ≡ line_pieces line given
   pub heard : heard_of (given_out given) ≡ past_entries (given_record given)
 
 pub good-kept : (given : Given) → Good given → Kept given

@@ -23,6 +23,7 @@ use Rattle.wfe_drive.specs.inv.Inv.{Inv}
 use Rattle.wfe_drive.proofs.inv.Inv.Kept.{inv_ready}
 use Rattle.wfe_outside.specs.declared.watcher.WatchRow.{WatchRow}
 use Rattle.wfe_server_out.specs.Pieces.{Piece, told_pieces}
+use Rattle.wfe_trace.specs.Body.{fits_indexes}
 use Rattle.wfe_watch.specs.Garbage.{garbage_rows}
 use Rattle.wfe_server_replay.specs.Counts.{counted_all}
 use Rattle.wfe_server_replay.specs.Given.{all_run, fit_pieces, made_pieces, past_entries}
@@ -118,13 +119,13 @@ seats_play (suc n) layout made s h p =
     (units_play call_most n layout (made_from made (all_run n)) (seats_run n s) here a.plays)
 
 -- a call begins
-pub begin_fit : (layout : Layout) (made : Made) (seat : ℕ) (call : Call) → Goes layout made.world → seat < layout.config.seats → is_busy made.world seat ≡ false → fits made.world (Begins seat call) ≡ true
-begin_fit layout made seat call g h b = begin_fits made.world seat call (in_table layout seat made.world h g) b
+pub begin_fit : (layout : Layout) (made : Made) (seat : ℕ) (call : Call) → Goes layout made.world → seat < layout.config.seats → is_busy made.world seat ≡ false → fits_indexes layout.config.indexes call ≡ true → fits made.world (Begins seat call) ≡ true
+begin_fit layout made seat call g h b may = begin_fits made.world seat call (in_table layout seat made.world h g) b (subst (λ (l : Layout). fits_indexes l.config.indexes call ≡ true) (sym g.table) may)
 
-pub begin_plays : (layout : Layout) (made : Made) (s : Played) (seat : ℕ) (call : Call) → Plays layout made s → seat < layout.config.seats → is_busy made.world seat ≡ false → Plays layout (did made (Begins seat call)) (started s seat call)
-begin_plays layout made s seat call p h b =
+pub begin_plays : (layout : Layout) (made : Made) (s : Played) (seat : ℕ) (call : Call) → Plays layout made s → seat < layout.config.seats → is_busy made.world seat ≡ false → fits_indexes layout.config.indexes call ≡ true → Plays layout (did made (Begins seat call)) (started s seat call)
+begin_plays layout made s seat call p h b may =
     let here : seat < length s.table.seats = subst (λ (n : ℕ). seat < n) (sym p.seats) h in
-    let is : did made (Begins seat call) ≡ done made (Begins seat call) = did_fit made (Begins seat call) true (begin_fit layout made seat call p.goes h b) in
+    let is : did made (Begins seat call) ≡ done made (Begins seat call) = did_fit made (Begins seat call) true (begin_fit layout made seat call p.goes h b may) in
     record {
       goes = items_keep (λ made. Goes layout made.world) (steady layout) (Begins seat call ∷ []) made p.goes;
       shows = subst (λ (m : Made). Shows (after_start s.table seat call) m.world) (sym is) (start-begin s.table made.world seat call p.shows here);

@@ -153,7 +153,7 @@ command-line : (r : Reading) (line : List ℕ) (n : ℕ) (ended : Bool) (engine 
 command-line r line n ended None c read sound = absurd (true≢false (sym (sound.opened ∙ read.placed.0)))
 command-line r line n ended (Some given) c read sound =
     let same : given.config ≡ r.config = sound.good.1 in
-    let within : IsCommandWithin given.config.seats c = subst (λ (config : Config). IsCommandWithin config.seats c) (sym same) read.placed.2 in
+    let within : IsCommandWithin given.config c = subst (λ (config : Config). IsCommandWithin config c) (sym same) read.placed.2 in
     refused-line (at_line r line n ended (Some given)) (bad_line (at_line r line n ended (Some given)) reasons.Busy) (items.Command c) (is_refused player c (played_of given)) (is_refused keeper c given)
     (refused_same c given sound.good.0)
     (λ free. command_done r line n ended given c read sound.held same (taken c given within free sound.good.0))

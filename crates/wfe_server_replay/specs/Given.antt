@@ -117,10 +117,10 @@ abbrev pub partial_out : Option Given → List Piece
 partial_out None = []
 partial_out (Some given) = given_out given
 
--- lines that name seats of the setting, and give no call to a seat whose call has not ended
+-- lines that name seats of the setting and indexes in their ranges, and give no call to a seat whose call has not ended
 abbrev pub AreTaken : Given → List Command → Type 0
 AreTaken given [] = Unit {0}
-AreTaken given (line ∷ lines) = IsCommandWithin given.config.seats line × (is_refused keeper line given ≡ false) × AreTaken (with_line line given) lines
+AreTaken given (line ∷ lines) = IsCommandWithin given.config line × (is_refused keeper line given ≡ false) × AreTaken (with_line line given) lines
 
 -- the setting is in its ranges, and its lines are such
 pub record IsTaken (given : Given) : Type 0 where

@@ -10,28 +10,28 @@ use Rattle.wfe_outside.specs.defs.declared.command.Command.{Command}
 use Rattle.wfe_server_replay.specs.Playing.{Played, player}
 use Rattle.wfe_server_replay.specs.Trace.{Progress, is_refused}
 
--- a table is there in the body alone, and has as many seats as the setting that was read
+-- a table is there in the body alone, and has the setting that was read
 abbrev pub PlaysIn : Reading → Option Played → Type 0
 PlaysIn r None = Unit {0}
-PlaysIn r (Some s) = (is_body r.stage ≡ true) × (s.table.layout.config.seats ≡ r.config.seats)
+PlaysIn r (Some s) = (is_body r.stage ≡ true) × (s.table.layout.config ≡ r.config)
 
--- the seat of the line is one of the table's
+-- the seat of the line is one of the table's, and its call's indexes are in their ranges there
 abbrev pub FitsTable : Command → Option Played → Type 0
 FitsTable c None = Unit {0}
-FitsTable c (Some s) = IsCommandWithin s.table.layout.config.seats c
+FitsTable c (Some s) = IsCommandWithin s.table.layout.config c
 
 abbrev pub ItemFits : Item → Option Played → Type 0
 ItemFits items.Setting engine = Unit {0}
 ItemFits (items.Ready version config) engine = Unit {0}
 ItemFits (items.Command c) engine = FitsTable c engine
 
--- the table may take the line: its seat is one of the table's, and no call is given to a busy seat
+-- the table may take the line: its seat is one of the table's, its call's indexes are in their ranges, and no call is given to a busy seat
 abbrev pub MayPlay : Command → Option Played → Type 0
 MayPlay c None = Unit {0}
-MayPlay c (Some s) = IsCommandWithin s.table.layout.config.seats c × (is_refused player c s ≡ false)
+MayPlay c (Some s) = IsCommandWithin s.table.layout.config c × (is_refused player c s ≡ false)
 
 -- what a line that was read says may be taken
 abbrev pub MayTake : Progress Played → Item → Type 0
 MayTake p items.Setting = Unit {0}
-MayTake p (items.Ready version config) = (bad_field config ≡ None) × (is_body p.reading.stage ≡ true) × (config.seats ≡ p.reading.config.seats)
+MayTake p (items.Ready version config) = (bad_field config ≡ None) × (is_body p.reading.stage ≡ true) × (config ≡ p.reading.config)
 MayTake p (items.Command c) = MayPlay c p.engine

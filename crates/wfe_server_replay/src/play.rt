@@ -9,7 +9,7 @@ ghost use Rattle.wfe_server_replay.specs.Playing.{Played, call_most, is_playing,
 ghost use Rattle.wfe_server_out.specs.Pieces.{text_of};
 ghost use Rattle.wfe_server_out.specs.Pieces.{Told as told_piece};
 ghost use Rattle.wfe_server_replay.specs.Trace.{is_refused};
-ghost use Rattle.wfe_trace.specs.Body.{IsCommandWithin};
+ghost use Rattle.wfe_trace.specs.Body.{IsCommandWithin, fits_indexes};
 ghost use Rattle.wfe_trace.specs.words.Config.{bad_field};
 
 use std::alloc::Global;
@@ -171,6 +171,7 @@ impl<E: Engine> Play<E> {
     ) -> Result<(), Fault>
         requires seat { seat < self.old.table.layout.config.seats }
         requires free { is_playing seat self.old ≡ false }
+        requires may { fits_indexes self.old.table.layout.config.indexes call ≡ true }
         ensures after { OnOk result (self.new ≡ started self.old seat call) }
         ensures table { self.new.table.layout ≡ self.old.table.layout }
         ensures emits { Emits (boxed stands) K.written K.faults K.may_stand result sink.old sink.new watchers.old watchers.new
@@ -187,7 +188,7 @@ impl<E: Engine> Play<E> {
         sink: &mut K,
         watchers: &mut [Box<dyn Watcher>],
     ) -> Result<(), Fault>
-        requires within { IsCommandWithin self.old.table.layout.config.seats command }
+        requires within { IsCommandWithin self.old.table.layout.config command }
         requires free { is_refused player command self.old ≡ false }
         ensures after { OnOk result (self.new ≡ played command self.old) }
         ensures table { self.new.table.layout ≡ self.old.table.layout }

@@ -97,7 +97,7 @@ impl<E: Engine> Work<E> {
     ) -> Result<(), Fault>
         requires config { bad_field config ≡ None }
         requires body { is_body self.old.reading.stage ≡ true }
-        requires seats { config.seats ≡ self.old.reading.config.seats }
+        requires setting { config ≡ self.old.reading.config }
         ensures after { OnOk result (self.new ≡ record self.old { engine = Some (player.opened version config) }) }
         ensures emits { Emits (boxed stands) K.written K.faults K.may_stand result sink.old sink.new watchers.old watchers.new
             (Text (header_line version config) ∷ []) }

@@ -1,3 +1,4 @@
+pub use Rattle.wfe_drive_shared.proofs.logs.all as all
 pub mod Begun
 pub mod Calls
 pub mod ClosedLines

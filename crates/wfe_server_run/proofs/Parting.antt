@@ -1,13 +1,17 @@
 -- What workers made, taken apart one after another.
 use Rattle.std.proofs.Common.{List, Ok, Result, [], ap, arith, drop, get_or, length, refl, subst, sym, take, ℕ, ◌++◌, ◌<◌, ◌∙◌, ◌∷◌, ◌≡◌, ◌≤◌}
-use Rattle.std.proofs.lemmas.List.{append-nil, append_assoc, drop_all, length-reverse, map-append, reverse-append, reverse-reverse, take_all}
-use Rattle.std.proofs.lemmas.List.Elements.{All-from_get_or}
+use Rattle.std.proofs.lemmas.List.{append-nil, append_assoc, drop_all, get_or-map, length-map, length-reverse, map-append, reverse-append, reverse-reverse, take_all}
+use Rattle.std.proofs.lemmas.List.Elements.{All-from_get_or, All-get_or}
 use Rattle.std.proofs.lemmas.List.FromFn.{get_or-map-range_with_len, length-map-range_with_len}
 use Rattle.std.specs.Prelude.{All, map, reverse}
 use Rattle.std.specs.declared.alloc.Global.{Global}
 use Rattle.std.specs.declared.vec.Vec.{Vec}
+use Rattle.wfe_core.specs.defs.declared.call.Call.{Call}
 use Rattle.wfe_core.specs.defs.declared.event.Event.{Event}
+use Rattle.wfe_core.specs.words.declared.config.Config.{Config}
 use Rattle.wfe_drive_shared.specs.Public.{SeatNow, TableNow, new_seat, new_seats}
+use Rattle.wfe_server_run.specs.Comes.{lists_in}
+use Rattle.wfe_server_run.specs.Fitting.{AllBegin, MayBegin}
 use Rattle.wfe_server_run.specs.Parted.{IsParted, IsReady}
 use Rattle.wfe_server_run.specs.declared.worker.Worked.{Worked}
 
@@ -57,10 +61,22 @@ count_new shared = length-map-range_with_len (new_seat shared) 0 shared.layout.c
 pub new_at : (shared : TableNow) (n : ℕ) (d : SeatNow) → n < shared.layout.config.seats → get_or (new_seats shared) n d ≡ new_seat shared n
 new_at shared n d within = get_or-map-range_with_len (new_seat shared) 0 shared.layout.config.seats n n d within (omega arith)
 
+-- the calls of a seat's script may begin
+pub script_fits : (config : Config) (scripts : List (Vec Call Global)) (seat : ℕ) (script : List Call) (vector : Vec Call Global) → seat < length scripts → vector ≡ get_or scripts seat vector → script ≡ vector.items
+    → MayBegin config (get_or (lists_in scripts) seat []) → MayBegin config script
+script_fits config scripts seat script vector within at is fits =
+    let items_of : Vec Call Global → List Call = λ v. v.items in
+    subst (MayBegin config) (sym (is ∙ ap items_of at ∙ sym (get_or-map items_of scripts seat vector [] within))) fits
+
 -- each has its script
-pub all_ready : (shared : TableNow) (seats : List SeatNow) (scripts : ℕ) → seats ≡ new_seats shared → scripts ≡ shared.layout.config.seats → All (IsReady shared scripts) seats
-all_ready shared seats scripts e n =
+pub all_ready : (shared : TableNow) (seats : List SeatNow) (scripts : List (Vec Call Global)) → seats ≡ new_seats shared → length scripts ≡ shared.layout.config.seats → AllBegin shared.layout.config (lists_in scripts)
+    → All (IsReady shared scripts) seats
+all_ready shared seats scripts e n fits =
     subst (All (IsReady shared scripts)) (sym e)
     (All-from_get_or (IsReady shared scripts) (new_seats shared) (new_seat shared 0) (λ i within.
     let below : i < shared.layout.config.seats = omega (arith, within, count_new shared) in
-    subst (IsReady shared scripts) (sym (new_at shared i (new_seat shared 0) below)) (record { of = record { table = refl; layout = refl }; script = omega (arith, below, n) })))
+    subst (IsReady shared scripts) (sym (new_at shared i (new_seat shared 0) below)) (record {
+      of = record { table = refl; layout = refl };
+      script = omega (arith, below, n);
+      fits = All-get_or (MayBegin shared.layout.config) (lists_in scripts) i [] (omega (arith, below, n, length-map scripts (λ (v : Vec Call Global). v.items))) fits;
+    })))

@@ -13,20 +13,20 @@ use Rattle.wfe_trace.specs.declared.item.Item.TheVariants as items
 use Rattle.wfe_trace.specs.declared.reason.BadLine.{BadLine}
 use Rattle.wfe_trace.specs.words.Config.{bad_field}
 
--- scripts are there in the body alone, and of as many seats as the setting that was read
+-- scripts are there in the body alone, and of the setting that was read
 abbrev pub CollectsIn : Reading → Option Scripted → Type 0
 CollectsIn r None = Unit {0}
-CollectsIn r (Some s) = (is_body r.stage ≡ true) × (s.config.seats ≡ r.config.seats)
+CollectsIn r (Some s) = (is_body r.stage ≡ true) × (s.config ≡ r.config)
 
--- the seat of the line has a script
+-- the seat of the line has a script, and the indexes of its call are in their ranges
 abbrev pub MayAdd : Command → Option Scripted → Type 0
 MayAdd c None = Unit {0}
-MayAdd c (Some s) = IsCommandWithin s.config.seats c
+MayAdd c (Some s) = IsCommandWithin s.config c
 
 -- what a line that was read says may be taken
 abbrev pub MayCollect : Progress Scripted → Item → Type 0
 MayCollect p items.Setting = Unit {0}
-MayCollect p (items.Ready version config) = (bad_field config ≡ None) × (is_body p.reading.stage ≡ true) × (config.seats ≡ p.reading.config.seats)
+MayCollect p (items.Ready version config) = (bad_field config ≡ None) × (is_body p.reading.stage ≡ true) × (config ≡ p.reading.config)
 MayCollect p (items.Command c) = MayAdd c p.engine
 
 -- bytes of a trace were taken up to a stop, as they are judged

@@ -1,6 +1,8 @@
 pub use Rattle.wfe_drive_shared.specs.history as history
+pub use Rattle.wfe_drive_shared.specs.logs.all as all
 pub mod Collecting
 pub mod Comes
+pub mod Fitting
 pub mod Parted
 pub mod Prints
 pub mod Reads

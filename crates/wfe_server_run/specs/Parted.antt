@@ -1,18 +1,21 @@
 -- What the workers of all seats made, and its parts.
-use Rattle.std.specs.Prelude.{Err, List, Ok, Result, map, ℕ, ◌<◌, ◌≡◌}
+use Rattle.std.specs.Prelude.{Err, List, Ok, Result, [], length, map, slice_index_or, ℕ, ◌<◌, ◌≡◌}
 use Rattle.std.specs.declared.alloc.Global.{Global}
 use Rattle.std.specs.declared.vec.Vec.{Vec}
 use Rattle.wfe_core.specs.defs.declared.call.Call.{Call}
 use Rattle.wfe_core.specs.defs.declared.event.Event.{Event}
 use Rattle.wfe_drive_shared.specs.rule.Views.{seat_of}
 use Rattle.wfe_drive_shared.specs.Public.{IsOf, SeatNow, TableNow}
+use Rattle.wfe_server_run.specs.Comes.{lists_in}
+use Rattle.wfe_server_run.specs.Fitting.{MayBegin}
 use Rattle.wfe_server_run.specs.Working.{IsWorked}
 use Rattle.wfe_server_run.specs.declared.worker.Worked.{Worked}
 
--- the seat is the table's, and there is a script for it
-pub record IsReady (shared : TableNow) (scripts : ℕ) (seat : SeatNow) : Type 0 where
+-- the seat is the table's, and there is a script for it, whose calls may begin
+pub record IsReady (shared : TableNow) (scripts : List (Vec Call Global)) (seat : SeatNow) : Type 0 where
   pub of : IsOf seat shared
-  pub script : seat_of seat.track < scripts
+  pub script : seat_of seat.track < length scripts
+  pub fits : MayBegin shared.layout.config (slice_index_or (lists_in scripts) (seat_of seat.track) [])
 
 -- a worker that made the script with the seat
 pub record IsDone (shared : TableNow) (seat : SeatNow) (script : List Call) (worked : Worked) : Type 0 where

@@ -1,7 +1,6 @@
 // The events of a call, as the text of a run prints them: what is known of it once it was answered.
 ghost use Rattle.std.specs.Prelude.{◌≡◌, ◌<◌, ◌%◌, ◌++◌, ◌∷◌, [], OnOk};
-ghost use Rattle.wfe_drive_shared.specs.logs.RunLaw.{backs, events_of, give_told, one_told, retire_told, unused_told};
-ghost use Rattle.laws.specs.AnswerLaw.{owes};
+ghost use Rattle.wfe_drive_shared.specs.logs.RunLaw.{backs, change_told, events_of, give_told, one_told, retire_told, unused_told};
 ghost use Rattle.wfe_core.specs.Held.{notes_of};
 
 use wfe_core::{Answer, Call, Event, NoMemory, Notes};
@@ -78,10 +77,10 @@ fn bucket_of(buckets: u32, key: u64) -> u32
     (key % u64::from(buckets)) as u32
 }
 
-// What the call did of the map or of the queue.
-fn owed(buckets: u32, call: Call, answer: Answer) -> Option<Event>
+// What the call did of the map or of the queue. That a copy was made stands in its answer.
+fn change_told(buckets: u32, call: Call, answer: Answer) -> Option<Event>
     requires { 0 < buckets }
-    ensures { result ≡ owes buckets call answer }
+    ensures { result ≡ change_told buckets call answer }
 {
     match (call, answer) {
         (Call::Get { key }, Answer::Got { version, value }) => Some(Event::Got {
@@ -91,6 +90,12 @@ fn owed(buckets: u32, call: Call, answer: Answer) -> Option<Event>
             value,
         }),
         (Call::Put { key, value }, Answer::Done { version, .. }) => Some(Event::Put {
+            bucket: bucket_of(buckets, key),
+            version,
+            key,
+            value,
+        }),
+        (Call::PutIf { key, value, .. }, Answer::Done { version, .. }) => Some(Event::Put {
             bucket: bucket_of(buckets, key),
             version,
             key,
@@ -127,7 +132,7 @@ pub(crate) fn push_events(
     push(events, Event::Begin { call })?;
     push_backs(events, early)?;
     push_some(events, given(notes))?;
-    push_some(events, owed(buckets, call, answer))?;
+    push_some(events, change_told(buckets, call, answer))?;
     push_some(events, unused(notes))?;
     push_some(events, retired(notes))?;
     push_backs(events, late)?;

@@ -89,7 +89,7 @@ impl Reader {
     fn open(&mut self, alloc: Global, version: u32, config: Config) -> Result<(), NoMemory>
         requires config { bad_field config ≡ None }
         requires body { is_body self.old.reading.stage ≡ true }
-        requires seats { config.seats ≡ self.old.reading.config.seats }
+        requires setting { config ≡ self.old.reading.config }
         ensures { OnOk result (self.new ≡ record self.old { engine = Some (no_calls version config) }) }
     {
         self.scripts = Some(Scripts::open(alloc, version, config)?);

@@ -1,8 +1,10 @@
 // The scripts of a trace: the calls of each seat, in the order of its lines.
-ghost use Rattle.std.specs.Prelude.{◌≡◌, ◌<◌, IfOk, OnOk, None, length, map};
+ghost use Rattle.std.specs.Prelude.{◌≡◌, ◌<◌, IfOk, OnOk, None, length, map, true};
 ghost use Rattle.wfe_outside.specs.defs.declared.command.Command.TheVariants as commands;
 ghost use Rattle.wfe_server_run.specs.Comes.{lists_in};
+ghost use Rattle.wfe_server_run.specs.Fitting.{AllBegin};
 ghost use Rattle.wfe_server_run.specs.Scripted.{called, no_calls};
+ghost use Rattle.wfe_trace.specs.Body.{fits_indexes};
 ghost use Rattle.wfe_trace.specs.words.Config.{bad_field};
 
 use std::alloc::Global;
@@ -21,6 +23,7 @@ pub(crate) struct Scripts {
 impl Model for Scripts {
     ghost use Rattle.std.specs.Prelude.{◌≡◌, None, length};
     ghost use Rattle.wfe_server_run.specs.Comes.{lists_in};
+    ghost use Rattle.wfe_server_run.specs.Fitting.{AllBegin};
     ghost use Rattle.wfe_server_run.specs.Scripted.{Scripted};
     ghost use Rattle.wfe_trace.specs.words.Config.{bad_field};
 
@@ -28,7 +31,7 @@ impl Model for Scripts {
 
     ghost view = { λ s. record { version = s.version; config = s.config; scripts = lists_in s.calls.items } };
 
-    ghost invariant = { λ s. (bad_field s.config ≡ None) × (length s.calls.items ≡ s.config.seats) };
+    ghost invariant = { λ s. (bad_field s.config ≡ None) × (length s.calls.items ≡ s.config.seats) × AllBegin s.config (lists_in s.calls.items) };
 }
 
 impl Scripts {
@@ -50,9 +53,10 @@ impl Scripts {
         })
     }
 
-    /// One call more of a seat.
+    /// One call more of a seat, whose indexes are in their ranges.
     pub(crate) fn add(&mut self, seat: u32, call: Call) -> Result<(), NoMemory>
-        requires { seat < self.old.config.seats }
+        requires seat { seat < self.old.config.seats }
+        requires fits { fits_indexes self.old.config.indexes call ≡ true }
         ensures added { OnOk result (self.new ≡ called (commands.Call seat call) self.old) }
         ensures config { self.new.config ≡ self.old.config }
     {
@@ -67,6 +71,7 @@ impl Scripts {
         ensures version { result.0 ≡ self.version }
         ensures config { (result.1 ≡ self.config) × (bad_field result.1 ≡ None) }
         ensures calls { (lists_in result.2.items ≡ self.scripts) × (length result.2.items ≡ result.1.seats) }
+        ensures fits { AllBegin result.1 (lists_in result.2.items) }
     {
         let Scripts {
             version,

@@ -4,6 +4,7 @@ ghost use Rattle.wfe_drive_shared.specs.rule.Views.{seat_of};
 ghost use Rattle.wfe_drive_shared.specs.Public.{new_seat, new_seats};
 ghost use Rattle.wfe_drive_shared.specs.Closing.{closing_of};
 ghost use Rattle.wfe_server_run.specs.Comes.{Comes, lists_in};
+ghost use Rattle.wfe_server_run.specs.Fitting.{AllBegin};
 ghost use Rattle.wfe_server_run.specs.Parted.{IsOutcome, IsParted, IsReady};
 ghost use Rattle.wfe_trace.specs.words.Config.{bad_field};
 
@@ -33,7 +34,7 @@ fn work_all<R: Threads + Sync, G: Gate>(
     gate: &G,
 ) -> Result<Vec<Result<Worked, NoMemory>>, NoMemory>
     requires seats { seats.items ≡ new_seats shared.now }
-    requires ready { All (IsReady shared.now (length scripts.now)) seats.items }
+    requires ready { All (IsReady shared.now scripts.now) seats.items }
     requires scripts { length scripts.now ≡ shared.now.layout.config.seats }
     ensures count { IfOk result (λ all. length all.items ≡ length scripts.now) }
     ensures each { IfOk result (λ all. (n : ℕ) (d : _) → n < length scripts.now → IsOutcome shared.now (new_seat shared.now n) (slice_index_or (lists_in scripts.now) n []) (slice_index_or all.items n d)) }
@@ -42,7 +43,7 @@ fn work_all<R: Threads + Sync, G: Gate>(
         rt,
         seats,
         &|seat: Seat| -> Result<Worked, NoMemory>
-            requires { IsReady shared.now (length scripts.now) seat }
+            requires { IsReady shared.now scripts.now seat }
             ensures { IsOutcome shared.entry.now seat (slice_index_or (lists_in scripts.entry.now) (seat_of seat.track) []) result }
         {
             let script = &scripts[seat.number() as usize];
@@ -75,7 +76,8 @@ fn parted(
 }
 
 /// Makes the calls of each script with a seat of its own, on one table of this setting, each seat's
-/// by a worker. Each call is told to the gate before it and after it.
+/// by a worker. The calls must be some that may begin: the indexes that they name are from 2 on and the
+/// table has them, and a copy goes upwards. Each call is told to the gate before it and after it.
 pub fn run_threads<R: Threads + Sync, G: Gate>(
     rt: &R,
     alloc: Global,
@@ -85,6 +87,7 @@ pub fn run_threads<R: Threads + Sync, G: Gate>(
 ) -> Result<RunRecord, NoMemory>
     requires config { bad_field config ≡ None }
     requires scripts { length scripts.items ≡ config.seats }
+    requires fits { AllBegin config (lists_in scripts.items) }
     ensures comes { IfOk result (λ r. Comes config (lists_in scripts.items) (lists_in r.seats.items) (closing_of r.closed)) }
     ensures fits { IfOk result (λ r. All (λ row. length row.pairs.items ≤ config.pairs) r.closed.buckets.items) }
 {

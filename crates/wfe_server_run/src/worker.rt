@@ -1,6 +1,8 @@
 // A worker: one seat with its script.
-ghost use Rattle.std.specs.Prelude.{◌≡◌, ◌<◌, IfOk, OnOk, length, slice_index_or};
+ghost use Rattle.std.specs.Prelude.{◌≡◌, ◌<◌, IfOk, OnOk, length, slice_index_or, true};
+ghost use Rattle.wfe_core.specs.Locals.{may_begin};
 ghost use Rattle.wfe_drive_shared.specs.Public.{IsOf};
+ghost use Rattle.wfe_server_run.specs.Fitting.{MayBegin};
 ghost use Rattle.wfe_server_run.specs.Working.{IsCalled, IsWorked};
 
 use crate::Gate;
@@ -26,6 +28,7 @@ fn make_call<G: Gate>(
     events: &mut Vec<Event>,
 ) -> Result<(), NoMemory>
     requires of { IsOf seat.old shared.now }
+    requires may { may_begin shared.now.layout.config call ≡ true }
     ensures of { IsOf seat.new shared.now }
     ensures called { OnOk result (IsCalled shared.now.layout.config.buckets seat.old.track call seat.new.track events.old.items events.new.items) }
 {
@@ -45,6 +48,7 @@ pub(crate) fn work<G: Gate>(
     gate: &G,
 ) -> Result<Worked, NoMemory>
     requires of { IsOf seat shared.now }
+    requires fits { MayBegin shared.now.layout.config script.now }
     ensures of { IfOk result (λ worked. IsOf worked.seat shared.now) }
     ensures worked { IfOk result (λ worked. IsWorked shared.now.layout.config.buckets seat.track script.now worked.seat.track worked.events.items) }
 {

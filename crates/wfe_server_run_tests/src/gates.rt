@@ -1,6 +1,9 @@
 // Two workers on one table, of which one waits for the other's call: a hold and a put of one key, in both
 // orders.
-ghost use Rattle.std.specs.Prelude.{◌≡◌, IfOk, length};
+ghost use Rattle.std.specs.Prelude.{◌≡◌, ◌∷◌, [], IfOk, length};
+ghost use Rattle.wfe_server_run.specs.Comes.{lists_in};
+ghost use Rattle.wfe_server_run.specs.Fitting.{AllBegin};
+ghost use Rattle.wfe_trace.specs.words.declared.config.Config.{Config as Setting};
 
 use std::alloc::Global;
 use std::process::Abort;
@@ -75,7 +78,9 @@ impl Gate for AfterOther {
 }
 
 // A script of one call.
-fn script(alloc: Global, call: Call) -> Result<Vec<Call>, Fail> {
+fn script(alloc: Global, call: Call) -> Result<Vec<Call>, Fail>
+    ensures { IfOk result (λ calls. calls.items ≡ call ∷ []) }
+{
     let mut calls = Vec::new(alloc);
     calls.push(call)?;
     Ok(calls)
@@ -83,7 +88,8 @@ fn script(alloc: Global, call: Call) -> Result<Vec<Call>, Fail> {
 
 // A hold by seat 0, and a put of the same key by seat 1.
 fn scripts(alloc: Global) -> Result<Vec<Vec<Call>>, Fail>
-    ensures { IfOk result (λ all. length all.items ≡ 2) }
+    ensures count { IfOk result (λ all. length all.items ≡ 2) }
+    ensures fits { IfOk result (λ all. (config : Setting) → AllBegin config (lists_in all.items)) }
 {
     let mut all = Vec::new(alloc);
     all.push(script(alloc, Call::Hold { key: 7 })?)?;

@@ -5,6 +5,8 @@
 #[cfg(test)]
 mod gates;
 #[cfg(test)]
+mod kept;
+#[cfg(test)]
 mod long;
 #[cfg(test)]
 mod many;

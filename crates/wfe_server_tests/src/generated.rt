@@ -4,11 +4,9 @@ use rand_core::utils::NextWord;
 use rand_pcg::Lcg64Xsh32;
 use std::process::Abort;
 use std::test::Fail;
-use wfe_drive_table::TableCells;
-use wfe_outside::{MemSink, MemSource, Watcher};
-use wfe_server::{Rig, generate, replay};
+use wfe_outside::{MemSink, MemSource};
+use wfe_server_bench::{generate_on_table, generate_with_counts, replay_on_table};
 use wfe_trace::Status;
-use wfe_watch::KeyCounter;
 
 const SETTING: &[u8] =
     b"wfe 1\nscheme wfe\nseats 4\nindexes 3\nslots 4096\nbuckets 16\ntries 4\nevery 8\nlast_era 4294967295\nlast_version 281474976710656\nbegin\n";
@@ -25,17 +23,11 @@ fn summary<R: Abort + AllocGlobal>(
     watched: bool,
 ) -> Result<MemSink, Fail> {
     let mut sink = MemSink::new(rt.alloc(), ROOM, &[])?;
-    let mut watchers: Vec<Box<dyn Watcher>> = Vec::new(rt.alloc());
-    if watched {
-        watchers.push(Box::new(rt.alloc(), KeyCounter::new(rt.alloc()))?)?;
-    }
-    let status = generate::<Rig<TableCells>, MemSink>(
-        rt.alloc(),
-        seed,
-        turns,
-        &mut sink,
-        &mut watchers,
-    );
+    let status = if watched {
+        generate_with_counts(rt.alloc(), seed, turns, &mut sink)
+    } else {
+        generate_on_table(rt.alloc(), seed, turns, &mut sink)
+    };
     assert_eq!(rt; status, Status::Done);
     Ok(sink)
 }
@@ -104,13 +96,7 @@ fn a_summary_counts_the_lines_of_the_record(rt: HostRuntime) -> Result<(), Fail>
     let trace = trace_of(&rt, 7, 300)?;
     let mut source = MemSource::new(rt.alloc(), &trace, &[])?;
     let mut record = MemSink::new(rt.alloc(), ROOM, &[])?;
-    let mut watchers: Vec<Box<dyn Watcher>> = Vec::new(rt.alloc());
-    let status = replay::<Rig<TableCells>, MemSource, MemSink>(
-        rt.alloc(),
-        &mut source,
-        &mut record,
-        &mut watchers,
-    );
+    let status = replay_on_table(rt.alloc(), &mut source, &mut record);
     assert_eq!(rt; status, Status::Done);
     let kinds: [(&str, &str); 8] = [
         ("calls", "begin"),

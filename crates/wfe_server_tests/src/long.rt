@@ -1,9 +1,8 @@
 // The longest trace, from a source that keeps none of it.
 use std::process::Abort;
 use std::test::Fail;
-use wfe_drive_table::TableCells;
-use wfe_outside::{Failed, MemSink, Source, Watcher};
-use wfe_server::{Rig, replay};
+use wfe_outside::{Failed, MemSink, Source};
+use wfe_server_bench::replay_on_table;
 use wfe_trace::{Reason, Status};
 
 const SETTING: &[u8] =
@@ -72,13 +71,7 @@ fn expect<R: Abort + AllocGlobal>(
         last,
     };
     let mut sink = MemSink::new(rt.alloc(), 4096, &[])?;
-    let mut watchers: Vec<Box<dyn Watcher>> = Vec::new(rt.alloc());
-    let found = replay::<Rig<TableCells>, Repeats, MemSink>(
-        rt.alloc(),
-        &mut source,
-        &mut sink,
-        &mut watchers,
-    );
+    let found = replay_on_table(rt.alloc(), &mut source, &mut sink);
     assert_eq!(rt; found, status, "{lines} lines");
     let mut want = Vec::from_slice(rt.alloc(), HEADER)?;
     want.extend_from_slice(output)?;

@@ -1,6 +1,6 @@
-//! Threads on one shared table, as a user of the library writes them. Each thread makes ten thousand
-//! calls with a seat of its own, and what is printed is the same in whatever order the threads took
-//! their steps.
+//! Threads on one shared table, as a user of the library writes them. Each thread makes fifteen
+//! thousand calls with a seat of its own, those aside that it had to repeat, and what is printed is the
+//! same in whatever order the threads took their steps.
 #![tactic(auto)]
 
 mod boxes;
@@ -8,7 +8,7 @@ mod report;
 mod tally;
 mod worker;
 
-ghost use Rattle.std.specs.Prelude.{All, IfOk};
+ghost use Rattle.std.specs.Prelude.{◌<◌, All, IfOk};
 ghost use Rattle.wfe_drive_shared.specs.Public.{IsOf};
 ghost use Rattle.wfe_threads.specs.Works.{WorksOn};
 
@@ -20,7 +20,7 @@ use std::thread;
 use std::thread::Threads;
 use tally::{BUCKETS, Tally};
 use wfe_drive_shared::{Config, SchemeKind, Seat, Shared};
-use worker::{PAIRS, TRIES, Worker};
+use worker::{KEPT, PAIRS, TRIES, Worker};
 
 const NO_MEMORY: &str = "memory ran out";
 
@@ -29,7 +29,7 @@ fn setting(scheme: SchemeKind, seats: u32) -> Config {
     Config {
         scheme,
         seats,
-        indexes: 3,
+        indexes: KEPT + 1,
         slots: 4_096,
         buckets: BUCKETS as u32,
         tries: TRIES,
@@ -48,6 +48,7 @@ fn hire(
     bounded: bool,
 ) -> Result<Vec<Worker>, &'static str>
     requires of { All (λ seat. IsOf seat shared.now) seats.items }
+    requires indexes { 3 < shared.now.layout.config.indexes }
     ensures works { IfOk result (λ workers. All (λ worker. WorksOn worker shared.now) workers.items) }
 {
     let slots = shared.layout().config().slots;
@@ -130,6 +131,9 @@ fn run<R: Threads + Sync + Print + AllocGlobal>(
     let Ok((shared, seats)) = Shared::new(alloc, setting(scheme, count)) else {
         return Err("no table was made");
     };
+    if shared.layout().config().indexes <= KEPT {
+        return Err("the table has too few indexes");
+    }
     let bounded = scheme == SchemeKind::Wfe;
     let workers = hire(alloc, &shared, seats, bounded)?;
     let workers = work(rt, &shared, workers)?;

@@ -1,7 +1,7 @@
 // What comes out whatever the order of the threads was, printed and judged.
 
-use crate::tally::{BUCKETS, Tally, Values};
-use crate::worker::{GET_STEPS, HOLD_STEPS};
+use crate::tally::{BUCKETS, COUNTER, Tally, Values};
+use crate::worker::{COPY_STEPS, GET_STEPS, HOLD_STEPS, LOOK_STEPS};
 use std::io;
 use wfe_drive_shared::{Closed, SchemeKind};
 
@@ -17,6 +17,8 @@ pub struct Ended {
     left: Values,
     /// Numbers that do not follow the one before in the queue, the first one the last that was taken.
     gaps: u64,
+    /// The counter's last value.
+    count: u64,
     /// Rows that were retired and are not back.
     retired: u64,
     /// Rows that are taken.
@@ -32,10 +34,12 @@ impl Ended {
             rows: 0,
             left: Values::none(),
             gaps: 0,
+            count: 0,
             retired,
             used: closed.used.len() as u64,
         };
         ended.read_buckets(closed);
+        ended.read_counter(closed);
         ended.read_queue(closed);
         ended
     }
@@ -46,6 +50,16 @@ impl Ended {
                 self.versions[bucket] = row.version;
                 if row.version > 0 {
                     self.rows = self.rows.saturating_add(1);
+                }
+            }
+        }
+    }
+
+    fn read_counter(&mut self, closed: &Closed) {
+        for row in &closed.buckets {
+            for (key, value) in &row.pairs {
+                if *key == COUNTER {
+                    self.count = *value;
                 }
             }
         }
@@ -91,6 +105,9 @@ impl Ended {
         if tally.queued != tally.taken.and(self.left) || self.gaps > 0 {
             return Err("the values taken and left are not those queued");
         }
+        if tally.counted != self.count {
+            return Err("a count was lost");
+        }
         if tally.disordered > 0 {
             return Err("values were taken out of order");
         }
@@ -98,7 +115,7 @@ impl Ended {
             return Err("an answer is not as it had to be");
         }
         if tally.long > 0 {
-            return Err("a get or a hold took too many steps");
+            return Err("a call took too many steps");
         }
         if self.used != self.known() {
             return Err("a row is taken and nowhere");
@@ -128,15 +145,23 @@ pub fn print_report<R: Print>(
     let (rows, retired, used) = (ended.rows, ended.retired, ended.used);
     let queue = ended.left.count.saturating_add(1);
     println!(rt; "rows: {rows} of buckets, {queue} of the queue, {retired} retired, {used} taken")?;
+    let (counted, count) = (tally.counted, ended.count);
+    println!(rt; "counter: {counted} times up, {count} at last")?;
     let (made, freed) = (tally.made, tally.freed);
     println!(rt; "boxes of rows: {made} made, {freed} freed")?;
-    let (wrong, refused, long) = (tally.wrong, tally.refused, tally.long);
+    let (wrong, refused) = (tally.wrong, tally.refused);
     println!(rt; "answers that were wrong: {wrong}, refused: {refused}")?;
+    print_bounds(rt, scheme, tally.long)
+}
+
+// Copies and looks have a bound under each scheme, gets and holds under Wait-Free Eras alone.
+fn print_bounds<R: Print>(rt: &R, scheme: SchemeKind, long: u64) -> io::Result<()> {
+    let (copy, look) = (COPY_STEPS, LOOK_STEPS);
     if scheme == SchemeKind::Wfe {
         let (get, hold) = (GET_STEPS, HOLD_STEPS);
-        println!(rt; "gets over {get} steps and holds over {hold} steps: {long}")?;
+        print!(rt; "gets over {get} steps, holds over {hold}, ")?;
     }
-    Ok(())
+    println!(rt; "copies over {copy} and looks over {look}: {long}")
 }
 
 // Which values were left depends on the order of the threads: what they and the taken ones add up to

@@ -6,6 +6,8 @@ use crate::boxes::Boxes;
 pub const BUCKETS: usize = 8;
 /// The most workers.
 pub const WORKERS: usize = 4;
+/// The key that all workers count up, in the first bucket of those that all workers change.
+pub const COUNTER: u64 = (BUCKETS + WORKERS) as u64;
 /// A producer's values are its number times this, and from 1 on how many it has queued.
 pub const SPAN: u64 = 1_000_000;
 
@@ -68,7 +70,9 @@ pub struct Tally {
     pub wrong: u64,
     /// Changes that were refused.
     pub refused: u64,
-    /// Gets and holds that took more steps than the most that are allowed.
+    /// How often the counter was counted up.
+    pub counted: u64,
+    /// Gets, holds, copies and looks that took more steps than the most that are allowed.
     pub long: u64,
     /// Boxes that were made for rows.
     pub made: u64,
@@ -89,6 +93,7 @@ impl Tally {
             disordered: 0,
             wrong: 0,
             refused: 0,
+            counted: 0,
             long: 0,
             made: 0,
             freed: 0,
@@ -112,6 +117,14 @@ impl Tally {
     pub fn change(&mut self, key: u64) {
         let bucket = (key % BUCKETS as u64) as usize;
         self.changes[bucket] = self.changes[bucket].saturating_add(1);
+    }
+
+    /// The counter was counted up, by a get and a put as the last two calls.
+    pub fn count(&mut self) {
+        self.call();
+        self.call();
+        self.counted = self.counted.saturating_add(1);
+        self.change(COUNTER);
     }
 
     /// A value was taken: each producer's come in the order in which it queued them.
@@ -152,6 +165,7 @@ impl Tally {
         self.disordered = self.disordered.saturating_add(other.disordered);
         self.wrong = self.wrong.saturating_add(other.wrong);
         self.refused = self.refused.saturating_add(other.refused);
+        self.counted = self.counted.saturating_add(other.counted);
         self.long = self.long.saturating_add(other.long);
     }
 

@@ -3,10 +3,10 @@ ghost use Rattle.std.specs.Prelude.{◌≡◌, ◌<◌};
 ghost use Rattle.wfe_threads.specs.Works.{WorksOn};
 
 use crate::boxes::Boxes;
-use crate::tally::{BUCKETS, SPAN, Tally, WORKERS};
-use wfe_drive_shared::{Got, Seat, Shared};
+use crate::tally::{BUCKETS, COUNTER, SPAN, Tally, WORKERS};
+use wfe_drive_shared::{Got, Looked, PutIfRefusal, Seat, Shared};
 
-/// Rounds of each worker, of twenty calls.
+/// Rounds of each worker, of thirty calls.
 pub const ROUNDS: u32 = 500;
 /// Failed tries before a reader asks for help.
 pub const TRIES: u32 = 2;
@@ -16,6 +16,12 @@ pub const PAIRS: u32 = 6;
 pub const GET_STEPS: u64 = 3 * TRIES as u64 + 18 + PAIRS as u64;
 /// The most steps of a hold under Wait-Free Eras, whatever other threads do.
 pub const HOLD_STEPS: u64 = 3 * TRIES as u64 + 16;
+/// The most steps of a copy, whatever other threads do.
+pub const COPY_STEPS: u64 = 2;
+/// The most steps of a look, whatever other threads do.
+pub const LOOK_STEPS: u64 = 3 + PAIRS as u64;
+/// The index at which a version is kept.
+pub const KEPT: u32 = 3;
 
 /// What one thread works with.
 #[derive(Drop)]
@@ -54,6 +60,8 @@ impl Worker {
             self.change_shared_keys(shared, round);
             self.use_queue(shared, round);
             self.hold_rows(shared, round);
+            self.keep_version(shared, round);
+            self.count_up(shared);
             self.keep_house(shared);
         }
     }
@@ -116,6 +124,48 @@ impl Worker {
         self.hold(shared, key);
         self.get(shared, shared_key(round));
         self.release(shared);
+    }
+
+    // A version that is kept at a higher index shows the same while it is kept, though it is replaced.
+    fn keep_version(&mut self, shared: &Shared, round: u32)
+        requires works { WorksOn self.old shared.now }
+        ensures works { WorksOn self.new shared.now }
+    {
+        let key = shared_key(round);
+        self.hold(shared, key);
+        let slot = self.copy(shared);
+        self.release(shared);
+        let first = self.look(shared, key);
+        let version = self.put(shared, key, u64::from(round));
+        let second = self.look(shared, key);
+        self.drop_kept(shared);
+        let none = self.look(shared, key);
+        self.tally.judge(slot.is_some() && none.is_none());
+        self.tally
+            .judge(first == second && shows(first, slot, version));
+    }
+
+    // A key that all workers count up, each by a put at the version at which it has read the count. Where
+    // another change of the bucket came between, it reads again.
+    fn count_up(&mut self, shared: &Shared)
+        requires works { WorksOn self.old shared.now }
+        ensures works { WorksOn self.new shared.now }
+    {
+        for _turn in 0..u64::MAX {
+            let got = shared.get(&mut self.seat, COUNTER);
+            let next = got.value.unwrap_or(0).saturating_add(1);
+            let answer = shared.put_if(&mut self.seat, COUNTER, next, got.version);
+            self.boxes.follow(&self.seat);
+            match answer {
+                Err(PutIfRefusal::Stale { version }) => self.tally.judge(version > got.version),
+                Err(_) => return self.tally.refuse(),
+                Ok(done) => {
+                    self.tally
+                        .judge(done.version == got.version.saturating_add(1));
+                    return self.tally.count();
+                }
+            }
+        }
     }
 
     // The clock is moved on, and the rows that nothing covers go back.
@@ -235,6 +285,34 @@ impl Worker {
         self.tally.call();
     }
 
+    // The slot of the row that is held, which is kept at the higher index too.
+    fn copy(&mut self, shared: &Shared) -> Option<u32>
+        requires works { WorksOn self.old shared.now }
+        ensures works { WorksOn self.new shared.now }
+    {
+        let slot = shared.copy(&mut self.seat, 2, KEPT);
+        self.tally.call_within(self.seat.notes().steps, COPY_STEPS);
+        slot
+    }
+
+    // What the row that is kept shows.
+    fn look(&mut self, shared: &Shared, key: u64) -> Option<Looked>
+        requires works { WorksOn self.old shared.now }
+        ensures works { WorksOn self.new shared.now }
+    {
+        let looked = shared.look(&mut self.seat, KEPT, key);
+        self.tally.call_within(self.seat.notes().steps, LOOK_STEPS);
+        looked
+    }
+
+    fn drop_kept(&mut self, shared: &Shared)
+        requires works { WorksOn self.old shared.now }
+        ensures works { WorksOn self.new shared.now }
+    {
+        shared.drop_index(&mut self.seat, KEPT);
+        self.tally.call();
+    }
+
     fn scan(&mut self, shared: &Shared)
         requires works { WorksOn self.old shared.now }
         ensures works { WorksOn self.new shared.now }
@@ -244,6 +322,14 @@ impl Worker {
         self.tally.call();
         self.tally
             .judge(self.seat.list().len() as u64 == u64::from(scanned.kept));
+    }
+}
+
+// Whether a look has shown the row of this slot, at a version before this one.
+fn shows(looked: Option<Looked>, slot: Option<u32>, version: u64) -> bool {
+    match looked {
+        Some(looked) => slot == Some(looked.slot) && looked.version < version,
+        None => false,
     }
 }
 

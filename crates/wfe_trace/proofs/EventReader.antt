@@ -108,7 +108,11 @@ call_from (w ∷ ws) =
     if bytes_eq w (codes "hold") then one calls.Hold ws else
     if bytes_eq w (codes "release") then done calls.Release ws else
     if bytes_eq w (codes "advance") then done calls.Advance ws else
-    if bytes_eq w (codes "scan") then done calls.Scan ws else None
+    if bytes_eq w (codes "scan") then done calls.Scan ws else
+    if bytes_eq w (codes "copy") then two calls.Copy ws else
+    if bytes_eq w (codes "drop") then one calls.DropIndex ws else
+    if bytes_eq w (codes "look") then two calls.Look ws else
+    if bytes_eq w (codes "put_if") then three calls.PutIf ws else None
 
 abbrev pub answer_from : Read Answer
 answer_from [] = None
@@ -126,6 +130,10 @@ answer_from (w ∷ ws) =
     if bytes_eq w (codes "nothing") then done answers.Nothing ws else
     if bytes_eq w (codes "released") then done answers.Released ws else
     if bytes_eq w (codes "scanned") then two answers.Scanned ws else
+    if bytes_eq w (codes "copied") then one answers.Copied ws else
+    if bytes_eq w (codes "dropped") then done answers.Dropped ws else
+    if bytes_eq w (codes "looked") then number (λ slot. number (λ version. within (λ value. answers.Looked slot version value) value_from)) ws else
+    if bytes_eq w (codes "stale") then one answers.Stale ws else
     within answers.Clock clock_from (w ∷ ws)
 
 -- a guard, and what it published
@@ -154,6 +162,7 @@ event_from (w ∷ ws) =
     if bytes_eq w (codes "held") then three events.Held ws else
     if bytes_eq w (codes "null") then two events.Null ws else
     if bytes_eq w (codes "clear") then two events.Clear ws else
+    if bytes_eq w (codes "copied") then three events.Copied ws else
     if bytes_eq w (codes "put") then four events.Put ws else
     if bytes_eq w (codes "removed") then three events.Removed ws else
     if bytes_eq w (codes "got") then number (λ bucket. number (λ version. number (λ key. within (λ value. events.Got bucket version key value) value_from))) ws else

@@ -65,6 +65,10 @@ call-read (calls.Hold key) fits = rw (read key fits) refl
 call-read calls.Release fits = refl
 call-read calls.Advance fits = refl
 call-read calls.Scan fits = refl
+call-read (calls.Copy from index) fits = rw (read from fits.0, read index fits.1) refl
+call-read (calls.DropIndex index) fits = rw (read index fits) refl
+call-read (calls.Look index key) fits = rw (read index fits.0, read key fits.1) refl
+call-read (calls.PutIf key value version) fits = rw (read key fits.0, read value fits.1, read version fits.2) refl
 
 moved-read : (clock : ClockMove) → ClockFits clock → answer_from (clock_words clock) ≡ Some (answers.Clock clock)
 moved-read clocks.Still fits = refl
@@ -87,6 +91,10 @@ answer-read answers.Nothing fits = refl
 answer-read answers.Released fits = refl
 answer-read (answers.Clock outcome) fits = moved-read outcome fits
 answer-read (answers.Scanned kept back) fits = rw (read kept fits.0, read back fits.1) refl
+answer-read (answers.Copied slot) fits = rw (read slot fits) refl
+answer-read answers.Dropped fits = refl
+answer-read (answers.Looked slot version value) fits = rw (read slot fits.0, read version fits.1, value-read value fits.2) refl
+answer-read (answers.Stale version) fits = rw (read version fits) refl
 
 pub event-read : (event : Event) → EventFits event → event_from (event_words event) ≡ Some event
 event-read (events.Begin call) fits = rw (call-read call fits) refl
@@ -103,6 +111,7 @@ event-read (events.Back slot) fits = rw (read slot fits) refl
 event-read (events.Held index slot steps) fits = rw (read index fits.0, read slot fits.1, read steps fits.2) refl
 event-read (events.Null index steps) fits = rw (read index fits.0, read steps fits.1) refl
 event-read (events.Clear index slot) fits = rw (read index fits.0, read slot fits.1) refl
+event-read (events.Copied from index slot) fits = rw (read from fits.0, read index fits.1, read slot fits.2) refl
 event-read (events.Put bucket version key value) fits = rw (read bucket fits.0, read version fits.1, read key fits.2, read value fits.3) refl
 event-read (events.Removed bucket version key) fits = rw (read bucket fits.0, read version fits.1, read key fits.2) refl
 event-read (events.Got bucket version key value) fits = rw (read bucket fits.0, read version fits.1, read key fits.2, value-read value fits.3) refl

@@ -1,6 +1,6 @@
 -- What holds of a trace's line that is not bad.
-use Rattle.std.proofs.Common.{ℕ, ◌≡◌, ◌<◌, ◌≤◌, ◌&&◌, if◌then◌else◌, nat_lt, nat_le, Bool, true, false, List, [], ◌∷◌, length, Option, None, Result, Ok, Err, refl, sym, subst, arith}
-use Rattle.std.specs.Prelude.{codes}
+use Rattle.std.proofs.Common.{ℕ, ◌≡◌, ◌<◌, ◌≤◌, ◌&&◌, if◌then◌else◌, nat_lt, nat_le, Bool, true, false, List, length, Option, Some, None, Result, Ok, Err, refl, sym, subst, arith}
+use Rattle.std.specs.Prelude.{codes, IfOk}
 use Rattle.std.specs.Result.{result_unwrap_or}
 use Rattle.std.specs.Str.{bytes_eq}
 use Rattle.std.proofs.lemmas.Bool.Decides.{nat_tests}
@@ -9,11 +9,9 @@ use Rattle.wfe_words.specs.declared.config.Field.{Field}
 use Rattle.wfe_words.specs.declared.config.Field.TheVariants as fields
 use Rattle.wfe_words.specs.Config.{allows, bad_field, number_of}
 use Rattle.wfe_defs.specs.declared.command.Command.{Command}
+use Rattle.wfe_defs.specs.declared.call.Call.{Call}
 use Rattle.wfe_trace.specs.declared.body.Numbers.{Numbers}
 use Rattle.wfe_trace.specs.declared.body.Places.{Places}
-use Rattle.wfe_trace.specs.declared.body.Places.TheVariants as places
-use Rattle.wfe_trace.specs.declared.body.Verb.{Verb}
-use Rattle.wfe_trace.specs.declared.body.Verb.TheVariants as verbs
 use Rattle.wfe_trace.specs.declared.item.Item.{Item}
 use Rattle.wfe_trace.specs.declared.item.Item.TheVariants as items
 use Rattle.wfe_trace.specs.declared.item.Mode.{Mode}
@@ -21,15 +19,17 @@ use Rattle.wfe_trace.specs.declared.item.Stage.{Stage}
 use Rattle.wfe_trace.specs.declared.item.Stage.TheVariants as stages
 use Rattle.wfe_trace.specs.declared.reason.Reason.{Reason}
 use Rattle.wfe_trace.specs.declared.reason.Reason.TheVariants as reasons
-use Rattle.wfe_trace.specs.Body.{verb_in, in_form, numbers_in, is_for, seat_of, command_of, judged_line, command_in, IsCommandWithin}
+use Rattle.wfe_trace.specs.declared.verb.Verb.{Verb}
+use Rattle.wfe_trace.specs.declared.verb.Verb.TheVariants as verbs
+use Rattle.wfe_trace.specs.Body.{verb_in, in_form, numbers_in, is_for, seat_of, fits_indexes, call_within, call_of, command_of, judged_line, places_in, command_at, command_in, IsCommandWithin}
 use Rattle.wfe_trace.specs.Good.{is_body, IsRead}
-use Rattle.wfe_trace.specs.Reading.{Reading, judged_at, judged, stage_after, config_after}
-use Rattle.wfe_trace.specs.Setting.{word_after, field_name, scheme_line, number_line, with_number}
+use Rattle.wfe_trace.specs.Reading.{Reading, judged_at, judged, stage_after, version_after, config_after, gives_pairs, IsVersioned}
+use Rattle.wfe_trace.specs.Setting.{version_line, pairs_in, word_after, field_name, scheme_line, number_line, with_number}
 use Rattle.wfe_trace.specs.Words.{words, number_in, need, or_number, ◌>>=◌}
-use Rattle.wfe_trace.proofs.Settings.{bad_field-with_number}
+use Rattle.wfe_trace.proofs.Settings.{bad_field-with_number, versioned-with_number, versioned_first, allows-pairs_in, after-gives_pairs}
 
 -- what follows is good only after a good start
-both_good : {A B : Type 0} (r : Result A Reason) (f : A → Result B Reason) (y : B) → (r >>= f) ≡ Ok y → (x : A) × (r ≡ Ok x) × (f x ≡ Ok y)
+pub both_good : {A B : Type 0} (r : Result A Reason) (f : A → Result B Reason) (y : B) → (r >>= f) ≡ Ok y → (x : A) × (r ≡ Ok x) × (f x ≡ Ok y)
 both_good (Ok x) f y h = (x, refl, h)
 both_good (Err e) f y h = absurd (cc)
 
@@ -50,45 +50,51 @@ seat-of : (seats number : ℕ) (fits : Bool) (seat : ℕ) → nat_lt number seat
 seat-of seats number true seat e h = let same : number ≡ seat = cc in grind (arith, nat_tests)
 seat-of seats number false seat e h = absurd (cc)
 
-same_command : (seats : ℕ) (a c : Command) (r : Result Command Reason) → r ≡ Ok a → r ≡ Ok c → IsCommandWithin seats a → IsCommandWithin seats c
-same_command seats a c r is_a is_c = let same : a ≡ c = cc in subst (IsCommandWithin seats) same
+-- the indexes of a call are in their ranges
+call-within : (indexes : ℕ) (call found : Call) → call_within indexes call ≡ Ok found → fits_indexes indexes found ≡ true
+call-within indexes call found h =
+    let (u, fit, h1) = both_good (need (fits_indexes indexes call) reasons.Range) _ found h in
+    let same : call ≡ found = cc in
+    subst (λ c. fits_indexes indexes c ≡ true) same (needed _ reasons.Range u fit)
+
+same_command : (config : Config) (a c : Command) (r : Result Command Reason) → r ≡ Ok a → r ≡ Ok c → IsCommandWithin config a → IsCommandWithin config c
+same_command config a c r is_a is_c = let same : a ≡ c = cc in subst (IsCommandWithin config) same
 
 -- the units of a step are in their range
 in_range : (seats seat units : ℕ) → seat < seats → nat_le 1 units && nat_le units 100000 ≡ true → (seat < seats) × (1 ≤ units) × (units ≤ 100000)
 in_range seats seat units seated fits = (seated, grind (arith, nat_tests), grind (arith, nat_tests))
 
-command-of : (verb : Verb) (seats seat : ℕ) (n : Numbers) (c : Command) → seat_of seats verb n.seat ≡ Ok seat → command_of verb seat n ≡ Ok c → IsCommandWithin seats c
-command-of verbs.Get seats seat n c named h = same_command seats _ c _ refl h (seat-of seats n.seat (nat_lt n.seat seats) seat refl named)
-command-of verbs.Put seats seat n c named h = same_command seats _ c _ refl h (seat-of seats n.seat (nat_lt n.seat seats) seat refl named)
-command-of verbs.Remove seats seat n c named h = same_command seats _ c _ refl h (seat-of seats n.seat (nat_lt n.seat seats) seat refl named)
-command-of verbs.Enqueue seats seat n c named h = same_command seats _ c _ refl h (seat-of seats n.seat (nat_lt n.seat seats) seat refl named)
-command-of verbs.Dequeue seats seat n c named h = same_command seats _ c _ refl h (seat-of seats n.seat (nat_lt n.seat seats) seat refl named)
-command-of verbs.Hold seats seat n c named h = same_command seats _ c _ refl h (seat-of seats n.seat (nat_lt n.seat seats) seat refl named)
-command-of verbs.Release seats seat n c named h = same_command seats _ c _ refl h (seat-of seats n.seat (nat_lt n.seat seats) seat refl named)
-command-of verbs.Advance seats seat n c named h = same_command seats _ c _ refl h (seat-of seats n.seat (nat_lt n.seat seats) seat refl named)
-command-of verbs.Scan seats seat n c named h = same_command seats _ c _ refl h (seat-of seats n.seat (nat_lt n.seat seats) seat refl named)
-command-of verbs.Run seats seat n c named h = same_command seats _ c _ refl h (seat-of seats n.seat (nat_lt n.seat seats) seat refl named)
-command-of verbs.Step seats seat n c named h =
+command-of : (verb : Verb) (config : Config) (seat : ℕ) (n : Numbers) (c : Command) → seat_of config.seats verb n.seat ≡ Ok seat → command_of config.indexes verb seat n ≡ Ok c → IsCommandWithin config c
+command-of (verbs.Call name) config seat n c named h =
+    let (call, found, h1) = both_good (call_within config.indexes (call_of name n)) _ c h in
+    same_command config _ c _ refl h1 (seat-of config.seats n.seat (nat_lt n.seat config.seats) seat refl named, call-within config.indexes (call_of name n) call found)
+command-of verbs.Step config seat n c named h =
     let (u, fit, h1) = both_good (need (nat_le 1 n.first && nat_le n.first 100000) reasons.Range) _ c h in
-    same_command seats _ c _ refl h1 (in_range seats seat n.first (seat-of seats n.seat (nat_lt n.seat seats) seat refl named) (needed _ reasons.Range u fit))
-command-of verbs.Table seats seat n c named h = same_command seats _ c _ refl h tt
-command-of verbs.End seats seat n c named h = same_command seats _ c _ refl h tt
+    same_command config _ c _ refl h1 (in_range config.seats seat n.first (seat-of config.seats n.seat (nat_lt n.seat config.seats) seat refl named) (needed _ reasons.Range u fit))
+command-of verbs.Run config seat n c named h = same_command config _ c _ refl h (seat-of config.seats n.seat (nat_lt n.seat config.seats) seat refl named)
+command-of verbs.Table config seat n c named h = same_command config _ c _ refl h tt
+command-of verbs.End config seat n c named h = same_command config _ c _ refl h tt
 
-judged-line : (mode : Mode) (seats : ℕ) (named : Option Verb) (line : Places) (c : Command) → judged_line mode seats named line ≡ Ok c → IsCommandWithin seats c
-judged-line mode seats named line c h =
+judged-line : (mode : Mode) (config : Config) (named : Option Verb) (line : Places) (c : Command) → judged_line mode config named line ≡ Ok c → IsCommandWithin config c
+judged-line mode config named line c h =
     let (verb, _, h1) = both_good (in_form named line) _ c h in
     let (numbers, _, h2) = both_good (numbers_in line) _ c h1 in
     let (u, _, h3) = both_good (need (is_for mode verb) reasons.RunLine) _ c h2 in
-    let (seat, seated, h4) = both_good (seat_of seats verb numbers.seat) _ c h3 in
-    command-of verb seats seat numbers c seated h4
+    let (seat, seated, h4) = both_good (seat_of config.seats verb numbers.seat) _ c h3 in
+    command-of verb config seat numbers c seated h4
 
-command-in : (mode : Mode) (seats : ℕ) (ws : List (List ℕ)) (c : Command) → command_in mode seats ws ≡ Ok c → IsCommandWithin seats c
-command-in mode seats [] c h = absurd (cc)
-command-in mode seats (v ∷ []) c h = judged-line mode seats (verb_in v) places.Nothing c h
-command-in mode seats (s ∷ v ∷ []) c h = judged-line mode seats (verb_in v) (places.Seat (number_in s)) c h
-command-in mode seats (s ∷ v ∷ a ∷ []) c h = judged-line mode seats (verb_in v) (places.SeatOne (number_in s) (number_in a)) c h
-command-in mode seats (s ∷ v ∷ a ∷ b ∷ []) c h = judged-line mode seats (verb_in v) (places.SeatTwo (number_in s) (number_in a) (number_in b)) c h
-command-in mode seats (s ∷ v ∷ a ∷ b ∷ d ∷ ws) c h = absurd (cc)
+-- a line that is good asks for what keeps to the setting
+pub line_within : (mode : Mode) (config : Config) (named : Option Verb) (line : Places) (r : Result Command Reason) → r ≡ judged_line mode config named line → IfOk r (IsCommandWithin config)
+line_within mode config named line (Err e) h = tt
+line_within mode config named line (Ok c) h = judged-line mode config named line c (sym h)
+
+command-at : (mode : Mode) (version : ℕ) (config : Config) (placed : Option (List ℕ × Places)) (c : Command) → command_at mode version config placed ≡ Ok c → IsCommandWithin config c
+command-at mode version config None c h = absurd (cc)
+command-at mode version config (Some placed) c h = judged-line mode config (verb_in version placed.0) placed.1 c h
+
+-- what a line of the body asks for keeps to the setting
+command_within : (mode : Mode) (version : ℕ) (config : Config) (ws : List (List ℕ)) (c : Command) → command_in mode version config ws ≡ Ok c → IsCommandWithin config c
+command_within mode version config ws c h = command-at mode version config (places_in ws) c h
 
 number-field : (field : Field) → (is_body (stages.Number field) ≡ false) × (is_body (stage_after (stages.Number field)) ≡ false)
 number-field fields.Seats = (refl, refl)
@@ -108,22 +114,33 @@ bad_field-number : (config : Config) (field : Field) (bytes : List ℕ) (n : ℕ
 bad_field-number config field bytes n h good =
     subst (λ k. bad_field (with_number config field (result_unwrap_or k (number_of config field))) ≡ None) (sym h) (bad_field-with_number config field n good (number-line field (words bytes) n h))
 
+versioned-number : (version : ℕ) (config : Config) (field : Field) (bytes : List ℕ) → gives_pairs (stages.Number field) ≡ false → IsVersioned version config → IsVersioned version (config_after (stages.Number field) config bytes)
+versioned-number version config field bytes other v = versioned-with_number version config field _ other v
+
+-- the first line gives a version, and the pairs of that version
+bad_field-first : (config : Config) (bytes : List ℕ) (version : ℕ) → version_line bytes ≡ Ok version → bad_field config ≡ None → bad_field (config_after stages.First config bytes) ≡ None
+bad_field-first config bytes version h good = bad_field-with_number config fields.Pairs (pairs_in (result_unwrap_or (version_line bytes) 1)) good (allows-pairs_in (result_unwrap_or (version_line bytes) 1))
+
+versioned-first : (config : Config) (old : ℕ) (bytes : List ℕ) (version : ℕ) → version_line bytes ≡ Ok version → IsVersioned (version_after stages.First old bytes) (config_after stages.First config bytes)
+versioned-first config old bytes version h =
+    subst (λ k. IsVersioned (result_unwrap_or k old) (with_number config fields.Pairs (pairs_in (result_unwrap_or k 1)))) (sym h) (versioned_first bytes config version h)
+
 read-at : (stage : Stage) (r : Reading) (bytes : List ℕ) (item : Item) → judged_at stage r bytes ≡ Ok item → IsRead r stage bytes item
 read-at stages.First r bytes item h =
-    let (u, _, h1) = both_good (need (bytes_eq bytes (codes "wfe 1")) reasons.First) _ item h in
-    same_item r stages.First bytes items.Setting item _ refl h1 (record { placed = (refl, refl); within = λ good. good })
+    let (version, named, h1) = both_good (version_line bytes) _ item h in
+    same_item r stages.First bytes items.Setting item _ refl h1 (record { placed = (refl, refl); within = bad_field-first r.config bytes version named; versioned = λ other v. versioned-first r.config r.version bytes version named; next = refl })
 read-at stages.Scheme r bytes item h =
     let (scheme, _, h1) = both_good (scheme_line (words bytes)) _ item h in
-    same_item r stages.Scheme bytes items.Setting item _ refl h1 (record { placed = (refl, refl); within = λ good. good })
+    same_item r stages.Scheme bytes items.Setting item _ refl h1 (record { placed = (refl, refl); within = λ good. good; versioned = λ other v. v; next = refl })
 read-at (stages.Number field) r bytes item h =
     let (number, numbered, h1) = both_good (number_line field (words bytes)) _ item h in
-    same_item r (stages.Number field) bytes items.Setting item _ refl h1 (record { placed = number-field field; within = bad_field-number r.config field bytes number numbered })
+    same_item r (stages.Number field) bytes items.Setting item _ refl h1 (record { placed = number-field field; within = bad_field-number r.config field bytes number numbered; versioned = versioned-number r.version r.config field bytes; next = after-gives_pairs (stages.Number field) })
 read-at stages.Begin r bytes item h =
     let (u, _, h1) = both_good (need (bytes_eq bytes (codes "begin")) reasons.Config) _ item h in
-    same_item r stages.Begin bytes (items.Ready r.version r.config) item _ refl h1 (record { placed = (refl, refl, refl); within = λ good. good })
+    same_item r stages.Begin bytes (items.Ready r.version r.config) item _ refl h1 (record { placed = (refl, refl, refl); within = λ good. good; versioned = λ other v. v; next = refl })
 read-at stages.Body r bytes item h =
-    let (c, said, h1) = both_good (command_in r.mode r.config.seats (words bytes)) _ item h in
-    same_item r stages.Body bytes (items.Command c) item _ refl h1 (record { placed = (refl, refl, command-in r.mode r.config.seats (words bytes) c said); within = λ good. good })
+    let (c, said, h1) = both_good (command_in r.mode r.version r.config (words bytes)) _ item h in
+    same_item r stages.Body bytes (items.Command c) item _ refl h1 (record { placed = (refl, refl, command_within r.mode r.version r.config (words bytes) c said); within = λ good. good; versioned = λ other v. v; next = refl })
 
 -- a line that is not bad stands where its item says, and the setting's numbers stay in their ranges
 pub judged-read : (r : Reading) (bytes : List ℕ) (item : Item) → judged r bytes ≡ Ok item → IsRead r r.stage bytes item

@@ -48,7 +48,7 @@ value-short value fits = search (rules, decimal-short)
 clock-short : (clock : ClockMove) → ClockFits clock → Short 2 (clock_words clock)
 clock-short clock fits = search (rules, decimal-short)
 
-call-short : (call : Call) → CallFits call → Short 3 (call_words call)
+call-short : (call : Call) → CallFits call → Short 4 (call_words call)
 call-short call fits = search (rules, decimal-short)
 
 answer-short : (answer : Answer) → AnswerFits answer → Short 5 (answer_words answer)

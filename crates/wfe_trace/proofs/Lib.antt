@@ -10,3 +10,4 @@ pub mod Reasons
 pub mod Settings
 pub mod Spaces
 pub mod Texts
+pub mod Versions

@@ -1,23 +1,25 @@
--- For which reasons a line of version 1 is bad.
+-- For which reasons a line is bad.
 use Rattle.std.proofs.Common.{ℕ, ◌≡◌, ◌==◌, ◌&&◌, if◌then◌else◌, nat_lt, nat_le, Bool, true, false, List, [], ◌∷◌, length, Option, Some, None, Result, Ok, Err, refl, sym, ap, ◌∙◌}
 use Rattle.std.specs.Prelude.{codes}
 use Rattle.std.specs.Str.{bytes_eq}
+use Rattle.wfe_words.specs.declared.config.Config.{Config}
 use Rattle.wfe_words.specs.declared.config.Field.{Field}
 use Rattle.wfe_words.specs.Config.{allows}
+use Rattle.wfe_defs.specs.declared.call.Call.{Call}
 use Rattle.wfe_trace.specs.declared.body.Numbers.{Numbers}
 use Rattle.wfe_trace.specs.declared.body.Places.{Places}
 use Rattle.wfe_trace.specs.declared.body.Places.TheVariants as places
-use Rattle.wfe_trace.specs.declared.body.Verb.{Verb}
-use Rattle.wfe_trace.specs.declared.body.Verb.TheVariants as verbs
 use Rattle.wfe_trace.specs.declared.item.Mode.{Mode}
 use Rattle.wfe_trace.specs.declared.item.Stage.{Stage}
 use Rattle.wfe_trace.specs.declared.item.Stage.TheVariants as stages
 use Rattle.wfe_trace.specs.declared.reason.Reason.{Reason}
 use Rattle.wfe_trace.specs.declared.reason.Reason.TheVariants as reasons
-use Rattle.wfe_trace.specs.Body.{verb_in, count_of, count_in, in_form, numbers_in, is_for, seat_of, command_of, judged_line, command_in}
+use Rattle.wfe_trace.specs.declared.verb.Verb.{Verb}
+use Rattle.wfe_trace.specs.declared.verb.Verb.TheVariants as verbs
+use Rattle.wfe_trace.specs.Body.{verb_in, count_of, count_in, in_form, numbers_in, is_for, names_seat, seat_of, fits_indexes, call_within, call_of, command_of, judged_line, places_in, command_at, command_in}
 use Rattle.wfe_trace.specs.Good.{is_of_line}
 use Rattle.wfe_trace.specs.Reading.{Reading, judged_at, judged}
-use Rattle.wfe_trace.specs.Setting.{word_after, field_name, scheme_in, scheme_line, number_line}
+use Rattle.wfe_trace.specs.Setting.{version_line, word_after, field_name, scheme_in, scheme_line, number_line}
 use Rattle.wfe_trace.specs.Words.{words, number_in, need, or_number, ◌>>=◌}
 
 -- good, or bad for a reason of a line
@@ -39,6 +41,9 @@ needed test reason known = choice test (Ok tt) (Err reason) refl known
 number : (n : Option ℕ) → is_line_result (or_number n) ≡ true
 number None = refl
 number (Some n) = refl
+
+version-line : (bytes : List ℕ) → is_line_result (version_line bytes) ≡ true
+version-line bytes = choice (bytes_eq bytes (codes "wfe 1")) _ _ refl (choice (bytes_eq bytes (codes "wfe 2")) _ _ refl (choice (bytes_eq bytes (codes "wfe 3")) _ _ refl refl))
 
 word-after : (name : List ℕ) (ws : List (List ℕ)) → is_line_result (word_after name ws) ≡ true
 word-after name [] = refl
@@ -68,50 +73,46 @@ numbers-in (places.Seat s) = both (or_number s) _ (number s) (λ seat. refl)
 numbers-in (places.SeatOne s a) = both (or_number s) _ (number s) (λ seat. both (or_number a) _ (number a) (λ first. refl))
 numbers-in (places.SeatTwo s a b) =
     both (or_number s) _ (number s) (λ seat. both (or_number a) _ (number a) (λ first. both (or_number b) _ (number b) (λ second. refl)))
+numbers-in (places.SeatThree s a b c) =
+    both (or_number s) _ (number s) (λ seat. both (or_number a) _ (number a) (λ first. both (or_number b) _ (number b) (λ second. both (or_number c) _ (number c) (λ third. refl))))
 
 seat-of : (seats : ℕ) (verb : Verb) (seat : ℕ) → is_line_result (seat_of seats verb seat) ≡ true
-seat-of seats verb seat = choice (count_of verb == 0) _ _ refl (choice (nat_lt seat seats) (Ok seat) (Err reasons.Seat) refl refl)
+seat-of seats verb seat = choice (names_seat verb) _ _ (choice (nat_lt seat seats) (Ok seat) (Err reasons.Seat) refl refl) refl
 
-command-of : (verb : Verb) (seat : ℕ) (n : Numbers) → is_line_result (command_of verb seat n) ≡ true
-command-of verbs.Step seat n = both (need (nat_le 1 n.first && nat_le n.first 100000) reasons.Range) _ (needed _ reasons.Range refl) (λ u. refl)
-command-of verbs.Get seat n = refl
-command-of verbs.Put seat n = refl
-command-of verbs.Remove seat n = refl
-command-of verbs.Enqueue seat n = refl
-command-of verbs.Dequeue seat n = refl
-command-of verbs.Hold seat n = refl
-command-of verbs.Release seat n = refl
-command-of verbs.Advance seat n = refl
-command-of verbs.Scan seat n = refl
-command-of verbs.Run seat n = refl
-command-of verbs.Table seat n = refl
-command-of verbs.End seat n = refl
+call-within : (indexes : ℕ) (call : Call) → is_line_result (call_within indexes call) ≡ true
+call-within indexes call = both (need (fits_indexes indexes call) reasons.Range) _ (needed _ reasons.Range refl) (λ u. refl)
 
-judged-line : (mode : Mode) (seats : ℕ) (named : Option Verb) (line : Places) → is_line_result (judged_line mode seats named line) ≡ true
-judged-line mode seats named line =
+command-of : (indexes : ℕ) (verb : Verb) (seat : ℕ) (n : Numbers) → is_line_result (command_of indexes verb seat n) ≡ true
+command-of indexes (verbs.Call named) seat n = both (call_within indexes (call_of named n)) _ (call-within indexes (call_of named n)) (λ call. refl)
+command-of indexes verbs.Step seat n = both (need (nat_le 1 n.first && nat_le n.first 100000) reasons.Range) _ (needed _ reasons.Range refl) (λ u. refl)
+command-of indexes verbs.Run seat n = refl
+command-of indexes verbs.Table seat n = refl
+command-of indexes verbs.End seat n = refl
+
+judged-line : (mode : Mode) (config : Config) (named : Option Verb) (line : Places) → is_line_result (judged_line mode config named line) ≡ true
+judged-line mode config named line =
     both (in_form named line) _ (in-form named line) (λ verb.
     both (numbers_in line) _ (numbers-in line) (λ numbers.
     both (need (is_for mode verb) reasons.RunLine) _ (needed (is_for mode verb) reasons.RunLine refl) (λ u.
-    both (seat_of seats verb numbers.seat) _ (seat-of seats verb numbers.seat) (λ seat. command-of verb seat numbers))))
+    both (seat_of config.seats verb numbers.seat) _ (seat-of config.seats verb numbers.seat) (λ seat. command-of config.indexes verb seat numbers))))
 
-command-in : (mode : Mode) (seats : ℕ) (ws : List (List ℕ)) → is_line_result (command_in mode seats ws) ≡ true
-command-in mode seats [] = refl
-command-in mode seats (v ∷ []) = judged-line mode seats (verb_in v) places.Nothing
-command-in mode seats (s ∷ v ∷ []) = judged-line mode seats (verb_in v) (places.Seat (number_in s))
-command-in mode seats (s ∷ v ∷ a ∷ []) = judged-line mode seats (verb_in v) (places.SeatOne (number_in s) (number_in a))
-command-in mode seats (s ∷ v ∷ a ∷ b ∷ []) = judged-line mode seats (verb_in v) (places.SeatTwo (number_in s) (number_in a) (number_in b))
-command-in mode seats (s ∷ v ∷ a ∷ b ∷ d ∷ ws) = refl
+command-at : (mode : Mode) (version : ℕ) (config : Config) (placed : Option (List ℕ × Places)) → is_line_result (command_at mode version config placed) ≡ true
+command-at mode version config None = refl
+command-at mode version config (Some placed) = judged-line mode config (verb_in version placed.0) placed.1
+
+command-in : (mode : Mode) (version : ℕ) (config : Config) (ws : List (List ℕ)) → is_line_result (command_in mode version config ws) ≡ true
+command-in mode version config ws = command-at mode version config (places_in ws)
 
 judged-at : (stage : Stage) (r : Reading) (bytes : List ℕ) → is_line_result (judged_at stage r bytes) ≡ true
-judged-at stages.First r bytes = both (need (bytes_eq bytes (codes "wfe 1")) reasons.First) _ (needed _ reasons.First refl) (λ u. refl)
+judged-at stages.First r bytes = both (version_line bytes) _ (version-line bytes) (λ version. refl)
 judged-at stages.Scheme r bytes = both (scheme_line (words bytes)) _ (scheme-line (words bytes)) (λ scheme. refl)
 judged-at (stages.Number field) r bytes = both (number_line field (words bytes)) _ (number-line field (words bytes)) (λ n. refl)
 judged-at stages.Begin r bytes = both (need (bytes_eq bytes (codes "begin")) reasons.Config) _ (needed _ reasons.Config refl) (λ u. refl)
-judged-at stages.Body r bytes = both (command_in r.mode r.config.seats (words bytes)) _ (command-in r.mode r.config.seats (words bytes)) (λ c. refl)
+judged-at stages.Body r bytes = both (command_in r.mode r.version r.config (words bytes)) _ (command-in r.mode r.version r.config (words bytes)) (λ c. refl)
 
 -- a line of the body is bad for a reason of a line
-pub reason_in_body : (mode : Mode) (seats : ℕ) (ws : List (List ℕ)) (reason : Reason) → command_in mode seats ws ≡ Err reason → is_of_line reason ≡ true
-reason_in_body mode seats ws reason h = sym (ap is_line_result h) ∙ command-in mode seats ws
+pub reason_in_body : (mode : Mode) (version : ℕ) (config : Config) (ws : List (List ℕ)) (reason : Reason) → command_in mode version config ws ≡ Err reason → is_of_line reason ≡ true
+reason_in_body mode version config ws reason h = sym (ap is_line_result h) ∙ command-in mode version config ws
 
 -- a line at its place in the trace is bad for a reason of a line
 pub reason_at : (stage : Stage) (r : Reading) (bytes : List ℕ) (reason : Reason) → judged_at stage r bytes ≡ Err reason → is_of_line reason ≡ true

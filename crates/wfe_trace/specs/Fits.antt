@@ -53,6 +53,10 @@ CallFits (calls.Hold key) = NumberFits key
 CallFits calls.Release = Unit {0}
 CallFits calls.Advance = Unit {0}
 CallFits calls.Scan = Unit {0}
+CallFits (calls.Copy from index) = NumberFits from × NumberFits index
+CallFits (calls.DropIndex index) = NumberFits index
+CallFits (calls.Look index key) = NumberFits index × NumberFits key
+CallFits (calls.PutIf key value version) = NumberFits key × NumberFits value × NumberFits version
 
 abbrev pub AnswerFits : Answer → Type 0
 AnswerFits (answers.Got version value) = NumberFits version × ValueFits value
@@ -69,6 +73,10 @@ AnswerFits answers.Nothing = Unit {0}
 AnswerFits answers.Released = Unit {0}
 AnswerFits (answers.Clock outcome) = ClockFits outcome
 AnswerFits (answers.Scanned kept back) = NumberFits kept × NumberFits back
+AnswerFits (answers.Copied slot) = NumberFits slot
+AnswerFits answers.Dropped = Unit {0}
+AnswerFits (answers.Looked slot version value) = NumberFits slot × NumberFits version × ValueFits value
+AnswerFits (answers.Stale version) = NumberFits version
 
 -- each number of the event has at most 64 bits
 abbrev pub EventFits : Event → Type 0
@@ -86,6 +94,7 @@ EventFits (events.Back slot) = NumberFits slot
 EventFits (events.Held index slot steps) = NumberFits index × NumberFits slot × NumberFits steps
 EventFits (events.Null index steps) = NumberFits index × NumberFits steps
 EventFits (events.Clear index slot) = NumberFits index × NumberFits slot
+EventFits (events.Copied from index slot) = NumberFits from × NumberFits index × NumberFits slot
 EventFits (events.Put bucket version key value) = NumberFits bucket × NumberFits version × NumberFits key × NumberFits value
 EventFits (events.Removed bucket version key) = NumberFits bucket × NumberFits version × NumberFits key
 EventFits (events.Got bucket version key value) = NumberFits bucket × NumberFits version × NumberFits key × ValueFits value

@@ -7,8 +7,10 @@ use Rattle.wfe_trace.specs.declared.item.Stage.{Stage}
 use Rattle.wfe_trace.specs.declared.item.Stage.TheVariants as stages
 use Rattle.wfe_trace.specs.declared.reason.Reason.{Reason}
 use Rattle.wfe_trace.specs.declared.reason.Reason.TheVariants as reasons
+use Rattle.wfe_defs.specs.declared.call.Call.{Call}
+use Rattle.wfe_defs.specs.declared.call.Call.TheVariants as calls
 use Rattle.wfe_trace.specs.Body.{IsCommandWithin}
-use Rattle.wfe_trace.specs.Reading.{Reading, stage_after, config_after}
+use Rattle.wfe_trace.specs.Reading.{Reading, stage_after, version_after, config_after, gives_pairs, IsVersioned}
 
 -- a line of the body comes next
 abbrev pub is_body : Stage → Bool
@@ -22,14 +24,16 @@ is_body stages.Body = true
 abbrev pub Placed : Reading → Stage → Item → Type 0
 Placed r stage items.Setting = (is_body stage ≡ false) × (is_body (stage_after stage) ≡ false)
 Placed r stage (items.Ready version config) = (is_body stage ≡ false) × (is_body (stage_after stage) ≡ true) × (config ≡ r.config)
-Placed r stage (items.Command c) = (is_body stage ≡ true) × (is_body (stage_after stage) ≡ true) × IsCommandWithin r.config.seats c
+Placed r stage (items.Command c) = (is_body stage ≡ true) × (is_body (stage_after stage) ≡ true) × IsCommandWithin r.config c
 
--- a line that is not bad stands where its item says, and leaves the setting's numbers in their ranges
+-- a line that is not bad stands where its item says, leaves the setting's numbers in their ranges, and leaves it the pairs of its version
 pub record IsRead (r : Reading) (stage : Stage) (bytes : List ℕ) (item : Item) : Type 0 where
   pub placed : Placed r stage item
   pub within : bad_field r.config ≡ None → bad_field (config_after stage r.config bytes) ≡ None
+  pub versioned : gives_pairs stage ≡ false → IsVersioned r.version r.config → IsVersioned (version_after stage r.version bytes) (config_after stage r.config bytes)
+  pub next : gives_pairs (stage_after stage) ≡ false
 
--- a reason that a line of version 1 can give by itself: the others are of calls that have not ended, of the whole trace, or of what is not built
+-- a reason that a line can give by itself: the others are of calls that have not ended, of the whole trace, or of what is not built
 abbrev pub is_of_line : Reason → Bool
 is_of_line reasons.First = true
 is_of_line reasons.Config = true
@@ -44,3 +48,11 @@ is_of_line reasons.LongTrace = false
 is_of_line reasons.NoEnd = false
 is_of_line reasons.AfterEnd = false
 is_of_line reasons.NotYet = false
+
+-- the first version whose traces have the call
+abbrev pub version_of : Call → ℕ
+version_of (calls.Copy from index) = 2
+version_of (calls.DropIndex index) = 2
+version_of (calls.Look index key) = 2
+version_of (calls.PutIf key value version) = 3
+version_of call = 1

@@ -72,6 +72,10 @@ call_words (calls.Hold key) = codes "hold" ∷ decimal key ∷ []
 call_words calls.Release = codes "release" ∷ []
 call_words calls.Advance = codes "advance" ∷ []
 call_words calls.Scan = codes "scan" ∷ []
+call_words (calls.Copy from index) = codes "copy" ∷ decimal from ∷ decimal index ∷ []
+call_words (calls.DropIndex index) = codes "drop" ∷ decimal index ∷ []
+call_words (calls.Look index key) = codes "look" ∷ decimal index ∷ decimal key ∷ []
+call_words (calls.PutIf key value version) = codes "put_if" ∷ decimal key ∷ decimal value ∷ decimal version ∷ []
 
 abbrev pub answer_words : Answer → List (List ℕ)
 answer_words (answers.Got version value) = codes "got" ∷ decimal version ∷ value_words value
@@ -88,6 +92,19 @@ answer_words answers.Nothing = codes "nothing" ∷ []
 answer_words answers.Released = codes "released" ∷ []
 answer_words (answers.Clock outcome) = clock_words outcome
 answer_words (answers.Scanned kept back) = codes "scanned" ∷ decimal kept ∷ decimal back ∷ []
+answer_words (answers.Copied slot) = codes "copied" ∷ decimal slot ∷ []
+answer_words answers.Dropped = codes "dropped" ∷ []
+answer_words (answers.Looked slot version value) = codes "looked" ∷ decimal slot ∷ decimal version ∷ value_words value
+answer_words (answers.Stale version) = codes "stale" ∷ decimal version ∷ []
+
+-- an answer with what the call found or did: a key's value, or a move of the clock
+abbrev pub tells_outcome : Answer → Bool
+tells_outcome (answers.Got version value) = true
+tells_outcome (answers.Done version clock) = true
+tells_outcome (answers.Taken number value clock) = true
+tells_outcome (answers.Clock outcome) = true
+tells_outcome (answers.Looked slot version value) = true
+tells_outcome _ = false
 
 abbrev pub event_words : Event → List (List ℕ)
 event_words (events.Begin call) = codes "begin" ∷ call_words call
@@ -104,6 +121,7 @@ event_words (events.Back slot) = codes "back" ∷ decimal slot ∷ []
 event_words (events.Held index slot steps) = codes "held" ∷ decimal index ∷ decimal slot ∷ decimal steps ∷ []
 event_words (events.Null index steps) = codes "null" ∷ decimal index ∷ decimal steps ∷ []
 event_words (events.Clear index slot) = codes "clear" ∷ decimal index ∷ decimal slot ∷ []
+event_words (events.Copied from index slot) = codes "copied" ∷ decimal from ∷ decimal index ∷ decimal slot ∷ []
 event_words (events.Put bucket version key value) = codes "put" ∷ decimal bucket ∷ decimal version ∷ decimal key ∷ decimal value ∷ []
 event_words (events.Removed bucket version key) = codes "removed" ∷ decimal bucket ∷ decimal version ∷ decimal key ∷ []
 event_words (events.Got bucket version key value) = codes "got" ∷ decimal bucket ∷ decimal version ∷ decimal key ∷ value_words value
@@ -118,6 +136,14 @@ tells_contents (events.Got bucket version key value) = true
 tells_contents (events.Queued number value) = true
 tells_contents (events.Taken number value) = true
 tells_contents _ = false
+
+-- an event of a protection at an index
+abbrev pub tells_standing : Event → Bool
+tells_standing (events.Held index slot steps) = true
+tells_standing (events.Null index steps) = true
+tells_standing (events.Clear index slot) = true
+tells_standing (events.Copied from index slot) = true
+tells_standing _ = false
 
 -- the line of an event of a seat
 abbrev pub event_line : ℕ → Event → List ℕ

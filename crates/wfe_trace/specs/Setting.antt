@@ -1,5 +1,5 @@
 -- The lines of a trace before its body.
-use Rattle.std.specs.Prelude.{if◌then◌else◌, ℕ, List, [], ◌∷◌, Result, Ok, Err, codes}
+use Rattle.std.specs.Prelude.{if◌then◌else◌, nat_le, ℕ, List, [], ◌∷◌, Result, Ok, Err, codes}
 use Rattle.std.specs.Str.{bytes_eq}
 use Rattle.wfe_words.specs.declared.config.SchemeKind.{SchemeKind}
 use Rattle.wfe_words.specs.declared.config.SchemeKind.TheVariants as schemes
@@ -10,6 +10,17 @@ use Rattle.wfe_words.specs.Config.{allows}
 use Rattle.wfe_trace.specs.declared.reason.Reason.{Reason}
 use Rattle.wfe_trace.specs.declared.reason.Reason.TheVariants as reasons
 use Rattle.wfe_trace.specs.Words.{number_in, need, or_number, ◌>>=◌}
+
+-- the version that the first line names, of those that are read
+abbrev pub version_line : List ℕ → Result ℕ Reason
+version_line bytes =
+    if bytes_eq bytes (codes "wfe 1") then Ok 1 else
+    if bytes_eq bytes (codes "wfe 2") then Ok 2 else
+    if bytes_eq bytes (codes "wfe 3") then Ok 3 else Err reasons.First
+
+-- for how many pairs a row has room, in traces of the version
+abbrev pub pairs_in : ℕ → ℕ
+pairs_in version = if nat_le 3 version then 14 else 6
 
 -- the word after the one that a line of the setting begins with
 abbrev pub word_after : List ℕ → List (List ℕ) → Result (List ℕ) Reason

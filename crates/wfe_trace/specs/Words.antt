@@ -4,7 +4,7 @@ use Rattle.std.specs.List.{list_all}
 use Rattle.wfe_trace.specs.declared.reason.Reason.{Reason}
 use Rattle.wfe_trace.specs.declared.reason.Reason.TheVariants as reasons
 use Rattle.wfe_trace.specs.declared.words.Words.{Words}
-use Rattle.wfe_trace.specs.declared.words.Words.TheVariants.{One, Two, Three, Four, More}
+use Rattle.wfe_trace.specs.declared.words.Words.TheVariants.{One, Two, Three, Four, Five, More}
 
 -- one more byte at the front of the first word
 abbrev pub onto_first : ℕ → List (List ℕ) → List (List ℕ)
@@ -21,13 +21,14 @@ abbrev pub words_after : Option (List ℕ) → List (List ℕ)
 words_after None = []
 words_after (Some rest) = words rest
 
--- the words, where there are at most four
+-- the words, where there are at most five
 abbrev pub Shows : Words → List (List ℕ) → Type 0
 Shows (One a) ws = ws ≡ a.now ∷ []
 Shows (Two a b) ws = ws ≡ a.now ∷ b.now ∷ []
 Shows (Three a b c) ws = ws ≡ a.now ∷ b.now ∷ c.now ∷ []
 Shows (Four a b c d) ws = ws ≡ a.now ∷ b.now ∷ c.now ∷ d.now ∷ []
-Shows More ws = 4 < length ws
+Shows (Five a b c d e) ws = ws ≡ a.now ∷ b.now ∷ c.now ∷ d.now ∷ e.now ∷ []
+Shows More ws = 5 < length ws
 
 abbrev pub is_digit : ℕ → Bool
 is_digit c = nat_le 48 c && nat_le c 57

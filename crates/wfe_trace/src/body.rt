@@ -1,29 +1,13 @@
-// The body lines of a trace: all forms of version 1.
-ghost use Rattle.std.specs.Prelude.{◌≡◌, ℕ, IfOk, IsTrue};
-ghost use Rattle.wfe_trace.specs.Body.{verb_in, count_of as count, count_in, in_form as form, numbers_in, is_for as fits, seat_of as named_seat, command_of as command, judged_line, command_in, is_seat, IsCommandWithin};
+// The body lines of a trace, in each version that is read.
+ghost use Rattle.std.specs.Prelude.{◌≡◌, IfOk, option_map};
+ghost use Rattle.wfe_trace.specs.Body.{count_in, in_form as form, numbers_in, seat_of as named_seat, call_within, call_of as call_with, command_of as command, judged_line, places_in, command_in, IsCommandWithin};
 ghost use Rattle.wfe_trace.specs.Words.{words};
 
+use crate::verb::{CallVerb, Verb, count_of, is_for, names_seat, verb_of};
 use crate::words::{Words, need, number_of, or_number, words_of};
 use crate::{Mode, Reason};
 use wfe_defs::{Call, Command};
-
-/// The word that names what a line asks for.
-#[derive(Clone, Copy)]
-pub enum Verb {
-    Get,
-    Put,
-    Remove,
-    Enqueue,
-    Dequeue,
-    Hold,
-    Release,
-    Advance,
-    Scan,
-    Step,
-    Run,
-    Table,
-    End,
-}
+use wfe_words::Config;
 
 /// The words in the places of numbers, the seat's first: None is a word that is no number.
 #[derive(Clone, Copy)]
@@ -32,6 +16,7 @@ pub enum Places {
     Seat(Option<u64>),
     SeatOne(Option<u64>, Option<u64>),
     SeatTwo(Option<u64>, Option<u64>, Option<u64>),
+    SeatThree(Option<u64>, Option<u64>, Option<u64>, Option<u64>),
 }
 
 /// The numbers of a line, 0 in a place that the line does not have.
@@ -40,51 +25,7 @@ pub struct Numbers {
     pub seat: u64,
     pub first: u64,
     pub second: u64,
-}
-
-fn verb_of(word: &[u8]) -> Option<Verb>
-    ensures { result ≡ verb_in word.now }
-{
-    if word == b"get".as_slice() {
-        Some(Verb::Get)
-    } else if word == b"put".as_slice() {
-        Some(Verb::Put)
-    } else if word == b"remove".as_slice() {
-        Some(Verb::Remove)
-    } else if word == b"enq".as_slice() {
-        Some(Verb::Enqueue)
-    } else if word == b"deq".as_slice() {
-        Some(Verb::Dequeue)
-    } else if word == b"hold".as_slice() {
-        Some(Verb::Hold)
-    } else if word == b"release".as_slice() {
-        Some(Verb::Release)
-    } else if word == b"advance".as_slice() {
-        Some(Verb::Advance)
-    } else if word == b"scan".as_slice() {
-        Some(Verb::Scan)
-    } else if word == b"step".as_slice() {
-        Some(Verb::Step)
-    } else if word == b"run".as_slice() {
-        Some(Verb::Run)
-    } else if word == b"table".as_slice() {
-        Some(Verb::Table)
-    } else if word == b"end".as_slice() {
-        Some(Verb::End)
-    } else {
-        None
-    }
-}
-
-fn count_of(verb: Verb) -> usize
-    ensures { result ≡ count verb }
-{
-    match verb {
-        Verb::Table | Verb::End => 0,
-        Verb::Dequeue | Verb::Release | Verb::Advance | Verb::Scan | Verb::Run => 1,
-        Verb::Get | Verb::Remove | Verb::Enqueue | Verb::Hold | Verb::Step => 2,
-        Verb::Put => 3,
-    }
+    pub third: u64,
 }
 
 impl Places {
@@ -96,22 +37,25 @@ impl Places {
             Places::Seat(_) => 1,
             Places::SeatOne(..) => 2,
             Places::SeatTwo(..) => 3,
+            Places::SeatThree(..) => 4,
         }
     }
 
     fn numbers(self) -> Result<Numbers, Reason>
         ensures { result ≡ numbers_in self }
     {
-        let (seat, first, second) = match self {
-            Places::Nothing => (Some(0), Some(0), Some(0)),
-            Places::Seat(seat) => (seat, Some(0), Some(0)),
-            Places::SeatOne(seat, first) => (seat, first, Some(0)),
-            Places::SeatTwo(seat, first, second) => (seat, first, second),
+        let (seat, first, second, third) = match self {
+            Places::Nothing => (Some(0), Some(0), Some(0), Some(0)),
+            Places::Seat(seat) => (seat, Some(0), Some(0), Some(0)),
+            Places::SeatOne(seat, first) => (seat, first, Some(0), Some(0)),
+            Places::SeatTwo(seat, first, second) => (seat, first, second, Some(0)),
+            Places::SeatThree(seat, first, second, third) => (seat, first, second, third),
         };
         Ok(Numbers {
             seat: or_number(seat)?,
             first: or_number(first)?,
             second: or_number(second)?,
+            third: or_number(third)?,
         })
     }
 }
@@ -125,17 +69,10 @@ fn in_form(named: Option<Verb>, line: Places) -> Result<Verb, Reason>
     }
 }
 
-fn is_for(mode: Mode, verb: Verb) -> bool
-    ensures { result ≡ fits mode verb }
-{
-    !matches!((mode, verb), (Mode::Run, Verb::Step | Verb::Table))
-}
-
 fn seat_of(seats: u32, verb: Verb, seat: u64) -> Result<u32, Reason>
-    ensures seat { result ≡ named_seat seats verb seat }
-    ensures within { IfOk result (λ s. IsTrue (is_seat seats verb s)) }
+    ensures { result ≡ named_seat seats verb seat }
 {
-    if count_of(verb) == 0 {
+    if !names_seat(verb) {
         Ok(0)
     } else if seat < seats as u64 {
         Ok(seat as u32)
@@ -144,73 +81,133 @@ fn seat_of(seats: u32, verb: Verb, seat: u64) -> Result<u32, Reason>
     }
 }
 
-fn command_of(verb: Verb, seat: u32, numbers: Numbers) -> Result<Command, Reason>
-    ensures command { result ≡ command verb seat numbers }
-    ensures within { (seats : ℕ) → IsTrue (is_seat seats verb seat) → IfOk result (IsCommandWithin seats) }
+// A copy, where it goes upwards between two of so many indexes, both from 2 on.
+fn copy_of(indexes: u32, from: u64, index: u64) -> Result<Call, Reason>
+    ensures { result ≡ call_within indexes (Call.Copy from index) }
+{
+    let upwards = 2 <= from && (from < index && index < indexes as u64);
+    need(upwards, Reason::Range)?;
+    Ok(Call::Copy {
+        from: from as u32,
+        index: index as u32,
+    })
+}
+
+// A drop, where it names one of so many indexes from 2 on.
+fn drop_of(indexes: u32, index: u64) -> Result<Call, Reason>
+    ensures { result ≡ call_within indexes (Call.DropIndex index) }
+{
+    need(2 <= index && index < indexes as u64, Reason::Range)?;
+    let index = index as u32;
+    Ok(Call::DropIndex { index })
+}
+
+// A look, where it names one of so many indexes from 2 on.
+fn look_of(indexes: u32, index: u64, key: u64) -> Result<Call, Reason>
+    ensures { result ≡ call_within indexes (Call.Look index key) }
+{
+    need(2 <= index && index < indexes as u64, Reason::Range)?;
+    let index = index as u32;
+    Ok(Call::Look { index, key })
+}
+
+fn call_of(indexes: u32, verb: CallVerb, numbers: Numbers) -> Result<Call, Reason>
+    ensures { result ≡ call_within indexes (call_with verb numbers) }
 {
     let call = match verb {
-        Verb::Get => Call::Get { key: numbers.first },
-        Verb::Put => Call::Put {
+        CallVerb::Get => Call::Get { key: numbers.first },
+        CallVerb::Put => Call::Put {
             key: numbers.first,
             value: numbers.second,
         },
-        Verb::Remove => Call::Remove { key: numbers.first },
-        Verb::Enqueue => Call::Enqueue {
+        CallVerb::Remove => Call::Remove { key: numbers.first },
+        CallVerb::Enqueue => Call::Enqueue {
             value: numbers.first,
         },
-        Verb::Dequeue => Call::Dequeue,
-        Verb::Hold => Call::Hold { key: numbers.first },
-        Verb::Release => Call::Release,
-        Verb::Advance => Call::Advance,
-        Verb::Scan => Call::Scan,
+        CallVerb::Dequeue => Call::Dequeue,
+        CallVerb::Hold => Call::Hold { key: numbers.first },
+        CallVerb::Release => Call::Release,
+        CallVerb::Advance => Call::Advance,
+        CallVerb::Scan => Call::Scan,
+        CallVerb::Copy => return copy_of(indexes, numbers.first, numbers.second),
+        CallVerb::DropIndex => return drop_of(indexes, numbers.first),
+        CallVerb::Look => return look_of(indexes, numbers.first, numbers.second),
+        CallVerb::PutIf => Call::PutIf {
+            key: numbers.first,
+            value: numbers.second,
+            version: numbers.third,
+        },
+    };
+    Ok(call)
+}
+
+fn command_of(indexes: u32, verb: Verb, seat: u32, numbers: Numbers) -> Result<Command, Reason>
+    ensures { result ≡ command indexes verb seat numbers }
+{
+    match verb {
+        Verb::Call(named) => {
+            let call = call_of(indexes, named, numbers)?;
+            Ok(Command::Call { seat, call })
+        }
         Verb::Step => {
             need(
                 1 <= numbers.first && numbers.first <= 100_000,
                 Reason::Range,
             )?;
             let units = numbers.first as u32;
-            return Ok(Command::Step { seat, units });
+            Ok(Command::Step { seat, units })
         }
-        Verb::Run => return Ok(Command::Run { seat }),
-        Verb::Table => return Ok(Command::Table),
-        Verb::End => return Ok(Command::End),
-    };
-    Ok(Command::Call { seat, call })
+        Verb::Run => Ok(Command::Run { seat }),
+        Verb::Table => Ok(Command::Table),
+        Verb::End => Ok(Command::End),
+    }
 }
 
-fn judge(mode: Mode, seats: u32, named: Option<Verb>, line: Places) -> Result<Command, Reason>
-    ensures command { result ≡ judged_line mode seats named line }
-    ensures within { IfOk result (IsCommandWithin seats) }
+fn judge(mode: Mode, config: &Config, named: Option<Verb>, line: Places) -> Result<Command, Reason>
+    ensures { result ≡ judged_line mode config.now named line }
 {
     let verb = in_form(named, line)?;
     let numbers = line.numbers()?;
     need(is_for(mode, verb), Reason::RunLine)?;
-    let seat = seat_of(seats, verb, numbers.seat)?;
-    command_of(verb, seat, numbers)
+    let seat = seat_of(config.seats, verb, numbers.seat)?;
+    command_of(config.indexes, verb, seat, numbers)
 }
 
-/// Judges a line of the body, in a trace with so many seats.
-pub fn read_body(mode: Mode, seats: u32, bytes: &[u8]) -> Result<Command, Reason>
-    ensures command { result ≡ command_in mode seats (words bytes.now) }
-    ensures within { IfOk result (IsCommandWithin seats) }
+// The word in the verb's place, and the words in the places of numbers.
+fn places_of(bytes: &[u8]) -> Option<(&[u8], Places)>
+    ensures { option_map (λ placed. (placed.0.now, placed.1)) result ≡ places_in (words bytes.now) }
 {
     match words_of(bytes) {
-        Words::One(verb) => judge(mode, seats, verb_of(verb), Places::Nothing),
-        Words::Two(seat, verb) => {
-            judge(mode, seats, verb_of(verb), Places::Seat(number_of(seat)))
+        Words::One(verb) => Some((verb, Places::Nothing)),
+        Words::Two(seat, verb) => Some((verb, Places::Seat(number_of(seat)))),
+        Words::Three(seat, verb, first) => {
+            let line = Places::SeatOne(number_of(seat), number_of(first));
+            Some((verb, line))
         }
-        Words::Three(seat, verb, first) => judge(
-            mode,
-            seats,
-            verb_of(verb),
-            Places::SeatOne(number_of(seat), number_of(first)),
-        ),
-        Words::Four(seat, verb, first, second) => judge(
-            mode,
-            seats,
-            verb_of(verb),
-            Places::SeatTwo(number_of(seat), number_of(first), number_of(second)),
-        ),
-        Words::More => Err(Reason::Form),
+        Words::Four(seat, verb, first, second) => {
+            let line = Places::SeatTwo(number_of(seat), number_of(first), number_of(second));
+            Some((verb, line))
+        }
+        Words::Five(seat, verb, first, second, third) => {
+            let line = Places::SeatThree(
+                number_of(seat),
+                number_of(first),
+                number_of(second),
+                number_of(third),
+            );
+            Some((verb, line))
+        }
+        Words::More => None,
     }
+}
+
+/// Judges a line of the body, in a trace of the version and with the setting.
+pub fn read_body(mode: Mode, version: u32, config: &Config, bytes: &[u8]) -> Result<Command, Reason>
+    ensures command { result ≡ command_in mode version config.now (words bytes.now) }
+    ensures within { IfOk result (IsCommandWithin config.now) }
+{
+    let Some((verb, line)) = places_of(bytes) else {
+        return Err(Reason::Form);
+    };
+    judge(mode, config, verb_of(version, verb), line)
 }

@@ -1,5 +1,5 @@
-//! Reads the lines of a trace of version 1, and prints the lines of a record. No call here takes
-//! memory.
+//! Reads the lines of a trace of the versions 1 to 3, and prints the lines of a record. No call here
+//! takes memory.
 #![tactic(auto)]
 
 mod body;
@@ -10,10 +10,13 @@ mod print;
 mod read;
 mod reason;
 mod setting;
+mod verb;
 mod words;
 
 pub use item::{Item, Mode};
-pub use law::{event_line_is_of_one_event, lines_are_judged, record_lines_are_short};
+pub use law::{
+    event_line_is_of_one_event, lines_are_judged, record_lines_are_short, versions_have_their_lines,
+};
 pub use line::Line;
 pub use print::{print_bad, print_count, print_event, print_header, print_table, print_watch};
 pub use read::{TraceState, read_line};

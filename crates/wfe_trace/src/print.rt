@@ -2,7 +2,7 @@
 // and the line that names the first bad line of a trace.
 ghost use Rattle.std.specs.Prelude.{◌≡◌, ◌≤◌, ◌+◌, ◌*◌, IsTrue, map, [], ◌∷◌, ◌++◌, List, length};
 ghost use Rattle.std.specs.Fmt.{decimal};
-ghost use Rattle.wfe_trace.specs.Record.{spaced, later_words, guard_word, span_words, value_words, root_word, clock_words, call_words, answer_words, event_words, tells_contents, event_line, seat_word, table_line, watch_line, count_line, scheme_word, setting_words, header_line, reason_word, bad_line};
+ghost use Rattle.wfe_trace.specs.Record.{spaced, later_words, guard_word, span_words, value_words, root_word, clock_words, call_words, answer_words, tells_outcome, event_words, tells_contents, tells_standing, event_line, seat_word, table_line, watch_line, count_line, scheme_word, setting_words, header_line, reason_word, bad_line};
 
 use crate::{BadLine, Line, Reason};
 use wfe_defs::{Answer, Call, ClockMove, Event, Guard, Interval, Root};
@@ -155,11 +155,21 @@ fn print_call(line: &mut Line, call: Call)
         Call::Release => word(line, b"release"),
         Call::Advance => word(line, b"advance"),
         Call::Scan => word(line, b"scan"),
+        Call::Copy { from, index } => phrase(line, b"copy", &[from as u64, index as u64]),
+        Call::DropIndex { index } => phrase(line, b"drop", &[index as u64]),
+        Call::Look { index, key } => phrase(line, b"look", &[index as u64, key]),
+        Call::PutIf {
+            key,
+            value,
+            version,
+        } => phrase(line, b"put_if", &[key, value, version]),
     }
 }
 
-fn print_answer(line: &mut Line, answer: Answer)
-    requires { length line.old ≤ 600 }
+// An answer with what the call found or did: a key's value, or a move of the clock.
+fn print_outcome(line: &mut Line, answer: Answer)
+    requires room { length line.old ≤ 600 }
+    requires outcome { IsTrue (tells_outcome answer) }
     ensures text { line.new ≡ line.old ++ spaced (answer_words answer) }
     ensures room { length line.new ≤ length line.old + 160 }
 {
@@ -172,11 +182,6 @@ fn print_answer(line: &mut Line, answer: Answer)
             phrase(line, b"done", &[version]);
             print_clock(line, clock);
         }
-        Answer::Absent { version } => phrase(line, b"absent", &[version]),
-        Answer::Full => word(line, b"full"),
-        Answer::BucketFull { version } => phrase(line, b"bucket-full", &[version]),
-        Answer::Spent { number } => phrase(line, b"spent", &[number]),
-        Answer::Queued { number } => phrase(line, b"queued", &[number]),
         Answer::Taken {
             number,
             value,
@@ -185,12 +190,43 @@ fn print_answer(line: &mut Line, answer: Answer)
             phrase(line, b"taken", &[number, value]);
             print_clock(line, clock);
         }
+        Answer::Clock { outcome } => print_clock(line, outcome),
+        Answer::Looked {
+            slot,
+            version,
+            value,
+        } => {
+            phrase(line, b"looked", &[slot as u64, version]);
+            print_value(line, value);
+        }
+        _ => unreachable!(),
+    }
+}
+
+fn print_answer(line: &mut Line, answer: Answer)
+    requires { length line.old ≤ 600 }
+    ensures text { line.new ≡ line.old ++ spaced (answer_words answer) }
+    ensures room { length line.new ≤ length line.old + 160 }
+{
+    match answer {
+        Answer::Absent { version } => phrase(line, b"absent", &[version]),
+        Answer::Full => word(line, b"full"),
+        Answer::BucketFull { version } => phrase(line, b"bucket-full", &[version]),
+        Answer::Stale { version } => phrase(line, b"stale", &[version]),
+        Answer::Spent { number } => phrase(line, b"spent", &[number]),
+        Answer::Queued { number } => phrase(line, b"queued", &[number]),
         Answer::Empty => word(line, b"empty"),
         Answer::Holding { slot } => phrase(line, b"holding", &[slot as u64]),
         Answer::Nothing => word(line, b"nothing"),
         Answer::Released => word(line, b"released"),
-        Answer::Clock { outcome } => print_clock(line, outcome),
         Answer::Scanned { kept, back } => phrase(line, b"scanned", &[kept as u64, back as u64]),
+        Answer::Copied { slot } => phrase(line, b"copied", &[slot as u64]),
+        Answer::Dropped => word(line, b"dropped"),
+        Answer::Got { .. }
+        | Answer::Done { .. }
+        | Answer::Taken { .. }
+        | Answer::Clock { .. }
+        | Answer::Looked { .. } => print_outcome(line, answer),
     }
 }
 
@@ -214,6 +250,7 @@ fn event_name(event: Event) -> &'static [u8]
         Event::Held { .. } => b"held",
         Event::Null { .. } => b"null",
         Event::Clear { .. } => b"clear",
+        Event::Copied { .. } => b"copied",
         Event::Put { .. } => b"put",
         Event::Removed { .. } => b"removed",
         Event::Got { .. } => b"got",
@@ -258,6 +295,24 @@ fn print_contents(line: &mut Line, event: Event)
     }
 }
 
+// The words after the name of an event of a protection at an index.
+fn print_standing(line: &mut Line, event: Event)
+    requires room { length line.old ≤ 500 }
+    requires standing { IsTrue (tells_standing event) }
+    ensures text { line.new ≡ line.old ++ spaced (later_words (event_words event)) }
+    ensures room { length line.new ≤ length line.old + 200 }
+{
+    match event {
+        Event::Held { index, slot, steps } => numbers(line, &[index as u64, slot as u64, steps]),
+        Event::Null { index, steps } => numbers(line, &[index as u64, steps]),
+        Event::Clear { index, slot } => numbers(line, &[index as u64, slot as u64]),
+        Event::Copied { from, index, slot } => {
+            numbers(line, &[from as u64, index as u64, slot as u64])
+        }
+        _ => unreachable!(),
+    }
+}
+
 // The words after an event's name.
 fn print_rest(line: &mut Line, event: Event)
     requires { length line.old ≤ 500 }
@@ -288,9 +343,9 @@ fn print_rest(line: &mut Line, event: Event)
             retire,
         } => numbers(line, &[slot as u64, birth as u64, retire as u64]),
         Event::Back { slot } => number(line, slot as u64),
-        Event::Held { index, slot, steps } => numbers(line, &[index as u64, slot as u64, steps]),
-        Event::Null { index, steps } => numbers(line, &[index as u64, steps]),
-        Event::Clear { index, slot } => numbers(line, &[index as u64, slot as u64]),
+        Event::Held { .. } | Event::Null { .. } | Event::Clear { .. } | Event::Copied { .. } => {
+            print_standing(line, event)
+        }
         Event::Put { .. }
         | Event::Removed { .. }
         | Event::Got { .. }

@@ -1,11 +1,11 @@
 // A trace as it is read, line by line.
 ghost use Rattle.std.specs.Prelude.{◌≡◌, MatchResult, OnOk, OnErr, IfOk, IfErr, IsTrue, Ok, Err};
 ghost use Rattle.wfe_trace.specs.Good.{is_of_line};
-ghost use Rattle.wfe_trace.specs.Reading.{IsItemWithin, Reading, reading_start, judged, judged_at, reading_after, config_after, line_after, stage_after as later_stage, after_field as later_field};
+ghost use Rattle.wfe_trace.specs.Reading.{IsItemWithin, IsItemVersioned, Reading, reading_start, judged, judged_at, reading_after, version_after, config_after, line_after, stage_after as later_stage, after_field as later_field};
 
 use crate::body::read_body;
 use crate::item::Stage;
-use crate::setting::{read_number, read_scheme, with_number};
+use crate::setting::{pairs_of, read_number, read_scheme, read_version, with_number};
 use crate::words::need;
 use crate::{BadLine, Item, Mode, Reason};
 use std::marker::Model;
@@ -22,15 +22,15 @@ pub struct TraceState {
 }
 
 impl Model for TraceState {
-    ghost use Rattle.std.specs.Prelude.{◌≡◌, None};
+    ghost use Rattle.std.specs.Prelude.{◌≡◌, None, false};
     ghost use Rattle.wfe_words.specs.Config.{bad_field};
-    ghost use Rattle.wfe_trace.specs.Reading.{Reading};
+    ghost use Rattle.wfe_trace.specs.Reading.{Reading, IsVersioned, gives_pairs};
 
     ghost Value = { Reading };
 
     ghost view = { λ s. record { mode = s.mode; version = s.version; line = s.line; stage = s.stage; config = s.config } };
 
-    ghost invariant = { λ s. bad_field s.config ≡ None };
+    ghost invariant = { λ s. (bad_field s.config ≡ None) × IsVersioned s.version s.config × (gives_pairs s.stage ≡ false) };
 }
 
 fn after_field(field: Field) -> Stage
@@ -98,13 +98,19 @@ impl TraceState {
     #[tactic(auto, using(crate::proofs::Reasons::reason_at, crate::proofs::Reasons::reason_in_body))]
     fn judge(&mut self, bytes: &[u8]) -> Result<Item, Reason>
         ensures item { result ≡ judged_at self.old.stage self.old bytes.now }
-        ensures taken { OnOk result (self.new ≡ record self.old { config = config_after self.old.stage self.old.config bytes.now }) }
+        ensures taken { OnOk result (self.new ≡ record self.old
+            { version = version_after self.old.stage self.old.version bytes.now; config = config_after self.old.stage self.old.config bytes.now }) }
         ensures kept { OnErr result (self.new ≡ self.old) }
         ensures within { IfOk result (IsItemWithin self.old) }
+        ensures version { IfOk result IsItemVersioned }
         ensures reason { IfErr result (λ reason. IsTrue (is_of_line reason)) }
     {
         match self.stage {
-            Stage::First => need(bytes == b"wfe 1".as_slice(), Reason::First)?,
+            Stage::First => {
+                let version = read_version(bytes)?;
+                self.version = version;
+                self.config = with_number(self.config, Field::Pairs, pairs_of(version));
+            }
             Stage::Scheme => self.config.scheme = read_scheme(bytes)?,
             Stage::Number { field } => {
                 let number = read_number(field, bytes)?;
@@ -118,7 +124,7 @@ impl TraceState {
                 });
             }
             Stage::Body => {
-                let command = read_body(self.mode, self.config.seats, bytes)?;
+                let command = read_body(self.mode, self.version, &self.config, bytes)?;
                 return Ok(Item::Command { command });
             }
         }
@@ -137,6 +143,7 @@ pub fn read_line(state: &mut TraceState, bytes: &[u8]) -> Result<Item, BadLine>
     ensures after { OnOk result (state.new ≡ reading_after state.old bytes.now) }
     ensures kept { OnErr result (state.new ≡ state.old) }
     ensures within { IfOk result (IsItemWithin state.old) }
+    ensures version { IfOk result IsItemVersioned }
     ensures reason { IfErr result (λ bad. IsTrue (is_of_line bad.reason)) }
 {
     let line = state.line.saturating_add(1);

@@ -27,7 +27,7 @@ pub enum Reason {
     NoEnd,
     /// Bytes follow the line `end`.
     AfterEnd,
-    /// The text has a meaning that is not built. No line of version 1 is bad by it.
+    /// The text has a meaning that is not built. No line is bad by it.
     NotYet,
 }
 

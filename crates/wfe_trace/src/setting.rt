@@ -1,12 +1,35 @@
-// The lines of a trace that give its setting.
+// The lines of a trace before its body: its version, and its setting.
 ghost use Rattle.std.specs.Prelude.{◌≡◌, ◌∷◌, MatchResult, IfOk, Ok, Err, IsTrue};
 ghost use Rattle.wfe_words.specs.Config.{allows as in_range};
-ghost use Rattle.wfe_trace.specs.Setting.{word_after as after, scheme_in, scheme_line, field_name as name_of_field, number_line, with_number as changed};
+ghost use Rattle.wfe_trace.specs.Setting.{version_line, pairs_in, word_after as after, scheme_in, scheme_line, field_name as name_of_field, number_line, with_number as changed};
 ghost use Rattle.wfe_trace.specs.Words.{words};
 
 use crate::Reason;
 use crate::words::{Words, need, number_of, or_number, words_of};
 use wfe_words::{Config, Field, SchemeKind};
+
+/// The version that the first line names, 1 to 3.
+pub fn read_version(bytes: &[u8]) -> Result<u32, Reason>
+    ensures { result ≡ version_line bytes.now }
+{
+    if bytes == b"wfe 1".as_slice() {
+        Ok(1)
+    } else if bytes == b"wfe 2".as_slice() {
+        Ok(2)
+    } else if bytes == b"wfe 3".as_slice() {
+        Ok(3)
+    } else {
+        Err(Reason::First)
+    }
+}
+
+/// For how many pairs a row has room, in traces of the version.
+pub fn pairs_of(version: u32) -> u64
+    ensures number { result ≡ pairs_in version }
+    ensures within { IsTrue (in_range Field.Pairs result) }
+{
+    if version >= 3 { 14 } else { 6 }
+}
 
 // The word after the one that the line begins with.
 fn word_after<'a>(name: &[u8], bytes: &'a [u8]) -> Result<&'a [u8], Reason>

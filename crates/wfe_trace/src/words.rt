@@ -4,13 +4,14 @@ ghost use Rattle.wfe_trace.specs.Words.{words, words_after, Shows, is_digit, dig
 
 use crate::Reason;
 
-/// The words between the single spaces of a line, where there are at most four.
+/// The words between the single spaces of a line, where there are at most five.
 #[derive(Clone, Copy)]
 pub enum Words<'a> {
     One(&'a [u8]),
     Two(&'a [u8], &'a [u8]),
     Three(&'a [u8], &'a [u8], &'a [u8]),
     Four(&'a [u8], &'a [u8], &'a [u8], &'a [u8]),
+    Five(&'a [u8], &'a [u8], &'a [u8], &'a [u8], &'a [u8]),
     More,
 }
 
@@ -56,8 +57,12 @@ pub fn words_of(bytes: &[u8]) -> Words<'_>
     let Some(rest) = rest else {
         return Words::Three(first, second, third);
     };
+    let (fourth, rest) = split(rest);
+    let Some(rest) = rest else {
+        return Words::Four(first, second, third, fourth);
+    };
     match split(rest) {
-        (fourth, None) => Words::Four(first, second, third, fourth),
+        (fifth, None) => Words::Five(first, second, third, fourth, fifth),
         (_, Some(_)) => Words::More,
     }
 }

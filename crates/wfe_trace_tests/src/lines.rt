@@ -1,4 +1,4 @@
-// The worked lines of a trace, and the worked texts of a record.
+// The worked lines of a trace of version 1, and the worked texts of a record.
 use std::process::Abort;
 use wfe_defs::{Answer, Call, ClockMove, Command, Event, Guard, Interval, Root};
 use wfe_trace::{
@@ -31,7 +31,7 @@ const NUMBERS: [&str; 7] = [
 ];
 
 // Reads a line that is to be bad by the reason, or good.
-fn expect(rt: &impl Abort, state: &mut TraceState, text: &str, want: Option<Reason>) {
+pub(crate) fn expect(rt: &impl Abort, state: &mut TraceState, text: &str, want: Option<Reason>) {
     let got = match read_line(state, text.as_bytes()) {
         Ok(_) => None,
         Err(bad) => Some(bad.reason),
@@ -63,7 +63,7 @@ fn a_setting_is_judged_line_by_line(rt: HostRuntime) {
     let lines = [
         ("", Some(Reason::First)),
         ("wfe 1 ", Some(Reason::First)),
-        ("wfe 2", Some(Reason::First)),
+        ("wfe", Some(Reason::First)),
         ("wfe 1", None),
         ("scheme", Some(Reason::Config)),
         ("scheme ", Some(Reason::Config)),
@@ -227,7 +227,12 @@ fn each_line_of_a_setting_is_a_setting(rt: HostRuntime) {
     assert_eq!(rt; state.lines(), 10);
 }
 
-fn expect_command(rt: &impl Abort, state: &mut TraceState, text: &str, command: Command) {
+pub(crate) fn expect_command(
+    rt: &impl Abort,
+    state: &mut TraceState,
+    text: &str,
+    command: Command,
+) {
     let got = read_line(state, text.as_bytes());
     assert_eq!(rt; got, Ok(Item::Command { command }), "{text}");
 }
@@ -265,7 +270,7 @@ fn each_other_command_has_its_verb(rt: HostRuntime) {
     }
 }
 
-fn expect_event(rt: &impl Abort, event: Event, want: &str) {
+pub(crate) fn expect_event(rt: &impl Abort, event: Event, want: &str) {
     let mut line = Line::new();
     print_event(3, &event, &mut line);
     assert_eq!(rt; line.bytes(), want.as_bytes());

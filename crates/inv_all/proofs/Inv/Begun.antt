@@ -3,6 +3,7 @@ use Rattle.std.proofs.Common.{ℕ, ◌≡◌, true, false, sym, subst, ap}
 use Rattle.wfe_core.specs.words.Place.{is_valid}
 use Rattle.wfe_core.specs.words.declared.layout.Layout.{Layout}
 use Rattle.wfe_core.specs.defs.declared.call.Call.{Call}
+use Rattle.wfe_core.specs.Locals.{may_begin}
 use Rattle.wfe_core.specs.World.{World, start, begin, is_busy}
 use Rattle.inv_ends.specs.requests.Standing.{Requests}
 use Rattle.inv_ends.specs.requests.Views.{Deal, View as Asked}
@@ -64,12 +65,12 @@ inv_start layout d =
     let q = requests_start layout d in
     record { rows = first_rows layout; line = first_line layout; asked = q.0; known = known_start layout q.0 d q.1.facts q.1.deal }
 
-pub known_begin : (w : World) (i : ℕ) (call : Call) (v : View) (l : Line) (z next : Asked) → is_busy w i ≡ false → Known w v l z → Requests (begin w i call) next → next.deal ≡ z.deal → Known (begin w i call) v l next
-known_begin w i call v l z next b k q e = record {
+pub known_begin : (w : World) (i : ℕ) (call : Call) (v : View) (l : Line) (z next : Asked) → is_busy w i ≡ false → may_begin w.layout.config call ≡ true → Known w v l z → Requests (begin w i call) next → next.deal ≡ z.deal → Known (begin w i call) v l next
+known_begin w i call v l z next b m k q e = record {
   valid = k.valid;
   seats = seats_begin w i call k.valid k.seats;
   eras = eras_begin w i call k.valid k.eras;
-  slots = slots_begin w i call k.slots;
+  slots = slots_begin w i call k.valid m k.slots;
   noted = noted_begin w i call (listed_few w i v k.whole.both.rows) k.noted;
   paces = paces_begin w i call k.valid k.seats k.paces;
   parents = parents_begin w i call k.parents;
@@ -80,7 +81,7 @@ known_begin w i call v l z next b k q e = record {
   held = held_begin w i call v k.held;
   helped = λ f. subst (λ (deal : ℕ → Deal). Helped (begin w i call) v deal) (sym e) (handover_begin w i call v z.deal (k.helped f));
   links = links_begin w i call v l z next b k.requests e k.links;
-  contents = contents_begin w i call v k.contents;
+  contents = contents_begin w i call v m k.contents;
   bounded = bounded_begin w i call k.bounded;
   stands = stands_begin w i call k.stands;
   items = items_begin w i call v l k.items;
@@ -89,7 +90,7 @@ known_begin w i call v l z next b k q e = record {
 }
 
 pub inv_begin : InvBegin
-inv_begin w i call b a =
+inv_begin w i call b m a =
     let k = a.known in
     let q = requests_begin w i call a.asked k.valid b k.seats k.requests in
-    record { rows = a.rows; line = a.line; asked = q.0; known = known_begin w i call a.rows a.line a.asked q.0 b k q.1.facts q.1.deal }
+    record { rows = a.rows; line = a.line; asked = q.0; known = known_begin w i call a.rows a.line a.asked q.0 b m k q.1.facts q.1.deal }

@@ -1,7 +1,7 @@
 -- What the covers of rows take of other parts.
 use Rattle.std.proofs.Common.{ℕ, ◌≡◌, ◌<◌, Bool, true, false, refl, sym, subst, ap, ◌∙◌, arith, None, Some}
 use Rattle.std.proofs.lemmas.Bool.Decides.{nat_tests}
-use Rattle.std.specs.Prelude.{◌==◌, length, if◌then◌else◌}
+use Rattle.std.specs.Prelude.{◌==◌, length, is_some, if◌then◌else◌}
 use Rattle.wfe_core.specs.words.Place.{is_valid}
 use Rattle.wfe_core.specs.words.Place.Place.{Clock, Index as IndexOf}
 use Rattle.wfe_core.specs.defs.declared.event.Guard.TheVariants.{Index}
@@ -12,11 +12,12 @@ use Rattle.wfe_core.specs.Posts.{stands}
 use Rattle.wfe_core.specs.Phases.{Aim, Tries, Base}
 use Rattle.wfe_core.specs.Phases.ProtectAt.{LoadLink}
 use Rattle.wfe_core.specs.Phases.Base.{Protect}
-use Rattle.wfe_core.specs.Calls.{Why, FollowsHead, DequeueAt, LoadTail, Getting, Changing, Enqueuing, Dequeuing, Phase, Idle, Runs, Scans, Works}
+use Rattle.wfe_core.specs.Calls.{Why, FollowsHead, DequeueAt, LoadTail, LoadHeld, StoreHeld, Getting, Changing, Enqueuing, Dequeuing, Keeping, Phase, Idle, Runs, Scans, Works}
 use Rattle.wfe_core.proofs.Ranges.{bounds_of}
 use Rattle.wfe_core.specs.World.{World, step}
 use Rattle.inv_ends.specs.shapes.Eras.{Eras}
 use Rattle.inv_ends.specs.shapes.Seats.{Seats}
+use Rattle.inv_ends.specs.shapes.Slots.{CopyIn, Slots}
 use Rattle.inv_ends.proofs.shapes.Decode.{clock_next}
 use Rattle.inv_ends.specs.requests.Parents as asked
 use Rattle.inv_ends.specs.requests.Roles.{publishes}
@@ -29,15 +30,16 @@ use Rattle.inv_steps_left.specs.rows.Hands.{is_right, runs_right}
 use Rattle.inv_steps_left.specs.rows.Queue.{Line}
 use Rattle.inv_steps_left.specs.rows.Rows.{View}
 use Rattle.inv_ends.specs.covers.Covers.{Scanning, eras_shown}
-use Rattle.inv_ends.specs.covers.Held.{index_base, follows_row, BaseNeeds, HeldNeeds}
+use Rattle.inv_ends.specs.covers.Held.{index_base, follows_row, BaseNeeds, CopyNeeds, HeldNeeds, StoreNeeds}
 use Rattle.inv_ends.specs.covers.Parents.{has_parent, has_parent_why, has_parent_dequeue, Parents, ParentsNeeds}
 use Rattle.inv_ends.specs.covers.Rests.{Rests, RestsNeeds}
 use Rattle.inv_ends.proofs.covers.Following.{parents_give}
 use Rattle.inv_ends.proofs.covers.Guards.{guards_fit}
 use Rattle.inv_ends.proofs.covers.Resting.{rests_give}
 use Rattle.inv_all.proofs.Inv.Rows.{covers_need, roots_need}
-use Rattle.inv_all.proofs.Inv.Shapes.{eras_of, index_in, followed_of, grows_of, era_most}
+use Rattle.inv_all.proofs.Inv.Shapes.{eras_of, index_in, followed_of, grows_of, era_most, keep_fits, keep_in, why_in}
 use Rattle.inv_all.proofs.Inv.Shown.{clock_small, word_era, shown_span}
+use Rattle.inv_ends.proofs.requests.Known.{copying, known}
 use Rattle.inv_ends.proofs.handover.Deals.{few_ahead}
 use Rattle.inv_ends.proofs.handover.Asks.{run_of}
 use Rattle.wfe_core.proofs.Facts.{below_length}
@@ -84,6 +86,7 @@ tends (Works (Getting key at)) post row s h = absurd (cc)
 tends (Works (Changing kept at)) post row s h = absurd (cc)
 tends (Works (Enqueuing kept at)) post row s h = absurd (cc)
 tends (Works (Dequeuing at)) post row s h = dequeue_tends at post row s h
+tends (Works (Keeping at)) post row s h = absurd (cc)
 
 room_of : (length : ℕ) → length ≡ 8 → 0 < length
 room_of length e = omega arith
@@ -98,13 +101,13 @@ parents_of w i k why base p s a e f =
 right_of : (w : World) (i : ℕ) (v : View) (why : Why) (base : Base) → Agree w v → (w.seat i).phase ≡ Runs why base → runs_right why base ≡ true
 right_of w i v why base a e = subst (λ (y : Phase). is_right y (w.seat i).desk.list ≡ true) e (a.plays i).right
 
-pub rests_need : (w : World) (i : ℕ) (v : View) → Seats w → Agree w v → RestsNeeds w i
-rests_need w i v s a = record { shape = λ why base e. run_of w i why base s e; right = λ why base e. right_of w i v why base a e }
+pub rests_need : (w : World) (i : ℕ) (v : View) → Seats w → Slots w → Agree w v → RestsNeeds w i
+rests_need w i v s l a = record { shape = λ why base e. run_of w i why base s e; right = λ why base e. right_of w i v why base a e; kept = λ at e. keep_in w i at l e }
 
-pub base_need : (w : World) (i : ℕ) (v : View) (z : Asked) (why : Why) (base : Base) → i < w.layout.config.seats → is_valid w.layout ≡ true → Seats w → Eras w → Agree w v → Requests w z → Rests w → (w.seat i).phase ≡ Runs why base → BaseNeeds w i base
-base_need w i v z why base b d s a g q t e =
+pub base_need : (w : World) (i : ℕ) (v : View) (z : Asked) (why : Why) (base : Base) → i < w.layout.config.seats → is_valid w.layout ≡ true → Seats w → Eras w → Slots w → Agree w v → Requests w z → Rests w → (w.seat i).phase ≡ Runs why base → BaseNeeds w i base
+base_need w i v z why base b d s a l g q t e =
     let r = run_of w i why base s e in
-    let n = index_in w.layout why base (w.seat i).post d r in
+    let n = index_in w.layout why base (w.seat i).post d (why_in w i why base l e) r in
     let m = (bounds_of w.layout d).indexes in
     record {
       fits = r.fits;
@@ -112,17 +115,43 @@ base_need w i v z why base b d s a g q t e =
       index = below_length (index_base base) w.layout.config.indexes (length (w.seat i).post.standing) n m.1 (s.fits i).post.standing;
       followed = followed_of w.layout why base (w.seat i).post r;
       grows = grows_of w.layout (w.mem Clock) why base (w.seat i).post r (eras_of w i why base a e);
-      rests = λ j h. rests_give w i why base j (rests_need w i v s g) t e h;
+      rests = λ j h. rests_give w i why base j (rests_need w i v s l g) t e h;
       published = λ aim index root steps era tries o. published_of w i z why aim index root steps era tries d a q (e ∙ ap (Runs why) o);
     }
 
-pub held_need : (w : World) (i : ℕ) (v : View) (l : Line) (z : Asked) → i < w.layout.config.seats → is_valid w.layout ≡ true → Seats w → Eras w → Both w v l → Requests w z → asked.Parents w → Scanning w → Rests w → Eras (step w i) → HeldNeeds w i v
-held_need w i v l z b d s a g q p c t n = record {
+-- the steps of a copy: a row stands at the first index, and the second is a higher one of the seat's
+copy_need : (w : World) (i from index : ℕ) → i < w.layout.config.seats → is_valid w.layout ≡ true → Seats w → is_some (stands (w.seat i).post from) ≡ true → CopyIn w.layout.config from index → CopyNeeds w i from index
+copy_need w i from index b d s h c =
+    let m = (bounds_of w.layout d).indexes in
+    record {
+      stood = h;
+      rises = c.rises;
+      guard = guards_fit w.layout.config i index b c.below;
+      room = below_length index w.layout.config.indexes (length (w.seat i).post.standing) c.below m.1 (s.fits i).post.standing;
+    }
+
+load_need : (w : World) (i from index : ℕ) → i < w.layout.config.seats → is_valid w.layout ≡ true → Seats w → Slots w → (w.seat i).phase ≡ Works (Keeping (LoadHeld from index)) → CopyNeeds w i from index
+load_need w i from index b d s l e = copy_need w i from index b d s (keep_fits w i (LoadHeld from index) s e) (keep_in w i (LoadHeld from index) l e)
+
+store_need : (w : World) (i from index era : ℕ) (z : Asked) → i < w.layout.config.seats → is_valid w.layout ≡ true → Seats w → Slots w → Requests w z → (w.seat i).phase ≡ Works (Keeping (StoreHeld from index era)) → StoreNeeds w i from index era
+store_need w i from index era z b d s l q e =
+    let f = keep_fits w i (StoreHeld from index era) s e in
+    let k = known w z i d s q in
+    record {
+      copy = copy_need w i from index b d s f.kept (keep_in w i (StoreHeld from index era) l e);
+      shows = ap one_era ((copying w z i d q).publishes from index era e);
+      tag = k.tags index;
+    }
+
+pub held_need : (w : World) (i : ℕ) (v : View) (l : Line) (z : Asked) → i < w.layout.config.seats → is_valid w.layout ≡ true → Seats w → Eras w → Slots w → Both w v l → Requests w z → asked.Parents w → Scanning w → Rests w → Eras (step w i) → HeldNeeds w i v
+held_need w i v l z b d s a o g q p c t n = record {
   covers = covers_need w i v l d s a g;
   scans = c;
   seat = (s.fits i).post.seat;
-  base = λ why base e. base_need w i v z why base b d s a g.rows q t e;
+  base = λ why base e. base_need w i v z why base b d s a o g.rows q t e;
   roots = roots_need w v l d a g;
+  loads = λ from index e. load_need w i from index b d s o e;
+  stores = λ from index era e. store_need w i from index era z b d s o q e;
   spans = λ h. shown_span w i d a;
   spans_next = λ h. shown_span (step w i) i d n;
   eras = λ k why base e. era_most w.layout (w.mem Clock) (w.seat k).post base (a.seats k).post.span (eras_of w k why base a e);

@@ -52,7 +52,7 @@ eras_of w i v l z a = eras_step w i a.valid a.seats a.slots a.eras (eras_need w 
 
 held_by : (w : World) (i : ℕ) (v : View) (l : Line) (z : Asked) (wfe : Bool) → is_wfe w.layout.config.scheme ≡ wfe → i < w.layout.config.seats → Known w v l z → Held (step w i) (rows_after w i v)
 held_by w i v l z true f b a = let h = handover_kept w i v z f (handover_need w i v l z b a) a.held (a.helped f) in h.0
-held_by w i v l z false f b a = held_kept w i v f (held_need w i v l z b a.valid a.seats a.eras a.whole.both a.requests a.parents a.scans a.rests (eras_of w i v l z a)) a.held
+held_by w i v l z false f b a = held_kept w i v f (held_need w i v l z b a.valid a.seats a.eras a.slots a.whole.both a.requests a.parents a.scans a.rests (eras_of w i v l z a)) a.held
 
 helped_by : (w : World) (i : ℕ) (v : View) (l : Line) (z next : Asked) → is_wfe w.layout.config.scheme ≡ true → i < w.layout.config.seats → Known w v l z → next.deal ≡ next_deals w i z.deal → Helped (step w i) (rows_after w i v) next.deal
 helped_by w i v l z next f b a d =
@@ -88,7 +88,7 @@ known_kept w i v l z next b a q d = record {
   requests = q;
   whole = whole_kept w i v l (whole_need w i v l z b a) a.whole;
   scans = scans_kept w i a.scans;
-  rests = rests_kept w i (rests_need w i v a.seats a.whole.both.rows) a.rests;
+  rests = rests_kept w i (rests_need w i v a.seats a.slots a.whole.both.rows) a.rests;
   held = held_by w i v l z (is_wfe w.layout.config.scheme) refl b a;
   helped = λ f. helped_by w i v l z next f b a d;
   links = links_kept w i v l z next (links_need w i v l z b a) d a.links;

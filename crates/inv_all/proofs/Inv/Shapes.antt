@@ -11,11 +11,13 @@ use Rattle.wfe_core.specs.Posts.{upper}
 use Rattle.wfe_core.specs.Phases.{Aim, Follows, ProtectAt, Base}
 use Rattle.wfe_core.specs.Phases.ProtectAt.{CheckClock, CheckOwnClock, CheckUpper, RaiseUpper}
 use Rattle.wfe_core.specs.Phases.Base.{Begin, Protect, Reload, Clear}
-use Rattle.wfe_core.specs.Calls.{Why, FollowsHead, Phase, Idle, Runs, Scans, Works}
+use Rattle.wfe_core.specs.Calls.{KeepAt, Keeping, Why, FollowsHead, Phase, Idle, Runs, Scans, Works}
 use Rattle.wfe_core.proofs.Ranges.{bounds_of}
 use Rattle.wfe_core.specs.World.{World}
 use Rattle.inv_ends.specs.shapes.Eras.{SpanIn, protect_eras, base_eras, PhaseEras, Eras}
-use Rattle.inv_ends.specs.shapes.Seats.{aim_by, root_by, Run}
+use Rattle.inv_ends.specs.shapes.Frame.{KeepFits}
+use Rattle.inv_ends.specs.shapes.Seats.{aim_by, root_by, PhaseFits, Run, Seats}
+use Rattle.inv_ends.specs.shapes.Slots.{KeepIn, PhaseIn, Slots, WhyIn}
 use Rattle.inv_ends.proofs.shapes.There.{index_below}
 use Rattle.inv_steps_left.specs.rows.Tries as tries
 use Rattle.inv_ends.specs.covers.Held.{index_base, Followed, SpanGrows, era_protect, era_base}
@@ -24,15 +26,25 @@ use Rattle.inv_ends.proofs.shapes.Steps.{upper_in}
 pub eras_of : (w : World) (k : ℕ) (why : Why) (base : Base) → Eras w → (w.seat k).phase ≡ Runs why base → base_eras w.layout (w.mem Clock) (w.seat k).post base
 eras_of w k why base a e = subst (PhaseEras w.layout (w.mem Clock) (w.seat k).post) e (a.seats k).phase
 
+pub why_in : (w : World) (k : ℕ) (why : Why) (base : Base) → Slots w → (w.seat k).phase ≡ Runs why base → WhyIn w.layout.config why
+why_in w k why base t e = let x : PhaseIn w.layout (w.seat k).desk (Runs why base) = subst (PhaseIn w.layout (w.seat k).desk) e (t.seats k).phase in x.0
+
+-- what a seat's step on what is kept names
+pub keep_in : (w : World) (k : ℕ) (at : KeepAt) → Slots w → (w.seat k).phase ≡ Works (Keeping at) → KeepIn w.layout.config at
+keep_in w k at t e = subst (PhaseIn w.layout (w.seat k).desk) e (t.seats k).phase
+
+pub keep_fits : (w : World) (k : ℕ) (at : KeepAt) → Seats w → (w.seat k).phase ≡ Works (Keeping at) → KeepFits (w.seat k).post at
+keep_fits w k at s e = subst (PhaseFits w.layout (w.seat k).post) e (s.fits k).phase
+
 -- the index of a machine is one of a seat's
 some_index : (layout : Layout) → is_valid layout ≡ true → 0 < layout.config.indexes
 some_index layout v = let b = (bounds_of layout v).indexes in omega (arith, b.0)
 
-pub index_in : (layout : Layout) (why : Why) (base : Base) (post : Post) → is_valid layout ≡ true → Run layout why base post → index_base base < layout.config.indexes
-index_in layout why (Protect aim index root steps at) post v r = index_below layout why index v r.shape.at
-index_in layout why (Reload parent index slot era steps) post v r = index_below layout why index v r.shape.at
-index_in layout why (Clear index) post v r = index_below layout why index v r.shape
-index_in layout why base post v r = some_index layout v
+pub index_in : (layout : Layout) (why : Why) (base : Base) (post : Post) → is_valid layout ≡ true → WhyIn layout.config why → Run layout why base post → index_base base < layout.config.indexes
+index_in layout why (Protect aim index root steps at) post v y r = index_below layout why index v y r.shape.at
+index_in layout why (Reload parent index slot era steps) post v y r = index_below layout why index v y r.shape.at
+index_in layout why (Clear index) post v y r = index_below layout why index v y r.shape
+index_in layout why base post v y r = some_index layout v
 
 -- a protection that is followed is of a next link
 next_by : (buckets : ℕ) (why : Why) (root : Root) → Follows ≡ aim_by why → root ≡ root_by buckets why → root ≡ roots.Next (parent_of root)

@@ -1,14 +1,19 @@
 -- What the invariant says of a step: what it tells is right, and it leaves the rows that stand.
+use Rattle.std.proofs.Common.{ap}
+use Rattle.wfe_core.specs.Calls.{StoreHeld}
+use Rattle.wfe_core.specs.Guards.{one_era}
 use Rattle.inv_ends.proofs.covers.Begun.{standing_stays}
-use Rattle.inv_steps_left.proofs.contents.Contents.Kept.{contents_told}
+use Rattle.inv_ends.proofs.requests.Known.{copying}
+use Rattle.inv_steps_left.proofs.contents.Contents.Kept.{contents_looked, contents_told}
 use Rattle.inv_steps_left.proofs.contents.Items.Gives.{items_told, items_count, empty_right}
 use Rattle.inv_ends.proofs.requests.Falling.{moves_on, needs_of}
 use Rattle.inv_ends.proofs.requests.Paced.{in_time}
 use Rattle.inv_ends.proofs.requests.Pending.{pending}
 use Rattle.inv_steps_left.proofs.contents.Contents.Buckets.{buckets_show}
 use Rattle.inv_all.specs.Shows.{InvTimes, InvShows}
-use Rattle.inv_all.specs.Inv.{InvTells, InvStays}
+use Rattle.inv_all.specs.Inv.{InvCopies, InvTells, InvStays}
 use Rattle.inv_all.proofs.Inv.Rows.{rows_need}
+use Rattle.inv_all.proofs.Inv.Shapes.{keep_fits}
 use Rattle.inv_all.proofs.Inv.Whole.{covers_of, contents_need}
 
 pub inv_tells : InvTells
@@ -17,7 +22,14 @@ inv_tells w i b a =
     record {
       map = contents_told w i a.rows (rows_need w i a.rows a.line k.seats k.eras k.whole.both) (contents_need w i a.rows a.line a.asked b k) k.whole.both.rows k.contents;
       queue = items_told w i a.rows a.line k.whole.both k.items;
+      looks = λ index key at slot version value e o. contents_looked w i a.rows index key at slot version value (contents_need w i a.rows a.line a.asked b k) k.contents e o;
     }
+
+pub inv_copies : InvCopies
+inv_copies w k from index era a e =
+    let t = a.known in
+    let f = keep_fits w k (StoreHeld from index era) t.seats e in
+    record { publishes = ap one_era ((copying w a.asked k t.valid t.requests).publishes from index era e); stands = f.kept }
 
 pub inv_stays : InvStays
 inv_stays w i k j s a e =

@@ -13,7 +13,7 @@ use Rattle.wfe_core.specs.Phases.{Aim, ProtectAt, MoveAt, Base}
 use Rattle.wfe_core.specs.Phases.ProtectAt.{CheckClock, LoadOwnClock, PublishHelper, LoadOwnLink, CheckOwnClock, AnswerOwn, LoadAnswer, TakeAnswer, WithdrawRequest, WithdrawHelper, CheckUpper}
 use Rattle.wfe_core.specs.Phases.MoveAt.{LoadEra, CheckEra, AnswerAsked}
 use Rattle.wfe_core.specs.Phases.Base.{Begin, Protect, Reload, Clear, Finish, Release, Allocate, Write, GiveUp, Retire, Move}
-use Rattle.wfe_core.specs.Calls.{Why, Phase, Idle, Runs, Scans, Works}
+use Rattle.wfe_core.specs.Calls.{Why, Work, Phase, Idle, Runs, Scans, Works}
 use Rattle.wfe_core.proofs.Roots.{root_at_link}
 use Rattle.wfe_core.specs.World.{World}
 use Rattle.wfe_core.proofs.Facts.{both, first_of, same_number, rest_of}
@@ -22,7 +22,8 @@ use Rattle.inv_ends.specs.shapes.Seats.{Seats}
 use Rattle.inv_ends.specs.shapes.Slots.{Slots}
 use Rattle.inv_ends.proofs.shapes.Gives.{gives_guards}
 use Rattle.inv_ends.specs.requests.Deals.{fits, is_quiet, asked_at, answered_with, taken_with, is_open}
-use Rattle.inv_ends.specs.requests.Standing.{Requests, role_of, protect_role, move_role, base_role}
+use Rattle.inv_ends.proofs.requests.Turns.{each_work_role}
+use Rattle.inv_ends.specs.requests.Standing.{Requests, role_of, protect_role, move_role, base_role, work_role}
 use Rattle.inv_ends.specs.requests.Views.{Deal, Role, View as Asked}
 use Rattle.inv_ends.specs.requests.Views.Deal.{Quiet, Open, Answered, Passed, Taken}
 use Rattle.inv_steps_left.specs.rows.Queue.{in_queue}
@@ -98,12 +99,16 @@ asked_base X layout (Protect aim index root steps at) d x h a f = f aim index ro
 asked_base X layout (Move at) d x h a f = absurd (asked_move layout at d x h a)
 asked_base X layout base d x h a f = absurd (quiet_word d x h a)
 
+-- a call's own step has no request
+work_quiet : (work : Work) (d : Deal) → fits (work_role work) d ≡ true → is_quiet d ≡ true
+work_quiet work d h = each_work_role work (λ (r : Role). fits r d ≡ true → is_quiet d ≡ true) (λ q. q) (λ from era q. q) h
+
 asked_phase : (X : Type 0) (layout : Layout) (phase : Phase) (d : Deal) (x : ℕ) → fits (role_of layout phase) d ≡ true → asks_word d x ≡ true
     → ((why : Why) (aim : Aim) (index : ℕ) (root : Root) (steps : ℕ) (at : ProtectAt) → phase ≡ Runs why (Protect aim index root steps at) → link_number layout root ≡ x → X) → X
 asked_phase X layout Idle d x h a f = absurd (quiet_word d x h a)
 asked_phase X layout (Runs why base) d x h a f = asked_base X layout base d x h a (λ aim index root steps at e n. f why aim index root steps at (ap (Runs why) e) n)
 asked_phase X layout (Scans later at) d x h a f = absurd (quiet_word d x h a)
-asked_phase X layout (Works work) d x h a f = absurd (quiet_word d x h a)
+asked_phase X layout (Works work) d x h a f = absurd (quiet_word d x (work_quiet work d h) a)
 
 fits_at : (w : World) (k : ℕ) (z : Asked) → Requests w z → fits (role_of w.layout (w.seat k).phase) (z.deal k) ≡ true
 fits_at w k z q = subst (λ (r : Role). fits r (z.deal k) ≡ true) (sym (q.locals.roles k)) (q.parts.fit k)
@@ -134,14 +139,14 @@ taken_phase X layout clock status post (Runs why (Begin at)) t j w l e s h k u f
 taken_phase X layout clock status post (Runs why (Reload parent index slot era steps)) t j w l e s h k u f = absurd (cc)
 taken_phase X layout clock status post (Runs why (Clear index)) t j w l e s h k u f = absurd (cc)
 taken_phase X layout clock status post (Runs why Finish) t j w l e s h k u f = absurd (cc)
-taken_phase X layout clock status post (Runs why Release) t j w l e s h k u f = absurd (cc)
+taken_phase X layout clock status post (Runs why (Release index)) t j w l e s h k u f = absurd (cc)
 taken_phase X layout clock status post (Runs why (Allocate at)) t j w l e s h k u f = absurd (cc)
 taken_phase X layout clock status post (Runs why (Write slot row place)) t j w l e s h k u f = absurd (cc)
 taken_phase X layout clock status post (Runs why (GiveUp slot)) t j w l e s h k u f = absurd (cc)
 taken_phase X layout clock status post (Runs why (Retire at)) t j w l e s h k u f = absurd (cc)
 taken_phase X layout clock status post (Runs why (Move at)) t j w l e s h k u f = absurd (taken_move layout at t j w l e h)
 taken_phase X layout clock status post (Scans later at) t j w l e s h k u f = absurd (cc)
-taken_phase X layout clock status post (Works work) t j w l e s h k u f = absurd (cc)
+taken_phase X layout clock status post (Works work) t j w l e s h k u f = let q = work_quiet work (Taken t j w l e) h in absurd (cc)
 
 under_asked : (w : World) (k : ℕ) (v : View) (z : Asked) (x : ℕ) → is_valid w.layout ≡ true → Seats w → Slots w → Requests w z → asks_word (z.deal k) x ≡ true → under v.status (root_in w k) ≡ true → under v.status (root_at w.layout x) ≡ true
 under_asked w k v z x d s t q a u = subst (λ (r : Root). under v.status r ≡ true) (sym (asked_root w k z x d s t q a)) u
@@ -202,7 +207,7 @@ carried_phase X layout clock status deal d post (Runs why (Reload parent index s
 carried_phase X layout clock status deal d post (Runs why (Begin at)) s h c u f g a = absurd (cc)
 carried_phase X layout clock status deal d post (Runs why (Clear index)) s h c u f g a = absurd (cc)
 carried_phase X layout clock status deal d post (Runs why Finish) s h c u f g a = absurd (cc)
-carried_phase X layout clock status deal d post (Runs why Release) s h c u f g a = absurd (cc)
+carried_phase X layout clock status deal d post (Runs why (Release index)) s h c u f g a = absurd (cc)
 carried_phase X layout clock status deal d post (Runs why (Allocate at)) s h c u f g a = absurd (cc)
 carried_phase X layout clock status deal d post (Runs why (Write slot row place)) s h c u f g a = absurd (cc)
 carried_phase X layout clock status deal d post (Runs why (GiveUp slot)) s h c u f g a = absurd (cc)
@@ -269,7 +274,7 @@ helped_left w i k m s v z (Runs why (Protect aim index root steps at)) d b a t q
 helped_left w i k m s v z (Runs why (Reload parent index slot era steps)) d b a t q r e h u = absurd (cc)
 helped_left w i k m s v z (Runs why (Clear index)) d b a t q r e h u = absurd (cc)
 helped_left w i k m s v z (Runs why Finish) d b a t q r e h u = absurd (cc)
-helped_left w i k m s v z (Runs why Release) d b a t q r e h u = absurd (cc)
+helped_left w i k m s v z (Runs why (Release index)) d b a t q r e h u = absurd (cc)
 helped_left w i k m s v z (Runs why (Allocate at)) d b a t q r e h u = absurd (cc)
 helped_left w i k m s v z (Runs why (Write slot row place)) d b a t q r e h u = absurd (cc)
 helped_left w i k m s v z (Runs why (GiveUp slot)) d b a t q r e h u = absurd (cc)

@@ -24,7 +24,7 @@ use Rattle.inv_ends.specs.handover.Handover.{HandoverNeeds, IsLeft, RowsLeft}
 use Rattle.inv_steps_left.specs.links.Origins.{OriginsNeeds}
 use Rattle.inv_steps_left.specs.links.Tracked.{carries_in, root_for, root_in, Tracked, Carried}
 use Rattle.inv_steps_left.specs.links.Links.{LinksNeeds, LinksShow}
-use Rattle.inv_steps_left.specs.contents.Stands.{nexts_in}
+use Rattle.inv_steps_left.specs.contents.Stands.{nexts_in, read_index}
 use Rattle.inv_steps_left.specs.contents.Items.{ItemsNeeds}
 use Rattle.inv_steps_left.proofs.contents.Items.Gives.{last_number}
 use Rattle.inv_steps_left.proofs.contents.Items.Finds.{work_finds_fit}
@@ -85,15 +85,19 @@ pub contents_need : (w : World) (i : ℕ) (v : View) (l : Line) (z : Asked) → 
 contents_need w i v l z b a =
     let s = links_show w i v l z b a in
     record {
-      post = (a.seats.fits i).post.layout;
-      held = λ k s h. stands_settled w k 0 s v a.held ((a.stands.stood k).reads s h);
+      valid = a.valid;
+      shapes = a.seats;
+      slots = a.slots;
+      stood = λ k j s h. stands_settled w k j s v a.held h;
+      held = λ k s h. stands_settled w k (read_index (w.seat k).phase) s v a.held ((a.stands.stood k).reads s h);
       gets = s.gets;
       changes = s.changes;
+      holds = s.holds;
       last = λ kept slot e h. last_number w i v l kept slot a.whole.both a.items e h;
     }
 
 pub finds_need : (w : World) (i : ℕ) (v : View) (l : Line) (z : Asked) (work : Work) → Known w v l z → (w.seat i).phase ≡ Works work → work_finds w.layout.config work (finds w i)
-finds_need w i v l z work a e = work_finds_fit w i v l work a.whole.both a.items a.contents a.bounded (λ s h. stands_settled w i 0 s v a.held ((a.stands.stood i).reads s h)) e
+finds_need w i v l z work a e = work_finds_fit w i v l work a.whole.both a.items a.contents a.bounded (λ s h. stands_settled w i (read_index (w.seat i).phase) s v a.held ((a.stands.stood i).reads s h)) e
 
 queue_need : (w : World) (i : ℕ) (v : View) (l : Line) (z : Asked) → i < w.layout.config.seats → Known w v l z → QueueNeeds w i v l
 queue_need w i v l z b a = whole_needs w i v l (whole_need w i v l z b a) a.whole

@@ -5,6 +5,7 @@ use Rattle.inv_steps_left.specs.rows.Agree.{rows_after}
 use Rattle.model_history.specs.History.{made_of, world_of}
 use Rattle.inv_all.proofs.Inv.Kept.{known_kept, asked_next}
 use Rattle.inv_all.proofs.Inv.Rows.{rows_need}
+use Rattle.inv_ends.proofs.Ends.Copied.{copied_covered}
 use Rattle.inv_ends.proofs.Ends.Held.{held_covered}
 use Rattle.inv_ends.proofs.Told.Births.{retires_given}
 use Rattle.inv_ends.proofs.Told.Rows.{rows_were}
@@ -38,6 +39,7 @@ machines_end layout items i d b =
         met = λ m tag index was now. met_open w i m tag index g.asked s.requests n was now;
         answered = λ why era m tag index e few was. met_answered w i m tag index era why g.asked s.requests k.requests g.meeting e few was;
         held = λ j slot told. held_covered w i j slot (rows_after w i g.rows) k.seats after.held told;
+        copied = λ f j slot told. copied_covered w i f j slot (rows_after w i g.rows) k.valid k.seats k.slots after.held told;
         rows = rows_were w i g.rows (rows_need w i g.rows g.line k.seats k.eras k.whole.both) k.eras k.whole.both.rows;
         births = λ slot birth retire lists. retires_given w i slot birth retire g.rows s.births (given_need made i g.rows g.line g.asked k) k.eras g.births lists;
       };

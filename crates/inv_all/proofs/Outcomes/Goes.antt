@@ -3,6 +3,7 @@ use Rattle.std.proofs.Common.{ℕ, ◌≡◌, ◌<◌, Bool, true, false, refl, 
 use Rattle.wfe_core.specs.words.Place.{is_valid}
 use Rattle.wfe_core.specs.words.declared.layout.Layout.{Layout}
 use Rattle.wfe_core.specs.defs.declared.call.Call.{Call}
+use Rattle.wfe_core.specs.Locals.{may_begin}
 use Rattle.wfe_core.specs.World.{begin, is_busy, step}
 use Rattle.inv_ends.specs.requests.Views.{Deal, View as Asked}
 use Rattle.inv_ends.proofs.requests.Falling.{needs_of}
@@ -12,7 +13,7 @@ use Rattle.inv_steps_left.specs.rows.Chain.{first_line, line_after}
 use Rattle.inv_steps_left.specs.rows.Queue.{Line}
 use Rattle.inv_steps_left.specs.rows.Rows.{View}
 use Rattle.model_history.specs.History.{Item, Begins, Steps, Made, fits, done, done_if, did, made_from, made_of, first_made}
-use Rattle.model_history.proofs.Along.{begins_right, low_seat}
+use Rattle.model_history.proofs.Along.{begins_right, begins_within, low_seat}
 use Rattle.inv_all.specs.Known.{Known}
 use Rattle.inv_all.proofs.Inv.Begun.{known_start, known_begin}
 use Rattle.inv_all.proofs.Inv.Kept.{known_kept, asked_next}
@@ -41,8 +42,8 @@ meeting_need made i v l z b k = record { valid = k.valid; below = b; seats = k.s
 pub given_need : (made : Made) (i : ℕ) (v : View) (l : Line) (z : Asked) → Known made.world v l z → GivenNeeds made.world i v
 given_need made i v l z k = record { valid = k.valid; seats = k.seats; needs = rows_need made.world i v l k.seats k.eras k.whole.both; rows = k.whole.both.rows }
 
-begin_goes : (layout : Layout) (made : Made) (i : ℕ) (call : Call) (s : Sights) → is_busy made.world i ≡ false → Goes layout made s → Goes layout (done made (Begins i call)) s
-begin_goes layout made i call s f g =
+begin_goes : (layout : Layout) (made : Made) (i : ℕ) (call : Call) (s : Sights) → is_busy made.world i ≡ false → may_begin made.world.layout.config call ≡ true → Goes layout made s → Goes layout (done made (Begins i call)) s
+begin_goes layout made i call s f m g =
     let k = g.known in
     let q = requests_begin made.world i call g.asked k.valid f k.seats k.requests in
     record {
@@ -50,7 +51,7 @@ begin_goes layout made i call s f g =
       rows = g.rows;
       line = g.line;
       asked = q.0;
-      known = known_begin made.world i call g.rows g.line g.asked q.0 f k q.1.facts q.1.deal;
+      known = known_begin made.world i call g.rows g.line g.asked q.0 f m k q.1.facts q.1.deal;
       walking = walking_begin made.world i call s.rows k.valid k.seats g.walking;
       meeting = subst (λ (deal : ℕ → Deal). Meeting (begin made.world i call) deal s.requests) (sym q.1.deal) (meeting_begin made.world i call g.asked.deal s.requests k.valid k.seats g.meeting);
       births = given_begin made.world i call g.rows s.births k.valid k.seats g.births;
@@ -73,7 +74,10 @@ step_goes layout made i s b g =
 
 item_goes : (layout : Layout) (made : Made) (item : Item) (s : Sights) (fit : Bool) → fits made.world item ≡ fit → Goes layout made s → Goes layout (done_if made item fit) (sights_if made.world item fit s)
 item_goes layout made item s false f g = g
-item_goes layout made (Begins i call) s true f g = begin_goes layout made i call s (begins_right i made.world.layout.config.seats (is_busy made.world i) f) g
+item_goes layout made (Begins i call) s true f g =
+    let seats : ℕ = made.world.layout.config.seats in
+    let may : Bool = may_begin made.world.layout.config call in
+    begin_goes layout made i call s (begins_right i seats (is_busy made.world i) may f) (begins_within i seats (is_busy made.world i) may f) g
 item_goes layout made (Steps i) s true f g = step_goes layout made i s (low_seat i made.world.layout.config.seats (is_busy made.world i) f) g
 
 items_go : (layout : Layout) (items : List Item) (made : Made) (s : Sights) → Goes layout made s → Goes layout (made_from made items) (sights_from made items s)

@@ -1,11 +1,13 @@
 -- Each step keeps what rows of the map show, and what seats know of them.
-use Rattle.std.proofs.Common.{ℕ, ◌≤◌, ◌+◌, ◌*◌, ◌≡◌, Bool, true, false, refl, ap, ◌∙◌, sym, subst, List, ◌++◌, length}
+use Rattle.std.proofs.Common.{ℕ, ◌≤◌, ◌+◌, ◌*◌, ◌%◌, ◌≡◌, Bool, true, false, refl, ap, ◌∙◌, sym, subst, List, ◌++◌, length}
 use Rattle.std.proofs.lemmas.List.{append_assoc}
-use Rattle.std.specs.Prelude.{◌==◌, if◌then◌else◌, None}
+use Rattle.std.specs.Prelude.{◌==◌, if◌then◌else◌, take, Option, None}
 use Rattle.inv_rows.specs.words.Place.{Place}
 use Rattle.inv_rows.specs.words.Place.Place.{Bucket, Row}
 use Rattle.inv_rows.specs.words.declared.layout.Layout.{Layout}
+use Rattle.inv_rows.specs.defs.Pairs.{pairs_after, value_in}
 use Rattle.inv_rows.specs.defs.declared.event.Event.{Event}
+use Rattle.inv_rows.specs.defs.declared.event.Root.{Root}
 use Rattle.inv_rows.specs.defs.declared.lifetime.Lifetime.{Lifetime}
 use Rattle.inv_rows.specs.model.declared.post.Post.{Post}
 use Rattle.inv_rows.specs.model.Book.{Book, booked_all}
@@ -18,8 +20,9 @@ use Rattle.inv_rows.specs.model.Posts.{counted}
 use Rattle.inv_rows.specs.model.Steps.{phase_move, phase_turn}
 use Rattle.inv_rows.specs.model.Locals.{Local, turn, settled, told_by, told_end, rounds_told}
 use Rattle.inv_rows.specs.model.World.{World, step, finds, told_in}
-use Rattle.inv_rows.specs.model.Calls.{ChangeKept, EnqueueKept, Changes, ChangeAt, LoadVersion, LoadCount, LoadKey, LoadValue, ExchangeRoot, EnqueueAt, LoadNumber, LoadNext, PassTail, ExchangeNext, ExchangeTail, Getting, Changing, Enqueuing, Dequeuing, Phase, Idle, Runs, Scans, Works, CallTurn, CallOutcome, GoesOn, Answers}
-use Rattle.inv_rows.proofs.model.Facts.{number_is}
+use Rattle.inv_rows.specs.model.Calls.{ChangeKept, EnqueueKept, Changes, ChangeAt, LoadVersion, LoadCount, LoadKey, LoadValue, ExchangeRoot, EnqueueAt, LoadNumber, LoadNext, PassTail, ExchangeNext, ExchangeTail, Getting, Changing, Enqueuing, Dequeuing, Phase, Idle, Runs, Scans, Works, CallTurn, CallOutcome, GoesOn, Answers, Looks, Keeping, GetAt, FindVersion, FindCount, FindKey, FindValue}
+use Rattle.inv_rows.proofs.model.Facts.{number_is, same_number}
+use Rattle.inv_rows.proofs.model.Ranges.{bounds_of}
 use Rattle.inv_rows.specs.Rows.{View, Good, made, is_settled}
 use Rattle.inv_rows.specs.Rows.Status.{Born}
 use Rattle.inv_rows.specs.Rows.RowMove.{Stays, Appends}
@@ -27,23 +30,26 @@ use Rattle.inv_rows.specs.Hands.{row_move, linked_row}
 use Rattle.inv_rows.specs.Agree.{Agree, Words, Plays, Needs, RowsNeeds, rows_after}
 use Rattle.inv_rows.proofs.Fits.{phase_fits}
 use Rattle.inv_rows.proofs.Steps.{of_taken}
-use Rattle.inv_requests.specs.shapes.Frame.{phase_left}
-use Rattle.inv_contents.specs.Shelf.{Shelf, shelf_of, Filled}
-use Rattle.inv_contents.specs.Knows.{Ground, Knows, Ready, reads_in}
-use Rattle.inv_contents.specs.Contents.{Shelved, Contents, ContentsNeeds, ContentsKept}
-use Rattle.inv_contents.specs.Told.{AllRight, ContentsTold}
+use Rattle.inv_requests.specs.shapes.Frame.{phase_left, read_slot}
+use Rattle.inv_contents.specs.Shelf.{Shelf, shelf_of, pairs_by, Filled}
+use Rattle.inv_contents.specs.Knows.{Ground, Knows, LookKnows, Ready, get_reads, reads_in}
+use Rattle.inv_contents.specs.Contents.{Shelved, KeptRows, Contents, ContentsNeeds, ContentsKept}
+use Rattle.inv_contents.specs.Told.{AllRight, ContentsTold, LookRight, ContentsLooked}
 use Rattle.inv_contents.proofs.Contents.Right.{claimed_right, right_append, linked_right}
 use Rattle.inv_contents.proofs.Contents.Told.{all_calm, calm_append, SameBook, SameSlot, calm_book, booked_append, same_slot, claimed_book, claimed_append, calm_claimed}
+use Rattle.inv_contents.proofs.Contents.Keeps.{Takes, rises_counted, turn_kept}
 use Rattle.inv_contents.proofs.Contents.Lasts.{on, knows_lasts}
 use Rattle.inv_contents.proofs.Contents.Links.{exchange_linking, exchange_latest}
 use Rattle.inv_contents.proofs.Contents.Machines.{enqueue_stays, rows_stay}
 use Rattle.inv_contents.proofs.Contents.Phases.{links_in, RootsHeld, phase_turns}
 use Rattle.inv_contents.proofs.Contents.Rounds.{Adds, Turns, plain_knows, clearing_adds}
 use Rattle.inv_contents.proofs.Contents.Shelves.{WordsStay, calm_shelved, keeps_all, joined_far, joined_shelved, exchanged_book, linked_booked, exchanged_far, Linking, Latest, exchanged_shelved}
-use Rattle.inv_contents.proofs.Contents.Turns.{GetOwes, Shown}
+use Rattle.inv_contents.proofs.Contents.Turns.{GetOwes, Shown, Looked, LookOutcome, look_turns}
 use Rattle.inv_contents.proofs.Contents.Views.{Keeps, keeps_made, unlinks, settled_stays, owned_stays}
 use Rattle.inv_rows.proofs.Runs.{taken_slot}
-use Rattle.inv_requests.proofs.shapes.Frame.{settled_phase}
+use Rattle.inv_requests.proofs.shapes.Frame.{settled_phase, settled_seated, finds_at}
+use Rattle.inv_requests.proofs.shapes.Kept.{counted_fits, run_counted, work_counted}
+use Rattle.inv_requests.specs.shapes.Seats.{PhaseFits}
 
 -- what a step leaves: what rows show, what the seat itself knows, and that rows that stood show the same
 pub record Did (n : ℕ) (a b : Book) (v u : View) (after : Place → ℕ) (left : Phase) (told : List Event) : Type 0 where
@@ -69,9 +75,12 @@ did_then n a b c v u after left told e d = record {
 }
 
 -- a step that links no row
+turns_same : (n : ℕ) (a : Book) (after : Place → ℕ) (t : CallTurn) → Turns (on n (shelf_of a) after) t → SameBook a (booked_all a (told_by t))
+turns_same n a after t h = claimed_book (shelf_of a) (told_by t) a (claimed_append (shelf_of a) t.told (told_end t.post t.outcome) h.calm (calm_claimed (shelf_of a) (told_end t.post t.outcome) (end_calm t.post t.outcome)))
+
 calm_did : (n : ℕ) (a : Book) (v u : View) (mem after : Place → ℕ) (t : CallTurn) → Turns (on n (shelf_of a) after) t → Keeps v u → WordsStay v mem after → Shelved (on n (shelf_of a) mem) a v → Did n a (booked_all a (told_by t)) v u after (phase_left t.outcome) (told_by t)
 calm_did n a v u mem after t h k w c =
-    let same : SameBook a (booked_all a (told_by t)) = claimed_book (shelf_of a) (told_by t) a (claimed_append (shelf_of a) t.told (told_end t.post t.outcome) h.calm (calm_claimed (shelf_of a) (told_end t.post t.outcome) (end_calm t.post t.outcome))) in
+    let same : SameBook a (booked_all a (told_by t)) = turns_same n a after t h in
     record {
       rows = calm_shelved n a (booked_all a (told_by t)) v u mem after same k w c;
       own = knows_lasts n (shelf_of a) (shelf_of (booked_all a (told_by t))) after after (phase_left t.outcome) (λ s y. same_slot a (booked_all a (told_by t)) s same) (λ s q y low. refl) h.knows;
@@ -178,6 +187,7 @@ linking_did n slots a v mem after i (Works (Getting key at)) post desk list y u 
 linking_did n slots a v mem after i (Works (Changing kept at)) post desk list y u last e g x p w h c = change_did n slots a v mem after i kept at post desk list y u e g x p w h c
 linking_did n slots a v mem after i (Works (Enqueuing kept at)) post desk list y u last e g x p w h c = enqueue_did n slots a v mem after i kept at post desk list y last e h g p w c
 linking_did n slots a v mem after i (Works (Dequeuing at)) post desk list y u last e g x p w h c = absurd (cc)
+linking_did n slots a v mem after i (Works (Keeping at)) post desk list y u last e g x p w h c = absurd (cc)
 
 phase_did : (n slots : ℕ) (a : Book) (v : View) (mem : Place → ℕ) (i : ℕ) (phase : Phase) (post : Post) (desk : Desk) (links : Bool) → links_in phase (found (phase_move phase post) (mem (place_in (phase_move phase post)))) ≡ links → ((k : EnqueueKept) (slot : ℕ) → phase ≡ Works (Enqueuing k (ExchangeNext slot)) → mem (Row k.tail 0) ≡ 0 → k.number ≡ length a.queued) → Needs slots mem v phase → Good slots v → Words slots mem v → Plays i phase desk.list v
     → RootsHeld n (shelf_of a) phase (λ b. (machine.after b (counted post) (found (phase_move phase post) (mem (place_in (phase_move phase post))))).outcome) → GetOwes n (shelf_of a) (counted post) (reads_in phase) → Shown (reads_in phase) (shelf_of a) mem → Knows (on n (shelf_of a) mem) phase → Shelved (on n (shelf_of a) mem) a v
@@ -204,6 +214,12 @@ knows_at : (g : Ground) (i k : ℕ) (old new : Local) (same : Bool) → (k == i)
 knows_at g i k old new true e p q = q
 knows_at g i k old new false e p q = p e
 
+roots_held : (w : World) (i : ℕ) (v : View) → ContentsNeeds w i v → RootsHeld w.layout.config.buckets (shelf_of w.book) (w.seat i).phase (λ b. (machine.after b (counted (w.seat i).post) (finds w i)).outcome)
+roots_held w i v owed = record { gets = λ key base e slot era o. owed.gets key slot era base e o; changes = λ kept base e slot era o. owed.changes kept slot era base e o }
+
+get_owes : (w : World) (i : ℕ) (v : View) → ContentsNeeds w i v → Contents w v → GetOwes w.layout.config.buckets (shelf_of w.book) (counted (w.seat i).post) (reads_in (w.seat i).phase)
+get_owes w i v owed c = record { buckets = ap (λ (layout : Layout). layout.config.buckets) (owed.shapes.fits i).post.layout; lows = λ s b y r. c.rows.within s b (owed.held i s y) r }
+
 pub step_did : (w : World) (i : ℕ) (v : View) → RowsNeeds w i v → ContentsNeeds w i v → Agree w v → Contents w v → Did w.layout.config.buckets w.book (step w i).book v (rows_after w i v) (step w i).mem (phase_left (turn (w.seat i) (finds w i)).outcome) (told_in w i)
 step_did w i v needs owed agree c =
     let l : Local = w.seat i in
@@ -224,14 +240,55 @@ step_did w i v needs owed agree c =
     agree.good
     agree.words
     (agree.plays i)
-    (record { gets = λ key base e slot era o. owed.gets key slot era base e o; changes = λ kept base e slot era o. owed.changes kept slot era base e o })
-    (record { buckets = ap (λ (layout : Layout). layout.config.buckets) owed.post; lows = λ s b y r. c.rows.within s b (owed.held i s y) r })
+    (roots_held w i v owed)
+    (get_owes w i v owed c)
     (λ s b y r. c.rows.shows s b (owed.held i s y) r)
     (c.seats i)
     c.rows
 
 pub contents_told : ContentsTold
 contents_told w i v needs owed agree c = (step_did w i v needs owed agree c).right
+
+phase_counted : (layout : Layout) (phase : Phase) (post : Post) → PhaseFits layout post phase → PhaseFits layout (counted post) phase
+phase_counted layout Idle post f = tt
+phase_counted layout (Runs why base) post f = run_counted layout why base post f
+phase_counted layout (Scans later at) post f = f
+phase_counted layout (Works work) post f = work_counted work post f
+
+-- a step of a machine tells nothing of rows of the map
+machine_same : (w : World) (i : ℕ) (v : View) → links_in (w.seat i).phase (finds w i) ≡ false → ContentsNeeds w i v → Agree w v → Contents w v → SameBook w.book (step w i).book
+machine_same w i v y owed agree c =
+    let l : Local = w.seat i in
+    turns_same w.layout.config.buckets w.book (step w i).mem (turn l (finds w i))
+    (phase_turns w.layout.config.buckets (shelf_of w.book) w.mem l.phase l.post (counted l.post) l.desk l.desk.list (agree.plays i).right y (roots_held w i v owed) (get_owes w i v owed c) (λ s b x r. c.rows.shows s b (owed.held i s x) r) (c.seats i))
+
+-- rows that stood at indexes from 2 on are rows of buckets still
+kept_before : (w : World) (i : ℕ) (v : View) (k : ℕ) → RowsNeeds w i v → ContentsNeeds w i v → Agree w v → Contents w v → KeptRows (shelf_of (step w i).book) (w.seat k).post
+kept_before w i v k needs owed agree c = λ j s low h.
+    let row = c.kept k j s low h in
+    record { bucket = row.bucket; root = ((step_did w i v needs owed agree c).far s (owed.stood k j s h)).root ∙ row.root }
+
+takes_rows : (w : World) (i : ℕ) (v : View) → ContentsNeeds w i v → Agree w v → Contents w v → Takes (shelf_of (step w i).book) (w.seat i).phase (counted (w.seat i).post) (finds w i)
+takes_rows w i v owed agree c = λ key aim index root steps at s e u.
+    let same = machine_same w i v (ap (λ (phase : Phase). links_in phase (finds w i)) e) owed agree c in
+    record { bucket = key % w.layout.config.buckets; root = same.roots s ∙ owed.holds key aim index root steps at s e (sym (rises_counted (w.seat i).post at (finds w i) s) ∙ u) }
+
+kept_own : (w : World) (i : ℕ) (v : View) → RowsNeeds w i v → ContentsNeeds w i v → Agree w v → Contents w v → KeptRows (shelf_of (step w i).book) (settled (w.seat i) (turn (w.seat i) (finds w i))).post
+kept_own w i v needs owed agree c =
+    let l : Local = w.seat i in
+    let q = owed.shapes.fits i in
+    let a : Shelf = shelf_of (step w i).book in
+    let Q : Post → Type 0 = KeptRows a in
+    let P : Post → Phase → Type 0 = λ post phase. Unit {0} in
+    (settled_seated {Q = Q} {P = P} l (turn l (finds w i))
+    (record {
+      post = turn_kept a w.layout i l.phase (counted l.post) l.desk l.desk (finds w i) ((bounds_of w.layout owed.valid).indexes.1) (counted_fits w.layout i l.post q.post) (phase_counted w.layout l.phase l.post q.phase) (owed.slots.seats i).phase (takes_rows w i v owed agree c) (kept_before w i v i needs owed agree c);
+      phase = tt;
+    })).post
+
+kept_at : (a : Shelf) (old new : Local) (same : Bool) → KeptRows a old.post → KeptRows a new.post → KeptRows a (if same then new else old).post
+kept_at a old new true p q = q
+kept_at a old new false p q = p
 
 pub contents_kept : ContentsKept
 contents_kept w i v needs owed agree c =
@@ -242,6 +299,13 @@ contents_kept w i v needs owed agree c =
     let d : Did n w.book (step w i).book v (rows_after w i v) (step w i).mem (phase_left t.outcome) (told_by t) = step_did w i v needs owed agree c in
     record {
       rows = d.rows;
+      kept = λ k. kept_at
+          (shelf_of (step w i).book)
+          (w.seat k)
+          (settled l t)
+          (k == i)
+          (kept_before w i v k needs owed agree c)
+          (kept_own w i v needs owed agree c);
       seats = λ k. knows_at
           (on n (shelf_of (step w i).book) (step w i).mem)
           i
@@ -253,3 +317,35 @@ contents_kept w i v needs owed agree c =
           (λ e. knows_lasts n (shelf_of w.book) (shelf_of (step w i).book) w.mem (step w i).mem (w.seat k).phase (λ s y. d.far s (owed.held k s y)) (λ s q y low. rows_stay w.mem l.phase l.post s q (owned_stays slots v i k l.phase (w.seat k).phase l.desk.list (w.seat k).desk.list s e agree.good (agree.plays i) (agree.plays k) y) low) (c.seats k))
           (subst (λ (phase : Phase). Knows (on n (shelf_of (step w i).book) (step w i).mem) phase) (sym (settled_phase l t.post (noting t.desk (told_by t)) (rounds_told l.rounds (told_by t)) t.outcome)) d.own);
     }
+
+-- a look answers what its row shows
+look_right : (w : World) (v : View) (key s slot version : ℕ) (value : Option ℕ) → is_settled (v.status s) ≡ true → Contents w v → Looked (on w.layout.config.buckets (shelf_of w.book) w.mem) key s slot version value → LookRight w.book slot version key value
+look_right w v key s slot version value y c h =
+    let a : Book = w.book in
+    let low : (a.row slot).version ≤ length (a.changes h.bucket) = c.rows.within slot h.bucket (subst (λ (n : ℕ). is_settled (v.status n) ≡ true) (sym h.same) y) h.row.root in
+    record {
+      bucket = h.bucket;
+      root = h.row.root;
+      shown = h.row.shown;
+      was = subst (λ (n : ℕ). n ≤ length (a.changes h.bucket)) (sym h.row.shown) low;
+      right = h.right ∙ ap (λ (r : Root). value_in (pairs_by a.changes r (a.row slot).version) key) h.row.root ∙ sym (ap (λ (n : ℕ). value_in (pairs_after (take n (a.changes h.bucket))) key) h.row.shown);
+    }
+
+pub contents_looked : ContentsLooked
+contents_looked w i v index key at slot version value owed c e q =
+    let l : Local = w.seat i in
+    let n : ℕ = w.layout.config.buckets in
+    let a : Shelf = shelf_of w.book in
+    let phase : Phase = Works (Keeping (Looks index key at)) in
+    let h : LookKnows (on n a w.mem) key at = subst (λ (p : Phase). Knows (on n a w.mem) p) e (c.seats i) in
+    let reads = λ (s : ℕ) (x : get_reads at s ≡ true). owed.held i s (ap (λ (p : Phase). reads_in p s) e ∙ x) in
+    let t = look_turns n a w.mem h.bucket index key at (counted l.post) l.desk (λ s b x r. c.rows.shows s b (reads s x) r) h.reads in
+    let word = finds_at w i phase e in
+    let outcome = sym (ap (λ (x : ℕ). (phase_turn phase (counted l.post) l.desk x).outcome) word) ∙ sym (ap (λ (p : Phase). (phase_turn p (counted l.post) l.desk (finds w i)).outcome) e) ∙ q in
+    look_right w v key (read_slot at) slot version value (reads (read_slot at) (reads_own at)) c (subst (LookOutcome (on n a w.mem) key (read_slot at)) outcome t.looked)
+  where
+    reads_own : (at : GetAt) → get_reads at (read_slot at) ≡ true
+    reads_own (FindVersion s) = same_number s
+    reads_own (FindCount s version) = same_number s
+    reads_own (FindKey s version count pair) = same_number s
+    reads_own (FindValue s version pair) = same_number s

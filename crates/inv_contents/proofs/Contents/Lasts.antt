@@ -1,14 +1,14 @@
 -- What a seat knows lasts while the rows that it reads show the same, and the words of its own row stay.
-use Rattle.std.proofs.Common.{ℕ, ◌+◌, ◌≤◌, ◌≡◌, Bool, true, ◌∙◌, sym}
+use Rattle.std.proofs.Common.{ℕ, ◌+◌, ◌%◌, ◌≤◌, ◌≡◌, Bool, true, ◌∙◌, sym}
 use Rattle.std.specs.Prelude.{◌==◌}
 use Rattle.inv_rows.specs.words.Place.{Place}
 use Rattle.inv_rows.specs.words.Place.Place.{Row}
 use Rattle.inv_rows.specs.model.Phases.{Base}
 use Rattle.inv_rows.specs.model.Phases.Base.{Begin, Protect, Reload, Clear, Finish, Release, Allocate, Write, GiveUp, Retire, Move}
-use Rattle.inv_rows.specs.model.Calls.{EnqueueKept, EnqueueAt, LoadNumber, LoadNext, PassTail, ExchangeNext, ExchangeTail, ChangeKept, Gets, Changes, Holds, Enqueues, Dequeues, Opens, FollowsHead, Fills, ClearsNext, Clears, Finishes, GivesUp, Retires, Tidies, Advances, Releases, GetAt, FindVersion, FindCount, FindKey, FindValue, ChangeAt, LoadVersion, LoadCount, LoadKey, LoadValue, ExchangeRoot, Getting, Changing, Enqueuing, Dequeuing, Phase, Idle, Runs, Scans, Works}
+use Rattle.inv_rows.specs.model.Calls.{EnqueueKept, EnqueueAt, LoadNumber, LoadNext, PassTail, ExchangeNext, ExchangeTail, ChangeKept, Gets, Changes, Holds, Enqueues, Dequeues, Opens, FollowsHead, Fills, ClearsNext, Clears, Finishes, GivesUp, Retires, Tidies, Advances, Releases, GetAt, FindVersion, FindCount, FindKey, FindValue, ChangeAt, LoadVersion, LoadCount, LoadKey, LoadValue, ExchangeRoot, Getting, Changing, Enqueuing, Dequeuing, Phase, Idle, Runs, Scans, Works, KeepAt, Looks, Keeping}
 use Rattle.inv_rows.proofs.model.Facts.{same_number, same_test}
 use Rattle.inv_contents.specs.Shelf.{Shelf}
-use Rattle.inv_contents.specs.Knows.{ItemKnows, EnqueueKnows, enqueue_owns, Ground, Knows, GetKnows, ChangeKnows, FillKnows, FoundRow, AtRow, AtKey, Decided, reads_in, get_reads, owns_in, base_owns, change_owns}
+use Rattle.inv_contents.specs.Knows.{ItemKnows, EnqueueKnows, enqueue_owns, Ground, Knows, GetKnows, KeepKnows, ChangeKnows, FillKnows, FoundRow, AtRow, AtKey, Decided, reads_in, get_reads, keep_reads, owns_in, base_owns, change_owns}
 use Rattle.inv_contents.proofs.Contents.Told.{SameSlot}
 
 abbrev pub on : ℕ → Shelf → (Place → ℕ) → Ground
@@ -21,18 +21,18 @@ OwnStays owns m k = (s q : ℕ) → owns s ≡ true → 1 ≤ q → k (Row s q) 
 abbrev pub ReadStays : (ℕ → Bool) → Shelf → Shelf → Type 0
 ReadStays reads a b = (s : ℕ) → reads s ≡ true → SameSlot a b s
 
-found_lasts : (n : ℕ) (a b : Shelf) (m k : Place → ℕ) (key slot version : ℕ) → SameSlot a b slot → FoundRow (on n a m) key slot version → FoundRow (on n b k) key slot version
-found_lasts n a b m k key slot version e h = record { root = e.root ∙ h.root; shown = h.shown ∙ sym e.version }
+found_lasts : (n : ℕ) (a b : Shelf) (m k : Place → ℕ) (bucket slot version : ℕ) → SameSlot a b slot → FoundRow (on n a m) bucket slot version → FoundRow (on n b k) bucket slot version
+found_lasts n a b m k bucket slot version e h = record { root = e.root ∙ h.root; shown = h.shown ∙ sym e.version }
 
-get_lasts : (n : ℕ) (a b : Shelf) (m k : Place → ℕ) (key : ℕ) (at : GetAt) → ReadStays (get_reads at) a b → GetKnows (on n a m) key at → GetKnows (on n b k) key at
-get_lasts n a b m k key (FindVersion slot) e h = (e slot (same_number slot)).root ∙ h
-get_lasts n a b m k key (FindCount slot version) e h = found_lasts n a b m k key slot version (e slot (same_number slot)) h
-get_lasts n a b m k key (FindKey slot version count pair) e h =
+get_lasts : (n : ℕ) (a b : Shelf) (m k : Place → ℕ) (bucket key : ℕ) (at : GetAt) → ReadStays (get_reads at) a b → GetKnows (on n a m) bucket key at → GetKnows (on n b k) bucket key at
+get_lasts n a b m k bucket key (FindVersion slot) e h = (e slot (same_number slot)).root ∙ h
+get_lasts n a b m k bucket key (FindCount slot version) e h = found_lasts n a b m k bucket slot version (e slot (same_number slot)) h
+get_lasts n a b m k bucket key (FindKey slot version count pair) e h =
     let same : SameSlot a b slot = e slot (same_number slot) in
-    record { row = found_lasts n a b m k key slot version same h.row; counted = rw same.pairs h.counted; more = h.more; value = rw same.pairs h.value }
-get_lasts n a b m k key (FindValue slot version pair) e h =
+    record { row = found_lasts n a b m k bucket slot version same h.row; counted = rw same.pairs h.counted; more = h.more; value = rw same.pairs h.value }
+get_lasts n a b m k bucket key (FindValue slot version pair) e h =
     let same : SameSlot a b slot = e slot (same_number slot) in
-    record { row = found_lasts n a b m k key slot version same h.row; more = rw same.pairs h.more; value = rw same.pairs h.value }
+    record { row = found_lasts n a b m k bucket slot version same h.row; more = rw same.pairs h.more; value = rw same.pairs h.value }
 
 pub decided_lasts : (n : ℕ) (a b : Shelf) (m k : Place → ℕ) (kept : ChangeKept) → ReadStays (λ s. kept.link == s + 1) a b → Decided (on n a m) kept → Decided (on n b k) kept
 decided_lasts n a b m k kept e h = record {
@@ -67,7 +67,7 @@ fill_lasts n a b m k kept (Protect aim index root steps at) e o h = decided_last
 fill_lasts n a b m k kept (Reload parent index slot era steps) e o h = decided_lasts n a b m k kept e h
 fill_lasts n a b m k kept (Clear index) e o h = decided_lasts n a b m k kept e h
 fill_lasts n a b m k kept Finish e o h = decided_lasts n a b m k kept e h
-fill_lasts n a b m k kept Release e o h = decided_lasts n a b m k kept e h
+fill_lasts n a b m k kept (Release index) e o h = decided_lasts n a b m k kept e h
 fill_lasts n a b m k kept (Allocate at) e o h = decided_lasts n a b m k kept e h
 fill_lasts n a b m k kept (Write slot row place) e o h =
     record { decided = decided_lasts n a b m k kept e h.decided; same = h.same; words = λ q x y. o slot q (same_number slot) x ∙ h.words q x y }
@@ -81,7 +81,7 @@ item_lasts n a b m k kept (Protect aim index root steps at) o h = tt
 item_lasts n a b m k kept (Reload parent index slot era steps) o h = tt
 item_lasts n a b m k kept (Clear index) o h = tt
 item_lasts n a b m k kept Finish o h = tt
-item_lasts n a b m k kept Release o h = tt
+item_lasts n a b m k kept (Release index) o h = tt
 item_lasts n a b m k kept (Allocate at) o h = tt
 item_lasts n a b m k kept (Write slot row place) o h = record { same = h.same; words = λ q x y. o slot q (same_number slot) x ∙ h.words q x y }
 item_lasts n a b m k kept base o h = tt
@@ -92,6 +92,10 @@ enqueue_lasts n a b m k kept LoadNext o h = tt
 enqueue_lasts n a b m k kept (PassTail next) o h = tt
 enqueue_lasts n a b m k kept (ExchangeNext slot) o h = λ q x y. o slot q (same_number slot) x ∙ h q x y
 enqueue_lasts n a b m k kept (ExchangeTail slot) o h = tt
+
+keep_lasts : (n : ℕ) (a b : Shelf) (m k : Place → ℕ) (at : KeepAt) → ReadStays (keep_reads at) a b → KeepKnows (on n a m) at → KeepKnows (on n b k) at
+keep_lasts n a b m k (Looks index key at) e h = record { bucket = h.bucket; reads = get_lasts n a b m k h.bucket key at e h.reads }
+keep_lasts n a b m k at e h = tt
 
 pub knows_lasts : (n : ℕ) (a b : Shelf) (m k : Place → ℕ) (phase : Phase) → ReadStays (reads_in phase) a b → OwnStays (owns_in phase) m k → Knows (on n a m) phase → Knows (on n b k) phase
 knows_lasts n a b m k Idle e o h = tt
@@ -109,9 +113,10 @@ knows_lasts n a b m k (Runs (GivesUp answer) base) e o h = tt
 knows_lasts n a b m k (Runs (Retires answer) base) e o h = tt
 knows_lasts n a b m k (Runs (Tidies later) base) e o h = tt
 knows_lasts n a b m k (Runs Advances base) e o h = tt
-knows_lasts n a b m k (Runs (Releases key) base) e o h = tt
+knows_lasts n a b m k (Runs (Releases let_go) base) e o h = tt
 knows_lasts n a b m k (Scans later at) e o h = tt
-knows_lasts n a b m k (Works (Getting key at)) e o h = get_lasts n a b m k key at e h
+knows_lasts n a b m k (Works (Getting key at)) e o h = get_lasts n a b m k (key % n) key at e h
 knows_lasts n a b m k (Works (Changing kept at)) e o h = change_lasts n a b m k kept at e o h
 knows_lasts n a b m k (Works (Enqueuing kept at)) e o h = enqueue_lasts n a b m k kept at o h
 knows_lasts n a b m k (Works (Dequeuing at)) e o h = tt
+knows_lasts n a b m k (Works (Keeping at)) e o h = keep_lasts n a b m k at e h

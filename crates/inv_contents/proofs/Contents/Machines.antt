@@ -26,11 +26,11 @@ use Rattle.inv_rows.specs.model.Phases.MoveAt.{LoadEra, LoadRequest, ShowEra, Lo
 use Rattle.inv_rows.specs.model.Phases.Base.{Begin, Protect, Reload, Clear, Finish, Release, Allocate, Write, GiveUp, Retire, Move}
 use Rattle.inv_rows.specs.model.Scan as scan
 use Rattle.inv_rows.specs.model.Steps.{phase_move, work_move}
-use Rattle.inv_rows.specs.model.Calls.{EnqueueKept, EnqueueAt, LoadNumber, LoadNext, PassTail, ExchangeNext, ExchangeTail, ScanAt, ReadGuard, GiveBack, Work, Getting, Changing, Enqueuing, Dequeuing, Phase, Idle, Runs, Scans, Works}
+use Rattle.inv_rows.specs.model.Calls.{EnqueueKept, EnqueueAt, LoadNumber, LoadNext, PassTail, ExchangeNext, ExchangeTail, ScanAt, ReadGuard, GiveBack, Work, Getting, Changing, Enqueuing, Dequeuing, Phase, Idle, Runs, Scans, Works, Keeping}
 use Rattle.inv_contents.specs.Knows.{base_owns}
 use Rattle.inv_contents.proofs.Contents.Told.{all_calm, calm_append}
 use Rattle.inv_rows.specs.model.Enqueue as enqueues
-use Rattle.inv_rows.proofs.Writers.{dequeue_stays, get_stays, change_stays}
+use Rattle.inv_rows.proofs.Writers.{dequeue_stays, get_stays, change_stays, keep_stays}
 
 abbrev pub Tells : Turn → Type 0
 Tells t = all_calm t.told ≡ true
@@ -120,7 +120,7 @@ base_calm (Protect aim index root steps at) post found = protect_calm aim index 
 base_calm (Reload parent index slot era steps) post found = grind arith
 base_calm (Clear index) post found = calm_append (cleared index (stands post index)) (reserves_index post index 0) (cleared_calm index (stands post index)) refl
 base_calm Finish post found = refl
-base_calm Release post found = calm_append (cleared 2 (stands post 2)) (reserves_span post None) (cleared_calm 2 (stands post 2)) refl
+base_calm (Release index) post found = calm_append (cleared index (stands post index)) (reserves_span post None) (cleared_calm index (stands post index)) refl
 base_calm (Allocate at) post found = allocate_calm at post found
 base_calm (Write slot row place) post found = grind arith
 base_calm (GiveUp slot) post found = refl
@@ -180,7 +180,7 @@ base_row_stays mem (Protect aim index root steps at) post s q h = row_word_stays
 base_row_stays mem (Reload parent index slot era steps) post s q h = refl
 base_row_stays mem (Clear index) post s q h = refl
 base_row_stays mem Finish post s q h = refl
-base_row_stays mem Release post s q h = refl
+base_row_stays mem (Release index) post s q h = refl
 base_row_stays mem (Allocate at) post s q h = row_word_stays mem (machine.allocate_move at) s q (allocate_writes at)
 base_row_stays mem (Write slot row place) post s q h = let other : (s == slot && q == place) ≡ false = grind (arith, nat_tests) in rw other refl
 base_row_stays mem (GiveUp slot) post s q h = refl
@@ -206,6 +206,7 @@ work_stays mem (Getting key at) post s q low = get_stays mem at s q
 work_stays mem (Changing kept at) post s q low = change_stays mem kept at post s q
 work_stays mem (Enqueuing kept at) post s q low = enqueue_stays mem kept at s q low
 work_stays mem (Dequeuing at) post s q low = dequeue_stays mem at s q
+work_stays mem (Keeping at) post s q low = keep_stays mem at post s q
 
 scan_stays : (mem : Place → ℕ) (at : ScanAt) (post : Post) (s q : ℕ) → written mem (scan.scan_move at post) (Row s q) ≡ mem (Row s q)
 scan_stays mem (ReadGuard number) post s q = refl

@@ -20,7 +20,7 @@ use Rattle.inv_rows.specs.model.Rounds.{scheme_of, taken_of, round, round_by, be
 use Rattle.inv_rows.specs.model.Get as gets
 use Rattle.inv_rows.specs.model.Scan as scan
 use Rattle.inv_rows.specs.model.Steps as steps
-use Rattle.inv_rows.specs.model.Calls.{EnqueueKept, EnqueueAt, LoadNumber, LoadNext, PassTail, ExchangeNext, ExchangeTail, Task, Gets, Changes, Holds, Enqueues, Dequeues, Next, Again, MakeRoom, Answering, Retiring, AfterScan, Answered, Repeated, Counted, Why, Opens, FollowsHead, Fills, ClearsNext, Clears, Finishes, GivesUp, Retires, Tidies, Advances, Releases, ScanAt, ReadGuard, GiveBack, Work, Getting, Changing, Enqueuing, Dequeuing, Phase, Idle, Runs, Scans, Works, CallTurn}
+use Rattle.inv_rows.specs.model.Calls.{EnqueueKept, EnqueueAt, LoadNumber, LoadNext, PassTail, ExchangeNext, ExchangeTail, Task, Gets, Changes, Holds, Enqueues, Dequeues, Next, Again, MakeRoom, Answering, Retiring, AfterScan, Answered, Repeated, Counted, Why, Opens, FollowsHead, Fills, ClearsNext, Clears, Finishes, GivesUp, Retires, Tidies, Advances, Releases, ScanAt, ReadGuard, GiveBack, Work, Getting, Changing, Enqueuing, Dequeuing, Phase, Idle, Runs, Scans, Works, CallTurn, KeepAt, Looks, Keeping}
 use Rattle.inv_requests.specs.shapes.Frame.{phase_left}
 use Rattle.inv_contents.specs.Knows.{Ground, Knows}
 use Rattle.inv_contents.proofs.Contents.Told.{all_calm, calm_append, Claimed, GotFrom, calm_claimed, claimed_append}
@@ -47,11 +47,16 @@ enqueue_plain (PassTail next) = true
 enqueue_plain (ExchangeNext slot) = false
 enqueue_plain (ExchangeTail slot) = true
 
+abbrev pub keep_plain : KeepAt → Bool
+keep_plain (Looks index key at) = false
+keep_plain at = true
+
 abbrev pub work_plain : Work → Bool
 work_plain (Getting key at) = false
 work_plain (Changing kept at) = false
 work_plain (Enqueuing kept at) = enqueue_plain at
 work_plain (Dequeuing at) = true
+work_plain (Keeping at) = keep_plain at
 
 -- the phase knows nothing of rows of the map
 abbrev pub is_plain : Phase → Bool
@@ -74,6 +79,10 @@ enqueue_knows g kept (PassTail next) h = tt
 enqueue_knows g kept (ExchangeNext slot) h = absurd (cc)
 enqueue_knows g kept (ExchangeTail slot) h = tt
 
+keep_knows : (g : Ground) (at : KeepAt) → keep_plain at ≡ true → Knows g (Works (Keeping at))
+keep_knows g (Looks index key at) h = absurd (cc)
+keep_knows g at h = tt
+
 pub plain_knows : (g : Ground) (phase : Phase) → is_plain phase ≡ true → Knows g phase
 plain_knows g Idle h = tt
 plain_knows g (Runs (Opens task) base) h = tt
@@ -86,12 +95,13 @@ plain_knows g (Runs (GivesUp answer) base) h = tt
 plain_knows g (Runs (Retires answer) base) h = tt
 plain_knows g (Runs (Tidies later) base) h = tt
 plain_knows g (Runs Advances base) h = tt
-plain_knows g (Runs (Releases key) base) h = tt
+plain_knows g (Runs (Releases let_go) base) h = tt
 plain_knows g (Scans later at) h = tt
 plain_knows g (Works (Getting key at)) h = absurd (cc)
 plain_knows g (Works (Changing kept at)) h = absurd (cc)
 plain_knows g (Works (Enqueuing kept at)) h = enqueue_knows g kept at h
 plain_knows g (Works (Dequeuing at)) h = tt
+plain_knows g (Works (Keeping at)) h = keep_knows g at h
 
 -- a turn tells these events first, and more that the book does not mind, and leaves a phase that knows nothing
 pub record Adds (told : List Event) (t : CallTurn) : Type 0 where

@@ -1,5 +1,5 @@
 -- Each step of a seat that links no row: what it tells, and what the phase that it leaves knows.
-use Rattle.std.proofs.Common.{ℕ, ◌+◌, ◌-◌, ◌*◌, ◌%◌, ◌≡◌, Bool, true, false, arith, refl, sym, subst, List, [], ◌∷◌, length}
+use Rattle.std.proofs.Common.{ℕ, ◌+◌, ◌-◌, ◌*◌, ◌%◌, ◌≡◌, Bool, true, false, arith, refl, sym, subst, List, [], ◌∷◌, ◌++◌, length}
 use Rattle.std.proofs.lemmas.Bool.Decides.{nat_tests}
 use Rattle.std.specs.Prelude.{◌==◌, if◌then◌else◌, Option, Some, None}
 use Rattle.inv_rows.specs.words.Place.{Place}
@@ -25,19 +25,22 @@ use Rattle.inv_rows.specs.model.Phases.{RowOf, Base, Walk, AllocateAt, Ending, O
 use Rattle.inv_rows.specs.model.Phases.Ending.{Done, Protected, Followed, Allocated, Retired, Clocked}
 use Rattle.inv_rows.specs.model.Phases.AllocateAt.{LoadBirth, ClaimSlot, StoreLife}
 use Rattle.inv_rows.specs.model.Phases.Base.{Begin, Protect, Reload, Clear, Finish, Release, Allocate, Write, GiveUp, Retire, Move}
-use Rattle.inv_rows.specs.model.Rounds.{clearing_next, opening}
+use Rattle.inv_rows.specs.words.Schemes.{has_one_interval}
+use Rattle.inv_rows.specs.model.Posts.{cleared, reserves_index, stands, withdrawn}
+use Rattle.inv_rows.specs.model.Rounds.{clearing_next, let_index, opening, scheme_of}
 use Rattle.inv_rows.specs.model.Change as alters
 use Rattle.inv_rows.specs.model.Enqueue as enqueues
 use Rattle.inv_rows.specs.model.Dequeue as dequeues
+use Rattle.inv_rows.specs.model.Keep as keeps
 use Rattle.inv_rows.specs.model.Steps as steps
 use Rattle.inv_rows.specs.model.WriteRow.{row_word, last_written}
-use Rattle.inv_rows.specs.model.Calls.{ChangeKept, EnqueueKept, Task, Gets, Changes, Holds, Enqueues, Dequeues, Next, Again, Answering, Retiring, AfterScan, Why, Opens, FollowsHead, Fills, ClearsNext, Clears, Finishes, GivesUp, Retires, Tidies, Advances, Releases, EnqueueAt, LoadNumber, LoadNext, PassTail, ExchangeNext, ExchangeTail, DequeueAt, LoadTail, SwingTail, TakeNumber, TakeValue, ExchangeHead, Runs, goes_on}
+use Rattle.inv_rows.specs.model.Calls.{ChangeKept, EnqueueKept, Task, Gets, Changes, Holds, Enqueues, Dequeues, Next, Again, Answering, Retiring, AfterScan, Why, Opens, FollowsHead, Fills, ClearsNext, Clears, Finishes, GivesUp, Retires, Tidies, Advances, Releases, EnqueueAt, LoadNumber, LoadNext, PassTail, ExchangeNext, ExchangeTail, DequeueAt, LoadTail, SwingTail, TakeNumber, TakeValue, ExchangeHead, Runs, goes_on, LetGo, Released, Rehold, Dropped, KeepAt, Loosens, LoadHeld, StoreHeld, Looks, Misses}
 use Rattle.inv_rows.specs.Hands.{fills_right, holds_slot}
 use Rattle.inv_contents.specs.Shelf.{Shelf, Filled}
 use Rattle.inv_contents.specs.Knows.{ItemKnows, WritingItem, Ground, FillKnows, Decided, Writing, changes_in}
-use Rattle.inv_contents.proofs.Contents.Told.{all_calm, calm_claimed, FromNone}
+use Rattle.inv_contents.proofs.Contents.Told.{all_calm, calm_append, calm_claimed, FromNone}
 use Rattle.inv_contents.proofs.Contents.Lasts.{on}
-use Rattle.inv_contents.proofs.Contents.Machines.{base_calm}
+use Rattle.inv_contents.proofs.Contents.Machines.{cleared_calm, base_calm}
 use Rattle.inv_contents.proofs.Contents.Reading.{filled_next}
 use Rattle.inv_contents.proofs.Contents.Rounds.{got_turns, Adds, Turns, turns_adds, adds_none, plain_knows, why_plain, task_plain, round_plain, closed_adds, finishing_adds, clearing_adds, clearing_next_adds, tidying_adds}
 use Rattle.inv_contents.proofs.Contents.Turns.{clearing_turns, deciding_turns, null_decided}
@@ -189,9 +192,36 @@ advanced_adds (Followed ending) post desk told = adds_none told (steps.advanced 
 advanced_adds (Allocated ending) post desk told = adds_none told (steps.advanced (Allocated ending) post desk told) refl refl
 advanced_adds (Retired life) post desk told = adds_none told (steps.advanced (Retired life) post desk told) refl refl
 
-released_adds : (key : Option ℕ) (post : Post) (desk : Desk) (told : List Event) → Adds told (steps.released key post desk told)
-released_adds None post desk told = adds_none told (steps.released None post desk told) refl refl
-released_adds (Some key) post desk told = adds_none told (steps.released (Some key) post desk told) refl (round_plain (Holds key) post)
+released_adds : (let_go : LetGo) (post : Post) (desk : Desk) (told : List Event) → Adds told (keeps.released let_go post desk told)
+released_adds Released post desk told = adds_none told (keeps.released Released post desk told) refl refl
+released_adds (Rehold key) post desk told = adds_none told (keeps.released (Rehold key) post desk told) refl (round_plain (Holds key) post)
+released_adds (Dropped index) post desk told = adds_none told (keeps.released (Dropped index) post desk told) refl refl
+
+-- a copy that ends tells nothing of rows of the map
+copied_turns : (g : Ground) (from index : ℕ) (post : Post) (desk : Desk) (reserved : List Event) (kept : Option ℕ) → all_calm reserved ≡ true → Turns g (keeps.copied from index post desk reserved kept)
+copied_turns g from index post desk reserved None c = record { calm = tt; knows = tt }
+copied_turns g from index post desk reserved (Some slot) c = record {
+  calm = calm_claimed g.shelf (keeps.copied from index post desk reserved (Some slot)).told (calm_append (cleared index (stands post index) ++ reserved) (events.Copied from index slot ∷ []) (calm_append (cleared index (stands post index)) reserved (cleared_calm index (stands post index)) c) refl);
+  knows = tt;
+}
+
+load_held_turns : (g : Ground) (from index : ℕ) (post : Post) (desk : Desk) (word : ℕ) (one : Bool) → Turns g (keeps.load_held from index post desk word one)
+load_held_turns g from index post desk word true = copied_turns g from index post desk [] (stands post from) refl
+load_held_turns g from index post desk word false = record { calm = tt; knows = tt }
+
+-- a look is left to another lemma
+abbrev pub is_look : KeepAt → Bool
+is_look (Looks index key at) = true
+is_look at = false
+
+pub keep_turns : (g : Ground) (at : KeepAt) (post : Post) (desk : Desk) (word : ℕ) → is_look at ≡ false → Turns g (keeps.keep_turn at post desk word)
+keep_turns g (Loosens let_go) post desk word h =
+    let told : List Event = cleared (let_index let_go) (stands post (let_index let_go)) in
+    turns_adds g told (keeps.keep_turn (Loosens let_go) post desk word) (cleared_calm (let_index let_go) (stands post (let_index let_go))) (released_adds let_go (withdrawn post (let_index let_go)) desk told)
+keep_turns g (LoadHeld from index) post desk word h = load_held_turns g from index post desk word (has_one_interval (scheme_of post))
+keep_turns g (StoreHeld from index era) post desk word h = copied_turns g from index post desk (reserves_index post index era) (stands post from) refl
+keep_turns g (Looks index key at) post desk word h = absurd (cc)
+keep_turns g (Misses index) post desk word h = record { calm = tt; knows = tt }
 
 -- a machine's end that no get or change waits for
 abbrev pub resumes_plain : Why → Bool
@@ -211,7 +241,7 @@ resume_adds (GivesUp answer) ending post desk told h = adds_none told (steps.res
 resume_adds (Retires answer) ending post desk told h = retired_adds answer ending post desk told
 resume_adds (Tidies later) ending post desk told h = tidied_adds later ending post desk told
 resume_adds Advances ending post desk told h = advanced_adds ending post desk told
-resume_adds (Releases key) ending post desk told h = released_adds key post desk told
+resume_adds (Releases let_go) ending post desk told h = released_adds let_go post desk told
 
 resumed_turns : (g : Ground) (why : Why) (desk : Desk) (post : Post) (told : List Event) (outcome : Outcome) → resumes_plain why ≡ true → why_plain why ≡ true → all_calm told ≡ true → Turns g (steps.resumed why desk post told outcome)
 resumed_turns g why desk post told (Goes base) h p c = record { calm = calm_claimed g.shelf told c; knows = plain_knows g (Runs why base) p }
@@ -314,7 +344,7 @@ fill_turns n a mem kept (Protect aim index root count at) post next desk r h = a
 fill_turns n a mem kept (Reload parent index slot era count) post next desk r h = absurd (no_truth r)
 fill_turns n a mem kept (Clear index) post next desk r h = absurd (no_truth r)
 fill_turns n a mem kept Finish post next desk r h = absurd (no_truth r)
-fill_turns n a mem kept Release post next desk r h = absurd (no_truth r)
+fill_turns n a mem kept (Release index) post next desk r h = absurd (no_truth r)
 fill_turns n a mem kept (GiveUp slot) post next desk r h = absurd (no_truth r)
 fill_turns n a mem kept (Retire at) post next desk r h = absurd (no_truth r)
 fill_turns n a mem kept (Move at) post next desk r h = absurd (no_truth r)
@@ -364,7 +394,7 @@ item_turns n a mem kept (Protect aim index root count at) post next desk r h = a
 item_turns n a mem kept (Reload parent index slot era count) post next desk r h = absurd (no_truth r)
 item_turns n a mem kept (Clear index) post next desk r h = absurd (no_truth r)
 item_turns n a mem kept Finish post next desk r h = absurd (no_truth r)
-item_turns n a mem kept Release post next desk r h = absurd (no_truth r)
+item_turns n a mem kept (Release index) post next desk r h = absurd (no_truth r)
 item_turns n a mem kept (GiveUp slot) post next desk r h = absurd (no_truth r)
 item_turns n a mem kept (Retire at) post next desk r h = absurd (no_truth r)
 item_turns n a mem kept (Move at) post next desk r h = absurd (no_truth r)

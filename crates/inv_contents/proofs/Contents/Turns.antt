@@ -7,6 +7,7 @@ use Rattle.inv_rows.specs.words.Place.{Place}
 use Rattle.inv_rows.specs.words.Place.Place.{Row}
 use Rattle.inv_rows.specs.defs.Pairs.{Pair, changed, value_in}
 use Rattle.inv_rows.specs.defs.declared.call.Answer.{Answer}
+use Rattle.inv_rows.specs.defs.declared.call.Answer.TheVariants as the_answers
 use Rattle.inv_rows.specs.defs.declared.event.Event.{Event}
 use Rattle.inv_rows.specs.defs.declared.event.Root.TheVariants as roots
 use Rattle.inv_rows.specs.model.declared.post.Post.{Post}
@@ -15,8 +16,10 @@ use Rattle.inv_rows.specs.model.Memory.{place_in, found}
 use Rattle.inv_rows.specs.model.Rounds.{bucket_of, clearing}
 use Rattle.inv_rows.specs.model.Get as gets
 use Rattle.inv_rows.specs.model.Change as alters
-use Rattle.inv_rows.specs.model.Calls.{ChangeKept, Task, Changes, Next, Again, Answering, GetAt, FindVersion, FindCount, FindKey, FindValue, ChangeAt, LoadVersion, LoadCount, LoadKey, LoadValue, ExchangeRoot}
+use Rattle.inv_rows.specs.model.Keep as keeps
+use Rattle.inv_rows.specs.model.Calls.{ChangeKept, Task, Changes, Next, Again, Answering, GetAt, FindVersion, FindCount, FindKey, FindValue, ChangeAt, LoadVersion, LoadCount, LoadKey, LoadValue, ExchangeRoot, CallTurn, CallOutcome, GoesOn, Answers, answers}
 use Rattle.inv_rows.proofs.model.Facts.{same_number, same_test}
+use Rattle.inv_requests.specs.shapes.Frame.{read_slot}
 use Rattle.inv_contents.specs.Shelf.{Shelf, Shows}
 use Rattle.inv_contents.specs.Knows.{Ground, pair_at, FoundRow, FoundKeys, GetKnows, AtCount, AtValue, Decided, ChangeKnows, FillKnows, changes_in, get_reads}
 use Rattle.inv_contents.proofs.Contents.Told.{all_calm, calm_claimed, FromRow}
@@ -34,7 +37,7 @@ pub record GetOwes (n : ℕ) (a : Shelf) (post : Post) (reads : ℕ → Bool) : 
   pub buckets : post.layout.config.buckets ≡ n
   pub lows : (s b : ℕ) → reads s ≡ true → a.root s ≡ roots.Bucket b → a.version s ≤ a.count b
 
-got_row : (n : ℕ) (a : Shelf) (mem : Place → ℕ) (key slot version : ℕ) (value : Option ℕ) (post : Post) (desk : Desk) → post.layout.config.buckets ≡ n → a.version slot ≤ a.count (key % n) → FoundRow (on n a mem) key slot version → value ≡ value_in (a.pairs slot) key → Turns (on n a mem) (gets.got key version value post desk [])
+got_row : (n : ℕ) (a : Shelf) (mem : Place → ℕ) (key slot version : ℕ) (value : Option ℕ) (post : Post) (desk : Desk) → post.layout.config.buckets ≡ n → a.version slot ≤ a.count (key % n) → FoundRow (on n a mem) (key % n) slot version → value ≡ value_in (a.pairs slot) key → Turns (on n a mem) (gets.got key version value post desk [])
 got_row n a mem key slot version value post desk p low row v =
     let same : key % n ≡ bucket_of post key = ap (λ (k : ℕ). key % k) (sym p) in
     got_turns (on n a mem) key version value post desk [] refl (FromRow slot (row.root ∙ ap (λ (k : ℕ). roots.Bucket k) same) (subst (λ (k : ℕ). a.version slot ≤ a.count k) same low) row.shown v)
@@ -46,14 +49,14 @@ pub clearing_turns : (g : Ground) (task : Task) (next : Next) (post : Post) (des
 clearing_turns g task next post desk told h = turns_adds g told (clearing task next post desk told) h (clearing_adds task next post desk told)
 
 -- a get
-finding_turns : (n : ℕ) (a : Shelf) (mem : Place → ℕ) (key slot version count : ℕ) (post : Post) (desk : Desk) (more : Bool) (pair : ℕ) → nat_lt pair count ≡ more → FoundRow (on n a mem) key slot version → count ≡ length (a.pairs slot) → value_in (a.pairs slot) key ≡ value_in (drop pair (a.pairs slot)) key → post.layout.config.buckets ≡ n → a.version slot ≤ a.count (key % n) → Turns (on n a mem) (gets.finding key slot version count post desk more pair)
+finding_turns : (n : ℕ) (a : Shelf) (mem : Place → ℕ) (key slot version count : ℕ) (post : Post) (desk : Desk) (more : Bool) (pair : ℕ) → nat_lt pair count ≡ more → FoundRow (on n a mem) (key % n) slot version → count ≡ length (a.pairs slot) → value_in (a.pairs slot) key ≡ value_in (drop pair (a.pairs slot)) key → post.layout.config.buckets ≡ n → a.version slot ≤ a.count (key % n) → Turns (on n a mem) (gets.finding key slot version count post desk more pair)
 finding_turns n a mem key slot version count post desk true pair e row counted value p low =
     record { calm = tt; knows = record { row = row; counted = counted; more = grind (arith, nat_tests); value = value } }
 finding_turns n a mem key slot version count post desk false pair e row counted value p low =
     let over : length (a.pairs slot) ≤ pair = grind (arith, nat_tests) in
     got_row n a mem key slot version None post desk p low row (sym (value ∙ none_left (a.pairs slot) pair key over))
 
-found_key_turns : (n : ℕ) (a : Shelf) (mem : Place → ℕ) (key slot version count pair found : ℕ) (post : Post) (desk : Desk) (own : Bool) → (found == key) ≡ own → found ≡ (pair_at (a.pairs slot) pair).0 → FoundKeys (on n a mem) key slot version count pair → post.layout.config.buckets ≡ n → a.version slot ≤ a.count (key % n) → Turns (on n a mem) (gets.found_key key slot version count pair post desk own)
+found_key_turns : (n : ℕ) (a : Shelf) (mem : Place → ℕ) (key slot version count pair found : ℕ) (post : Post) (desk : Desk) (own : Bool) → (found == key) ≡ own → found ≡ (pair_at (a.pairs slot) pair).0 → FoundKeys (on n a mem) (key % n) key slot version count pair → post.layout.config.buckets ≡ n → a.version slot ≤ a.count (key % n) → Turns (on n a mem) (gets.found_key key slot version count pair post desk own)
 found_key_turns n a mem key slot version count pair found post desk true e f h p low =
     let lt : pair < length (a.pairs slot) = subst (λ (c : ℕ). pair < c) h.counted h.more in
     let own : ((pair_at (a.pairs slot) pair).0 == key) ≡ true = subst (λ (x : ℕ). (x == key) ≡ true) f e in
@@ -63,7 +66,7 @@ found_key_turns n a mem key slot version count pair found post desk false e f h 
     let other : ((pair_at (a.pairs slot) pair).0 == key) ≡ false = subst (λ (x : ℕ). (x == key) ≡ false) f e in
     finding_turns n a mem key slot version count post desk (nat_lt (pair + 1) count) (pair + 1) refl h.row h.counted (h.value ∙ value_next (a.pairs slot) pair key lt other) p low
 
-pub get_turns : (n : ℕ) (a : Shelf) (mem : Place → ℕ) (key : ℕ) (at : GetAt) (post : Post) (desk : Desk) → GetOwes n a post (get_reads at) → Shown (get_reads at) a mem → GetKnows (on n a mem) key at
+pub get_turns : (n : ℕ) (a : Shelf) (mem : Place → ℕ) (key : ℕ) (at : GetAt) (post : Post) (desk : Desk) → GetOwes n a post (get_reads at) → Shown (get_reads at) a mem → GetKnows (on n a mem) (key % n) key at
     → Turns (on n a mem) (gets.get_turn key at post desk (found (gets.get_move at) (mem (place_in (gets.get_move at)))))
 get_turns n a mem key (FindVersion slot) post desk o r h =
     record { calm = tt; knows = record { root = h; shown = version_shown mem slot (a.version slot) (a.pairs slot) (r slot (key % n) (same_number slot) h) } }
@@ -77,6 +80,59 @@ get_turns n a mem key (FindValue slot version pair) post desk o r h =
     let word : mem (Row slot (gets.value_place pair)) ≡ (pair_at (a.pairs slot) pair).1 = value_shown mem slot (a.version slot) (a.pairs slot) pair h.more (r slot (key % n) (same_number slot) h.row.root) in
     got_row n a mem key slot version (Some (mem (Row slot (gets.value_place pair)))) post desk o.buckets (o.lows slot (key % n) (same_number slot) h.row.root) h.row (ap (λ (x : ℕ). Some x) word ∙ sym h.value)
 
+-- what a look of row s answers, which is one of some bucket
+pub record Looked (g : Ground) (key s slot version : ℕ) (value : Option ℕ) : Type 0 where
+  pub same : slot ≡ s
+  pub bucket : ℕ
+  pub row : FoundRow g bucket slot version
+  pub right : value ≡ value_in (g.shelf.pairs slot) key
+
+abbrev pub LookAnswer : Ground → (key s : ℕ) → Answer → Type 0
+LookAnswer g key s (the_answers.Looked slot version value) = Looked g key s slot version value
+LookAnswer g key s answer = Unit {0}
+
+abbrev pub LookOutcome : Ground → (key s : ℕ) → CallOutcome → Type 0
+LookOutcome g key s (GoesOn phase) = Unit {0}
+LookOutcome g key s (Answers answer) = LookAnswer g key s answer
+
+pub record LookTurns (g : Ground) (key s : ℕ) (t : CallTurn) : Type 0 where
+  pub turns : Turns g t
+  pub looked : LookOutcome g key s t.outcome
+
+looked_row : (g : Ground) (bucket key slot version : ℕ) (value : Option ℕ) (post : Post) (desk : Desk) → FoundRow g bucket slot version → value ≡ value_in (g.shelf.pairs slot) key → LookTurns g key slot (answers post desk [] (the_answers.Looked slot version value))
+looked_row g bucket key slot version value post desk row v = record { turns = record { calm = tt; knows = tt }; looked = record { same = refl; bucket = bucket; row = row; right = v } }
+
+looking_turns : (n : ℕ) (a : Shelf) (mem : Place → ℕ) (bucket index key slot version count : ℕ) (post : Post) (desk : Desk) (more : Bool) (pair : ℕ) → nat_lt pair count ≡ more → FoundRow (on n a mem) bucket slot version → count ≡ length (a.pairs slot) → value_in (a.pairs slot) key ≡ value_in (drop pair (a.pairs slot)) key → LookTurns (on n a mem) key slot (keeps.looking index key slot version count post desk more pair)
+looking_turns n a mem bucket index key slot version count post desk true pair e row counted value =
+    record { turns = record { calm = tt; knows = record { bucket = bucket; reads = record { row = row; counted = counted; more = grind (arith, nat_tests); value = value } } }; looked = tt }
+looking_turns n a mem bucket index key slot version count post desk false pair e row counted value =
+    let over : length (a.pairs slot) ≤ pair = grind (arith, nat_tests) in
+    looked_row (on n a mem) bucket key slot version None post desk row (sym (value ∙ none_left (a.pairs slot) pair key over))
+
+looked_key_turns : (n : ℕ) (a : Shelf) (mem : Place → ℕ) (bucket index key slot version count pair found : ℕ) (post : Post) (desk : Desk) (own : Bool) → (found == key) ≡ own → found ≡ (pair_at (a.pairs slot) pair).0 → FoundKeys (on n a mem) bucket key slot version count pair → LookTurns (on n a mem) key slot (keeps.looked_key index key slot version count pair post desk own)
+looked_key_turns n a mem bucket index key slot version count pair found post desk true e f h =
+    let lt : pair < length (a.pairs slot) = subst (λ (c : ℕ). pair < c) h.counted h.more in
+    let own : ((pair_at (a.pairs slot) pair).0 == key) ≡ true = subst (λ (x : ℕ). (x == key) ≡ true) f e in
+    record { turns = record { calm = tt; knows = record { bucket = bucket; reads = record { row = h.row; more = lt; value = h.value ∙ value_here (a.pairs slot) pair key lt own } } }; looked = tt }
+looked_key_turns n a mem bucket index key slot version count pair found post desk false e f h =
+    let lt : pair < length (a.pairs slot) = subst (λ (c : ℕ). pair < c) h.counted h.more in
+    let other : ((pair_at (a.pairs slot) pair).0 == key) ≡ false = subst (λ (x : ℕ). (x == key) ≡ false) f e in
+    looking_turns n a mem bucket index key slot version count post desk (nat_lt (pair + 1) count) (pair + 1) refl h.row h.counted (h.value ∙ value_next (a.pairs slot) pair key lt other)
+
+pub look_turns : (n : ℕ) (a : Shelf) (mem : Place → ℕ) (bucket index key : ℕ) (at : GetAt) (post : Post) (desk : Desk) → Shown (get_reads at) a mem → GetKnows (on n a mem) bucket key at
+    → LookTurns (on n a mem) key (read_slot at) (keeps.look_turn index key at post desk (found (gets.get_move at) (mem (place_in (gets.get_move at)))))
+look_turns n a mem bucket index key (FindVersion slot) post desk r h =
+    record { turns = record { calm = tt; knows = record { bucket = bucket; reads = record { root = h; shown = version_shown mem slot (a.version slot) (a.pairs slot) (r slot bucket (same_number slot) h) } } }; looked = tt }
+look_turns n a mem bucket index key (FindCount slot version) post desk r h =
+    looking_turns n a mem bucket index key slot version (mem (Row slot 2)) post desk (nat_lt 0 (mem (Row slot 2))) 0 refl h (count_shown mem slot (a.version slot) (a.pairs slot) (r slot bucket (same_number slot) h.root)) refl
+look_turns n a mem bucket index key (FindKey slot version count pair) post desk r h =
+    let lt : pair < length (a.pairs slot) = subst (λ (c : ℕ). pair < c) h.counted h.more in
+    let word : mem (Row slot (gets.key_place pair)) ≡ (pair_at (a.pairs slot) pair).0 = key_shown mem slot (a.version slot) (a.pairs slot) pair lt (r slot bucket (same_number slot) h.row.root) in
+    looked_key_turns n a mem bucket index key slot version count pair (mem (Row slot (gets.key_place pair))) post desk (mem (Row slot (gets.key_place pair)) == key) refl word h
+look_turns n a mem bucket index key (FindValue slot version pair) post desk r h =
+    let word : mem (Row slot (gets.value_place pair)) ≡ (pair_at (a.pairs slot) pair).1 = value_shown mem slot (a.version slot) (a.pairs slot) pair h.more (r slot bucket (same_number slot) h.row.root) in
+    looked_row (on n a mem) bucket key slot version (Some (mem (Row slot (gets.value_place pair)))) post desk h.row (ap (λ (x : ℕ). Some x) word ∙ sym h.value)
+
 -- a put or a remove
 
 filling_knows : (g : Ground) (kept : ChangeKept) (x : Option ℕ) → Decided g kept → FillKnows g kept (alters.filling_by kept x)
@@ -88,7 +144,7 @@ deciding_by_turns g kept post desk told (Some answer) c h = clearing_turns g (Ch
 deciding_by_turns g kept post desk told None c h = record { calm = calm_claimed g.shelf told c; knows = filling_knows g (alters.with_change kept) kept.taken h }
 
 pub deciding_turns : (g : Ground) (kept : ChangeKept) (post : Post) (desk : Desk) (told : List Event) → all_calm told ≡ true → Decided g (alters.with_change kept) → Turns g (alters.deciding kept post desk told)
-deciding_turns g kept post desk told c h = deciding_by_turns g kept post desk told (alters.refusal post.layout.config kept.version kept.pairs kept.change) c h
+deciding_turns g kept post desk told c h = deciding_by_turns g kept post desk told (alters.refused post.layout.config kept) c h
 
 same_slot : (link slot s : ℕ) → link ≡ slot + 1 → link ≡ s + 1 → slot ≡ s
 same_slot link slot s h k = omega arith

@@ -10,7 +10,7 @@ use Rattle.inv_rows.specs.model.Phases.{AllocateAt, RetireAt, Base}
 use Rattle.inv_rows.specs.model.Phases.AllocateAt.{LoadBirth, ClaimSlot, StoreLife}
 use Rattle.inv_rows.specs.model.Phases.RetireAt.{LoadLife, LoadRetire, StoreRetired}
 use Rattle.inv_rows.specs.model.Phases.Base.{Begin, Protect, Reload, Clear, Finish, Release, Allocate, Write, GiveUp, Retire, Move}
-use Rattle.inv_rows.specs.model.Calls.{EnqueueKept, ChangeKept, Why, Opens, FollowsHead, Fills, ClearsNext, Clears, Finishes, GivesUp, Retires, Tidies, Advances, Releases, ScanAt, ReadGuard, GiveBack, ChangeAt, LoadVersion, LoadCount, LoadKey, LoadValue, ExchangeRoot, EnqueueAt, LoadNumber, LoadNext, PassTail, ExchangeNext, ExchangeTail, DequeueAt, LoadTail, SwingTail, TakeNumber, TakeValue, ExchangeHead, Work, Getting, Changing, Enqueuing, Dequeuing, Phase, Idle, Runs, Scans, Works}
+use Rattle.inv_rows.specs.model.Calls.{EnqueueKept, ChangeKept, Why, Opens, FollowsHead, Fills, ClearsNext, Clears, Finishes, GivesUp, Retires, Tidies, Advances, Releases, ScanAt, ReadGuard, GiveBack, ChangeAt, LoadVersion, LoadCount, LoadKey, LoadValue, ExchangeRoot, EnqueueAt, LoadNumber, LoadNext, PassTail, ExchangeNext, ExchangeTail, DequeueAt, LoadTail, SwingTail, TakeNumber, TakeValue, ExchangeHead, Work, Getting, Changing, Enqueuing, Dequeuing, Phase, Idle, Runs, Scans, Works, Keeping}
 use Rattle.inv_rows.proofs.model.Facts.{number_is, false_by}
 use Rattle.inv_rows.specs.Rows.{Status, View, Good, RowMove, made, is_settled}
 use Rattle.inv_rows.specs.Rows.Hand.{Taken}
@@ -33,7 +33,7 @@ base_taken (Protect aim index root steps at) s h = absurd (cc)
 base_taken (Reload parent index slot era steps) s h = absurd (cc)
 base_taken (Clear index) s h = absurd (cc)
 base_taken Finish s h = absurd (cc)
-base_taken Release s h = absurd (cc)
+base_taken (Release index) s h = absurd (cc)
 base_taken (Allocate at) s h = absurd (cc)
 base_taken (Write slot row place) s h = ap Taken (number_is slot s h)
 base_taken base s h = absurd (cc)
@@ -44,7 +44,7 @@ plain_owns (Protect aim index root steps at) s p h = cc
 plain_owns (Reload parent index slot era steps) s p h = cc
 plain_owns (Clear index) s p h = cc
 plain_owns Finish s p h = cc
-plain_owns Release s p h = cc
+plain_owns (Release index) s p h = cc
 plain_owns (Allocate at) s p h = cc
 plain_owns (Write slot row place) s p h = cc
 plain_owns (GiveUp slot) s p h = cc
@@ -62,7 +62,7 @@ why_taken v i (GivesUp answer) base list s p r h = p.hand ∙ base_taken base s 
 why_taken v i (Retires answer) base list s p r h = p.hand ∙ base_taken base s h
 why_taken v i (Tidies later) base list s p r h = absurd (plain_owns base s r h)
 why_taken v i Advances base list s p r h = absurd (plain_owns base s r h)
-why_taken v i (Releases key) base list s p r h = absurd (plain_owns base s r h)
+why_taken v i (Releases let_go) base list s p r h = absurd (plain_owns base s r h)
 
 -- the row whose words a seat writes is its own
 pub writer_born : (slots : ℕ) (v : View) (i : ℕ) (phase : Phase) (list : List Lifetime) (s : ℕ) → Good slots v → Plays i phase list v → writes_in phase s ≡ true → v.status s ≡ Born i
@@ -96,6 +96,7 @@ work_owned v i (Getting key at) list s p h = absurd (cc)
 work_owned v i (Changing kept at) list s p h = change_owned v i kept at list s p h
 work_owned v i (Enqueuing kept at) list s p h = enqueue_owned v i kept at list s p h
 work_owned v i (Dequeuing at) list s p h = absurd (cc)
+work_owned v i (Keeping at) list s p h = absurd (cc)
 
 pub owner_born : (slots : ℕ) (v : View) (i : ℕ) (phase : Phase) (list : List Lifetime) (s : ℕ) → Good slots v → Plays i phase list v → owns_in phase s ≡ true → v.status s ≡ Born i
 owner_born slots v i Idle list s g p h = absurd (cc)
@@ -209,7 +210,7 @@ base_unlinks (Protect aim index root steps at) word = refl
 base_unlinks (Reload parent index slot era steps) word = refl
 base_unlinks (Clear index) word = refl
 base_unlinks Finish word = refl
-base_unlinks Release word = refl
+base_unlinks (Release index) word = refl
 base_unlinks (Allocate at) word = allocate_unlinks at word
 base_unlinks (Write slot row place) word = refl
 base_unlinks (GiveUp slot) word = refl
@@ -246,6 +247,7 @@ work_unlinks (Getting key at) post word h = refl
 work_unlinks (Changing kept at) post word h = change_unlinks kept at post word h
 work_unlinks (Enqueuing kept at) post word h = enqueue_unlinks at word h
 work_unlinks (Dequeuing at) post word h = dequeue_unlinks at word
+work_unlinks (Keeping at) post word h = refl
 
 scan_unlinks : (at : ScanAt) → is_settling (scan_row at) ≡ false
 scan_unlinks (ReadGuard number) = refl

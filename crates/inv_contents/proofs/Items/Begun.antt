@@ -4,15 +4,13 @@ use Rattle.std.proofs.lemmas.Bool.Decides.{nat_tests}
 use Rattle.inv_rows.specs.words.Place.Place.{Row}
 use Rattle.inv_rows.specs.words.declared.layout.Layout.{Layout}
 use Rattle.inv_rows.specs.model.Calls.{Idle}
-use Rattle.inv_rows.specs.model.Steps.{first_phase}
 use Rattle.inv_rows.specs.model.Locals.{Local, begun_post}
 use Rattle.inv_rows.specs.model.World.{start, begin}
 use Rattle.inv_requests.proofs.shapes.Frame.{begin_stays, begin_begins}
 use Rattle.inv_requests.proofs.shapes.Kept.{one_moves}
-use Rattle.inv_contents.proofs.Stands.Rounds.{first_free}
 use Rattle.inv_contents.specs.Reads.{Reads}
 use Rattle.inv_contents.specs.Items.{ItemsStart, ItemsBegin}
-use Rattle.inv_contents.proofs.QueueReads.Turns.{bare_reads, free_bare}
+use Rattle.inv_contents.proofs.QueueReads.Turns.{bare_reads, first_reads}
 
 first_number : (layout : Layout) (s : ℕ) → (start layout).mem (Row s 1) ≡ 0
 first_number layout s = grind (arith, nat_tests)
@@ -35,5 +33,5 @@ items_begin w i call v l h =
     let S : ℕ → Local → Type 0 = λ k x. Reads x.phase l w.book.queued in
     record {
       rows = h.rows;
-      seats = λ k. one_moves S w.seat (begin w i call).seat i h.seats (λ n e. begin_stays w i n call e) (subst (S i) (sym (begin_begins w i call)) (bare_reads (first_phase call (begun_post (w.seat i).post)) l w.book.queued (free_bare (first_phase call (begun_post (w.seat i).post)) (first_free call (begun_post (w.seat i).post))))) k;
+      seats = λ k. one_moves S w.seat (begin w i call).seat i h.seats (λ n e. begin_stays w i n call e) (subst (S i) (sym (begin_begins w i call)) (first_reads call (begun_post (w.seat i).post) l w.book.queued)) k;
     }

@@ -24,7 +24,7 @@ use Rattle.inv_rows.specs.model.Desks.{Desk}
 use Rattle.inv_rows.specs.model.Steps.{phase_turn}
 use Rattle.inv_rows.specs.model.Locals.{told_by, told_end}
 use Rattle.inv_rows.specs.model.World.{World}
-use Rattle.inv_rows.specs.model.Calls.{ChangeKept, EnqueueKept, Changes, Retiring, ChangeAt, LoadVersion, LoadCount, LoadKey, LoadValue, ExchangeRoot, EnqueueAt, LoadNumber, LoadNext, PassTail, ExchangeNext, ExchangeTail, DequeueAt, LoadTail, SwingTail, TakeNumber, TakeValue, ExchangeHead, Getting, Changing, Enqueuing, Dequeuing, Phase, Idle, Runs, Scans, Works, CallTurn}
+use Rattle.inv_rows.specs.model.Calls.{ChangeKept, EnqueueKept, Changes, Retiring, ChangeAt, LoadVersion, LoadCount, LoadKey, LoadValue, ExchangeRoot, EnqueueAt, LoadNumber, LoadNext, PassTail, ExchangeNext, ExchangeTail, DequeueAt, LoadTail, SwingTail, TakeNumber, TakeValue, ExchangeHead, Getting, Changing, Enqueuing, Dequeuing, Phase, Idle, Runs, Scans, Works, CallTurn, Keeping}
 use Rattle.inv_rows.proofs.model.Facts.{number_is}
 use Rattle.inv_requests.specs.shapes.Slots.{Slots, PhaseIn, ChangeIn, ChangeAtIn}
 use Rattle.inv_rows.specs.Rows.{View}
@@ -175,6 +175,7 @@ phase_limits most pairs a v l mem (Works (Getting key at)) post desk r = calm_li
 phase_limits most pairs a v l mem (Works (Changing kept at)) post desk r = changes_limits most pairs a v l mem kept at post desk (change_hits kept at (finds_phase mem (Works (Changing kept at)) post)) refl r
 phase_limits most pairs a v l mem (Works (Enqueuing kept at)) post desk r = enqueues_limits most pairs a v l mem kept at post (counted post) desk (enqueue_hits at (finds_phase mem (Works (Enqueuing kept at)) post)) refl r
 phase_limits most pairs a v l mem (Works (Dequeuing at)) post desk r = dequeues_limits most pairs a v l mem at post (counted post) desk (dequeue_hits at (finds_phase mem (Works (Dequeuing at)) post)) refl r
+phase_limits most pairs a v l mem (Works (Keeping at)) post desk r = calm_limits most pairs a v l mem (Works (Keeping at)) post (counted post) desk refl r
 
 -- what a change that exchanges its root has decided upon
 latest_of : (w : World) (i : ℕ) (v : View) (kept : ChangeKept) (slot b : ℕ) → Agree w v → Contents w v → (w.seat i).phase ≡ Works (Changing kept (ExchangeRoot slot)) → w.mem (Bucket b) ≡ kept.link → IsLatest w b kept

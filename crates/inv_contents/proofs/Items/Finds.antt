@@ -6,15 +6,17 @@ use Rattle.inv_rows.specs.defs.Pairs.{pairs_after}
 use Rattle.inv_rows.specs.defs.declared.event.Root.{Root}
 use Rattle.inv_rows.specs.defs.declared.event.Root.TheVariants as roots
 use Rattle.inv_rows.specs.model.declared.post.Post.{Post}
-use Rattle.inv_rows.specs.model.Calls.{ChangeKept, EnqueueKept, GetAt, FindVersion, FindCount, FindKey, FindValue, ChangeAt, LoadVersion, LoadCount, LoadKey, LoadValue, ExchangeRoot, EnqueueAt, LoadNumber, LoadNext, PassTail, ExchangeNext, ExchangeTail, DequeueAt, LoadTail, SwingTail, TakeNumber, TakeValue, ExchangeHead, Work, Getting, Changing, Enqueuing, Dequeuing, Phase, Works}
+use Rattle.inv_rows.specs.model.Calls.{ChangeKept, EnqueueKept, GetAt, FindVersion, FindCount, FindKey, FindValue, ChangeAt, LoadVersion, LoadCount, LoadKey, LoadValue, ExchangeRoot, EnqueueAt, LoadNumber, LoadNext, PassTail, ExchangeNext, ExchangeTail, DequeueAt, LoadTail, SwingTail, TakeNumber, TakeValue, ExchangeHead, Work, Getting, Changing, Enqueuing, Dequeuing, Phase, Works, KeepAt, Loosens, LoadHeld, StoreHeld, Looks, Misses, Keeping}
+use Rattle.inv_rows.specs.model.Get.{get_move}
+use Rattle.inv_rows.specs.model.Memory.{found, place_in}
 use Rattle.inv_rows.specs.model.World.{World}
 use Rattle.inv_rows.proofs.model.Facts.{same_number}
-use Rattle.inv_requests.specs.shapes.Slots.{work_finds, get_finds, change_finds, enqueue_finds, dequeue_finds}
+use Rattle.inv_requests.specs.shapes.Slots.{work_finds, get_finds, change_finds, enqueue_finds, dequeue_finds, keep_finds}
 use Rattle.inv_rows.specs.Rows.{View, is_settled}
 use Rattle.inv_rows.specs.Queue.{Line}
 use Rattle.inv_contents.specs.Shelf.{shelf_of, pairs_by}
 use Rattle.inv_contents.specs.Contents.{Contents, ground_of}
-use Rattle.inv_contents.specs.Knows.{Knows, GetKnows, ChangeKnows, reads_in, work_reads, changes_in}
+use Rattle.inv_contents.specs.Knows.{Knows, GetKnows, KeepKnows, ChangeKnows, get_reads, reads_in, work_reads, changes_in}
 use Rattle.inv_contents.proofs.Contents.Reading.{version_shown, count_shown}
 use Rattle.inv_contents.specs.Items.{Items}
 use Rattle.inv_contents.specs.Reads.{Reads}
@@ -42,11 +44,19 @@ count_in w v s b c o y e =
 abbrev Settles : World → View → Work → Type 0
 Settles w v work = (s : ℕ) → work_reads work s ≡ true → is_settled (v.status s) ≡ true
 
-get_fits : (w : World) (v : View) (key : ℕ) (at : GetAt) (post : Post) → Contents w v → Bounded w → Settles w v (Getting key at) → GetKnows (ground_of w) key at → get_finds w.layout.config at (finds_phase w.mem (Works (Getting key at)) post)
-get_fits w v key (FindVersion slot) post c o y h = version_in w v slot (key % w.layout.config.buckets) c o (y slot (same_number slot)) h
-get_fits w v key (FindCount slot version) post c o y h = count_in w v slot (key % w.layout.config.buckets) c o (y slot (same_number slot)) h.root
-get_fits w v key (FindKey slot version count pair) post c o y h = tt
-get_fits w v key (FindValue slot version pair) post c o y h = tt
+get_fits : (w : World) (v : View) (bucket key : ℕ) (at : GetAt) → Contents w v → Bounded w → ((s : ℕ) → get_reads at s ≡ true → is_settled (v.status s) ≡ true) → GetKnows (ground_of w) bucket key at
+    → get_finds w.layout.config at (found (get_move at) (w.mem (place_in (get_move at))))
+get_fits w v bucket key (FindVersion slot) c o y h = version_in w v slot bucket c o (y slot (same_number slot)) h
+get_fits w v bucket key (FindCount slot version) c o y h = count_in w v slot bucket c o (y slot (same_number slot)) h.root
+get_fits w v bucket key (FindKey slot version count pair) c o y h = tt
+get_fits w v bucket key (FindValue slot version pair) c o y h = tt
+
+keep_fits : (w : World) (v : View) (at : KeepAt) (post : Post) → Contents w v → Bounded w → Settles w v (Keeping at) → KeepKnows (ground_of w) at → keep_finds w.layout.config at (finds_phase w.mem (Works (Keeping at)) post)
+keep_fits w v (Loosens let_go) post c o y h = tt
+keep_fits w v (LoadHeld from index) post c o y h = tt
+keep_fits w v (StoreHeld from index era) post c o y h = tt
+keep_fits w v (Looks index key at) post c o y h = get_fits w v h.bucket key at c o (λ s e. y s e) h.reads
+keep_fits w v (Misses index) post c o y h = tt
 
 link_same : (kept : ChangeKept) (slot : ℕ) → kept.link ≡ slot + 1 → (kept.link == slot + 1) ≡ true
 link_same kept slot e = rw e (same_number (slot + 1))
@@ -81,10 +91,11 @@ dequeue_fits w v l (TakeValue head next number) post h r = tt
 dequeue_fits w v l (ExchangeHead head next number value) post h r = tt
 
 work_fits : (w : World) (v : View) (l : Line) (work : Work) (post : Post) → Items w v l → Contents w v → Bounded w → WalksIn (Works work) v l w.mem → Reads (Works work) l w.book.queued → Settles w v work → Knows (ground_of w) (Works work) → work_finds w.layout.config work (finds_phase w.mem (Works work) post)
-work_fits w v l (Getting key at) post h c o k r y g = get_fits w v key at post c o y g
+work_fits w v l (Getting key at) post h c o k r y g = get_fits w v (key % w.layout.config.buckets) key at c o (λ s e. y s e) g
 work_fits w v l (Changing kept at) post h c o k r y g = change_fits w v kept at post c o y g
 work_fits w v l (Enqueuing kept at) post h c o k r y g = enqueue_fits w v l kept at post h k
 work_fits w v l (Dequeuing at) post h c o k r y g = dequeue_fits w v l at post h r
+work_fits w v l (Keeping at) post h c o k r y g = keep_fits w v at post c o y g
 
 pub work_finds_fit : WorkFinds
 work_finds_fit w i v l work b h c o y e =

@@ -17,7 +17,7 @@ use Rattle.inv_rows.specs.model.Steps.{phase_move}
 use Rattle.inv_rows.specs.model.Phases.{Aim, Alone, Follows, ProtectAt, Base, Outcome, Goes, Ends, Turn, ends}
 use Rattle.inv_rows.specs.model.Phases.Ending.{Done, Protected, Followed, Allocated, Retired, Clocked}
 use Rattle.inv_rows.specs.model.Phases.Base.{Begin, Protect, Reload, Clear, Finish, Release, Allocate, Write, GiveUp, Retire, Move}
-use Rattle.inv_rows.specs.model.Calls.{EnqueueKept, Why, FollowsHead, EnqueueAt, LoadNumber, LoadNext, PassTail, ExchangeNext, ExchangeTail, DequeueAt, LoadTail, SwingTail, TakeNumber, TakeValue, ExchangeHead, Work, Getting, Changing, Enqueuing, Dequeuing, Phase, Idle, Runs, Scans, Works}
+use Rattle.inv_rows.specs.model.Calls.{EnqueueKept, Why, FollowsHead, EnqueueAt, LoadNumber, LoadNext, PassTail, ExchangeNext, ExchangeTail, DequeueAt, LoadTail, SwingTail, TakeNumber, TakeValue, ExchangeHead, Work, Getting, Changing, Enqueuing, Dequeuing, Phase, Idle, Runs, Scans, Works, Keeping}
 use Rattle.inv_rows.proofs.model.Facts.{same_number, number_is, if_by}
 use Rattle.inv_rows.specs.Rows.{View}
 use Rattle.inv_rows.specs.Follow.{LoadsBase}
@@ -73,7 +73,7 @@ follow_ends_right v l mem h (Reload parent index slot era steps) post next c g o
 follow_ends_right v l mem h (Begin at) post next c g o = absurd (let x = o.right in cc)
 follow_ends_right v l mem h (Clear index) post next c g o = absurd (let x = o.right in cc)
 follow_ends_right v l mem h Finish post next c g o = absurd (let x = o.right in cc)
-follow_ends_right v l mem h Release post next c g o = absurd (let x = o.right in cc)
+follow_ends_right v l mem h (Release index) post next c g o = absurd (let x = o.right in cc)
 follow_ends_right v l mem h (Allocate at) post next c g o = absurd (let x = o.right in cc)
 follow_ends_right v l mem h (Write slot row place) post next c g o = absurd (let x = o.right in cc)
 follow_ends_right v l mem h (GiveUp slot) post next c g o = absurd (let x = o.right in cc)
@@ -103,6 +103,7 @@ work_finds most a v l mem (Getting key at) post w r h = tt
 work_finds most a v l mem (Changing kept at) post w r h = tt
 work_finds most a v l mem (Enqueuing kept at) post w r h = enqueue_finds most a v l mem kept at post w h
 work_finds most a v l mem (Dequeuing at) post w r h = dequeue_finds most a v l mem at post r h
+work_finds most a v l mem (Keeping at) post w r h = tt
 
 pub phase_finds : (most : ℕ) (a : Book) (v : View) (l : Line) (mem : Place → ℕ) (phase : Phase) (post next : Post) → mem Head ≡ v.head → LineIn v l mem → WalksIn phase v l mem → Reads phase l a.queued → Shown most mem a v l → phase_right l a.queued phase next (finds_phase mem phase post)
 phase_finds most a v l mem Idle post next c g w r h = tt

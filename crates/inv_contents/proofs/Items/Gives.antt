@@ -20,7 +20,7 @@ use Rattle.inv_rows.specs.model.Dequeue as dequeues
 use Rattle.inv_rows.specs.model.Desks.{Desk}
 use Rattle.inv_rows.specs.model.Steps.{phase_turn}
 use Rattle.inv_rows.specs.model.Locals.{told_by, told_end}
-use Rattle.inv_rows.specs.model.Calls.{ChangeKept, EnqueueKept, Changes, Retiring, ChangeAt, LoadVersion, LoadCount, LoadKey, LoadValue, ExchangeRoot, EnqueueAt, LoadNumber, LoadNext, PassTail, ExchangeNext, ExchangeTail, DequeueAt, LoadTail, SwingTail, TakeNumber, TakeValue, ExchangeHead, Getting, Changing, Enqueuing, Dequeuing, Phase, Idle, Runs, Scans, Works, CallTurn}
+use Rattle.inv_rows.specs.model.Calls.{ChangeKept, EnqueueKept, Changes, Retiring, ChangeAt, LoadVersion, LoadCount, LoadKey, LoadValue, ExchangeRoot, EnqueueAt, LoadNumber, LoadNext, PassTail, ExchangeNext, ExchangeTail, DequeueAt, LoadTail, SwingTail, TakeNumber, TakeValue, ExchangeHead, Getting, Changing, Enqueuing, Dequeuing, Phase, Idle, Runs, Scans, Works, CallTurn, Keeping}
 use Rattle.inv_rows.proofs.model.Facts.{same_number, number_is, first_of, rest_of, same_both}
 use Rattle.inv_rows.specs.Rows.{View}
 use Rattle.inv_rows.specs.Queue.{Line}
@@ -171,6 +171,7 @@ phase_right most a v l mem (Works (Getting key at)) post next desk r = calm_righ
 phase_right most a v l mem (Works (Changing kept at)) post next desk r = changes_right most a v l mem kept at post next desk (change_hits kept at (finds_phase mem (Works (Changing kept at)) post)) refl r
 phase_right most a v l mem (Works (Enqueuing kept at)) post next desk r = enqueues_right most a v l mem kept at post next desk (enqueue_hits at (finds_phase mem (Works (Enqueuing kept at)) post)) refl r
 phase_right most a v l mem (Works (Dequeuing at)) post next desk r = dequeues_right most a v l mem at post next desk (dequeue_hits at (finds_phase mem (Works (Dequeuing at)) post)) refl r
+phase_right most a v l mem (Works (Keeping at)) post next desk r = calm_right most a v l mem (Works (Keeping at)) post next desk refl r
 
 pub items_told : ItemsTold
 items_told w i v l b h =

@@ -9,7 +9,7 @@ use Rattle.inv_rows.specs.model.Phases.{AllocateAt, RetireAt, Base}
 use Rattle.inv_rows.specs.model.Phases.AllocateAt.{LoadBirth, ClaimSlot, StoreLife}
 use Rattle.inv_rows.specs.model.Phases.RetireAt.{LoadLife, LoadRetire, StoreRetired}
 use Rattle.inv_rows.specs.model.Phases.Base.{Begin, Protect, Reload, Clear, Finish, Release, Allocate, Write, GiveUp, Retire, Move}
-use Rattle.inv_rows.specs.model.Calls.{ChangeKept, EnqueueKept, ChangeAt, LoadVersion, LoadCount, LoadKey, LoadValue, ExchangeRoot, EnqueueAt, LoadNumber, LoadNext, PassTail, ExchangeNext, ExchangeTail, DequeueAt, LoadTail, SwingTail, TakeNumber, TakeValue, ExchangeHead, ScanAt, ReadGuard, GiveBack, Work, Getting, Changing, Enqueuing, Dequeuing, Phase, Idle, Runs, Scans, Works}
+use Rattle.inv_rows.specs.model.Calls.{ChangeKept, EnqueueKept, ChangeAt, LoadVersion, LoadCount, LoadKey, LoadValue, ExchangeRoot, EnqueueAt, LoadNumber, LoadNext, PassTail, ExchangeNext, ExchangeTail, DequeueAt, LoadTail, SwingTail, TakeNumber, TakeValue, ExchangeHead, ScanAt, ReadGuard, GiveBack, Work, Getting, Changing, Enqueuing, Dequeuing, Phase, Idle, Runs, Scans, Works, Keeping}
 use Rattle.inv_rows.specs.Rows.{View, RowMove, made}
 use Rattle.inv_rows.specs.Rows.RowMove.{Stays, Claims, Bears, Drops, Links, Replaces, Appends, Pops, Reads, Seals, Lists, Returns}
 use Rattle.inv_rows.specs.Hands.{allocate_row, retire_row, base_row, scan_row, linked_row, change_row, enqueue_row, dequeue_row, work_row, row_move}
@@ -77,7 +77,7 @@ base_mild (Protect aim index root steps at) found = refl
 base_mild (Reload parent index slot era steps) found = refl
 base_mild (Clear index) found = refl
 base_mild Finish found = refl
-base_mild Release found = refl
+base_mild (Release index) found = refl
 base_mild (Allocate at) found = allocate_mild at found
 base_mild (Write slot row place) found = refl
 base_mild (GiveUp slot) found = refl
@@ -123,6 +123,7 @@ work_queues (Getting key at) found = false
 work_queues (Changing kept at) found = false
 work_queues (Enqueuing kept at) found = enqueue_hits at found
 work_queues (Dequeuing at) found = dequeue_hits at found
+work_queues (Keeping at) found = false
 
 abbrev pub queues : Phase → ℕ → Bool
 queues Idle found = false
@@ -135,6 +136,7 @@ work_mild (Getting key at) post found e = refl
 work_mild (Changing kept at) post found e = change_mild kept at post found
 work_mild (Enqueuing kept at) post found e = enqueue_mild at found e
 work_mild (Dequeuing at) post found e = dequeue_mild at found e
+work_mild (Keeping at) post found e = refl
 
 pub phase_mild : (phase : Phase) (post : Post) (found : ℕ) → queues phase found ≡ false → is_mild (row_move phase post found) ≡ true
 phase_mild Idle post found e = refl
@@ -170,6 +172,7 @@ work_lower l (Getting key at) found e = same_lower l
 work_lower l (Changing kept at) found e = same_lower l
 work_lower l (Enqueuing kept at) found e = enqueue_lower l kept at found e
 work_lower l (Dequeuing at) found e = same_lower l
+work_lower l (Keeping at) found e = same_lower l
 
 pub phase_lower : (l : Line) (phase : Phase) (found : ℕ) → queues phase found ≡ false → Lower l (moved_line l (line_move phase found))
 phase_lower l Idle found e = same_lower l

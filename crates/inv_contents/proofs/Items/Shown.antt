@@ -8,7 +8,7 @@ use Rattle.inv_rows.specs.words.Place.{Place}
 use Rattle.inv_rows.specs.words.Place.Place.{Row}
 use Rattle.inv_rows.specs.model.Book.{Book}
 use Rattle.inv_rows.specs.model.Phases.{Base}
-use Rattle.inv_rows.specs.model.Calls.{EnqueueKept, Task, Gets, Changes, Holds, Enqueues, Dequeues, Why, Opens, FollowsHead, Fills, EnqueueAt, LoadNumber, LoadNext, PassTail, ExchangeNext, ExchangeTail, DequeueAt, LoadTail, SwingTail, TakeNumber, TakeValue, ExchangeHead, Work, Getting, Changing, Enqueuing, Dequeuing, Phase, Idle, Runs, Scans, Works}
+use Rattle.inv_rows.specs.model.Calls.{EnqueueKept, Task, Gets, Changes, Holds, Enqueues, Dequeues, Why, Opens, FollowsHead, Fills, EnqueueAt, LoadNumber, LoadNext, PassTail, ExchangeNext, ExchangeTail, DequeueAt, LoadTail, SwingTail, TakeNumber, TakeValue, ExchangeHead, Work, Getting, Changing, Enqueuing, Dequeuing, Phase, Idle, Runs, Scans, Works, Keeping}
 use Rattle.inv_rows.proofs.model.Facts.{number_is, or_left_true, or_more}
 use Rattle.inv_rows.specs.Rows.{View}
 use Rattle.inv_rows.specs.Queue.{Line, moved_line, stands_on}
@@ -156,6 +156,7 @@ work_row : (work : Work) (t n : ℕ) → numbers_in (Works work) t n ≡ true �
 work_row (Getting key at) t n e = cc
 work_row (Changing kept at) t n e = cc
 work_row (Enqueuing kept at) t n e = or_left_true (kept.tail == t) false (enqueue_row kept at t n e)
+work_row (Keeping at) t n e = cc
 work_row (Dequeuing at) t n e = or_more (stands_on (Works (Dequeuing at)) t) (nexts_in (Works (Dequeuing at)) t) (dequeue_row at t n e)
 
 task_row : (task : Task) (base : Base) (t n : ℕ) → numbers_in (Runs (Fills task) base) t n ≡ true → (stands_on (Runs (Fills task) base) t || false) ≡ true
@@ -192,6 +193,7 @@ values_row (Works (Getting key at)) t x e = cc
 values_row (Works (Changing kept at)) t x e = cc
 values_row (Works (Enqueuing kept at)) t x e = cc
 values_row (Works (Dequeuing at)) t x e = values_dequeue at t x e
+values_row (Works (Keeping at)) t x e = cc
 
 -- numbers and values of rows that were in the queue stay
 pub record Grown (l m : Line) (before queued : List ℕ) : Type 0 where

@@ -23,7 +23,7 @@ use Rattle.inv_rows.specs.model.Memory.{Cas, written}
 use Rattle.inv_rows.specs.model.Scan as scan
 use Rattle.inv_rows.specs.model.Steps.{phase_move, phase_turn}
 use Rattle.inv_rows.specs.model.Locals.{told_by, told_end}
-use Rattle.inv_rows.specs.model.Calls.{ChangeKept, EnqueueKept, Changes, Retiring, ChangeAt, LoadVersion, LoadCount, LoadKey, LoadValue, ExchangeRoot, EnqueueAt, LoadNumber, LoadNext, PassTail, ExchangeNext, ExchangeTail, DequeueAt, LoadTail, SwingTail, TakeNumber, TakeValue, ExchangeHead, Work, Getting, Changing, Enqueuing, Dequeuing, Phase, Idle, Runs, Scans, Works, CallTurn}
+use Rattle.inv_rows.specs.model.Calls.{ChangeKept, EnqueueKept, Changes, Retiring, ChangeAt, LoadVersion, LoadCount, LoadKey, LoadValue, ExchangeRoot, EnqueueAt, LoadNumber, LoadNext, PassTail, ExchangeNext, ExchangeTail, DequeueAt, LoadTail, SwingTail, TakeNumber, TakeValue, ExchangeHead, Work, Getting, Changing, Enqueuing, Dequeuing, Phase, Idle, Runs, Scans, Works, CallTurn, Keeping}
 use Rattle.inv_rows.proofs.model.Facts.{same_number, number_is}
 use Rattle.inv_requests.specs.shapes.Frame.{phase_left}
 use Rattle.inv_requests.proofs.shapes.Frame.{written_own}
@@ -81,6 +81,7 @@ left_reads l queued (Works (Changing kept at)) post desk found e t = t.reads
 left_reads l queued (Works (Enqueuing kept at)) post desk found e t =
     subst (λ (m : Line). Reads (phase_left (phase_turn (Works (Enqueuing kept at)) post desk found).outcome) m queued) (sym (enqueue_keeps l kept at found e)) t.reads
 left_reads l queued (Works (Dequeuing at)) post desk found e t = t.reads
+left_reads l queued (Works (Keeping at)) post desk found e t = t.reads
 
 calm_did : (most i : ℕ) (a : Book) (v : View) (l : Line) (mem after : Place → ℕ) (phase : Phase) (post next : Post) (desk : Desk) (found : ℕ) → hits phase found ≡ false → queues phase found ≡ false → Turns l a.queued (phase_turn phase next desk found)
     → Kept v (made i v (row_move phase post found)) l mem after → Shown most mem a v l
@@ -264,6 +265,7 @@ work_did most i slots a v l mem (Getting key at) post next desk k r = still_did 
 work_did most i slots a v l mem (Changing kept at) post next desk k r = change_did most i slots a v l mem kept at post next desk (change_hits kept at (finds_phase mem (Works (Changing kept at)) post)) refl k r
 work_did most i slots a v l mem (Enqueuing kept at) post next desk k r = enqueue_did most i slots a v l mem kept at post next desk (enqueue_hits at (finds_phase mem (Works (Enqueuing kept at)) post)) refl k r
 work_did most i slots a v l mem (Dequeuing at) post next desk k r = dequeue_did most i slots a v l mem at post next desk (dequeue_hits at (finds_phase mem (Works (Dequeuing at)) post)) refl k r
+work_did most i slots a v l mem (Keeping at) post next desk k r = still_did most i slots a v l mem (Works (Keeping at)) post next desk refl refl k r
 
 pub phase_did : (most i slots : ℕ) (a : Book) (v : View) (l : Line) (mem : Place → ℕ) (phase : Phase) (post next : Post) (desk : Desk) → KeptIn i v l mem phase post → Rests most i slots a v l mem phase desk.list → DidIn most i a v l mem phase post next desk
 phase_did most i slots a v l mem Idle post next desk k r = still_did most i slots a v l mem Idle post next desk refl refl k r

@@ -101,7 +101,7 @@ retire_mute (LoadLife slot) post found = refl
 retire_mute (LoadRetire slot birth) post found = refl
 retire_mute (StoreRetired slot birth retire) post found = refl
 
-cleared_mute : (index : ℕ) (x : Option ℕ) → all_mute (cleared index x) ≡ true
+pub cleared_mute : (index : ℕ) (x : Option ℕ) → all_mute (cleared index x) ≡ true
 cleared_mute index None = refl
 cleared_mute index (Some slot) = refl
 
@@ -111,7 +111,7 @@ base_mute (Protect aim index root steps at) post found = protect_mute aim index 
 base_mute (Reload parent index slot era steps) post found = grind arith
 base_mute (Clear index) post found = mute_append (cleared index (stands post index)) (reserves_index post index 0) (cleared_mute index (stands post index)) refl
 base_mute Finish post found = refl
-base_mute Release post found = mute_append (cleared 2 (stands post 2)) (reserves_span post None) (cleared_mute 2 (stands post 2)) refl
+base_mute (Release index) post found = mute_append (cleared index (stands post index)) (reserves_span post None) (cleared_mute index (stands post index)) refl
 base_mute (Allocate at) post found = allocate_mute at post found
 base_mute (Write slot row place) post found = grind arith
 base_mute (GiveUp slot) post found = refl

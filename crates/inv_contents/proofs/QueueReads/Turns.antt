@@ -19,21 +19,24 @@ use Rattle.inv_rows.specs.model.Desks.{Desk}
 use Rattle.inv_rows.specs.model.Machine as machine
 use Rattle.inv_rows.specs.model.Phases.{Base, Ending, Outcome, Goes, Ends, Turn}
 use Rattle.inv_rows.specs.model.Phases.Ending.{Done, Protected, Followed, Allocated, Retired, Clocked}
-use Rattle.inv_rows.specs.model.Rounds.{bucket_of, clearing, clearing_next, closed}
+use Rattle.inv_rows.specs.words.Schemes.{has_one_interval}
+use Rattle.inv_rows.specs.model.Posts.{cleared, reserves_index, stands, withdrawn}
+use Rattle.inv_rows.specs.model.Rounds.{bucket_of, let_index, scheme_of, clearing, clearing_next, closed}
 use Rattle.inv_rows.specs.model.Get as gets
 use Rattle.inv_rows.specs.model.Change as alters
 use Rattle.inv_rows.specs.model.Enqueue as enqueues
 use Rattle.inv_rows.specs.model.Dequeue as dequeues
+use Rattle.inv_rows.specs.model.Keep as keeps
 use Rattle.inv_rows.specs.model.Scan as scan
 use Rattle.inv_rows.specs.model.Steps as steps
 use Rattle.inv_rows.specs.model.Steps.{first_phase}
-use Rattle.inv_rows.specs.model.Calls.{ChangeKept, EnqueueKept, Task, Gets, Changes, Holds, Enqueues, Dequeues, Next, Again, Answering, Why, Opens, FollowsHead, Fills, ClearsNext, Clears, Finishes, GivesUp, Retires, Tidies, Advances, Releases, ScanAt, ReadGuard, GiveBack, GetAt, FindVersion, FindCount, FindKey, FindValue, ChangeAt, LoadVersion, LoadCount, LoadKey, LoadValue, ExchangeRoot, EnqueueAt, LoadNumber, LoadNext, PassTail, ExchangeNext, ExchangeTail, DequeueAt, LoadTail, SwingTail, TakeNumber, TakeValue, ExchangeHead, Work, Getting, Changing, Enqueuing, Dequeuing, Phase, Idle, Runs, Scans, Works, CallTurn, goes_on}
+use Rattle.inv_rows.specs.model.Calls.{ChangeKept, EnqueueKept, Task, Gets, Changes, Holds, Enqueues, Dequeues, Next, Again, Answering, Why, Opens, FollowsHead, Fills, ClearsNext, Clears, Finishes, GivesUp, Retires, Tidies, Advances, Releases, ScanAt, ReadGuard, GiveBack, GetAt, FindVersion, FindCount, FindKey, FindValue, ChangeAt, LoadVersion, LoadCount, LoadKey, LoadValue, ExchangeRoot, EnqueueAt, LoadNumber, LoadNext, PassTail, ExchangeNext, ExchangeTail, DequeueAt, LoadTail, SwingTail, TakeNumber, TakeValue, ExchangeHead, Work, Getting, Changing, Enqueuing, Dequeuing, Phase, Idle, Runs, Scans, Works, CallTurn, goes_on, KeepAt, Loosens, LoadHeld, StoreHeld, Looks, Misses, Keeping}
 use Rattle.inv_requests.specs.shapes.Frame.{phase_left}
 use Rattle.inv_rows.specs.Queue.{Line}
-use Rattle.inv_contents.proofs.Stands.Rounds.{why_free, is_free, Adds, clearing_adds, clearing_next_adds, closed_adds, scan_told, scan_adds, why_ends, ends_free, resume_adds, first_free}
+use Rattle.inv_contents.proofs.Stands.Rounds.{why_free, is_free, Adds, clearing_adds, clearing_next_adds, closed_adds, scan_told, scan_adds, why_ends, ends_free, resume_adds, released_adds, each_first}
 use Rattle.inv_contents.specs.Reads.{value_under, Reads}
 use Rattle.inv_contents.proofs.QueueReads.Events.{mute_append, clear_mute}
-use Rattle.inv_contents.proofs.QueueReads.Told.{base_mute}
+use Rattle.inv_contents.proofs.QueueReads.Told.{cleared_mute, base_mute}
 use Rattle.inv_contents.specs.Turns.{all_mute, change_hits, enqueue_hits, dequeue_hits, work_hits, NextRight, follow_right, ending_right, outcome_right, why_right, enqueue_right, dequeue_right, work_right, Turns, CallsBegin, CallsRead}
 use Rattle.inv_contents.proofs.Contents.Rounds.{task_plain}
 use Rattle.inv_rows.proofs.Quiet.{quiet_task}
@@ -64,6 +67,7 @@ work_bare (Getting key at) = true
 work_bare (Changing kept at) = true
 work_bare (Enqueuing kept at) = enqueue_bare at
 work_bare (Dequeuing at) = dequeue_bare at
+work_bare (Keeping at) = true
 
 abbrev pub is_bare : Phase → Bool
 is_bare Idle = true
@@ -89,7 +93,7 @@ run_reads (GivesUp answer) base l queued h = record { lined = λ t e. cc; above 
 run_reads (Retires answer) base l queued h = record { lined = λ t e. cc; above = λ t e. absurd (cc); numbers = λ t n e. cc; values = λ t x e. cc }
 run_reads (Tidies later) base l queued h = record { lined = λ t e. cc; above = λ t e. absurd (cc); numbers = λ t n e. cc; values = λ t x e. cc }
 run_reads Advances base l queued h = record { lined = λ t e. cc; above = λ t e. absurd (cc); numbers = λ t n e. cc; values = λ t x e. cc }
-run_reads (Releases key) base l queued h = record { lined = λ t e. cc; above = λ t e. absurd (cc); numbers = λ t n e. cc; values = λ t x e. cc }
+run_reads (Releases let_go) base l queued h = record { lined = λ t e. cc; above = λ t e. absurd (cc); numbers = λ t n e. cc; values = λ t x e. cc }
 
 enqueue_reads : (kept : EnqueueKept) (at : EnqueueAt) (l : Line) (queued : List ℕ) → enqueue_bare at ≡ true → Reads (Works (Enqueuing kept at)) l queued
 enqueue_reads kept LoadNumber l queued h = record { lined = λ t e. cc; above = λ t e. absurd (cc); numbers = λ t n e. cc; values = λ t x e. cc }
@@ -113,6 +117,7 @@ bare_reads (Works (Getting key at)) l queued h = record { lined = λ t e. cc; ab
 bare_reads (Works (Changing kept at)) l queued h = record { lined = λ t e. cc; above = λ t e. absurd (cc); numbers = λ t n e. cc; values = λ t x e. cc }
 bare_reads (Works (Enqueuing kept at)) l queued h = enqueue_reads kept at l queued h
 bare_reads (Works (Dequeuing at)) l queued h = dequeue_reads at l queued h
+bare_reads (Works (Keeping at)) l queued h = record { lined = λ t e. cc; above = λ t e. absurd (cc); numbers = λ t n e. cc; values = λ t x e. cc }
 
 -- a call that works on no row has read of none
 
@@ -133,6 +138,7 @@ pub free_bare : (phase : Phase) → is_free phase ≡ true → is_bare phase ≡
 free_bare Idle h = refl
 free_bare (Runs why base) h = free_why why h
 free_bare (Scans later at) h = refl
+free_bare (Works (Keeping at)) h = refl
 free_bare (Works work) h = absurd (cc)
 
 bare_turns : (l : Line) (queued : List ℕ) (post : Post) (desk : Desk) (told : List Event) (phase : Phase) → all_mute told ≡ true → is_bare phase ≡ true → Turns l queued (goes_on post desk told phase)
@@ -180,7 +186,7 @@ deciding_by_turns l queued kept post desk told (Some answer) c = clearing_turns 
 deciding_by_turns l queued kept post desk told None c = bare_turns l queued post desk told (Runs (Fills (Changes (alters.with_change kept))) (alters.filling (alters.with_change kept))) c refl
 
 deciding_turns : (l : Line) (queued : List ℕ) (kept : ChangeKept) (post : Post) (desk : Desk) (told : List Event) → all_mute told ≡ true → Turns l queued (alters.deciding kept post desk told)
-deciding_turns l queued kept post desk told c = deciding_by_turns l queued kept post desk told (alters.refusal post.layout.config kept.version kept.pairs kept.change) c
+deciding_turns l queued kept post desk told c = deciding_by_turns l queued kept post desk told (alters.refused post.layout.config kept) c
 
 reading_turns : (l : Line) (queued : List ℕ) (kept : ChangeKept) (slot count : ℕ) (post : Post) (desk : Desk) (more : Bool) → Turns l queued (alters.reading kept slot count post desk more)
 reading_turns l queued kept slot count post desk true = bare_turns l queued post desk [] (Works (Changing kept (LoadKey slot count))) refl refl
@@ -259,6 +265,42 @@ dequeue_turns l queued (TakeValue head next number) post desk found e r h = reco
 }
 dequeue_turns l queued (ExchangeHead head next number value) post desk found e r h = taken_turns l queued head next number value post desk (found == head + 1) e
 
+-- what is kept
+
+copied_turns : (l : Line) (queued : List ℕ) (from index : ℕ) (post : Post) (desk : Desk) (reserved : List Event) (kept : Option ℕ) → all_mute reserved ≡ true → Turns l queued (keeps.copied from index post desk reserved kept)
+copied_turns l queued from index post desk reserved None c = record { mute = refl; reads = bare_reads Idle l queued refl }
+copied_turns l queued from index post desk reserved (Some slot) c = record {
+  mute = mute_append (cleared index (stands post index) ++ reserved) (events.Copied from index slot ∷ []) (mute_append (cleared index (stands post index)) reserved (cleared_mute index (stands post index)) c) refl;
+  reads = bare_reads Idle l queued refl;
+}
+
+load_held_turns : (l : Line) (queued : List ℕ) (from index : ℕ) (post : Post) (desk : Desk) (found : ℕ) (one : Bool) → Turns l queued (keeps.load_held from index post desk found one)
+load_held_turns l queued from index post desk found true = copied_turns l queued from index post desk [] (stands post from) refl
+load_held_turns l queued from index post desk found false = record { mute = refl; reads = bare_reads _ l queued refl }
+
+looking_turns : (l : Line) (queued : List ℕ) (index key slot version count : ℕ) (post : Post) (desk : Desk) (more : Bool) (pair : ℕ) → Turns l queued (keeps.looking index key slot version count post desk more pair)
+looking_turns l queued index key slot version count post desk true pair = record { mute = refl; reads = bare_reads _ l queued refl }
+looking_turns l queued index key slot version count post desk false pair = record { mute = refl; reads = bare_reads Idle l queued refl }
+
+looked_key_turns : (l : Line) (queued : List ℕ) (index key slot version count pair : ℕ) (post : Post) (desk : Desk) (own : Bool) → Turns l queued (keeps.looked_key index key slot version count pair post desk own)
+looked_key_turns l queued index key slot version count pair post desk true = record { mute = refl; reads = bare_reads _ l queued refl }
+looked_key_turns l queued index key slot version count pair post desk false = looking_turns l queued index key slot version count post desk (nat_lt (pair + 1) count) (pair + 1)
+
+look_turns : (l : Line) (queued : List ℕ) (index key : ℕ) (at : GetAt) (post : Post) (desk : Desk) (found : ℕ) → Turns l queued (keeps.look_turn index key at post desk found)
+look_turns l queued index key (FindVersion slot) post desk found = record { mute = refl; reads = bare_reads _ l queued refl }
+look_turns l queued index key (FindCount slot version) post desk found = looking_turns l queued index key slot version found post desk (nat_lt 0 found) 0
+look_turns l queued index key (FindKey slot version count pair) post desk found = looked_key_turns l queued index key slot version count pair post desk (found == key)
+look_turns l queued index key (FindValue slot version pair) post desk found = record { mute = refl; reads = bare_reads Idle l queued refl }
+
+keep_turns : (l : Line) (queued : List ℕ) (at : KeepAt) (post : Post) (desk : Desk) (found : ℕ) → Turns l queued (keeps.keep_turn at post desk found)
+keep_turns l queued (Loosens let_go) post desk found =
+    let told : List Event = cleared (let_index let_go) (stands post (let_index let_go)) in
+    adds_turns l queued told (keeps.keep_turn (Loosens let_go) post desk found) (cleared_mute (let_index let_go) (stands post (let_index let_go))) (released_adds let_go (withdrawn post (let_index let_go)) desk told)
+keep_turns l queued (LoadHeld from index) post desk found = load_held_turns l queued from index post desk found (has_one_interval (scheme_of post))
+keep_turns l queued (StoreHeld from index era) post desk found = copied_turns l queued from index post desk (reserves_index post index era) (stands post from) refl
+keep_turns l queued (Looks index key at) post desk found = look_turns l queued index key at post desk found
+keep_turns l queued (Misses index) post desk found = record { mute = refl; reads = bare_reads Idle l queued refl }
+
 -- a call's own step
 
 work_turns : (l : Line) (queued : List ℕ) (work : Work) (post : Post) (desk : Desk) (found : ℕ) → work_hits work found ≡ false → work_right l queued work found → Reads (Works work) l queued → Turns l queued (steps.work_turn work post desk found)
@@ -266,6 +308,7 @@ work_turns l queued (Getting key at) post desk found e r h = get_turns l queued 
 work_turns l queued (Changing kept at) post desk found e r h = change_turns l queued kept at post desk found e
 work_turns l queued (Enqueuing kept at) post desk found e r h = enqueue_turns l queued kept at post desk found e r h
 work_turns l queued (Dequeuing at) post desk found e r h = dequeue_turns l queued at post desk found e r h
+work_turns l queued (Keeping at) post desk found e r h = keep_turns l queued at post desk found
 
 -- where a machine has ended
 
@@ -397,7 +440,7 @@ run_by l queued (GivesUp answer) base desk t c r h = ends_turns l queued (GivesU
 run_by l queued (Retires answer) base desk t c r h = ends_turns l queued (Retires answer) desk t.post t.told t.outcome c refl
 run_by l queued (Tidies later) base desk t c r h = ends_turns l queued (Tidies later) desk t.post t.told t.outcome c refl
 run_by l queued Advances base desk t c r h = ends_turns l queued Advances desk t.post t.told t.outcome c refl
-run_by l queued (Releases key) base desk t c r h = ends_turns l queued (Releases key) desk t.post t.told t.outcome c refl
+run_by l queued (Releases let_go) base desk t c r h = ends_turns l queued (Releases let_go) desk t.post t.told t.outcome c refl
 
 scan_mute : (at : ScanAt) (post : Post) (found : ℕ) → all_mute (scan_told at post found) ≡ true
 scan_mute (ReadGuard number) post found = refl
@@ -411,4 +454,5 @@ phase_turns l queued (Works work) post desk found e r h = work_turns l queued wo
 
 -- a call begins with nothing read
 pub first_reads : CallsBegin
-first_reads call post l queued = bare_reads (first_phase call post) l queued (free_bare (first_phase call post) (first_free call post))
+first_reads call post l queued =
+    each_first call post (λ (phase : Phase). Reads phase l queued) (λ phase h. bare_reads phase l queued (free_bare phase h)) (λ index key slot c e. bare_reads _ l queued refl)

@@ -1,6 +1,7 @@
 -- What a call works on stands, from the start on and over every step.
 use Rattle.std.proofs.Common.{ℕ, refl, sym, subst}
 use Rattle.inv_rows.specs.words.declared.layout.Layout.{Layout}
+use Rattle.inv_rows.specs.defs.declared.call.Call.{Call}
 use Rattle.inv_rows.specs.model.declared.post.Post.{Post}
 use Rattle.inv_rows.specs.model.Desks.{Desk}
 use Rattle.inv_rows.specs.model.Posts.{counted}
@@ -15,8 +16,8 @@ use Rattle.inv_requests.proofs.shapes.Kept.{counted_fits, run_counted, one_moves
 use Rattle.inv_requests.specs.Parents.{phase_stands}
 use Rattle.inv_requests.proofs.Paces.{Any}
 use Rattle.inv_contents.specs.Stands.{Stood, StandsStart, StandsBegin, StandsKept}
-use Rattle.inv_contents.proofs.Stands.Rounds.{TurnStood, free_stood, adds_stood, scan_told, scan_adds, first_free}
-use Rattle.inv_contents.proofs.Stands.Works.{work_stood}
+use Rattle.inv_contents.proofs.Stands.Rounds.{TurnStood, free_stood, adds_stood, scan_told, scan_adds, each_first}
+use Rattle.inv_contents.proofs.Stands.Works.{same_row, work_stood}
 use Rattle.inv_contents.proofs.Stands.Machines.{run_stood}
 use Rattle.inv_requests.proofs.Parents.{why_counted}
 
@@ -43,10 +44,17 @@ stands_kept w i s p h =
     let l = settled_seated {Q = Any} {P = Stand} (w.seat i) (turn (w.seat i) (finds w i)) (record { post = tt; phase = t }) in
     record { stood = λ k. one_moves LocalStood w.seat (step w i).seat i h.stood (seat_stays w i) (subst (LocalStood i) (sym (seat_steps w i)) l.phase) k }
 
+-- a look begins with the row that stands at its index
+first_stood : (call : Call) (post : Post) → Stood (first_phase call post) post
+first_stood call post =
+    each_first call post (λ (phase : Phase). Stood phase post)
+    (λ phase h. free_stood phase post h)
+    (λ index key slot c e. record { reads = λ s x. same_row post index slot s e x; queue = λ s x. cc; nexts = λ s x. cc })
+
 pub stands_begin : StandsBegin
 stands_begin w i call h = record {
   stood = λ k. one_moves LocalStood w.seat (begin w i call).seat i h.stood (λ n e. begin_stays w i n call e)
-      (subst (LocalStood i) (sym (begin_begins w i call)) (free_stood (first_phase call (begun_post (w.seat i).post)) (begun_post (w.seat i).post) (first_free call (begun_post (w.seat i).post)))) k;
+      (subst (LocalStood i) (sym (begin_begins w i call)) (first_stood call (begun_post (w.seat i).post))) k;
 }
 
 pub stands_start : StandsStart

@@ -126,7 +126,7 @@ follow_nexts layout k head tail (Reload parent index slot era steps) post found 
     (λ e. row_stands post index slot r.shape.at q.standing) (λ e. tt)
 follow_nexts layout k head tail (Clear index) post found q r = absurd (let x = r.suited in cc)
 follow_nexts layout k head tail Finish post found q r = absurd (let x = r.suited in cc)
-follow_nexts layout k head tail Release post found q r = absurd (let x = r.suited in cc)
+follow_nexts layout k head tail (Release index) post found q r = absurd (let x = r.suited in cc)
 follow_nexts layout k head tail (Allocate at) post found q r = absurd (let x = r.suited in cc)
 follow_nexts layout k head tail (Write slot row place) post found q r = absurd (let x = r.suited in cc)
 follow_nexts layout k head tail (GiveUp slot) post found q r = absurd (let x = r.suited in cc)
@@ -155,7 +155,7 @@ fill_keeps (Protect aim index root steps at) post found r = absurd (cc)
 fill_keeps (Reload parent index slot era steps) post found r = absurd (cc)
 fill_keeps (Clear index) post found r = absurd (cc)
 fill_keeps Finish post found r = absurd (cc)
-fill_keeps Release post found r = absurd (cc)
+fill_keeps (Release index) post found r = absurd (cc)
 fill_keeps (Allocate at) post found r = allocate_keeps at post found
 fill_keeps (Write slot row place) post found r =
     if_by (place == last_written row) (ends post [] Done) (goes post [] (Write slot row (place + 1))) (Keeps0 post) (λ e. refl) (λ e. refl)
@@ -215,4 +215,4 @@ run_stood layout k (GivesUp answer) base post desk found q r p h = let t : Turn 
 run_stood layout k (Retires answer) base post desk found q r p h = let t : Turn = after base post found in ends_stood (Retires answer) desk t.post t.told t.outcome refl
 run_stood layout k (Tidies later) base post desk found q r p h = let t : Turn = after base post found in ends_stood (Tidies later) desk t.post t.told t.outcome refl
 run_stood layout k Advances base post desk found q r p h = let t : Turn = after base post found in ends_stood Advances desk t.post t.told t.outcome refl
-run_stood layout k (Releases key) base post desk found q r p h = let t : Turn = after base post found in ends_stood (Releases key) desk t.post t.told t.outcome refl
+run_stood layout k (Releases let_go) base post desk found q r p h = let t : Turn = after base post found in ends_stood (Releases let_go) desk t.post t.told t.outcome refl

@@ -17,10 +17,11 @@ use Rattle.inv_rows.specs.model.Posts.{stands, cleared}
 use Rattle.inv_rows.specs.model.Phases.{Base, Ending}
 use Rattle.inv_rows.specs.model.Phases.Ending.{Done, Protected, Followed, Allocated, Retired, Clocked}
 use Rattle.inv_rows.specs.model.Guards as the_guards
-use Rattle.inv_rows.specs.model.Rounds.{scheme_of, taken_of, round, round_by, begin_base, finish_base, clear_base, clear_post, clear_told, index_of, closed, given_up, finishing, finishing_by, clearing, clearing_by, clearing_next, clearing_next_by}
+use Rattle.inv_rows.specs.model.Rounds.{scheme_of, taken_of, round, round_by, begin_base, finish_base, clear_base, clear_post, clear_told, index_of, closed, given_up, finishing, finishing_by, clearing, clearing_by, clearing_next, clearing_next_by, let_index, letting_by, letting, release_base}
+use Rattle.inv_rows.specs.model.Keep as keeps
 use Rattle.inv_rows.specs.model.Scan as scan
 use Rattle.inv_rows.specs.model.Steps as steps
-use Rattle.inv_rows.specs.model.Calls.{Task, Gets, Changes, Holds, Enqueues, Dequeues, Next, Again, MakeRoom, Answering, Retiring, AfterScan, Answered, Repeated, Counted, Why, Opens, FollowsHead, Fills, ClearsNext, Clears, Finishes, GivesUp, Retires, Tidies, Advances, Releases, ScanAt, ReadGuard, GiveBack, Phase, Idle, Runs, Scans, Works, CallTurn}
+use Rattle.inv_rows.specs.model.Calls.{Task, Gets, Changes, Holds, Enqueues, Dequeues, Next, Again, MakeRoom, Answering, Retiring, AfterScan, Answered, Repeated, Counted, Why, Opens, FollowsHead, Fills, ClearsNext, Clears, Finishes, GivesUp, Retires, Tidies, Advances, Releases, ScanAt, ReadGuard, GiveBack, Phase, Idle, Runs, Scans, Works, CallTurn, LetGo, Released, Rehold, Dropped, KeepAt, Looks, FindVersion, Work, Keeping}
 use Rattle.inv_requests.specs.shapes.Frame.{phase_left}
 use Rattle.inv_contents.specs.Stands.{Stood}
 use Rattle.inv_contents.proofs.Contents.Rounds.{task_plain}
@@ -33,12 +34,20 @@ why_free (FollowsHead head tail) = false
 why_free (Fills task) = task_plain task
 why_free why = true
 
+abbrev pub keep_free : KeepAt → Bool
+keep_free (Looks index key at) = false
+keep_free at = true
+
+abbrev pub work_free : Work → Bool
+work_free (Keeping at) = keep_free at
+work_free work = false
+
 -- the call works on no row
 abbrev pub is_free : Phase → Bool
 is_free Idle = true
 is_free (Runs why base) = why_free why
 is_free (Scans later at) = true
-is_free (Works work) = false
+is_free (Works work) = work_free work
 
 task_stood : (task : Task) (base : Base) (post : Post) → task_plain task ≡ true → Stood (Runs (Fills task) base) post
 task_stood (Gets key) base post h = record { reads = λ s e. cc; queue = λ s e. cc; nexts = λ s e. cc }
@@ -46,6 +55,10 @@ task_stood (Changes kept) base post h = absurd (cc)
 task_stood (Holds key) base post h = record { reads = λ s e. cc; queue = λ s e. cc; nexts = λ s e. cc }
 task_stood (Enqueues kept) base post h = absurd (cc)
 task_stood Dequeues base post h = record { reads = λ s e. cc; queue = λ s e. cc; nexts = λ s e. cc }
+
+keep_stood : (at : KeepAt) (post : Post) → keep_free at ≡ true → Stood (Works (Keeping at)) post
+keep_stood (Looks index key at) post h = absurd (cc)
+keep_stood at post h = record { reads = λ s e. cc; queue = λ s e. cc; nexts = λ s e. cc }
 
 pub free_stood : (phase : Phase) (post : Post) → is_free phase ≡ true → Stood phase post
 free_stood Idle post h = record { reads = λ s e. cc; queue = λ s e. cc; nexts = λ s e. cc }
@@ -59,8 +72,9 @@ free_stood (Runs (GivesUp answer) base) post h = record { reads = λ s e. cc; qu
 free_stood (Runs (Retires answer) base) post h = record { reads = λ s e. cc; queue = λ s e. cc; nexts = λ s e. cc }
 free_stood (Runs (Tidies later) base) post h = record { reads = λ s e. cc; queue = λ s e. cc; nexts = λ s e. cc }
 free_stood (Runs Advances base) post h = record { reads = λ s e. cc; queue = λ s e. cc; nexts = λ s e. cc }
-free_stood (Runs (Releases key) base) post h = record { reads = λ s e. cc; queue = λ s e. cc; nexts = λ s e. cc }
+free_stood (Runs (Releases let_go) base) post h = record { reads = λ s e. cc; queue = λ s e. cc; nexts = λ s e. cc }
 free_stood (Scans later at) post h = record { reads = λ s e. cc; queue = λ s e. cc; nexts = λ s e. cc }
+free_stood (Works (Keeping at)) post h = keep_stood at post h
 free_stood (Works work) post h = absurd (cc)
 
 -- a row stands no more
@@ -128,7 +142,7 @@ finishing_adds task MakeRoom post desk told = finishing_by_adds task MakeRoom po
 finishing_adds task (Answering answer) post desk told = finishing_by_adds task (Answering answer) post desk told (finish_base (scheme_of post) post)
 finishing_adds task (Retiring slot answer) post desk told = finishing_by_adds task (Retiring slot answer) post desk told (finish_base (scheme_of post) post)
 
-cleared_clear : (index : ℕ) (x : Option ℕ) → all_clear (cleared index x) ≡ true
+pub cleared_clear : (index : ℕ) (x : Option ℕ) → all_clear (cleared index x) ≡ true
 cleared_clear index None = refl
 cleared_clear index (Some slot) = refl
 
@@ -212,9 +226,10 @@ advanced_adds (Followed end) post desk told = adds_none told (steps.advanced (Fo
 advanced_adds (Allocated end) post desk told = adds_none told (steps.advanced (Allocated end) post desk told) refl refl
 advanced_adds (Retired life) post desk told = adds_none told (steps.advanced (Retired life) post desk told) refl refl
 
-released_adds : (key : Option ℕ) (post : Post) (desk : Desk) (told : List Event) → Adds told (steps.released key post desk told)
-released_adds None post desk told = adds_none told (steps.released None post desk told) refl refl
-released_adds (Some key) post desk told = adds_none told (steps.released (Some key) post desk told) refl (round_free (Holds key) post)
+pub released_adds : (let_go : LetGo) (post : Post) (desk : Desk) (told : List Event) → Adds told (keeps.released let_go post desk told)
+released_adds Released post desk told = adds_none told (keeps.released Released post desk told) refl refl
+released_adds (Rehold key) post desk told = adds_none told (keeps.released (Rehold key) post desk told) refl (round_free (Holds key) post)
+released_adds (Dropped index) post desk told = adds_none told (keeps.released (Dropped index) post desk told) refl refl
 
 -- a machine that is run for no row
 abbrev pub why_ends : Why → Bool
@@ -240,21 +255,44 @@ resume_adds (GivesUp answer) ending post desk told h = adds_none told (steps.res
 resume_adds (Retires answer) ending post desk told h = retired_adds answer ending post desk told
 resume_adds (Tidies later) ending post desk told h = tidied_adds later ending post desk told
 resume_adds Advances ending post desk told h = advanced_adds ending post desk told
-resume_adds (Releases key) ending post desk told h = released_adds key post desk told
+resume_adds (Releases let_go) ending post desk told h = released_adds let_go post desk told
 
 -- a call's first phase
 
+letting_by_free : (let_go : LetGo) (base : Option Base) → is_free (letting_by let_go base) ≡ true
+letting_by_free let_go None = refl
+letting_by_free let_go (Some base) = refl
+
+letting_free : (let_go : LetGo) (post : Post) → is_free (letting let_go post) ≡ true
+letting_free let_go post = letting_by_free let_go (release_base (scheme_of post) post (let_index let_go))
+
 holding_free : (key : ℕ) (post : Post) (held : Option ℕ) → is_free (steps.holding key post held) ≡ true
 holding_free key post None = round_free (Holds key) post
-holding_free key post (Some slot) = refl
+holding_free key post (Some slot) = letting_free (Rehold key) post
 
-pub first_free : (call : Call) (post : Post) → is_free (steps.first_phase call post) ≡ true
-first_free (names.Get key) post = round_free (Gets key) post
-first_free (names.Put key value) post = round_free (Changes _) post
-first_free (names.Remove key) post = round_free (Changes _) post
-first_free (names.Enqueue value) post = round_free (Enqueues _) post
-first_free names.Dequeue post = round_free Dequeues post
-first_free (names.Hold key) post = holding_free key post (stands post 2)
-first_free names.Release post = refl
-first_free names.Advance post = refl
-first_free names.Scan post = refl
+copying_free : (from index : ℕ) (kept : Option ℕ) → is_free (steps.copying from index kept) ≡ true
+copying_free from index None = refl
+copying_free from index (Some slot) = refl
+
+-- a first phase works on no row, but for that of a look at what stands
+pub each_first : (call : Call) (post : Post) (P : Phase → Type 0)
+    → ((phase : Phase) → is_free phase ≡ true → P phase)
+    → ((index key slot : ℕ) → call ≡ names.Look index key → stands post index ≡ Some slot → P (Works (Keeping (Looks index key (FindVersion slot)))))
+    → P (steps.first_phase call post)
+each_first (names.Get key) post P f g = f _ (round_free (Gets key) post)
+each_first (names.Put key value) post P f g = f _ (round_free (Changes _) post)
+each_first (names.Remove key) post P f g = f _ (round_free (Changes _) post)
+each_first (names.Enqueue value) post P f g = f _ (round_free (Enqueues _) post)
+each_first names.Dequeue post P f g = f _ (round_free Dequeues post)
+each_first (names.Hold key) post P f g = f _ (holding_free key post (stands post 2))
+each_first names.Release post P f g = f _ (letting_free Released post)
+each_first names.Advance post P f g = f _ refl
+each_first names.Scan post P f g = f _ refl
+each_first (names.Copy from index) post P f g = f _ (copying_free from index (stands post from))
+each_first (names.DropIndex index) post P f g = f _ (letting_free (Dropped index) post)
+each_first (names.Look index key) post P f g = look (stands post index) refl
+  where
+    look : (kept : Option ℕ) → stands post index ≡ kept → P (steps.looking_at index key kept)
+    look None e = f _ refl
+    look (Some slot) e = g index key slot refl e
+each_first (names.PutIf key value version) post P f g = f _ (round_free (Changes _) post)

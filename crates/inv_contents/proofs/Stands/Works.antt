@@ -1,5 +1,5 @@
 -- What a call works on still stands after a step of its own, and where a machine has ended.
-use Rattle.std.proofs.Common.{ℕ, ◌≡◌, ◌+◌, Bool, true, false, arith, ap, ◌∙◌, List, [], ◌∷◌, ◌++◌, length}
+use Rattle.std.proofs.Common.{ℕ, ◌≡◌, ◌+◌, Bool, true, false, arith, refl, ap, ◌∙◌, List, [], ◌∷◌, ◌++◌, length}
 use Rattle.std.proofs.lemmas.Bool.Decides.{nat_tests}
 use Rattle.std.specs.Prelude.{◌==◌, ◌-◌, nat_lt, Option, Some, None}
 use Rattle.inv_rows.specs.defs.declared.call.Answer.{Answer}
@@ -15,24 +15,26 @@ use Rattle.inv_rows.specs.model.declared.ends.FollowEnd.TheVariants as follow_en
 use Rattle.inv_rows.specs.model.declared.ends.ProtectEnd.TheVariants as protect_ends
 use Rattle.inv_rows.specs.model.declared.post.Post.{Post}
 use Rattle.inv_rows.specs.model.Desks.{Desk}
-use Rattle.inv_rows.specs.model.Posts.{stands}
+use Rattle.inv_rows.specs.words.Schemes.{has_one_interval}
+use Rattle.inv_rows.specs.model.Posts.{cleared, reserves_index, stands, withdrawn}
 use Rattle.inv_rows.specs.model.Phases.{Ending}
 use Rattle.inv_rows.specs.model.Phases.Ending.{Done, Protected, Followed, Allocated, Retired, Clocked}
-use Rattle.inv_rows.specs.model.Rounds.{bucket_of, index_of, clearing, clearing_next, closed}
+use Rattle.inv_rows.specs.model.Rounds.{bucket_of, index_of, let_index, scheme_of, clearing, clearing_next, closed}
 use Rattle.inv_rows.specs.model.Get as gets
 use Rattle.inv_rows.specs.model.Change as alters
 use Rattle.inv_rows.specs.model.Enqueue as enqueues
 use Rattle.inv_rows.specs.model.Dequeue as dequeues
+use Rattle.inv_rows.specs.model.Keep as keeps
 use Rattle.inv_rows.specs.model.Steps as steps
-use Rattle.inv_rows.specs.model.Calls.{ChangeKept, EnqueueKept, Task, Gets, Changes, Holds, Enqueues, Dequeues, Next, Again, Answering, Retiring, GetAt, FindVersion, FindCount, FindKey, FindValue, ChangeAt, LoadVersion, LoadCount, LoadKey, LoadValue, ExchangeRoot, EnqueueAt, LoadNumber, LoadNext, PassTail, ExchangeNext, ExchangeTail, DequeueAt, LoadTail, SwingTail, TakeNumber, TakeValue, ExchangeHead, Work, Getting, Changing, Enqueuing, Dequeuing, Works}
+use Rattle.inv_rows.specs.model.Calls.{ChangeKept, EnqueueKept, Task, Gets, Changes, Holds, Enqueues, Dequeues, Next, Again, Answering, Retiring, GetAt, FindVersion, FindCount, FindKey, FindValue, ChangeAt, LoadVersion, LoadCount, LoadKey, LoadValue, ExchangeRoot, EnqueueAt, LoadNumber, LoadNext, PassTail, ExchangeNext, ExchangeTail, DequeueAt, LoadTail, SwingTail, TakeNumber, TakeValue, ExchangeHead, Work, Getting, Changing, Enqueuing, Dequeuing, Works, KeepAt, Loosens, LoadHeld, StoreHeld, Looks, Misses, Keeping, Idle}
 use Rattle.inv_requests.specs.Parents.{ended}
 use Rattle.inv_contents.specs.Stands.{Stood}
-use Rattle.inv_contents.proofs.Stands.Rounds.{TurnStood, adds_stood, clearing_adds, clearing_next_adds, closed_adds}
+use Rattle.inv_contents.proofs.Stands.Rounds.{TurnStood, free_stood, adds_stood, clearing_adds, clearing_next_adds, closed_adds, released_adds}
 
 pub clearing_stood : (task : Task) (next : Next) (post : Post) (desk : Desk) (told : List Event) → TurnStood (clearing task next post desk told)
 clearing_stood task next post desk told = adds_stood told (clearing task next post desk told) (clearing_adds task next post desk told)
 
-same_row : (post : Post) (index slot s : ℕ) → stands post index ≡ Some slot → (slot == s) ≡ true → stands post index ≡ Some s
+pub same_row : (post : Post) (index slot s : ℕ) → stands post index ≡ Some slot → (slot == s) ≡ true → stands post index ≡ Some s
 same_row post index slot s h e = let same : slot ≡ s = grind (arith, nat_tests) in h ∙ ap (λ (x : ℕ). Some x) same
 
 no_link : (s : ℕ) → (0 == s + 1) ≡ true → ⊥
@@ -76,7 +78,7 @@ deciding_by_stood kept post desk told (Some answer) h = clearing_stood (Changes 
 deciding_by_stood kept post desk told None h = record { reads = λ s e. h s e; queue = λ s e. cc; nexts = λ s e. cc }
 
 deciding_stood : (kept : ChangeKept) (post : Post) (desk : Desk) (told : List Event) → Linked post kept.link → TurnStood (alters.deciding kept post desk told)
-deciding_stood kept post desk told h = deciding_by_stood kept post desk told (alters.refusal post.layout.config kept.version kept.pairs kept.change) h
+deciding_stood kept post desk told h = deciding_by_stood kept post desk told (alters.refused post.layout.config kept) h
 
 reading_stood : (kept : ChangeKept) (slot count : ℕ) (post : Post) (desk : Desk) (more : Bool) → Linked post kept.link → TurnStood (alters.reading kept slot count post desk more)
 reading_stood kept slot count post desk true h = record { reads = λ s e. h s e; queue = λ s e. cc; nexts = λ s e. cc }
@@ -134,11 +136,47 @@ dequeue_stood (TakeNumber head next) post desk found h = record { reads = λ s e
 dequeue_stood (TakeValue head next number) post desk found h = record { reads = λ s e. cc; queue = λ s e. h.queue s e; nexts = λ s e. h.nexts s e }
 dequeue_stood (ExchangeHead head next number value) post desk found h = taken_stood head next number value post desk (found == head + 1)
 
+-- a look
+
+looking_stood : (index key slot version count : ℕ) (post : Post) (desk : Desk) (more : Bool) (pair : ℕ) → ((s : ℕ) → (slot == s) ≡ true → stands post index ≡ Some s) → TurnStood (keeps.looking index key slot version count post desk more pair)
+looking_stood index key slot version count post desk true pair h = record { reads = λ s e. h s e; queue = λ s e. cc; nexts = λ s e. cc }
+looking_stood index key slot version count post desk false pair h = free_stood Idle post refl
+
+looked_key_stood : (index key slot version count pair : ℕ) (post : Post) (desk : Desk) (own : Bool) → ((s : ℕ) → (slot == s) ≡ true → stands post index ≡ Some s) → TurnStood (keeps.looked_key index key slot version count pair post desk own)
+looked_key_stood index key slot version count pair post desk true h = record { reads = λ s e. h s e; queue = λ s e. cc; nexts = λ s e. cc }
+looked_key_stood index key slot version count pair post desk false h = looking_stood index key slot version count post desk (nat_lt (pair + 1) count) (pair + 1) h
+
+look_stood : (index key : ℕ) (at : GetAt) (post : Post) (desk : Desk) (found : ℕ) → Stood (Works (Keeping (Looks index key at))) post → TurnStood (keeps.look_turn index key at post desk found)
+look_stood index key (FindVersion slot) post desk found h = record { reads = λ s e. h.reads s e; queue = λ s e. cc; nexts = λ s e. cc }
+look_stood index key (FindCount slot version) post desk found h = looking_stood index key slot version found post desk (nat_lt 0 found) 0 (λ s e. h.reads s e)
+look_stood index key (FindKey slot version count pair) post desk found h = looked_key_stood index key slot version count pair post desk (found == key) (λ s e. h.reads s e)
+look_stood index key (FindValue slot version pair) post desk found h = free_stood Idle post refl
+
+-- the other steps on what is kept
+
+copied_stood : (from index : ℕ) (post : Post) (desk : Desk) (reserved : List Event) (kept : Option ℕ) → TurnStood (keeps.copied from index post desk reserved kept)
+copied_stood from index post desk reserved None = free_stood Idle _ refl
+copied_stood from index post desk reserved (Some slot) = free_stood Idle _ refl
+
+load_held_stood : (from index : ℕ) (post : Post) (desk : Desk) (found : ℕ) (one : Bool) → TurnStood (keeps.load_held from index post desk found one)
+load_held_stood from index post desk found true = copied_stood from index post desk [] (stands post from)
+load_held_stood from index post desk found false = free_stood _ post refl
+
+keep_stood : (at : KeepAt) (post : Post) (desk : Desk) (found : ℕ) → Stood (Works (Keeping at)) post → TurnStood (keeps.keep_turn at post desk found)
+keep_stood (Loosens let_go) post desk found h =
+    let told : List Event = cleared (let_index let_go) (stands post (let_index let_go)) in
+    adds_stood told (keeps.keep_turn (Loosens let_go) post desk found) (released_adds let_go (withdrawn post (let_index let_go)) desk told)
+keep_stood (LoadHeld from index) post desk found h = load_held_stood from index post desk found (has_one_interval (scheme_of post))
+keep_stood (StoreHeld from index era) post desk found h = copied_stood from index post desk (reserves_index post index era) (stands post from)
+keep_stood (Looks index key at) post desk found h = look_stood index key at post desk found h
+keep_stood (Misses index) post desk found h = free_stood Idle post refl
+
 pub work_stood : (work : Work) (post : Post) (desk : Desk) (found : ℕ) → Stood (Works work) post → TurnStood (steps.work_turn work post desk found)
 work_stood (Getting key at) post desk found h = get_stood key at post desk found h
 work_stood (Changing kept at) post desk found h = change_stood kept at post desk found h
 work_stood (Enqueuing kept at) post desk found h = enqueue_stood kept at post desk found h
 work_stood (Dequeuing at) post desk found h = dequeue_stood at post desk found h
+work_stood (Keeping at) post desk found h = keep_stood at post desk found h
 
 -- a root was protected
 

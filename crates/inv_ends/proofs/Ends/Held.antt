@@ -4,6 +4,7 @@ use Rattle.std.proofs.lemmas.Bool.Decides.{nat_tests}
 use Rattle.std.proofs.lemmas.List.Folds.{list_any-append}
 use Rattle.std.specs.List.{list_any}
 use Rattle.inv_handover.specs.covers.model.Phases.Ending.{Protected, Followed}
+use Rattle.inv_handover.specs.covers.model.Keep as keeps
 use Rattle.inv_handover.specs.covers.model.Steps as steps
 use Rattle.inv_handover.specs.covers.model.Dequeue as dequeues
 use Rattle.inv_handover.specs.covers.model.Calls as calls
@@ -11,14 +12,16 @@ use Rattle.inv_handover.specs.covers.defs.declared.event.Event.TheVariants as ev
 use Rattle.inv_handover.specs.covers.defs.declared.event.Root.TheVariants as roots
 use Rattle.inv_handover.specs.covers.model.declared.ends.ProtectEnd.TheVariants as protect_ends
 use Rattle.inv_handover.specs.covers.model.declared.ends.FollowEnd.TheVariants as follow_ends
-use Rattle.inv_handover.specs.covers.model.Calls.{CallOutcome, CallTurn, Phase, Task, Why, goes_on}
+use Rattle.inv_handover.specs.covers.model.Calls.{CallOutcome, CallTurn, KeepAt, Phase, Task, Why, Work, goes_on}
 use Rattle.inv_handover.specs.covers.model.Calls.CallOutcome.{GoesOn}
+use Rattle.inv_handover.specs.covers.model.Calls.KeepAt.{LoadHeld, Loosens, Looks, Misses, StoreHeld}
 use Rattle.inv_handover.specs.covers.model.Calls.Phase.{Idle, Runs, Scans, Works}
 use Rattle.inv_handover.specs.covers.model.Calls.ScanAt.{GiveBack, ReadGuard}
 use Rattle.inv_handover.specs.covers.model.Calls.Task.{Changes, Dequeues, Enqueues, Gets, Holds}
 use Rattle.inv_handover.specs.covers.model.Calls.Why.{Advances, Clears, ClearsNext, Fills, Finishes, FollowsHead, GivesUp, Opens, Releases, Retires, Tidies}
+use Rattle.inv_handover.specs.covers.model.Calls.Work.{Changing, Dequeuing, Enqueuing, Getting, Keeping}
 use Rattle.inv_handover.specs.covers.model.Desks.{Desk}
-use Rattle.inv_handover.specs.covers.model.Locals.{told_by}
+use Rattle.inv_handover.specs.covers.model.Locals.{told_by, told_end}
 use Rattle.inv_handover.specs.covers.model.Machine.{after}
 use Rattle.inv_handover.specs.covers.model.Memory.{bump}
 use Rattle.inv_handover.specs.covers.model.Phases.{Aim, Base, Turn, ends, goes}
@@ -28,6 +31,7 @@ use Rattle.inv_handover.specs.covers.model.Phases.ProtectAt.{AnswerOwn, CheckClo
 use Rattle.inv_handover.specs.covers.model.Posts.{cleared, counted, reserves_index, stands, tag_of, upper, with_row, with_tag}
 use Rattle.inv_handover.specs.covers.model.Protect.{concluded, held_post, protected, told_held}
 use Rattle.inv_handover.specs.covers.model.SlowPath.{after_take_answer}
+use Rattle.inv_handover.specs.covers.model.Rounds.{let_index, scheme_of}
 use Rattle.inv_handover.specs.covers.model.World.{finds}
 use Rattle.inv_handover.specs.covers.model.declared.post.Post.{Post}
 use Rattle.inv_handover.proofs.covers.Held.{stepped_post}
@@ -39,15 +43,17 @@ use Rattle.inv_handover.specs.covers.defs.declared.event.Root.{Root}
 use Rattle.inv_ends.proofs.Ends.Nulls.{none_of}
 use Rattle.inv_ends.proofs.Told.Rows.{concluded_told, own_told, phase_adds, resumed_adds}
 use Rattle.inv_ends.proofs.Ends.Stood.{base_keeps, clear_calm, counted_fits, fits_index, held_told, is_still, run_index, same_standing, still_shows}
-use Rattle.inv_ends.proofs.Ends.Tests.{any_more, base_any}
-use Rattle.inv_ends.proofs.Told.Turns.{Adds, at_index, cleared_stood, out_adds, resume_adds}
+use Rattle.inv_ends.proofs.Ends.Tests.{any_more, base_any, copied_shows, keep_any, keep_shows}
+use Rattle.inv_ends.proofs.Told.Turns.{Adds, Just, at_index, cleared_stood, end_plain, keep_just, out_adds, resume_adds, work_adds}
 use Rattle.inv_ends.specs.Standing.{ClearStood, HeldCovered, HeldStands, holds_base, holds_in, is_end}
 use Rattle.inv_ends.specs.Stands.{is_clear}
 use Rattle.inv_handover.specs.covers.shapes.Seats.{PhaseFits, protects, reloads, suits, kind_of}
+use Rattle.inv_handover.specs.covers.words.Schemes.{has_one_interval}
 use Rattle.inv_handover.specs.covers.words.declared.layout.Layout.{Layout}
-use Rattle.std.specs.Prelude.{List, [], ◌∷◌, ◌++◌, length, Some, if◌then◌else◌, ◌==◌, ◌&&◌, ◌||◌}
+use Rattle.model_history.proofs.Passes.{keep_post, keep_told}
+use Rattle.std.specs.Prelude.{List, [], ◌∷◌, ◌++◌, length, Option, Some, None, if◌then◌else◌, ◌==◌, ◌&&◌, ◌||◌}
 use Rattle.inv_handover.proofs.covers.model.Standing.{stands-with_row_same}
-use Rattle.inv_handover.proofs.covers.model.Facts.{either_true, no_truth_2}
+use Rattle.inv_handover.proofs.covers.model.Facts.{either_true, no_truth_2, or_false, rest_of}
 
 -- a turn that keeps the post, and clears nothing
 pub record Keeps (last : Post) (told : List Event) (t : CallTurn) : Type 0 where
@@ -77,7 +83,7 @@ held_keeps (GivesUp answer) slot era post desk told k = no_truth_2 k
 held_keeps (Retires answer) slot era post desk told k = no_truth_2 k
 held_keeps (Tidies later) slot era post desk told k = no_truth_2 k
 held_keeps Advances slot era post desk told k = no_truth_2 k
-held_keeps (Releases key) slot era post desk told k = no_truth_2 k
+held_keeps (Releases let_go) slot era post desk told k = no_truth_2 k
 
 row_keeps : (head slot : ℕ) (post : Post) (desk : Desk) (told : List Event) (lags : Bool) → Keeps post told (dequeues.followed_row head slot post desk told lags)
 row_keeps head slot post desk told true = out_keeps _ _ _ _
@@ -95,7 +101,7 @@ follow_keeps (GivesUp answer) slot post desk told k = no_truth_2 k
 follow_keeps (Retires answer) slot post desk told k = no_truth_2 k
 follow_keeps (Tidies later) slot post desk told k = no_truth_2 k
 follow_keeps Advances slot post desk told k = no_truth_2 k
-follow_keeps (Releases key) slot post desk told k = no_truth_2 k
+follow_keeps (Releases let_go) slot post desk told k = no_truth_2 k
 
 -- a protection that concludes with a row
 concluded_keeps : (why : Why) (desk : Desk) (aim : Aim) (index : ℕ) (root : Root) (n link era : ℕ) (post : Post) (told : List Event) → (link == 0) ≡ false → protects (kind_of why) ≡ true → Keeps post told (steps.run_turn why desk (concluded aim index root n link era post told))
@@ -197,19 +203,46 @@ run_clears why desk (Begin at) post found j s k = still_clears why desk (Begin a
 run_clears why desk (Reload parent index slot era steps) post found j s k = reload_clears why desk index slot (bump steps) found post j s (found == parent + 1) k
 run_clears why desk (Clear index) post found j s k = split_clears why desk (after (Clear index) post found) post index j s (base_any (is_clear j s) (Clear index) post found (clear_calm j s)) (withdrawn_shrinks post index)
 run_clears why desk Finish post found j s k = still_clears why desk Finish post found j s refl
-run_clears why desk Release post found j s k = split_clears why desk (after Release post found) post 2 j s (base_any (is_clear j s) Release post found (clear_calm j s)) (withdrawn_shrinks post 2)
+run_clears why desk (Release index) post found j s k = split_clears why desk (after (Release index) post found) post index j s (base_any (is_clear j s) (Release index) post found (clear_calm j s)) (withdrawn_shrinks post index)
 run_clears why desk (Allocate at) post found j s k = still_clears why desk (Allocate at) post found j s refl
 run_clears why desk (Write slot row place) post found j s k = still_clears why desk (Write slot row place) post found j s refl
 run_clears why desk (GiveUp slot) post found j s k = still_clears why desk (GiveUp slot) post found j s refl
 run_clears why desk (Retire at) post found j s k = still_clears why desk (Retire at) post found j s refl
 run_clears why desk (Move at) post found j s k = still_clears why desk (Move at) post found j s refl
 
+-- what a step on what is kept clears stood before it
+copied_cleared : (from index : ℕ) (post : Post) (x : Option ℕ) (j s : ℕ) → copied_shows (is_clear j s) from index post x ≡ true → stands post j ≡ Some s
+copied_cleared from index post None j s h = no_truth_2 h
+copied_cleared from index post (Some slot) j s h = at_index post index j s (cleared_stood index (stands post index) j s (sym (or_false (list_any (is_clear j s) (cleared index (stands post index)))) ∙ h))
+
+keep_cleared : (at : KeepAt) (post : Post) (j s : ℕ) → keep_shows (is_clear j s) post at ≡ true → stands post j ≡ Some s
+keep_cleared (Loosens let_go) post j s h = at_index post (let_index let_go) j s (cleared_stood (let_index let_go) (stands post (let_index let_go)) j s h)
+keep_cleared (LoadHeld from index) post j s h = copied_cleared from index post (stands post from) j s (rest_of (has_one_interval (scheme_of post)) (copied_shows (is_clear j s) from index post (stands post from)) h)
+keep_cleared (StoreHeld from index era) post j s h = copied_cleared from index post (stands post from) j s h
+keep_cleared (Looks index key at) post j s h = no_truth_2 h
+keep_cleared (Misses index) post j s h = no_truth_2 h
+
+keep_clears : (at : KeepAt) (post : Post) (desk : Desk) (found j s : ℕ) → ClearsOf post (keeps.keep_turn at post desk found) j s
+keep_clears at post desk found j s h =
+    let t : CallTurn = keeps.keep_turn at post desk found in
+    let x : Just (keep_post at post) (keep_told at post) t = keep_just at post desk found in
+    let e : list_any (is_clear j s) (told_by t) ≡ keep_shows (is_clear j s) post at =
+    any_more (is_clear j s) t.told (told_end t.post t.outcome) ((end_plain t.post t.outcome).clears j s) ∙ ap (list_any (is_clear j s)) x.told ∙ keep_any (is_clear j s) at post (clear_calm j s) in
+    keep_cleared at post j s (sym e ∙ h)
+
+work_clears : (work : Work) (post : Post) (desk : Desk) (found j s : ℕ) → ClearsOf post (steps.work_turn work post desk found) j s
+work_clears (Getting key at) post desk found j s = left_clears post post [] _ j s (work_adds (Getting key at) post desk found) refl refl
+work_clears (Changing kept at) post desk found j s = left_clears post post [] _ j s (work_adds (Changing kept at) post desk found) refl refl
+work_clears (Enqueuing kept at) post desk found j s = left_clears post post [] _ j s (work_adds (Enqueuing kept at) post desk found) refl refl
+work_clears (Dequeuing at) post desk found j s = left_clears post post [] _ j s (work_adds (Dequeuing at) post desk found) refl refl
+work_clears (Keeping at) post desk found j s = keep_clears at post desk found j s
+
 phase_clears : (layout : Layout) (phase : Phase) (post : Post) (desk : Desk) (found j s : ℕ) → PhaseFits layout post phase → ClearsOf post (steps.phase_turn phase post desk found) j s
 phase_clears layout Idle post desk found j s r = left_clears post post [] _ j s (phase_adds Idle post desk found) refl refl
 phase_clears layout (Runs why base) post desk found j s r = run_clears why desk base post found j s r.suited
 phase_clears layout (Scans later (ReadGuard number)) post desk found j s r = left_clears post post (own_told (Scans later (ReadGuard number)) post found) _ j s (phase_adds (Scans later (ReadGuard number)) post desk found) refl refl
 phase_clears layout (Scans later (GiveBack place slot)) post desk found j s r = left_clears post post (own_told (Scans later (GiveBack place slot)) post found) _ j s (phase_adds (Scans later (GiveBack place slot)) post desk found) refl refl
-phase_clears layout (Works work) post desk found j s r = left_clears post post [] _ j s (phase_adds (Works work) post desk found) refl refl
+phase_clears layout (Works work) post desk found j s r = work_clears work post desk found j s
 
 pub clear_stood : ClearStood
 clear_stood w i j s n h =
@@ -279,7 +312,7 @@ run_stands why desk (Begin at) post found j s b k h = no_truth_2 h
 run_stands why desk (Reload parent index slot era steps) post found j s b k h = reload_stands why desk index slot (bump steps) found post j s (found == parent + 1) b k h
 run_stands why desk (Clear index) post found j s b k h = no_truth_2 h
 run_stands why desk Finish post found j s b k h = no_truth_2 h
-run_stands why desk Release post found j s b k h = no_truth_2 h
+run_stands why desk (Release index) post found j s b k h = no_truth_2 h
 run_stands why desk (Allocate at) post found j s b k h = no_truth_2 h
 run_stands why desk (Write slot row place) post found j s b k h = no_truth_2 h
 run_stands why desk (GiveUp slot) post found j s b k h = no_truth_2 h

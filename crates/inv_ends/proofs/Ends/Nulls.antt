@@ -15,7 +15,7 @@ use Rattle.inv_handover.specs.covers.model.World.{finds}
 use Rattle.inv_handover.specs.covers.model.declared.post.Post.{Post}
 use Rattle.inv_handover.specs.covers.defs.declared.event.Event.{Event}
 use Rattle.inv_handover.specs.covers.defs.declared.event.Root.{Root}
-use Rattle.inv_ends.proofs.Ends.Tests.{Calm, base_shows, phase_shows, step_any}
+use Rattle.inv_ends.proofs.Ends.Tests.{Calm, base_shows, none_worked, phase_shows, step_any}
 use Rattle.inv_ends.proofs.Told.Turns.{is_later}
 use Rattle.inv_ends.specs.Nulls.{NullTold, null_base, null_in}
 use Rattle.inv_handover.specs.covers.defs.Events.{is_null}
@@ -40,6 +40,7 @@ null_later j (events.Back slot) h = refl
 null_later j (events.Held index slot n) h = refl
 null_later j (events.Null index n) h = no_truth_2 h
 null_later j (events.Clear index slot) h = refl
+null_later j (events.Copied from index slot) h = no_truth_2 h
 null_later j (events.Put bucket version key value) h = refl
 null_later j (events.Removed bucket version key) h = refl
 null_later j (events.Got bucket version key value) h = refl
@@ -97,14 +98,14 @@ base_null (Begin at) post found j = refl
 base_null (Reload parent index slot era steps) post found j = and_false (found == parent + 1)
 base_null (Clear index) post found j = cleared_null index j (stands post index)
 base_null Finish post found j = refl
-base_null Release post found j = cleared_null 2 j (stands post 2)
+base_null (Release index) post found j = cleared_null index j (stands post index)
 base_null base post found j = refl
 
 phase_null : (phase : Phase) (post : Post) (found j : ℕ) → phase_shows (is_null j) post phase found ≡ null_in post phase found j
 phase_null Idle post found j = refl
 phase_null (Runs why base) post found j = base_null base post found j
 phase_null (Scans later at) post found j = refl
-phase_null (Works work) post found j = refl
+phase_null (Works work) post found j = none_worked (is_null j) work post (λ index slot. refl) (λ from index slot. refl)
 
 pub null_told : NullTold
 null_told w i j = step_any (is_null j) w i (null_calm j) (null_later j) ∙ phase_null (w.seat i).phase (counted (w.seat i).post) (finds w i) j

@@ -1,5 +1,5 @@
 -- What stands at the indexes of a seat is what its steps tell.
-use Rattle.std.proofs.Common.{ℕ, ◌+◌, ◌-◌, ◌<◌, Bool, true, false, ◌≡◌, ◌≢◌, ◌∙◌, sym, refl, ap, subst, arith}
+use Rattle.std.proofs.Common.{ℕ, ◌+◌, ◌-◌, ◌≤◌, ◌<◌, Bool, true, false, ◌≡◌, ◌≢◌, ◌∙◌, sym, refl, ap, subst, arith}
 use Rattle.std.proofs.lemmas.Bool.Decides.{nat_tests}
 use Rattle.std.specs.List.{list_any}
 use Rattle.std.specs.Prelude.{slice_index_or, List, [], ◌∷◌, ◌++◌, length, Option, Some, None, if◌then◌else◌, ◌==◌, ◌&&◌}
@@ -9,10 +9,12 @@ use Rattle.inv_handover.specs.covers.defs.declared.event.Root.TheVariants as roo
 use Rattle.inv_handover.specs.covers.defs.declared.call.ClockMove.TheVariants as moves
 use Rattle.inv_handover.specs.covers.model.Allocate.{after_claim_slot, is_claimed, walk_past, walking}
 use Rattle.inv_handover.specs.covers.defs.declared.event.Guard.TheVariants as guards
-use Rattle.inv_handover.specs.covers.model.Calls.{CallTurn, Phase, Why}
+use Rattle.inv_handover.specs.covers.model.Calls.{CallTurn, KeepAt, Phase, Why, Work}
+use Rattle.inv_handover.specs.covers.model.Calls.KeepAt.{LoadHeld, Loosens, Looks, Misses, StoreHeld}
+use Rattle.inv_handover.specs.covers.model.Calls.Work.{Changing, Dequeuing, Enqueuing, Getting, Keeping}
 use Rattle.inv_handover.specs.covers.model.Calls.Phase.{Idle, Runs, Scans, Works}
 use Rattle.inv_handover.specs.covers.model.Calls.ScanAt.{GiveBack, ReadGuard}
-use Rattle.inv_handover.specs.covers.model.Calls.Why.{Advances, Clears, ClearsNext, Fills, Finishes, FollowsHead, GivesUp, Opens, Releases, Retires, Tidies}
+use Rattle.inv_handover.specs.covers.model.Desks.{Desk}
 use Rattle.inv_handover.specs.covers.model.Guards.{one_era}
 use Rattle.inv_handover.specs.covers.model.Locals.{Local, turn}
 use Rattle.inv_handover.specs.covers.model.Machine.{after, move_turn}
@@ -25,8 +27,9 @@ use Rattle.inv_handover.specs.covers.model.Phases.BeginAt.{LoadLower, PublishSpa
 use Rattle.inv_handover.specs.covers.model.Phases.MoveAt.{AnswerAsked, CheckEra, ExchangeClock, HandOver, HideEra, HideLate, LoadAsked, LoadEra, LoadRequest, LoadReserved, ShowEra}
 use Rattle.inv_handover.specs.covers.model.Phases.ProtectAt.{AnswerOwn, CheckClock, CheckOwnClock, CheckUpper, LoadAnswer, LoadClock, LoadLink, LoadOwnClock, LoadOwnLink, LoadWithin, PublishEra, PublishHelper, PublishRequest, RaiseUpper, TakeAnswer, WithdrawHelper, WithdrawRequest}
 use Rattle.inv_handover.specs.covers.model.Phases.RetireAt.{LoadLife, LoadRetire, StoreRetired}
-use Rattle.inv_handover.specs.covers.model.Posts.{cleared, counted, reserves_helper, stands, tag_of, upper, with_row, with_tag, withdrawn}
+use Rattle.inv_handover.specs.covers.model.Posts.{cleared, counted, reserves_helper, reserves_index, stands, tag_of, upper, with_row, with_tag, withdrawn}
 use Rattle.inv_handover.specs.covers.model.Protect.{held_post, protected, told_held}
+use Rattle.inv_handover.specs.covers.model.Rounds.{let_index, scheme_of}
 use Rattle.inv_handover.specs.covers.model.SlowPath.{asking, own_request}
 use Rattle.inv_handover.specs.covers.model.World.{finds, step}
 use Rattle.inv_handover.specs.covers.model.WriteRow.{last_written}
@@ -38,17 +41,22 @@ use Rattle.inv_handover.specs.covers.defs.declared.event.Event.{Event}
 use Rattle.inv_handover.specs.covers.defs.declared.event.Root.{Root}
 use Rattle.inv_ends.proofs.Ends.Nulls.{none_of, under_test}
 use Rattle.inv_ends.proofs.Told.Rows.{concluded_told, own_post, own_told, step_adds}
-use Rattle.inv_ends.proofs.Ends.Tests.{Calm, base_any, base_shows, phase_shows, step_any}
+use Rattle.inv_ends.proofs.Ends.Tests.{Calm, base_any, base_shows, none_worked, phase_shows, step_any}
 use Rattle.inv_ends.proofs.Told.Turns.{Adds, is_later, stood_append, withdrawn_stood}
 use Rattle.inv_ends.specs.Standing.{HeldTold, StandingTold, holds_base, holds_in, is_end}
 use Rattle.inv_handover.specs.covers.defs.Events.{is_held}
 use Rattle.inv_ends.specs.Stands.{is_clear, stood, stood_by}
-use Rattle.inv_handover.specs.covers.shapes.Seats.{PhaseFits, Run, index_by}
+use Rattle.inv_handover.specs.covers.shapes.Seats.{PhaseFits, Run, index_by, kind_of, protects}
+use Rattle.inv_handover.specs.covers.shapes.Slots.{KeepIn, PhaseIn, WorkIn}
+use Rattle.inv_handover.specs.covers.words.Schemes.{has_one_interval}
+use Rattle.inv_handover.specs.covers.words.declared.config.Config.{Config}
 use Rattle.inv_handover.specs.covers.words.Packed.{read_reservation}
 use Rattle.inv_handover.specs.covers.words.declared.layout.Layout.{Layout}
-use Rattle.inv_handover.proofs.requests.Standings.{index_small}
+use Rattle.inv_handover.proofs.covers.shapes.Written.{index_few, reloads_protect}
+use Rattle.model_history.proofs.Passes.{copied_post, copied_told, keep_post, keep_told, work_post, work_told}
 use Rattle.inv_handover.proofs.covers.model.Standing.{stands-with_row_same, stands-with_row_other}
-use Rattle.inv_handover.proofs.covers.shapes.Kept.{run_counted}
+use Rattle.inv_handover.proofs.covers.model.Ranges.{bounds_of}
+use Rattle.inv_handover.proofs.covers.shapes.Kept.{run_counted, work_counted}
 use Rattle.inv_handover.proofs.covers.model.Facts.{or_false, no_truth_2}
 
 -- Held is told where a row comes to stand
@@ -73,6 +81,7 @@ held_later j s (events.Back slot) h = refl
 held_later j s (events.Held index slot n) h = no_truth_2 h
 held_later j s (events.Null index n) h = refl
 held_later j s (events.Clear index slot) h = refl
+held_later j s (events.Copied from index slot) h = no_truth_2 h
 held_later j s (events.Put bucket version key value) h = refl
 held_later j s (events.Removed bucket version key) h = refl
 held_later j s (events.Got bucket version key value) h = refl
@@ -122,14 +131,14 @@ base_held (Begin at) post found j s = refl
 base_held (Reload parent index slot era steps) post found j s = under_test (found == parent + 1) ((index == j) && (slot == s)) (index == j) (slot == s) refl
 base_held (Clear index) post found j s = cleared_held index j s (stands post index)
 base_held Finish post found j s = refl
-base_held Release post found j s = cleared_held 2 j s (stands post 2)
+base_held (Release index) post found j s = cleared_held index j s (stands post index)
 base_held base post found j s = refl
 
 phase_held : (phase : Phase) (post : Post) (found j s : ℕ) → phase_shows (is_held j s) post phase found ≡ holds_in post phase found j s
 phase_held Idle post found j s = refl
 phase_held (Runs why base) post found j s = base_held base post found j s
 phase_held (Scans later at) post found j s = refl
-phase_held (Works work) post found j s = refl
+phase_held (Works work) post found j s = none_worked (is_held j s) work post (λ index slot. refl) (λ from index slot. refl)
 
 pub held_told : HeldTold
 held_told w i j s = step_any (is_held j s) w i (held_calm j s) (held_later j s) ∙ phase_held (w.seat i).phase (counted (w.seat i).post) (finds w i) j s
@@ -145,7 +154,7 @@ abbrev pub is_still : Base → Bool
 is_still (Protect aim index root steps at) = is_still_at at
 is_still (Reload parent index slot era steps) = false
 is_still (Clear index) = false
-is_still Release = false
+is_still (Release index) = false
 is_still base = true
 
 goes_keeps : (post : Post) (a b : Base) (same : Bool) → (if same then goes post [] a else goes post [] b).post.standing ≡ post.standing
@@ -208,7 +217,7 @@ base_keeps (Begin (PublishSpan era)) post found k = refl
 base_keeps (Reload parent index slot era steps) post found k = no_truth_2 k
 base_keeps (Clear index) post found k = no_truth_2 k
 base_keeps Finish post found k = refl
-base_keeps Release post found k = no_truth_2 k
+base_keeps (Release index) post found k = no_truth_2 k
 base_keeps (Allocate LoadBirth) post found k = refl
 base_keeps (Allocate (ClaimSlot birth walk)) post found k = claim_keeps birth walk post found (is_claimed found walk.slot) refl
 base_keeps (Allocate (StoreLife birth slot)) post found k = refl
@@ -225,6 +234,7 @@ same_standing p q j e = ap (λ (xs : List (Option ℕ)). slice_index_or xs j Non
 -- events of what stands
 abbrev pub is_standing : Event → Bool
 is_standing (events.Held index slot steps) = true
+is_standing (events.Copied from index slot) = true
 is_standing (events.Clear index slot) = true
 is_standing event = false
 
@@ -246,6 +256,7 @@ by_calm (events.Back slot) x j h = refl
 by_calm (events.Held index slot n) x j h = no_truth_2 (sym h)
 by_calm (events.Null index n) x j h = refl
 by_calm (events.Clear index slot) x j h = no_truth_2 (sym h)
+by_calm (events.Copied from index slot) x j h = no_truth_2 (sym h)
 by_calm (events.Put bucket version key value) x j h = refl
 by_calm (events.Removed bucket version key) x j h = refl
 by_calm (events.Got bucket version key value) x j h = refl
@@ -281,7 +292,7 @@ still_shows p (Begin at) post found k = refl
 still_shows p (Reload parent index slot era steps) post found k = no_truth_2 k
 still_shows p (Clear index) post found k = no_truth_2 k
 still_shows p Finish post found k = refl
-still_shows p Release post found k = no_truth_2 k
+still_shows p (Release index) post found k = no_truth_2 k
 still_shows p base post found k = refl
 
 -- a row comes to stand
@@ -303,6 +314,44 @@ held_stood post index roots.Tail link n j true e b = rw e refl
 held_stood post index roots.Tail link n j false e b = rw e (row_stood post index (link - 1) n j b)
 held_stood post index (roots.Next parent) link n j true e b = rw e refl
 held_stood post index (roots.Next parent) link n j false e b = rw e refl
+
+-- a row comes to stand at another index, whatever stood there
+cleared_away : (index j : ℕ) (x y : Option ℕ) → (index == j) ≡ false → stood (cleared index x) y j ≡ y
+cleared_away index j None y e = refl
+cleared_away index j (Some slot) y e = rw e refl
+
+copied_by : (index slot j : ℕ) (y z : Option ℕ) (same : Bool) → (index == j) ≡ same → (same ≡ false → z ≡ y) → (if index == j then Some slot else y) ≡ (if index == j then Some slot else z)
+copied_by index slot j y z true e f = rw e refl
+copied_by index slot j y z false e f = rw e (sym (f refl))
+
+copied_stood : (from index : ℕ) (post : Post) (reserved : List Event) (x : Option ℕ) (j : ℕ) → index < length post.standing → ((y : Option ℕ) → stood reserved y j ≡ y) → stands (copied_post index post x) j ≡ stood (copied_told from index post reserved x) (stands post j) j
+copied_stood from index post reserved None j b f = refl
+copied_stood from index post reserved (Some slot) j b f =
+    let c : List Event = cleared index (stands post index) in
+    let y : Option ℕ = stands post j in
+    row_by post index slot j (index == j) refl b
+    ∙ copied_by index slot j y (stood (c ++ reserved) y j) (index == j) refl (λ e. stood_append c reserved y j ∙ f (stood c y j) ∙ cleared_away index j (stands post index) y e)
+    ∙ sym (stood_append (c ++ reserved) (events.Copied from index slot ∷ []) y j)
+
+load_held_stood : (from index : ℕ) (post : Post) (j : ℕ) (one : Bool) → index < length post.standing
+    → stands (if one then copied_post index post (stands post from) else post) j ≡ stood (if one then copied_told from index post [] (stands post from) else []) (stands post j) j
+load_held_stood from index post j true b = copied_stood from index post [] (stands post from) j b (λ y. refl)
+load_held_stood from index post j false b = refl
+
+-- what stands after a step on what is kept is what it told
+keep_stood : (config : Config) (at : KeepAt) (post : Post) (j : ℕ) → config.indexes ≤ length post.standing → KeepIn config at → stands (keep_post at post) j ≡ stood (keep_told at post) (stands post j) j
+keep_stood config (Loosens let_go) post j b k = withdrawn_stood post (let_index let_go) j
+keep_stood config (LoadHeld from index) post j b k = load_held_stood from index post j (has_one_interval (scheme_of post)) (omega (arith, b, k.below))
+keep_stood config (StoreHeld from index era) post j b k = copied_stood from index post (reserves_index post index era) (stands post from) j (omega (arith, b, k.below)) (λ y. refl)
+keep_stood config (Looks index key at) post j b k = refl
+keep_stood config (Misses index) post j b k = refl
+
+work_stood : (config : Config) (work : Work) (post : Post) (j : ℕ) → config.indexes ≤ length post.standing → WorkIn config work → stands (work_post work post) j ≡ stood (work_told work post) (stands post j) j
+work_stood config (Getting key at) post j b k = refl
+work_stood config (Changing kept at) post j b k = refl
+work_stood config (Enqueuing kept at) post j b k = refl
+work_stood config (Dequeuing at) post j b k = refl
+work_stood config (Keeping at) post j b k = keep_stood config at post j b k
 
 -- what stands after a machine's step is what it told
 abbrev pub Turned : Post → Turn → ℕ → Type 0
@@ -355,55 +404,45 @@ base_turned (Begin at) post found j b = still_turned (Begin at) post found j ref
 base_turned (Reload parent index slot era steps) post found j b = reload_turned post index slot (bump steps) j _ _ (found == parent + 1) b
 base_turned (Clear index) post found j b = cleared_turned post index j (events.Reserve (guards.Index post.seat index) (one_era 0)) (λ x. refl)
 base_turned Finish post found j b = still_turned Finish post found j refl
-base_turned Release post found j b = cleared_turned post 2 j (events.Reserve (guards.Whole post.seat) None) (λ x. refl)
+base_turned (Release index) post found j b = cleared_turned post index j (events.Reserve (guards.Whole post.seat) None) (λ x. refl)
 base_turned (Allocate at) post found j b = still_turned (Allocate at) post found j refl
 base_turned (Write slot row place) post found j b = still_turned (Write slot row place) post found j refl
 base_turned (GiveUp slot) post found j b = still_turned (GiveUp slot) post found j refl
 base_turned (Retire at) post found j b = still_turned (Retire at) post found j refl
 base_turned (Move at) post found j b = still_turned (Move at) post found j refl
 
-pub index_below : (why : Why) → index_by why < 8
-index_below (Opens task) = index_small task
-index_below (FollowsHead head tail) = omega arith
-index_below (Fills task) = omega arith
-index_below (ClearsNext next) = omega arith
-index_below (Clears task next) = index_small task
-index_below (Finishes task next) = omega arith
-index_below (GivesUp answer) = omega arith
-index_below (Retires answer) = omega arith
-index_below (Tidies later) = omega arith
-index_below Advances = omega arith
-index_below (Releases key) = omega arith
-
-pub at_below : (why : Why) (index n : ℕ) → index ≡ index_by why → n ≡ 8 → index < n
-at_below why index n e l = let b : index_by why < 8 = index_below why in omega arith
+pub at_below : (why : Why) (index n : ℕ) → protects (kind_of why) ≡ true → index ≡ index_by why → n ≡ 8 → index < n
+at_below why index n p e l = let b : index_by why ≤ 2 = index_few why p in omega arith
 
 pub run_index : (layout : Layout) (why : Why) (base : Base) (post : Post) → length post.standing ≡ 8 → Run layout why base post → fits_index base post
-run_index layout why (Protect aim index root steps at) post l r = at_below why index (length post.standing) r.shape.at l
-run_index layout why (Reload parent index slot era steps) post l r = at_below why index (length post.standing) r.shape.at l
+run_index layout why (Protect aim index root steps at) post l r = at_below why index (length post.standing) r.suited r.shape.at l
+run_index layout why (Reload parent index slot era steps) post l r = at_below why index (length post.standing) (reloads_protect (kind_of why) r.suited) r.shape.at l
 run_index layout why base post l r = tt
 
-phase_turned : (layout : Layout) (phase : Phase) (post : Post) (found j : ℕ) → length post.standing ≡ 8 → PhaseFits layout post phase → stands (own_post phase post found) j ≡ stood (own_told phase post found) (stands post j) j
-phase_turned layout Idle post found j l r = refl
-phase_turned layout (Runs why base) post found j l r = base_turned base post found j (run_index layout why base post l r)
-phase_turned layout (Scans later (ReadGuard number)) post found j l r = refl
-phase_turned layout (Scans later (GiveBack place slot)) post found j l r = refl
-phase_turned layout (Works work) post found j l r = refl
+phase_turned : (layout : Layout) (phase : Phase) (post : Post) (desk : Desk) (found j : ℕ) → length post.standing ≡ 8 → layout.config.indexes ≤ length post.standing → PhaseFits layout post phase → PhaseIn layout desk phase
+    → stands (own_post phase post found) j ≡ stood (own_told phase post found) (stands post j) j
+phase_turned layout Idle post desk found j l b r k = refl
+phase_turned layout (Runs why base) post desk found j l b r k = base_turned base post found j (run_index layout why base post l r)
+phase_turned layout (Scans later (ReadGuard number)) post desk found j l b r k = refl
+phase_turned layout (Scans later (GiveBack place slot)) post desk found j l b r k = refl
+phase_turned layout (Works work) post desk found j l b r k = work_stood layout.config work post j b k
 
 pub counted_fits : (layout : Layout) (phase : Phase) (post : Post) → PhaseFits layout post phase → PhaseFits layout (counted post) phase
 counted_fits layout Idle post r = r
 counted_fits layout (Runs why base) post r = run_counted layout why base post r
 counted_fits layout (Scans later at) post r = r
-counted_fits layout (Works work) post r = r
+counted_fits layout (Works work) post r = work_counted work post r
 
 pub standing_told : StandingTold
-standing_told w i j s =
+standing_told w i j v s n =
     let l : Local = w.seat i in
     let t : CallTurn = turn l (finds w i) in
     let x : Adds (own_post l.phase (counted l.post) (finds w i)) (own_told l.phase (counted l.post) (finds w i)) t = step_adds w i in
     let p : PhaseFits w.layout (counted l.post) l.phase = counted_fits w.layout l.phase l.post (s.fits i).phase in
+    let e : length l.post.standing ≡ 8 = (s.fits i).post.standing in
+    let b : w.layout.config.indexes ≤ length l.post.standing = (let c = bounds_of w.layout v in omega (arith, c.indexes, e)) in
     same_standing ((step w i).seat i).post t.post j (ap (λ (q : Post). q.standing) (stepped_post w i))
     ∙ x.stands j
-    ∙ ap (λ (y : Option ℕ). stood x.more y j) (phase_turned w.layout l.phase (counted l.post) (finds w i) j (s.fits i).post.standing p)
+    ∙ ap (λ (y : Option ℕ). stood x.more y j) (phase_turned w.layout l.phase (counted l.post) l.desk (finds w i) j e b p (n.seats i).phase)
     ∙ sym (stood_append (own_told l.phase (counted l.post) (finds w i)) x.more (stands l.post j) j)
     ∙ sym (ap (λ (told : List Event). stood told (stands l.post j) j) x.is)

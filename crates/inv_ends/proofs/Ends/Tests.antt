@@ -1,12 +1,15 @@
--- What a machine tells that a test of events may be true of: what its try, its answer or its reload makes stand, and what it
--- clears.
+-- What a machine or a step on what is kept tells that a test of events may be true of: what its try, its answer, its reload or
+-- its copy makes stand, and what it clears.
 use Rattle.std.proofs.Common.{ℕ, ◌+◌, Bool, true, false, ◌≡◌, ◌∙◌, refl, ap, arith}
 use Rattle.std.proofs.lemmas.Bool.Decides.{nat_tests}
+use Rattle.std.proofs.lemmas.List.Folds.{list_any-append}
 use Rattle.std.specs.List.{list_any, list_all}
 use Rattle.inv_handover.specs.covers.defs.declared.event.Event.TheVariants as events
 use Rattle.inv_handover.specs.covers.defs.declared.call.ClockMove.TheVariants as moves
 use Rattle.inv_handover.specs.covers.model.Allocate.{after_claim_slot, is_claimed, walk_past, walking}
-use Rattle.inv_handover.specs.covers.model.Calls.{Phase}
+use Rattle.inv_handover.specs.covers.model.Calls.{KeepAt, Phase, Work}
+use Rattle.inv_handover.specs.covers.model.Calls.KeepAt.{LoadHeld, Loosens, Looks, Misses, StoreHeld}
+use Rattle.inv_handover.specs.covers.model.Calls.Work.{Changing, Dequeuing, Enqueuing, Getting, Keeping}
 use Rattle.inv_handover.specs.covers.model.Calls.Phase.{Idle, Runs, Scans, Works}
 use Rattle.inv_handover.specs.covers.model.Calls.ScanAt.{GiveBack, ReadGuard}
 use Rattle.inv_handover.specs.covers.model.Locals.{turn}
@@ -21,8 +24,9 @@ use Rattle.inv_handover.specs.covers.model.Phases.Ending.{Clocked}
 use Rattle.inv_handover.specs.covers.model.Phases.MoveAt.{AnswerAsked, CheckEra, ExchangeClock, HandOver, HideEra, HideLate, LoadAsked, LoadEra, LoadRequest, LoadReserved, ShowEra}
 use Rattle.inv_handover.specs.covers.model.Phases.ProtectAt.{AnswerOwn, CheckClock, CheckOwnClock, CheckUpper, LoadAnswer, LoadClock, LoadLink, LoadOwnClock, LoadOwnLink, LoadWithin, PublishEra, PublishHelper, PublishRequest, RaiseUpper, TakeAnswer, WithdrawHelper, WithdrawRequest}
 use Rattle.inv_handover.specs.covers.model.Phases.RetireAt.{LoadLife, LoadRetire, StoreRetired}
-use Rattle.inv_handover.specs.covers.model.Posts.{cleared, counted, reserves_helper, stands, upper}
+use Rattle.inv_handover.specs.covers.model.Posts.{cleared, counted, reserves_helper, reserves_index, stands, upper}
 use Rattle.inv_handover.specs.covers.model.Protect.{held_post, protected, told_held}
+use Rattle.inv_handover.specs.covers.model.Rounds.{let_index, scheme_of}
 use Rattle.inv_handover.specs.covers.model.SlowPath.{asking, own_request}
 use Rattle.inv_handover.specs.covers.model.World.{World, finds, told_in}
 use Rattle.inv_handover.specs.covers.model.WriteRow.{last_written}
@@ -33,7 +37,10 @@ use Rattle.inv_handover.specs.covers.defs.declared.event.Root.{Root}
 use Rattle.inv_handover.specs.covers.defs.declared.lifetime.Interval.{Interval}
 use Rattle.inv_ends.proofs.Told.Rows.{concluded_told, own_post, own_told, step_adds}
 use Rattle.inv_ends.proofs.Told.Turns.{Adds, is_later}
+use Rattle.inv_handover.proofs.covers.model.Facts.{and_false, or_false}
 use Rattle.inv_handover.specs.covers.words.Packed.{read_reservation}
+use Rattle.inv_handover.specs.covers.words.Schemes.{has_one_interval}
+use Rattle.model_history.proofs.Passes.{copied_told, keep_told, work_told}
 use Rattle.std.specs.Prelude.{List, [], ◌∷◌, ◌++◌, Option, Some, None, if◌then◌else◌, ◌==◌, ◌&&◌, ◌||◌}
 
 -- a test that is false of guards, eras, rows and scans
@@ -57,7 +64,7 @@ abbrev pub base_shows : (Event → Bool) → Post → Base → ℕ → Bool
 base_shows p post (Protect aim index root steps at) found = at_shows p index root (bump steps) post at found
 base_shows p post (Reload parent index slot era steps) found = (found == parent + 1) && p (events.Held index slot (bump steps))
 base_shows p post (Clear index) found = list_any p (cleared index (stands post index))
-base_shows p post Release found = list_any p (cleared 2 (stands post 2))
+base_shows p post (Release index) found = list_any p (cleared index (stands post index))
 base_shows p post base found = false
 
 protected_any : (p : Event → Bool) (aim : Aim) (index : ℕ) (root : Root) (n link era : ℕ) (post : Post) → list_any p (protected aim index root n link era post).told ≡ list_any p (told_held index root link n)
@@ -159,23 +166,84 @@ base_any p (Protect aim index root steps at) post found c = protect_any p aim in
 base_any p (Reload parent index slot era steps) post found c = reload_any p _ post _ _ _ (found == parent + 1)
 base_any p (Clear index) post found c = cleared_any p index (stands post index) _ (one_any p _ [] (c.reserve _ _))
 base_any p Finish post found c = one_any p _ [] (c.reserve _ _)
-base_any p Release post found c = cleared_any p 2 (stands post 2) _ (one_any p _ [] (c.reserve _ _))
+base_any p (Release index) post found c = cleared_any p index (stands post index) _ (one_any p _ [] (c.reserve _ _))
 base_any p (Allocate at) post found c = allocate_any p at post found c
 base_any p (Write slot row place) post found c = ends_any p post _ _ (place == last_written row)
 base_any p (GiveUp slot) post found c = one_any p _ [] (c.unused slot)
 base_any p (Retire at) post found c = retire_any p at post found c
 base_any p (Move at) post found c = move_any p at post found c
 
+-- the same of a step on what is kept
+abbrev pub copied_shows : (Event → Bool) → (from index : ℕ) → Post → Option ℕ → Bool
+copied_shows p from index post None = false
+copied_shows p from index post (Some slot) = list_any p (cleared index (stands post index)) || p (events.Copied from index slot)
+
+abbrev pub keep_shows : (Event → Bool) → Post → KeepAt → Bool
+keep_shows p post (Loosens let_go) = list_any p (cleared (let_index let_go) (stands post (let_index let_go)))
+keep_shows p post (LoadHeld from index) = has_one_interval (scheme_of post) && copied_shows p from index post (stands post from)
+keep_shows p post (StoreHeld from index era) = copied_shows p from index post (stands post from)
+keep_shows p post at = false
+
+abbrev pub work_shows : (Event → Bool) → Post → Work → Bool
+work_shows p post (Keeping at) = keep_shows p post at
+work_shows p post work = false
+
 abbrev pub phase_shows : (Event → Bool) → Post → Phase → ℕ → Bool
 phase_shows p post (Runs why base) found = base_shows p post base found
+phase_shows p post (Works work) found = work_shows p post work
 phase_shows p post phase found = false
+
+copied_any : (p : Event → Bool) (from index : ℕ) (post : Post) (reserved : List Event) (x : Option ℕ) → list_any p reserved ≡ false → list_any p (copied_told from index post reserved x) ≡ copied_shows p from index post x
+copied_any p from index post reserved None h = refl
+copied_any p from index post reserved (Some slot) h =
+    let c : List Event = cleared index (stands post index) in
+    list_any-append p (c ++ reserved) (events.Copied from index slot ∷ [])
+    ∙ ap (λ (b : Bool). b || list_any p (events.Copied from index slot ∷ [])) (cleared_any p index (stands post index) reserved h)
+    ∙ ap (λ (b : Bool). list_any p c || b) (or_false (p (events.Copied from index slot)))
+
+load_held_any : (p : Event → Bool) (from index : ℕ) (post : Post) (one : Bool) → list_any p (if one then copied_told from index post [] (stands post from) else []) ≡ (one && copied_shows p from index post (stands post from))
+load_held_any p from index post true = copied_any p from index post [] (stands post from) refl
+load_held_any p from index post false = refl
+
+pub keep_any : (p : Event → Bool) (at : KeepAt) (post : Post) → Calm p → list_any p (keep_told at post) ≡ keep_shows p post at
+keep_any p (Loosens let_go) post c = refl
+keep_any p (LoadHeld from index) post c = load_held_any p from index post (has_one_interval (scheme_of post))
+keep_any p (StoreHeld from index era) post c = copied_any p from index post (reserves_index post index era) (stands post from) (one_any p _ [] (c.reserve _ _))
+keep_any p (Looks index key at) post c = refl
+keep_any p (Misses index) post c = refl
+
+work_any : (p : Event → Bool) (work : Work) (post : Post) → Calm p → list_any p (work_told work post) ≡ work_shows p post work
+work_any p (Getting key at) post c = refl
+work_any p (Changing kept at) post c = refl
+work_any p (Enqueuing kept at) post c = refl
+work_any p (Dequeuing at) post c = refl
+work_any p (Keeping at) post c = keep_any p at post c
 
 pub own_any : (p : Event → Bool) (phase : Phase) (post : Post) (found : ℕ) → Calm p → list_any p (own_told phase post found) ≡ phase_shows p post phase found
 own_any p Idle post found c = refl
 own_any p (Runs why base) post found c = base_any p base post found c
 own_any p (Scans later (ReadGuard number)) post found c = one_any p _ [] (c.read _ _)
 own_any p (Scans later (GiveBack place slot)) post found c = one_any p _ [] (c.back slot)
-own_any p (Works work) post found c = refl
+own_any p (Works work) post found c = work_any p work post c
+
+-- a test that is false of what is let go and of what is copied is false of a step of a call's own
+pub none_cleared : (p : Event → Bool) (index : ℕ) (x : Option ℕ) → ((index slot : ℕ) → p (events.Clear index slot) ≡ false) → list_any p (cleared index x) ≡ false
+none_cleared p index None c = refl
+none_cleared p index (Some slot) c = rw (c index slot) refl
+
+none_copied : (p : Event → Bool) (from index : ℕ) (post : Post) (x : Option ℕ) → ((index slot : ℕ) → p (events.Clear index slot) ≡ false) → ((from index slot : ℕ) → p (events.Copied from index slot) ≡ false) → copied_shows p from index post x ≡ false
+none_copied p from index post None c d = refl
+none_copied p from index post (Some slot) c d = rw (none_cleared p index (stands post index) c, d from index slot) refl
+
+none_kept : (p : Event → Bool) (at : KeepAt) (post : Post) → ((index slot : ℕ) → p (events.Clear index slot) ≡ false) → ((from index slot : ℕ) → p (events.Copied from index slot) ≡ false) → keep_shows p post at ≡ false
+none_kept p (Loosens let_go) post c d = none_cleared p (let_index let_go) (stands post (let_index let_go)) c
+none_kept p (LoadHeld from index) post c d = rw (none_copied p from index post (stands post from) c d) (and_false (has_one_interval (scheme_of post)))
+none_kept p (StoreHeld from index era) post c d = none_copied p from index post (stands post from) c d
+none_kept p at post c d = refl
+
+pub none_worked : (p : Event → Bool) (work : Work) (post : Post) → ((index slot : ℕ) → p (events.Clear index slot) ≡ false) → ((from index slot : ℕ) → p (events.Copied from index slot) ≡ false) → work_shows p post work ≡ false
+none_worked p (Keeping at) post c d = none_kept p at post c d
+none_worked p work post c d = refl
 
 -- no later event passes the test
 none_later : (p : Event → Bool) (more : List Event) → ((e : Event) → is_later e ≡ true → p e ≡ false) → list_all is_later more ≡ true → list_any p more ≡ false

@@ -8,10 +8,11 @@ use Rattle.inv_handover.specs.covers.model.Calls.{Phase, Why, Work}
 use Rattle.inv_handover.specs.covers.model.Calls.ChangeAt.{ExchangeRoot, LoadCount, LoadKey, LoadValue, LoadVersion}
 use Rattle.inv_handover.specs.covers.model.Calls.DequeueAt.{ExchangeHead, LoadTail, SwingTail, TakeNumber, TakeValue}
 use Rattle.inv_handover.specs.covers.model.Calls.EnqueueAt.{ExchangeNext, ExchangeTail, LoadNext, LoadNumber, PassTail}
+use Rattle.inv_handover.specs.covers.model.Calls.KeepAt.{LoadHeld, StoreHeld}
 use Rattle.inv_handover.specs.covers.model.Calls.Phase.{Idle, Runs, Scans, Works}
 use Rattle.inv_handover.specs.covers.model.Calls.ScanAt.{GiveBack, ReadGuard}
 use Rattle.inv_handover.specs.covers.model.Calls.Why.{Advances, Clears, ClearsNext, Fills, Finishes, FollowsHead, GivesUp, Opens, Releases, Retires, Tidies}
-use Rattle.inv_handover.specs.covers.model.Calls.Work.{Changing, Dequeuing, Enqueuing, Getting}
+use Rattle.inv_handover.specs.covers.model.Calls.Work.{Changing, Dequeuing, Enqueuing, Getting, Keeping}
 use Rattle.inv_handover.specs.covers.model.Change.{changed_bucket}
 use Rattle.inv_handover.specs.covers.model.Locals.{Local, after, begun}
 use Rattle.inv_handover.specs.covers.model.Phases.{Base, Outcome, RowOf, Walk, ends, goes}
@@ -21,7 +22,6 @@ use Rattle.inv_handover.specs.covers.model.Phases.Ending.{Done}
 use Rattle.inv_handover.specs.covers.model.Phases.Outcome.{Ends, Goes}
 use Rattle.inv_handover.specs.covers.model.Phases.RetireAt.{LoadLife, LoadRetire, StoreRetired}
 use Rattle.inv_handover.specs.covers.model.Posts.{counted}
-use Rattle.inv_handover.specs.covers.model.Rounds.{release_base, scheme_of}
 use Rattle.inv_handover.specs.covers.model.World.{World, begin, finds, step, told_in}
 use Rattle.inv_handover.specs.covers.model.WriteRow.{last_written}
 use Rattle.inv_handover.specs.covers.model.declared.post.Post.{Post}
@@ -29,9 +29,9 @@ use Rattle.inv_handover.specs.covers.defs.declared.event.Event.{Event}
 use Rattle.inv_handover.specs.covers.defs.declared.lifetime.Lifetime.{Lifetime}
 use Rattle.inv_handover.proofs.covers.shapes.Frame.{after_seated, begin_begins, begin_stays, begun_seated, moves_with, seat_stays, seat_steps}
 use Rattle.inv_handover.proofs.covers.shapes.Inside.{shape_moves}
-use Rattle.inv_handover.proofs.covers.shapes.Kept.{begun_fits, counted_fits, one_moves, run_counted}
+use Rattle.inv_handover.proofs.covers.shapes.Kept.{begun_fits, counted_fits, one_moves, run_counted, work_counted}
 use Rattle.inv_handover.proofs.covers.shapes.Shapes.{shape_grows}
-use Rattle.inv_handover.specs.covers.shapes.Frame.{Grows, Moves, Onward, Owes, Passed, Seated}
+use Rattle.inv_handover.specs.covers.shapes.Frame.{Grows, Moves, Onward, Owes, Passed, Seated, Stores}
 use Rattle.inv_handover.specs.covers.shapes.Seats.{Kind, PhaseFits, PostFits, Run, fills, kind_of, suits}
 use Rattle.inv_handover.specs.covers.shapes.Seats.Kind.{ToClear, ToFill, ToFinish, ToFollow, ToGiveUp, ToMove, ToOpen, ToRelease, ToRetire}
 use Rattle.inv_handover.proofs.covers.rows.Fits.{MoveFits, phase_fits}
@@ -46,13 +46,12 @@ use Rattle.inv_ends.proofs.Told.Rows.{rows_told, rows_were}
 use Rattle.inv_ends.specs.Births.{GivenBase, GivenBegin, GivenKept, GivenNeeds, GivenPhase, GivenStart, RetiresGiven, given_after, given_all, given_by}
 use Rattle.inv_ends.specs.Told.{RowRetires, RowWas, birth_base, birth_in, move_of, of_rows, row_events}
 use Rattle.inv_handover.specs.covers.defs.Events.{is_of_rows}
+use Rattle.inv_handover.specs.covers.words.Packed.{read_reservation}
 use Rattle.inv_handover.specs.covers.words.Place.{is_valid}
 use Rattle.inv_handover.specs.covers.words.Place.Place.{Clock}
-use Rattle.inv_handover.specs.covers.words.declared.config.SchemeKind.{SchemeKind}
 use Rattle.inv_handover.specs.covers.words.declared.layout.Layout.{Layout}
 use Rattle.std.specs.Prelude.{List, [], ◌∷◌, Option, Some, None, if◌then◌else◌, ◌==◌}
 use Rattle.inv_handover.proofs.covers.model.Facts.{no_truth_2}
-use Rattle.inv_handover.proofs.covers.model.Schemes.{each_release}
 
 -- only events of rows give one
 event_given : (e : Event) (given : ℕ → ℕ) → is_of_rows e ≡ false → given_by e given ≡ given
@@ -70,6 +69,7 @@ event_given (events.Back slot) given h = no_truth_2 (sym h)
 event_given (events.Held index slot n) given h = refl
 event_given (events.Null index n) given h = refl
 event_given (events.Clear index slot) given h = refl
+event_given (events.Copied from index slot) given h = refl
 event_given (events.Put bucket version key value) given h = refl
 event_given (events.Removed bucket version key) given h = refl
 event_given (events.Got bucket version key value) given h = refl
@@ -130,6 +130,7 @@ work_bears given (Dequeuing (SwingTail head next)) post found = tt
 work_bears given (Dequeuing (TakeNumber head next)) post found = tt
 work_bears given (Dequeuing (TakeValue head next number)) post found = tt
 work_bears given (Dequeuing (ExchangeHead head next number value)) post found = bear_pop given head next (found == head + 1)
+work_bears given (Keeping at) post found = tt
 
 phase_bears : (given : ℕ → ℕ) (phase : Phase) (post : Post) (found : ℕ) → GivenPhase given phase → Bearing given (row_move phase post found)
 phase_bears given Idle post found h = tt
@@ -138,7 +139,7 @@ phase_bears given (Runs why (Protect aim index root steps at)) post found h = tt
 phase_bears given (Runs why (Reload parent index slot era steps)) post found h = tt
 phase_bears given (Runs why (Clear index)) post found h = tt
 phase_bears given (Runs why Finish) post found h = tt
-phase_bears given (Runs why Release) post found h = tt
+phase_bears given (Runs why (Release index)) post found h = tt
 phase_bears given (Runs why (Allocate LoadBirth)) post found h = tt
 phase_bears given (Runs why (Allocate (ClaimSlot birth walk))) post found h = bear_claim given walk.slot (is_claimed found walk.slot)
 phase_bears given (Runs why (Allocate (StoreLife birth slot))) post found h = h
@@ -194,7 +195,7 @@ store_hand (GivesUp answer) birth slot h = no_truth_2 h
 store_hand (Retires answer) birth slot h = no_truth_2 h
 store_hand (Tidies later) birth slot h = no_truth_2 h
 store_hand Advances birth slot h = no_truth_2 h
-store_hand (Releases key) birth slot h = no_truth_2 h
+store_hand (Releases let_go) birth slot h = no_truth_2 h
 
 base_given : (slots k : ℕ) (v : View) (given now : ℕ → ℕ) (why : Why) (base : Base) (list : List Lifetime) → Good slots v → Plays k (Runs why base) list v → ((s : ℕ) → v.status s ≡ Claimed k → now s ≡ given s) → GivenBase given base → GivenBase now base
 base_given slots k v given now why (Begin at) list g p f h = tt
@@ -202,7 +203,7 @@ base_given slots k v given now why (Protect aim index root steps at) list g p f 
 base_given slots k v given now why (Reload parent index slot era steps) list g p f h = tt
 base_given slots k v given now why (Clear index) list g p f h = tt
 base_given slots k v given now why Finish list g p f h = tt
-base_given slots k v given now why Release list g p f h = tt
+base_given slots k v given now why (Release index) list g p f h = tt
 base_given slots k v given now why (Allocate LoadBirth) list g p f h = tt
 base_given slots k v given now why (Allocate (ClaimSlot birth walk)) list g p f h = tt
 base_given slots k v given now why (Allocate (StoreLife birth slot)) list g p f h = f slot (of_new slots v k slot g (p.hand ∙ store_hand why birth slot p.right)) ∙ h
@@ -215,13 +216,11 @@ phase_given slots k v given now (Scans later at) list g p f h = tt
 phase_given slots k v given now (Works work) list g p f h = tt
 
 -- where a call comes to by no step of a machine no birth era is to be stored
-release_given : (given : ℕ → ℕ) (key : Option ℕ) (scheme : SchemeKind) → GivenPhase given (Runs (Releases key) (release_base scheme))
-release_given given key scheme = each_release scheme (λ (base : Base). GivenPhase given (Runs (Releases key) base)) tt tt
-
 given_grows : (layout : Layout) (k : ℕ) (given : ℕ → ℕ) → is_valid layout ≡ true → Grows (PostFits layout k) (λ post phase. GivenPhase given phase)
 given_grows layout k given v = let g = shape_grows layout k v in record {
   guarded = g.guarded;
   withdraws = g.withdraws;
+  copies = g.copies;
   idle = λ post q. tt;
   begins = λ post task s e q. tt;
   opens = λ post task s q. tt;
@@ -235,10 +234,11 @@ given_grows layout k given v = let g = shape_grows layout k v in record {
   retires = λ post answer slot q. tt;
   tidies = λ post later q. tt;
   advances = λ post q. tt;
-  releases = λ post key q. release_given given key (scheme_of post);
+  clears_kept = λ post let_go s q. tt;
+  releases = λ post let_go s e q. tt;
   scans = λ post later number b q. tt;
   gives_back = λ post later place slot q. tt;
-  works = λ post work s q. tt;
+  works = λ post work n s q. tt;
 }
 
 -- a machine that fills no row goes on to none that does
@@ -248,7 +248,7 @@ other_base layout why (Protect aim index root steps at) post given f r = tt
 other_base layout why (Reload parent index slot era steps) post given f r = tt
 other_base layout why (Clear index) post given f r = tt
 other_base layout why Finish post given f r = tt
-other_base layout why Release post given f r = tt
+other_base layout why (Release index) post given f r = tt
 other_base layout why (Allocate at) post given f r = no_truth_2 (sym f ∙ r.suited)
 other_base layout why base post given f r = tt
 
@@ -278,7 +278,7 @@ apart (Protect aim index root steps at) ToFill n s = sym s
 apart (Reload parent index slot era steps) ToFill n s = sym s
 apart (Clear index) ToFill n s = sym s
 apart Finish ToFill n s = sym s
-apart Release ToFill n s = sym s
+apart (Release index) ToFill n s = sym s
 apart (Allocate at) ToFill n s = n
 apart (Write slot row place) ToFill n s = n
 apart (GiveUp slot) ToFill n s = sym s
@@ -309,7 +309,7 @@ base_on layout k why (Protect aim index root steps at) post found given r c h = 
 base_on layout k why (Reload parent index slot era steps) post found given r c h = other_on layout why _ (machine.after (Reload parent index slot era steps) post found).outcome given (apart (Reload parent index slot era steps) (kind_of why) refl r.suited) h
 base_on layout k why (Clear index) post found given r c h = tt
 base_on layout k why Finish post found given r c h = tt
-base_on layout k why Release post found given r c h = tt
+base_on layout k why (Release index) post found given r c h = tt
 base_on layout k why (Allocate LoadBirth) post found given r c h = tt
 base_on layout k why (Allocate (ClaimSlot birth walk)) post found given r c h = claim_on why birth walk post post found given (is_claimed found walk.slot) refl c
 base_on layout k why (Allocate (StoreLife birth slot)) post found given r c h = tt
@@ -335,7 +335,7 @@ claims_base given now why (Protect aim index root steps at) post found f = tt
 claims_base given now why (Reload parent index slot era steps) post found f = tt
 claims_base given now why (Clear index) post found f = tt
 claims_base given now why Finish post found f = tt
-claims_base given now why Release post found f = tt
+claims_base given now why (Release index) post found f = tt
 claims_base given now why (Allocate LoadBirth) post found f = tt
 claims_base given now why (Allocate (ClaimSlot birth walk)) post found f = claim_given given now birth walk.slot (is_claimed found walk.slot) f
 claims_base given now why (Allocate (StoreLife birth slot)) post found f = tt
@@ -347,13 +347,18 @@ claims_in given now (Runs why base) post found f = claims_base given now why bas
 claims_in given now (Scans later at) post found f = tt
 claims_in given now (Works work) post found f = tt
 
+-- a property that the second step of a copy has at each post
+pub each_stores : (P : Post → Phase → Type 0) → ((post : Post) (from index era : ℕ) → P post (Works (Keeping (StoreHeld from index era)))) → (post : Post) (found : ℕ) (work : Work) → Stores P post found work
+each_stores P h post found (Keeping (LoadHeld from index)) = λ n. h post from index (read_reservation found).era
+each_stores P h post found work = tt
+
 owed : (layout : Layout) (k : ℕ) → is_valid layout ≡ true → (phase : Phase) (post : Post) (found : ℕ) (given : ℕ → ℕ) → PostFits layout k post → PhaseFits layout post phase → ClaimingIn given phase found → Owes (PostFits layout k) (λ p q. GivenPhase given q) (counted post) found phase
 owed layout k v Idle post found given q p x = counted_fits layout k post q
 owed layout k v (Runs why base) post found given q p x =
     let m : Moves (PostFits layout k) (PhaseFits layout) why (machine.after base (counted post) found) = shape_moves layout k v why base (counted post) found (counted_fits layout k post q) (run_counted layout why base post p) in
     moves_with why (machine.after base (counted post) found) m (record { post = m.post; phase = base_on layout k why base (counted post) found given (run_counted layout why base post p) x m.phase })
 owed layout k v (Scans later at) post found given q p x = counted_fits layout k post q
-owed layout k v (Works work) post found given q p x = record { post = counted_fits layout k post q; span = p }
+owed layout k v (Works work) post found given q p x = record { post = counted_fits layout k post q; fits = work_counted work post p; stores = each_stores (λ p q. GivenPhase given q) (λ p from index era. tt) (counted post) found work }
 
 fits_of : (w : World) (i : ℕ) (v : View) → GivenNeeds w i v → MoveFits i v (move_of w i)
 fits_of w i v n = phase_fits w.layout.config.slots i w.mem v (w.seat i).phase (w.seat i).post (w.seat i).desk.list n.needs n.rows.good n.rows.words (n.rows.plays i)

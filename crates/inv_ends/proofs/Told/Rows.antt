@@ -1,6 +1,7 @@
 -- What a step tells of rows is its move of rows.
 use Rattle.std.proofs.Common.{ℕ, ◌+◌, ◌-◌, Bool, true, false, ◌≡◌, ◌∙◌, sym, refl, ap, arith, ◌≤◌}
 use Rattle.std.proofs.lemmas.Bool.Decides.{nat_tests}
+use Rattle.std.proofs.lemmas.List.Elements.{filter-append}
 use Rattle.std.specs.List.{filter, list_any, list_all}
 use Rattle.inv_handover.specs.covers.model.Memory as memory
 use Rattle.inv_handover.specs.covers.model.Scan as scans
@@ -8,15 +9,16 @@ use Rattle.inv_handover.specs.covers.defs.declared.event.Event.TheVariants as ev
 use Rattle.inv_handover.specs.covers.defs.declared.event.Root.TheVariants as roots
 use Rattle.inv_handover.specs.covers.defs.declared.call.ClockMove.TheVariants as moves
 use Rattle.inv_handover.specs.covers.model.Allocate.{after_claim_slot, is_claimed, walk_past, walking}
-use Rattle.inv_handover.specs.covers.model.Calls.{AfterScan, ChangeKept, Phase, Why, Work}
+use Rattle.inv_handover.specs.covers.model.Calls.{AfterScan, ChangeKept, KeepAt, Phase, Why, Work}
 use Rattle.inv_handover.specs.covers.model.Calls.AfterScan.{Answered, Counted, Repeated}
 use Rattle.inv_handover.specs.covers.model.Calls.ChangeAt.{ExchangeRoot, LoadCount, LoadKey, LoadValue, LoadVersion}
 use Rattle.inv_handover.specs.covers.model.Calls.DequeueAt.{ExchangeHead, LoadTail, SwingTail, TakeNumber, TakeValue}
 use Rattle.inv_handover.specs.covers.model.Calls.EnqueueAt.{ExchangeNext, ExchangeTail, LoadNext, LoadNumber, PassTail}
+use Rattle.inv_handover.specs.covers.model.Calls.KeepAt.{LoadHeld, Loosens, Looks, Misses, StoreHeld}
 use Rattle.inv_handover.specs.covers.model.Calls.Phase.{Idle, Runs, Scans, Works}
 use Rattle.inv_handover.specs.covers.model.Calls.ScanAt.{GiveBack, ReadGuard}
 use Rattle.inv_handover.specs.covers.model.Calls.Why.{Advances, Clears, ClearsNext, Fills, Finishes, FollowsHead, GivesUp, Opens, Releases, Retires, Tidies}
-use Rattle.inv_handover.specs.covers.model.Calls.Work.{Changing, Dequeuing, Enqueuing, Getting}
+use Rattle.inv_handover.specs.covers.model.Calls.Work.{Changing, Dequeuing, Enqueuing, Getting, Keeping}
 use Rattle.inv_handover.specs.covers.model.Change.{changed_bucket}
 use Rattle.inv_handover.specs.covers.model.Desks.{Desk}
 use Rattle.inv_handover.specs.covers.model.Guards.{guard_at, guards, eras_in, published}
@@ -33,8 +35,9 @@ use Rattle.inv_handover.specs.covers.model.Phases.MoveAt.{AnswerAsked, CheckEra,
 use Rattle.inv_handover.specs.covers.model.Phases.Outcome.{Ends, Goes}
 use Rattle.inv_handover.specs.covers.model.Phases.ProtectAt.{AnswerOwn, CheckClock, CheckOwnClock, CheckUpper, LoadAnswer, LoadClock, LoadLink, LoadOwnClock, LoadOwnLink, LoadWithin, PublishEra, PublishHelper, PublishRequest, RaiseUpper, TakeAnswer, WithdrawHelper, WithdrawRequest}
 use Rattle.inv_handover.specs.covers.model.Phases.RetireAt.{LoadLife, LoadRetire, StoreRetired}
-use Rattle.inv_handover.specs.covers.model.Posts.{cleared, counted, reserves_helper, stands, upper}
+use Rattle.inv_handover.specs.covers.model.Posts.{cleared, counted, reserves_helper, reserves_index, stands, upper}
 use Rattle.inv_handover.specs.covers.model.Protect.{held_post, protected, told_held}
+use Rattle.inv_handover.specs.covers.model.Rounds.{let_index, scheme_of}
 use Rattle.inv_handover.specs.covers.model.Scan.{Entry, giving_back, scanned, unmet_from, with_back, with_kept}
 use Rattle.inv_handover.specs.covers.model.SlowPath.{asking, own_request}
 use Rattle.inv_handover.specs.covers.model.Steps.{phase_move, phase_turn, resumed}
@@ -47,6 +50,7 @@ use Rattle.inv_handover.specs.covers.defs.declared.event.Event.{Event}
 use Rattle.inv_handover.specs.covers.defs.declared.event.Root.{Root}
 use Rattle.inv_handover.specs.covers.defs.declared.lifetime.Lifetime.{Lifetime}
 use Rattle.inv_ends.proofs.Told.Turns.{Adds, is_later, out_adds, resume_adds, work_adds}
+use Rattle.model_history.proofs.Passes.{copied_told, keep_told, work_post, work_told}
 use Rattle.inv_ends.specs.Told.{NoReuse, RowWas, RowsTold, RowsWere, birth_at, birth_base, birth_in, move_of, of_rows, reuses, row_events}
 use Rattle.inv_handover.specs.covers.defs.Events.{is_of_rows}
 use Rattle.inv_handover.specs.covers.shapes.Eras.{PhaseEras, base_eras, retire_eras}
@@ -57,6 +61,7 @@ use Rattle.inv_handover.specs.covers.rows.Rows.{Good, RowMove, View}
 use Rattle.inv_handover.specs.covers.rows.Rows.Hand.{Dated, Known}
 use Rattle.inv_handover.specs.covers.rows.Rows.RowMove.{Appends, Bears, Claims, Drops, Links, Lists, Pops, Reads, Replaces, Returns, Seals, Stays}
 use Rattle.inv_handover.specs.covers.words.Packed.{read_reservation}
+use Rattle.inv_handover.specs.covers.words.Schemes.{has_one_interval}
 use Rattle.inv_handover.specs.covers.words.Place.{Place, claim_word}
 use Rattle.inv_handover.specs.covers.words.Place.Place.{Claim, Clock}
 use Rattle.inv_handover.specs.covers.words.declared.layout.Layout.{Layout}
@@ -64,20 +69,20 @@ use Rattle.std.specs.Prelude.{List, [], ◌∷◌, ◌++◌, Option, Some, None,
 use Rattle.inv_handover.proofs.covers.model.Facts.{no_truth_2}
 pub use Rattle.inv_handover.proofs.covers.shapes.Frame.{concluded_told}
 
--- what a machine or a scan tells itself, and the post that it leaves
+-- what a machine, a scan or a step on what is kept tells itself, and the post that it leaves
 abbrev pub own_told : Phase → Post → ℕ → List Event
 own_told Idle post found = []
 own_told (Runs why base) post found = (after base post found).told
 own_told (Scans later (ReadGuard number)) post found =
     events.Read (guard_at post.layout.config number) (eras_in (guard_at post.layout.config number) found) ∷ []
 own_told (Scans later (GiveBack place slot)) post found = events.Back slot ∷ []
-own_told (Works work) post found = []
+own_told (Works work) post found = work_told work post
 
 abbrev pub own_post : Phase → Post → ℕ → Post
 own_post Idle post found = post
 own_post (Runs why base) post found = (after base post found).post
 own_post (Scans later at) post found = post
-own_post (Works work) post found = post
+own_post (Works work) post found = work_post work post
 
 scanned_adds : (later : AfterScan) (post : Post) (desk : Desk) (told : List Event) → Adds post told (scanned later post desk told)
 scanned_adds (Answered answer) post desk told = out_adds _ _ _ _
@@ -96,7 +101,8 @@ pub resumed_adds : (why : Why) (desk : Desk) (post : Post) (told : List Event) (
 resumed_adds why desk post told (Goes base) = out_adds _ _ _ _
 resumed_adds why desk post told (Ends ending) = resume_adds why ending post desk told
 
--- what a step tells: what its machine or scan tells, and then no more of guards, scans, held rows, eras and free rows
+-- what a step tells: what its machine, its scan or its step on what is kept tells, and then no more of guards, scans, held rows,
+-- eras and free rows
 pub phase_adds : (phase : Phase) (post : Post) (desk : Desk) (found : ℕ) → Adds (own_post phase post found) (own_told phase post found) (phase_turn phase post desk found)
 phase_adds Idle post desk found = out_adds _ _ _ _
 phase_adds (Runs why base) post desk found = resumed_adds why desk (after base post found).post (after base post found).told (after base post found).outcome
@@ -128,6 +134,7 @@ later_rows (events.Back slot) h = no_truth_2 h
 later_rows (events.Held index slot n) h = refl
 later_rows (events.Null index n) h = refl
 later_rows (events.Clear index slot) h = refl
+later_rows (events.Copied from index slot) h = no_truth_2 h
 later_rows (events.Put bucket version key value) h = refl
 later_rows (events.Removed bucket version key) h = refl
 later_rows (events.Got bucket version key value) h = refl
@@ -229,13 +236,34 @@ cleared_rows : (index : ℕ) (x : Option ℕ) (a : List Event) → of_rows a ≡
 cleared_rows index None a h = h
 cleared_rows index (Some slot) a h = h
 
+copied_rows : (from index : ℕ) (post : Post) (reserved : List Event) (x : Option ℕ) → of_rows reserved ≡ [] → of_rows (copied_told from index post reserved x) ≡ []
+copied_rows from index post reserved None h = refl
+copied_rows from index post reserved (Some slot) h =
+    filter-append is_of_rows (cleared index (stands post index) ++ reserved) (events.Copied from index slot ∷ []) ∙ rw (cleared_rows index (stands post index) reserved h) refl
+
+load_held_rows : (from index : ℕ) (post : Post) (one : Bool) → of_rows (if one then copied_told from index post [] (stands post from) else []) ≡ []
+load_held_rows from index post true = copied_rows from index post [] (stands post from) refl
+load_held_rows from index post false = refl
+
+let_go_rows : (index : ℕ) (x : Option ℕ) → of_rows (cleared index x) ≡ []
+let_go_rows index None = refl
+let_go_rows index (Some slot) = refl
+
+-- a step on what is kept tells nothing of rows
+keep_rows : (at : KeepAt) (post : Post) → of_rows (keep_told at post) ≡ []
+keep_rows (Loosens let_go) post = let_go_rows (let_index let_go) (stands post (let_index let_go))
+keep_rows (LoadHeld from index) post = load_held_rows from index post (has_one_interval (scheme_of post))
+keep_rows (StoreHeld from index era) post = copied_rows from index post (reserves_index post index era) (stands post from) refl
+keep_rows (Looks index key at) post = refl
+keep_rows (Misses index) post = refl
+
 base_rows : (base : Base) (post : Post) (found : ℕ) → of_rows (after base post found).told ≡ row_events (birth_base base) (base_row base found)
 base_rows (Begin at) post found = begin_rows at post found
 base_rows (Protect aim index root steps at) post found = protect_rows aim index root _ at post found
 base_rows (Reload parent index slot era steps) post found = reload_rows index slot _ post _ _ _ (found == parent + 1)
 base_rows (Clear index) post found = cleared_rows index (stands post index) _ refl
 base_rows Finish post found = refl
-base_rows Release post found = cleared_rows 2 (stands post 2) _ refl
+base_rows (Release index) post found = cleared_rows index (stands post index) _ refl
 base_rows (Allocate at) post found = allocate_rows at post found
 base_rows (Write slot row place) post found = ends_rows post _ _ (place == last_written row)
 base_rows (GiveUp slot) post found = refl
@@ -258,30 +286,31 @@ pop_none : (head next b : ℕ) (same : Bool) → [] ≡ row_events b (if same th
 pop_none head next b true = refl
 pop_none head next b false = refl
 
-work_rows : (work : Work) (post : Post) (found : ℕ) → [] ≡ row_events 0 (work_row work post found)
-work_rows (Getting key at) post found = refl
-work_rows (Changing kept (LoadVersion slot)) post found = refl
-work_rows (Changing kept (LoadCount slot)) post found = refl
-work_rows (Changing kept (LoadKey slot count)) post found = refl
-work_rows (Changing kept (LoadValue slot count key)) post found = refl
-work_rows (Changing kept (ExchangeRoot slot)) post found = exchange_none kept slot post 0 (found == kept.link)
-work_rows (Enqueuing kept LoadNumber) post found = refl
-work_rows (Enqueuing kept LoadNext) post found = refl
-work_rows (Enqueuing kept (PassTail next)) post found = refl
-work_rows (Enqueuing kept (ExchangeNext slot)) post found = append_none slot 0 (found == 0)
-work_rows (Enqueuing kept (ExchangeTail slot)) post found = refl
-work_rows (Dequeuing (LoadTail head)) post found = refl
-work_rows (Dequeuing (SwingTail head next)) post found = refl
-work_rows (Dequeuing (TakeNumber head next)) post found = refl
-work_rows (Dequeuing (TakeValue head next number)) post found = refl
-work_rows (Dequeuing (ExchangeHead head next number value)) post found = pop_none head next 0 (found == head + 1)
+work_rows : (work : Work) (post last : Post) (found : ℕ) → of_rows (work_told work post) ≡ row_events 0 (work_row work last found)
+work_rows (Getting key at) post last found = refl
+work_rows (Changing kept (LoadVersion slot)) post last found = refl
+work_rows (Changing kept (LoadCount slot)) post last found = refl
+work_rows (Changing kept (LoadKey slot count)) post last found = refl
+work_rows (Changing kept (LoadValue slot count key)) post last found = refl
+work_rows (Changing kept (ExchangeRoot slot)) post last found = exchange_none kept slot last 0 (found == kept.link)
+work_rows (Enqueuing kept LoadNumber) post last found = refl
+work_rows (Enqueuing kept LoadNext) post last found = refl
+work_rows (Enqueuing kept (PassTail next)) post last found = refl
+work_rows (Enqueuing kept (ExchangeNext slot)) post last found = append_none slot 0 (found == 0)
+work_rows (Enqueuing kept (ExchangeTail slot)) post last found = refl
+work_rows (Dequeuing (LoadTail head)) post last found = refl
+work_rows (Dequeuing (SwingTail head next)) post last found = refl
+work_rows (Dequeuing (TakeNumber head next)) post last found = refl
+work_rows (Dequeuing (TakeValue head next number)) post last found = refl
+work_rows (Dequeuing (ExchangeHead head next number value)) post last found = pop_none head next 0 (found == head + 1)
+work_rows (Keeping at) post last found = keep_rows at post
 
 own_rows : (phase : Phase) (post last : Post) (found : ℕ) → of_rows (own_told phase post found) ≡ row_events (birth_in phase) (row_move phase last found)
 own_rows Idle post last found = refl
 own_rows (Runs why base) post last found = base_rows base post found
 own_rows (Scans later (ReadGuard number)) post last found = refl
 own_rows (Scans later (GiveBack place slot)) post last found = refl
-own_rows (Works work) post last found = work_rows work last found
+own_rows (Works work) post last found = work_rows work post last found
 
 pub step_adds : (w : World) (i : ℕ) → Adds (own_post (w.seat i).phase (counted (w.seat i).post) (finds w i)) (own_told (w.seat i).phase (counted (w.seat i).post) (finds w i)) (turn (w.seat i) (finds w i))
 step_adds w i = phase_adds (w.seat i).phase (counted (w.seat i).post) (w.seat i).desk (finds w i)
@@ -338,6 +367,7 @@ work_extra clock v (Dequeuing (SwingTail head next)) post found = tt
 work_extra clock v (Dequeuing (TakeNumber head next)) post found = tt
 work_extra clock v (Dequeuing (TakeValue head next number)) post found = tt
 work_extra clock v (Dequeuing (ExchangeHead head next number value)) post found = extra_pop clock v head next (found == head + 1)
+work_extra clock v (Keeping at) post found = tt
 
 -- a row that is being retired is in hand
 retire_hand : (why : Why) (at : RetireAt) → runs_right why (Retire at) ≡ true → hand_why why (Retire at) ≡ hand_retire at
@@ -351,7 +381,7 @@ retire_hand (GivesUp answer) at h = refl
 retire_hand (Retires answer) at h = refl
 retire_hand (Tidies later) at h = no_truth_2 h
 retire_hand Advances at h = no_truth_2 h
-retire_hand (Releases key) at h = no_truth_2 h
+retire_hand (Releases let_go) at h = no_truth_2 h
 
 known_birth : (slots : ℕ) (v : View) (i slot birth : ℕ) → Good slots v → v.hand i ≡ Known slot birth → birth ≡ v.birth slot
 known_birth slots v i slot birth g h = grind (arith, nat_tests, g.known i slot)
@@ -370,7 +400,7 @@ run_extra slots i layout mem v why (Protect aim index root steps at) post list g
 run_extra slots i layout mem v why (Reload parent index slot era steps) post list g p e = tt
 run_extra slots i layout mem v why (Clear index) post list g p e = tt
 run_extra slots i layout mem v why Finish post list g p e = tt
-run_extra slots i layout mem v why Release post list g p e = tt
+run_extra slots i layout mem v why (Release index) post list g p e = tt
 run_extra slots i layout mem v why (Allocate LoadBirth) post list g p e = tt
 run_extra slots i layout mem v why (Allocate (ClaimSlot birth walk)) post list g p e = extra_claim (mem Clock) v walk.slot (is_claimed (mem (Claim (claim_word walk.slot))) walk.slot)
 run_extra slots i layout mem v why (Allocate (StoreLife birth slot)) post list g p e = tt
@@ -427,6 +457,7 @@ reuses_rows s (events.Back slot) h = no_truth_2 (sym h)
 reuses_rows s (events.Held index slot n) h = refl
 reuses_rows s (events.Null index n) h = refl
 reuses_rows s (events.Clear index slot) h = refl
+reuses_rows s (events.Copied from index slot) h = refl
 reuses_rows s (events.Put bucket version key value) h = refl
 reuses_rows s (events.Removed bucket version key) h = refl
 reuses_rows s (events.Got bucket version key value) h = refl

@@ -1,5 +1,5 @@
--- What a call's own step tells, and what comes after the events of a machine: no event of guards, scans, held rows, eras or
--- rows that are given or freed.
+-- What a call's own step tells, and what comes after the events of a machine or of a step on what is kept: no event of guards,
+-- scans, held or copied rows, eras or rows that are given or freed.
 use Rattle.std.proofs.Common.{ℕ, ◌+◌, ◌-◌, Bool, true, false, ◌≡◌, ◌∙◌, sym, refl, ap, subst, arith, ◌⊎◌, inl, inr}
 use Rattle.std.proofs.lemmas.Bool.Decides.{nat_tests}
 use Rattle.std.proofs.lemmas.List.{append_assoc}
@@ -9,6 +9,7 @@ use Rattle.inv_handover.specs.covers.model.Get as gets
 use Rattle.inv_handover.specs.covers.model.Change as alters
 use Rattle.inv_handover.specs.covers.model.Enqueue as enqueues
 use Rattle.inv_handover.specs.covers.model.Dequeue as dequeues
+use Rattle.inv_handover.specs.covers.model.Keep as keeps
 use Rattle.inv_handover.specs.covers.model.Steps as steps
 use Rattle.inv_handover.specs.covers.model.Calls as calls
 use Rattle.inv_handover.specs.covers.defs.declared.call.Answer.TheVariants as the_answers
@@ -19,27 +20,30 @@ use Rattle.inv_handover.specs.covers.defs.declared.fold.Change.TheVariants as ch
 use Rattle.inv_handover.specs.covers.model.declared.ends.ProtectEnd.TheVariants as protect_ends
 use Rattle.inv_handover.specs.covers.model.declared.ends.FollowEnd.TheVariants as follow_ends
 use Rattle.inv_handover.specs.covers.model.declared.ends.AllocateEnd.TheVariants as allocate_ends
-use Rattle.inv_handover.specs.covers.model.Calls.{AfterScan, CallOutcome, CallTurn, ChangeAt, ChangeKept, DequeueAt, EnqueueAt, EnqueueKept, GetAt, Next, Task, Why, Work}
+use Rattle.inv_handover.specs.covers.model.Calls.{AfterScan, CallOutcome, CallTurn, ChangeAt, ChangeKept, DequeueAt, EnqueueAt, EnqueueKept, GetAt, KeepAt, LetGo, Next, Task, Why, Work}
 use Rattle.inv_handover.specs.covers.model.Calls.CallOutcome.{GoesOn}
 use Rattle.inv_handover.specs.covers.model.Calls.ChangeAt.{ExchangeRoot, LoadCount, LoadKey, LoadValue, LoadVersion}
 use Rattle.inv_handover.specs.covers.model.Calls.DequeueAt.{ExchangeHead, LoadTail, SwingTail, TakeNumber, TakeValue}
 use Rattle.inv_handover.specs.covers.model.Calls.EnqueueAt.{ExchangeNext, ExchangeTail, LoadNext, LoadNumber, PassTail}
 use Rattle.inv_handover.specs.covers.model.Calls.GetAt.{FindCount, FindKey, FindValue, FindVersion}
+use Rattle.inv_handover.specs.covers.model.Calls.KeepAt.{LoadHeld, Loosens, Looks, Misses, StoreHeld}
+use Rattle.inv_handover.specs.covers.model.Calls.LetGo.{Dropped, Rehold, Released}
 use Rattle.inv_handover.specs.covers.model.Calls.Next.{Again, Answering, MakeRoom, Retiring}
 use Rattle.inv_handover.specs.covers.model.Calls.Task.{Changes, Dequeues, Enqueues, Gets, Holds}
 use Rattle.inv_handover.specs.covers.model.Calls.Why.{Advances, Clears, ClearsNext, Fills, Finishes, FollowsHead, GivesUp, Opens, Releases, Retires, Tidies}
-use Rattle.inv_handover.specs.covers.model.Calls.Work.{Changing, Dequeuing, Enqueuing, Getting}
+use Rattle.inv_handover.specs.covers.model.Calls.Work.{Changing, Dequeuing, Enqueuing, Getting, Keeping}
 use Rattle.inv_handover.specs.covers.model.Desks.{Desk, with_life}
-use Rattle.inv_handover.specs.covers.model.Locals.{told_by}
+use Rattle.inv_handover.specs.covers.model.Locals.{told_by, told_end}
 use Rattle.inv_handover.specs.covers.model.Phases.{Ending, Base}
 use Rattle.inv_handover.specs.covers.model.Phases.Ending.{Allocated, Clocked, Done, Followed, Protected, Retired}
-use Rattle.inv_handover.specs.covers.model.Posts.{cleared, stands, withdrawn}
-use Rattle.inv_handover.specs.covers.model.Rounds.{bucket_of, clear_base, clear_post, clear_told, clearing, clearing_by, clearing_next, clearing_next_by, closed, finish_base, finish_span, finishing, finishing_by, given_up, index_of, scheme_of, taken_of}
+use Rattle.inv_handover.specs.covers.model.Posts.{cleared, reserves_index, stands, withdrawn}
+use Rattle.inv_handover.specs.covers.model.Rounds.{bucket_of, clear_base, clear_post, clear_told, clearing, clearing_by, clearing_next, clearing_next_by, closed, finish_base, finish_span, finishing, finishing_by, given_up, index_of, kept_row, let_index, scheme_of, taken_of}
 use Rattle.inv_handover.specs.covers.model.declared.ends.AllocateEnd.{AllocateEnd}
 use Rattle.inv_handover.specs.covers.model.declared.ends.FollowEnd.{FollowEnd}
 use Rattle.inv_handover.specs.covers.model.declared.post.Post.{Post}
 use Rattle.inv_handover.proofs.covers.Stands.{withdrawn_shrinks}
 use Rattle.inv_ends.specs.Stands.{is_clear, stood_by, stood}
+use Rattle.model_history.proofs.Passes.{copied_post, copied_told, keep_post, keep_told, work_post, work_told}
 use Rattle.inv_handover.specs.covers.Tries.{Shrinks}
 use Rattle.inv_handover.specs.covers.defs.declared.call.Answer.{Answer}
 use Rattle.inv_handover.specs.covers.defs.declared.event.Event.{Event}
@@ -52,7 +56,7 @@ use Rattle.inv_handover.proofs.covers.model.Facts.{either_true, no_truth_2}
 use Rattle.inv_handover.proofs.covers.model.Schemes.{each_clear, each_finish}
 use Rattle.inv_handover.specs.covers.words.Schemes.{has_one_interval}
 
--- an event that a machine does not tell
+-- an event that comes after those of a machine or of a step on what is kept
 abbrev pub is_later : Event → Bool
 is_later (events.End count answer) = true
 is_later (events.Link root slot) = true
@@ -178,7 +182,7 @@ finishing_by_adds : (task : Task) (next : Next) (post : Post) (desk : Desk) (tol
 finishing_by_adds task next post desk told scheme =
     each_finish scheme post (λ (base : Option Base). Adds post told (finishing_by task next post desk told base))
     (closed_adds task next post desk told)
-    (finish_adds task next post desk told (stands post 2))
+    (finish_adds task next post desk told (kept_row post))
 
 finishing_adds : (task : Task) (next : Next) (post : Post) (desk : Desk) (told : List Event) → Adds post told (finishing task next post desk told)
 finishing_adds task Again post desk told = closed_adds task Again post desk told
@@ -232,7 +236,7 @@ deciding_by_adds kept post desk told (Some answer) = clearing_adds (Changes kept
 deciding_by_adds kept post desk told None = out_adds _ _ _ _
 
 deciding_adds : (kept : ChangeKept) (post : Post) (desk : Desk) (told : List Event) → Adds post told (alters.deciding kept post desk told)
-deciding_adds kept post desk told = deciding_by_adds kept post desk told (alters.refusal post.layout.config kept.version kept.pairs kept.change)
+deciding_adds kept post desk told = deciding_by_adds kept post desk told (alters.refused post.layout.config kept)
 
 reading_adds : (kept : ChangeKept) (slot count : ℕ) (post : Post) (desk : Desk) (more : Bool) → Adds post [] (alters.reading kept slot count post desk more)
 reading_adds kept slot count post desk true = out_adds _ _ _ _
@@ -296,12 +300,69 @@ dequeue_adds (TakeNumber head next) post desk found = out_adds _ _ _ _
 dequeue_adds (TakeValue head next number) post desk found = out_adds _ _ _ _
 dequeue_adds (ExchangeHead head next number value) post desk found = taken_adds head next number value post desk (found == head + 1)
 
+-- a turn that leaves this post, and tells just this besides the end of its call
+pub record Just (left : Post) (events : List Event) (t : CallTurn) : Type 0 where
+  pub post : t.post ≡ left
+  pub told : t.told ≡ events
+
+pub end_plain : (post : Post) (outcome : CallOutcome) → Plain (told_end post outcome)
+end_plain post (GoesOn phase) = record { later = refl; clears = λ j s. refl; stands = λ x j. refl }
+end_plain post (calls.Answers answer) = record { later = refl; clears = λ j s. refl; stands = λ x j. refl }
+
+just_adds : (post : Post) (told : List Event) (t : CallTurn) → Just post told t → Adds post told t
+just_adds post told t x =
+    let e : Plain (told_end t.post t.outcome) = end_plain t.post t.outcome in
+    record {
+      more = told_end t.post t.outcome;
+      is = ap (λ (xs : List Event). xs ++ told_end t.post t.outcome) x.told;
+      later = e.later;
+      clears = λ j s h. no_truth_2 (sym (e.clears j s) ∙ h);
+      stands = λ j. ap (λ (p : Post). stands p j) x.post ∙ sym (e.stands (stands post j) j);
+    }
+
+-- what is let go, copied or looked at
+copied_just : (from index : ℕ) (post : Post) (desk : Desk) (reserved : List Event) (x : Option ℕ) → Just (copied_post index post x) (copied_told from index post reserved x) (keeps.copied from index post desk reserved x)
+copied_just from index post desk reserved None = record { post = refl; told = refl }
+copied_just from index post desk reserved (Some slot) = record { post = refl; told = refl }
+
+load_held_just : (from index : ℕ) (post : Post) (desk : Desk) (found : ℕ) (one : Bool)
+    → Just (if one then copied_post index post (stands post from) else post) (if one then copied_told from index post [] (stands post from) else []) (keeps.load_held from index post desk found one)
+load_held_just from index post desk found true = copied_just from index post desk [] (stands post from)
+load_held_just from index post desk found false = record { post = refl; told = refl }
+
+looking_just : (index key slot version count : ℕ) (post : Post) (desk : Desk) (more : Bool) (pair : ℕ) → Just post [] (keeps.looking index key slot version count post desk more pair)
+looking_just index key slot version count post desk true pair = record { post = refl; told = refl }
+looking_just index key slot version count post desk false pair = record { post = refl; told = refl }
+
+looked_key_just : (index key slot version count pair : ℕ) (post : Post) (desk : Desk) (own : Bool) → Just post [] (keeps.looked_key index key slot version count pair post desk own)
+looked_key_just index key slot version count pair post desk true = record { post = refl; told = refl }
+looked_key_just index key slot version count pair post desk false = looking_just index key slot version count post desk (nat_lt (pair + 1) count) (pair + 1)
+
+look_just : (index key : ℕ) (at : GetAt) (post : Post) (desk : Desk) (found : ℕ) → Just post [] (keeps.look_turn index key at post desk found)
+look_just index key (FindVersion slot) post desk found = record { post = refl; told = refl }
+look_just index key (FindCount slot version) post desk found = looking_just index key slot version found post desk (nat_lt 0 found) 0
+look_just index key (FindKey slot version count pair) post desk found = looked_key_just index key slot version count pair post desk (found == key)
+look_just index key (FindValue slot version pair) post desk found = record { post = refl; told = refl }
+
+let_go_just : (let_go : LetGo) (post : Post) (desk : Desk) (told : List Event) → Just post told (keeps.released let_go post desk told)
+let_go_just Released post desk told = record { post = refl; told = refl }
+let_go_just (Rehold key) post desk told = record { post = refl; told = refl }
+let_go_just (Dropped index) post desk told = record { post = refl; told = refl }
+
+pub keep_just : (at : KeepAt) (post : Post) (desk : Desk) (found : ℕ) → Just (keep_post at post) (keep_told at post) (keeps.keep_turn at post desk found)
+keep_just (Loosens let_go) post desk found = let_go_just let_go (withdrawn post (let_index let_go)) desk (cleared (let_index let_go) (stands post (let_index let_go)))
+keep_just (LoadHeld from index) post desk found = load_held_just from index post desk found (has_one_interval (scheme_of post))
+keep_just (StoreHeld from index era) post desk found = copied_just from index post desk (reserves_index post index era) (stands post from)
+keep_just (Looks index key at) post desk found = look_just index key at post desk found
+keep_just (Misses index) post desk found = record { post = refl; told = refl }
+
 -- a step of a call's own
-pub work_adds : (work : Work) (post : Post) (desk : Desk) (found : ℕ) → Adds post [] (steps.work_turn work post desk found)
+pub work_adds : (work : Work) (post : Post) (desk : Desk) (found : ℕ) → Adds (work_post work post) (work_told work post) (steps.work_turn work post desk found)
 work_adds (Getting key at) post desk found = get_adds key at post desk found
 work_adds (Changing kept at) post desk found = change_adds kept at post desk found
 work_adds (Enqueuing kept at) post desk found = enqueue_adds kept at post desk found
 work_adds (Dequeuing at) post desk found = dequeue_adds at post desk found
+work_adds (Keeping at) post desk found = just_adds (keep_post at post) (keep_told at post) (keeps.keep_turn at post desk found) (keep_just at post desk found)
 
 opened_row_adds : (task : Task) (slot : ℕ) (post : Post) (desk : Desk) (told : List Event) → Adds post told (steps.opened_row task slot post desk told)
 opened_row_adds (Gets key) slot post desk told = out_adds _ _ _ _
@@ -386,10 +447,6 @@ advanced_adds (Followed end) post desk told = out_adds _ _ _ _
 advanced_adds (Allocated end) post desk told = out_adds _ _ _ _
 advanced_adds (Retired life) post desk told = out_adds _ _ _ _
 
-released_adds : (key : Option ℕ) (post : Post) (desk : Desk) (told : List Event) → Adds post told (steps.released key post desk told)
-released_adds None post desk told = out_adds _ _ _ _
-released_adds (Some key) post desk told = out_adds _ _ _ _
-
 -- what comes after a machine
 pub resume_adds : (why : Why) (ending : Ending) (post : Post) (desk : Desk) (told : List Event) → Adds post told (steps.resume why ending post desk told)
 resume_adds (Opens task) ending post desk told = opened_adds task ending post desk told
@@ -402,4 +459,4 @@ resume_adds (GivesUp answer) ending post desk told = out_adds _ _ _ _
 resume_adds (Retires answer) ending post desk told = retired_by_adds answer ending post desk told
 resume_adds (Tidies later) ending post desk told = tidied_adds later ending post desk told
 resume_adds Advances ending post desk told = advanced_adds ending post desk told
-resume_adds (Releases key) ending post desk told = released_adds key post desk told
+resume_adds (Releases let_go) ending post desk told = just_adds post told (keeps.released let_go post desk told) (let_go_just let_go post desk told)

@@ -6,7 +6,6 @@ use Rattle.inv_handover.specs.covers.model.Machine as machine
 use Rattle.inv_handover.specs.covers.model.Allocate.{after_claim_slot, is_claimed, walk_past, walking}
 use Rattle.inv_handover.specs.covers.model.Calls.{Phase, Why}
 use Rattle.inv_handover.specs.covers.model.Calls.Phase.{Idle, Runs, Scans, Works}
-use Rattle.inv_handover.specs.covers.model.Calls.Why.{Releases}
 use Rattle.inv_handover.specs.covers.model.Locals.{Local, after, begun}
 use Rattle.inv_handover.specs.covers.model.Memory.{upd}
 use Rattle.inv_handover.specs.covers.model.Phases.{Base, Outcome, RowOf, Walk, ends, goes}
@@ -15,34 +14,29 @@ use Rattle.inv_handover.specs.covers.model.Phases.Base.{Allocate, Begin, Clear, 
 use Rattle.inv_handover.specs.covers.model.Phases.Ending.{Allocated, Done}
 use Rattle.inv_handover.specs.covers.model.Phases.Outcome.{Ends, Goes}
 use Rattle.inv_handover.specs.covers.model.Posts.{counted}
-use Rattle.inv_handover.specs.covers.model.Rounds.{release_base, scheme_of}
 use Rattle.inv_handover.specs.covers.model.World.{begin, finds, step}
 use Rattle.inv_handover.specs.covers.model.WriteRow.{last_written}
 use Rattle.inv_handover.specs.covers.model.declared.post.Post.{Post}
 use Rattle.inv_handover.proofs.covers.shapes.Frame.{after_seated, begin_begins, begin_stays, begun_seated, moves_with, seat_stays, seat_steps}
 use Rattle.inv_handover.proofs.covers.shapes.Inside.{shape_moves}
-use Rattle.inv_handover.proofs.covers.shapes.Kept.{begun_fits, counted_fits, one_moves, run_counted}
+use Rattle.inv_handover.proofs.covers.shapes.Kept.{begun_fits, counted_fits, one_moves, run_counted, work_counted}
 use Rattle.inv_handover.proofs.covers.shapes.Shapes.{shape_grows}
 use Rattle.inv_handover.specs.covers.shapes.Frame.{Grows, Moves, Onward, Owes, Passed, Seated}
 use Rattle.inv_handover.specs.covers.shapes.Seats.{PhaseFits, PostFits, Run, fills, kind_of}
 use Rattle.inv_ends.proofs.Walks.Seen.{OnSeen, begins_seen, more_seen, past_seen}
 use Rattle.inv_ends.specs.Walks.{FullSeen, WalkBase, WalkPhase, WalkSeen, WalkingBegin, WalkingKept, WalkingStart, seen_after, seen_base, seen_in}
-use Rattle.inv_handover.specs.covers.words.declared.config.SchemeKind.{SchemeKind}
 use Rattle.inv_handover.specs.covers.words.Place.{is_valid}
 use Rattle.inv_handover.specs.covers.words.declared.layout.Layout.{Layout}
 use Rattle.std.specs.Prelude.{[], Option, Some, None, if◌then◌else◌, ◌==◌}
-use Rattle.inv_ends.proofs.Told.Births.{apart}
+use Rattle.inv_ends.proofs.Told.Births.{apart, each_stores}
 use Rattle.inv_handover.proofs.covers.model.Facts.{no_truth_2}
-use Rattle.inv_handover.proofs.covers.model.Schemes.{each_release}
 
 -- where a call comes to by no step of a machine there is no walk that has begun
-release_walks : (slots : ℕ) (seen : ℕ → Bool) (key : Option ℕ) (scheme : SchemeKind) → WalkPhase slots seen (Runs (Releases key) (release_base scheme))
-release_walks slots seen key scheme = each_release scheme (λ (base : Base). WalkPhase slots seen (Runs (Releases key) base)) tt tt
-
 walk_grows : (layout : Layout) (k : ℕ) (seen : ℕ → Bool) → is_valid layout ≡ true → Grows (PostFits layout k) (λ post phase. WalkPhase layout.config.slots seen phase)
 walk_grows layout k seen v = let g = shape_grows layout k v in record {
   guarded = g.guarded;
   withdraws = g.withdraws;
+  copies = g.copies;
   idle = λ post q. tt;
   begins = λ post task s e q. tt;
   opens = λ post task s q. tt;
@@ -56,10 +50,11 @@ walk_grows layout k seen v = let g = shape_grows layout k v in record {
   retires = λ post answer slot q. tt;
   tidies = λ post later q. tt;
   advances = λ post q. tt;
-  releases = λ post key q. release_walks layout.config.slots seen key (scheme_of post);
+  clears_kept = λ post let_go s q. tt;
+  releases = λ post let_go s e q. tt;
   scans = λ post later number b q. tt;
   gives_back = λ post later place slot q. tt;
-  works = λ post work s q. tt;
+  works = λ post work n s q. tt;
 }
 
 -- a machine that fills no row goes on to none that does
@@ -69,7 +64,7 @@ other_base layout why (Protect aim index root steps at) post seen f r = tt
 other_base layout why (Reload parent index slot era steps) post seen f r = tt
 other_base layout why (Clear index) post seen f r = tt
 other_base layout why Finish post seen f r = tt
-other_base layout why Release post seen f r = tt
+other_base layout why (Release index) post seen f r = tt
 other_base layout why (Allocate at) post seen f r = no_truth_2 (sym f ∙ r.suited)
 other_base layout why base post seen f r = tt
 
@@ -109,7 +104,7 @@ base_on layout k why (Protect aim index root steps at) post found seen q r x h =
 base_on layout k why (Reload parent index slot era steps) post found seen q r x h = other_on layout why _ (machine.after (Reload parent index slot era steps) post found).outcome seen (apart (Reload parent index slot era steps) (kind_of why) refl r.suited) h
 base_on layout k why (Clear index) post found seen q r x h = tt
 base_on layout k why Finish post found seen q r x h = tt
-base_on layout k why Release post found seen q r x h = tt
+base_on layout k why (Release index) post found seen q r x h = tt
 base_on layout k why (Allocate LoadBirth) post found seen q r x h = rw q.layout (begins_seen layout.config.slots post.cursor (λ s. false) q.cursor)
 base_on layout k why (Allocate (ClaimSlot birth walk)) post found seen q r x h = claim_in layout why birth walk post post found seen q.layout x
 base_on layout k why (Allocate (StoreLife birth slot)) post found seen q r x h = tt
@@ -125,7 +120,8 @@ owed layout k v (Runs why base) post found seen q p x =
     let m : Moves (PostFits layout k) (PhaseFits layout) why (machine.after base (counted post) found) = shape_moves layout k v why base (counted post) found (counted_fits layout k post q) (run_counted layout why base post p) in
     moves_with why (machine.after base (counted post) found) m (record { post = m.post; phase = base_on layout k why base (counted post) found seen (counted_fits layout k post q) (run_counted layout why base post p) x m.phase })
 owed layout k v (Scans later at) post found seen q p x = counted_fits layout k post q
-owed layout k v (Works work) post found seen q p x = record { post = counted_fits layout k post q; span = p }
+owed layout k v (Works work) post found seen q p x =
+    record { post = counted_fits layout k post q; fits = work_counted work post p; stores = each_stores (λ p q. WalkPhase layout.config.slots seen q) (λ p from index era. tt) (counted post) found work }
 
 -- the seat that steps, and the others
 abbrev SeatWalks : ℕ → (ℕ → ℕ → Bool) → ℕ → Local → Type 0

@@ -12,7 +12,6 @@ use Rattle.inv_handover.specs.covers.words.declared.packed.Request.TheVariants a
 use Rattle.inv_handover.proofs.covers.model.Ranges.{bounds_of}
 use Rattle.inv_handover.specs.covers.model.Calls.{Phase, Why}
 use Rattle.inv_handover.specs.covers.model.Calls.Phase.{Idle, Runs, Scans, Works}
-use Rattle.inv_handover.specs.covers.model.Calls.Why.{Releases}
 use Rattle.inv_handover.specs.covers.model.Links.{root_at}
 use Rattle.inv_handover.specs.covers.model.Locals.{Local, after, begun}
 use Rattle.inv_handover.specs.covers.model.Machine.{base_move, move_move, move_turn}
@@ -24,7 +23,6 @@ use Rattle.inv_handover.specs.covers.model.Phases.Ending.{Clocked}
 use Rattle.inv_handover.specs.covers.model.Phases.MoveAt.{AnswerAsked, CheckEra, ExchangeClock, HandOver, HideEra, HideLate, LoadAsked, LoadEra, LoadRequest, LoadReserved, ShowEra}
 use Rattle.inv_handover.specs.covers.model.Phases.Outcome.{Ends, Goes}
 use Rattle.inv_handover.specs.covers.model.Posts.{counted, tag_of}
-use Rattle.inv_handover.specs.covers.model.Rounds.{release_base, scheme_of}
 use Rattle.inv_handover.specs.covers.model.SlowPath.{asking}
 use Rattle.inv_handover.specs.covers.model.Steps.{phase_move}
 use Rattle.inv_handover.specs.covers.model.World.{World, begin, finds, step}
@@ -33,7 +31,7 @@ use Rattle.inv_handover.specs.covers.defs.declared.call.Call.{Call}
 use Rattle.inv_handover.specs.covers.defs.declared.event.Root.{Root}
 use Rattle.inv_handover.proofs.covers.shapes.Frame.{after_seated, begin_begins, begin_stays, begun_seated, moves_with, seat_stays, seat_steps}
 use Rattle.inv_handover.proofs.covers.shapes.Inside.{shape_moves}
-use Rattle.inv_handover.proofs.covers.shapes.Kept.{begun_fits, counted_fits, one_moves, run_counted}
+use Rattle.inv_handover.proofs.covers.shapes.Kept.{begun_fits, counted_fits, one_moves, run_counted, work_counted}
 use Rattle.inv_handover.proofs.covers.shapes.Shapes.{shape_grows}
 use Rattle.inv_handover.specs.covers.shapes.Frame.{Grows, Moves, Onward, Owes, Passed, Seated}
 use Rattle.inv_handover.specs.covers.shapes.Seats.{Kind, PhaseFits, PostFits, Run, kind_of, suits}
@@ -46,18 +44,17 @@ use Rattle.inv_handover.specs.requests.NextDeals.{next_deals}
 use Rattle.inv_handover.specs.requests.Standing.{request_of}
 use Rattle.inv_handover.specs.requests.Views.{Deal, View, Deal as dealing}
 use Rattle.inv_handover.specs.requests.Views.Deal.{Answered, Open, Quiet, Taken}
+use Rattle.inv_ends.proofs.Told.Births.{each_stores}
 use Rattle.inv_ends.proofs.Walks.Over.{hand_over, help_over, over_open, over_stays, read_over}
 use Rattle.inv_ends.specs.Moves.{AtRequest, BaseMet, MeetingBegin, MeetingKept, MeetingNeeds, MeetingStart, MetAnswered, MetOpen, MoveMet, Past, PhaseMet, done_at, met_after, met_at, met_base, met_in, met_of, open_at, over_in}
 use Rattle.inv_handover.specs.covers.words.Packed.{answered_word, pending_word, read_request, read_reservation}
 use Rattle.inv_handover.proofs.covers.words.Parts.{read_request-pending, read_request-answered}
 use Rattle.inv_handover.specs.covers.words.Place.{Place, is_valid}
 use Rattle.inv_handover.specs.covers.words.Place.Place.{Clock, Head, Index, Request}
-use Rattle.inv_handover.specs.covers.words.declared.config.SchemeKind.{SchemeKind}
 use Rattle.inv_handover.specs.covers.words.declared.layout.Layout.{Layout}
 use Rattle.std.specs.Prelude.{[], ◌∷◌, Option, Some, None, nat_lt, nat_le, if◌then◌else◌, ◌==◌, ◌&&◌, ◌||◌}
 use Rattle.inv_handover.proofs.requests.Serving.{read_idle}
 use Rattle.inv_handover.proofs.covers.model.Facts.{no_truth_2}
-use Rattle.inv_handover.proofs.covers.model.Schemes.{each_release}
 
 abbrev pub Known : Type 0
 Known = ℕ → ℕ → ℕ → Bool
@@ -88,7 +85,7 @@ base_more over next met seats (Protect aim index root steps at) f p = tt
 base_more over next met seats (Reload parent index slot era steps) f p = tt
 base_more over next met seats (Clear index) f p = tt
 base_more over next met seats Finish f p = tt
-base_more over next met seats Release f p = tt
+base_more over next met seats (Release index) f p = tt
 base_more over next met seats (Allocate at) f p = tt
 base_more over next met seats (Write slot row place) f p = tt
 base_more over next met seats (GiveUp slot) f p = tt
@@ -102,13 +99,11 @@ phase_more over next met seats (Scans later at) f p = tt
 phase_more over next met seats (Works work) f p = tt
 
 -- where a call comes to by no step of a machine no mover has loaded its era
-release_met : (over met : Known) (seats : ℕ) (key : Option ℕ) (scheme : SchemeKind) → PhaseMet over met seats (Runs (Releases key) (release_base scheme))
-release_met over met seats key scheme = each_release scheme (λ (base : Base). PhaseMet over met seats (Runs (Releases key) base)) tt tt
-
 met_grows : (layout : Layout) (i : ℕ) (over met : Known) → is_valid layout ≡ true → Grows (PostFits layout i) (λ post phase. PhaseMet over met layout.config.seats phase)
 met_grows layout i over met v = let g = shape_grows layout i v in record {
   guarded = g.guarded;
   withdraws = g.withdraws;
+  copies = g.copies;
   idle = λ post q. tt;
   begins = λ post task s e q. tt;
   opens = λ post task s q. tt;
@@ -122,10 +117,11 @@ met_grows layout i over met v = let g = shape_grows layout i v in record {
   retires = λ post answer slot q. tt;
   tidies = λ post later q. tt;
   advances = λ post q. tt;
-  releases = λ post key q. release_met over met layout.config.seats key (scheme_of post);
+  clears_kept = λ post let_go s q. tt;
+  releases = λ post let_go s e q. tt;
   scans = λ post later number b q. tt;
   gives_back = λ post later place slot q. tt;
-  works = λ post work s q. tt;
+  works = λ post work n s q. tt;
 }
 
 -- a machine that does not move the clock goes on to none that does
@@ -135,7 +131,7 @@ other_base layout over met why (Protect aim index root steps at) post f r = tt
 other_base layout over met why (Reload parent index slot era steps) post f r = tt
 other_base layout over met why (Clear index) post f r = tt
 other_base layout over met why Finish post f r = tt
-other_base layout over met why Release post f r = tt
+other_base layout over met why (Release index) post f r = tt
 other_base layout over met why (Allocate at) post f r = tt
 other_base layout over met why (Write slot row place) post f r = tt
 other_base layout over met why (GiveUp slot) post f r = tt
@@ -167,7 +163,7 @@ apart (Protect aim index root steps at) ToMove n s = sym s
 apart (Reload parent index slot era steps) ToMove n s = sym s
 apart (Clear index) ToMove n s = sym s
 apart Finish ToMove n s = sym s
-apart Release ToMove n s = sym s
+apart (Release index) ToMove n s = sym s
 apart (Allocate at) ToMove n s = sym s
 apart (Write slot row place) ToMove n s = sym s
 apart (GiveUp slot) ToMove n s = sym s
@@ -292,7 +288,7 @@ base_on layout k over met mem why (Protect aim index root steps at) post last l 
 base_on layout k over met mem why (Reload parent index slot era steps) post last l n r p h = other_on layout over met why _ (machine.after (Reload parent index slot era steps) post (mem Head)).outcome (apart (Reload parent index slot era steps) (kind_of why) refl r.suited) h
 base_on layout k over met mem why (Clear index) post last l n r p h = tt
 base_on layout k over met mem why Finish post last l n r p h = tt
-base_on layout k over met mem why Release post last l n r p h = tt
+base_on layout k over met mem why (Release index) post last l n r p h = tt
 base_on layout k over met mem why (Allocate at) post last l n r p h = other_on layout over met why _ (machine.after (Allocate at) post (found (base_move (Allocate at) last) (mem (place_in (base_move (Allocate at) last))))).outcome (apart (Allocate at) (kind_of why) refl r.suited) h
 base_on layout k over met mem why (Write slot row place) post last l n r p h = other_on layout over met why _ (machine.after (Write slot row place) post (found (base_move (Write slot row place) last) (mem (place_in (base_move (Write slot row place) last))))).outcome (apart (Write slot row place) (kind_of why) refl r.suited) h
 base_on layout k over met mem why (GiveUp slot) post last l n r p h = tt
@@ -310,7 +306,9 @@ phase_owed layout k over met mem v (Runs why base) post n q p x =
     let m : Moves (PostFits layout k) (PhaseFits layout) why (machine.after base (counted post) f) = shape_moves layout k v why base (counted post) f (counted_fits layout k post q) (run_counted layout why base post p) in
     moves_with why (machine.after base (counted post) f) m (record { post = m.post; phase = base_on layout k over met mem why base (counted post) post q.layout (λ at e. n why at (ap (Runs why) e)) (run_counted layout why base post p) x m.phase })
 phase_owed layout k over met mem v (Scans later at) post n q p x = counted_fits layout k post q
-phase_owed layout k over met mem v (Works work) post n q p x = record { post = counted_fits layout k post q; span = p }
+phase_owed layout k over met mem v (Works work) post n q p x =
+    let f : ℕ = found (phase_move (Works work) post) (mem (place_in (phase_move (Works work) post))) in
+    record { post = counted_fits layout k post q; fits = work_counted work post p; stores = each_stores (λ p q. PhaseMet over met layout.config.seats q) (λ p from index era. tt) (counted post) f work }
 
 -- what the part on requests gives a mover that passes a seat
 passes_of : (w : World) (i : ℕ) (z : View) → MeetingNeeds w i z → (why : Why) (at : MoveAt) → (w.seat i).phase ≡ Runs why (Move at) → Passes (over_in w z.deal) w.mem (w.seat i).post.layout at
@@ -431,7 +429,7 @@ base_met w i z met k t j (Protect aim index root steps at) post a f h = no_truth
 base_met w i z met k t j (Reload parent index slot era steps) post a f h = no_truth_2 (sym f ∙ h)
 base_met w i z met k t j (Clear index) post a f h = no_truth_2 (sym f ∙ h)
 base_met w i z met k t j Finish post a f h = no_truth_2 (sym f ∙ h)
-base_met w i z met k t j Release post a f h = no_truth_2 (sym f ∙ h)
+base_met w i z met k t j (Release index) post a f h = no_truth_2 (sym f ∙ h)
 base_met w i z met k t j (Allocate at) post a f h = no_truth_2 (sym f ∙ h)
 base_met w i z met k t j (Write slot row place) post a f h = no_truth_2 (sym f ∙ h)
 base_met w i z met k t j (GiveUp slot) post a f h = no_truth_2 (sym f ∙ h)

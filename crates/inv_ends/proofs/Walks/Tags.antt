@@ -37,7 +37,7 @@ use Rattle.inv_handover.specs.covers.defs.declared.event.Event.{Event}
 use Rattle.inv_handover.specs.covers.defs.declared.event.Root.{Root}
 use Rattle.inv_handover.proofs.covers.shapes.Frame.{after_seated, moves_with, seat_stays, seat_steps}
 use Rattle.inv_handover.proofs.covers.shapes.Inside.{shape_moves}
-use Rattle.inv_handover.proofs.covers.shapes.Kept.{counted_fits, run_counted}
+use Rattle.inv_handover.proofs.covers.shapes.Kept.{counted_fits, run_counted, work_counted}
 use Rattle.inv_handover.proofs.covers.shapes.Shapes.{shape_grows}
 use Rattle.inv_handover.specs.covers.shapes.Frame.{Grows, Moves, Onward, Owes, Seated}
 use Rattle.inv_handover.specs.covers.shapes.Seats.{PhaseFits, PostFits, Run, Seats}
@@ -45,6 +45,7 @@ use Rattle.inv_handover.specs.covers.words.Packed.{read_reservation}
 use Rattle.inv_handover.specs.covers.words.Place.{is_valid}
 use Rattle.inv_handover.specs.covers.words.declared.layout.Layout.{Layout}
 use Rattle.inv_ends.proofs.Ends.Stood.{at_below}
+use Rattle.inv_ends.proofs.Told.Births.{each_stores}
 use Rattle.inv_handover.proofs.covers.model.Facts.{set_there, no_truth_2}
 
 -- the step takes an answer
@@ -146,7 +147,7 @@ base_tags (Begin (PublishSpan era)) post found k = refl
 base_tags (Reload parent index slot era steps) post found k = reload_tags post index slot (bump steps) found (found == parent + 1)
 base_tags (Clear index) post found k = refl
 base_tags Finish post found k = refl
-base_tags Release post found k = refl
+base_tags (Release index) post found k = refl
 base_tags (Allocate LoadBirth) post found k = refl
 base_tags (Allocate (ClaimSlot birth walk)) post found k = claim_tags birth walk post found (is_claimed found walk.slot) refl
 base_tags (Allocate (StoreLife birth slot)) post found k = refl
@@ -173,6 +174,7 @@ tags_grow : (layout : Layout) (i : ℕ) (tags : List ℕ) → is_valid layout �
 tags_grow layout i tags v = let g = shape_grows layout i v in record {
   guarded = λ post q. g.guarded post q.fits;
   withdraws = λ post index s q. record { fits = g.withdraws post index s q.fits; kept = q.kept };
+  copies = λ post index slot q. record { fits = g.copies post index slot q.fits; kept = q.kept };
   idle = λ post q. tt;
   begins = λ post task s e q. tt;
   opens = λ post task s q. tt;
@@ -186,10 +188,11 @@ tags_grow layout i tags v = let g = shape_grows layout i v in record {
   retires = λ post answer slot q. tt;
   tidies = λ post later q. tt;
   advances = λ post q. tt;
-  releases = λ post key q. tt;
+  clears_kept = λ post let_go s q. tt;
+  releases = λ post let_go s e q. tt;
   scans = λ post later number b q. tt;
   gives_back = λ post later place slot q. tt;
-  works = λ post work s q. tt;
+  works = λ post work n s q. tt;
 }
 
 tags_owed : (layout : Layout) (i : ℕ) → is_valid layout ≡ true → (phase : Phase) (post : Post) (found : ℕ) → takes_in phase ≡ false → PostFits layout i post → PhaseFits layout post phase → Owes (Tagged layout i post.tags) Any (counted post) found phase
@@ -198,7 +201,8 @@ tags_owed layout i v (Runs why base) post found k q p =
     let m : Moves (PostFits layout i) (PhaseFits layout) why (machine.after base (counted post) found) = shape_moves layout i v why base (counted post) found (counted_fits layout i post q) (run_counted layout why base post p) in
     moves_with why (machine.after base (counted post) found) m (record { post = record { fits = m.post; kept = base_tags base (counted post) found k }; phase = any_on why (machine.after base (counted post) found).post (machine.after base (counted post) found).outcome })
 tags_owed layout i v (Scans later at) post found k q p = record { fits = counted_fits layout i post q; kept = refl }
-tags_owed layout i v (Works work) post found k q p = record { post = record { fits = counted_fits layout i post q; kept = refl }; span = p }
+tags_owed layout i v (Works work) post found k q p =
+    record { post = record { fits = counted_fits layout i post q; kept = refl }; fits = work_counted work post p; stores = each_stores Any (λ p from index era. tt) (counted post) found work }
 
 pub tags_kept : (w : World) (i : ℕ) → is_valid w.layout ≡ true → Seats w → takes_in (w.seat i).phase ≡ false → ((step w i).seat i).post.tags ≡ (w.seat i).post.tags
 tags_kept w i v s k =
@@ -244,7 +248,7 @@ kept_rises w i j v s k = let t : tag_of ((step w i).seat i).post j ≡ tag_of (w
 pub take_below : (w : World) (i : ℕ) (why : Why) (aim : Aim) (index : ℕ) (root : Root) (steps link era : ℕ) → Seats w → (w.seat i).phase ≡ Runs why (Protect aim index root steps (TakeAnswer link era)) → index < length (w.seat i).post.tags
 take_below w i why aim index root steps link era s e =
     let r : Run w.layout why (Protect aim index root steps (TakeAnswer link era)) (w.seat i).post = subst (PhaseFits w.layout (w.seat i).post) e (s.fits i).phase in
-    at_below why index (length (w.seat i).post.tags) r.shape.at (s.fits i).post.tags
+    at_below why index (length (w.seat i).post.tags) r.suited r.shape.at (s.fits i).post.tags
 
 phase_rises : (w : World) (i j : ℕ) (phase : Phase) → is_valid w.layout ≡ true → Seats w → (w.seat i).phase ≡ phase → tag_of (w.seat i).post j ≤ tag_of ((step w i).seat i).post j
 phase_rises w i j Idle v s e = kept_rises w i j v s (ap takes_in e)
@@ -269,7 +273,7 @@ phase_rises w i j (Runs why (Begin at)) v s e = kept_rises w i j v s (ap takes_i
 phase_rises w i j (Runs why (Reload parent index slot era steps)) v s e = kept_rises w i j v s (ap takes_in e)
 phase_rises w i j (Runs why (Clear index)) v s e = kept_rises w i j v s (ap takes_in e)
 phase_rises w i j (Runs why Finish) v s e = kept_rises w i j v s (ap takes_in e)
-phase_rises w i j (Runs why Release) v s e = kept_rises w i j v s (ap takes_in e)
+phase_rises w i j (Runs why (Release index)) v s e = kept_rises w i j v s (ap takes_in e)
 phase_rises w i j (Runs why (Allocate at)) v s e = kept_rises w i j v s (ap takes_in e)
 phase_rises w i j (Runs why (Write slot row place)) v s e = kept_rises w i j v s (ap takes_in e)
 phase_rises w i j (Runs why (GiveUp slot)) v s e = kept_rises w i j v s (ap takes_in e)

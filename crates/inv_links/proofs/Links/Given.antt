@@ -1,8 +1,8 @@
 -- What tracked links give to the contents of rows and to the queue.
-use Rattle.std.proofs.Common.{ℕ, ◌≡◌, ◌<◌, ◌+◌, ◌-◌, ◌%◌, Bool, true, Some, arith, refl, ap, subst}
+use Rattle.std.proofs.Common.{ℕ, ◌≡◌, ◌<◌, ◌+◌, ◌-◌, ◌%◌, ◌∙◌, Bool, true, Some, arith, refl, sym, ap, subst}
 use Rattle.std.proofs.lemmas.Bool.Decides.{nat_tests}
 use Rattle.std.specs.Prelude.{◌==◌, ◌&&◌, ◌||◌, not}
-use Rattle.inv_covers.specs.words.Place.Place.{Row}
+use Rattle.inv_covers.specs.words.Place.Place.{Clock, Row}
 use Rattle.inv_covers.specs.words.Packed.{read_request}
 use Rattle.inv_covers.specs.words.declared.packed.Request.TheVariants as requests
 use Rattle.inv_covers.specs.defs.declared.event.Root.{Root}
@@ -10,13 +10,16 @@ use Rattle.inv_covers.specs.defs.declared.event.Root.TheVariants as roots
 use Rattle.inv_covers.specs.model.declared.ends.ProtectEnd.TheVariants as protect_ends
 use Rattle.inv_covers.specs.model.Book.{Book}
 use Rattle.inv_covers.specs.model.Machine.{after}
-use Rattle.inv_covers.specs.model.Posts.{counted}
+use Rattle.inv_covers.specs.model.Posts.{counted, upper}
 use Rattle.inv_covers.specs.model.Phases.{Aim, ProtectAt, Base, Ends, Protected}
+use Rattle.inv_covers.specs.model.Phases.ProtectAt.{CheckClock, CheckUpper, TakeAnswer}
 use Rattle.inv_covers.specs.model.Phases.Base.{Protect}
-use Rattle.inv_covers.specs.model.Calls.{Gets, Changes, Why, Opens, FollowsHead, Runs}
+use Rattle.inv_covers.specs.model.Calls.{Gets, Changes, Holds, Why, Opens, FollowsHead, Phase, Runs}
 use Rattle.inv_covers.specs.model.World.{World, finds}
-use Rattle.inv_covers.proofs.model.Facts.{first_of, rest_of, one_more_less}
+use Rattle.inv_covers.specs.model.declared.post.Post.{Post}
+use Rattle.inv_covers.proofs.model.Facts.{both, first_of, rest_of, one_more_less}
 use Rattle.inv_covers.specs.shapes.Seats.{root_by}
+use Rattle.inv_requests.specs.Parents.{rises_at}
 use Rattle.inv_requests.specs.Views.{View as Asking}
 use Rattle.inv_covers.specs.rows.Rows.{View}
 use Rattle.inv_covers.specs.rows.Chain.{queue_of}
@@ -24,9 +27,9 @@ use Rattle.inv_covers.specs.rows.Follow.{at_asks}
 use Rattle.inv_covers.specs.rows.Queue.{Line}
 use Rattle.inv_covers.specs.rows.Tries.{is_tail, is_head, FromHead}
 use Rattle.inv_links.proofs.Origins.Came.{aimed_at}
-use Rattle.inv_links.proofs.Origins.Ends.{end_tracked, end_root, answer_tracked}
+use Rattle.inv_links.proofs.Origins.Ends.{end_tracked, end_root, answer_tracked, found_clock}
 use Rattle.inv_links.specs.Origins.{OriginsNeeds}
-use Rattle.inv_links.specs.Tracked.{root_for}
+use Rattle.inv_links.specs.Tracked.{Carried, Tracked, carries_at, carries_in, root_for}
 use Rattle.inv_links.specs.Links.{is_bucket, links_to, Links, LinksGive}
 
 -- a link that is not null
@@ -75,10 +78,24 @@ held_link : (w : World) (i : ℕ) (v : View) (l : Line) (z : Asking) (why : Why)
 held_link w i v l z why base slot era n h q o =
     subst (λ (x : Root). links_to w.book w.mem v l x (slot + 1) ≡ true) (end_root w i why base (Protected (protect_ends.Held slot era)) (slot + 1) n.seats q o refl) (h.tracked i (slot + 1) (end_tracked w i z why base (Protected (protect_ends.Held slot era)) (slot + 1) q o refl))
 
+-- a row that comes to stand is that of a link that was tracked
+rises_carries : (post : Post) (at : ProtectAt) (found s : ℕ) → rises_at post at found s ≡ true → carries_at found (upper post.span) at (s + 1) ≡ true
+rises_carries post (CheckClock era tries link) found s h = both (link == s + 1) (found == era) (rest_of (found == era) (link == s + 1) h) (first_of (found == era) (link == s + 1) h)
+rises_carries post (TakeAnswer link era) found s h = h
+rises_carries post (CheckUpper link) found s h = both (link == s + 1) (found == upper post.span) (rest_of (found == upper post.span) (link == s + 1) h) (first_of (found == upper post.span) (link == s + 1) h)
+rises_carries post at found s h = absurd (cc)
+
+rising_link : (w : World) (i : ℕ) (v : View) (l : Line) (z : Asking) (why : Why) (aim : Aim) (index : ℕ) (root : Root) (steps : ℕ) (at : ProtectAt) (s : ℕ) → OriginsNeeds w i z → Links w v l z → (w.seat i).phase ≡ Runs why (Protect aim index root steps at) → rises_at (w.seat i).post at (finds w i) s ≡ true → links_to w.book w.mem v l (root_by w.layout.config.buckets why) (s + 1) ≡ true
+rising_link w i v l z why aim index root steps at s n h q r =
+    let c : carries_at (w.mem Clock) (upper (w.seat i).post.span) at (s + 1) ≡ true = found_clock w i why aim index root steps at (s + 1) q (rises_carries (w.seat i).post at (finds w i) s r) in
+    let t : Tracked w z i (s + 1) = Carried (subst (λ (f : Phase). carries_in (w.mem Clock) (upper (w.seat i).post.span) f (s + 1) ≡ true) (sym q) c) in
+    subst (λ (x : Root). links_to w.book w.mem v l x (s + 1) ≡ true) (ap root_for q ∙ (aimed_at w i why aim index root steps at n.seats q).of) (h.tracked i (s + 1) t)
+
 pub links_give : LinksGive
 links_give w i v l z n h = record {
   gets = λ key slot era base q o. bucket_link w.book (key % w.layout.config.buckets) slot (held_link w i v l z (Opens (Gets key)) base slot era n h q o);
   changes = λ kept slot era base q o. bucket_link w.book _ slot (held_link w i v l z (Opens (Changes kept)) base slot era n h q o);
+  holds = λ key aim index root steps at s q r. bucket_link w.book (key % w.layout.config.buckets) s (rising_link w i v l z (Opens (Holds key)) aim index root steps at s n h q r);
   answers = λ head tail aim index root steps at q link era a r p.
       next_link (w.mem (Row head 0)) link p (subst (λ (x : Root). links_to w.book w.mem v l x link ≡ true) (aimed_at w i (FollowsHead head tail) aim index root steps at n.seats q).of (answer_link w i v l z (FollowsHead head tail) aim index root steps at link era n h q a r));
   asks = λ task aim index root steps at link era s q a r e t. tail_link w v l root s t (subst (λ (x : ℕ). links_to w.book w.mem v l root x ≡ true) e (answer_link w i v l z (Opens task) aim index root steps at link era n h q a r));

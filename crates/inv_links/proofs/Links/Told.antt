@@ -3,6 +3,7 @@
 use Rattle.std.proofs.Common.{ℕ, ◌+◌, ◌≡◌, Bool, true, false, List, [], ◌∷◌, ◌++◌, length, Option, Some, None, arith, refl, ap}
 use Rattle.std.specs.Prelude.{◌==◌, ◌%◌, ◌-◌, ◌&&◌, ◌||◌, nat_lt, if◌then◌else◌}
 use Rattle.inv_covers.specs.words.Packed.{reservation_word}
+use Rattle.inv_covers.specs.words.Schemes.{has_one_interval}
 use Rattle.inv_covers.specs.words.declared.config.SchemeKind.{SchemeKind}
 use Rattle.inv_covers.specs.defs.declared.call.Answer.{Answer}
 use Rattle.inv_covers.specs.defs.declared.call.Answer.TheVariants as the_answers
@@ -26,13 +27,14 @@ use Rattle.inv_covers.specs.model.Desks.{Desk, with_life}
 use Rattle.inv_covers.specs.model.Enqueue as enqueues
 use Rattle.inv_covers.specs.model.Get as gets
 use Rattle.inv_covers.specs.model.Guards.{guard_at, guards, eras_in, published}
+use Rattle.inv_covers.specs.model.Keep as keeps
 use Rattle.inv_covers.specs.model.Machine as machine
 use Rattle.inv_covers.specs.model.Memory.{bump}
 use Rattle.inv_covers.specs.model.MoveClock as movers
 use Rattle.inv_covers.specs.model.Protect as protects
 use Rattle.inv_covers.specs.model.Scan as scan
 use Rattle.inv_covers.specs.model.Steps as steps
-use Rattle.inv_covers.specs.model.Posts.{stands, cleared, reserves_index, reserves_helper, reserves_span}
+use Rattle.inv_covers.specs.model.Posts.{stands, withdrawn, cleared, reserves_index, reserves_helper, reserves_span}
 use Rattle.inv_covers.specs.model.Phases.{Aim, Alone, Follows, BeginAt, ProtectAt, AllocateAt, RetireAt, MoveAt, Base, Walk, Turn, Outcome, Goes, Ends, Ending}
 use Rattle.inv_covers.specs.model.Phases.BeginAt.{LoadLower, PublishSpan}
 use Rattle.inv_covers.specs.model.Phases.ProtectAt.{LoadClock, PublishEra, LoadLink, CheckClock, PublishRequest, LoadOwnClock, PublishHelper, LoadOwnLink, CheckOwnClock, AnswerOwn, LoadAnswer, TakeAnswer, WithdrawRequest, WithdrawHelper, LoadWithin, CheckUpper, RaiseUpper}
@@ -41,8 +43,8 @@ use Rattle.inv_covers.specs.model.Phases.RetireAt.{LoadLife, LoadRetire, StoreRe
 use Rattle.inv_covers.specs.model.Phases.MoveAt.{LoadEra, LoadRequest, ShowEra, LoadAsked, CheckEra, AnswerAsked, LoadReserved, HandOver, HideEra, HideLate, ExchangeClock}
 use Rattle.inv_covers.specs.model.Phases.Base.{Begin, Protect, Reload, Clear, Finish, Release, Allocate, Write, GiveUp, Retire, Move}
 use Rattle.inv_covers.specs.model.Phases.Ending.{Done, Protected, Followed, Allocated, Retired, Clocked}
-use Rattle.inv_covers.specs.model.Rounds.{bucket_of, scheme_of, index_of, taken_of, clear_base, clear_post, clear_told, finish_base, finish_span, given_up, closed, finishing_by, finishing, clearing_by, clearing, clearing_next_by, clearing_next}
-use Rattle.inv_covers.specs.model.Calls.{Task, Gets, Changes, Holds, Enqueues, Dequeues, Next, Again, MakeRoom, Answering, Retiring, AfterScan, Answered, Repeated, Counted, ScanAt, ReadGuard, GiveBack, Why, Phase, Idle, Runs, Scans, Works, Work, Getting, Changing, Enqueuing, Dequeuing, ChangeKept, EnqueueKept, GetAt, FindVersion, FindCount, FindKey, FindValue, ChangeAt, LoadVersion, LoadCount, LoadKey, LoadValue, ExchangeRoot, EnqueueAt, LoadNumber, LoadNext, PassTail, ExchangeNext, ExchangeTail, DequeueAt, LoadTail, SwingTail, TakeNumber, TakeValue, ExchangeHead, Opens, FollowsHead, Fills, ClearsNext, Clears, Finishes, GivesUp, Retires, Tidies, Advances, Releases}
+use Rattle.inv_covers.specs.model.Rounds.{bucket_of, scheme_of, index_of, taken_of, clear_base, clear_post, clear_told, finish_base, finish_span, kept_row, let_index, given_up, closed, finishing_by, finishing, clearing_by, clearing, clearing_next_by, clearing_next}
+use Rattle.inv_covers.specs.model.Calls.{Task, Gets, Changes, Holds, Enqueues, Dequeues, Next, Again, MakeRoom, Answering, Retiring, AfterScan, Answered, Repeated, Counted, ScanAt, ReadGuard, GiveBack, Why, Phase, Idle, Runs, Scans, Works, Work, Getting, Changing, Enqueuing, Dequeuing, Keeping, KeepAt, Loosens, LoadHeld, StoreHeld, Looks, Misses, LetGo, Released, Rehold, Dropped, ChangeKept, EnqueueKept, GetAt, FindVersion, FindCount, FindKey, FindValue, ChangeAt, LoadVersion, LoadCount, LoadKey, LoadValue, ExchangeRoot, EnqueueAt, LoadNumber, LoadNext, PassTail, ExchangeNext, ExchangeTail, DequeueAt, LoadTail, SwingTail, TakeNumber, TakeValue, ExchangeHead, Opens, FollowsHead, Fills, ClearsNext, Clears, Finishes, GivesUp, Retires, Tidies, Advances, Releases}
 use Rattle.inv_covers.proofs.model.Facts.{first_of, rest_of, both}
 use Rattle.inv_covers.proofs.model.Schemes.{each_clear, each_clear_told, each_finish}
 use Rattle.inv_covers.specs.rows.Tries.{is_end}
@@ -150,7 +152,7 @@ base_in f (Protect aim index root steps at) post found = protect_in f aim index 
 base_in f (Reload parent index slot era steps) post found = grind arith
 base_in f (Clear index) post found = append_in f (cleared index (stands post index)) (reserves_index post index 0) (cleared_in f index (stands post index)) refl
 base_in f Finish post found = refl
-base_in f Release post found = append_in f (cleared 2 (stands post 2)) (reserves_span post None) (cleared_in f 2 (stands post 2)) refl
+base_in f (Release index) post found = append_in f (cleared index (stands post index)) (reserves_span post None) (cleared_in f index (stands post index)) refl
 base_in f (Allocate at) post found = allocate_in f at post found
 base_in f (Write slot row place) post found = grind arith
 base_in f (GiveUp slot) post found = refl
@@ -176,7 +178,7 @@ finishing_by_in : (f : ℕ → Bool) (task : Task) (next : Next) (post : Post) (
 finishing_by_in f task next post desk told scheme h =
     each_finish scheme post (λ (base : Option Base). links_in f (finishing_by task next post desk told base).told ≡ true)
     (closed_in f task next post desk told h)
-    (finish_in f task next post desk told (stands post 2) h)
+    (finish_in f task next post desk told (kept_row post) h)
 
 finishing_in : (f : ℕ → Bool) (task : Task) (next : Next) (post : Post) (desk : Desk) (told : List Event) → links_in f told ≡ true → links_in f (finishing task next post desk told).told ≡ true
 finishing_in f task Again post desk told h = closed_in f task Again post desk told h
@@ -228,7 +230,7 @@ deciding_by_in f kept post desk told (Some answer) h = clearing_in f (Changes ke
 deciding_by_in f kept post desk told None h = h
 
 deciding_in : (f : ℕ → Bool) (kept : ChangeKept) (post : Post) (desk : Desk) (told : List Event) → links_in f told ≡ true → links_in f (alters.deciding kept post desk told).told ≡ true
-deciding_in f kept post desk told h = deciding_by_in f kept post desk told (alters.refusal post.layout.config kept.version kept.pairs kept.change) h
+deciding_in f kept post desk told h = deciding_by_in f kept post desk told (alters.refused post.layout.config kept) h
 
 reading_in : (f : ℕ → Bool) (kept : ChangeKept) (slot count : ℕ) (post : Post) (desk : Desk) (more : Bool) → links_in f (alters.reading kept slot count post desk more).told ≡ true
 reading_in f kept slot count post desk true = refl
@@ -303,6 +305,43 @@ dequeue_in f (SwingTail head next) post desk found = clearing_next_in f Again po
 dequeue_in f (TakeNumber head next) post desk found = refl
 dequeue_in f (TakeValue head next number) post desk found = refl
 dequeue_in f (ExchangeHead head next number value) post desk found = taken_in f head next number value post desk (found == head + 1)
+
+-- the calls that work on what is kept
+released_in : (f : ℕ → Bool) (let_go : LetGo) (post : Post) (desk : Desk) (told : List Event) → links_in f told ≡ true → links_in f (keeps.released let_go post desk told).told ≡ true
+released_in f Released post desk told h = h
+released_in f (Rehold key) post desk told h = h
+released_in f (Dropped index) post desk told h = h
+
+copied_in : (f : ℕ → Bool) (from index : ℕ) (post : Post) (desk : Desk) (reserved : List Event) (x : Option ℕ) → links_in f reserved ≡ true → links_in f (keeps.copied from index post desk reserved x).told ≡ true
+copied_in f from index post desk reserved None h = refl
+copied_in f from index post desk reserved (Some slot) h =
+    append_in f (cleared index (stands post index) ++ reserved) (events.Copied from index slot ∷ []) (append_in f (cleared index (stands post index)) reserved (cleared_in f index (stands post index)) h) refl
+
+load_held_in : (f : ℕ → Bool) (from index : ℕ) (post : Post) (desk : Desk) (found : ℕ) (one : Bool) → links_in f (keeps.load_held from index post desk found one).told ≡ true
+load_held_in f from index post desk found true = copied_in f from index post desk [] (stands post from) refl
+load_held_in f from index post desk found false = refl
+
+looking_in : (f : ℕ → Bool) (index key slot version count : ℕ) (post : Post) (desk : Desk) (more : Bool) (pair : ℕ) → links_in f (keeps.looking index key slot version count post desk more pair).told ≡ true
+looking_in f index key slot version count post desk true pair = refl
+looking_in f index key slot version count post desk false pair = refl
+
+looked_key_in : (f : ℕ → Bool) (index key slot version count pair : ℕ) (post : Post) (desk : Desk) (own : Bool) → links_in f (keeps.looked_key index key slot version count pair post desk own).told ≡ true
+looked_key_in f index key slot version count pair post desk true = refl
+looked_key_in f index key slot version count pair post desk false = looking_in f index key slot version count post desk (nat_lt (pair + 1) count) (pair + 1)
+
+look_in : (f : ℕ → Bool) (index key : ℕ) (at : GetAt) (post : Post) (desk : Desk) (found : ℕ) → links_in f (keeps.look_turn index key at post desk found).told ≡ true
+look_in f index key (FindVersion slot) post desk found = refl
+look_in f index key (FindCount slot version) post desk found = looking_in f index key slot version found post desk (nat_lt 0 found) 0
+look_in f index key (FindKey slot version count pair) post desk found = looked_key_in f index key slot version count pair post desk (found == key)
+look_in f index key (FindValue slot version pair) post desk found = refl
+
+keep_in : (f : ℕ → Bool) (at : KeepAt) (post : Post) (desk : Desk) (found : ℕ) → links_in f (keeps.keep_turn at post desk found).told ≡ true
+keep_in f (Loosens let_go) post desk found =
+    released_in f let_go (withdrawn post (let_index let_go)) desk (cleared (let_index let_go) (stands post (let_index let_go))) (cleared_in f (let_index let_go) (stands post (let_index let_go)))
+keep_in f (LoadHeld from index) post desk found = load_held_in f from index post desk found (has_one_interval (scheme_of post))
+keep_in f (StoreHeld from index era) post desk found = copied_in f from index post desk (reserves_index post index era) (stands post from) refl
+keep_in f (Looks index key at) post desk found = look_in f index key at post desk found
+keep_in f (Misses index) post desk found = refl
 
 -- what comes after a machine
 opened_row_in : (f : ℕ → Bool) (task : Task) (slot : ℕ) (post : Post) (desk : Desk) (told : List Event) → links_in f told ≡ true → links_in f (steps.opened_row task slot post desk told).told ≡ true
@@ -388,10 +427,6 @@ advanced_in f (Followed end) post desk told h = h
 advanced_in f (Allocated end) post desk told h = h
 advanced_in f (Retired life) post desk told h = h
 
-released_in : (f : ℕ → Bool) (key : Option ℕ) (post : Post) (desk : Desk) (told : List Event) → links_in f told ≡ true → links_in f (steps.released key post desk told).told ≡ true
-released_in f None post desk told h = h
-released_in f (Some key) post desk told h = h
-
 resume_in : (f : ℕ → Bool) (why : Why) (ending : Ending) (post : Post) (desk : Desk) (told : List Event) → links_in f told ≡ true → links_in f (steps.resume why ending post desk told).told ≡ true
 resume_in f (Opens task) ending post desk told h = opened_in f task ending post desk told h
 resume_in f (FollowsHead head tail) ending post desk told h = followed_by_in f head tail ending post desk told h
@@ -403,7 +438,7 @@ resume_in f (GivesUp answer) ending post desk told h = h
 resume_in f (Retires answer) ending post desk told h = retired_by_in f answer ending post desk told h
 resume_in f (Tidies later) ending post desk told h = tidied_in f later ending post desk told h
 resume_in f Advances ending post desk told h = advanced_in f ending post desk told h
-resume_in f (Releases key) ending post desk told h = released_in f key post desk told h
+resume_in f (Releases let_go) ending post desk told h = released_in f let_go post desk told h
 
 resumed_in : (f : ℕ → Bool) (why : Why) (desk : Desk) (post : Post) (told : List Event) (outcome : Outcome) → links_in f told ≡ true → links_in f (steps.resumed why desk post told outcome).told ≡ true
 resumed_in f why desk post told (Goes base) h = h
@@ -438,6 +473,7 @@ work_in f (Getting key at) post desk found g = get_in f key at post desk found
 work_in f (Changing kept at) post desk found g = change_in f kept at post desk found (λ slot e. g.changes kept slot (ap (λ (x : ChangeAt). Works (Changing kept x)) e))
 work_in f (Enqueuing kept at) post desk found g = enqueue_in f kept at post desk found (λ slot e. g.enqueues kept slot (ap (λ (x : EnqueueAt). Works (Enqueuing kept x)) e))
 work_in f (Dequeuing at) post desk found g = dequeue_in f at post desk found
+work_in f (Keeping at) post desk found g = keep_in f at post desk found
 
 pub phase_in : (f : ℕ → Bool) (phase : Phase) (post : Post) (desk : Desk) (found : ℕ) → LinksOf f phase found → links_in f (steps.phase_turn phase post desk found).told ≡ true
 phase_in f Idle post desk found g = refl

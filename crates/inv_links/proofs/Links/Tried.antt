@@ -22,7 +22,7 @@ use Rattle.inv_requests.specs.Standing.{role_of, Requests}
 use Rattle.inv_requests.specs.Views.{Deal, View as Asking}
 use Rattle.inv_covers.specs.rows.Rows.{Status, View}
 use Rattle.inv_links.proofs.Origins.Came.{link_busy, helps_busy}
-use Rattle.inv_links.proofs.Origins.Opened.{fit_of, quiet_busy}
+use Rattle.inv_links.proofs.Origins.Opened.{fit_of, quiet_busy, work_quiet}
 use Rattle.inv_links.specs.Tracked.{carries_at, carries_base, carries_in, root_base, root_for, root_in, Tracked, Carried, Given, Helped}
 use Rattle.inv_covers.proofs.Kept.{not_reused}
 use Rattle.inv_links.specs.Links.{Tried, TrackedTried, HeldLinksStay}
@@ -63,7 +63,7 @@ quiet_base layout why (Protect aim index root steps at) d p n f = quiet_protect 
 quiet_base layout why (Reload parent index slot era steps) d p n f = f
 quiet_base layout why (Clear index) d p n f = f
 quiet_base layout why Finish d p n f = f
-quiet_base layout why Release d p n f = f
+quiet_base layout why (Release index) d p n f = f
 quiet_base layout why (Allocate at) d p n f = f
 quiet_base layout why (Write slot row place) d p n f = f
 quiet_base layout why (GiveUp slot) d p n f = f
@@ -74,7 +74,7 @@ quiet_phase : (layout : Layout) (post : Post) (phase : Phase) (d : Deal) → Pha
 quiet_phase layout post Idle d p n f = f
 quiet_phase layout post (Runs why base) d p n f = quiet_base layout why base d p.fits n f
 quiet_phase layout post (Scans later at) d p n f = f
-quiet_phase layout post (Works work) d p n f = f
+quiet_phase layout post (Works work) d p n f = work_quiet work d f
 
 no_request : (w : World) (k : ℕ) (z : Asking) → helps w.layout.config.scheme ≡ false → Seats w → Requests w z → is_quiet (z.deal k) ≡ true
 no_request w k z n s f = quiet_phase w.layout (w.seat k).post (w.seat k).phase (z.deal k) (s.fits k).phase n (fit_of w z k (w.seat k).phase f refl)

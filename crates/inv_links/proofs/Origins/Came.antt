@@ -35,8 +35,8 @@ use Rattle.inv_links.proofs.Origins.Heard.{hears_at}
 use Rattle.inv_links.proofs.Origins.Movers.{out_helps, move_came, no_way}
 use Rattle.inv_links.proofs.Origins.Opened.{turn_of, stepped_by, busy_root}
 use Rattle.inv_links.proofs.Origins.Own.{HearsAt, out_carries, out_root, Source, Had, Loads, Hears, protect_next}
-use Rattle.inv_links.proofs.Origins.Plain.{out_plain, is_plain, plain_after, out_moves, moves_on, out_protects, protects_on, start_carries, start_carries_base, start_helps, start_helps_base, move_carries, protect_helps}
-use Rattle.inv_covers.proofs.Fresh.{work_fresh, resume_fresh}
+use Rattle.inv_links.proofs.Origins.Plain.{out_plain, is_plain, plain_after, out_moves, moves_on, out_protects, protects_on, start_carries, start_carries_base, start_helps, start_helps_base, works_carry, works_help, move_carries, protect_helps}
+use Rattle.inv_covers.proofs.Fresh.{works_start, resume_fresh}
 use Rattle.inv_covers.proofs.Held.{stepped_phase, finds_at, protect_stays}
 use Rattle.inv_covers.proofs.Scans.{scan_starts}
 
@@ -52,7 +52,7 @@ why_follows buckets (GivesUp answer) aim index root a e = let x = a.aimed in abs
 why_follows buckets (Retires answer) aim index root a e = let x = a.aimed in absurd (cc)
 why_follows buckets (Tidies later) aim index root a e = let x = a.aimed in absurd (cc)
 why_follows buckets Advances aim index root a e = let x = a.aimed in absurd (cc)
-why_follows buckets (Releases key) aim index root a e = let x = a.aimed in absurd (cc)
+why_follows buckets (Releases let_go) aim index root a e = let x = a.aimed in absurd (cc)
 
 pub aimed_at : (w : World) (i : ℕ) (why : Why) (aim : Aim) (index : ℕ) (root : Root) (steps : ℕ) (at : ProtectAt) → Seats w → (w.seat i).phase ≡ Runs why (Protect aim index root steps at) → Aimed w.layout.config.buckets why aim index root
 aimed_at w i why aim index root steps at s q = let r : PhaseFits w.layout (w.seat i).post (Runs why (Protect aim index root steps at)) = subst (λ (p : Phase). PhaseFits w.layout (w.seat i).post p) q (s.fits i).phase in r.shape
@@ -104,7 +104,7 @@ run_came w i z why (Protect aim index root steps at) upto x n q r h = protect_ca
 run_came w i z why (Reload parent index slot era steps) upto x n q r h = no_way (out_carries ((step w i).mem Clock) upto (after (Reload parent index slot era steps) (counted (w.seat i).post) (finds w i)).outcome x) (plain_carries ((step w i).mem Clock) upto (after (Reload parent index slot era steps) (counted (w.seat i).post) (finds w i)).outcome x (plain_after (Reload parent index slot era steps) (counted (w.seat i).post) (finds w i) refl)) h
 run_came w i z why (Clear index) upto x n q r h = no_way (out_carries ((step w i).mem Clock) upto (after (Clear index) (counted (w.seat i).post) (finds w i)).outcome x) (plain_carries ((step w i).mem Clock) upto (after (Clear index) (counted (w.seat i).post) (finds w i)).outcome x (plain_after (Clear index) (counted (w.seat i).post) (finds w i) refl)) h
 run_came w i z why Finish upto x n q r h = no_way (out_carries ((step w i).mem Clock) upto (after Finish (counted (w.seat i).post) (finds w i)).outcome x) (plain_carries ((step w i).mem Clock) upto (after Finish (counted (w.seat i).post) (finds w i)).outcome x (plain_after Finish (counted (w.seat i).post) (finds w i) refl)) h
-run_came w i z why Release upto x n q r h = no_way (out_carries ((step w i).mem Clock) upto (after Release (counted (w.seat i).post) (finds w i)).outcome x) (plain_carries ((step w i).mem Clock) upto (after Release (counted (w.seat i).post) (finds w i)).outcome x (plain_after Release (counted (w.seat i).post) (finds w i) refl)) h
+run_came w i z why (Release index) upto x n q r h = no_way (out_carries ((step w i).mem Clock) upto (after (Release index) (counted (w.seat i).post) (finds w i)).outcome x) (plain_carries ((step w i).mem Clock) upto (after (Release index) (counted (w.seat i).post) (finds w i)).outcome x (plain_after (Release index) (counted (w.seat i).post) (finds w i) refl)) h
 run_came w i z why (Allocate at) upto x n q r h = no_way (out_carries ((step w i).mem Clock) upto (after (Allocate at) (counted (w.seat i).post) (finds w i)).outcome x) (plain_carries ((step w i).mem Clock) upto (after (Allocate at) (counted (w.seat i).post) (finds w i)).outcome x (plain_after (Allocate at) (counted (w.seat i).post) (finds w i) refl)) h
 run_came w i z why (Write slot row place) upto x n q r h = no_way (out_carries ((step w i).mem Clock) upto (after (Write slot row place) (counted (w.seat i).post) (finds w i)).outcome x) (plain_carries ((step w i).mem Clock) upto (after (Write slot row place) (counted (w.seat i).post) (finds w i)).outcome x (plain_after (Write slot row place) (counted (w.seat i).post) (finds w i) refl)) h
 run_came w i z why (GiveUp slot) upto x n q r h = no_way (out_carries ((step w i).mem Clock) upto (after (GiveUp slot) (counted (w.seat i).post) (finds w i)).outcome x) (plain_carries ((step w i).mem Clock) upto (after (GiveUp slot) (counted (w.seat i).post) (finds w i)).outcome x (plain_after (GiveUp slot) (counted (w.seat i).post) (finds w i) refl)) h
@@ -120,7 +120,7 @@ own_by w i z (Runs why base) upto x n q h =
 own_by w i z (Scans later at) upto x n q h =
     no_way (carries_in ((step w i).mem Clock) upto (phase_left (turn_of w i (Scans later at)).outcome) x) (start_carries ((step w i).mem Clock) upto (phase_left (turn_of w i (Scans later at)).outcome) x (scan_starts later at (counted (w.seat i).post) (w.seat i).desk (finds w i))) h
 own_by w i z (Works work) upto x n q h =
-    no_way (carries_in ((step w i).mem Clock) upto (phase_left (turn_of w i (Works work)).outcome) x) (start_carries ((step w i).mem Clock) upto (phase_left (turn_of w i (Works work)).outcome) x (work_fresh work (counted (w.seat i).post) (w.seat i).desk (finds w i)).starts) h
+    no_way (carries_in ((step w i).mem Clock) upto (phase_left (turn_of w i (Works work)).outcome) x) (works_carry ((step w i).mem Clock) upto (phase_left (turn_of w i (Works work)).outcome) x (works_start work (counted (w.seat i).post) (w.seat i).desk (finds w i))) h
 
 own_came : (w : World) (i : ℕ) (z : View) (x : ℕ) → OriginsNeeds w i z → carries_in ((step w i).mem Clock) (upper ((step w i).seat i).post.span) ((step w i).seat i).phase x ≡ true → Came w i z i x
 own_came w i z x n h =
@@ -155,7 +155,7 @@ run_helped w i k z why (Protect aim index root steps at) x n q same h =
 run_helped w i k z why (Reload parent index slot era steps) x n q same h = plain_none w i k z why (Reload parent index slot era steps) x refl h
 run_helped w i k z why (Clear index) x n q same h = plain_none w i k z why (Clear index) x refl h
 run_helped w i k z why Finish x n q same h = plain_none w i k z why Finish x refl h
-run_helped w i k z why Release x n q same h = plain_none w i k z why Release x refl h
+run_helped w i k z why (Release index) x n q same h = plain_none w i k z why (Release index) x refl h
 run_helped w i k z why (Allocate at) x n q same h = plain_none w i k z why (Allocate at) x refl h
 run_helped w i k z why (Write slot row place) x n q same h = plain_none w i k z why (Write slot row place) x refl h
 run_helped w i k z why (GiveUp slot) x n q same h = plain_none w i k z why (GiveUp slot) x refl h
@@ -173,7 +173,7 @@ helped_by w i k z (Scans later at) x n q same h =
     (start_helps w.layout ((step w i).mem Clock) k (phase_left (turn_of w i (Scans later at)).outcome) (next_deals w i z.deal k) x (scan_starts later at (counted (w.seat i).post) (w.seat i).desk (finds w i))) h
 helped_by w i k z (Works work) x n q same h =
     no_way (helps_in w.layout ((step w i).mem Clock) k (phase_left (turn_of w i (Works work)).outcome) (next_deals w i z.deal k) x)
-    (start_helps w.layout ((step w i).mem Clock) k (phase_left (turn_of w i (Works work)).outcome) (next_deals w i z.deal k) x (work_fresh work (counted (w.seat i).post) (w.seat i).desk (finds w i)).starts) h
+    (works_help w.layout ((step w i).mem Clock) k (phase_left (turn_of w i (Works work)).outcome) (next_deals w i z.deal k) x (works_start work (counted (w.seat i).post) (w.seat i).desk (finds w i))) h
 
 own_helped : (w : World) (i k : ℕ) (z : View) (x : ℕ) → OriginsNeeds w i z → root_in (step w i) k ≡ root_in w k → helps_in w.layout ((step w i).mem Clock) k ((step w i).seat i).phase (next_deals w i z.deal k) x ≡ true → Came w i z k x
 own_helped w i k z x n same h =
@@ -211,7 +211,7 @@ helps_busy_base layout clock k (Protect aim index root steps at) x h = h
 helps_busy_base layout clock k (Reload parent index slot era steps) x h = h
 helps_busy_base layout clock k (Clear index) x h = h
 helps_busy_base layout clock k Finish x h = h
-helps_busy_base layout clock k Release x h = h
+helps_busy_base layout clock k (Release index) x h = h
 helps_busy_base layout clock k (Allocate at) x h = h
 helps_busy_base layout clock k (Write slot row place) x h = h
 helps_busy_base layout clock k (GiveUp slot) x h = h

@@ -24,7 +24,7 @@ use Rattle.inv_covers.specs.model.Locals.{Local}
 use Rattle.inv_covers.specs.model.World.{World, finds}
 use Rattle.inv_covers.specs.shapes.Seats.{Seats}
 use Rattle.inv_requests.specs.Context.{At, phase_there}
-use Rattle.inv_requests.specs.Deals.{is_open, asked_at, answered_with, fits}
+use Rattle.inv_requests.specs.Deals.{is_open, is_quiet, asked_at, answered_with, fits}
 use Rattle.inv_requests.specs.Standing.{role_of, request_of, Requests}
 use Rattle.inv_requests.specs.Views.{View, Deal, Role as roles}
 use Rattle.inv_requests.specs.Views.Deal.{Quiet, Open, Answered, Passed, Taken}
@@ -35,6 +35,7 @@ use Rattle.inv_requests.proofs.Kept.{at_of}
 use Rattle.inv_covers.specs.rows.Follow.{at_asks}
 use Rattle.inv_links.specs.Tracked.{has_link, root_base, root_for}
 use Rattle.inv_links.specs.Origins.{OriginsNeeds}
+use Rattle.inv_links.proofs.Origins.Opened.{work_quiet}
 use Rattle.inv_links.proofs.Origins.Own.{HeardIn, HearsAt}
 use Rattle.inv_covers.proofs.Held.{finds_at}
 use Rattle.inv_requests.proofs.Known.{stands_as, own_word}
@@ -196,7 +197,7 @@ asks_base layout (Protect aim index root steps at) why t j w h f = asks_at layou
 asks_base layout (Reload parent index slot era steps) why t j w h f = absurd (cc)
 asks_base layout (Clear index) why t j w h f = absurd (cc)
 asks_base layout Finish why t j w h f = absurd (cc)
-asks_base layout Release why t j w h f = absurd (cc)
+asks_base layout (Release index) why t j w h f = absurd (cc)
 asks_base layout (Allocate at) why t j w h f = absurd (cc)
 asks_base layout (Write slot row place) why t j w h f = absurd (cc)
 asks_base layout (GiveUp slot) why t j w h f = absurd (cc)
@@ -207,7 +208,7 @@ pub asks_for : (layout : Layout) (phase : Phase) (t j w : ℕ) → phase_there l
 asks_for layout Idle t j w h f = absurd (cc)
 asks_for layout (Runs why base) t j w h f = asks_base layout base why t j w h f
 asks_for layout (Scans later at) t j w h f = absurd (cc)
-asks_for layout (Works work) t j w h f = absurd (cc)
+asks_for layout (Works work) t j w h f = let q : is_quiet (Open t j w) ≡ true = work_quiet work (Open t j w) f in absurd (cc)
 
 -- two roots of the table with one number are one
 pub root_one : (layout : Layout) (one two : Root) → has layout (link_place one) ≡ true → has layout (link_place two) ≡ true → link_number layout one ≡ link_number layout two → one ≡ two

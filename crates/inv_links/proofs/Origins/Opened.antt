@@ -18,15 +18,17 @@ use Rattle.inv_covers.specs.model.Phases.{Aim, ProtectAt, MoveAt, Base, Turn, Ou
 use Rattle.inv_covers.specs.model.Phases.ProtectAt.{LoadClock, PublishEra, LoadLink, CheckClock, PublishRequest, LoadOwnClock, PublishHelper, LoadOwnLink, CheckOwnClock, AnswerOwn, LoadAnswer, TakeAnswer, WithdrawRequest, WithdrawHelper, LoadWithin, CheckUpper, RaiseUpper}
 use Rattle.inv_covers.specs.model.Phases.MoveAt.{LoadEra, LoadRequest, ShowEra, LoadAsked, CheckEra, AnswerAsked, LoadReserved, HandOver, HideEra, HideLate, ExchangeClock}
 use Rattle.inv_covers.specs.model.Phases.Base.{Begin, Protect, Reload, Clear, Finish, Release, Allocate, Write, GiveUp, Retire, Move}
-use Rattle.inv_covers.specs.model.Calls.{Why, Phase, Idle, Runs, Scans, Works, CallTurn}
+use Rattle.inv_covers.specs.model.Calls.{Why, Work, Phase, Idle, Runs, Scans, Works, CallTurn}
 use Rattle.inv_covers.specs.model.Steps.{resumed, phase_turn}
 use Rattle.inv_covers.specs.model.World.{World, step, finds}
 use Rattle.inv_covers.specs.shapes.Frame.{phase_left}
-use Rattle.inv_requests.specs.Deals.{is_quiet, asked_by}
+use Rattle.inv_requests.specs.Deals.{is_quiet, asked_by, fits}
 use Rattle.inv_requests.specs.NextDeals.{protect_deals, move_deals, base_deals, phase_deals, next_deals}
-use Rattle.inv_requests.specs.Views.{View, Deal}
+use Rattle.inv_requests.specs.Standing.{work_role}
+use Rattle.inv_requests.specs.Views.{View, Deal, Role}
 use Rattle.inv_requests.specs.Views.Deal.{Quiet, Open, Answered, Passed, Taken}
 use Rattle.inv_requests.proofs.Kept.{at_of}
+use Rattle.inv_requests.proofs.Turns.{each_work_role}
 use Rattle.inv_links.specs.Tracked.{opened_by, root_base, root_for, root_in}
 use Rattle.inv_links.specs.Origins.{OriginsNeeds}
 use Rattle.inv_links.proofs.Origins.Deals.{answered_is, passed_is, other_deal}
@@ -117,7 +119,7 @@ open_base w i z why (Protect aim index root steps at) k t j u n q known h = open
 open_base w i z why (Reload parent index slot era steps) k t j u n q known h = h
 open_base w i z why (Clear index) k t j u n q known h = h
 open_base w i z why Finish k t j u n q known h = h
-open_base w i z why Release k t j u n q known h = h
+open_base w i z why (Release index) k t j u n q known h = h
 open_base w i z why (Allocate at) k t j u n q known h = h
 open_base w i z why (Write slot row place) k t j u n q known h = h
 open_base w i z why (GiveUp slot) k t j u n q known h = h
@@ -220,12 +222,16 @@ busy_base w i z why (Protect aim index root steps at) n q h = busy_protect w i z
 busy_base w i z why (Reload parent index slot era steps) n q h = absurd (quiet_busy (z.deal i) (fit_of w z i (Runs why (Reload parent index slot era steps)) n.requests q) h)
 busy_base w i z why (Clear index) n q h = absurd (quiet_busy (z.deal i) (fit_of w z i (Runs why (Clear index)) n.requests q) h)
 busy_base w i z why Finish n q h = absurd (quiet_busy (z.deal i) (fit_of w z i (Runs why Finish) n.requests q) h)
-busy_base w i z why Release n q h = absurd (quiet_busy (z.deal i) (fit_of w z i (Runs why Release) n.requests q) h)
+busy_base w i z why (Release index) n q h = absurd (quiet_busy (z.deal i) (fit_of w z i (Runs why (Release index)) n.requests q) h)
 busy_base w i z why (Allocate at) n q h = absurd (quiet_busy (z.deal i) (fit_of w z i (Runs why (Allocate at)) n.requests q) h)
 busy_base w i z why (Write slot row place) n q h = absurd (quiet_busy (z.deal i) (fit_of w z i (Runs why (Write slot row place)) n.requests q) h)
 busy_base w i z why (GiveUp slot) n q h = absurd (quiet_busy (z.deal i) (fit_of w z i (Runs why (GiveUp slot)) n.requests q) h)
 busy_base w i z why (Retire at) n q h = absurd (quiet_busy (z.deal i) (fit_of w z i (Runs why (Retire at)) n.requests q) h)
 busy_base w i z why (Move at) n q h = absurd (quiet_busy (move_deals w.mem i (w.seat i).post at z.deal i) (quiet_move w i z why at n q (move_fit w i z why at n q)) h)
+
+-- nor has a call's own step a request
+pub work_quiet : (work : Work) (d : Deal) → fits (work_role work) d ≡ true → is_quiet d ≡ true
+work_quiet work d f = each_work_role work (λ (r : Role). fits r d ≡ true → is_quiet d ≡ true) (λ g. g) (λ from era g. g) f
 
 busy_phase : (w : World) (i : ℕ) (z : View) (phase : Phase) → OriginsNeeds w i z → (w.seat i).phase ≡ phase → is_quiet (phase_deals w.mem i (w.seat i).post phase z.deal i) ≡ false → root_in (step w i) i ≡ root_for phase
 busy_phase w i z Idle n q h = absurd (quiet_busy (z.deal i) (fit_of w z i Idle n.requests q) h)
@@ -233,7 +239,7 @@ busy_phase w i z (Runs why base) n q h =
     let t : Turn = after base (counted (w.seat i).post) (finds w i) in
     ap root_for (stepped_by w i (Runs why base) q) ∙ left_root why (w.seat i).desk t.post t.told t.outcome (root_base base) (busy_base w i z why base n q h)
 busy_phase w i z (Scans later at) n q h = absurd (quiet_busy (z.deal i) (fit_of w z i (Scans later at) n.requests q) h)
-busy_phase w i z (Works work) n q h = absurd (quiet_busy (z.deal i) (fit_of w z i (Works work) n.requests q) h)
+busy_phase w i z (Works work) n q h = absurd (quiet_busy (z.deal i) (work_quiet work (z.deal i) (fit_of w z i (Works work) n.requests q)) h)
 
 -- a seat that has a request after its step protects the same root
 pub busy_root : (w : World) (i : ℕ) (z : View) → OriginsNeeds w i z → is_quiet (next_deals w i z.deal i) ≡ false → root_in (step w i) i ≡ root_in w i

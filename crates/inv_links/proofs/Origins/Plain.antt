@@ -43,7 +43,7 @@ is_plain (Protect aim index root steps at) = false
 is_plain (Reload parent index slot era steps) = true
 is_plain (Clear index) = true
 is_plain Finish = true
-is_plain Release = true
+is_plain (Release index) = true
 is_plain (Allocate at) = true
 is_plain (Write slot row place) = true
 is_plain (GiveUp slot) = true
@@ -81,7 +81,7 @@ plain_after (Protect aim index root steps at) post found p = absurd (cc)
 plain_after (Reload parent index slot era steps) post found p = plain_if _ _ (found == parent + 1) refl refl
 plain_after (Clear index) post found p = refl
 plain_after Finish post found p = refl
-plain_after Release post found p = refl
+plain_after (Release index) post found p = refl
 plain_after (Allocate at) post found p = plain_allocate at post found
 plain_after (Write slot row place) post found p = plain_if _ _ (place == last_written row) refl refl
 plain_after (GiveUp slot) post found p = refl
@@ -95,7 +95,7 @@ is_move (Protect aim index root steps at) = false
 is_move (Reload parent index slot era steps) = false
 is_move (Clear index) = false
 is_move Finish = false
-is_move Release = false
+is_move (Release index) = false
 is_move (Allocate at) = false
 is_move (Write slot row place) = false
 is_move (GiveUp slot) = false
@@ -197,6 +197,13 @@ start_carries clock upto (Runs why base) x h = start_carries_base clock upto bas
 start_carries clock upto (Scans later at) x h = refl
 start_carries clock upto (Works work) x h = refl
 
+-- of the phases that a call's own step comes to only the machines matter
+pub works_carry : (clock upto : ℕ) (phase : Phase) (x : ℕ) → ((why : Why) (base : Base) → phase ≡ Runs why base → starts_base base ≡ true) → carries_in clock upto phase x ≡ false
+works_carry clock upto Idle x g = refl
+works_carry clock upto (Runs why base) x g = start_carries_base clock upto base x (g why base refl)
+works_carry clock upto (Scans later at) x g = refl
+works_carry clock upto (Works work) x g = refl
+
 -- and help nobody
 start_helps_at : (layout : Layout) (clock k : ℕ) (why : Why) (at : MoveAt) (d : Deal) (x : ℕ) → is_start (Runs why (Move at)) ≡ true → helps_at layout clock k at d x ≡ false
 start_helps_at layout clock k why (LoadEra helps) d x h = refl
@@ -213,7 +220,7 @@ start_helps_base layout clock k why (Protect aim index root steps at) d x h = re
 start_helps_base layout clock k why (Reload parent index slot era steps) d x h = refl
 start_helps_base layout clock k why (Clear index) d x h = refl
 start_helps_base layout clock k why Finish d x h = refl
-start_helps_base layout clock k why Release d x h = refl
+start_helps_base layout clock k why (Release index) d x h = refl
 start_helps_base layout clock k why (Allocate at) d x h = refl
 start_helps_base layout clock k why (Write slot row place) d x h = refl
 start_helps_base layout clock k why (GiveUp slot) d x h = refl
@@ -226,6 +233,12 @@ start_helps layout clock k (Runs why base) d x h = start_helps_base layout clock
 start_helps layout clock k (Scans later at) d x h = refl
 start_helps layout clock k (Works work) d x h = refl
 
+pub works_help : (layout : Layout) (clock k : ℕ) (phase : Phase) (d : Deal) (x : ℕ) → ((why : Why) (base : Base) → phase ≡ Runs why base → starts_base base ≡ true) → helps_in layout clock k phase d x ≡ false
+works_help layout clock k Idle d x g = refl
+works_help layout clock k (Runs why base) d x g = start_helps_base layout clock k why base d x (g why base refl)
+works_help layout clock k (Scans later at) d x g = refl
+works_help layout clock k (Works work) d x g = refl
+
 -- a move carries nothing, and a protection helps nobody
 pub move_carries : (clock upto : ℕ) (base : Base) (x : ℕ) → is_move base ≡ true → carries_base clock upto base x ≡ false
 move_carries clock upto (Begin at) x h = absurd (cc)
@@ -233,7 +246,7 @@ move_carries clock upto (Protect aim index root steps at) x h = absurd (cc)
 move_carries clock upto (Reload parent index slot era steps) x h = absurd (cc)
 move_carries clock upto (Clear index) x h = absurd (cc)
 move_carries clock upto Finish x h = absurd (cc)
-move_carries clock upto Release x h = absurd (cc)
+move_carries clock upto (Release index) x h = absurd (cc)
 move_carries clock upto (Allocate at) x h = absurd (cc)
 move_carries clock upto (Write slot row place) x h = absurd (cc)
 move_carries clock upto (GiveUp slot) x h = absurd (cc)
@@ -246,7 +259,7 @@ protect_helps layout clock k (Protect aim index root steps at) d x h = refl
 protect_helps layout clock k (Reload parent index slot era steps) d x h = refl
 protect_helps layout clock k (Clear index) d x h = refl
 protect_helps layout clock k Finish d x h = refl
-protect_helps layout clock k Release d x h = refl
+protect_helps layout clock k (Release index) d x h = refl
 protect_helps layout clock k (Allocate at) d x h = refl
 protect_helps layout clock k (Write slot row place) d x h = refl
 protect_helps layout clock k (GiveUp slot) d x h = refl

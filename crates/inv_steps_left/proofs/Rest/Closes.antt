@@ -4,7 +4,7 @@ use Rattle.inv_contents.specs.words.Place.{is_valid}
 use Rattle.inv_contents.specs.words.Place.Place.{Clock}
 use Rattle.inv_contents.specs.model.Phases.Base.{Move, Allocate, Begin, Clear, Finish, GiveUp, Protect, Release, Reload, Retire, Write}
 use Rattle.inv_contents.specs.defs.declared.event.Event.TheVariants as events
-use Rattle.inv_contents.specs.model.Calls.{AfterScan, Next, Task, Why}
+use Rattle.inv_contents.specs.model.Calls.{AfterScan, LetGo, Next, Task, Why}
 use Rattle.inv_contents.specs.model.Calls.Next.{Again, Answering, MakeRoom, Retiring}
 use Rattle.inv_contents.specs.model.Calls.Task.{Dequeues}
 use Rattle.inv_contents.specs.model.Calls.Why.{Advances, Clears, ClearsNext, Fills, Finishes, FollowsHead, GivesUp, Opens, Releases, Retires, Tidies}
@@ -30,7 +30,7 @@ use Rattle.inv_steps_left.proofs.Rest.Told.{base_steady}
 use Rattle.inv_steps_left.proofs.Rest.Ways.{released_left}
 use Rattle.inv_steps_left.specs.Losses.{finish_fit}
 use Rattle.inv_contents.specs.words.declared.config.Config.{Config}
-use Rattle.std.specs.Prelude.{List, length, Option, None}
+use Rattle.std.specs.Prelude.{List, length, None}
 
 pub clear_rounds : (w : World) (i index : ℕ) → rounds_told (w.seat i).rounds (after (Clear index) (counted (w.seat i).post) (finds w i)).told ≡ (w.seat i).rounds
 clear_rounds w i index = base_steady (w.seat i).rounds (Clear index) (counted (w.seat i).post) (finds w i) refl
@@ -109,19 +109,19 @@ advances_lowers w i v at s p =
     let h = advances_on w.layout.config w.layout i ((step w i).mem Clock) (w.seat i).rounds (w.seat i).desk t.post t.told t.outcome (start_of w.layout.config (w.mem Clock) (w.seat i).post.span (Move at)) (still_after w i v Advances (Move at) s p (s.moves.falls Advances at s.at)) in
     omega (arith, h)
 
-clear_releases : (w : World) (i : ℕ) → is_valid w.layout ≡ true → (key : Option ℕ) (index : ℕ) → Seat w i (Releases key) (Clear index) → Knows w i (Releases key) (Clear index) → Lowers w i (Releases key) (Clear index)
-clear_releases w i v key index s p =
+clear_releases : (w : World) (i : ℕ) → is_valid w.layout ≡ true → (let_go : LetGo) (index : ℕ) → Seat w i (Releases let_go) (Clear index) → Knows w i (Releases let_go) (Clear index) → Lowers w i (Releases let_go) (Clear index)
+clear_releases w i v let_go index s p =
     let post : Post = counted (w.seat i).post in
     let told : List Event = (after (Clear index) post (finds w i)).told in
-    one_step w i v (Releases key) (Clear index) Done (withdrawn post index) told (why_left w.layout.config (length (w.seat i).desk.list) (w.seat i).rounds (Clear index) (Releases key)) s p tt refl refl
-    (released_left w.layout.config (w.seat i).rounds (length (w.seat i).desk.list) (Clear index) key (withdrawn post index) (w.seat i).desk told refl (clear_rounds w i index ∙ s.lost))
+    let h = released_left w.layout.config (w.seat i).rounds (length (w.seat i).desk.list) let_go (withdrawn post index) (w.seat i).desk told refl (clear_rounds w i index ∙ s.lost) in
+    one_step w i v (Releases let_go) (Clear index) Done (withdrawn post index) told (why_left w.layout.config (length (w.seat i).desk.list) (w.seat i).rounds (Clear index) (Releases let_go)) s p tt refl refl (omega (arith, h))
 
-span_releases : (w : World) (i : ℕ) → is_valid w.layout ≡ true → (key : Option ℕ) → Seat w i (Releases key) Release → Knows w i (Releases key) Release → Lowers w i (Releases key) Release
-span_releases w i v key s p =
+span_releases : (w : World) (i : ℕ) → is_valid w.layout ≡ true → (let_go : LetGo) (index : ℕ) → Seat w i (Releases let_go) (Release index) → Knows w i (Releases let_go) (Release index) → Lowers w i (Releases let_go) (Release index)
+span_releases w i v let_go index s p =
     let post : Post = counted (w.seat i).post in
-    let t : Turn = after Release post (finds w i) in
-    one_step w i v (Releases key) Release Done t.post t.told (why_left w.layout.config (length (w.seat i).desk.list) (w.seat i).rounds Release (Releases key)) s p tt refl refl
-    (released_left w.layout.config (w.seat i).rounds (length (w.seat i).desk.list) Release key t.post (w.seat i).desk t.told refl (base_steady (w.seat i).rounds Release post (finds w i) refl ∙ s.lost))
+    let t : Turn = after (Release index) post (finds w i) in
+    let h = released_left w.layout.config (w.seat i).rounds (length (w.seat i).desk.list) let_go t.post (w.seat i).desk t.told refl (base_steady (w.seat i).rounds (Release index) post (finds w i) refl ∙ s.lost) in
+    one_step w i v (Releases let_go) (Release index) Done t.post t.told (why_left w.layout.config (length (w.seat i).desk.list) (w.seat i).rounds (Release index) (Releases let_go)) s p tt refl refl (omega (arith, h))
 
 nexts_lower : (w : World) (i : ℕ) → is_valid w.layout ≡ true → (next : Next) (base : Base) → Seat w i (ClearsNext next) base → Knows w i (ClearsNext next) base → Lowers w i (ClearsNext next) base
 nexts_lower w i v next (Clear index) s p = next_clears w i v next index s p
@@ -129,7 +129,7 @@ nexts_lower w i v next (Begin at) s p = absurd (let e = s.run.suited in cc)
 nexts_lower w i v next (Protect aim index root n at) s p = absurd (let e = s.run.suited in cc)
 nexts_lower w i v next (Reload parent index slot era n) s p = absurd (let e = s.run.suited in cc)
 nexts_lower w i v next Finish s p = absurd (let e = s.run.suited in cc)
-nexts_lower w i v next Release s p = absurd (let e = s.run.suited in cc)
+nexts_lower w i v next (Release index) s p = absurd (let e = s.run.suited in cc)
 nexts_lower w i v next (Allocate at) s p = absurd (let e = s.run.suited in cc)
 nexts_lower w i v next (Write slot row place) s p = absurd (let e = s.run.suited in cc)
 nexts_lower w i v next (GiveUp slot) s p = absurd (let e = s.run.suited in cc)
@@ -142,7 +142,7 @@ clears_lower w i v task next (Begin at) s p = absurd (let e = s.run.suited in cc
 clears_lower w i v task next (Protect aim index root n at) s p = absurd (let e = s.run.suited in cc)
 clears_lower w i v task next (Reload parent index slot era n) s p = absurd (let e = s.run.suited in cc)
 clears_lower w i v task next Finish s p = absurd (let e = s.run.suited in cc)
-clears_lower w i v task next Release s p = absurd (let e = s.run.suited in cc)
+clears_lower w i v task next (Release index) s p = absurd (let e = s.run.suited in cc)
 clears_lower w i v task next (Allocate at) s p = absurd (let e = s.run.suited in cc)
 clears_lower w i v task next (Write slot row place) s p = absurd (let e = s.run.suited in cc)
 clears_lower w i v task next (GiveUp slot) s p = absurd (let e = s.run.suited in cc)
@@ -155,7 +155,7 @@ finishes_lower w i v task next (Begin at) s p = absurd (let e = s.run.suited in 
 finishes_lower w i v task next (Protect aim index root n at) s p = absurd (let e = s.run.suited in cc)
 finishes_lower w i v task next (Reload parent index slot era n) s p = absurd (let e = s.run.suited in cc)
 finishes_lower w i v task next (Clear index) s p = absurd (let e = s.run.suited in cc)
-finishes_lower w i v task next Release s p = absurd (let e = s.run.suited in cc)
+finishes_lower w i v task next (Release index) s p = absurd (let e = s.run.suited in cc)
 finishes_lower w i v task next (Allocate at) s p = absurd (let e = s.run.suited in cc)
 finishes_lower w i v task next (Write slot row place) s p = absurd (let e = s.run.suited in cc)
 finishes_lower w i v task next (GiveUp slot) s p = absurd (let e = s.run.suited in cc)
@@ -169,7 +169,7 @@ gives_lower w i v answer (Protect aim index root n at) s p = absurd (let e = s.r
 gives_lower w i v answer (Reload parent index slot era n) s p = absurd (let e = s.run.suited in cc)
 gives_lower w i v answer (Clear index) s p = absurd (let e = s.run.suited in cc)
 gives_lower w i v answer Finish s p = absurd (let e = s.run.suited in cc)
-gives_lower w i v answer Release s p = absurd (let e = s.run.suited in cc)
+gives_lower w i v answer (Release index) s p = absurd (let e = s.run.suited in cc)
 gives_lower w i v answer (Allocate at) s p = absurd (let e = s.run.suited in cc)
 gives_lower w i v answer (Write slot row place) s p = absurd (let e = s.run.suited in cc)
 gives_lower w i v answer (Retire at) s p = absurd (let e = s.run.suited in cc)
@@ -182,7 +182,7 @@ retires_lower w i v answer (Protect aim index root n at) s p = absurd (let e = s
 retires_lower w i v answer (Reload parent index slot era n) s p = absurd (let e = s.run.suited in cc)
 retires_lower w i v answer (Clear index) s p = absurd (let e = s.run.suited in cc)
 retires_lower w i v answer Finish s p = absurd (let e = s.run.suited in cc)
-retires_lower w i v answer Release s p = absurd (let e = s.run.suited in cc)
+retires_lower w i v answer (Release index) s p = absurd (let e = s.run.suited in cc)
 retires_lower w i v answer (Allocate at) s p = absurd (let e = s.run.suited in cc)
 retires_lower w i v answer (Write slot row place) s p = absurd (let e = s.run.suited in cc)
 retires_lower w i v answer (GiveUp slot) s p = absurd (let e = s.run.suited in cc)
@@ -195,7 +195,7 @@ tidies_lower w i v later (Protect aim index root n at) s p = absurd (let e = s.r
 tidies_lower w i v later (Reload parent index slot era n) s p = absurd (let e = s.run.suited in cc)
 tidies_lower w i v later (Clear index) s p = absurd (let e = s.run.suited in cc)
 tidies_lower w i v later Finish s p = absurd (let e = s.run.suited in cc)
-tidies_lower w i v later Release s p = absurd (let e = s.run.suited in cc)
+tidies_lower w i v later (Release index) s p = absurd (let e = s.run.suited in cc)
 tidies_lower w i v later (Allocate at) s p = absurd (let e = s.run.suited in cc)
 tidies_lower w i v later (Write slot row place) s p = absurd (let e = s.run.suited in cc)
 tidies_lower w i v later (GiveUp slot) s p = absurd (let e = s.run.suited in cc)
@@ -208,24 +208,24 @@ advances_lower w i v (Protect aim index root n at) s p = absurd (let e = s.run.s
 advances_lower w i v (Reload parent index slot era n) s p = absurd (let e = s.run.suited in cc)
 advances_lower w i v (Clear index) s p = absurd (let e = s.run.suited in cc)
 advances_lower w i v Finish s p = absurd (let e = s.run.suited in cc)
-advances_lower w i v Release s p = absurd (let e = s.run.suited in cc)
+advances_lower w i v (Release index) s p = absurd (let e = s.run.suited in cc)
 advances_lower w i v (Allocate at) s p = absurd (let e = s.run.suited in cc)
 advances_lower w i v (Write slot row place) s p = absurd (let e = s.run.suited in cc)
 advances_lower w i v (GiveUp slot) s p = absurd (let e = s.run.suited in cc)
 advances_lower w i v (Retire at) s p = absurd (let e = s.run.suited in cc)
 
-releases_lower : (w : World) (i : ℕ) → is_valid w.layout ≡ true → (key : Option ℕ) (base : Base) → Seat w i (Releases key) base → Knows w i (Releases key) base → Lowers w i (Releases key) base
-releases_lower w i v key (Clear index) s p = clear_releases w i v key index s p
-releases_lower w i v key Release s p = span_releases w i v key s p
-releases_lower w i v key (Begin at) s p = absurd (let e = s.run.suited in cc)
-releases_lower w i v key (Protect aim index root n at) s p = absurd (let e = s.run.suited in cc)
-releases_lower w i v key (Reload parent index slot era n) s p = absurd (let e = s.run.suited in cc)
-releases_lower w i v key Finish s p = absurd (let e = s.run.suited in cc)
-releases_lower w i v key (Allocate at) s p = absurd (let e = s.run.suited in cc)
-releases_lower w i v key (Write slot row place) s p = absurd (let e = s.run.suited in cc)
-releases_lower w i v key (GiveUp slot) s p = absurd (let e = s.run.suited in cc)
-releases_lower w i v key (Retire at) s p = absurd (let e = s.run.suited in cc)
-releases_lower w i v key (Move at) s p = absurd (let e = s.run.suited in cc)
+releases_lower : (w : World) (i : ℕ) → is_valid w.layout ≡ true → (let_go : LetGo) (base : Base) → Seat w i (Releases let_go) base → Knows w i (Releases let_go) base → Lowers w i (Releases let_go) base
+releases_lower w i v let_go (Clear index) s p = clear_releases w i v let_go index s p
+releases_lower w i v let_go (Release index) s p = span_releases w i v let_go index s p
+releases_lower w i v let_go (Begin at) s p = absurd (let e = s.run.suited in cc)
+releases_lower w i v let_go (Protect aim index root n at) s p = absurd (let e = s.run.suited in cc)
+releases_lower w i v let_go (Reload parent index slot era n) s p = absurd (let e = s.run.suited in cc)
+releases_lower w i v let_go Finish s p = absurd (let e = s.run.suited in cc)
+releases_lower w i v let_go (Allocate at) s p = absurd (let e = s.run.suited in cc)
+releases_lower w i v let_go (Write slot row place) s p = absurd (let e = s.run.suited in cc)
+releases_lower w i v let_go (GiveUp slot) s p = absurd (let e = s.run.suited in cc)
+releases_lower w i v let_go (Retire at) s p = absurd (let e = s.run.suited in cc)
+releases_lower w i v let_go (Move at) s p = absurd (let e = s.run.suited in cc)
 
 -- a machine's step, by what it is run for
 pub run_lowers : (w : World) (i : ℕ) → is_valid w.layout ≡ true → (why : Why) (base : Base) → Seat w i why base → Knows w i why base → Lowers w i why base
@@ -239,4 +239,4 @@ run_lowers w i v (GivesUp answer) base s p = gives_lower w i v answer base s p
 run_lowers w i v (Retires answer) base s p = retires_lower w i v answer base s p
 run_lowers w i v (Tidies later) base s p = tidies_lower w i v later base s p
 run_lowers w i v Advances base s p = advances_lower w i v base s p
-run_lowers w i v (Releases key) base s p = releases_lower w i v key base s p
+run_lowers w i v (Releases let_go) base s p = releases_lower w i v let_go base s p

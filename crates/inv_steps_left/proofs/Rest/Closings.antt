@@ -8,7 +8,7 @@ use Rattle.inv_contents.specs.model.Desks.{Desk}
 use Rattle.inv_contents.specs.model.Locals.{round_told, rounds_told}
 use Rattle.inv_contents.specs.model.Posts.{cleared, stands}
 use Rattle.inv_contents.specs.model.Rest.{base_left, closing_left, is_told, move_most, open_left, phase_left, protect_most, task_left}
-use Rattle.inv_contents.specs.model.Rounds.{begin_base, begin_span, clear_base, clear_post, clear_told, clearing, clearing_by, clearing_next, clearing_next_by, closed, finish_base, finish_span, finishing, finishing_by, given_up, index_of, move_base, opening, protect_base, root_of, round, round_by, scheme_of, taken_of}
+use Rattle.inv_contents.specs.model.Rounds.{begin_base, begin_span, clear_base, clear_post, clear_told, clearing, clearing_by, clearing_next, clearing_next_by, closed, finish_base, finish_span, finishing, finishing_by, given_up, index_of, kept_row, move_base, opening, protect_base, root_of, round, round_by, scheme_of, taken_of}
 use Rattle.inv_contents.specs.model.declared.post.Post.{Post}
 use Rattle.inv_contents.specs.defs.declared.call.Answer.{Answer}
 use Rattle.inv_contents.specs.defs.declared.event.Event.{Event}
@@ -90,7 +90,7 @@ scheme_finishes : (c : Config) (rounds : ℕ) (task : Task) (next : Next) (post 
 scheme_finishes c rounds task next post desk told scheme =
     each_finish scheme post (λ (base : Option Base). turn_left c rounds (finishing_by task next post desk told base) ≤ closing_left c (length desk.list) (rounds_told rounds told) task next)
     (let h = closed_left c rounds task next post desk told in omega (arith, h))
-    (span_finishes c rounds task next post desk told (stands post 2))
+    (span_finishes c rounds task next post desk told (kept_row post))
 
 pub finishing_left : (c : Config) (rounds : ℕ) (task : Task) (next : Next) (post : Post) (desk : Desk) (told : List Event) → turn_left c rounds (finishing task next post desk told) ≤ closing_left c (length desk.list) (rounds_told rounds told) task next
 finishing_left c rounds task Again post desk told = let h = closed_left c rounds task Again post desk told in omega (arith, h)
@@ -99,7 +99,7 @@ finishing_left c rounds task (Answering answer) post desk told = scheme_finishes
 finishing_left c rounds task (Retiring slot answer) post desk told = scheme_finishes c rounds task (Retiring slot answer) post desk told (scheme_of post)
 
 -- clearing tells no root
-cleared_rounds : (rounds index : ℕ) (stood : Option ℕ) → rounds_told rounds (cleared index stood) ≡ rounds
+pub cleared_rounds : (rounds index : ℕ) (stood : Option ℕ) → rounds_told rounds (cleared index stood) ≡ rounds
 cleared_rounds rounds index None = refl
 cleared_rounds rounds index (Some slot) = refl
 

@@ -3,15 +3,17 @@ use Rattle.std.proofs.Common.{ℕ, ◌≡◌, ◌≤◌, ◌+◌, Bool, true, fa
 use Rattle.inv_contents.specs.model.Change as alters
 use Rattle.inv_contents.specs.model.Enqueue as enqueues
 use Rattle.inv_contents.specs.model.Dequeue as dequeues
+use Rattle.inv_contents.specs.model.Keep as keeps
 use Rattle.inv_contents.specs.model.Steps as steps
 use Rattle.inv_contents.specs.model.Scan as scan
 use Rattle.inv_contents.specs.defs.declared.event.Event.TheVariants as events
 use Rattle.inv_contents.specs.defs.declared.call.Answer.TheVariants as answers
 use Rattle.inv_contents.specs.model.declared.ends.FollowEnd.TheVariants as follow_ends
 use Rattle.inv_contents.specs.model.declared.ends.AllocateEnd.TheVariants as allocate_ends
-use Rattle.inv_contents.specs.model.Calls.{AfterScan, CallOutcome, CallTurn, ChangeKept, Next, ScanAt, Task}
+use Rattle.inv_contents.specs.model.Calls.{AfterScan, CallOutcome, CallTurn, ChangeKept, LetGo, Next, ScanAt, Task}
 use Rattle.inv_contents.specs.model.Calls.AfterScan.{Answered, Counted, Repeated}
 use Rattle.inv_contents.specs.model.Calls.CallOutcome.{Answers, GoesOn}
+use Rattle.inv_contents.specs.model.Calls.LetGo.{Dropped, Rehold, Released}
 use Rattle.inv_contents.specs.model.Calls.Next.{Again, Answering, MakeRoom, Retiring}
 use Rattle.inv_contents.specs.model.Calls.ScanAt.{GiveBack, ReadGuard}
 use Rattle.inv_contents.specs.model.Calls.Task.{Changes, Dequeues, Enqueues, Gets, Holds}
@@ -20,9 +22,8 @@ use Rattle.inv_contents.specs.model.Guards.{guard_at, guards, eras_in, published
 use Rattle.inv_contents.specs.model.Locals.{rounds_told}
 use Rattle.inv_contents.specs.model.Phases.{Ending, Base}
 use Rattle.inv_contents.specs.model.Phases.Ending.{Allocated, Clocked, Done, Followed, Protected, Retired}
-use Rattle.inv_contents.specs.model.Posts.{stands}
 use Rattle.inv_contents.specs.model.Rest.{has_walked, rounds_most}
-use Rattle.inv_contents.specs.model.Rounds.{begin_base, begin_span, bucket_of, clear_base, clear_post, clear_told, clearing, clearing_by, clearing_next, clearing_next_by, closed, finish_base, finish_span, finishing, finishing_by, given_up, index_of, opening, root_of, round, round_by, scheme_of, taken_of}
+use Rattle.inv_contents.specs.model.Rounds.{begin_base, begin_span, bucket_of, clear_base, clear_post, clear_told, clearing, clearing_by, clearing_next, clearing_next_by, closed, finish_base, finish_span, finishing, finishing_by, given_up, index_of, kept_row, opening, root_of, round, round_by, scheme_of, taken_of}
 use Rattle.inv_contents.specs.model.declared.ends.AllocateEnd.{AllocateEnd}
 use Rattle.inv_contents.specs.model.declared.ends.FollowEnd.{FollowEnd}
 use Rattle.inv_contents.specs.model.declared.post.Post.{Post}
@@ -94,7 +95,7 @@ scheme_finish : (c : Config) (rounds : ℕ) (task : Task) (next : Next) (post : 
 scheme_finish c rounds task next post desk told scheme e n =
     each_finish scheme post (λ (base : Option Base). TurnFit c rounds (finishing_by task next post desk told base))
     (closed_fit c rounds task next post desk told n)
-    (span_finish c rounds task next post desk told (stands post 2) e n)
+    (span_finish c rounds task next post desk told (kept_row post) e n)
 
 pub finishing_fit : (c : Config) (rounds : ℕ) (task : Task) (next : Next) (post : Post) (desk : Desk) (told : List Event) → next_fit c (rounds_told rounds told) task next → TurnFit c rounds (finishing task next post desk told)
 finishing_fit c rounds task Again post desk told n = closed_fit c rounds task Again post desk told n
@@ -145,7 +146,7 @@ deciding_by_fit c rounds kept post desk told (Some answer) i = clearing_fit c ro
 deciding_by_fit c rounds kept post desk told None i = i
 
 pub deciding_fit : (c : Config) (rounds : ℕ) (kept : ChangeKept) (post : Post) (desk : Desk) (told : List Event) → InRound (rounds_most c (Changes kept)) (rounds_told rounds told) → TurnFit c rounds (alters.deciding kept post desk told)
-deciding_fit c rounds kept post desk told i = deciding_by_fit c rounds kept post desk told (alters.refusal post.layout.config kept.version kept.pairs kept.change) i
+deciding_fit c rounds kept post desk told i = deciding_by_fit c rounds kept post desk told (alters.refused post.layout.config kept) i
 
 pub opened_null_fit : (c : Config) (rounds : ℕ) (task : Task) (post : Post) (desk : Desk) (told : List Event) (lost : ℕ) → is_queue task ≡ false → rounds_told rounds told ≡ lost + 1 → lost ≤ rounds_most c task → TurnFit c rounds (steps.opened_null task post desk told)
 opened_null_fit c rounds (Gets key) post desk told lost q e h = clearing_fit c rounds (Gets key) (Answering (answers.Got 0 None)) post desk (told ++ events.Got (bucket_of post key) 0 key None ∷ []) tt
@@ -228,9 +229,10 @@ advanced_fit c rounds (Followed ending) post desk told = tt
 advanced_fit c rounds (Allocated ending) post desk told = tt
 advanced_fit c rounds (Retired life) post desk told = tt
 
-pub released_fit : (c : Config) (rounds : ℕ) (key : Option ℕ) (post : Post) (desk : Desk) (told : List Event) → rounds_told rounds told ≡ 0 → TurnFit c rounds (steps.released key post desk told)
-released_fit c rounds None post desk told e = tt
-released_fit c rounds (Some key) post desk told e = round_fit c (rounds_told rounds told) (Holds key) post e
+pub released_fit : (c : Config) (rounds : ℕ) (let_go : LetGo) (post : Post) (desk : Desk) (told : List Event) → rounds_told rounds told ≡ 0 → TurnFit c rounds (keeps.released let_go post desk told)
+released_fit c rounds Released post desk told e = tt
+released_fit c rounds (Rehold key) post desk told e = round_fit c (rounds_told rounds told) (Holds key) post e
+released_fit c rounds (Dropped index) post desk told e = tt
 
 -- a scan
 

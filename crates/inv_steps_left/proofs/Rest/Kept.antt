@@ -1,6 +1,6 @@
 -- The steps that a call has left fall at its own steps, and rise at no other.
 use Rattle.std.proofs.Common.{ℕ, ◌≡◌, ◌≤◌, ◌+◌, true, [], arith, refl, sym, subst}
-use Rattle.inv_links.specs.shapes.Frame.{phase_left as stands_at, Left, SpanStands}
+use Rattle.inv_links.specs.shapes.Frame.{phase_left as stands_at, Left}
 use Rattle.inv_contents.specs.model.Steps as steps
 use Rattle.inv_contents.specs.model.Scan as scan
 use Rattle.inv_contents.specs.words.Place.{is_valid}
@@ -20,7 +20,7 @@ use Rattle.inv_contents.specs.defs.declared.event.Event.{Event}
 use Rattle.inv_contents.specs.defs.declared.lifetime.Interval.{Interval}
 use Rattle.inv_links.proofs.shapes.Decode.{clock_next}
 use Rattle.inv_links.proofs.shapes.Frame.{seat_steps}
-use Rattle.inv_links.proofs.shapes.Kept.{counted_fits, run_counted}
+use Rattle.inv_links.proofs.shapes.Kept.{counted_fits, run_counted, work_counted}
 use Rattle.inv_links.specs.shapes.Eras.{PhaseEras}
 use Rattle.inv_links.specs.shapes.Seats.{PhaseFits, Seats, scan_fits}
 use Rattle.inv_links.specs.shapes.Slots.{PhaseIn, WorkIn, phase_finds, scan_lists}
@@ -32,7 +32,7 @@ use Rattle.inv_steps_left.proofs.Rest.Falling.{Seat}
 use Rattle.inv_steps_left.proofs.Rest.Machines.{seen_rises}
 use Rattle.inv_steps_left.proofs.Rest.Runs.{total_is, turn_total}
 use Rattle.inv_steps_left.proofs.Rest.Scans.{scan_falls}
-use Rattle.inv_steps_left.proofs.Rest.Seen.{PostIs, ShowsSame, seen_grows}
+use Rattle.inv_steps_left.proofs.Rest.Seen.{PostIs, ShowsSame, seen_grows, stores_same}
 use Rattle.inv_steps_left.proofs.Rest.Works.{work_falls}
 use Rattle.inv_steps_left.specs.Falls.{RestFalls, RestNeeds}
 use Rattle.inv_steps_left.specs.Losses.{later_fit, phase_fit, work_fit}
@@ -88,11 +88,11 @@ lowers_at w i v n (Scans later at) e p b =
     still_total w.layout.config w.layout i (w.mem Clock) ((step w i).mem Clock) (w.seat i).rounds (w.seat i).post.span (scan.scan_turn later at (counted (w.seat i).post) (w.seat i).desk (finds w i)) (phase_left w.layout.config (w.seat i).rounds (w.seat i).desk.list (Scans later at)) ((clock_next w i n.eras).rises) (scan_left g later at (counted (w.seat i).post) (w.seat i).desk (finds w i) (post_is w i n.seats)) h
 lowers_at w i v n (Works work) e p b =
     let g = seen_grows w.layout i (w.seat i).post.span v in
-    let f : SpanStands (w.seat i).post = subst (λ (q : Phase). PhaseFits w.layout (w.seat i).post q) e (n.seats.fits i).phase in
+    let f = work_counted work (w.seat i).post (subst (λ (q : Phase). PhaseFits w.layout (w.seat i).post q) e (n.seats.fits i).phase) in
     let l : work_fit w.layout.config (w.seat i).rounds work = subst (λ (q : Phase). phase_fit w.layout.config (w.seat i).rounds q) e (n.losses.few i) in
     let s : WorkIn w.layout.config work = subst (λ (q : Phase). PhaseIn w.layout (w.seat i).desk q) e (n.slots.seats i).phase in
     let h = work_falls w.layout.config w.layout (w.seat i).rounds work (counted (w.seat i).post) (w.seat i).desk (finds w i) refl l s p in
-    still_total w.layout.config w.layout i (w.mem Clock) ((step w i).mem Clock) (w.seat i).rounds (w.seat i).post.span (steps.work_turn work (counted (w.seat i).post) (w.seat i).desk (finds w i)) (work_left w.layout.config (length (w.seat i).desk.list) (w.seat i).rounds work) ((clock_next w i n.eras).rises) (work_grows g work (counted (w.seat i).post) (w.seat i).desk (finds w i) f (post_is w i n.seats)) h
+    still_total w.layout.config w.layout i (w.mem Clock) ((step w i).mem Clock) (w.seat i).rounds (w.seat i).post.span (steps.work_turn work (counted (w.seat i).post) (w.seat i).desk (finds w i)) (work_left w.layout.config (length (w.seat i).desk.list) (w.seat i).rounds work) ((clock_next w i n.eras).rises) (work_grows g work (counted (w.seat i).post) (w.seat i).desk (finds w i) f (stores_same (counted (w.seat i).post) (finds w i) work) (post_is w i n.seats)) h
 
 -- a seat between calls stays so
 idle_stays : (w : World) (i : ℕ) (phase : Phase) → (w.seat i).phase ≡ phase → busy_in (stands_at (steps.phase_turn phase (counted (w.seat i).post) (w.seat i).desk (finds w i)).outcome) ≡ true → busy_in phase ≡ true

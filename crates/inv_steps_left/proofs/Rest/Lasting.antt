@@ -10,14 +10,15 @@ use Rattle.inv_contents.specs.defs.declared.fold.Change.TheVariants as changes
 use Rattle.inv_contents.specs.defs.declared.call.Call.TheVariants as names
 use Rattle.inv_contents.specs.model.declared.ends.FollowEnd.TheVariants as follow_ends
 use Rattle.inv_contents.specs.model.Allocate.{is_claimed, next_slot, walk_past, walking}
-use Rattle.inv_contents.specs.model.Calls.{CallOutcome, CallTurn, Phase, Why, Work}
+use Rattle.inv_contents.specs.model.Calls.{CallOutcome, CallTurn, LetGo, Phase, Why, Work}
 use Rattle.inv_contents.specs.model.Calls.CallOutcome.{Answers, GoesOn}
 use Rattle.inv_contents.specs.model.Calls.ChangeAt.{ExchangeRoot, LoadCount, LoadKey, LoadValue, LoadVersion}
 use Rattle.inv_contents.specs.model.Calls.DequeueAt.{ExchangeHead, LoadTail, SwingTail, TakeNumber, TakeValue}
 use Rattle.inv_contents.specs.model.Calls.EnqueueAt.{ExchangeNext, ExchangeTail, LoadNext, LoadNumber, PassTail}
+use Rattle.inv_contents.specs.model.Calls.LetGo.{Dropped, Rehold, Released}
 use Rattle.inv_contents.specs.model.Calls.Phase.{Idle, Runs, Scans, Works}
-use Rattle.inv_contents.specs.model.Calls.Task.{Changes, Dequeues, Enqueues, Gets, Holds}
-use Rattle.inv_contents.specs.model.Calls.Work.{Changing, Dequeuing, Enqueuing, Getting}
+use Rattle.inv_contents.specs.model.Calls.Task.{Dequeues, Enqueues, Gets, Holds}
+use Rattle.inv_contents.specs.model.Calls.Work.{Changing, Dequeuing, Enqueuing, Getting, Keeping}
 use Rattle.inv_contents.specs.model.Desks.{Desk}
 use Rattle.inv_contents.specs.model.Links.{parent_of}
 use Rattle.inv_contents.specs.model.Locals.{Local, begun_post, settled, turn}
@@ -33,6 +34,7 @@ use Rattle.inv_contents.specs.model.Phases.RetireAt.{LoadLife, LoadRetire, Store
 use Rattle.inv_contents.specs.model.Posts.{counted, reserves_helper, stands, tag_of, with_row, with_tag}
 use Rattle.inv_contents.specs.model.Protect.{concluded, failed_once, held_post, protected, told_held}
 use Rattle.inv_contents.specs.model.SlowPath.{answer_in, lost_turn, own_request}
+use Rattle.inv_contents.specs.model.Rounds.{let_index, letting, letting_by, release_base, scheme_of}
 use Rattle.inv_contents.specs.model.Steps.{resumed}
 use Rattle.inv_contents.specs.model.World.{World, begin, finds, step}
 use Rattle.inv_contents.specs.model.WriteRow.{last_written}
@@ -42,8 +44,8 @@ use Rattle.inv_contents.specs.defs.declared.event.Event.{Event}
 use Rattle.inv_contents.specs.defs.declared.event.Root.{Root}
 use Rattle.inv_links.proofs.shapes.Frame.{begin_begins, begin_stays, seat_stays, seat_steps}
 use Rattle.inv_links.proofs.shapes.Inside.{shape_moves}
-use Rattle.inv_links.proofs.shapes.Kept.{counted_fits, run_counted, one_moves}
-use Rattle.inv_links.specs.shapes.Frame.{Passed, SpanStands}
+use Rattle.inv_links.proofs.shapes.Kept.{counted_fits, run_counted, work_counted, one_moves}
+use Rattle.inv_links.specs.shapes.Frame.{Passed}
 use Rattle.inv_contents.specs.words.Schemes.{has_one_interval}
 use Rattle.inv_links.specs.shapes.Seats.{PhaseFits, PostFits, Run, Seats, base_fits, protect_fits}
 use Rattle.inv_steps_left.proofs.Rest.Closings.{rounds_join}
@@ -53,7 +55,7 @@ use Rattle.inv_steps_left.proofs.Rest.Loses.{run_fits}
 use Rattle.inv_steps_left.proofs.Rest.Machines.{held_span}
 use Rattle.inv_steps_left.proofs.Rest.Moves.{move_post}
 use Rattle.inv_steps_left.proofs.Rest.Own.{WorkFew, work_turn_fit}
-use Rattle.inv_steps_left.proofs.Rest.Seen.{seen_grows}
+use Rattle.inv_steps_left.proofs.Rest.Seen.{seen_grows, stores_same}
 use Rattle.inv_steps_left.specs.Falls.{LossesBegin, LossesKept, LossesStart, RestNeeds}
 use Rattle.inv_steps_left.specs.Losses.{LossNeeds, Losses, phase_fit}
 use Rattle.inv_contents.specs.words.Packed.{read_request}
@@ -105,7 +107,7 @@ base_span c (Reload parent index slot era steps) post found b f =
     if_by (found == parent + 1) (ends (with_row post index slot) (events.Held index slot (bump steps) ∷ []) (Followed (follow_ends.Followed slot))) (ends post [] (Followed (follow_ends.RootMoved found))) (λ (t : Turn). t.post.span ≡ post.span) (λ e. refl) (λ e. refl)
 base_span c (Clear index) post found b f = refl
 base_span c Finish post found b f = absurd (no_truth (sym b ∙ f))
-base_span c Release post found b f = absurd (no_truth (sym b ∙ f))
+base_span c (Release index) post found b f = absurd (no_truth (sym b ∙ f))
 base_span c (Allocate LoadBirth) post found b f = refl
 base_span c (Allocate (ClaimSlot birth walk)) post found b f =
     if_by (is_claimed found walk.slot) (walking birth post (walk_past post.layout.config.slots walk found)) (goes (record post { cursor = next_slot post.layout.config.slots walk.slot }) (events.Give walk.slot birth ∷ []) (Allocate (StoreLife birth walk.slot)))
@@ -132,8 +134,8 @@ turn_span w i v s b (Runs why base) e =
     resumed_span w.layout i v why (w.seat i).desk t.post t.told t.outcome m.post m.phase ∙ base_span w.layout.config base (counted (w.seat i).post) (finds w i) b r.fits
 turn_span w i v s b (Scans later at) e = (scan_grows (seen_grows w.layout i (w.seat i).post.span v) later at (counted (w.seat i).post) (w.seat i).desk (finds w i) (post_is w i s)).post.same
 turn_span w i v s b (Works work) e =
-    let f : SpanStands (w.seat i).post = subst (λ (q : Phase). PhaseFits w.layout (w.seat i).post q) e (s.fits i).phase in
-    (work_grows (seen_grows w.layout i (w.seat i).post.span v) work (counted (w.seat i).post) (w.seat i).desk (finds w i) f (post_is w i s)).post.same
+    let f = work_counted work (w.seat i).post (subst (λ (q : Phase). PhaseFits w.layout (w.seat i).post q) e (s.fits i).phase) in
+    (work_grows (seen_grows w.layout i (w.seat i).post.span v) work (counted (w.seat i).post) (w.seat i).desk (finds w i) f (stores_same (counted (w.seat i).post) (finds w i) work) (post_is w i s)).post.same
 
 settled_span : (l : Local) (post : Post) (desk : Desk) (told : List Event) (outcome : CallOutcome) → (settled l (record { post = post; desk = desk; told = told; outcome = outcome })).post.span ≡ post.span
 settled_span l post desk told (GoesOn phase) = refl
@@ -162,6 +164,7 @@ work_few w i (Dequeuing (SwingTail head next)) n e = n.swings head next e
 work_few w i (Dequeuing (TakeNumber head next)) n e = tt
 work_few w i (Dequeuing (TakeValue head next number)) n e = tt
 work_few w i (Dequeuing (ExchangeHead head next number value)) n e = n.dequeues head next number value e
+work_few w i (Keeping at) n e = tt
 
 turn_fits : (w : World) (i : ℕ) → is_valid w.layout ≡ true → RestNeeds w i → LossNeeds w i → (phase : Phase) → (w.seat i).phase ≡ phase → TurnFit w.layout.config (w.seat i).rounds (steps.phase_turn phase (counted (w.seat i).post) (w.seat i).desk (finds w i))
 turn_fits w i v n l Idle e = tt
@@ -188,20 +191,39 @@ losses_kept w i v n l = record {
 
 -- a call begins
 
+letting_by_fit : (c : Config) (let_go : LetGo) (base : Option Base) → phase_fit c 0 (letting_by let_go base)
+letting_by_fit c let_go (Some base) = refl
+letting_by_fit c let_go None = refl
+
+letting_fit : (c : Config) (let_go : LetGo) (post : Post) → phase_fit c 0 (letting let_go post)
+letting_fit c let_go post = letting_by_fit c let_go (release_base (scheme_of post) post (let_index let_go))
+
 holding_fit : (c : Config) (key : ℕ) (post : Post) (stood : Option ℕ) → phase_fit c 0 (steps.holding key post stood)
 holding_fit c key post None = round_fit c 0 (Holds key) post refl
-holding_fit c key post (Some slot) = refl
+holding_fit c key post (Some slot) = letting_fit c (Rehold key) post
+
+copying_fit : (c : Config) (from index : ℕ) (stood : Option ℕ) → phase_fit c 0 (steps.copying from index stood)
+copying_fit c from index None = refl
+copying_fit c from index (Some slot) = refl
+
+looking_fit : (c : Config) (index key : ℕ) (stood : Option ℕ) → phase_fit c 0 (steps.looking_at index key stood)
+looking_fit c index key None = refl
+looking_fit c index key (Some slot) = refl
 
 first_fit : (c : Config) (call : Call) (post : Post) → phase_fit c 0 (steps.first_phase call post)
 first_fit c (names.Get key) post = round_fit c 0 (Gets key) post (omega arith)
-first_fit c (names.Put key value) post = round_fit c 0 (Changes (record { change = changes.Put key value; taken = None; walked = false; link = 0; version = 0; pairs = [] })) post (omega arith)
-first_fit c (names.Remove key) post = round_fit c 0 (Changes (record { change = changes.Removed key; taken = None; walked = false; link = 0; version = 0; pairs = [] })) post (omega arith)
+first_fit c (names.Put key value) post = round_fit c 0 (steps.changing (changes.Put key value) None) post (omega arith)
+first_fit c (names.Remove key) post = round_fit c 0 (steps.changing (changes.Removed key) None) post (omega arith)
 first_fit c (names.Enqueue value) post = round_fit c 0 (Enqueues (record { value = value; taken = None; walked = false; tail = 0; number = 0 })) post (omega arith)
 first_fit c names.Dequeue post = round_fit c 0 Dequeues post (omega arith)
 first_fit c (names.Hold key) post = holding_fit c key post (stands post 2)
-first_fit c names.Release post = refl
+first_fit c names.Release post = letting_fit c Released post
 first_fit c names.Advance post = tt
 first_fit c names.Scan post = tt
+first_fit c (names.Copy from index) post = copying_fit c from index (stands post from)
+first_fit c (names.DropIndex index) post = letting_fit c (Dropped index) post
+first_fit c (names.Look index key) post = looking_fit c index key (stands post index)
+first_fit c (names.PutIf key value version) post = round_fit c 0 (steps.changing (changes.Put key value) (Some version)) post (omega arith)
 
 pub losses_begin : LossesBegin
 losses_begin w i call l = record {

@@ -9,7 +9,7 @@ use Rattle.inv_contents.specs.model.declared.ends.ProtectEnd.TheVariants as prot
 use Rattle.inv_contents.specs.model.declared.ends.FollowEnd.TheVariants as follow_ends
 use Rattle.inv_contents.specs.model.declared.ends.AllocateEnd.TheVariants as allocate_ends
 use Rattle.inv_contents.specs.model.Allocate.{is_claimed, next_slot, walk_past, walking}
-use Rattle.inv_contents.specs.model.Calls.{AfterScan, Next, Task, Why}
+use Rattle.inv_contents.specs.model.Calls.{AfterScan, LetGo, Next, Task, Why}
 use Rattle.inv_contents.specs.model.Calls.Next.{Again, Answering, MakeRoom, Retiring}
 use Rattle.inv_contents.specs.model.Calls.Task.{Changes, Dequeues, Enqueues, Gets, Holds}
 use Rattle.inv_contents.specs.model.Calls.Why.{Advances, Clears, ClearsNext, Fills, Finishes, FollowsHead, GivesUp, Opens, Releases, Retires, Tidies}
@@ -168,7 +168,7 @@ opens_fit_after w i task (Protect Follows index root n at) s l = absurd (let e =
 opens_fit_after w i task (Reload parent index slot era n) s l = absurd (let e = s.run.suited in cc)
 opens_fit_after w i task (Clear index) s l = absurd (let e = s.run.suited in cc)
 opens_fit_after w i task Finish s l = absurd (let e = s.run.suited in cc)
-opens_fit_after w i task Release s l = absurd (let e = s.run.suited in cc)
+opens_fit_after w i task (Release index) s l = absurd (let e = s.run.suited in cc)
 opens_fit_after w i task (Allocate at) s l = absurd (let e = s.run.suited in cc)
 opens_fit_after w i task (Write slot row place) s l = absurd (let e = s.run.suited in cc)
 opens_fit_after w i task (GiveUp slot) s l = absurd (let e = s.run.suited in cc)
@@ -243,7 +243,7 @@ follows_fit_after w i head tail (Reload parent index slot era n) s l =
 follows_fit_after w i head tail (Begin at) s l = absurd (let e = s.run.suited in cc)
 follows_fit_after w i head tail (Clear index) s l = absurd (let e = s.run.suited in cc)
 follows_fit_after w i head tail Finish s l = absurd (let e = s.run.suited in cc)
-follows_fit_after w i head tail Release s l = absurd (let e = s.run.suited in cc)
+follows_fit_after w i head tail (Release index) s l = absurd (let e = s.run.suited in cc)
 follows_fit_after w i head tail (Allocate at) s l = absurd (let e = s.run.suited in cc)
 follows_fit_after w i head tail (Write slot row place) s l = absurd (let e = s.run.suited in cc)
 follows_fit_after w i head tail (GiveUp slot) s l = absurd (let e = s.run.suited in cc)
@@ -281,7 +281,7 @@ fills_fit_after w i task (Protect aim index root n at) s l = absurd (let e = s.r
 fills_fit_after w i task (Reload parent index slot era n) s l = absurd (let e = s.run.suited in cc)
 fills_fit_after w i task (Clear index) s l = absurd (let e = s.run.suited in cc)
 fills_fit_after w i task Finish s l = absurd (let e = s.run.suited in cc)
-fills_fit_after w i task Release s l = absurd (let e = s.run.suited in cc)
+fills_fit_after w i task (Release index) s l = absurd (let e = s.run.suited in cc)
 fills_fit_after w i task (GiveUp slot) s l = absurd (let e = s.run.suited in cc)
 fills_fit_after w i task (Retire at) s l = absurd (let e = s.run.suited in cc)
 fills_fit_after w i task (Move at) s l = absurd (let e = s.run.suited in cc)
@@ -323,7 +323,7 @@ nexts_fit_after w i next (Begin at) s l = absurd (let e = s.run.suited in cc)
 nexts_fit_after w i next (Protect aim index root n at) s l = absurd (let e = s.run.suited in cc)
 nexts_fit_after w i next (Reload parent index slot era n) s l = absurd (let e = s.run.suited in cc)
 nexts_fit_after w i next Finish s l = absurd (let e = s.run.suited in cc)
-nexts_fit_after w i next Release s l = absurd (let e = s.run.suited in cc)
+nexts_fit_after w i next (Release index) s l = absurd (let e = s.run.suited in cc)
 nexts_fit_after w i next (Allocate at) s l = absurd (let e = s.run.suited in cc)
 nexts_fit_after w i next (Write slot row place) s l = absurd (let e = s.run.suited in cc)
 nexts_fit_after w i next (GiveUp slot) s l = absurd (let e = s.run.suited in cc)
@@ -338,7 +338,7 @@ clears_fit_after w i task next (Begin at) s l = absurd (let e = s.run.suited in 
 clears_fit_after w i task next (Protect aim index root n at) s l = absurd (let e = s.run.suited in cc)
 clears_fit_after w i task next (Reload parent index slot era n) s l = absurd (let e = s.run.suited in cc)
 clears_fit_after w i task next Finish s l = absurd (let e = s.run.suited in cc)
-clears_fit_after w i task next Release s l = absurd (let e = s.run.suited in cc)
+clears_fit_after w i task next (Release index) s l = absurd (let e = s.run.suited in cc)
 clears_fit_after w i task next (Allocate at) s l = absurd (let e = s.run.suited in cc)
 clears_fit_after w i task next (Write slot row place) s l = absurd (let e = s.run.suited in cc)
 clears_fit_after w i task next (GiveUp slot) s l = absurd (let e = s.run.suited in cc)
@@ -352,7 +352,7 @@ finishes_fit_after w i task next (Begin at) s l = absurd (let e = s.run.suited i
 finishes_fit_after w i task next (Protect aim index root n at) s l = absurd (let e = s.run.suited in cc)
 finishes_fit_after w i task next (Reload parent index slot era n) s l = absurd (let e = s.run.suited in cc)
 finishes_fit_after w i task next (Clear index) s l = absurd (let e = s.run.suited in cc)
-finishes_fit_after w i task next Release s l = absurd (let e = s.run.suited in cc)
+finishes_fit_after w i task next (Release index) s l = absurd (let e = s.run.suited in cc)
 finishes_fit_after w i task next (Allocate at) s l = absurd (let e = s.run.suited in cc)
 finishes_fit_after w i task next (Write slot row place) s l = absurd (let e = s.run.suited in cc)
 finishes_fit_after w i task next (GiveUp slot) s l = absurd (let e = s.run.suited in cc)
@@ -366,7 +366,7 @@ gives_fit_after w i answer (Protect aim index root n at) s l = absurd (let e = s
 gives_fit_after w i answer (Reload parent index slot era n) s l = absurd (let e = s.run.suited in cc)
 gives_fit_after w i answer (Clear index) s l = absurd (let e = s.run.suited in cc)
 gives_fit_after w i answer Finish s l = absurd (let e = s.run.suited in cc)
-gives_fit_after w i answer Release s l = absurd (let e = s.run.suited in cc)
+gives_fit_after w i answer (Release index) s l = absurd (let e = s.run.suited in cc)
 gives_fit_after w i answer (Allocate at) s l = absurd (let e = s.run.suited in cc)
 gives_fit_after w i answer (Write slot row place) s l = absurd (let e = s.run.suited in cc)
 gives_fit_after w i answer (Retire at) s l = absurd (let e = s.run.suited in cc)
@@ -381,28 +381,28 @@ tidies_fit_after w i later (Protect aim index root n at) s l = absurd (let e = s
 tidies_fit_after w i later (Reload parent index slot era n) s l = absurd (let e = s.run.suited in cc)
 tidies_fit_after w i later (Clear index) s l = absurd (let e = s.run.suited in cc)
 tidies_fit_after w i later Finish s l = absurd (let e = s.run.suited in cc)
-tidies_fit_after w i later Release s l = absurd (let e = s.run.suited in cc)
+tidies_fit_after w i later (Release index) s l = absurd (let e = s.run.suited in cc)
 tidies_fit_after w i later (Allocate at) s l = absurd (let e = s.run.suited in cc)
 tidies_fit_after w i later (Write slot row place) s l = absurd (let e = s.run.suited in cc)
 tidies_fit_after w i later (GiveUp slot) s l = absurd (let e = s.run.suited in cc)
 tidies_fit_after w i later (Retire at) s l = absurd (let e = s.run.suited in cc)
 
-releases_fit_after : (w : World) (i : ℕ) (key : Option ℕ) (base : Base) → Seat w i (Releases key) base → LossNeeds w i → FitAfter w i (Releases key) base
-releases_fit_after w i key (Clear index) s l =
+releases_fit_after : (w : World) (i : ℕ) (let_go : LetGo) (base : Base) → Seat w i (Releases let_go) base → LossNeeds w i → FitAfter w i (Releases let_go) base
+releases_fit_after w i let_go (Clear index) s l =
     let t : Turn = after (Clear index) (counted (w.seat i).post) (finds w i) in
-    released_fit w.layout.config (w.seat i).rounds key (withdrawn (counted (w.seat i).post) index) (w.seat i).desk t.told (clear_rounds w i index ∙ s.lost)
-releases_fit_after w i key Release s l =
-    let t : Turn = after Release (counted (w.seat i).post) (finds w i) in
-    released_fit w.layout.config (w.seat i).rounds key t.post (w.seat i).desk t.told (base_steady (w.seat i).rounds Release (counted (w.seat i).post) (finds w i) refl ∙ s.lost)
-releases_fit_after w i key (Begin at) s l = absurd (let e = s.run.suited in cc)
-releases_fit_after w i key (Protect aim index root n at) s l = absurd (let e = s.run.suited in cc)
-releases_fit_after w i key (Reload parent index slot era n) s l = absurd (let e = s.run.suited in cc)
-releases_fit_after w i key Finish s l = absurd (let e = s.run.suited in cc)
-releases_fit_after w i key (Allocate at) s l = absurd (let e = s.run.suited in cc)
-releases_fit_after w i key (Write slot row place) s l = absurd (let e = s.run.suited in cc)
-releases_fit_after w i key (GiveUp slot) s l = absurd (let e = s.run.suited in cc)
-releases_fit_after w i key (Retire at) s l = absurd (let e = s.run.suited in cc)
-releases_fit_after w i key (Move at) s l = absurd (let e = s.run.suited in cc)
+    released_fit w.layout.config (w.seat i).rounds let_go (withdrawn (counted (w.seat i).post) index) (w.seat i).desk t.told (clear_rounds w i index ∙ s.lost)
+releases_fit_after w i let_go (Release index) s l =
+    let t : Turn = after (Release index) (counted (w.seat i).post) (finds w i) in
+    released_fit w.layout.config (w.seat i).rounds let_go t.post (w.seat i).desk t.told (base_steady (w.seat i).rounds (Release index) (counted (w.seat i).post) (finds w i) refl ∙ s.lost)
+releases_fit_after w i let_go (Begin at) s l = absurd (let e = s.run.suited in cc)
+releases_fit_after w i let_go (Protect aim index root n at) s l = absurd (let e = s.run.suited in cc)
+releases_fit_after w i let_go (Reload parent index slot era n) s l = absurd (let e = s.run.suited in cc)
+releases_fit_after w i let_go Finish s l = absurd (let e = s.run.suited in cc)
+releases_fit_after w i let_go (Allocate at) s l = absurd (let e = s.run.suited in cc)
+releases_fit_after w i let_go (Write slot row place) s l = absurd (let e = s.run.suited in cc)
+releases_fit_after w i let_go (GiveUp slot) s l = absurd (let e = s.run.suited in cc)
+releases_fit_after w i let_go (Retire at) s l = absurd (let e = s.run.suited in cc)
+releases_fit_after w i let_go (Move at) s l = absurd (let e = s.run.suited in cc)
 
 pub run_fits : (w : World) (i : ℕ) (why : Why) (base : Base) → Seat w i why base → LossNeeds w i → FitAfter w i why base
 run_fits w i (Opens task) base s l = opens_fit_after w i task base s l
@@ -415,4 +415,4 @@ run_fits w i (GivesUp answer) base s l = gives_fit_after w i answer base s l
 run_fits w i (Retires answer) base s l = retire_resumes w.layout.config (w.seat i).rounds answer (w.seat i).desk (after base (counted (w.seat i).post) (finds w i))
 run_fits w i (Tidies later) base s l = tidies_fit_after w i later base s l
 run_fits w i Advances base s l = advance_resumes w.layout.config (w.seat i).rounds (w.seat i).desk (after base (counted (w.seat i).post) (finds w i))
-run_fits w i (Releases key) base s l = releases_fit_after w i key base s l
+run_fits w i (Releases let_go) base s l = releases_fit_after w i let_go base s l

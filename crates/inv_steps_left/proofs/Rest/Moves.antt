@@ -60,7 +60,7 @@ base_owes c (Protect aim index root steps at) post found = false ≡ true
 base_owes c (Reload parent index slot era steps) post found = Unit {0}
 base_owes c (Clear index) post found = Unit {0}
 base_owes c Finish post found = Unit {0}
-base_owes c Release post found = Unit {0}
+base_owes c (Release index) post found = Unit {0}
 base_owes c (Allocate at) post found = Unit {0}
 base_owes c (Write slot row place) post found = place ≤ last_written row
 base_owes c (GiveUp slot) post found = Unit {0}
@@ -75,7 +75,7 @@ falls_settles c left old clock post told (Goes (Protect aim index root steps at)
 falls_settles c left old clock post told (Goes (Reload parent index slot era steps)) f h = absurd f
 falls_settles c left old clock post told (Goes (Clear index)) f h = absurd f
 falls_settles c left old clock post told (Goes Finish) f h = absurd f
-falls_settles c left old clock post told (Goes Release) f h = absurd f
+falls_settles c left old clock post told (Goes (Release index)) f h = absurd f
 falls_settles c left old clock post told (Goes (Allocate at)) f h = absurd f
 falls_settles c left old clock post told (Goes (Write slot row place)) f h = absurd f
 falls_settles c left old clock post told (Goes (GiveUp slot)) f h = absurd f
@@ -110,7 +110,7 @@ base_settles c clock next (Reload parent index slot era steps) post found t r s 
     (Settles c (start_of c clock post.span (Reload parent index slot era steps)) next) (λ e. omega (arith, k)) (λ e. omega (arith, k))
 base_settles c clock next (Clear index) post found t r s o = let k = seen_rises clock next post.span r in omega (arith, k)
 base_settles c clock next Finish post found t r s o = omega (arith, r, s)
-base_settles c clock next Release post found t r s o = omega (arith, r, s)
+base_settles c clock next (Release index) post found t r s o = omega (arith, r, s)
 base_settles c clock next (Allocate LoadBirth) post found t r s o = let k = seen_rises clock next post.span r in rw t (omega (arith, k))
 base_settles c clock next (Allocate (ClaimSlot birth walk)) post found t r s o =
     let k = seen_rises clock next post.span r in

@@ -2,7 +2,7 @@
 use Rattle.std.proofs.Common.{ℕ, ◌≡◌, ◌≤◌, ◌+◌, ◌*◌, ◌-◌, Bool, true, false, [], ◌∷◌, arith, refl, subst}
 use Rattle.inv_steps_left.proofs.Rest.Amounts.{PhaseKnown, opens_worth, task_drops}
 use Rattle.inv_links.specs.shapes.Frame.{phase_left as stands_at}
-use Rattle.inv_contents.specs.model.Change.{filling_by as change_filling, with_change, at_link, deciding, deciding_by, refusal}
+use Rattle.inv_contents.specs.model.Change.{filling_by as change_filling, with_change, at_link, deciding, deciding_by, refused}
 use Rattle.inv_contents.specs.model.Enqueue.{filling_by as item_filling}
 use Rattle.inv_contents.specs.defs.declared.event.Event.TheVariants as events
 use Rattle.inv_contents.specs.defs.declared.call.Answer.TheVariants as answers
@@ -67,7 +67,7 @@ deciding_by_left c layout rounds kept post desk told None t p =
 pub deciding_left : (c : Config) (layout : Layout) (rounds : ℕ) (kept : ChangeKept) (post : Post) (desk : Desk) (told : List Event) → layout.config ≡ c
     → PhaseKnown layout (stands_at (deciding kept post desk told).outcome)
     → turn_left c rounds (deciding kept post desk told) ≤ 2 * c.pairs + 7 + task_left c (length desk.list) (Changes kept) (rounds_told rounds told - 1)
-deciding_left c layout rounds kept post desk told t p = deciding_by_left c layout rounds kept post desk told (refusal post.layout.config kept.version kept.pairs kept.change) t p
+deciding_left c layout rounds kept post desk told t p = deciding_by_left c layout rounds kept post desk told (refused post.layout.config kept) t p
 
 pub opened_null_left : (c : Config) (layout : Layout) (rounds : ℕ) (task : Task) (post : Post) (desk : Desk) (told : List Event) (lost : ℕ) → layout.config ≡ c → rounds_told rounds told ≡ lost + 1 → lost ≤ rounds_most c task
     → PhaseKnown layout (stands_at (opened_null task post desk told).outcome)

@@ -1,32 +1,37 @@
 -- A call's own step has lost no more rounds than its task may.
-use Rattle.std.proofs.Common.{ℕ, ◌≡◌, ◌≤◌, ◌+◌, ◌-◌, Bool, true, false, [], ◌∷◌, refl}
+use Rattle.std.proofs.Common.{ℕ, ◌∙◌, ◌≡◌, ◌≤◌, ◌+◌, ◌-◌, Bool, true, false, [], ◌∷◌, refl}
 use Rattle.inv_contents.specs.model.Change as alters
 use Rattle.inv_contents.specs.model.Enqueue as enqueues
 use Rattle.inv_contents.specs.model.Dequeue as dequeues
 use Rattle.inv_contents.specs.model.Get as gets
+use Rattle.inv_contents.specs.model.Keep as keeps
 use Rattle.inv_contents.specs.model.Steps as steps
 use Rattle.inv_contents.specs.defs.declared.event.Event.TheVariants as events
 use Rattle.inv_contents.specs.defs.declared.event.Root.TheVariants as roots
 use Rattle.inv_contents.specs.defs.declared.call.Answer.TheVariants as answers
 use Rattle.inv_contents.specs.defs.declared.call.ClockMove.TheVariants as moves
-use Rattle.inv_contents.specs.model.Calls.{ChangeAt, ChangeKept, DequeueAt, EnqueueAt, EnqueueKept, GetAt, Next, Task, Work}
+use Rattle.inv_contents.specs.model.Calls.{ChangeAt, ChangeKept, DequeueAt, EnqueueAt, EnqueueKept, GetAt, KeepAt, Next, Task, Work}
 use Rattle.inv_contents.specs.model.Calls.ChangeAt.{ExchangeRoot, LoadCount, LoadKey, LoadValue, LoadVersion}
 use Rattle.inv_contents.specs.model.Calls.DequeueAt.{ExchangeHead, LoadTail, SwingTail, TakeNumber, TakeValue}
 use Rattle.inv_contents.specs.model.Calls.EnqueueAt.{ExchangeNext, ExchangeTail, LoadNext, LoadNumber, PassTail}
 use Rattle.inv_contents.specs.model.Calls.GetAt.{FindCount, FindKey, FindValue, FindVersion}
+use Rattle.inv_contents.specs.model.Calls.KeepAt.{LoadHeld, Looks, Loosens, Misses, StoreHeld}
 use Rattle.inv_contents.specs.model.Calls.Next.{Again, Answering, Retiring}
 use Rattle.inv_contents.specs.model.Calls.Task.{Changes, Dequeues, Enqueues, Gets}
-use Rattle.inv_contents.specs.model.Calls.Work.{Changing, Dequeuing, Enqueuing, Getting}
+use Rattle.inv_contents.specs.model.Calls.Work.{Changing, Dequeuing, Enqueuing, Getting, Keeping}
 use Rattle.inv_contents.specs.model.Dequeue.{taken}
 use Rattle.inv_contents.specs.model.Desks.{Desk}
 use Rattle.inv_contents.specs.model.Locals.{rounds_told}
+use Rattle.inv_contents.specs.model.Posts.{cleared, reserves_index, stands, withdrawn}
 use Rattle.inv_contents.specs.model.Rest.{rounds_most}
-use Rattle.inv_contents.specs.model.Rounds.{bucket_of}
+use Rattle.inv_contents.specs.model.Rounds.{bucket_of, let_index, scheme_of}
 use Rattle.inv_contents.specs.model.declared.post.Post.{Post}
 use Rattle.inv_contents.specs.defs.declared.event.Event.{Event}
-use Rattle.inv_steps_left.proofs.Rest.Fits.{TurnFit, clearing_fit, clearing_next_fit, deciding_fit}
+use Rattle.inv_steps_left.proofs.Rest.Fits.{TurnFit, clearing_fit, clearing_next_fit, deciding_fit, released_fit}
+use Rattle.inv_steps_left.proofs.Rest.Closings.{cleared_rounds}
 use Rattle.inv_steps_left.proofs.Rest.Works.{link_told}
 use Rattle.inv_steps_left.specs.Losses.{InRound, lost_fit, next_fit, work_fit}
+use Rattle.inv_contents.specs.words.Schemes.{has_one_interval}
 use Rattle.inv_contents.specs.words.declared.config.Config.{Config}
 use Rattle.std.specs.Prelude.{List, ◌++◌, length, Option, Some, None, nat_lt, ◌==◌}
 use Rattle.inv_contents.proofs.model.Facts.{if_by}
@@ -79,6 +84,7 @@ WorkFew c rounds (Dequeuing (SwingTail head next)) found = rounds ≤ rounds_mos
 WorkFew c rounds (Dequeuing (TakeNumber head next)) found = Unit {0}
 WorkFew c rounds (Dequeuing (TakeValue head next number)) found = Unit {0}
 WorkFew c rounds (Dequeuing (ExchangeHead head next number value)) found = (found == head + 1) ≡ false → rounds ≤ rounds_most c Dequeues
+WorkFew c rounds (Keeping at) found = Unit {0}
 
 change_fit : (c : Config) (rounds : ℕ) (kept : ChangeKept) (at : ChangeAt) (post : Post) (desk : Desk) (found : ℕ) → InRound (rounds_most c (Changes kept)) rounds → WorkFew c rounds (Changing kept at) found → TurnFit c rounds (alters.change_turn kept at post desk found)
 change_fit c rounds kept (LoadVersion slot) post desk found i l = i
@@ -125,8 +131,39 @@ dequeue_fit c rounds (TakeNumber head next) post desk found i l = i
 dequeue_fit c rounds (TakeValue head next number) post desk found i l = i
 dequeue_fit c rounds (ExchangeHead head next number value) post desk found i l = taken_fit c rounds head next number value post desk (found == head + 1) i l
 
+copied_fit : (c : Config) (rounds from index : ℕ) (post : Post) (desk : Desk) (reserved : List Event) (x : Option ℕ) → TurnFit c rounds (keeps.copied from index post desk reserved x)
+copied_fit c rounds from index post desk reserved (Some slot) = tt
+copied_fit c rounds from index post desk reserved None = tt
+
+held_fit : (c : Config) (rounds from index : ℕ) (post : Post) (desk : Desk) (found : ℕ) (one : Bool) → rounds ≡ 0 → TurnFit c rounds (keeps.load_held from index post desk found one)
+held_fit c rounds from index post desk found true i = copied_fit c rounds from index post desk [] (stands post from)
+held_fit c rounds from index post desk found false i = i
+
+looking_fit : (c : Config) (rounds index key slot version count : ℕ) (post : Post) (desk : Desk) (more : Bool) (pair : ℕ) → rounds ≡ 0 → TurnFit c rounds (keeps.looking index key slot version count post desk more pair)
+looking_fit c rounds index key slot version count post desk true pair i = i
+looking_fit c rounds index key slot version count post desk false pair i = tt
+
+looked_fit : (c : Config) (rounds index key slot version count pair : ℕ) (post : Post) (desk : Desk) (own : Bool) → rounds ≡ 0 → TurnFit c rounds (keeps.looked_key index key slot version count pair post desk own)
+looked_fit c rounds index key slot version count pair post desk true i = i
+looked_fit c rounds index key slot version count pair post desk false i = looking_fit c rounds index key slot version count post desk (nat_lt (pair + 1) count) (pair + 1) i
+
+look_fit : (c : Config) (rounds index key : ℕ) (at : GetAt) (post : Post) (desk : Desk) (found : ℕ) → rounds ≡ 0 → TurnFit c rounds (keeps.look_turn index key at post desk found)
+look_fit c rounds index key (FindVersion slot) post desk found i = i
+look_fit c rounds index key (FindCount slot version) post desk found i = looking_fit c rounds index key slot version found post desk (nat_lt 0 found) 0 i
+look_fit c rounds index key (FindKey slot version count pair) post desk found i = looked_fit c rounds index key slot version count pair post desk (found == key) i
+look_fit c rounds index key (FindValue slot version pair) post desk found i = tt
+
+keep_fit : (c : Config) (rounds : ℕ) (at : KeepAt) (post : Post) (desk : Desk) (found : ℕ) → rounds ≡ 0 → TurnFit c rounds (keeps.keep_turn at post desk found)
+keep_fit c rounds (Loosens let_go) post desk found i =
+    released_fit c rounds let_go (withdrawn post (let_index let_go)) desk (cleared (let_index let_go) (stands post (let_index let_go))) (cleared_rounds rounds (let_index let_go) (stands post (let_index let_go)) ∙ i)
+keep_fit c rounds (LoadHeld from index) post desk found i = held_fit c rounds from index post desk found (has_one_interval (scheme_of post)) i
+keep_fit c rounds (StoreHeld from index era) post desk found i = copied_fit c rounds from index post desk (reserves_index post index era) (stands post from)
+keep_fit c rounds (Looks index key at) post desk found i = look_fit c rounds index key at post desk found i
+keep_fit c rounds (Misses index) post desk found i = tt
+
 pub work_turn_fit : (c : Config) (rounds : ℕ) (work : Work) (post : Post) (desk : Desk) (found : ℕ) → work_fit c rounds work → WorkFew c rounds work found → TurnFit c rounds (steps.work_turn work post desk found)
 work_turn_fit c rounds (Getting key at) post desk found i l = get_fit c rounds key at post desk found i
 work_turn_fit c rounds (Changing kept at) post desk found i l = change_fit c rounds kept at post desk found i l
 work_turn_fit c rounds (Enqueuing kept at) post desk found i l = enqueue_fit c rounds kept at post desk found i l
 work_turn_fit c rounds (Dequeuing at) post desk found i l = dequeue_fit c rounds at post desk found i l
+work_turn_fit c rounds (Keeping at) post desk found i l = keep_fit c rounds at post desk found i

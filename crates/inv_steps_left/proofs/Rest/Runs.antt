@@ -202,7 +202,7 @@ Walks (Goes (Protect aim index root n at)) = false ≡ true
 Walks (Goes (Reload parent index slot era n)) = false ≡ true
 Walks (Goes (Clear index)) = false ≡ true
 Walks (Goes Finish) = false ≡ true
-Walks (Goes Release) = false ≡ true
+Walks (Goes (Release index)) = false ≡ true
 Walks (Goes (Write slot row place)) = false ≡ true
 Walks (Goes (GiveUp slot)) = false ≡ true
 Walks (Goes (Retire at)) = false ≡ true
@@ -235,7 +235,7 @@ allocates_on c layout k next rounds task desk post told (Goes (Protect aim index
 allocates_on c layout k next rounds task desk post told (Goes (Reload parent index slot era n)) old f e w a = absurd (cc)
 allocates_on c layout k next rounds task desk post told (Goes (Clear index)) old f e w a = absurd (cc)
 allocates_on c layout k next rounds task desk post told (Goes Finish) old f e w a = absurd (cc)
-allocates_on c layout k next rounds task desk post told (Goes Release) old f e w a = absurd (cc)
+allocates_on c layout k next rounds task desk post told (Goes (Release index)) old f e w a = absurd (cc)
 allocates_on c layout k next rounds task desk post told (Goes (Write slot row place)) old f e w a = absurd (cc)
 allocates_on c layout k next rounds task desk post told (Goes (GiveUp slot)) old f e w a = absurd (cc)
 allocates_on c layout k next rounds task desk post told (Goes (Retire at)) old f e w a = absurd (cc)

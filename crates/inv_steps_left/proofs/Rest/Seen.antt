@@ -1,10 +1,12 @@
 -- What comes after a machine shows no other era than the seat's interval or the clock.
 use Rattle.std.proofs.Common.{ℕ, ◌≡◌, true, refl}
-use Rattle.inv_links.specs.shapes.Frame.{Grows}
+use Rattle.inv_links.specs.shapes.Frame.{Grows, Stores}
 use Rattle.inv_contents.specs.words.Place.{is_valid}
-use Rattle.inv_contents.specs.model.Calls.{Phase}
-use Rattle.inv_contents.specs.model.Rest.{base_seen, phase_seen, protect_seen}
-use Rattle.inv_contents.specs.model.Rounds.{protect_at, release_base, scheme_of}
+use Rattle.inv_contents.specs.model.Calls.{Phase, Work}
+use Rattle.inv_contents.specs.model.Calls.KeepAt.{LoadHeld}
+use Rattle.inv_contents.specs.model.Calls.Work.{Keeping}
+use Rattle.inv_contents.specs.model.Rest.{phase_seen, protect_seen}
+use Rattle.inv_contents.specs.model.Rounds.{protect_at, scheme_of}
 use Rattle.inv_contents.specs.model.declared.post.Post.{Post}
 use Rattle.inv_contents.specs.defs.declared.lifetime.Interval.{Interval}
 use Rattle.inv_links.proofs.shapes.Shapes.{shape_grows}
@@ -13,8 +15,6 @@ use Rattle.inv_contents.specs.words.declared.config.SchemeKind.{SchemeKind}
 use Rattle.inv_contents.specs.words.declared.config.SchemeKind.TheVariants.{He, Ibr, Wfe}
 use Rattle.inv_contents.specs.words.declared.layout.Layout.{Layout}
 use Rattle.std.specs.Prelude.{Option}
-use Rattle.inv_contents.proofs.model.Schemes.{each_release}
-use Rattle.inv_contents.specs.model.Phases.{Base}
 
 -- a post of the seat with this interval
 pub record PostIs (layout : Layout) (k : ℕ) (span : Option Interval) (post : Post) : Type 0 where
@@ -30,8 +30,9 @@ protect_same He seen = refl
 protect_same Ibr seen = refl
 protect_same Wfe seen = refl
 
-release_same : (scheme : SchemeKind) (seen : ℕ) → base_seen (release_base scheme) seen ≡ seen
-release_same scheme seen = each_release scheme (λ (base : Base). base_seen base seen ≡ seen) refl refl
+pub stores_same : (post : Post) (found : ℕ) (work : Work) → Stores ShowsSame post found work
+stores_same post found (Keeping (LoadHeld from index)) = λ one seen. refl
+stores_same post found work = tt
 
 pub seen_grows : (layout : Layout) (k : ℕ) (span : Option Interval) → is_valid layout ≡ true → Grows (PostIs layout k span) ShowsSame
 seen_grows layout k span v =
@@ -39,6 +40,7 @@ seen_grows layout k span v =
     record {
       guarded = λ post q. g.guarded post q.fits;
       withdraws = λ post index ibr q. record { fits = g.withdraws post index ibr q.fits; same = q.same };
+      copies = λ post index slot q. record { fits = g.copies post index slot q.fits; same = q.same };
       idle = λ post q seen. refl;
       begins = λ post task ibr none q seen. refl;
       opens = λ post task s q seen. protect_same (scheme_of post) seen;
@@ -52,8 +54,9 @@ seen_grows layout k span v =
       retires = λ post answer slot q seen. refl;
       tidies = λ post later q seen. refl;
       advances = λ post q seen. refl;
-      releases = λ post key q seen. release_same (scheme_of post) seen;
+      clears_kept = λ post let_go n q seen. refl;
+      releases = λ post let_go ibr none q seen. refl;
       scans = λ post later number b q seen. refl;
       gives_back = λ post later place slot q seen. refl;
-      works = λ post work s q seen. refl;
+      works = λ post work stores s q seen. refl;
     }

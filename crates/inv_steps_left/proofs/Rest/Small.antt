@@ -5,18 +5,20 @@ use Rattle.inv_contents.specs.words.Place.{is_valid}
 use Rattle.inv_contents.specs.words.Place.Place.{Clock}
 use Rattle.inv_contents.specs.model.Phases.Base.{Move, Allocate, Begin, Clear, Finish, GiveUp, Protect, Release, Reload, Retire, Write}
 use Rattle.inv_contents.proofs.model.Ranges.{bounds_of}
-use Rattle.inv_contents.specs.model.Calls.{AfterScan, ChangeAt, ChangeKept, DequeueAt, EnqueueAt, GetAt, Next, Phase, ScanAt, Task, Why, Work}
+use Rattle.inv_contents.specs.model.Calls.{AfterScan, ChangeAt, ChangeKept, DequeueAt, EnqueueAt, GetAt, KeepAt, LetGo, Next, Phase, ScanAt, Task, Why, Work}
 use Rattle.inv_contents.specs.model.Calls.AfterScan.{Answered, Counted, Repeated}
 use Rattle.inv_contents.specs.model.Calls.ChangeAt.{ExchangeRoot, LoadCount, LoadKey, LoadValue, LoadVersion}
 use Rattle.inv_contents.specs.model.Calls.DequeueAt.{ExchangeHead, LoadTail, SwingTail, TakeNumber, TakeValue}
 use Rattle.inv_contents.specs.model.Calls.EnqueueAt.{ExchangeNext, ExchangeTail, LoadNext, LoadNumber, PassTail}
 use Rattle.inv_contents.specs.model.Calls.GetAt.{FindCount, FindKey, FindValue, FindVersion}
+use Rattle.inv_contents.specs.model.Calls.KeepAt.{LoadHeld, Looks, Loosens, Misses, StoreHeld}
+use Rattle.inv_contents.specs.model.Calls.LetGo.{Dropped, Rehold, Released}
 use Rattle.inv_contents.specs.model.Calls.Next.{Again, Answering, MakeRoom, Retiring}
 use Rattle.inv_contents.specs.model.Calls.Phase.{Idle, Runs, Scans, Works}
 use Rattle.inv_contents.specs.model.Calls.ScanAt.{GiveBack, ReadGuard}
 use Rattle.inv_contents.specs.model.Calls.Task.{Changes, Dequeues, Enqueues, Gets, Holds}
 use Rattle.inv_contents.specs.model.Calls.Why.{Advances, Clears, ClearsNext, Fills, Finishes, FollowsHead, GivesUp, Opens, Releases, Retires, Tidies}
-use Rattle.inv_contents.specs.model.Calls.Work.{Changing, Dequeuing, Enqueuing, Getting}
+use Rattle.inv_contents.specs.model.Calls.Work.{Changing, Dequeuing, Enqueuing, Getting, Keeping}
 use Rattle.inv_contents.specs.model.Desks.{Desk}
 use Rattle.inv_contents.specs.model.Guards.{guards, guards_by}
 use Rattle.inv_contents.specs.model.Locals.{Local}
@@ -29,7 +31,7 @@ use Rattle.inv_contents.specs.model.Phases.ProtectAt.{AnswerOwn, CheckClock, Che
 use Rattle.inv_contents.specs.model.Phases.RetireAt.{LoadLife, LoadRetire, StoreRetired}
 use Rattle.inv_contents.specs.model.Phases.RowOf.{MapRow, QueueRow}
 use Rattle.inv_contents.specs.model.Phases.Tries.{Endless, Failed}
-use Rattle.inv_contents.specs.model.Rest.{aim_left, allocate_left, base_left, base_seen, begin_left, change_left, closing_left, dequeue_left, enqueue_left, fill_left, filling_left, get_left, has_walked, is_told, later_left, lost_by, move_left, phase_left, phase_seen, protect_left, protect_seen, rest, rest_of, retire_left, room_most, round_left, round_worth, rounds_left, rounds_most, scan_left, span_seen, task_left, tries_left, walks_after, walks_by, why_left, work_left}
+use Rattle.inv_contents.specs.model.Rest.{aim_left, allocate_left, base_left, base_seen, begin_left, change_left, closing_left, dequeue_left, enqueue_left, fill_left, filling_left, get_left, has_walked, is_told, keep_left, later_left, let_left, lost_by, move_left, phase_left, phase_seen, protect_left, protect_seen, rest, rest_of, retire_left, room_most, round_left, round_worth, rounds_left, rounds_most, scan_left, span_seen, task_left, tries_left, walks_after, walks_by, why_left, work_left}
 use Rattle.inv_contents.specs.model.Rounds.{taken_of}
 use Rattle.inv_contents.specs.model.World.{step}
 use Rattle.inv_contents.specs.model.WriteRow.{last_written}
@@ -37,7 +39,7 @@ use Rattle.inv_contents.specs.model.declared.post.Post.{Post}
 use Rattle.inv_contents.specs.defs.declared.lifetime.Lifetime.{Lifetime}
 use Rattle.inv_links.proofs.shapes.Frame.{seat_stays}
 use Rattle.inv_links.specs.shapes.Seats.{PhaseFits, allocate_fits, base_fits}
-use Rattle.inv_links.specs.shapes.Slots.{BaseIn, ChangeAtIn, GetIn, PhaseIn, RowIn, WorkIn}
+use Rattle.inv_links.specs.shapes.Slots.{BaseIn, ChangeAtIn, GetIn, KeepIn, PhaseIn, RowIn, WorkIn}
 use Rattle.inv_links.specs.requests.Roles.{shows}
 use Rattle.inv_steps_left.proofs.Rest.Machines.{seen_rises}
 use Rattle.inv_steps_left.specs.Falls.{RestIsSmall, RestStays}
@@ -183,7 +185,7 @@ base_small layout (Protect aim index root steps at) f h b = let s = protect_smal
 base_small layout (Reload parent index slot era steps) f h b = omega arith
 base_small layout (Clear index) f h b = omega arith
 base_small layout Finish f h b = omega arith
-base_small layout Release f h b = omega arith
+base_small layout (Release index) f h b = omega arith
 base_small layout (Allocate at) f h b = allocate_small layout.config at f h
 base_small layout (Write slot row place) f h b = let w = written_small layout.config row f b.1 in omega (arith, w)
 base_small layout (GiveUp slot) f h b = omega arith
@@ -227,15 +229,16 @@ filling_small layout lives rounds task (Protect aim index root steps at) f b l =
 filling_small layout lives rounds task (Reload parent index slot era steps) f b l = let t = task_small layout.config lives task (rounds - 1) f l in omega (arith, b, t)
 filling_small layout lives rounds task (Clear index) f b l = let t = task_small layout.config lives task (rounds - 1) f l in omega (arith, b, t)
 filling_small layout lives rounds task Finish f b l = let t = task_small layout.config lives task (rounds - 1) f l in omega (arith, b, t)
-filling_small layout lives rounds task Release f b l = let t = task_small layout.config lives task (rounds - 1) f l in omega (arith, b, t)
+filling_small layout lives rounds task (Release index) f b l = let t = task_small layout.config lives task (rounds - 1) f l in omega (arith, b, t)
 filling_small layout lives rounds task (Write slot row place) f b l = let t = task_small layout.config lives task (rounds - 1) f l in omega (arith, b, t)
 filling_small layout lives rounds task (GiveUp slot) f b l = let t = task_small layout.config lives task (rounds - 1) f l in omega (arith, b, t)
 filling_small layout lives rounds task (Retire at) f b l = let t = task_small layout.config lives task (rounds - 1) f l in omega (arith, b, t)
 filling_small layout lives rounds task (Move at) f b l = let t = task_small layout.config lives task (rounds - 1) f l in omega (arith, b, t)
 
-releases_small : (c : Config) (lives rounds : ℕ) (base : Base) (key : Option ℕ) → Few c → lives ≤ 65537 → why_left c lives rounds base (Releases key) ≤ 274719577270300000
-releases_small c lives rounds base None f l = omega arith
-releases_small c lives rounds base (Some key) f l = let t = task_small c lives (Holds key) 0 f l in let s = f.tries in omega (arith, t, s)
+let_small : (c : Config) (lives : ℕ) (let_go : LetGo) → Few c → lives ≤ 65537 → let_left c lives let_go ≤ 274719577270200000
+let_small c lives Released f l = omega arith
+let_small c lives (Rehold key) f l = let t = task_small c lives (Holds key) 0 f l in let s = f.tries in omega (arith, t, s)
+let_small c lives (Dropped index) f l = omega arith
 
 why_small : (layout : Layout) (lives rounds : ℕ) (base : Base) (why : Why) → Few layout.config → base_left layout.config base ≤ 65540 → lives ≤ 65537 → why_left layout.config lives rounds base why ≤ 274719577270300000
 why_small layout lives rounds base (Opens task) f b l = let t = task_small layout.config lives task (lost_by rounds (is_told base)) f l in let r = round_small layout.config task f in omega (arith, b, t, r)
@@ -248,7 +251,7 @@ why_small layout lives rounds base (GivesUp answer) f b l = omega arith
 why_small layout lives rounds base (Retires answer) f b l = let r = room_small layout.config (lives + 1) f (omega (arith, l)) in omega (arith, b, r)
 why_small layout lives rounds base (Tidies later) f b l = let t = later_small layout.config lives rounds later f l in let g = guards_few layout.config f in omega (arith, b, t, g, l)
 why_small layout lives rounds base Advances f b l = omega (arith, b)
-why_small layout lives rounds base (Releases key) f b l = releases_small layout.config lives rounds base key f l
+why_small layout lives rounds base (Releases let_go) f b l = let t = let_small layout.config lives let_go f l in omega (arith, t)
 
 get_small : (c : Config) (at : GetAt) → Few c → GetIn c at → get_left c at ≤ 30
 get_small c (FindVersion slot) f g = let p = f.pairs in omega (arith, p)
@@ -277,11 +280,19 @@ dequeue_small c (TakeNumber head next) f = omega arith
 dequeue_small c (TakeValue head next number) f = omega arith
 dequeue_small c (ExchangeHead head next number value) f = omega arith
 
+keep_small : (c : Config) (lives : ℕ) (at : KeepAt) → Few c → lives ≤ 65537 → KeepIn c at → keep_left c lives at ≤ 274719577270300000
+keep_small c lives (Loosens let_go) f l g = let t = let_small c lives let_go f l in omega (arith, t)
+keep_small c lives (LoadHeld from index) f l g = omega arith
+keep_small c lives (StoreHeld from index era) f l g = omega arith
+keep_small c lives (Looks index key at) f l g = let a = get_small c at f g.1 in omega (arith, a)
+keep_small c lives (Misses index) f l g = omega arith
+
 work_small : (c : Config) (lives rounds : ℕ) (work : Work) → Few c → lives ≤ 65537 → WorkIn c work → work_left c lives rounds work ≤ 274719577270300000
 work_small c lives rounds (Getting key at) f l g = let a = get_small c at f g in let t = task_small c lives (Gets key) (rounds - 1) f l in omega (arith, a, t)
 work_small c lives rounds (Changing kept at) f l g = let a = change_small c kept at (length kept.pairs) f g.1 in let t = task_small c lives (Changes kept) (rounds - 1) f l in omega (arith, a, t)
 work_small c lives rounds (Enqueuing kept at) f l g = let t = task_small c lives (Enqueues kept) (rounds - 1) f l in let a = enqueue_small at (task_left c lives (Enqueues kept) (rounds - 1)) in omega (arith, a, t)
 work_small c lives rounds (Dequeuing at) f l g = let a = dequeue_small c at f in let t = task_small c lives Dequeues (rounds - 1) f l in omega (arith, a, t)
+work_small c lives rounds (Keeping at) f l g = keep_small c lives at f l g
 
 scan_small : (c : Config) (lives : List Lifetime) (at : ScanAt) → Few c → length lives ≤ 65537 → scan_left c lives at ≤ 70000
 scan_small c lives (ReadGuard number) f l = let g = guards_few c f in omega (arith, g, l)

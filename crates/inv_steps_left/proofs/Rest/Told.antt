@@ -180,7 +180,7 @@ base_steady rounds (Reload parent index slot era steps) post found h =
     (λ e. rw (false_of_not (index == 0) h) refl) (λ e. refl)
 base_steady rounds (Clear index) post found h = clear_steady rounds index (stands post index) (reserves_index post index 0) refl
 base_steady rounds Finish post found h = refl
-base_steady rounds Release post found h = clear_steady rounds 2 (stands post 2) (reserves_span post None) refl
+base_steady rounds (Release index) post found h = clear_steady rounds index (stands post index) (reserves_span post None) refl
 base_steady rounds (Allocate LoadBirth) post found h = refl
 base_steady rounds (Allocate (ClaimSlot birth walk)) post found h =
     if_by (is_claimed found walk.slot) (walking birth post (walk_past post.layout.config.slots walk found)) (goes (record post { cursor = next_slot post.layout.config.slots walk.slot }) (events.Give walk.slot birth ∷ []) (Allocate (StoreLife birth walk.slot)))

@@ -5,17 +5,19 @@ use Rattle.inv_links.specs.shapes.Frame.{phase_left as stands_at}
 use Rattle.inv_contents.specs.model.Change as alters
 use Rattle.inv_contents.specs.model.Enqueue as enqueues
 use Rattle.inv_contents.specs.model.Dequeue as dequeues
+use Rattle.inv_contents.specs.model.Keep as keeps
 use Rattle.inv_contents.specs.model.Steps as steps
 use Rattle.inv_contents.specs.defs.declared.call.Answer.TheVariants as answers
 use Rattle.inv_contents.specs.model.declared.ends.FollowEnd.TheVariants as follow_ends
-use Rattle.inv_contents.specs.model.Calls.{Task, AfterScan, Next}
+use Rattle.inv_contents.specs.model.Calls.{Task, AfterScan, LetGo, Next}
+use Rattle.inv_contents.specs.model.Calls.LetGo.{Dropped, Rehold, Released}
 use Rattle.inv_contents.specs.model.Calls.Next.{Again, Answering, MakeRoom}
 use Rattle.inv_contents.specs.model.Calls.Task.{Changes, Dequeues, Enqueues, Gets, Holds}
 use Rattle.inv_contents.specs.model.Desks.{Desk, with_life}
 use Rattle.inv_contents.specs.model.Locals.{rounds_told}
-use Rattle.inv_contents.specs.model.Phases.{Ending, Base}
+use Rattle.inv_contents.specs.model.Phases.{Ending}
 use Rattle.inv_contents.specs.model.Phases.Ending.{Allocated, Clocked, Done, Followed, Protected, Retired}
-use Rattle.inv_contents.specs.model.Rest.{closing_left, ending_most, room_most, rounds_left, rounds_most, task_left, walks_after, walks_by, fill_left, has_walked, later_left, open_left, phase_left, scan_most, walk_most, why_left}
+use Rattle.inv_contents.specs.model.Rest.{closing_left, ending_most, room_most, rounds_left, rounds_most, task_left, walks_after, walks_by, fill_left, has_walked, later_left, let_left, open_left, phase_left, scan_most, walk_most}
 use Rattle.inv_contents.specs.model.Rounds.{clearing, closed, round, scheme_of, taken_of}
 use Rattle.inv_contents.specs.model.declared.ends.FollowEnd.{FollowEnd}
 use Rattle.inv_contents.specs.model.declared.post.Post.{Post}
@@ -27,7 +29,6 @@ use Rattle.inv_contents.specs.words.declared.config.Config.{Config}
 use Rattle.std.specs.Prelude.{List, length, None, ◌==◌, ◌++◌, Option, Some, ◌%◌}
 use Rattle.inv_contents.specs.model.declared.ends.AllocateEnd.TheVariants as allocate_ends
 use Rattle.inv_contents.specs.model.Calls.AfterScan.{Answered, Counted, Repeated}
-use Rattle.inv_contents.specs.model.Calls.Why.{Releases}
 use Rattle.inv_contents.specs.model.declared.ends.AllocateEnd.{AllocateEnd}
 use Rattle.inv_contents.specs.defs.declared.call.Answer.{Answer}
 use Rattle.inv_contents.specs.defs.declared.call.ClockMove.{ClockMove}
@@ -137,6 +138,11 @@ advanced_left c rounds (Followed ending) post desk told = omega arith
 advanced_left c rounds (Allocated ending) post desk told = omega arith
 advanced_left c rounds (Retired life) post desk told = omega arith
 
-pub released_left : (c : Config) (rounds lives : ℕ) (base : Base) (key : Option ℕ) (post : Post) (desk : Desk) (told : List Event) → length desk.list ≡ lives → rounds_told rounds told ≡ 0 → turn_left c rounds (steps.released key post desk told) + 1 ≤ why_left c lives rounds base (Releases key)
-released_left c rounds lives base None post desk told l e = omega arith
-released_left c rounds lives base (Some key) post desk told l e = let h = round_begins c (rounds_told rounds told) desk.list (Holds key) post in let k : phase_left c (rounds_told rounds told) desk.list (round (Holds key) post) ≤ open_left c (Holds key) + task_left c lives (Holds key) 0 = subst (λ (n : ℕ). phase_left c (rounds_told rounds told) desk.list (round (Holds key) post) ≤ open_left c (Holds key) + task_left c n (Holds key) 0) l (subst (λ (r : ℕ). phase_left c (rounds_told rounds told) desk.list (round (Holds key) post) ≤ open_left c (Holds key) + task_left c (length desk.list) (Holds key) r) e h) in omega (arith, k)
+-- what comes once something is let go
+pub released_left : (c : Config) (rounds lives : ℕ) (let_go : LetGo) (post : Post) (desk : Desk) (told : List Event) → length desk.list ≡ lives → rounds_told rounds told ≡ 0 → turn_left c rounds (keeps.released let_go post desk told) ≤ let_left c lives let_go
+released_left c rounds lives Released post desk told l e = omega arith
+released_left c rounds lives (Dropped index) post desk told l e = omega arith
+released_left c rounds lives (Rehold key) post desk told l e =
+    let h = round_begins c (rounds_told rounds told) desk.list (Holds key) post in
+    subst (λ (n : ℕ). phase_left c (rounds_told rounds told) desk.list (round (Holds key) post) ≤ open_left c (Holds key) + task_left c n (Holds key) 0) l
+    (subst (λ (r : ℕ). phase_left c (rounds_told rounds told) desk.list (round (Holds key) post) ≤ open_left c (Holds key) + task_left c (length desk.list) (Holds key) r) e h)

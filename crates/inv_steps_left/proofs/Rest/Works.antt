@@ -1,38 +1,42 @@
 -- A call's own step leaves fewer steps.
-use Rattle.std.proofs.Common.{ℕ, ◌≡◌, ◌≤◌, ◌<◌, ◌+◌, ◌*◌, ◌-◌, Bool, true, false, [], ◌∷◌, arith, refl, subst}
+use Rattle.std.proofs.Common.{ℕ, ◌∙◌, ◌≡◌, ◌≤◌, ◌<◌, ◌+◌, ◌*◌, ◌-◌, Bool, true, false, [], ◌∷◌, arith, refl, subst}
 use Rattle.inv_steps_left.proofs.Rest.Amounts.{PhaseKnown}
 use Rattle.inv_links.specs.shapes.Frame.{phase_left as stands_at}
 use Rattle.inv_contents.specs.model.Change as alters
 use Rattle.inv_contents.specs.model.Enqueue as enqueues
 use Rattle.inv_contents.specs.model.Dequeue as dequeues
 use Rattle.inv_contents.specs.model.Get as gets
+use Rattle.inv_contents.specs.model.Keep as keeps
 use Rattle.inv_contents.specs.model.Steps as steps
 use Rattle.inv_contents.specs.defs.declared.event.Event.TheVariants as events
 use Rattle.inv_contents.specs.defs.declared.event.Root.TheVariants as roots
 use Rattle.inv_contents.specs.defs.declared.call.Answer.TheVariants as answers
 use Rattle.inv_contents.specs.defs.declared.call.ClockMove.TheVariants as moves
-use Rattle.inv_contents.specs.model.Calls.{ChangeAt, ChangeKept, DequeueAt, EnqueueAt, EnqueueKept, GetAt, Next, Task, Work}
+use Rattle.inv_contents.specs.model.Calls.{ChangeAt, ChangeKept, DequeueAt, EnqueueAt, EnqueueKept, GetAt, KeepAt, Next, Task, Work}
 use Rattle.inv_contents.specs.model.Calls.ChangeAt.{ExchangeRoot, LoadCount, LoadKey, LoadValue, LoadVersion}
 use Rattle.inv_contents.specs.model.Calls.DequeueAt.{ExchangeHead, LoadTail, SwingTail, TakeNumber, TakeValue}
 use Rattle.inv_contents.specs.model.Calls.EnqueueAt.{ExchangeNext, ExchangeTail, LoadNext, LoadNumber, PassTail}
 use Rattle.inv_contents.specs.model.Calls.GetAt.{FindCount, FindKey, FindValue, FindVersion}
+use Rattle.inv_contents.specs.model.Calls.KeepAt.{LoadHeld, Looks, Loosens, Misses, StoreHeld}
 use Rattle.inv_contents.specs.model.Calls.Next.{Again, Answering, Retiring}
 use Rattle.inv_contents.specs.model.Calls.Task.{Changes, Dequeues, Enqueues, Gets}
-use Rattle.inv_contents.specs.model.Calls.Work.{Changing, Dequeuing, Enqueuing, Getting}
+use Rattle.inv_contents.specs.model.Calls.Work.{Changing, Dequeuing, Enqueuing, Getting, Keeping}
 use Rattle.inv_contents.specs.model.Dequeue.{taken}
 use Rattle.inv_contents.specs.model.Desks.{Desk}
 use Rattle.inv_contents.specs.model.Locals.{rounds_told}
-use Rattle.inv_contents.specs.model.Rest.{base_left, change_left, closing_left, dequeue_left, enqueue_left, get_left, protect_most, room_most, rounds_most, task_left, work_left}
-use Rattle.inv_contents.specs.model.Rounds.{bucket_of, scheme_of}
+use Rattle.inv_contents.specs.model.Posts.{cleared, reserves_index, stands, withdrawn}
+use Rattle.inv_contents.specs.model.Rest.{base_left, change_left, closing_left, dequeue_left, enqueue_left, get_left, keep_left, protect_most, room_most, rounds_most, task_left, work_left}
+use Rattle.inv_contents.specs.model.Rounds.{bucket_of, let_index, scheme_of}
 use Rattle.inv_contents.specs.model.declared.post.Post.{Post}
 use Rattle.inv_contents.specs.defs.Pairs.{Pair}
 use Rattle.inv_contents.specs.defs.declared.event.Event.{Event}
 use Rattle.inv_contents.specs.defs.declared.event.Root.{Root}
-use Rattle.inv_links.specs.shapes.Slots.{ChangeAtIn, GetIn, WorkIn}
-use Rattle.inv_steps_left.proofs.Rest.Closings.{clearing_left, clearing_next_left, turn_left}
+use Rattle.inv_links.specs.shapes.Slots.{ChangeAtIn, GetIn, KeepIn, WorkIn}
+use Rattle.inv_steps_left.proofs.Rest.Closings.{cleared_rounds, clearing_left, clearing_next_left, turn_left}
 use Rattle.inv_steps_left.proofs.Rest.Opens.{deciding_left, enqueue_fills}
-use Rattle.inv_steps_left.proofs.Rest.Ways.{lost_left}
+use Rattle.inv_steps_left.proofs.Rest.Ways.{lost_left, released_left}
 use Rattle.inv_steps_left.specs.Losses.{InRound, work_fit}
+use Rattle.inv_contents.specs.words.Schemes.{has_one_interval}
 use Rattle.inv_contents.specs.words.declared.config.Config.{Config}
 use Rattle.inv_contents.specs.words.declared.config.SchemeKind.{SchemeKind}
 use Rattle.inv_contents.specs.words.declared.config.SchemeKind.TheVariants.{He, Ibr, Wfe}
@@ -157,9 +161,52 @@ dequeue_falls c rounds (TakeNumber head next) post desk found i = omega arith
 dequeue_falls c rounds (TakeValue head next number) post desk found i = omega arith
 dequeue_falls c rounds (ExchangeHead head next number value) post desk found i = taken_left c rounds head next number value post desk (found == head + 1) i
 
+-- a call on what is kept
+
+copied_left : (c : Config) (rounds from index : ℕ) (post : Post) (desk : Desk) (reserved : List Event) (x : Option ℕ) → turn_left c rounds (keeps.copied from index post desk reserved x) ≤ 0
+copied_left c rounds from index post desk reserved (Some slot) = omega arith
+copied_left c rounds from index post desk reserved None = omega arith
+
+held_left : (c : Config) (rounds from index : ℕ) (post : Post) (desk : Desk) (found : ℕ) (one : Bool) → turn_left c rounds (keeps.load_held from index post desk found one) ≤ 1
+held_left c rounds from index post desk found true = let h = copied_left c rounds from index post desk [] (stands post from) in omega (arith, h)
+held_left c rounds from index post desk found false = omega arith
+
+looking_left : (c : Config) (rounds index key slot version count : ℕ) (post : Post) (desk : Desk) (more : Bool) (pair : ℕ) → turn_left c rounds (keeps.looking index key slot version count post desk more pair) ≤ (count - pair) + 3
+looking_left c rounds index key slot version count post desk true pair = omega arith
+looking_left c rounds index key slot version count post desk false pair = omega arith
+
+looking_most : (c : Config) (layout : Layout) (rounds index key slot version count : ℕ) (post : Post) (desk : Desk) (more : Bool) → layout.config ≡ c → PhaseKnown layout (stands_at (keeps.looking index key slot version count post desk more 0).outcome)
+    → turn_left c rounds (keeps.looking index key slot version count post desk more 0) ≤ c.pairs + 3
+looking_most c layout rounds index key slot version count post desk true t p = let q : count ≤ c.pairs = subst (λ (d : Config). count ≤ d.pairs) t p.1.2 in omega (arith, q)
+looking_most c layout rounds index key slot version count post desk false t p = omega arith
+
+looked_left : (c : Config) (rounds index key slot version count pair : ℕ) (post : Post) (desk : Desk) (own : Bool) → pair < count
+    → turn_left c rounds (keeps.looked_key index key slot version count pair post desk own) + 1 ≤ (count - pair) + 3
+looked_left c rounds index key slot version count pair post desk true b = omega (arith, b)
+looked_left c rounds index key slot version count pair post desk false b = let h = looking_left c rounds index key slot version count post desk (nat_lt (pair + 1) count) (pair + 1) in omega (arith, b, h)
+
+look_falls : (c : Config) (layout : Layout) (rounds index key : ℕ) (at : GetAt) (post : Post) (desk : Desk) (found : ℕ) → layout.config ≡ c → GetIn layout.config at → PhaseKnown layout (stands_at (keeps.look_turn index key at post desk found).outcome)
+    → turn_left c rounds (keeps.look_turn index key at post desk found) + 1 ≤ get_left c at
+look_falls c layout rounds index key (FindVersion slot) post desk found t g p = omega arith
+look_falls c layout rounds index key (FindCount slot version) post desk found t g p = let h = looking_most c layout rounds index key slot version found post desk (nat_lt 0 found) t p in omega (arith, h)
+look_falls c layout rounds index key (FindKey slot version count pair) post desk found t g p = looked_left c rounds index key slot version count pair post desk (found == key) g.1
+look_falls c layout rounds index key (FindValue slot version pair) post desk found t g p = omega arith
+
+keep_falls : (c : Config) (layout : Layout) (rounds : ℕ) (at : KeepAt) (post : Post) (desk : Desk) (found : ℕ) → layout.config ≡ c → rounds ≡ 0 → KeepIn layout.config at → PhaseKnown layout (stands_at (keeps.keep_turn at post desk found).outcome)
+    → turn_left c rounds (keeps.keep_turn at post desk found) + 1 ≤ keep_left c (length desk.list) at
+keep_falls c layout rounds (Loosens let_go) post desk found t i g p =
+    let told : List Event = cleared (let_index let_go) (stands post (let_index let_go)) in
+    let h = released_left c rounds (length desk.list) let_go (withdrawn post (let_index let_go)) desk told refl (cleared_rounds rounds (let_index let_go) (stands post (let_index let_go)) ∙ i) in
+    omega (arith, h)
+keep_falls c layout rounds (LoadHeld from index) post desk found t i g p = let h = held_left c rounds from index post desk found (has_one_interval (scheme_of post)) in omega (arith, h)
+keep_falls c layout rounds (StoreHeld from index era) post desk found t i g p = let h = copied_left c rounds from index post desk (reserves_index post index era) (stands post from) in omega (arith, h)
+keep_falls c layout rounds (Looks index key at) post desk found t i g p = look_falls c layout rounds index key at post desk found t g.1 p
+keep_falls c layout rounds (Misses index) post desk found t i g p = omega arith
+
 pub work_falls : (c : Config) (layout : Layout) (rounds : ℕ) (work : Work) (post : Post) (desk : Desk) (found : ℕ) → layout.config ≡ c → work_fit c rounds work → WorkIn layout.config work → PhaseKnown layout (stands_at (steps.work_turn work post desk found).outcome)
     → turn_left c rounds (steps.work_turn work post desk found) + 1 ≤ work_left c (length desk.list) rounds work
 work_falls c layout rounds (Getting key at) post desk found t i g p = get_falls c layout rounds key at post desk found t g p
 work_falls c layout rounds (Changing kept at) post desk found t i g p = change_falls c layout rounds kept at post desk found t i g.1 p
 work_falls c layout rounds (Enqueuing kept at) post desk found t i g p = enqueue_falls c rounds kept at post desk found i
 work_falls c layout rounds (Dequeuing at) post desk found t i g p = dequeue_falls c rounds at post desk found i
+work_falls c layout rounds (Keeping at) post desk found t i g p = keep_falls c layout rounds at post desk found t i g p

@@ -1,5 +1,5 @@
 -- Each step keeps what is known of rounds, and so no call loses more than it may.
-use Rattle.std.proofs.Common.{ℕ, ◌∙◌, ◌≡◌, ◌≤◌, ◌+◌, ◌*◌, ◌-◌, Bool, true, false, [], arith, refl, sym, ap, subst}
+use Rattle.std.proofs.Common.{ℕ, ◌∙◌, ◌≡◌, ◌≤◌, ◌+◌, ◌*◌, ◌-◌, Bool, true, false, arith, refl, sym, ap, subst}
 use Rattle.std.proofs.lemmas.Bool.Decides.{nat_tests}
 use Rattle.inv_contents.specs.words.Place.{Place}
 use Rattle.inv_contents.specs.words.Place.Place.{Clock, Bucket, Head, Tail, Row}
@@ -14,8 +14,9 @@ use Rattle.inv_links.proofs.shapes.Kept.{one_moves}
 use Rattle.inv_contents.specs.defs.declared.event.Root.TheVariants as roots
 use Rattle.inv_contents.specs.defs.declared.fold.Change.TheVariants as changes
 use Rattle.inv_contents.specs.defs.declared.call.Call.TheVariants as names
-use Rattle.inv_contents.specs.model.Calls.{CallTurn, ChangeKept, Phase, Why, Task}
+use Rattle.inv_contents.specs.model.Calls.{CallTurn, ChangeKept, Phase, Why, Task, LetGo}
 use Rattle.inv_contents.specs.model.Calls.Phase.{Idle, Runs, Scans, Works}
+use Rattle.inv_contents.specs.model.Calls.LetGo.{Dropped, Rehold, Released}
 use Rattle.inv_contents.specs.model.Calls.Task.{Changes, Dequeues, Enqueues, Gets, Holds}
 use Rattle.inv_contents.specs.model.Calls.Why.{Opens, Fills, FollowsHead}
 use Rattle.inv_contents.specs.model.Links.{link_place}
@@ -23,7 +24,7 @@ use Rattle.inv_contents.specs.model.Locals.{Local, busy_in, rounds_told, turn, b
 use Rattle.inv_contents.specs.model.Phases.{Aim, Base, MoveAt, ProtectAt, Outcome}
 use Rattle.inv_contents.specs.model.Phases.MoveAt.{AnswerAsked, CheckEra, ExchangeClock, HandOver, HideEra, HideLate, LoadAsked, LoadEra, LoadRequest, LoadReserved, ShowEra}
 use Rattle.inv_contents.specs.model.Posts.{counted, stands, upper}
-use Rattle.inv_contents.specs.model.Rounds.{key_of}
+use Rattle.inv_contents.specs.model.Rounds.{key_of, let_index, letting, letting_by, release_base, scheme_of}
 use Rattle.inv_contents.specs.model.World.{World, finds, is_busy, step, begin, start}
 use Rattle.inv_contents.specs.model.declared.post.Post.{Post}
 use Rattle.inv_contents.specs.defs.declared.call.Call.{Call}
@@ -110,7 +111,7 @@ own_loads w i v l z n (Runs why (Begin at)) e h = absurd (cc)
 own_loads w i v l z n (Runs why (Reload parent index slot era m)) e h = absurd (cc)
 own_loads w i v l z n (Runs why (Clear index)) e h = absurd (cc)
 own_loads w i v l z n (Runs why Finish) e h = absurd (cc)
-own_loads w i v l z n (Runs why Release) e h = absurd (cc)
+own_loads w i v l z n (Runs why (Release index)) e h = absurd (cc)
 own_loads w i v l z n (Runs why (Allocate at)) e h = absurd (cc)
 own_loads w i v l z n (Runs why (Write slot row place)) e h = absurd (cc)
 own_loads w i v l z n (Runs why (GiveUp slot)) e h = absurd (cc)
@@ -158,20 +159,39 @@ rounds_kept w i v l z next n d h = record {
 
 -- a call begins
 
+letting_by_paced : (u : Tally) (let_go : LetGo) (base : Option Base) → phase_paced u 0 (letting_by let_go base)
+letting_by_paced u let_go (Some base) = tt
+letting_by_paced u let_go None = tt
+
+letting_paced : (u : Tally) (let_go : LetGo) (post : Post) → phase_paced u 0 (letting let_go post)
+letting_paced u let_go post = letting_by_paced u let_go (release_base (scheme_of post) post (let_index let_go))
+
 holding_paced : (u : Tally) (key : ℕ) (post : Post) (stood : Option ℕ) → phase_paced u 0 (steps.holding key post stood)
 holding_paced u key post None = round_paced u 0 (Holds key) post tt
-holding_paced u key post (Some slot) = tt
+holding_paced u key post (Some slot) = letting_paced u (Rehold key) post
+
+copying_paced : (u : Tally) (from index : ℕ) (stood : Option ℕ) → phase_paced u 0 (steps.copying from index stood)
+copying_paced u from index None = tt
+copying_paced u from index (Some slot) = tt
+
+looking_paced : (u : Tally) (index key : ℕ) (stood : Option ℕ) → phase_paced u 0 (steps.looking_at index key stood)
+looking_paced u index key None = tt
+looking_paced u index key (Some slot) = tt
 
 first_paced : (u : Tally) (call : Call) (post : Post) → phase_paced u 0 (steps.first_phase call post)
 first_paced u (names.Get key) post = round_paced u 0 (Gets key) post tt
-first_paced u (names.Put key value) post = round_paced u 0 (Changes (record { change = changes.Put key value; taken = None; walked = false; link = 0; version = 0; pairs = [] })) post (omega arith)
-first_paced u (names.Remove key) post = round_paced u 0 (Changes (record { change = changes.Removed key; taken = None; walked = false; link = 0; version = 0; pairs = [] })) post (omega arith)
+first_paced u (names.Put key value) post = round_paced u 0 (steps.changing (changes.Put key value) None) post (omega arith)
+first_paced u (names.Remove key) post = round_paced u 0 (steps.changing (changes.Removed key) None) post (omega arith)
 first_paced u (names.Enqueue value) post = round_paced u 0 (Enqueues (record { value = value; taken = None; walked = false; tail = 0; number = 0 })) post (omega arith)
 first_paced u names.Dequeue post = round_paced u 0 Dequeues post (omega arith)
 first_paced u (names.Hold key) post = holding_paced u key post (stands post 2)
-first_paced u names.Release post = tt
+first_paced u names.Release post = letting_paced u Released post
 first_paced u names.Advance post = tt
 first_paced u names.Scan post = tt
+first_paced u (names.Copy from index) post = copying_paced u from index (stands post from)
+first_paced u (names.DropIndex index) post = letting_paced u (Dropped index) post
+first_paced u (names.Look index key) post = looking_paced u index key (stands post index)
+first_paced u (names.PutIf key value version) post = round_paced u 0 (steps.changing (changes.Put key value) (Some version)) post (omega arith)
 
 idle_tracks : (w : World) (i : ℕ) (z : Asking) (x : ℕ) → is_busy w i ≡ false → Requests w z → Tracked w z i x → false ≡ true
 idle_tracks w i z x b r t = none_tracked w z i x r (idle_none (w.seat i).phase b) t
@@ -265,7 +285,7 @@ roots_few w i v l z n h task (Begin (PublishSpan era)) e q o = absurd (cc)
 roots_few w i v l z n h task (Reload parent index slot era m) e q o = let s = (step_is w i v l z n h (Opens task) (Reload parent index slot era m) e).run.suited in cc
 roots_few w i v l z n h task (Clear index) e q o = let s = (step_is w i v l z n h (Opens task) (Clear index) e).run.suited in cc
 roots_few w i v l z n h task Finish e q o = let s = (step_is w i v l z n h (Opens task) Finish e).run.suited in cc
-roots_few w i v l z n h task Release e q o = let s = (step_is w i v l z n h (Opens task) Release e).run.suited in cc
+roots_few w i v l z n h task (Release index) e q o = let s = (step_is w i v l z n h (Opens task) (Release index) e).run.suited in cc
 roots_few w i v l z n h task (Allocate at) e q o = let s = (step_is w i v l z n h (Opens task) (Allocate at) e).run.suited in cc
 roots_few w i v l z n h task (Write slot row place) e q o = let s = (step_is w i v l z n h (Opens task) (Write slot row place) e).run.suited in cc
 roots_few w i v l z n h task (GiveUp slot) e q o = let s = (step_is w i v l z n h (Opens task) (GiveUp slot) e).run.suited in cc

@@ -85,7 +85,7 @@ phase_fresh u mem rounds (Runs (GivesUp answer) base) root h = refl
 phase_fresh u mem rounds (Runs (Retires answer) base) root h = refl
 phase_fresh u mem rounds (Runs (Tidies later) base) root h = refl
 phase_fresh u mem rounds (Runs Advances base) root h = refl
-phase_fresh u mem rounds (Runs (Releases key) base) root h = refl
+phase_fresh u mem rounds (Runs (Releases let_go) base) root h = refl
 phase_fresh u mem rounds (Scans later at) root h = refl
 phase_fresh u mem rounds (Works work) root h = refl
 
@@ -123,7 +123,7 @@ loads_stay mem (Runs why (Protect aim index root n at)) post place h = protect_l
 loads_stay mem (Runs why (Reload parent index slot era n)) post place h = absurd (cc)
 loads_stay mem (Runs why (Clear index)) post place h = absurd (cc)
 loads_stay mem (Runs why Finish) post place h = absurd (cc)
-loads_stay mem (Runs why Release) post place h = absurd (cc)
+loads_stay mem (Runs why (Release index)) post place h = absurd (cc)
 loads_stay mem (Runs why (Allocate at)) post place h = absurd (cc)
 loads_stay mem (Runs why (Write slot row n)) post place h = absurd (cc)
 loads_stay mem (Runs why (GiveUp slot)) post place h = absurd (cc)

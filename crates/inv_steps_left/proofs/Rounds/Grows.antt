@@ -9,7 +9,7 @@ use Rattle.inv_contents.specs.model.Calls.Next.{Again, Answering, MakeRoom, Reti
 use Rattle.inv_contents.specs.model.Calls.Phase.{Idle, Runs, Scans, Works}
 use Rattle.inv_contents.specs.model.Calls.Task.{Changes, Dequeues, Enqueues, Gets, Holds}
 use Rattle.inv_contents.specs.model.Calls.Why.{Advances, Clears, ClearsNext, Fills, Finishes, FollowsHead, GivesUp, Opens, Releases, Retires, Tidies}
-use Rattle.inv_contents.specs.model.Calls.Work.{Changing, Dequeuing, Enqueuing, Getting}
+use Rattle.inv_contents.specs.model.Calls.Work.{Changing, Dequeuing, Enqueuing, Getting, Keeping}
 use Rattle.inv_contents.specs.model.Phases.{Base}
 use Rattle.inv_contents.specs.model.Rest.{is_told, lost_by}
 use Rattle.inv_contents.specs.model.Rounds.{key_of}
@@ -119,7 +119,7 @@ why_grows t u rounds base (GivesUp answer) g p = tt
 why_grows t u rounds base (Retires answer) g p = tt
 why_grows t u rounds base (Tidies later) g p = later_grows t u later rounds g p
 why_grows t u rounds base Advances g p = tt
-why_grows t u rounds base (Releases key) g p = tt
+why_grows t u rounds base (Releases let_go) g p = tt
 
 enqueues_grow : (t u : Tally) (kept : EnqueueKept) (at : EnqueueAt) (lost : ℕ) → Grows t u → enqueue_paced t kept at lost → enqueue_paced u kept at lost
 enqueues_grow t u kept LoadNumber lost g p = tail_grows t u kept lost g p
@@ -140,6 +140,7 @@ work_grows t u (Getting key at) lost g p = tt
 work_grows t u (Changing kept at) lost g p = root_grows t u kept lost g p
 work_grows t u (Enqueuing kept at) lost g p = enqueues_grow t u kept at lost g p
 work_grows t u (Dequeuing at) lost g p = dequeues_grow t u at lost g p
+work_grows t u (Keeping at) lost g p = tt
 
 pub phase_grows : (t u : Tally) (rounds : ℕ) (phase : Phase) → Grows t u → phase_paced t rounds phase → phase_paced u rounds phase
 phase_grows t u rounds Idle g p = tt

@@ -15,7 +15,7 @@ use Rattle.inv_contents.specs.model.Calls.DequeueAt.{ExchangeHead, LoadTail, Swi
 use Rattle.inv_contents.specs.model.Calls.EnqueueAt.{ExchangeNext, ExchangeTail, LoadNext, LoadNumber, PassTail}
 use Rattle.inv_contents.specs.model.Calls.Phase.{Idle, Runs, Scans, Works}
 use Rattle.inv_contents.specs.model.Calls.Why.{FollowsHead}
-use Rattle.inv_contents.specs.model.Calls.Work.{Changing, Dequeuing, Enqueuing, Getting}
+use Rattle.inv_contents.specs.model.Calls.Work.{Changing, Dequeuing, Enqueuing, Getting, Keeping}
 use Rattle.inv_contents.specs.model.Phases.{Base, RowOf}
 use Rattle.inv_contents.specs.model.Phases.RowOf.{MapRow, QueueRow}
 use Rattle.inv_contents.specs.model.Rounds.{key_of}
@@ -56,7 +56,7 @@ writes_fit layout post (Runs why (Protect aim index root n at)) f = tt
 writes_fit layout post (Runs why (Reload parent index slot era n)) f = tt
 writes_fit layout post (Runs why (Clear index)) f = tt
 writes_fit layout post (Runs why Finish) f = tt
-writes_fit layout post (Runs why Release) f = tt
+writes_fit layout post (Runs why (Release index)) f = tt
 writes_fit layout post (Runs why (Allocate at)) f = tt
 writes_fit layout post (Runs why (Write slot row place)) f = fits_write row place (first_of (nat_le (first_written row) place) (nat_le place (last_written row)) f.fits)
 writes_fit layout post (Runs why (GiveUp slot)) f = tt
@@ -179,6 +179,7 @@ work_now w i v l z (Dequeuing (ExchangeHead head next number value)) n p e = λ 
     let c = g.takes in
     let f : finds w i ≡ w.mem Head = finds_at w i (Works (Dequeuing (ExchangeHead head next number value))) e in
     lost_now (w.seat i).rounds (tally w l).takes (tally (step w i) (line_after w i l)).takes (w.mem Head == head + 1) (rw (← f) d) p c
+work_now w i v l z (Keeping at) n p e = tt
 
 -- the head was moved where a reload does not find it
 pub reload_now : (w : World) (i : ℕ) (v : View) (l : Line) (z : Asking) (why : Why) (base : Base) → RoundsNeeds w i v l z → why_paced (tally w l) (w.seat i).rounds base why → Run w.layout why base (w.seat i).post → (w.seat i).phase ≡ Runs why base

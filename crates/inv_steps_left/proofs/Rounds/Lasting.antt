@@ -26,8 +26,8 @@ use Rattle.inv_contents.specs.model.Locals.{Local, rounds_told, settled, turn}
 use Rattle.inv_contents.specs.model.Phases.{Base, Outcome, Aim, ProtectAt, Turn}
 use Rattle.inv_contents.specs.model.Phases.Ending.{Allocated, Clocked, Done, Followed, Protected, Retired}
 use Rattle.inv_contents.specs.model.Phases.Outcome.{Ends, Goes}
-use Rattle.inv_contents.specs.model.Posts.{counted, stands, upper}
-use Rattle.inv_contents.specs.model.Rounds.{bucket_of, clear_base, clear_post, clear_told, clearing, clearing_by, finish_base, finish_span, finishing_by, given_up, index_of, scheme_of, taken_of}
+use Rattle.inv_contents.specs.model.Posts.{counted, upper}
+use Rattle.inv_contents.specs.model.Rounds.{bucket_of, clear_base, clear_post, clear_told, clearing, clearing_by, finish_base, finish_span, finishing_by, given_up, index_of, scheme_of, taken_of, kept_row}
 use Rattle.inv_contents.specs.model.Steps.{resumed}
 use Rattle.inv_contents.specs.model.World.{World, finds, step}
 use Rattle.inv_contents.specs.model.declared.post.Post.{Post}
@@ -119,7 +119,7 @@ next_good u rounds (Runs (GivesUp answer) base) parent x = refl
 next_good u rounds (Runs (Retires answer) base) parent x = refl
 next_good u rounds (Runs (Tidies later) base) parent x = refl
 next_good u rounds (Runs Advances base) parent x = refl
-next_good u rounds (Runs (Releases key) base) parent x = refl
+next_good u rounds (Runs (Releases let_go) base) parent x = refl
 next_good u rounds (Scans later at) parent x = refl
 next_good u rounds (Works work) parent x = refl
 
@@ -136,7 +136,7 @@ opens_none (Runs (GivesUp answer) base) = true
 opens_none (Runs (Retires answer) base) = true
 opens_none (Runs (Tidies later) base) = true
 opens_none (Runs Advances base) = true
-opens_none (Runs (Releases key) base) = true
+opens_none (Runs (Releases let_go) base) = true
 opens_none (Scans later at) = true
 opens_none (Works work) = true
 
@@ -152,7 +152,7 @@ none_good u rounds (Runs (GivesUp answer) base) root x o = refl
 none_good u rounds (Runs (Retires answer) base) root x o = refl
 none_good u rounds (Runs (Tidies later) base) root x o = refl
 none_good u rounds (Runs Advances base) root x o = refl
-none_good u rounds (Runs (Releases key) base) root x o = refl
+none_good u rounds (Runs (Releases let_go) base) root x o = refl
 none_good u rounds (Scans later at) root x o = refl
 none_good u rounds (Works work) root x o = refl
 
@@ -169,7 +169,7 @@ scheme_none : (task : Task) (answer : Answer) (post : Post) (desk : Desk) (told 
 scheme_none task answer post desk told scheme =
     each_finish scheme post (λ (base : Option Base). opens_none (stands_at (finishing_by task (Answering answer) post desk told base).outcome) ≡ true)
     (given_none answer post desk told (taken_of task))
-    (span_none task answer post desk told (stands post 2))
+    (span_none task answer post desk told (kept_row post))
 
 clear_none : (task : Task) (answer : Answer) (post : Post) (desk : Desk) (told : List Event) (scheme : SchemeKind) → opens_none (stands_at (clearing_by task (Answering answer) post desk told (clear_base scheme (index_of task))).outcome) ≡ true
 clear_none task answer post desk told scheme =
@@ -193,7 +193,7 @@ row_none Dequeues slot post desk told = refl
 
 null_none : (task : Task) (post : Post) (desk : Desk) (told : List Event) → is_queue task ≡ false → opens_none (stands_at (steps.opened_null task post desk told).outcome) ≡ true
 null_none (Gets key) post desk told q = answering_none (Gets key) (answers.Got 0 None) post desk (told ++ events.Got (bucket_of post key) 0 key None ∷ [])
-null_none (Changes kept) post desk told q = deciding_none (alters.at_link kept 0) post desk told (alters.refusal post.layout.config (alters.at_link kept 0).version (alters.at_link kept 0).pairs kept.change)
+null_none (Changes kept) post desk told q = deciding_none (alters.at_link kept 0) post desk told (alters.refused post.layout.config (alters.at_link kept 0))
 null_none (Holds key) post desk told q = answering_none (Holds key) answers.Nothing post desk told
 null_none (Enqueues kept) post desk told q = absurd (cc)
 null_none Dequeues post desk told q = absurd (cc)
@@ -274,7 +274,7 @@ protect_stays w i u (GivesUp answer) aim index root n at x s h = absurd (let e =
 protect_stays w i u (Retires answer) aim index root n at x s h = absurd (let e = s.run.suited in cc)
 protect_stays w i u (Tidies later) aim index root n at x s h = absurd (let e = s.run.suited in cc)
 protect_stays w i u Advances aim index root n at x s h = absurd (let e = s.run.suited in cc)
-protect_stays w i u (Releases key) aim index root n at x s h = absurd (let e = s.run.suited in cc)
+protect_stays w i u (Releases let_go) aim index root n at x s h = absurd (let e = s.run.suited in cc)
 
 untracked : (w : World) (i : ℕ) (z : Asking) (u : Tally) (phase : Phase) (x : ℕ) → Requests w z → (w.seat i).phase ≡ phase → is_protecting phase ≡ false → Tracked w z i x → GoodAfter w i u phase (root_for phase) x
 untracked w i z u phase x r e p k = absurd (let y = none_tracked w z i x r (ap is_protecting e ∙ p) k in cc)
@@ -291,7 +291,7 @@ own_stays w i v l z n h (Runs why (Reload parent index slot era m)) e x k g =
 own_stays w i v l z n h (Runs why (Begin at)) e x k g = untracked w i z (tally (step w i) (line_after w i l)) (Runs why (Begin at)) x n.origins.requests e refl k
 own_stays w i v l z n h (Runs why (Clear index)) e x k g = untracked w i z (tally (step w i) (line_after w i l)) (Runs why (Clear index)) x n.origins.requests e refl k
 own_stays w i v l z n h (Runs why Finish) e x k g = untracked w i z (tally (step w i) (line_after w i l)) (Runs why Finish) x n.origins.requests e refl k
-own_stays w i v l z n h (Runs why Release) e x k g = untracked w i z (tally (step w i) (line_after w i l)) (Runs why Release) x n.origins.requests e refl k
+own_stays w i v l z n h (Runs why (Release index)) e x k g = untracked w i z (tally (step w i) (line_after w i l)) (Runs why (Release index)) x n.origins.requests e refl k
 own_stays w i v l z n h (Runs why (Allocate at)) e x k g = untracked w i z (tally (step w i) (line_after w i l)) (Runs why (Allocate at)) x n.origins.requests e refl k
 own_stays w i v l z n h (Runs why (Write slot row place)) e x k g = untracked w i z (tally (step w i) (line_after w i l)) (Runs why (Write slot row place)) x n.origins.requests e refl k
 own_stays w i v l z n h (Runs why (GiveUp slot)) e x k g = untracked w i z (tally (step w i) (line_after w i l)) (Runs why (GiveUp slot)) x n.origins.requests e refl k

@@ -13,7 +13,7 @@ use Rattle.inv_contents.specs.model.declared.ends.FollowEnd.TheVariants as follo
 use Rattle.inv_contents.specs.model.declared.ends.AllocateEnd.TheVariants as allocate_ends
 use Rattle.inv_steps_left.proofs.Rest.Told.{Tells, base_steady, protect_steady, protect_tells}
 use Rattle.inv_contents.specs.model.Allocate.{is_claimed, next_slot, walk_past, walking}
-use Rattle.inv_contents.specs.model.Calls.{AfterScan, Next, Task, Why}
+use Rattle.inv_contents.specs.model.Calls.{AfterScan, LetGo, Next, Task, Why}
 use Rattle.inv_contents.specs.model.Calls.Next.{Answering}
 use Rattle.inv_contents.specs.model.Calls.Phase.{Runs}
 use Rattle.inv_contents.specs.model.Calls.Task.{Changes, Dequeues, Enqueues, Gets, Holds}
@@ -211,7 +211,7 @@ opens_step w i u task (Protect Follows index root n at) s = absurd (let e = foll
 opens_step w i u task (Reload parent index slot era n) s = absurd (let e = s.run.suited in cc)
 opens_step w i u task (Clear index) s = absurd (let e = s.run.suited in cc)
 opens_step w i u task Finish s = absurd (let e = s.run.suited in cc)
-opens_step w i u task Release s = absurd (let e = s.run.suited in cc)
+opens_step w i u task (Release index) s = absurd (let e = s.run.suited in cc)
 opens_step w i u task (Allocate at) s = absurd (let e = s.run.suited in cc)
 opens_step w i u task (Write slot row place) s = absurd (let e = s.run.suited in cc)
 opens_step w i u task (GiveUp slot) s = absurd (let e = s.run.suited in cc)
@@ -249,7 +249,7 @@ follows_step w i u head tail (Reload parent index slot era n) s =
 follows_step w i u head tail (Begin at) s = absurd (let e = s.run.suited in cc)
 follows_step w i u head tail (Clear index) s = absurd (let e = s.run.suited in cc)
 follows_step w i u head tail Finish s = absurd (let e = s.run.suited in cc)
-follows_step w i u head tail Release s = absurd (let e = s.run.suited in cc)
+follows_step w i u head tail (Release index) s = absurd (let e = s.run.suited in cc)
 follows_step w i u head tail (Allocate at) s = absurd (let e = s.run.suited in cc)
 follows_step w i u head tail (Write slot row place) s = absurd (let e = s.run.suited in cc)
 follows_step w i u head tail (GiveUp slot) s = absurd (let e = s.run.suited in cc)
@@ -291,7 +291,7 @@ fills_step w i u task (Protect aim index root n at) s = absurd (let e = s.run.su
 fills_step w i u task (Reload parent index slot era n) s = absurd (let e = s.run.suited in cc)
 fills_step w i u task (Clear index) s = absurd (let e = s.run.suited in cc)
 fills_step w i u task Finish s = absurd (let e = s.run.suited in cc)
-fills_step w i u task Release s = absurd (let e = s.run.suited in cc)
+fills_step w i u task (Release index) s = absurd (let e = s.run.suited in cc)
 fills_step w i u task (GiveUp slot) s = absurd (let e = s.run.suited in cc)
 fills_step w i u task (Retire at) s = absurd (let e = s.run.suited in cc)
 fills_step w i u task (Move at) s = absurd (let e = s.run.suited in cc)
@@ -321,7 +321,7 @@ nexts_step w i u next (Begin at) s = absurd (let e = s.run.suited in cc)
 nexts_step w i u next (Protect aim index root n at) s = absurd (let e = s.run.suited in cc)
 nexts_step w i u next (Reload parent index slot era n) s = absurd (let e = s.run.suited in cc)
 nexts_step w i u next Finish s = absurd (let e = s.run.suited in cc)
-nexts_step w i u next Release s = absurd (let e = s.run.suited in cc)
+nexts_step w i u next (Release index) s = absurd (let e = s.run.suited in cc)
 nexts_step w i u next (Allocate at) s = absurd (let e = s.run.suited in cc)
 nexts_step w i u next (Write slot row place) s = absurd (let e = s.run.suited in cc)
 nexts_step w i u next (GiveUp slot) s = absurd (let e = s.run.suited in cc)
@@ -336,7 +336,7 @@ clears_step w i u task next (Begin at) s = absurd (let e = s.run.suited in cc)
 clears_step w i u task next (Protect aim index root n at) s = absurd (let e = s.run.suited in cc)
 clears_step w i u task next (Reload parent index slot era n) s = absurd (let e = s.run.suited in cc)
 clears_step w i u task next Finish s = absurd (let e = s.run.suited in cc)
-clears_step w i u task next Release s = absurd (let e = s.run.suited in cc)
+clears_step w i u task next (Release index) s = absurd (let e = s.run.suited in cc)
 clears_step w i u task next (Allocate at) s = absurd (let e = s.run.suited in cc)
 clears_step w i u task next (Write slot row place) s = absurd (let e = s.run.suited in cc)
 clears_step w i u task next (GiveUp slot) s = absurd (let e = s.run.suited in cc)
@@ -349,7 +349,7 @@ finishes_step w i u task next (Begin at) s = absurd (let e = s.run.suited in cc)
 finishes_step w i u task next (Protect aim index root n at) s = absurd (let e = s.run.suited in cc)
 finishes_step w i u task next (Reload parent index slot era n) s = absurd (let e = s.run.suited in cc)
 finishes_step w i u task next (Clear index) s = absurd (let e = s.run.suited in cc)
-finishes_step w i u task next Release s = absurd (let e = s.run.suited in cc)
+finishes_step w i u task next (Release index) s = absurd (let e = s.run.suited in cc)
 finishes_step w i u task next (Allocate at) s = absurd (let e = s.run.suited in cc)
 finishes_step w i u task next (Write slot row place) s = absurd (let e = s.run.suited in cc)
 finishes_step w i u task next (GiveUp slot) s = absurd (let e = s.run.suited in cc)
@@ -363,7 +363,7 @@ gives_step w i u answer (Protect aim index root n at) s = absurd (let e = s.run.
 gives_step w i u answer (Reload parent index slot era n) s = absurd (let e = s.run.suited in cc)
 gives_step w i u answer (Clear index) s = absurd (let e = s.run.suited in cc)
 gives_step w i u answer Finish s = absurd (let e = s.run.suited in cc)
-gives_step w i u answer Release s = absurd (let e = s.run.suited in cc)
+gives_step w i u answer (Release index) s = absurd (let e = s.run.suited in cc)
 gives_step w i u answer (Allocate at) s = absurd (let e = s.run.suited in cc)
 gives_step w i u answer (Write slot row place) s = absurd (let e = s.run.suited in cc)
 gives_step w i u answer (Retire at) s = absurd (let e = s.run.suited in cc)
@@ -378,28 +378,28 @@ tidies_step w i u later (Protect aim index root n at) s = absurd (let e = s.run.
 tidies_step w i u later (Reload parent index slot era n) s = absurd (let e = s.run.suited in cc)
 tidies_step w i u later (Clear index) s = absurd (let e = s.run.suited in cc)
 tidies_step w i u later Finish s = absurd (let e = s.run.suited in cc)
-tidies_step w i u later Release s = absurd (let e = s.run.suited in cc)
+tidies_step w i u later (Release index) s = absurd (let e = s.run.suited in cc)
 tidies_step w i u later (Allocate at) s = absurd (let e = s.run.suited in cc)
 tidies_step w i u later (Write slot row place) s = absurd (let e = s.run.suited in cc)
 tidies_step w i u later (GiveUp slot) s = absurd (let e = s.run.suited in cc)
 tidies_step w i u later (Retire at) s = absurd (let e = s.run.suited in cc)
 
-releases_step : (w : World) (i : ℕ) (u : Tally) (key : Option ℕ) (base : Base) → Steps w i u (Releases key) base → PacedAfter w i u (Releases key) base
-releases_step w i u key (Clear index) s =
+releases_step : (w : World) (i : ℕ) (u : Tally) (let_go : LetGo) (base : Base) → Steps w i u (Releases let_go) base → PacedAfter w i u (Releases let_go) base
+releases_step w i u let_go (Clear index) s =
     let t : Turn = after (Clear index) (counted (w.seat i).post) (finds w i) in
-    released_paced u (w.seat i).rounds key (withdrawn (counted (w.seat i).post) index) (w.seat i).desk t.told
-releases_step w i u key Release s =
-    let t : Turn = after Release (counted (w.seat i).post) (finds w i) in
-    released_paced u (w.seat i).rounds key t.post (w.seat i).desk t.told
-releases_step w i u key (Begin at) s = absurd (let e = s.run.suited in cc)
-releases_step w i u key (Protect aim index root n at) s = absurd (let e = s.run.suited in cc)
-releases_step w i u key (Reload parent index slot era n) s = absurd (let e = s.run.suited in cc)
-releases_step w i u key Finish s = absurd (let e = s.run.suited in cc)
-releases_step w i u key (Allocate at) s = absurd (let e = s.run.suited in cc)
-releases_step w i u key (Write slot row place) s = absurd (let e = s.run.suited in cc)
-releases_step w i u key (GiveUp slot) s = absurd (let e = s.run.suited in cc)
-releases_step w i u key (Retire at) s = absurd (let e = s.run.suited in cc)
-releases_step w i u key (Move at) s = absurd (let e = s.run.suited in cc)
+    released_paced u (w.seat i).rounds let_go (withdrawn (counted (w.seat i).post) index) (w.seat i).desk t.told
+releases_step w i u let_go (Release index) s =
+    let t : Turn = after (Release index) (counted (w.seat i).post) (finds w i) in
+    released_paced u (w.seat i).rounds let_go t.post (w.seat i).desk t.told
+releases_step w i u let_go (Begin at) s = absurd (let e = s.run.suited in cc)
+releases_step w i u let_go (Protect aim index root n at) s = absurd (let e = s.run.suited in cc)
+releases_step w i u let_go (Reload parent index slot era n) s = absurd (let e = s.run.suited in cc)
+releases_step w i u let_go Finish s = absurd (let e = s.run.suited in cc)
+releases_step w i u let_go (Allocate at) s = absurd (let e = s.run.suited in cc)
+releases_step w i u let_go (Write slot row place) s = absurd (let e = s.run.suited in cc)
+releases_step w i u let_go (GiveUp slot) s = absurd (let e = s.run.suited in cc)
+releases_step w i u let_go (Retire at) s = absurd (let e = s.run.suited in cc)
+releases_step w i u let_go (Move at) s = absurd (let e = s.run.suited in cc)
 
 pub run_paced : (w : World) (i : ℕ) (u : Tally) (why : Why) (base : Base) → Steps w i u why base → PacedAfter w i u why base
 run_paced w i u (Opens task) base s = opens_step w i u task base s
@@ -412,4 +412,4 @@ run_paced w i u (GivesUp answer) base s = gives_step w i u answer base s
 run_paced w i u (Retires answer) base s = let t : Turn = after base (counted (w.seat i).post) (finds w i) in retire_resumes u (w.seat i).rounds answer (w.seat i).desk t.post t.told t.outcome
 run_paced w i u (Tidies later) base s = tidies_step w i u later base s
 run_paced w i u Advances base s = let t : Turn = after base (counted (w.seat i).post) (finds w i) in advance_resumes u (w.seat i).rounds (w.seat i).desk t.post t.told t.outcome
-run_paced w i u (Releases key) base s = releases_step w i u key base s
+run_paced w i u (Releases let_go) base s = releases_step w i u let_go base s

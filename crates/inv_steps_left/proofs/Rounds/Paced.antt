@@ -4,7 +4,9 @@ use Rattle.inv_contents.specs.model.Change as alters
 use Rattle.inv_contents.specs.model.Enqueue as enqueues
 use Rattle.inv_contents.specs.model.Dequeue as dequeues
 use Rattle.inv_contents.specs.model.Get as gets
+use Rattle.inv_contents.specs.model.Keep as keeps
 use Rattle.inv_contents.specs.model.Steps as steps
+use Rattle.inv_contents.specs.words.Schemes.{has_one_interval}
 use Rattle.inv_contents.specs.model.Scan as scan
 use Rattle.inv_contents.specs.defs.declared.event.Event.TheVariants as events
 use Rattle.inv_contents.specs.defs.declared.event.Root.TheVariants as roots
@@ -12,24 +14,26 @@ use Rattle.inv_contents.specs.defs.declared.call.Answer.TheVariants as answers
 use Rattle.inv_contents.specs.defs.declared.call.ClockMove.TheVariants as moves
 use Rattle.inv_contents.specs.model.declared.ends.FollowEnd.TheVariants as follow_ends
 use Rattle.inv_contents.specs.model.declared.ends.AllocateEnd.TheVariants as allocate_ends
-use Rattle.inv_contents.specs.model.Calls.{AfterScan, CallOutcome, CallTurn, ChangeAt, ChangeKept, DequeueAt, EnqueueAt, EnqueueKept, GetAt, Next, ScanAt, Task, Work}
+use Rattle.inv_contents.specs.model.Calls.{AfterScan, CallOutcome, CallTurn, ChangeAt, ChangeKept, DequeueAt, EnqueueAt, EnqueueKept, GetAt, Next, ScanAt, Task, Work, KeepAt, LetGo}
 use Rattle.inv_contents.specs.model.Calls.AfterScan.{Answered, Counted, Repeated}
 use Rattle.inv_contents.specs.model.Calls.CallOutcome.{Answers, GoesOn}
 use Rattle.inv_contents.specs.model.Calls.ChangeAt.{ExchangeRoot, LoadCount, LoadKey, LoadValue, LoadVersion}
 use Rattle.inv_contents.specs.model.Calls.DequeueAt.{ExchangeHead, LoadTail, SwingTail, TakeNumber, TakeValue}
 use Rattle.inv_contents.specs.model.Calls.EnqueueAt.{ExchangeNext, ExchangeTail, LoadNext, LoadNumber, PassTail}
 use Rattle.inv_contents.specs.model.Calls.GetAt.{FindCount, FindKey, FindValue, FindVersion}
+use Rattle.inv_contents.specs.model.Calls.KeepAt.{LoadHeld, Looks, Loosens, Misses, StoreHeld}
+use Rattle.inv_contents.specs.model.Calls.LetGo.{Dropped, Rehold, Released}
 use Rattle.inv_contents.specs.model.Calls.Next.{Again, Answering, MakeRoom, Retiring}
 use Rattle.inv_contents.specs.model.Calls.ScanAt.{GiveBack, ReadGuard}
 use Rattle.inv_contents.specs.model.Calls.Task.{Changes, Dequeues, Enqueues, Gets, Holds}
-use Rattle.inv_contents.specs.model.Calls.Work.{Changing, Dequeuing, Enqueuing, Getting}
+use Rattle.inv_contents.specs.model.Calls.Work.{Changing, Dequeuing, Enqueuing, Getting, Keeping}
 use Rattle.inv_contents.specs.model.Desks.{Desk, with_life}
 use Rattle.inv_contents.specs.model.Guards.{guard_at, guards, eras_in, published}
 use Rattle.inv_contents.specs.model.Locals.{rounds_told}
 use Rattle.inv_contents.specs.model.Phases.{Ending, Base}
 use Rattle.inv_contents.specs.model.Phases.Ending.{Allocated, Clocked, Done, Followed, Protected, Retired}
-use Rattle.inv_contents.specs.model.Posts.{stands}
-use Rattle.inv_contents.specs.model.Rounds.{begin_base, begin_span, bucket_of, clear_base, clear_post, clear_told, clearing, clearing_by, clearing_next, clearing_next_by, closed, finish_base, finish_span, finishing, finishing_by, given_up, index_of, key_of, opening, root_of, round, round_by, scheme_of, taken_of}
+use Rattle.inv_contents.specs.model.Posts.{stands, cleared, reserves_index, withdrawn}
+use Rattle.inv_contents.specs.model.Rounds.{begin_base, begin_span, bucket_of, clear_base, clear_post, clear_told, clearing, clearing_by, clearing_next, clearing_next_by, closed, finish_base, finish_span, finishing, finishing_by, given_up, index_of, key_of, opening, root_of, round, round_by, scheme_of, taken_of, kept_row, let_index}
 use Rattle.inv_contents.specs.model.declared.ends.AllocateEnd.{AllocateEnd}
 use Rattle.inv_contents.specs.model.declared.ends.FollowEnd.{FollowEnd}
 use Rattle.inv_contents.specs.model.declared.post.Post.{Post}
@@ -89,7 +93,7 @@ scheme_finish : (u : Tally) (rounds : ℕ) (task : Task) (next : Next) (post : P
 scheme_finish u rounds task next post desk told scheme n =
     each_finish scheme post (λ (base : Option Base). TurnPaced u rounds (finishing_by task next post desk told base))
     (closed_paced u rounds task next post desk told n)
-    (span_finish u rounds task next post desk told (stands post 2) n)
+    (span_finish u rounds task next post desk told (kept_row post) n)
 
 pub finishing_paced : (u : Tally) (rounds : ℕ) (task : Task) (next : Next) (post : Post) (desk : Desk) (told : List Event) → next_paced u task next (rounds_told rounds told) → TurnPaced u rounds (finishing task next post desk told)
 finishing_paced u rounds task Again post desk told n = closed_paced u rounds task Again post desk told n
@@ -144,7 +148,7 @@ deciding_by_paced u rounds kept post desk told (Some answer) i = clearing_paced 
 deciding_by_paced u rounds kept post desk told None i = i
 
 pub deciding_paced : (u : Tally) (rounds : ℕ) (kept : ChangeKept) (post : Post) (desk : Desk) (told : List Event) → root_since u kept (rounds_told rounds told - 1) → TurnPaced u rounds (alters.deciding kept post desk told)
-deciding_paced u rounds kept post desk told i = deciding_by_paced u rounds kept post desk told (alters.refusal post.layout.config kept.version kept.pairs kept.change) i
+deciding_paced u rounds kept post desk told i = deciding_by_paced u rounds kept post desk told (alters.refused post.layout.config kept) i
 
 pub opened_null_paced : (u : Tally) (rounds : ℕ) (task : Task) (post : Post) (desk : Desk) (told : List Event) (lost : ℕ) → is_queue task ≡ false → rounds_told rounds told ≡ lost + 1 → link_since u task 0 lost → TurnPaced u rounds (steps.opened_null task post desk told)
 opened_null_paced u rounds (Gets key) post desk told lost q e h = clearing_paced u rounds (Gets key) (Answering (answers.Got 0 None)) post desk (told ++ events.Got (bucket_of post key) 0 key None ∷ []) tt
@@ -240,9 +244,10 @@ advanced_paced u rounds (Followed ending) post desk told = tt
 advanced_paced u rounds (Allocated ending) post desk told = tt
 advanced_paced u rounds (Retired life) post desk told = tt
 
-pub released_paced : (u : Tally) (rounds : ℕ) (key : Option ℕ) (post : Post) (desk : Desk) (told : List Event) → TurnPaced u rounds (steps.released key post desk told)
-released_paced u rounds None post desk told = tt
-released_paced u rounds (Some key) post desk told = round_paced u (rounds_told rounds told) (Holds key) post tt
+pub released_paced : (u : Tally) (rounds : ℕ) (let_go : LetGo) (post : Post) (desk : Desk) (told : List Event) → TurnPaced u rounds (keeps.released let_go post desk told)
+released_paced u rounds Released post desk told = tt
+released_paced u rounds (Rehold key) post desk told = round_paced u (rounds_told rounds told) (Holds key) post tt
+released_paced u rounds (Dropped index) post desk told = tt
 
 -- a scan
 
@@ -284,6 +289,7 @@ WorkNow u rounds (Dequeuing (SwingTail head next)) found = rounds ≤ u.takes
 WorkNow u rounds (Dequeuing (TakeNumber head next)) found = Unit {0}
 WorkNow u rounds (Dequeuing (TakeValue head next number)) found = Unit {0}
 WorkNow u rounds (Dequeuing (ExchangeHead head next number value)) found = (found == head + 1) ≡ false → rounds ≤ u.takes
+WorkNow u rounds (Keeping at) found = Unit {0}
 
 got_paced : (u : Tally) (rounds key version : ℕ) (value : Option ℕ) (post : Post) (desk : Desk) (told : List Event) → TurnPaced u rounds (gets.got key version value post desk told)
 got_paced u rounds key version value post desk told = clearing_paced u rounds (Gets key) (Answering (answers.Got version value)) post desk (told ++ events.Got (bucket_of post key) version key value ∷ []) tt
@@ -365,8 +371,38 @@ dequeue_turn_paced u rounds (TakeNumber head next) post desk found i l = i
 dequeue_turn_paced u rounds (TakeValue head next number) post desk found i l = i
 dequeue_turn_paced u rounds (ExchangeHead head next number value) post desk found i l = taken_paced u rounds head next number value post desk (found == head + 1) l
 
+copied_paced : (u : Tally) (rounds from index : ℕ) (post : Post) (desk : Desk) (reserved : List Event) (x : Option ℕ) → TurnPaced u rounds (keeps.copied from index post desk reserved x)
+copied_paced u rounds from index post desk reserved (Some slot) = tt
+copied_paced u rounds from index post desk reserved None = tt
+
+held_paced : (u : Tally) (rounds from index : ℕ) (post : Post) (desk : Desk) (found : ℕ) (one : Bool) → TurnPaced u rounds (keeps.load_held from index post desk found one)
+held_paced u rounds from index post desk found true = copied_paced u rounds from index post desk [] (stands post from)
+held_paced u rounds from index post desk found false = tt
+
+looking_paced : (u : Tally) (rounds index key slot version count : ℕ) (post : Post) (desk : Desk) (more : Bool) (pair : ℕ) → TurnPaced u rounds (keeps.looking index key slot version count post desk more pair)
+looking_paced u rounds index key slot version count post desk true pair = tt
+looking_paced u rounds index key slot version count post desk false pair = tt
+
+looked_paced : (u : Tally) (rounds index key slot version count pair : ℕ) (post : Post) (desk : Desk) (own : Bool) → TurnPaced u rounds (keeps.looked_key index key slot version count pair post desk own)
+looked_paced u rounds index key slot version count pair post desk true = tt
+looked_paced u rounds index key slot version count pair post desk false = looking_paced u rounds index key slot version count post desk (nat_lt (pair + 1) count) (pair + 1)
+
+look_paced : (u : Tally) (rounds index key : ℕ) (at : GetAt) (post : Post) (desk : Desk) (found : ℕ) → TurnPaced u rounds (keeps.look_turn index key at post desk found)
+look_paced u rounds index key (FindVersion slot) post desk found = tt
+look_paced u rounds index key (FindCount slot version) post desk found = looking_paced u rounds index key slot version found post desk (nat_lt 0 found) 0
+look_paced u rounds index key (FindKey slot version count pair) post desk found = looked_paced u rounds index key slot version count pair post desk (found == key)
+look_paced u rounds index key (FindValue slot version pair) post desk found = tt
+
+keep_paced : (u : Tally) (rounds : ℕ) (at : KeepAt) (post : Post) (desk : Desk) (found : ℕ) → TurnPaced u rounds (keeps.keep_turn at post desk found)
+keep_paced u rounds (Loosens let_go) post desk found = released_paced u rounds let_go (withdrawn post (let_index let_go)) desk (cleared (let_index let_go) (stands post (let_index let_go)))
+keep_paced u rounds (LoadHeld from index) post desk found = held_paced u rounds from index post desk found (has_one_interval (scheme_of post))
+keep_paced u rounds (StoreHeld from index era) post desk found = copied_paced u rounds from index post desk (reserves_index post index era) (stands post from)
+keep_paced u rounds (Looks index key at) post desk found = look_paced u rounds index key at post desk found
+keep_paced u rounds (Misses index) post desk found = tt
+
 pub work_turn_paced : (u : Tally) (rounds : ℕ) (work : Work) (post : Post) (desk : Desk) (found : ℕ) → work_paced u work (rounds - 1) → WorkNow u rounds work found → TurnPaced u rounds (steps.work_turn work post desk found)
 work_turn_paced u rounds (Getting key at) post desk found i l = get_paced u rounds key at post desk found
 work_turn_paced u rounds (Changing kept at) post desk found i l = change_paced u rounds kept at post desk found i l
 work_turn_paced u rounds (Enqueuing kept at) post desk found i l = enqueue_turn_paced u rounds kept at post desk found i l
 work_turn_paced u rounds (Dequeuing at) post desk found i l = dequeue_turn_paced u rounds at post desk found i l
+work_turn_paced u rounds (Keeping at) post desk found i l = keep_paced u rounds at post desk found

@@ -4,7 +4,7 @@ use Rattle.inv_contents.specs.words.Place.Place.{Clock}
 use Rattle.inv_contents.specs.model.Phases.Base.{Move, Allocate, Begin, Clear, Finish, GiveUp, Protect, Release, Reload, Retire, Write}
 use Rattle.inv_links.specs.requests.Views.{View as Asking, Role, Deal}
 use Rattle.inv_links.specs.requests.Views.Deal.{Quiet, Open, Answered, Passed, Taken}
-use Rattle.inv_links.specs.requests.Views.Role.{Away, Publishes, Attempts, Asks, Asked, Turns, Looks, Answers, Waits, Takes, Took, Leaves, Meets, Shows, Loads, Helps, Reads, Hands, Hides, Late, Moves}
+use Rattle.inv_links.specs.requests.Views.Role.{Away, Publishes, Attempts, Copies, Asks, Asked, Turns, Looks, Answers, Waits, Takes, Took, Leaves, Meets, Shows, Loads, Helps, Reads, Hands, Hides, Late, Moves}
 use Rattle.inv_links.specs.requests.Standing.{Requests, role_of, move_role}
 use Rattle.inv_links.specs.requests.Deals.{fits, is_quiet}
 use Rattle.inv_contents.specs.model.Calls.{Phase}
@@ -17,6 +17,7 @@ use Rattle.inv_contents.specs.model.World.{World}
 use Rattle.inv_links.specs.Tracked.{Tracked, carries_in, has_link, helps_at, helps_in, opened_by}
 use Rattle.inv_links.specs.Tracked.Tracked.{Carried, Given, Helped}
 use Rattle.inv_links.specs.requests.Roles.{shows}
+use Rattle.inv_links.proofs.requests.Turns.{each_work_role}
 use Rattle.inv_contents.specs.words.declared.layout.Layout.{Layout}
 use Rattle.std.specs.Prelude.{◌==◌, ◌&&◌}
 
@@ -30,6 +31,7 @@ abbrev asks_role : Role → Bool
 asks_role Away = false
 asks_role (Publishes j e lost) = false
 asks_role (Attempts j e lost) = false
+asks_role (Copies j e) = false
 asks_role (Asks j w) = false
 asks_role (Asked j w) = true
 asks_role (Turns j w f e last) = true
@@ -53,6 +55,7 @@ quiet_deal : (r : Role) (d : Deal) → fits r d ≡ true → asks_role r ≡ fal
 quiet_deal Away d h a = h
 quiet_deal (Publishes j e lost) d h a = h
 quiet_deal (Attempts j e lost) d h a = h
+quiet_deal (Copies j e) d h a = h
 quiet_deal (Asks j w) d h a = h
 quiet_deal (Asked j w) d h a = absurd (cc)
 quiet_deal (Turns j w f e last) d h a = absurd (cc)
@@ -92,14 +95,14 @@ phase_asks layout (Runs why (Protect aim index root n at)) p = absurd (cc)
 phase_asks layout (Runs why (Reload parent index slot era n)) p = absurd (cc)
 phase_asks layout (Runs why (Clear index)) p = refl
 phase_asks layout (Runs why Finish) p = refl
-phase_asks layout (Runs why Release) p = refl
+phase_asks layout (Runs why (Release index)) p = refl
 phase_asks layout (Runs why (Allocate at)) p = refl
 phase_asks layout (Runs why (Write slot row place)) p = refl
 phase_asks layout (Runs why (GiveUp slot)) p = refl
 phase_asks layout (Runs why (Retire at)) p = refl
 phase_asks layout (Runs why (Move at)) p = move_asks layout at
 phase_asks layout (Scans later at) p = refl
-phase_asks layout (Works work) p = refl
+phase_asks layout (Works work) p = each_work_role work (λ (r : Role). asks_role r ≡ false) refl (λ from era. refl)
 
 carries_not : (clock upto : ℕ) (phase : Phase) (x : ℕ) → is_protecting phase ≡ false → carries_in clock upto phase x ≡ false
 carries_not clock upto Idle x p = refl
@@ -108,7 +111,7 @@ carries_not clock upto (Runs why (Protect aim index root n at)) x p = absurd (cc
 carries_not clock upto (Runs why (Reload parent index slot era n)) x p = absurd (cc)
 carries_not clock upto (Runs why (Clear index)) x p = refl
 carries_not clock upto (Runs why Finish) x p = refl
-carries_not clock upto (Runs why Release) x p = refl
+carries_not clock upto (Runs why (Release index)) x p = refl
 carries_not clock upto (Runs why (Allocate at)) x p = refl
 carries_not clock upto (Runs why (Write slot row place)) x p = refl
 carries_not clock upto (Runs why (GiveUp slot)) x p = refl
@@ -164,7 +167,7 @@ helps_not layout clock k (Runs why (Protect aim index root n at)) d x q h = h
 helps_not layout clock k (Runs why (Reload parent index slot era n)) d x q h = h
 helps_not layout clock k (Runs why (Clear index)) d x q h = h
 helps_not layout clock k (Runs why Finish) d x q h = h
-helps_not layout clock k (Runs why Release) d x q h = h
+helps_not layout clock k (Runs why (Release index)) d x q h = h
 helps_not layout clock k (Runs why (Allocate at)) d x q h = h
 helps_not layout clock k (Runs why (Write slot row place)) d x q h = h
 helps_not layout clock k (Runs why (GiveUp slot)) d x q h = h

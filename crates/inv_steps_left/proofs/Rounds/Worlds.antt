@@ -9,6 +9,7 @@ use Rattle.inv_contents.specs.model.Change as alters
 use Rattle.inv_contents.specs.model.Enqueue as enqueues
 use Rattle.inv_contents.specs.model.Dequeue as dequeues
 use Rattle.inv_contents.specs.model.Get as gets
+use Rattle.inv_contents.specs.model.Keep as keeps
 use Rattle.inv_contents.specs.model.Machine as machine
 use Rattle.inv_contents.specs.model.Steps as steps
 use Rattle.inv_contents.specs.model.Scan as scan
@@ -17,13 +18,13 @@ use Rattle.inv_contents.specs.defs.declared.event.Root.TheVariants as roots
 use Rattle.inv_contents.specs.defs.declared.call.Answer.TheVariants as answers
 use Rattle.inv_contents.specs.defs.declared.call.ClockMove.TheVariants as moves
 use Rattle.inv_contents.specs.model.Book.{Book, booked_all}
-use Rattle.inv_contents.specs.model.Calls.{CallTurn, ChangeAt, ChangeKept, EnqueueAt, EnqueueKept, Phase, Why, DequeueAt, GetAt, ScanAt}
+use Rattle.inv_contents.specs.model.Calls.{CallTurn, ChangeAt, ChangeKept, EnqueueAt, EnqueueKept, Phase, Why, DequeueAt, GetAt, ScanAt, KeepAt}
 use Rattle.inv_contents.specs.model.Calls.ChangeAt.{ExchangeRoot, LoadCount, LoadKey, LoadValue, LoadVersion}
 use Rattle.inv_contents.specs.model.Calls.EnqueueAt.{ExchangeNext, ExchangeTail, LoadNext, LoadNumber, PassTail}
 use Rattle.inv_contents.specs.model.Calls.Next.{Retiring}
 use Rattle.inv_contents.specs.model.Calls.Phase.{Idle, Runs, Scans, Works}
 use Rattle.inv_contents.specs.model.Calls.Task.{Changes}
-use Rattle.inv_contents.specs.model.Calls.Work.{Changing, Enqueuing, Dequeuing, Getting}
+use Rattle.inv_contents.specs.model.Calls.Work.{Changing, Enqueuing, Dequeuing, Getting, Keeping}
 use Rattle.inv_contents.specs.model.Dequeue.{taken}
 use Rattle.inv_contents.specs.model.Desks.{Desk}
 use Rattle.inv_contents.specs.model.Locals.{told_by, told_end}
@@ -52,6 +53,7 @@ use Rattle.inv_contents.proofs.Contents.Shelves.{exchanged_book, linked_booked}
 use Rattle.inv_contents.proofs.Contents.Told.{booked_append}
 use Rattle.inv_contents.specs.model.Calls.DequeueAt.{ExchangeHead, LoadTail, SwingTail, TakeNumber, TakeValue}
 use Rattle.inv_contents.specs.model.Calls.GetAt.{FindCount, FindKey, FindValue, FindVersion}
+use Rattle.inv_contents.specs.model.Calls.KeepAt.{LoadHeld, Looks, Loosens, Misses, StoreHeld}
 use Rattle.inv_contents.specs.model.Calls.ScanAt.{GiveBack, ReadGuard}
 use Rattle.inv_contents.proofs.rows.Went.{LineIn, WalksIn}
 use Rattle.inv_contents.specs.rows.Chain.{queue_of}
@@ -104,7 +106,7 @@ run_grows c mem book told l why (Protect aim index root n at) post h = calm_grow
 run_grows c mem book told l why (Reload parent index slot era n) post h = calm_grows c mem (machine.base_move (Reload parent index slot era n) post) book told l l refl (λ s. refl)
 run_grows c mem book told l why (Clear index) post h = calm_grows c mem (machine.base_move (Clear index) post) book told l l refl (λ s. refl)
 run_grows c mem book told l why Finish post h = calm_grows c mem (machine.base_move Finish post) book told l l refl (λ s. refl)
-run_grows c mem book told l why Release post h = calm_grows c mem (machine.base_move Release post) book told l l refl (λ s. refl)
+run_grows c mem book told l why (Release index) post h = calm_grows c mem (machine.base_move (Release index) post) book told l l refl (λ s. refl)
 run_grows c mem book told l why (Allocate LoadBirth) post h = calm_grows c mem (machine.base_move (Allocate LoadBirth) post) book told l l refl (λ s. refl)
 run_grows c mem book told l why (Allocate (ClaimSlot birth walk)) post h = calm_grows c mem (machine.base_move (Allocate (ClaimSlot birth walk)) post) book told l l refl (λ s. refl)
 run_grows c mem book told l why (Allocate (StoreLife birth slot)) post h = calm_grows c mem (machine.base_move (Allocate (StoreLife birth slot)) post) book told l l refl (λ s. refl)
@@ -207,6 +209,13 @@ get_grows c mem book told l (FindCount slot version) = calm_grows c mem (gets.ge
 get_grows c mem book told l (FindKey slot version count pair) = calm_grows c mem (gets.get_move (FindKey slot version count pair)) book told l l refl (λ s. refl)
 get_grows c mem book told l (FindValue slot version pair) = calm_grows c mem (gets.get_move (FindValue slot version pair)) book told l l refl (λ s. refl)
 
+keep_grows : (c : ℕ) (mem : Place → ℕ) (book : Book) (told : List Event) (l : Line) (at : KeepAt) (post : Post) → Grows (tally_of c mem book l) (tally_of c (written mem (keeps.keep_move at post)) (booked_all book told) l)
+keep_grows c mem book told l (Loosens let_go) post = calm_grows c mem (keeps.keep_move (Loosens let_go) post) book told l l refl (λ s. refl)
+keep_grows c mem book told l (LoadHeld from index) post = calm_grows c mem (keeps.keep_move (LoadHeld from index) post) book told l l refl (λ s. refl)
+keep_grows c mem book told l (StoreHeld from index era) post = calm_grows c mem (keeps.keep_move (StoreHeld from index era) post) book told l l refl (λ s. refl)
+keep_grows c mem book told l (Looks index key at) post = get_grows c mem book told l at
+keep_grows c mem book told l (Misses index) post = calm_grows c mem (keeps.keep_move (Misses index) post) book told l l refl (λ s. refl)
+
 scan_calm : (at : ScanAt) (post : Post) → touches (scan.scan_move at post) ≡ false
 scan_calm (ReadGuard number) post = refl
 scan_calm (GiveBack place slot) post = refl
@@ -263,3 +272,5 @@ phase_counts c mem book v l (Works (Dequeuing at)) post desk f =
     tells (SwingTail a b) head next number value e h = absurd (cc)
     tells (TakeNumber a b) head next number value e h = absurd (cc)
     tells (TakeValue a b n) head next number value e h = absurd (cc)
+phase_counts c mem book v l (Works (Keeping at)) post desk f =
+    keep_grows c mem book (told_by (steps.phase_turn (Works (Keeping at)) (counted post) desk (found (keeps.keep_move at post) (mem (place_in (keeps.keep_move at post)))))) l at post

@@ -12,7 +12,7 @@ use Rattle.wfe_core.specs.defs.declared.event.Event.{Event}
 use Rattle.wfe_core.specs.defs.declared.event.Event.TheVariants as events
 use Rattle.wfe_core.specs.declared.post.Post.{Post}
 use Rattle.wfe_core.specs.Desks.{Desk, noting}
-use Rattle.wfe_core.specs.Locals.{Local, begun_post, busy_in, settled_by, turn, told_by, told_end, rounds_told}
+use Rattle.wfe_core.specs.Locals.{Local, begun_post, busy_in, may_begin, settled_by, turn, told_by, told_end, rounds_told}
 use Rattle.wfe_core.specs.Posts.{counted}
 use Rattle.wfe_core.specs.Steps.{first_phase}
 use Rattle.wfe_core.specs.Calls.{CallTurn, CallOutcome, GoesOn, Answers}
@@ -32,8 +32,8 @@ use Rattle.laws.specs.AnswerLaw.{suits}
 use Rattle.laws.specs.HistoryAnswers.{owes, same_told, answer_right, answers_ok}
 use Rattle.law_answers.specs.Records.{RecordsKeepAnswers}
 use Rattle.inv_all.proofs.history.AllOf.{all_of}
-use Rattle.inv_all.proofs.Machines.{is_within, end_still, within_of}
-use Rattle.law_answers.proofs.AnswersTold.Owed.{loud_one, loud, loud_along, loud_still, is_open, Serves, owed, out_owed, OutServes, Told, Owes, append_none}
+use Rattle.inv_all.proofs.Machines.{is_within, within_of}
+use Rattle.law_answers.proofs.AnswersTold.Owed.{loud_one, loud, loud_along, is_open, Serves, owed, out_owed, OutServes, Told, Owes, append_none}
 use Rattle.law_answers.proofs.AnswersTold.Moves.{phase_ends}
 use Rattle.law_answers.proofs.AnswersTold.Owing.{turn_owes, first_serves, first_owes}
 use Rattle.laws.proofs.Tells.{tells_both}
@@ -51,6 +51,7 @@ one_told (events.Put bucket version key value) before later h = append_one befor
 one_told (events.Removed bucket version key) before later h = append_one before later (events.Removed bucket version key)
 one_told (events.Queued number value) before later h = append_one before later (events.Queued number value)
 one_told (events.Taken number value) before later h = append_one before later (events.Taken number value)
+one_told (events.Copied from index slot) before later h = append_one before later (events.Copied from index slot)
 one_told event before later h = refl
 
 own_entry : (i : ℕ) (p : Past) (event : Event) → told_of i (Then p i event) ≡ with_told event (told_of i p)
@@ -113,6 +114,8 @@ owed_same n (names.Put key value) (the_answers.Done version clock) = both ((key 
 owed_same n (names.Remove key) (the_answers.Done version clock) = both ((key % n == key % n && version == version) && key == key) true (both (key % n == key % n && version == version) (key == key) (own_two (key % n) version) (same_number key)) refl
 owed_same n (names.Enqueue value) (the_answers.Queued number) = both (number == number && value == value) true (own_two number value) refl
 owed_same n names.Dequeue (the_answers.Taken number value clock) = both (number == number && value == value) true (own_two number value) refl
+owed_same n (names.Copy from index) (the_answers.Copied slot) = both (from == from && (index == index && slot == slot)) true (both (from == from) (index == index && slot == slot) (same_number from) (own_two index slot)) refl
+owed_same n (names.PutIf key value wanted) (the_answers.Done version clock) = both ((key % n == key % n && version == version) && (key == key && value == value)) true (both (key % n == key % n && version == version) (key == key && value == value) (own_two (key % n) version) (own_two key value)) refl
 owed_same n call answer = refl
 
 answer_is : (n : ℕ) (call : Call) (answer : Answer) (began : Option Call) (told : List Event) → began ≡ Some call → told ≡ owes n call answer → suits call answer ≡ true → answer_right n began told answer ≡ true
@@ -144,7 +147,8 @@ step_each n i call p t before y e b o g =
     (end_each n i call (tells_of p i t.told) t.post t.outcome (began_along i t.told p within ∙ e) sum o.serves (open_each n i t.told p there.goes g))
 
 end_none : (post : Post) (outcome : CallOutcome) → loud (told_end post outcome) ≡ []
-end_none post outcome = loud_still (told_end post outcome) (end_still post outcome)
+end_none post (GoesOn phase) = refl
+end_none post (Answers answer) = refl
 
 step_told : (n i : ℕ) (call : Call) (p : Past) (t : CallTurn) (before : List Event) → all_of is_within (told_by t) ≡ true → told_of i p ≡ before → Owes n call before t → told_of i (tells_of p i (told_by t)) ≡ out_owed n call t.outcome
 step_told n i call p t before y b o =
@@ -194,8 +198,8 @@ begin_right n w i k call p false e g =
     (subst (λ (x : Option Call). Right n (w.seat k) x (told_of k (Then p i (events.Begin call)))) (sym (other_began k i p (events.Begin call) e))
     (subst (λ (x : List Event). Right n (w.seat k) (began_of k p) x) (sym (other_entry k i p (events.Begin call) e)) (g k)))
 
-pub begin_keeps : (n : ℕ) (made : Made) (i : ℕ) (call : Call) → is_busy made.world i ≡ false → Keeps n made → Keeps n (done made (Begins i call))
-begin_keeps n made i call f g = record { table = g.table; known = inv_begin made.world i call f g.known; seats = λ k. begin_right n made.world i k call made.past (k == i) refl g.seats; law = (refl, g.law) }
+pub begin_keeps : (n : ℕ) (made : Made) (i : ℕ) (call : Call) → is_busy made.world i ≡ false → may_begin made.world.layout.config call ≡ true → Keeps n made → Keeps n (done made (Begins i call))
+begin_keeps n made i call f m g = record { table = g.table; known = inv_begin made.world i call f m g.known; seats = λ k. begin_right n made.world i k call made.past (k == i) refl g.seats; law = (refl, g.law) }
 
 pub step_keeps : (n : ℕ) (made : Made) (i : ℕ) → i < made.world.layout.config.seats → is_busy made.world i ≡ true → Keeps n made → Keeps n (done made (Steps i))
 step_keeps n made i b y g =
@@ -208,7 +212,7 @@ step_keeps n made i b y g =
     }
 
 steady : (n : ℕ) → Steady (Keeps n)
-steady n = record { begins = λ made i call b y g. begin_keeps n made i call y g; steps = λ made i b y g. step_keeps n made i b y g }
+steady n = record { begins = λ made i call b y m g. begin_keeps n made i call y m g; steps = λ made i b y g. step_keeps n made i b y g }
 
 pub first_keeps : (layout : Layout) → is_valid layout ≡ true → Keeps layout.config.buckets (first_made layout)
 first_keeps layout d = record { table = refl; known = inv_start layout d; seats = λ k. record { began = λ b. absurd (cc); told = λ b. absurd (cc); serves = λ b. absurd (cc) }; law = tt }

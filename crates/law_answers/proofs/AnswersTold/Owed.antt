@@ -1,6 +1,6 @@
--- What a call has told of the map and of the queue where it stands, and the answers that suit it.
+-- What a call has told of the map, of the queue and of copies where it stands, and the answers that suit it.
 use Rattle.std.proofs.Common.{ℕ, ◌≡◌, ◌+◌, Bool, true, false, List, [], ◌∷◌, ◌++◌, Option, Some, None, refl, ap, ◌∙◌}
-use Rattle.std.specs.Prelude.{if◌then◌else◌}
+use Rattle.std.specs.Prelude.{if◌then◌else◌, is_none}
 use Rattle.wfe_core.specs.defs.declared.call.Answer.{Answer}
 use Rattle.wfe_core.specs.defs.declared.call.Answer.TheVariants as the_answers
 use Rattle.wfe_core.specs.defs.declared.call.Call.{Call}
@@ -13,16 +13,25 @@ use Rattle.wfe_core.specs.defs.declared.fold.Change.TheVariants as changes
 use Rattle.wfe_core.specs.Rounds.{with_clock}
 use Rattle.wfe_core.specs.Phases.{Ending, Outcome, Goes, Ends}
 use Rattle.wfe_core.specs.Phases.Ending.{Clocked}
-use Rattle.wfe_core.specs.Calls.{Task, Gets, Changes, Holds, Enqueues, Dequeues, Next, Again, MakeRoom, Answering, Retiring, AfterScan, Answered, Repeated, Counted, EnqueueKept, EnqueueAt, LoadNumber, LoadNext, PassTail, ExchangeNext, ExchangeTail, Work, Getting, Changing, Enqueuing, Dequeuing, Why, Opens, FollowsHead, Fills, ClearsNext, Clears, Finishes, GivesUp, Retires, Tidies, Advances, Releases, Phase, Idle, Runs, Scans, Works, CallTurn, CallOutcome, GoesOn, Answers}
+use Rattle.wfe_core.specs.Calls.{Task, Gets, Changes, Holds, Enqueues, Dequeues, Next, Again, MakeRoom, Answering, Retiring, AfterScan, Answered, Repeated, Counted, EnqueueKept, EnqueueAt, LoadNumber, LoadNext, PassTail, ExchangeNext, ExchangeTail, Work, Getting, Changing, Enqueuing, Dequeuing, Keeping, KeepAt, Loosens, LoadHeld, StoreHeld, Looks, Misses, LetGo, Released, Rehold, Dropped, Why, Opens, FollowsHead, Fills, ClearsNext, Clears, Finishes, GivesUp, Retires, Tidies, Advances, Releases, Phase, Idle, Runs, Scans, Works, CallTurn, CallOutcome, GoesOn, Answers}
 use Rattle.wfe_core.proofs.Facts.{first_of, rest_of}
 use Rattle.laws.specs.AnswerLaw.{suits}
 use Rattle.laws.specs.HistoryAnswers.{owes}
 use Rattle.inv_all.proofs.history.AllOf.{all_of, of_along, of_weaker}
 use Rattle.inv_all.proofs.Machines.{is_machine, is_still, machine_still}
 
--- the events of the map and of the queue
+-- an event that tells nothing of the map and of the queue, and no copy
+abbrev pub is_mute : Event → Bool
+is_mute (events.Copied from index slot) = false
+is_mute event = is_still event
+
+pub machine_mute : (event : Event) → is_machine event ≡ true → is_mute event ≡ true
+machine_mute (events.Copied from index slot) h = absurd (cc)
+machine_mute event h = machine_still event h
+
+-- the others
 abbrev pub loud_one : Event → List Event → List Event
-loud_one event told = if is_still event then told else event ∷ told
+loud_one event told = if is_mute event then told else event ∷ told
 
 abbrev pub loud : List Event → List Event
 loud [] = []
@@ -34,15 +43,15 @@ one_along false event xs ys = refl
 
 pub loud_along : (xs ys : List Event) → loud (xs ++ ys) ≡ loud xs ++ loud ys
 loud_along [] ys = refl
-loud_along (x ∷ xs) ys = ap (λ (told : List Event). loud_one x told) (loud_along xs ys) ∙ one_along (is_still x) x (loud xs) (loud ys)
+loud_along (x ∷ xs) ys = ap (λ (told : List Event). loud_one x told) (loud_along xs ys) ∙ one_along (is_mute x) x (loud xs) (loud ys)
 
 none_by : (still : Bool) (event : Event) (told : List Event) → still ≡ true → told ≡ [] → (if still then told else event ∷ told) ≡ []
 none_by true event told h k = k
 none_by false event told h k = absurd (cc)
 
-pub loud_still : (told : List Event) → all_of is_still told ≡ true → loud told ≡ []
-loud_still [] h = refl
-loud_still (event ∷ told) h = none_by (is_still event) event (loud told) (first_of (is_still event) (all_of is_still told) h) (loud_still told (rest_of (is_still event) (all_of is_still told) h))
+pub loud_mute : (told : List Event) → all_of is_mute told ≡ true → loud told ≡ []
+loud_mute [] h = refl
+loud_mute (event ∷ told) h = none_by (is_mute event) event (loud told) (first_of (is_mute event) (all_of is_mute told) h) (loud_mute told (rest_of (is_mute event) (all_of is_mute told) h))
 
 -- an event that is no end
 abbrev pub is_open : Event → Bool
@@ -53,14 +62,24 @@ pub machine_open : (event : Event) → is_machine event ≡ true → is_open eve
 machine_open (events.End steps answer) h = absurd (cc)
 machine_open event h = refl
 
--- the call of a change
-abbrev pub call_for : Change → Call
-call_for (changes.Put key value) = names.Put key value
-call_for (changes.Removed key) = names.Remove key
+-- the call of a change, which may be made at one version alone
+abbrev pub call_for : Change → Option ℕ → Call
+call_for (changes.Put key value) None = names.Put key value
+call_for (changes.Put key value) (Some version) = names.PutIf key value version
+call_for (changes.Removed key) wanted = names.Remove key
+
+-- only a put names a version
+abbrev pub may_want : Change → Option ℕ → Bool
+may_want (changes.Put key value) wanted = true
+may_want (changes.Removed key) wanted = is_none wanted
+
+pub record ChangeServes (call : Call) (change : Change) (wanted : Option ℕ) : Type 0 where
+  pub is : call ≡ call_for change wanted
+  pub may : may_want change wanted ≡ true
 
 abbrev pub TaskServes : Call → Task → Type 0
 TaskServes call (Gets key) = call ≡ names.Get key
-TaskServes call (Changes kept) = call ≡ call_for kept.change
+TaskServes call (Changes kept) = ChangeServes call kept.change kept.wanted
 TaskServes call (Holds key) = call ≡ names.Hold key
 TaskServes call (Enqueues kept) = call ≡ names.Enqueue kept.value
 TaskServes call Dequeues = call ≡ names.Dequeue
@@ -76,9 +95,10 @@ LaterServes call (Answered answer) = suits call answer ≡ true
 LaterServes call (Repeated task) = TaskServes call task
 LaterServes call Counted = call ≡ names.Scan
 
-abbrev pub FreeServes : Call → Option ℕ → Type 0
-FreeServes call None = call ≡ names.Release
-FreeServes call (Some key) = call ≡ names.Hold key
+abbrev pub FreeServes : Call → LetGo → Type 0
+FreeServes call Released = call ≡ names.Release
+FreeServes call (Rehold key) = call ≡ names.Hold key
+FreeServes call (Dropped index) = call ≡ names.DropIndex index
 
 abbrev pub WhyServes : Call → Why → Type 0
 WhyServes call (Opens task) = TaskServes call task
@@ -91,13 +111,27 @@ WhyServes call (GivesUp answer) = suits call answer ≡ true
 WhyServes call (Retires answer) = suits call answer ≡ true
 WhyServes call (Tidies later) = LaterServes call later
 WhyServes call Advances = call ≡ names.Advance
-WhyServes call (Releases key) = FreeServes call key
+WhyServes call (Releases let_go) = FreeServes call let_go
+
+-- a copy or a look of what stands at the index
+abbrev pub MissServes : Call → (index : ℕ) → Type 0
+MissServes (names.Copy from other) index = from ≡ index
+MissServes (names.Look own key) index = own ≡ index
+MissServes call index = ⊥
+
+abbrev pub KeepServes : Call → KeepAt → Type 0
+KeepServes call (Loosens let_go) = FreeServes call let_go
+KeepServes call (LoadHeld from index) = call ≡ names.Copy from index
+KeepServes call (StoreHeld from index era) = call ≡ names.Copy from index
+KeepServes call (Looks index key at) = call ≡ names.Look index key
+KeepServes call (Misses index) = MissServes call index
 
 abbrev pub WorkServes : Call → Work → Type 0
 WorkServes call (Getting key at) = call ≡ names.Get key
-WorkServes call (Changing kept at) = call ≡ call_for kept.change
+WorkServes call (Changing kept at) = ChangeServes call kept.change kept.wanted
 WorkServes call (Enqueuing kept at) = call ≡ names.Enqueue kept.value
 WorkServes call (Dequeuing at) = call ≡ names.Dequeue
+WorkServes call (Keeping at) = KeepServes call at
 
 abbrev pub Serves : Call → Phase → Type 0
 Serves call Idle = ⊥
@@ -128,7 +162,7 @@ why_owed n call (GivesUp answer) = owes n call answer
 why_owed n call (Retires answer) = owes n call answer
 why_owed n call (Tidies later) = later_owed n call later
 why_owed n call Advances = []
-why_owed n call (Releases key) = []
+why_owed n call (Releases let_go) = []
 
 abbrev pub enqueue_owed : ℕ → Call → EnqueueKept → EnqueueAt → List Event
 enqueue_owed n call kept LoadNumber = []
@@ -142,6 +176,7 @@ work_owed n call (Getting key at) = []
 work_owed n call (Changing kept at) = []
 work_owed n call (Enqueuing kept at) = enqueue_owed n call kept at
 work_owed n call (Dequeuing at) = []
+work_owed n call (Keeping at) = []
 
 abbrev pub owed : ℕ → Call → Phase → List Event
 owed n call Idle = []
@@ -186,13 +221,13 @@ append_none (x ∷ xs) = ap (λ (rest : List Event). x ∷ rest) (append_none xs
 -- what machines tell adds nothing
 pub told_machine : (before told : List Event) → all_of is_machine told ≡ true → Told before told before
 told_machine before told h = record {
-  sum = ap (λ (more : List Event). before ++ more) (loud_still told (of_weaker is_machine is_still told machine_still h)) ∙ append_none before;
+  sum = ap (λ (more : List Event). before ++ more) (loud_mute told (of_weaker is_machine is_mute told machine_mute h)) ∙ append_none before;
   goes = of_weaker is_machine is_open told machine_open h;
 }
 
 pub told_more : (before told more all : List Event) → all_of is_machine more ≡ true → Told before told all → Told before (told ++ more) all
 told_more before told more all h t = record {
-  sum = ap (λ (rest : List Event). before ++ rest) (loud_along told more ∙ ap (λ (rest : List Event). loud told ++ rest) (loud_still more (of_weaker is_machine is_still more machine_still h)) ∙ append_none (loud told)) ∙ t.sum;
+  sum = ap (λ (rest : List Event). before ++ rest) (loud_along told more ∙ ap (λ (rest : List Event). loud told ++ rest) (loud_mute more (of_weaker is_machine is_mute more machine_mute h)) ∙ append_none (loud told)) ∙ t.sum;
   goes = of_along is_open told more t.goes (of_weaker is_machine is_open more machine_open h);
 }
 
@@ -203,6 +238,7 @@ told_none = record { sum = refl; goes = refl }
 done_owes : (n : ℕ) (call : Call) (version : ℕ) (old clock : ClockMove) → owes n call (the_answers.Done version clock) ≡ owes n call (the_answers.Done version old)
 done_owes n (names.Put key value) version old clock = refl
 done_owes n (names.Remove key) version old clock = refl
+done_owes n (names.PutIf key value wanted) version old clock = refl
 done_owes n call version old clock = refl
 
 taken_owes : (n : ℕ) (call : Call) (number value : ℕ) (old clock : ClockMove) → owes n call (the_answers.Taken number value clock) ≡ owes n call (the_answers.Taken number value old)
@@ -217,6 +253,7 @@ clock_owes n call answer clock = refl
 done_suits : (call : Call) (version : ℕ) (old clock : ClockMove) → suits call (the_answers.Done version clock) ≡ suits call (the_answers.Done version old)
 done_suits (names.Put key value) version old clock = refl
 done_suits (names.Remove key) version old clock = refl
+done_suits (names.PutIf key value wanted) version old clock = refl
 done_suits call version old clock = refl
 
 taken_suits : (call : Call) (number value : ℕ) (old clock : ClockMove) → suits call (the_answers.Taken number value clock) ≡ suits call (the_answers.Taken number value old)

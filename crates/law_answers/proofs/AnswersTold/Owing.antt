@@ -29,20 +29,23 @@ use Rattle.wfe_core.specs.Enqueue as enqueues
 use Rattle.wfe_core.specs.Get as gets
 use Rattle.wfe_core.specs.Guards.{guards, guard_at, eras_in, published}
 use Rattle.wfe_core.specs.Machine as machine
-use Rattle.wfe_core.specs.Posts.{stands}
+use Rattle.wfe_core.specs.Keep as keeps
+use Rattle.wfe_core.specs.Posts.{cleared, reserves_index, stands, withdrawn}
 use Rattle.wfe_core.specs.Scan as scan
 use Rattle.wfe_core.specs.Steps as steps
-use Rattle.wfe_core.specs.Rounds.{scheme_of, bucket_of, index_of, key_of, taken_of, begin_base, round, round_by, finish_base, clear_base, clear_post, clear_told, given_up, closed, finishing_by, finishing, clearing_by, clearing, clearing_next_by, clearing_next}
+use Rattle.wfe_core.specs.Rounds.{scheme_of, bucket_of, index_of, key_of, taken_of, begin_base, round, round_by, finish_base, clear_base, clear_post, clear_told, given_up, closed, finishing_by, finishing, clearing_by, clearing, clearing_next_by, clearing_next, let_index, letting_by, release_base}
+use Rattle.wfe_core.specs.words.Schemes.{has_one_interval}
 use Rattle.wfe_core.specs.Phases.{Base, Ending, Outcome, Goes, Ends}
 use Rattle.wfe_core.specs.Phases.Ending.{Done, Protected, Followed, Allocated, Retired, Clocked}
-use Rattle.wfe_core.specs.Calls.{Task, Gets, Changes, Holds, Enqueues, Dequeues, Next, Again, MakeRoom, Answering, Retiring, AfterScan, Answered, Repeated, Counted, ChangeKept, EnqueueKept, GetAt, FindVersion, FindCount, FindKey, FindValue, ChangeAt, LoadVersion, LoadCount, LoadKey, LoadValue, ExchangeRoot, EnqueueAt, LoadNumber, LoadNext, PassTail, ExchangeNext, ExchangeTail, DequeueAt, SwingTail, ExchangeHead, Work, Getting, Changing, Enqueuing, Dequeuing, ScanAt, ReadGuard, GiveBack, Why, Opens, FollowsHead, Fills, ClearsNext, Clears, Finishes, GivesUp, Retires, Tidies, Advances, Releases, Phase, Idle, Runs, Scans, Works}
+use Rattle.wfe_core.specs.Calls.{Task, Gets, Changes, Holds, Enqueues, Dequeues, Next, Again, MakeRoom, Answering, Retiring, AfterScan, Answered, Repeated, Counted, ChangeKept, EnqueueKept, GetAt, FindVersion, FindCount, FindKey, FindValue, ChangeAt, LoadVersion, LoadCount, LoadKey, LoadValue, ExchangeRoot, EnqueueAt, LoadNumber, LoadNext, PassTail, ExchangeNext, ExchangeTail, DequeueAt, SwingTail, ExchangeHead, Work, Getting, Changing, Enqueuing, Dequeuing, Keeping, KeepAt, Loosens, LoadHeld, StoreHeld, Looks, Misses, LetGo, Released, Rehold, Dropped, ScanAt, ReadGuard, GiveBack, Why, Opens, FollowsHead, Fills, ClearsNext, Clears, Finishes, GivesUp, Retires, Tidies, Advances, Releases, Phase, Idle, Runs, Scans, Works, answers}
 use Rattle.wfe_core.proofs.Frames.{after_same}
 use Rattle.wfe_core.proofs.Facts.{both}
 use Rattle.laws.specs.AnswerLaw.{suits}
 use Rattle.laws.specs.HistoryAnswers.{owes}
-use Rattle.inv_all.proofs.history.AllOf.{of_along}
-use Rattle.inv_all.proofs.Machines.{is_still, base_machine, clear_machine}
-use Rattle.law_answers.proofs.AnswersTold.Owed.{call_for, TaskServes, NextServes, LaterServes, FreeServes, WhyServes, WorkServes, Serves, next_owed, later_owed, why_owed, enqueue_owed, work_owed, owed, Told, Owes, ends_clocked, EndsFor, told_machine, told_more, told_none, clock_owes, clock_suits, is_open, loud, loud_along, append_none}
+use Rattle.inv_all.proofs.history.AllOf.{all_of, of_along}
+use Rattle.inv_all.proofs.history.MayTell.{cleared_all}
+use Rattle.inv_all.proofs.Machines.{is_machine, base_machine, clear_machine}
+use Rattle.law_answers.proofs.AnswersTold.Owed.{call_for, may_want, ChangeServes, MissServes, KeepServes, is_mute, TaskServes, NextServes, LaterServes, FreeServes, WhyServes, WorkServes, Serves, next_owed, later_owed, why_owed, enqueue_owed, work_owed, owed, Told, Owes, ends_clocked, EndsFor, told_machine, told_more, told_none, clock_owes, clock_suits, is_open, loud, loud_along, append_none}
 
 -- a round begins
 record Round (n : ℕ) (call : Call) (phase : Phase) : Type 0 where
@@ -101,9 +104,9 @@ clearing_next_owes : (n : ℕ) (call : Call) (before : List Event) (next : Next)
 clearing_next_owes n call before next post desk told s k t = next_by_owes n call before next post desk told (clear_base (scheme_of post) 1) s k t
 
 -- an event of the map or of the queue comes after events of machines
-told_one : (told all : List Event) (event : Event) → is_still event ≡ false → is_open event ≡ true → Told [] told [] → event ∷ [] ≡ all → Told [] (told ++ event ∷ []) all
+told_one : (told all : List Event) (event : Event) → is_mute event ≡ false → is_open event ≡ true → Told [] told [] → event ∷ [] ≡ all → Told [] (told ++ event ∷ []) all
 told_one told all event s o t e = record {
-  sum = loud_along told (event ∷ []) ∙ ap (λ (rest : List Event). rest ++ loud (event ∷ [])) t.sum ∙ loud_alone (is_still event) event s ∙ e;
+  sum = loud_along told (event ∷ []) ∙ ap (λ (rest : List Event). rest ++ loud (event ∷ [])) t.sum ∙ loud_alone (is_mute event) event s ∙ e;
   goes = of_along is_open told (event ∷ []) t.goes (both (is_open event) true o refl);
 }
   where
@@ -142,66 +145,58 @@ record Refused (n : ℕ) (call : Call) (answer : Answer) : Type 0 where
   suited : suits call answer ≡ true
   none : owes n call answer ≡ []
 
-put_refused : (n version key value : ℕ) (spent full : Bool) (answer : Answer) → (if spent then Some (the_answers.Spent version) else if full then Some (the_answers.BucketFull version) else None) ≡ Some answer → Refused n (names.Put key value) answer
-put_refused n version key value true full answer h = refused_by (some_same h)
+refused_one : (n : ℕ) (call : Call) (first answer : Answer) → Refused n call first → Some first ≡ Some answer → Refused n call answer
+refused_one n call first answer r h = refused_by (some_same h)
   where
-    some_same : Some (the_answers.Spent version) ≡ Some answer → the_answers.Spent version ≡ answer
+    some_same : Some first ≡ Some answer → first ≡ answer
     some_same h = cc
 
-    refused_by : the_answers.Spent version ≡ answer → Refused n (names.Put key value) answer
-    refused_by e = subst (λ (a : Answer). Refused n (names.Put key value) a) e (record { suited = refl; none = refl })
-put_refused n version key value false true answer h = refused_by (some_same h)
-  where
-    some_same : Some (the_answers.BucketFull version) ≡ Some answer → the_answers.BucketFull version ≡ answer
-    some_same h = cc
+    refused_by : first ≡ answer → Refused n call answer
+    refused_by e = subst (λ (a : Answer). Refused n call a) e r
 
-    refused_by : the_answers.BucketFull version ≡ answer → Refused n (names.Put key value) answer
-    refused_by e = subst (λ (a : Answer). Refused n (names.Put key value) a) e (record { suited = refl; none = refl })
-put_refused n version key value false false answer h = absurd (cc)
+either_refused : (n : ℕ) (call : Call) (first second answer : Answer) (one two : Bool) → Refused n call first → Refused n call second → (if one then Some first else if two then Some second else None) ≡ Some answer → Refused n call answer
+either_refused n call first second answer true two r q h = refused_one n call first answer r h
+either_refused n call first second answer false true r q h = refused_one n call second answer q h
+either_refused n call first second answer false false r q h = absurd (cc)
 
-remove_refused : (n version key : ℕ) (absent spent : Bool) (answer : Answer) → (if absent then Some (the_answers.Absent version) else if spent then Some (the_answers.Spent version) else None) ≡ Some answer → Refused n (names.Remove key) answer
-remove_refused n version key true spent answer h = refused_by (some_same h)
-  where
-    some_same : Some (the_answers.Absent version) ≡ Some answer → the_answers.Absent version ≡ answer
-    some_same h = cc
+stale_refused : (n : ℕ) (call : Call) (version : ℕ) (other : Option Answer) (answer : Answer) (same : Bool) → Refused n call (the_answers.Stale version) → (other ≡ Some answer → Refused n call answer) → (if same then other else Some (the_answers.Stale version)) ≡ Some answer → Refused n call answer
+stale_refused n call version other answer true r q h = q h
+stale_refused n call version other answer false r q h = refused_one n call (the_answers.Stale version) answer r h
 
-    refused_by : the_answers.Absent version ≡ answer → Refused n (names.Remove key) answer
-    refused_by e = subst (λ (a : Answer). Refused n (names.Remove key) a) e (record { suited = refl; none = refl })
-remove_refused n version key false true answer h = refused_by (some_same h)
-  where
-    some_same : Some (the_answers.Spent version) ≡ Some answer → the_answers.Spent version ≡ answer
-    some_same h = cc
-
-    refused_by : the_answers.Spent version ≡ answer → Refused n (names.Remove key) answer
-    refused_by e = subst (λ (a : Answer). Refused n (names.Remove key) a) e (record { suited = refl; none = refl })
-remove_refused n version key false false answer h = absurd (cc)
-
-refused : (n : ℕ) (config : Config) (version : ℕ) (pairs : List Pair) (change : Change) (answer : Answer) → alters.refusal config version pairs change ≡ Some answer → Refused n (call_for change) answer
-refused n config version pairs (changes.Put key value) answer h = put_refused n version key value (version == config.last_version) (not (alters.has_key pairs key) && length pairs == config.pairs) answer h
-refused n config version pairs (changes.Removed key) answer h = remove_refused n version key (not (alters.has_key pairs key)) (version == config.last_version) answer h
+refused : (n : ℕ) (config : Config) (version : ℕ) (pairs : List Pair) (change : Change) (wanted : Option ℕ) (answer : Answer) → may_want change wanted ≡ true → alters.stale_or wanted version (alters.refusal config version pairs change) ≡ Some answer → Refused n (call_for change wanted) answer
+refused n config version pairs (changes.Put key value) None answer m h =
+    either_refused n (names.Put key value) (the_answers.Spent version) (the_answers.BucketFull version) answer (version == config.last_version) (not (alters.has_key pairs key) && length pairs == config.pairs) (record { suited = refl; none = refl }) (record { suited = refl; none = refl }) h
+refused n config version pairs (changes.Put key value) (Some wanted) answer m h =
+    stale_refused n (names.PutIf key value wanted) version (alters.refusal config version pairs (changes.Put key value)) answer (version == wanted) (record { suited = refl; none = refl })
+    (λ f. either_refused n (names.PutIf key value wanted) (the_answers.Spent version) (the_answers.BucketFull version) answer (version == config.last_version) (not (alters.has_key pairs key) && length pairs == config.pairs) (record { suited = refl; none = refl }) (record { suited = refl; none = refl }) f)
+    h
+refused n config version pairs (changes.Removed key) None answer m h =
+    either_refused n (names.Remove key) (the_answers.Absent version) (the_answers.Spent version) answer (not (alters.has_key pairs key)) (version == config.last_version) (record { suited = refl; none = refl }) (record { suited = refl; none = refl }) h
+refused n config version pairs (changes.Removed key) (Some wanted) answer m h = absurd (cc)
 
 -- a change
-refused_of : (n : ℕ) (call : Call) (change : Change) (answer : Answer) → call ≡ call_for change → Refused n (call_for change) answer → Refused n call answer
-refused_of n call change answer c r = subst (λ (x : Call). Refused n x answer) (sym c) r
+refused_of : (n : ℕ) (call : Call) (change : Change) (wanted : Option ℕ) (answer : Answer) → call ≡ call_for change wanted → Refused n (call_for change wanted) answer → Refused n call answer
+refused_of n call change wanted answer c r = subst (λ (x : Call). Refused n x answer) (sym c) r
 
-deciding_by_owes : (n : ℕ) (call : Call) (kept : ChangeKept) (post : Post) (desk : Desk) (told : List Event) (x : Option Answer) → alters.refusal post.layout.config kept.version kept.pairs kept.change ≡ x → call ≡ call_for kept.change → Told [] told [] → Owes n call [] (alters.deciding_by kept post desk told x)
+deciding_by_owes : (n : ℕ) (call : Call) (kept : ChangeKept) (post : Post) (desk : Desk) (told : List Event) (x : Option Answer) → alters.refused post.layout.config kept ≡ x → ChangeServes call kept.change kept.wanted → Told [] told [] → Owes n call [] (alters.deciding_by kept post desk told x)
 deciding_by_owes n call kept post desk told (Some answer) r c t =
-    let f = refused_of n call kept.change answer c (refused n post.layout.config kept.version kept.pairs kept.change answer r) in
+    let f = refused_of n call kept.change kept.wanted answer c.is (refused n post.layout.config kept.version kept.pairs kept.change kept.wanted answer c.may r) in
     clearing_owes n call [] (Changes kept) (Answering answer) post desk told c f.suited (subst (λ (all : List Event). Told [] told all) (sym f.none) t)
 deciding_by_owes n call kept post desk told None r c t = record { told = t; serves = c }
 
-deciding_owes : (n : ℕ) (call : Call) (kept : ChangeKept) (post : Post) (desk : Desk) (told : List Event) → call ≡ call_for kept.change → Told [] told [] → Owes n call [] (alters.deciding kept post desk told)
-deciding_owes n call kept post desk told c t = deciding_by_owes n call kept post desk told (alters.refusal post.layout.config kept.version kept.pairs kept.change) refl c t
+deciding_owes : (n : ℕ) (call : Call) (kept : ChangeKept) (post : Post) (desk : Desk) (told : List Event) → ChangeServes call kept.change kept.wanted → Told [] told [] → Owes n call [] (alters.deciding kept post desk told)
+deciding_owes n call kept post desk told c t = deciding_by_owes n call kept post desk told (alters.refused post.layout.config kept) refl c t
 
-reading_owes : (n : ℕ) (call : Call) (kept : ChangeKept) (slot count : ℕ) (post : Post) (desk : Desk) (on : Bool) → call ≡ call_for kept.change → Owes n call [] (alters.reading kept slot count post desk on)
+reading_owes : (n : ℕ) (call : Call) (kept : ChangeKept) (slot count : ℕ) (post : Post) (desk : Desk) (on : Bool) → ChangeServes call kept.change kept.wanted → Owes n call [] (alters.reading kept slot count post desk on)
 reading_owes n call kept slot count post desk true c = record { told = told_none; serves = c }
 reading_owes n call kept slot count post desk false c = deciding_owes n call kept post desk [] c told_none
 
-change_event : (n : ℕ) (change : Change) (version m : ℕ) → m ≡ n → alters.told_change (key_of change % m) version change ∷ [] ≡ owes n (call_for change) (the_answers.Done version moves.Still)
-change_event n (changes.Put key value) version m e = ap (λ (x : ℕ). events.Put (key % x) version key value ∷ []) e
-change_event n (changes.Removed key) version m e = ap (λ (x : ℕ). events.Removed (key % x) version key ∷ []) e
+change_event : (n : ℕ) (change : Change) (wanted : Option ℕ) (version m : ℕ) → m ≡ n → alters.told_change (key_of change % m) version change ∷ [] ≡ owes n (call_for change wanted) (the_answers.Done version moves.Still)
+change_event n (changes.Put key value) None version m e = ap (λ (x : ℕ). events.Put (key % x) version key value ∷ []) e
+change_event n (changes.Put key value) (Some wanted) version m e = ap (λ (x : ℕ). events.Put (key % x) version key value ∷ []) e
+change_event n (changes.Removed key) wanted version m e = ap (λ (x : ℕ). events.Removed (key % x) version key ∷ []) e
 
-change_loud : (bucket version : ℕ) (change : Change) → is_still (alters.told_change bucket version change) ≡ false
+change_loud : (bucket version : ℕ) (change : Change) → is_mute (alters.told_change bucket version change) ≡ false
 change_loud bucket version (changes.Put key value) = refl
 change_loud bucket version (changes.Removed key) = refl
 
@@ -209,9 +204,10 @@ change_open : (bucket version : ℕ) (change : Change) → is_open (alters.told_
 change_open bucket version (changes.Put key value) = refl
 change_open bucket version (changes.Removed key) = refl
 
-change_suits : (change : Change) (version : ℕ) → suits (call_for change) (the_answers.Done version moves.Still) ≡ true
-change_suits (changes.Put key value) version = refl
-change_suits (changes.Removed key) version = refl
+change_suits : (change : Change) (wanted : Option ℕ) (version : ℕ) → suits (call_for change wanted) (the_answers.Done version moves.Still) ≡ true
+change_suits (changes.Put key value) None version = refl
+change_suits (changes.Put key value) (Some wanted) version = refl
+change_suits (changes.Removed key) wanted version = refl
 
 link_told : (root : Root) (slot link : ℕ) (none : Bool) → Told [] (events.Link root slot ∷ (if none then [] else events.Cut (link - 1) ∷ [])) []
 link_told root slot link true = record { sum = refl; goes = refl }
@@ -222,17 +218,17 @@ done_next : (n : ℕ) (call : Call) (version link : ℕ) (none : Bool) (told : L
 done_next n call version link true told s t = (s, t)
 done_next n call version link false told s t = (s, t)
 
-exchanged_owes : (n : ℕ) (call : Call) (kept : ChangeKept) (slot : ℕ) (post : Post) (desk : Desk) (same : Bool) → post.layout.config.buckets ≡ n → call ≡ call_for kept.change → Owes n call [] (alters.exchanged kept slot post desk same)
+exchanged_owes : (n : ℕ) (call : Call) (kept : ChangeKept) (slot : ℕ) (post : Post) (desk : Desk) (same : Bool) → post.layout.config.buckets ≡ n → ChangeServes call kept.change kept.wanted → Owes n call [] (alters.exchanged kept slot post desk same)
 exchanged_owes n call kept slot post desk true e c =
     let event : Event = alters.told_change (alters.changed_bucket kept post) (kept.version + 1) kept.change in
-    let owed_is : event ∷ [] ≡ owes n call (the_answers.Done (kept.version + 1) moves.Still) = rw c (change_event n kept.change (kept.version + 1) post.layout.config.buckets e) in
-    let s : suits call (the_answers.Done (kept.version + 1) moves.Still) ≡ true = rw c (change_suits kept.change (kept.version + 1)) in
+    let owed_is : event ∷ [] ≡ owes n call (the_answers.Done (kept.version + 1) moves.Still) = rw c.is (change_event n kept.change kept.wanted (kept.version + 1) post.layout.config.buckets e) in
+    let s : suits call (the_answers.Done (kept.version + 1) moves.Still) ≡ true = rw c.is (change_suits kept.change kept.wanted (kept.version + 1)) in
     let t = told_one (events.Link (roots.Bucket (alters.changed_bucket kept post)) slot ∷ alters.told_cut kept.link) (owes n call (the_answers.Done (kept.version + 1) moves.Still)) event (change_loud (alters.changed_bucket kept post) (kept.version + 1) kept.change) (change_open (alters.changed_bucket kept post) (kept.version + 1) kept.change) (link_told (roots.Bucket (alters.changed_bucket kept post)) slot kept.link (kept.link == 0)) owed_is in
     let d = done_next n call (kept.version + 1) kept.link (kept.link == 0) (alters.told_linked kept slot post) s t in
     clearing_owes n call [] (Changes (record kept { taken = None })) (alters.answer_done (kept.version + 1) kept.link) post desk (alters.told_linked kept slot post) c d.0 d.1
 exchanged_owes n call kept slot post desk false e c = clearing_owes n call [] (Changes kept) Again post desk [] c tt told_none
 
-change_owes : (n : ℕ) (call : Call) (kept : ChangeKept) (at : ChangeAt) (post : Post) (desk : Desk) (found : ℕ) → post.layout.config.buckets ≡ n → call ≡ call_for kept.change → Owes n call [] (alters.change_turn kept at post desk found)
+change_owes : (n : ℕ) (call : Call) (kept : ChangeKept) (at : ChangeAt) (post : Post) (desk : Desk) (found : ℕ) → post.layout.config.buckets ≡ n → ChangeServes call kept.change kept.wanted → Owes n call [] (alters.change_turn kept at post desk found)
 change_owes n call kept (LoadVersion slot) post desk found e c = record { told = told_none; serves = c }
 change_owes n call kept (LoadCount slot) post desk found e c = reading_owes n call kept slot found post desk (nat_lt 0 found) c
 change_owes n call kept (LoadKey slot count) post desk found e c = record { told = told_none; serves = c }
@@ -303,11 +299,60 @@ dequeue_owes n call (SwingTail head next) post desk found c = clearing_next_owes
 dequeue_owes n call (ExchangeHead head next number value) post desk found c = taken_owes n call head next number value post desk (found == head + 1) c
 dequeue_owes n call at post desk found c = record { told = told_none; serves = c }
 
+-- what stands at indexes from 2 on
+released_owes : (n : ℕ) (call : Call) (let_go : LetGo) (post : Post) (desk : Desk) (told : List Event) → FreeServes call let_go → Told [] told [] → Owes n call [] (keeps.released let_go post desk told)
+released_owes n call Released post desk told c t = record { told = rw c t; serves = rw c refl }
+released_owes n call (Rehold key) post desk told c t = record { told = again_owes n call [] (Holds key) post told c t; serves = round_serves n call (Holds key) post c }
+released_owes n call (Dropped index) post desk told c t = record { told = rw c t; serves = rw c refl }
+
+copied_owes : (n : ℕ) (call : Call) (from index : ℕ) (post : Post) (desk : Desk) (reserved : List Event) (o : Option ℕ) → call ≡ names.Copy from index → all_of is_machine reserved ≡ true → Owes n call [] (keeps.copied from index post desk reserved o)
+copied_owes n call from index post desk reserved None c m = record { told = rw c told_none; serves = rw c refl }
+copied_owes n call from index post desk reserved (Some slot) c m =
+    let before : List Event = cleared index (stands post index) ++ reserved in
+    let b : all_of is_machine before ≡ true = of_along is_machine (cleared index (stands post index)) reserved (cleared_all is_machine index (stands post index) (λ index slot. refl)) m in
+    record {
+      told = told_one before (owes n call (the_answers.Copied slot)) (events.Copied from index slot) refl refl (told_machine [] before b) (rw c refl);
+      serves = rw c refl;
+    }
+
+load_owes : (n : ℕ) (call : Call) (from index : ℕ) (post : Post) (desk : Desk) (found : ℕ) (one : Bool) → call ≡ names.Copy from index → Owes n call [] (keeps.load_held from index post desk found one)
+load_owes n call from index post desk found true c = copied_owes n call from index post desk [] (stands post from) c refl
+load_owes n call from index post desk found false c = record { told = told_none; serves = c }
+
+looking_owes : (n : ℕ) (call : Call) (index key slot version count : ℕ) (post : Post) (desk : Desk) (on : Bool) (pair : ℕ) → call ≡ names.Look index key → Owes n call [] (keeps.looking index key slot version count post desk on pair)
+looking_owes n call index key slot version count post desk true pair c = record { told = told_none; serves = c }
+looking_owes n call index key slot version count post desk false pair c = record { told = rw c told_none; serves = rw c refl }
+
+looked_key_owes : (n : ℕ) (call : Call) (index key slot version count pair : ℕ) (post : Post) (desk : Desk) (own : Bool) → call ≡ names.Look index key → Owes n call [] (keeps.looked_key index key slot version count pair post desk own)
+looked_key_owes n call index key slot version count pair post desk true c = record { told = told_none; serves = c }
+looked_key_owes n call index key slot version count pair post desk false c = looking_owes n call index key slot version count post desk (nat_lt (pair + 1) count) (pair + 1) c
+
+look_owes : (n : ℕ) (call : Call) (index key : ℕ) (at : GetAt) (post : Post) (desk : Desk) (found : ℕ) → call ≡ names.Look index key → Owes n call [] (keeps.look_turn index key at post desk found)
+look_owes n call index key (FindVersion slot) post desk found c = record { told = told_none; serves = c }
+look_owes n call index key (FindCount slot version) post desk found c = looking_owes n call index key slot version found post desk (nat_lt 0 found) 0 c
+look_owes n call index key (FindKey slot version count pair) post desk found c = looked_key_owes n call index key slot version count pair post desk (found == key) c
+look_owes n call index key (FindValue slot version pair) post desk found c = record { told = rw c told_none; serves = rw c refl }
+
+miss_owes : (n : ℕ) (call : Call) (index : ℕ) (post : Post) (desk : Desk) → MissServes call index → Owes n call [] (answers post desk [] the_answers.Nothing)
+miss_owes n (names.Copy from other) index post desk c = record { told = told_none; serves = refl }
+miss_owes n (names.Look own key) index post desk c = record { told = told_none; serves = refl }
+miss_owes n call index post desk c = absurd c
+
+keep_owes : (n : ℕ) (call : Call) (at : KeepAt) (post : Post) (desk : Desk) (found : ℕ) → KeepServes call at → Owes n call [] (keeps.keep_turn at post desk found)
+keep_owes n call (Loosens let_go) post desk found c =
+    let told : List Event = cleared (let_index let_go) (stands post (let_index let_go)) in
+    released_owes n call let_go (withdrawn post (let_index let_go)) desk told c (told_machine [] told (cleared_all is_machine (let_index let_go) (stands post (let_index let_go)) (λ index slot. refl)))
+keep_owes n call (LoadHeld from index) post desk found c = load_owes n call from index post desk found (has_one_interval (scheme_of post)) c
+keep_owes n call (StoreHeld from index era) post desk found c = copied_owes n call from index post desk (reserves_index post index era) (stands post from) c refl
+keep_owes n call (Looks index key at) post desk found c = look_owes n call index key at post desk found c
+keep_owes n call (Misses index) post desk found c = miss_owes n call index post desk c
+
 work_owes : (n : ℕ) (call : Call) (work : Work) (post : Post) (desk : Desk) (found : ℕ) → post.layout.config.buckets ≡ n → WorkServes call work → Owes n call (work_owed n call work) (steps.work_turn work post desk found)
 work_owes n call (Getting key at) post desk found e c = get_owes n call key at post desk found e c
 work_owes n call (Changing kept at) post desk found e c = change_owes n call kept at post desk found e c
 work_owes n call (Enqueuing kept at) post desk found e c = enqueue_owes n call kept at post desk found c
 work_owes n call (Dequeuing at) post desk found e c = dequeue_owes n call at post desk found c
+work_owes n call (Keeping at) post desk found e c = keep_owes n call at post desk found c
 
 -- a scan
 scanned_owes : (n : ℕ) (call : Call) (later : AfterScan) (post : Post) (desk : Desk) (told : List Event) → LaterServes call later → Told (later_owed n call later) told (later_owed n call later) → Owes n call (later_owed n call later) (scan.scanned later post desk told)
@@ -354,15 +399,16 @@ opened_owes n call task (Allocated end) post desk told e c t = record { told = t
 opened_owes n call task (Retired life) post desk told e c t = record { told = t; serves = c }
 opened_owes n call task (Clocked clock) post desk told e c t = record { told = t; serves = c }
 
-full_change : (n : ℕ) (change : Change) → (suits (call_for change) the_answers.Full ≡ true) × (owes n (call_for change) the_answers.Full ≡ [])
-full_change n (changes.Put key value) = (refl, refl)
-full_change n (changes.Removed key) = (refl, refl)
+full_change : (n : ℕ) (change : Change) (wanted : Option ℕ) → (suits (call_for change wanted) the_answers.Full ≡ true) × (owes n (call_for change wanted) the_answers.Full ≡ [])
+full_change n (changes.Put key value) None = (refl, refl)
+full_change n (changes.Put key value) (Some wanted) = (refl, refl)
+full_change n (changes.Removed key) wanted = (refl, refl)
 
 filled_by_owes : (n : ℕ) (call : Call) (task : Task) (ending : AllocateEnd) (post : Post) (desk : Desk) (told : List Event) → TaskServes call task → Told [] told [] → Owes n call [] (steps.filled_by task ending post desk told)
 filled_by_owes n call (Changes kept) (allocate_ends.Given slot birth) post desk told c t = record { told = t; serves = c }
 filled_by_owes n call (Changes kept) allocate_ends.Full post desk told c t =
-    let f = full_change n kept.change in
-    let r = no_room_next n call told kept.walked (rw c f.0) (rw c f.1) t in
+    let f = full_change n kept.change kept.wanted in
+    let r = no_room_next n call told kept.walked (rw c.is f.0) (rw c.is f.1) t in
     clearing_owes n call [] (Changes (alters.with_walked kept)) (alters.no_room kept.walked) post desk told c r.0 r.1
 filled_by_owes n call (Enqueues kept) (allocate_ends.Given slot birth) post desk told c t = record { told = t; serves = c }
 filled_by_owes n call (Enqueues kept) allocate_ends.Full post desk told c t =
@@ -428,10 +474,6 @@ advanced_owes n call (Followed end) post desk told m c t = absurd (cc)
 advanced_owes n call (Allocated end) post desk told m c t = absurd (cc)
 advanced_owes n call (Retired life) post desk told m c t = absurd (cc)
 
-released_owes : (n : ℕ) (call : Call) (key : Option ℕ) (post : Post) (desk : Desk) (told : List Event) → FreeServes call key → Told [] told [] → Owes n call [] (steps.released key post desk told)
-released_owes n call None post desk told c t = record { told = rw c t; serves = rw c refl }
-released_owes n call (Some key) post desk told c t = record { told = again_owes n call [] (Holds key) post told c t; serves = round_serves n call (Holds key) post c }
-
 resume_owes : (n : ℕ) (call : Call) (why : Why) (ending : Ending) (post : Post) (desk : Desk) (told : List Event) → EndsFor why (Ends ending) → post.layout.config.buckets ≡ n → WhyServes call why → Told (why_owed n call why) told (why_owed n call why) → Owes n call (why_owed n call why) (steps.resume why ending post desk told)
 resume_owes n call (Opens task) ending post desk told m e s t = opened_owes n call task ending post desk told e s t
 resume_owes n call (FollowsHead head tail) ending post desk told m e s t = followed_by_owes n call head tail ending post desk told s t
@@ -443,7 +485,7 @@ resume_owes n call (GivesUp answer) ending post desk told m e s t = record { tol
 resume_owes n call (Retires answer) ending post desk told m e s t = retired_owes n call answer ending post desk told s t
 resume_owes n call (Tidies later) ending post desk told m e s t = tidied_owes n call later ending post desk told s t
 resume_owes n call Advances ending post desk told m e s t = advanced_owes n call ending post desk told m s t
-resume_owes n call (Releases key) ending post desk told m e s t = released_owes n call key post desk told s t
+resume_owes n call (Releases let_go) ending post desk told m e s t = released_owes n call let_go post desk told s t
 
 resumed_owes : (n : ℕ) (call : Call) (why : Why) (desk : Desk) (post : Post) (told : List Event) (outcome : Outcome) → EndsFor why outcome → post.layout.config.buckets ≡ n → WhyServes call why → Told (why_owed n call why) told (why_owed n call why) → Owes n call (why_owed n call why) (steps.resumed why desk post told outcome)
 resumed_owes n call why desk post told (Goes base) m e s t = record { told = t; serves = s }
@@ -464,19 +506,40 @@ turn_owes n call (Runs why base) post desk found m e s =
 turn_owes n call (Scans later at) post desk found m e s = scan_owes n call later at post desk found s
 turn_owes n call (Works work) post desk found m e s = work_owes n call work post desk found e s
 
+-- what is let go first
+letting_serves : (call : Call) (let_go : LetGo) (x : Option Base) → FreeServes call let_go → Serves call (letting_by let_go x)
+letting_serves call let_go None s = s
+letting_serves call let_go (Some base) s = s
+
+letting_none : (n : ℕ) (call : Call) (let_go : LetGo) (x : Option Base) → owed n call (letting_by let_go x) ≡ []
+letting_none n call let_go None = refl
+letting_none n call let_go (Some base) = refl
+
 -- the first phase of a call owes nothing
 pub first_serves : (call : Call) (post : Post) → Serves call (steps.first_phase call post)
 first_serves (names.Get key) post = round_serves 0 (names.Get key) (Gets key) post refl
-first_serves (names.Put key value) post = round_serves 0 (names.Put key value) _ post refl
-first_serves (names.Remove key) post = round_serves 0 (names.Remove key) _ post refl
+first_serves (names.Put key value) post = round_serves 0 (names.Put key value) (steps.changing (changes.Put key value) None) post (record { is = refl; may = refl })
+first_serves (names.Remove key) post = round_serves 0 (names.Remove key) (steps.changing (changes.Removed key) None) post (record { is = refl; may = refl })
+first_serves (names.PutIf key value version) post = round_serves 0 (names.PutIf key value version) (steps.changing (changes.Put key value) (Some version)) post (record { is = refl; may = refl })
 first_serves (names.Enqueue value) post = round_serves 0 (names.Enqueue value) _ post refl
 first_serves names.Dequeue post = round_serves 0 names.Dequeue Dequeues post refl
 first_serves (names.Hold key) post = held_serves (stands post 2)
   where
     held_serves : (x : Option ℕ) → Serves (names.Hold key) (steps.holding key post x)
     held_serves None = round_serves 0 (names.Hold key) (Holds key) post refl
-    held_serves (Some slot) = refl
-first_serves names.Release post = refl
+    held_serves (Some slot) = letting_serves (names.Hold key) (Rehold key) (release_base (scheme_of post) post 2) refl
+first_serves names.Release post = letting_serves names.Release Released (release_base (scheme_of post) post 2) refl
+first_serves (names.DropIndex index) post = letting_serves (names.DropIndex index) (Dropped index) (release_base (scheme_of post) post index) refl
+first_serves (names.Copy from index) post = copy_serves (stands post from)
+  where
+    copy_serves : (x : Option ℕ) → Serves (names.Copy from index) (steps.copying from index x)
+    copy_serves None = refl
+    copy_serves (Some slot) = refl
+first_serves (names.Look index key) post = look_serves (stands post index)
+  where
+    look_serves : (x : Option ℕ) → Serves (names.Look index key) (steps.looking_at index key x)
+    look_serves None = refl
+    look_serves (Some slot) = refl
 first_serves names.Advance post = refl
 first_serves names.Scan post = refl
 
@@ -485,15 +548,27 @@ round_none n call task post s = let r = round_of n call task post s in r.none
 
 pub first_owes : (n : ℕ) (call : Call) (post : Post) → owed n call (steps.first_phase call post) ≡ []
 first_owes n (names.Get key) post = round_none n (names.Get key) (Gets key) post refl
-first_owes n (names.Put key value) post = round_none n (names.Put key value) _ post refl
-first_owes n (names.Remove key) post = round_none n (names.Remove key) _ post refl
+first_owes n (names.Put key value) post = round_none n (names.Put key value) (steps.changing (changes.Put key value) None) post (record { is = refl; may = refl })
+first_owes n (names.Remove key) post = round_none n (names.Remove key) (steps.changing (changes.Removed key) None) post (record { is = refl; may = refl })
+first_owes n (names.PutIf key value version) post = round_none n (names.PutIf key value version) (steps.changing (changes.Put key value) (Some version)) post (record { is = refl; may = refl })
 first_owes n (names.Enqueue value) post = round_none n (names.Enqueue value) _ post refl
 first_owes n names.Dequeue post = round_none n names.Dequeue Dequeues post refl
 first_owes n (names.Hold key) post = held_none (stands post 2)
   where
     held_none : (x : Option ℕ) → owed n (names.Hold key) (steps.holding key post x) ≡ []
     held_none None = round_none n (names.Hold key) (Holds key) post refl
-    held_none (Some slot) = refl
-first_owes n names.Release post = refl
+    held_none (Some slot) = letting_none n (names.Hold key) (Rehold key) (release_base (scheme_of post) post 2)
+first_owes n names.Release post = letting_none n names.Release Released (release_base (scheme_of post) post 2)
+first_owes n (names.DropIndex index) post = letting_none n (names.DropIndex index) (Dropped index) (release_base (scheme_of post) post index)
+first_owes n (names.Copy from index) post = copy_none (stands post from)
+  where
+    copy_none : (x : Option ℕ) → owed n (names.Copy from index) (steps.copying from index x) ≡ []
+    copy_none None = refl
+    copy_none (Some slot) = refl
+first_owes n (names.Look index key) post = look_none (stands post index)
+  where
+    look_none : (x : Option ℕ) → owed n (names.Look index key) (steps.looking_at index key x) ≡ []
+    look_none None = refl
+    look_none (Some slot) = refl
 first_owes n names.Advance post = refl
 first_owes n names.Scan post = refl

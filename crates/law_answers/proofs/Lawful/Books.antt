@@ -15,7 +15,7 @@ agrees made g = record { queued = g.queued; taken = g.taken }
 
 steady : Steady Keeps
 steady = record {
-  begins = λ made i call b y g. record { changes = g.changes; queued = g.queued; taken = g.taken };
+  begins = λ made i call b y m g. record { changes = g.changes; queued = g.queued; taken = g.taken };
   steps = λ made i b y g.
       let t = told_agrees i (told_in made.world i) made.past made.world.book (agrees made g) in
       record {

@@ -92,7 +92,7 @@ first_few : (w : World) (i : ℕ) (phase : Phase) (found : ℕ) → is_wfe w.lay
 first_few w i Idle found f t a e = refl
 first_few w i (Runs why base) found f t a e = let k = a.known in may.base_all (few_steps w.layout.config.tries) base (counted (w.seat i).post) found (λ event. one_few w i why base found event f t e (run_of w i why base k.seats e))
 first_few w i (Scans later at) found f t a e = scan_few w.layout.config.tries at (counted (w.seat i).post) found
-first_few w i (Works work) found f t a e = refl
+first_few w i (Works work) found f t a e = may.work_all (few_steps w.layout.config.tries) (λ index slot. refl) (λ from index slot. refl) (λ seat index era. refl) work (counted (w.seat i).post)
 
 told_few : (w : World) (i : ℕ) → is_wfe w.layout.config.scheme ≡ true → i < w.layout.config.seats → Inv w → Few w.layout.config.tries (told_in w i)
 told_few w i f b a =

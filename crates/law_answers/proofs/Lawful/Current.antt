@@ -26,7 +26,7 @@ use Rattle.wfe_core.specs.Rounds.{key_of}
 use Rattle.wfe_core.specs.Steps.{first_phase, phase_turn}
 use Rattle.wfe_core.specs.Phases.{Base, Ends, Protected}
 use Rattle.wfe_core.specs.Phases.Base.{Begin, Protect, Reload, Clear, Finish, Release, Allocate, Write, GiveUp, Retire, Move}
-use Rattle.wfe_core.specs.Calls.{Again, Changes, Enqueues, Gets, Opens, Why, LoadVersion, LoadCount, LoadKey, LoadValue, ExchangeRoot, LoadNumber, LoadNext, PassTail, ExchangeNext, ExchangeTail, Getting, Changing, Enqueuing, Dequeuing, Phase, Idle, Runs, Scans, Works, CallTurn}
+use Rattle.wfe_core.specs.Calls.{Again, Changes, Enqueues, Gets, Opens, Why, LoadVersion, LoadCount, LoadKey, LoadValue, ExchangeRoot, LoadNumber, LoadNext, PassTail, ExchangeNext, ExchangeTail, Getting, Changing, Enqueuing, Dequeuing, Keeping, Phase, Idle, Runs, Scans, Works, CallTurn}
 use Rattle.wfe_core.specs.World.{World, start, begin, step, is_busy, finds, told_in}
 use Rattle.inv_all.specs.shapes.Frame.{phase_left}
 use Rattle.wfe_core.specs.words.Schemes.{is_wfe}
@@ -48,15 +48,16 @@ use Rattle.inv_all.specs.links.Tracked.{carries_in, root_in, Tracked, Carried, G
 use Rattle.inv_all.proofs.links.Origins.Came.{link_busy, helps_busy}
 use Rattle.inv_all.proofs.links.Origins.Ends.{end_tracked, end_root}
 use Rattle.inv_all.proofs.links.Origins.Kept.{origins_kept, origins_start, origins_begin, idle_deal}
-use Rattle.inv_all.specs.contents.Knows.{Ground, Knows}
+use Rattle.inv_all.specs.contents.Knows.{Ground, Knows, looks_in}
 use Rattle.inv_all.specs.contents.Shelf.{Shelf, shelf_of}
-use Rattle.inv_all.proofs.contents.Contents.Begun.{first_plain}
+use Rattle.inv_all.proofs.contents.Contents.Begun.{free_plain}
+use Rattle.inv_all.proofs.contents.Stands.Rounds.{each_first}
 use Rattle.inv_all.proofs.contents.Contents.Buckets.{buckets_show}
 use Rattle.inv_all.proofs.contents.Contents.Kept.{step_did, end_calm}
 use Rattle.inv_all.proofs.contents.Contents.Lasts.{on, knows_lasts}
 use Rattle.inv_all.proofs.contents.Contents.Machines.{rows_stay}
-use Rattle.inv_all.proofs.contents.Contents.Phases.{links_in, phase_turns}
-use Rattle.inv_all.proofs.contents.Contents.Rounds.{Turns, plain_knows, clearing_adds}
+use Rattle.inv_all.proofs.contents.Contents.Phases.{Beside, links_in, phase_beside}
+use Rattle.inv_all.proofs.contents.Contents.Rounds.{plain_knows, clearing_adds}
 use Rattle.inv_all.proofs.contents.Contents.Told.{SameBook, SameSlot, same_slot, claimed_book, claimed_append, calm_claimed}
 use Rattle.inv_all.proofs.contents.Contents.Views.{owned_stays}
 use Rattle.inv_all.specs.Known.{Known}
@@ -84,11 +85,11 @@ link_since base book (roots.Next parent) x = true
 link_since base book roots.Head x = true
 link_since base book roots.Tail x = true
 
--- `base` says by seat and bucket how often the bucket had been changed when the seat's call began
+-- `base` says by seat and bucket how often the bucket had been changed when the seat's call began; a look may read an older row
 pub record Current (base : ℕ → ℕ → ℕ) (w : World) (z : Asked) : Type 0 where
   pub low : (k b : ℕ) → base k b ≤ length (w.book.changes b)
   pub links : Origins (λ k. link_since (base k) w.book) w z
-  pub knows : (k : ℕ) → Knows (on w.layout.config.buckets (shelf_since (base k) w.book) w.mem) (w.seat k).phase
+  pub knows : (k : ℕ) → looks_in (w.seat k).phase ≡ false → Knows (on w.layout.config.buckets (shelf_since (base k) w.book) w.mem) (w.seat k).phase
 
 -- by root and version
 since_by : (base : ℕ → ℕ) (c version b : ℕ) (most : Bool) → nat_le (base c) version ≡ most → ◌≡◌ {A = Root} (if most then roots.Bucket c else roots.Head) (roots.Bucket b) → (roots.Bucket c ≡ roots.Bucket b) × (base b ≤ version)
@@ -137,7 +138,7 @@ loads_free s (Runs why (Begin at)) post found h = absurd (cc)
 loads_free s (Runs why (Reload parent index slot era steps)) post found h = absurd (cc)
 loads_free s (Runs why (Clear index)) post found h = absurd (cc)
 loads_free s (Runs why Finish) post found h = absurd (cc)
-loads_free s (Runs why Release) post found h = absurd (cc)
+loads_free s (Runs why (Release index)) post found h = absurd (cc)
 loads_free s (Runs why (Allocate at)) post found h = absurd (cc)
 loads_free s (Runs why (Write slot row place)) post found h = absurd (cc)
 loads_free s (Runs why (GiveUp slot)) post found h = absurd (cc)
@@ -210,11 +211,11 @@ held_since w i v l z base why one b slot era a c e r o =
     root_version (base i) w.book (root_in w i) b slot (end_root w i why one (Protected (protect_ends.Held slot era)) (slot + 1) a.seats e o refl ∙ r) (c.links.tracked i (slot + 1) (end_tracked w i z why one (Protected (protect_ends.Held slot era)) (slot + 1) e o refl))
 
 own_turns : (w : World) (i : ℕ) (v : View) (l : Line) (z : Asked) (base : ℕ → ℕ → ℕ) → i < w.layout.config.seats → Known w v l z → Current base w z → links_in (w.seat i).phase (finds w i) ≡ false
-    → Turns (on w.layout.config.buckets (shelf_since (base i) w.book) (step w i).mem) (turn (w.seat i) (finds w i))
+    → Beside (on w.layout.config.buckets (shelf_since (base i) w.book) (step w i).mem) (turn (w.seat i) (finds w i))
 own_turns w i v l z base b a c n =
     let s = links_show w i v l z b a in
     let g = contents_need w i v l z b a in
-    phase_turns w.layout.config.buckets (shelf_since (base i) w.book) w.mem (w.seat i).phase (w.seat i).post (counted (w.seat i).post) (w.seat i).desk (w.seat i).desk.list (a.whole.both.rows.plays i).right n
+    phase_beside w.layout.config.buckets (shelf_since (base i) w.book) w.mem (w.seat i).phase (w.seat i).post (counted (w.seat i).post) (w.seat i).desk (w.seat i).desk.list (a.whole.both.rows.plays i).right n
     (record {
       gets = λ key one e slot era o. since_back (base i) (w.book.row slot).root (w.book.row slot).version (key % w.layout.config.buckets) (s.gets key slot era one e o) (held_since w i v l z base (Opens (Gets key)) one (key % w.layout.config.buckets) slot era a c e refl o);
       changes = λ kept one e slot era o. since_back (base i) (w.book.row slot).root (w.book.row slot).version (key_of kept.change % w.layout.config.buckets) (s.changes kept slot era one e o) (held_since w i v l z base (Opens (Changes kept)) one (key_of kept.change % w.layout.config.buckets) slot era a c e refl o);
@@ -233,6 +234,7 @@ linked_knows g (Runs why one) post desk word h = absurd (cc)
 linked_knows g (Scans later at) post desk word h = absurd (cc)
 linked_knows g (Works (Getting key at)) post desk word h = absurd (cc)
 linked_knows g (Works (Dequeuing at)) post desk word h = absurd (cc)
+linked_knows g (Works (Keeping at)) post desk word h = absurd (cc)
 linked_knows g (Works (Changing kept (LoadVersion slot))) post desk word h = absurd (cc)
 linked_knows g (Works (Changing kept (LoadCount slot))) post desk word h = absurd (cc)
 linked_knows g (Works (Changing kept (LoadKey slot count))) post desk word h = absurd (cc)
@@ -253,31 +255,31 @@ linked_knows g (Works (Enqueuing kept (ExchangeNext slot))) post desk word h = a
     appended false = let c = clearing_adds (Enqueues kept) Again post desk [] in plain_knows g (phase_left (enqueues.appended kept slot post desk false).outcome) c.plain
 
 own_knows : (w : World) (i : ℕ) (v : View) (l : Line) (z : Asked) (base : ℕ → ℕ → ℕ) (linking : Bool) → links_in (w.seat i).phase (finds w i) ≡ linking → i < w.layout.config.seats → Known w v l z → Current base w z
-    → Knows (on w.layout.config.buckets (shelf_since (base i) (step w i).book) (step w i).mem) (phase_left (turn (w.seat i) (finds w i)).outcome)
-own_knows w i v l z base true n b a c = linked_knows (on w.layout.config.buckets (shelf_since (base i) (step w i).book) (step w i).mem) (w.seat i).phase (counted (w.seat i).post) (w.seat i).desk (finds w i) n
-own_knows w i v l z base false n b a c =
+    → looks_in (phase_left (turn (w.seat i) (finds w i)).outcome) ≡ false → Knows (on w.layout.config.buckets (shelf_since (base i) (step w i).book) (step w i).mem) (phase_left (turn (w.seat i) (finds w i)).outcome)
+own_knows w i v l z base true n b a c x = linked_knows (on w.layout.config.buckets (shelf_since (base i) (step w i).book) (step w i).mem) (w.seat i).phase (counted (w.seat i).post) (w.seat i).desk (finds w i) n
+own_knows w i v l z base false n b a c x =
     let t : CallTurn = turn (w.seat i) (finds w i) in
     let k = own_turns w i v l z base b a c n in
     let same : SameBook w.book (step w i).book = claimed_book (shelf_since (base i) w.book) (told_by t) w.book (claimed_append (shelf_since (base i) w.book) t.told (told_end t.post t.outcome) k.calm (calm_claimed (shelf_since (base i) w.book) (told_end t.post t.outcome) (end_calm t.post t.outcome))) in
     knows_lasts w.layout.config.buckets (shelf_since (base i) w.book) (shelf_since (base i) (step w i).book) (step w i).mem (step w i).mem (phase_left t.outcome)
-    (λ s y. slot_since (base i) w.book (step w i).book s (same_slot w.book (step w i).book s same)) (λ s q y low. refl) k.knows
+    (λ s y. slot_since (base i) w.book (step w i).book s (same_slot w.book (step w i).book s same)) (λ s q y low. refl) (k.knows x)
 
-other_knows : (w : World) (i k : ℕ) (v : View) (l : Line) (z : Asked) (base : ℕ → ℕ → ℕ) → (k == i) ≡ false → i < w.layout.config.seats → Known w v l z → Current base w z → Knows (on w.layout.config.buckets (shelf_since (base k) (step w i).book) (step w i).mem) (w.seat k).phase
-other_knows w i k v l z base e b a c =
+other_knows : (w : World) (i k : ℕ) (v : View) (l : Line) (z : Asked) (base : ℕ → ℕ → ℕ) → (k == i) ≡ false → i < w.layout.config.seats → Known w v l z → Current base w z → looks_in (w.seat k).phase ≡ false → Knows (on w.layout.config.buckets (shelf_since (base k) (step w i).book) (step w i).mem) (w.seat k).phase
+other_knows w i k v l z base e b a c x =
     let g = a.whole.both.rows in
     let o = contents_need w i v l z b a in
     let d = step_did w i v (rows_need w i v l a.seats a.eras a.whole.both) o g a.contents in
     knows_lasts w.layout.config.buckets (shelf_since (base k) w.book) (shelf_since (base k) (step w i).book) w.mem (step w i).mem (w.seat k).phase
     (λ s y. slot_since (base k) w.book (step w i).book s (d.far s (o.held k s y)))
     (λ s q y low. rows_stay w.mem (w.seat i).phase (w.seat i).post s q (owned_stays w.layout.config.slots v i k (w.seat i).phase (w.seat k).phase (w.seat i).desk.list (w.seat k).desk.list s e g.good (g.plays i) (g.plays k) y) low)
-    (c.knows k)
+    (c.knows k x)
 
-knows_by : (w : World) (i k : ℕ) (v : View) (l : Line) (z : Asked) (base : ℕ → ℕ → ℕ) (same : Bool) → (k == i) ≡ same → i < w.layout.config.seats → Known w v l z → Current base w z → Knows (on w.layout.config.buckets (shelf_since (base k) (step w i).book) (step w i).mem) ((step w i).seat k).phase
+knows_by : (w : World) (i k : ℕ) (v : View) (l : Line) (z : Asked) (base : ℕ → ℕ → ℕ) (same : Bool) → (k == i) ≡ same → i < w.layout.config.seats → Known w v l z → Current base w z → looks_in ((step w i).seat k).phase ≡ false → Knows (on w.layout.config.buckets (shelf_since (base k) (step w i).book) (step w i).mem) ((step w i).seat k).phase
 knows_by w i k v l z base true e b a c =
     let one : k ≡ i = grind (arith, nat_tests) in
-    subst (λ (m : ℕ). Knows (on w.layout.config.buckets (shelf_since (base m) (step w i).book) (step w i).mem) ((step w i).seat m).phase) (sym one)
-    (subst (λ (p : Phase). Knows (on w.layout.config.buckets (shelf_since (base i) (step w i).book) (step w i).mem) p) (sym (stepped_phase w i)) (own_knows w i v l z base (links_in (w.seat i).phase (finds w i)) refl b a c))
-knows_by w i k v l z base false e b a c = subst (λ (o : Local). Knows (on w.layout.config.buckets (shelf_since (base k) (step w i).book) (step w i).mem) o.phase) (sym (seat_stays w i k e)) (other_knows w i k v l z base e b a c)
+    subst (λ (m : ℕ). looks_in ((step w i).seat m).phase ≡ false → Knows (on w.layout.config.buckets (shelf_since (base m) (step w i).book) (step w i).mem) ((step w i).seat m).phase) (sym one)
+    (subst (λ (p : Phase). looks_in p ≡ false → Knows (on w.layout.config.buckets (shelf_since (base i) (step w i).book) (step w i).mem) p) (sym (stepped_phase w i)) (own_knows w i v l z base (links_in (w.seat i).phase (finds w i)) refl b a c))
+knows_by w i k v l z base false e b a c = subst (λ (o : Local). looks_in o.phase ≡ false → Knows (on w.layout.config.buckets (shelf_since (base k) (step w i).book) (step w i).mem) o.phase) (sym (seat_stays w i k e)) (other_knows w i k v l z base e b a c)
 
 pub current_kept : (w : World) (i : ℕ) (v : View) (l : Line) (z next : Asked) (base : ℕ → ℕ → ℕ) → i < w.layout.config.seats → Known w v l z → next.deal ≡ next_deals w i z.deal → Current base w z → Current base (step w i) next
 current_kept w i v l z next base b a d c = record {
@@ -324,14 +326,18 @@ begun_low : (w : World) (i k b : ℕ) (z : Asked) (base : ℕ → ℕ → ℕ) (
 begun_low w i k b z base true e c = omega arith
 begun_low w i k b z base false e c = c.low k b
 
-begun_knows : (w : World) (i k : ℕ) (call : Call) (z : Asked) (base : ℕ → ℕ → ℕ) (same : Bool) → (k == i) ≡ same → Current base w z → Knows (on w.layout.config.buckets (shelf_since (base_begun base w i k) w.book) w.mem) ((begin w i call).seat k).phase
+-- a call that begins knows nothing but what it looks at
+first_knows : (g : Ground) (call : Call) (post : Post) → looks_in (first_phase call post) ≡ false → Knows g (first_phase call post)
+first_knows g call post = each_first call post (λ (phase : Phase). looks_in phase ≡ false → Knows g phase) (λ phase h x. plain_knows g phase (free_plain phase h)) (λ index key slot c e x. absurd (cc))
+
+begun_knows : (w : World) (i k : ℕ) (call : Call) (z : Asked) (base : ℕ → ℕ → ℕ) (same : Bool) → (k == i) ≡ same → Current base w z → looks_in ((begin w i call).seat k).phase ≡ false → Knows (on w.layout.config.buckets (shelf_since (base_begun base w i k) w.book) w.mem) ((begin w i call).seat k).phase
 begun_knows w i k call z base true e c =
     let one : k ≡ i = grind (arith, nat_tests) in
     let f : ((begin w i call).seat k).phase ≡ first_phase call (begun_post (w.seat i).post) = ap (λ (m : ℕ). ((begin w i call).seat m).phase) one ∙ ap (λ (l : Local). l.phase) (begin_begins w i call) in
-    subst (λ (p : Phase). Knows (on w.layout.config.buckets (shelf_since (base_begun base w i k) w.book) w.mem) p) (sym f) (plain_knows (on w.layout.config.buckets (shelf_since (base_begun base w i k) w.book) w.mem) (first_phase call (begun_post (w.seat i).post)) (first_plain call (begun_post (w.seat i).post)))
+    subst (λ (p : Phase). looks_in p ≡ false → Knows (on w.layout.config.buckets (shelf_since (base_begun base w i k) w.book) w.mem) p) (sym f) (first_knows (on w.layout.config.buckets (shelf_since (base_begun base w i k) w.book) w.mem) call (begun_post (w.seat i).post))
 begun_knows w i k call z base false e c =
-    subst (λ (l : Local). Knows (on w.layout.config.buckets (shelf_since (base_begun base w i k) w.book) w.mem) l.phase) (sym (begin_stays w i k call e))
-    (knows_same w.layout.config.buckets (base k) (base_begun base w i k) w.book w.mem (w.seat k).phase (λ bucket. base_other base w i k bucket e) (c.knows k))
+    subst (λ (l : Local). looks_in l.phase ≡ false → Knows (on w.layout.config.buckets (shelf_since (base_begun base w i k) w.book) w.mem) l.phase) (sym (begin_stays w i k call e))
+    (λ x. knows_same w.layout.config.buckets (base k) (base_begun base w i k) w.book w.mem (w.seat k).phase (λ bucket. base_other base w i k bucket e) (c.knows k x))
 
 pub current_begin : (w : World) (i : ℕ) (call : Call) (z next : Asked) (base : ℕ → ℕ → ℕ) → is_busy w i ≡ false → Requests w z → next.deal ≡ z.deal → Current base w z → Current (base_begun base w i) (begin w i call) next
 current_begin w i call z next base b q d c = record {
@@ -341,12 +347,12 @@ current_begin w i call z next base b q d c = record {
 }
 
 pub current_start : (layout : Layout) (z : Asked) → ((k : ℕ) → z.deal k ≡ Quiet) → Current (λ k b. 0) (start layout) z
-current_start layout z q = record { low = λ k b. omega arith; links = origins_start (λ k. link_since (λ b. 0) (start layout).book) layout z q; knows = λ k. tt }
+current_start layout z q = record { low = λ k b. omega arith; links = origins_start (λ k. link_since (λ b. 0) (start layout).book) layout z q; knows = λ k x. tt }
 
 -- the same by another name of the counts
 pub current_same : (one two : ℕ → ℕ → ℕ) (w : World) (z : Asked) → ((k b : ℕ) → two k b ≡ one k b) → Current one w z → Current two w z
 current_same one two w z e c = record {
   low = λ k b. rw (e k b) (c.low k b);
   links = record { tracked = λ k x t. links_same (one k) (two k) w.book (root_in w k) x (e k) (c.links.tracked k x t) };
-  knows = λ k. knows_same w.layout.config.buckets (one k) (two k) w.book w.mem (w.seat k).phase (e k) (c.knows k);
+  knows = λ k x. knows_same w.layout.config.buckets (one k) (two k) w.book w.mem (w.seat k).phase (e k) (c.knows k x);
 }

@@ -1,7 +1,7 @@
 -- A get tells a version that its bucket had when its call began, or a later one.
-use Rattle.std.proofs.Common.{ℕ, ◌≡◌, ◌≤◌, ◌+◌, ◌%◌, Bool, true, List, [], ◌∷◌, ◌++◌, Option, refl, sym, ◌∙◌, subst, arith}
+use Rattle.std.proofs.Common.{ℕ, ◌≡◌, ◌≤◌, ◌+◌, ◌%◌, Bool, true, false, List, [], ◌∷◌, ◌++◌, Option, Some, None, refl, sym, ◌∙◌, subst, arith}
 use Rattle.std.proofs.lemmas.Bool.Decides.{nat_tests}
-use Rattle.std.specs.Prelude.{◌==◌, ◌&&◌, nat_le}
+use Rattle.std.specs.Prelude.{◌==◌, ◌&&◌, nat_le, if◌then◌else◌}
 use Rattle.wfe_core.specs.words.declared.config.SchemeKind.{SchemeKind}
 use Rattle.wfe_core.specs.words.declared.config.SchemeKind.TheVariants.{He, Ibr, Wfe}
 use Rattle.wfe_core.specs.words.declared.layout.Layout.{Layout}
@@ -18,11 +18,12 @@ use Rattle.wfe_core.specs.Change as alters
 use Rattle.wfe_core.specs.Enqueue as enqueues
 use Rattle.wfe_core.specs.Locals.{told_end}
 use Rattle.wfe_core.specs.Machine as machine
-use Rattle.wfe_core.specs.Posts.{counted}
+use Rattle.wfe_core.specs.Posts.{counted, stands}
+use Rattle.wfe_core.specs.words.Schemes.{has_one_interval}
 use Rattle.wfe_core.specs.Rounds.{scheme_of, bucket_of, clear_post, clear_told}
 use Rattle.wfe_core.specs.Phases.{Base, Ending, Outcome, Goes, Ends}
 use Rattle.wfe_core.specs.Phases.Ending.{Done, Protected, Followed, Allocated, Retired, Clocked}
-use Rattle.wfe_core.specs.Calls.{Task, Gets, Changes, Holds, Enqueues, Dequeues, GetAt, FindVersion, FindCount, FindKey, FindValue, Work, Getting, Changing, Enqueuing, Dequeuing, Why, Opens, Phase, Idle, Runs, Scans, Works}
+use Rattle.wfe_core.specs.Calls.{Task, Gets, Changes, Holds, Enqueues, Dequeues, GetAt, FindVersion, FindCount, FindKey, FindValue, KeepAt, Loosens, LoadHeld, StoreHeld, Looks, Misses, Work, Getting, Changing, Enqueuing, Dequeuing, Keeping, Why, Opens, Phase, Idle, Runs, Scans, Works}
 use Rattle.wfe_core.specs.World.{World, finds, told_in}
 use Rattle.wfe_core.proofs.Frames.{after_same}
 use Rattle.wfe_core.proofs.Facts.{both}
@@ -30,12 +31,13 @@ use Rattle.inv_all.specs.requests.Views.{View as Asked}
 use Rattle.inv_all.specs.rows.Queue.{Line}
 use Rattle.inv_all.specs.rows.Rows.{View}
 use Rattle.inv_all.specs.links.Tracked.{root_in}
-use Rattle.inv_all.specs.contents.Knows.{Knows, GetKnows, FoundRow}
+use Rattle.inv_all.specs.contents.Knows.{Knows, GetKnows, FoundRow, looks_in}
 use Rattle.inv_all.proofs.contents.Contents.Lasts.{on}
 use Rattle.inv_all.specs.Known.{Known}
-use Rattle.inv_all.proofs.history.Passes.{Closing, First, scan_told, get_allows, ending_allows, why_allows, outcome_allows, work_allows, phase_allows, step_closes}
+use Rattle.inv_all.proofs.history.Passes.{Closing, First, copied_post, keep_post, work_post, scan_told, get_allows, ending_allows, why_allows, outcome_allows, work_allows, phase_allows, step_closes}
 use Rattle.law_answers.proofs.Lawful.Current.{Current, shelf_since, since_is, link_since}
 use Rattle.inv_all.proofs.history.AllOf.{all_of, of_along, of_weaker}
+use Rattle.inv_all.proofs.history.MayTell.{work_all}
 use Rattle.inv_all.proofs.Machines.{is_machine, is_still, machine_still, base_machine, scan_machine, clear_machine, cut_still, link_still, end_still}
 use Rattle.inv_all.proofs.links.Origins.Ends.{end_tracked, end_root}
 
@@ -68,6 +70,26 @@ pub cleared_table : (scheme : SchemeKind) (post : Post) (index : ℕ) → (clear
 cleared_table He post index = refl
 cleared_table Ibr post index = refl
 cleared_table Wfe post index = refl
+
+-- a call on what is kept leaves a post of this table
+copied_table : (index : ℕ) (post : Post) (o : Option ℕ) → (copied_post index post o).layout ≡ post.layout
+copied_table index post None = refl
+copied_table index post (Some slot) = refl
+
+keep_table : (at : KeepAt) (post : Post) → (keep_post at post).layout ≡ post.layout
+keep_table (Loosens let_go) post = refl
+keep_table (LoadHeld from index) post = by (has_one_interval (scheme_of post))
+  where
+    by : (one : Bool) → (if one then copied_post index post (stands post from) else post).layout ≡ post.layout
+    by true = copied_table index post (stands post from)
+    by false = refl
+keep_table (StoreHeld from index era) post = copied_table index post (stands post from)
+keep_table (Looks index key at) post = refl
+keep_table (Misses index) post = refl
+
+pub work_table : (work : Work) (post : Post) → (work_post work post).layout ≡ post.layout
+work_table (Keeping at) post = keep_table at post
+work_table work post = refl
 
 got_is : (n key version : ℕ) (base : ℕ → ℕ) (value : Option ℕ) → base (key % n) ≤ version → all_of (got_new n base) (events.Got (key % n) version key value ∷ []) ≡ true
 got_is n key version base value h =
@@ -115,26 +137,27 @@ first_before layout (Runs why base) post found e = record {
   still = of_weaker is_machine is_still (machine.after base post found).told machine_still (base_machine base post found);
 }
 first_before layout (Scans later at) post found e = record { table = e; still = of_weaker is_machine is_still (scan_told at post found) machine_still (scan_machine at post found) }
-first_before layout (Works work) post found e = record { table = e; still = refl }
+first_before layout (Works work) post found e = record { table = work_table work post ∙ e; still = work_all is_still (λ index slot. refl) (λ from index slot. refl) (λ seat index era. refl) work post }
 
 -- what a get knows allows the version that it tells
-row_allows : (w : World) (base : ℕ → ℕ) (key slot version : ℕ) → FoundRow (on w.layout.config.buckets (shelf_since base w.book) w.mem) key slot version → Allowed w.layout base key version
+row_allows : (w : World) (base : ℕ → ℕ) (key slot version : ℕ) → FoundRow (on w.layout.config.buckets (shelf_since base w.book) w.mem) (key % w.layout.config.buckets) slot version → Allowed w.layout base key version
 row_allows w base key slot version h =
     let t = since_is base (w.book.row slot).root (w.book.row slot).version (key % w.layout.config.buckets) h.root in
     let m = t.1 in
     subst (λ (x : ℕ). base (key % w.layout.config.buckets) ≤ x) (sym h.shown) m
 
-get_knows : (w : World) (base : ℕ → ℕ) (key : ℕ) (at : GetAt) → GetKnows (on w.layout.config.buckets (shelf_since base w.book) w.mem) key at → get_allows (Allowed w.layout base) key at
+get_knows : (w : World) (base : ℕ → ℕ) (key : ℕ) (at : GetAt) → GetKnows (on w.layout.config.buckets (shelf_since base w.book) w.mem) (key % w.layout.config.buckets) key at → get_allows (Allowed w.layout base) key at
 get_knows w base key (FindVersion slot) h = tt
 get_knows w base key (FindCount slot version) h = row_allows w base key slot version h
 get_knows w base key (FindKey slot version count pair) h = row_allows w base key slot version h.row
 get_knows w base key (FindValue slot version pair) h = row_allows w base key slot version h.row
 
-work_knows : (w : World) (base : ℕ → ℕ) (work : Work) → Knows (on w.layout.config.buckets (shelf_since base w.book) w.mem) (Works work) → work_allows (Allowed w.layout base) work
-work_knows w base (Getting key at) h = get_knows w base key at h
+work_knows : (w : World) (base : ℕ → ℕ) (work : Work) → (looks_in (Works work) ≡ false → Knows (on w.layout.config.buckets (shelf_since base w.book) w.mem) (Works work)) → work_allows (Allowed w.layout base) work
+work_knows w base (Getting key at) h = get_knows w base key at (h refl)
 work_knows w base (Changing kept at) h = tt
 work_knows w base (Enqueuing kept at) h = tt
 work_knows w base (Dequeuing at) h = tt
+work_knows w base (Keeping at) h = tt
 
 -- where its protection ends with null, the bucket had not been changed
 none_at : (base : ℕ → ℕ) (book : Book) (b : ℕ) → link_since base book (roots.Bucket b) 0 ≡ true → base b ≤ 0
@@ -169,7 +192,7 @@ phase_knows : (w : World) (i : ℕ) (v : View) (l : Line) (z : Asked) (base : �
 phase_knows w i v l z base Idle a c e = tt
 phase_knows w i v l z base (Runs why one) a c e = outcome_knows w i v l z base why one (machine.after one (counted (w.seat i).post) (finds w i)).outcome a c e refl
 phase_knows w i v l z base (Scans later at) a c e = tt
-phase_knows w i v l z base (Works work) a c e = work_knows w (base i) work (subst (λ (p : Phase). Knows (on w.layout.config.buckets (shelf_since (base i) w.book) w.mem) p) e (c.knows i))
+phase_knows w i v l z base (Works work) a c e = work_knows w (base i) work (subst (λ (p : Phase). looks_in p ≡ false → Knows (on w.layout.config.buckets (shelf_since (base i) w.book) w.mem) p) e (c.knows i))
 
 pub told_new : (w : World) (i : ℕ) (v : View) (l : Line) (z : Asked) (base : ℕ → ℕ → ℕ) → Known w v l z → Current base w z → all_of (got_new w.layout.config.buckets (base i)) (told_in w i) ≡ true
 told_new w i v l z base a c =

@@ -13,6 +13,7 @@ use Rattle.wfe_core.specs.defs.declared.fold.Change.{Change}
 use Rattle.wfe_core.specs.defs.declared.fold.Change.TheVariants as the_changes
 use Rattle.wfe_core.specs.Book.{Book, booked, booked_all}
 use Rattle.wfe_core.specs.Posts.{counted}
+use Rattle.wfe_core.specs.Locals.{may_begin}
 use Rattle.wfe_core.specs.World.{World, start, begin, step, finds, is_busy, told_in}
 use Rattle.wfe_core.proofs.Facts.{both, first_of, rest_of}
 use Rattle.inv_all.specs.requests.Views.{Deal, View as Asked}
@@ -159,8 +160,8 @@ step_law w i v l z layout p e b a c h t =
     (told_each w.layout.config.buckets i (base_of p i) w.book (told_in w i) p s (told_within (w.seat i).phase (counted (w.seat i).post) (w.seat i).desk (finds w i)) (told_loud (w.seat i).phase (counted (w.seat i).post) (w.seat i).desk (finds w i))
     (told_new w i v l z (base_of p) a c) m.map (subst (λ (table : Layout). Each (map_ok table.config.buckets) p) (sym e) t))
 
-begin_keeps : (layout : Layout) (made : Made) (i : ℕ) (call : Call) → is_busy made.world i ≡ false → Keeps layout made → Keeps layout (done made (Begins i call))
-begin_keeps layout made i call f g =
+begin_keeps : (layout : Layout) (made : Made) (i : ℕ) (call : Call) → is_busy made.world i ≡ false → may_begin made.world.layout.config call ≡ true → Keeps layout made → Keeps layout (done made (Begins i call))
+begin_keeps layout made i call f m g =
     let k = g.known in
     let q = requests_begin made.world i call g.asked k.valid f k.seats k.requests in
     record {
@@ -168,9 +169,9 @@ begin_keeps layout made i call f g =
       rows = g.rows;
       line = g.line;
       asked = q.0;
-      known = known_begin made.world i call g.rows g.line g.asked q.0 f k q.1.facts q.1.deal;
+      known = known_begin made.world i call g.rows g.line g.asked q.0 f m k q.1.facts q.1.deal;
       current = current_same (base_begun (base_of made.past) made.world i) (base_of (Then made.past i (events.Begin call))) (begin made.world i call) q.0
-          (λ m b. begin_base made.world i m b call made.past (g.changes b))
+          (λ n b. begin_base made.world i n b call made.past (g.changes b))
           (current_begin made.world i call g.asked q.0 (base_of made.past) f k.requests q.1.deal g.current);
       changes = g.changes;
       law = (refl, g.law);
@@ -194,7 +195,7 @@ step_keeps layout made i b g =
     }
 
 steady : (layout : Layout) → Steady (Keeps layout)
-steady layout = record { begins = λ made i call b y g. begin_keeps layout made i call y g; steps = λ made i b y g. step_keeps layout made i b g }
+steady layout = record { begins = λ made i call b y m g. begin_keeps layout made i call y m g; steps = λ made i b y g. step_keeps layout made i b g }
 
 first_keeps : (layout : Layout) → is_valid layout ≡ true → Keeps layout (first_made layout)
 first_keeps layout d =

@@ -8,6 +8,7 @@ use Rattle.wfe_core.specs.defs.declared.event.Event.TheVariants as events
 use Rattle.wfe_core.specs.defs.declared.event.Root.TheVariants as roots
 use Rattle.wfe_core.specs.Book.{Book, booked, booked_all}
 use Rattle.wfe_core.specs.Posts.{counted}
+use Rattle.wfe_core.specs.Locals.{may_begin}
 use Rattle.wfe_core.specs.World.{finds, is_busy, told_in}
 use Rattle.wfe_core.proofs.Facts.{both, first_of, rest_of}
 use Rattle.inv_all.specs.contents.Gives.{QueueRight, AllQueueRight}
@@ -51,6 +52,7 @@ one_agrees a i p (events.Back slot) g = record { queued = g.queued; taken = g.ta
 one_agrees a i p (events.Held index slot steps) g = record { queued = g.queued; taken = g.taken }
 one_agrees a i p (events.Null index steps) g = record { queued = g.queued; taken = g.taken }
 one_agrees a i p (events.Clear index slot) g = record { queued = g.queued; taken = g.taken }
+one_agrees a i p (events.Copied from index slot) g = record { queued = g.queued; taken = g.taken }
 one_agrees a i p (events.Got bucket version key value) g = record { queued = g.queued; taken = g.taken }
 one_agrees a i p (events.Put bucket version key value) g = record { queued = g.queued; taken = g.taken }
 one_agrees a i p (events.Removed bucket version key) g = record { queued = g.queued; taken = g.taken }
@@ -108,10 +110,10 @@ record Keeps (made : Made) : Type 0 where
   agrees : Agrees made.world.book made.past
   law : Each queue_ok made.past
 
-begin_keeps : (made : Made) (i : ℕ) (call : Call) → is_busy made.world i ≡ false → Keeps made → Keeps (done made (Begins i call))
-begin_keeps made i call f g =
+begin_keeps : (made : Made) (i : ℕ) (call : Call) → is_busy made.world i ≡ false → may_begin made.world.layout.config call ≡ true → Keeps made → Keeps (done made (Begins i call))
+begin_keeps made i call f m g =
     let o = g.agrees in
-    record { known = inv_begin made.world i call f g.known; agrees = record { queued = o.queued; taken = o.taken }; law = (refl, g.law) }
+    record { known = inv_begin made.world i call f m g.known; agrees = record { queued = o.queued; taken = o.taken }; law = (refl, g.law) }
 
 step_keeps : (made : Made) (i : ℕ) → i < made.world.layout.config.seats → Keeps made → Keeps (done made (Steps i))
 step_keeps made i b g =
@@ -123,7 +125,7 @@ step_keeps made i b g =
     }
 
 steady : Steady Keeps
-steady = record { begins = λ made i call b y g. begin_keeps made i call y g; steps = λ made i b y g. step_keeps made i b g }
+steady = record { begins = λ made i call b y m g. begin_keeps made i call y m g; steps = λ made i b y g. step_keeps made i b g }
 
 pub records_keep_queue : RecordsKeepQueue
 records_keep_queue layout items d =

@@ -1,5 +1,5 @@
 -- A turn tells at most one event that an atomic step makes.
-use Rattle.std.proofs.Common.{ℕ, ◌≡◌, ◌-◌, ◌+◌, Bool, true, false, List, [], ◌∷◌, ◌++◌, refl, arith}
+use Rattle.std.proofs.Common.{ℕ, ◌≡◌, ◌-◌, ◌+◌, Bool, true, false, List, [], ◌∷◌, ◌++◌, Option, Some, None, refl, arith}
 use Rattle.std.specs.Prelude.{◌==◌, not, if◌then◌else◌}
 use Rattle.wfe_core.specs.words.declared.config.SchemeKind.{SchemeKind}
 use Rattle.wfe_core.specs.defs.declared.event.Event.{Event}
@@ -12,21 +12,22 @@ use Rattle.wfe_core.specs.Desks.{Desk}
 use Rattle.wfe_core.specs.Enqueue as enqueues
 use Rattle.wfe_core.specs.Locals.{told_by, told_end}
 use Rattle.wfe_core.specs.Machine as machine
-use Rattle.wfe_core.specs.Posts.{counted}
-use Rattle.wfe_core.specs.Rounds.{scheme_of, clear_told, bucket_of}
+use Rattle.wfe_core.specs.Posts.{cleared, counted, reserves_index, stands}
+use Rattle.wfe_core.specs.words.Schemes.{has_one_interval}
+use Rattle.wfe_core.specs.Rounds.{scheme_of, clear_told, bucket_of, let_index}
 use Rattle.wfe_core.specs.Steps as steps
 use Rattle.wfe_core.specs.Phases.{Base}
-use Rattle.wfe_core.specs.Calls.{ScanAt, ReadGuard, GiveBack, ChangeKept, Phase, Idle, Runs, Scans, Works, CallOutcome, GoesOn, Answers}
+use Rattle.wfe_core.specs.Calls.{ScanAt, ReadGuard, GiveBack, ChangeKept, KeepAt, Loosens, LoadHeld, StoreHeld, Looks, Misses, Work, Keeping, Phase, Idle, Runs, Scans, Works, CallOutcome, GoesOn, Answers}
 use Rattle.wfe_core.proofs.Facts.{both, first_of, rest_of, if_implies}
 use Rattle.inv_all.specs.history.Turns as schedule
 use Rattle.inv_all.specs.history.History.{Made}
-use Rattle.inv_all.proofs.history.Passes.{Closing, Any, First, phase_any, scan_told, step_closes}
+use Rattle.inv_all.proofs.history.Passes.{Closing, Any, First, copied_told, keep_told, work_told, phase_any, scan_told, step_closes}
 use Rattle.inv_all.specs.history.Turns.{EachTurn}
 use Rattle.laws.specs.HistoryTurns.{is_atomic, none_atomic, one_atomic, one_step}
 use Rattle.law_answers.specs.Records.{TurnsTellOne}
 use Rattle.law_answers.proofs.OneStep.Along.{Kept, history_keeps}
 use Rattle.inv_all.proofs.history.AllOf.{all_of}
-use Rattle.inv_all.proofs.history.MayTell.{Shape, Silent, Single, Clears, Takes, is_find, shape_of, clear_all}
+use Rattle.inv_all.proofs.history.MayTell.{Shape, Silent, Single, Clears, Takes, is_find, shape_of, clear_all, cleared_all}
 
 none_along : (xs ys : List Event) → none_atomic xs ≡ true → none_atomic ys ≡ true → none_atomic (xs ++ ys) ≡ true
 none_along [] ys h k = k
@@ -44,6 +45,10 @@ none_one (event ∷ told) h = not_by (is_atomic event) (none_atomic told) (one_a
 one_along : (xs ys : List Event) → one_atomic xs ≡ true → none_atomic ys ≡ true → one_atomic (xs ++ ys) ≡ true
 one_along [] ys h k = none_one ys k
 one_along (x ∷ xs) ys h k = if_implies (is_atomic x) (none_atomic xs) (one_atomic xs) (none_atomic (xs ++ ys)) (one_atomic (xs ++ ys)) (λ e. none_along xs ys e k) (λ e. one_along xs ys e k) h
+
+one_after : (xs ys : List Event) → none_atomic xs ≡ true → one_atomic ys ≡ true → one_atomic (xs ++ ys) ≡ true
+one_after [] ys h k = k
+one_after (x ∷ xs) ys h k = not_by (is_atomic x) (none_atomic (xs ++ ys)) (one_atomic (xs ++ ys)) (first_of (not (is_atomic x)) (none_atomic xs) h) (one_after xs ys (rest_of (not (is_atomic x)) (none_atomic xs) h) k)
 
 abbrev One : List Event → Type 0
 One told = one_atomic told ≡ true
@@ -83,6 +88,29 @@ base_one base post found = shape_one base post found (machine.after base post fo
 scan_one : (at : ScanAt) (post : Post) (found : ℕ) → One (scan_told at post found)
 scan_one (ReadGuard number) post found = refl
 scan_one (GiveBack place slot) post found = refl
+
+-- a call on what is kept stores one index word at most
+cleared_none : (index : ℕ) (o : Option ℕ) → Without (cleared index o)
+cleared_none index o = none_all (cleared index o) (cleared_all (λ event. not (is_atomic event)) index o (λ index slot. refl))
+
+copied_one : (from index : ℕ) (post : Post) (reserved : List Event) (o : Option ℕ) → One reserved → One (copied_told from index post reserved o)
+copied_one from index post reserved None r = refl
+copied_one from index post reserved (Some slot) r = one_along (cleared index (stands post index) ++ reserved) (events.Copied from index slot ∷ []) (one_after (cleared index (stands post index)) reserved (cleared_none index (stands post index)) r) refl
+
+keep_one : (at : KeepAt) (post : Post) → One (keep_told at post)
+keep_one (Loosens let_go) post = none_one (cleared (let_index let_go) (stands post (let_index let_go))) (cleared_none (let_index let_go) (stands post (let_index let_go)))
+keep_one (LoadHeld from index) post = by (has_one_interval (scheme_of post))
+  where
+    by : (one : Bool) → One (if one then copied_told from index post [] (stands post from) else [])
+    by true = copied_one from index post [] (stands post from) refl
+    by false = refl
+keep_one (StoreHeld from index era) post = copied_one from index post (reserves_index post index era) (stands post from) refl
+keep_one (Looks index key at) post = refl
+keep_one (Misses index) post = refl
+
+work_one : (work : Work) (post : Post) → One (work_told work post)
+work_one (Keeping at) post = keep_one at post
+work_one work post = refl
 
 -- what comes after a machine tells none, and a call's own step one link at most
 abbrev OneTold : Post → List Event → Type 0
@@ -125,7 +153,7 @@ first_one : (phase : Phase) (post : Post) (found : ℕ) → First OneTold phase 
 first_one Idle post found = refl
 first_one (Runs why base) post found = base_one base post found
 first_one (Scans later at) post found = scan_one at post found
-first_one (Works work) post found = refl
+first_one (Works work) post found = work_one work post
 
 pub told_one : (phase : Phase) (post : Post) (desk : Desk) (found : ℕ) → One (told_by (steps.phase_turn phase post desk found))
 told_one phase post desk found = step_closes OneTold OneTold Any one_closing phase post desk found (phase_any phase post found) (first_one phase post found)
@@ -135,7 +163,7 @@ OneEach made h = EachTurn one_step h
 
 one_kept : Kept OneEach
 one_kept = record {
-  begins = λ made h i call a b f g. g;
+  begins = λ made h i call a b f m g. g;
   steps = λ made h i a b y g. (told_one (made.world.seat i).phase (counted (made.world.seat i).post) (made.world.seat i).desk _, g);
 }
 

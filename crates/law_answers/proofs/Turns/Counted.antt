@@ -8,7 +8,7 @@ use Rattle.wfe_core.specs.defs.declared.event.Event.{Event}
 use Rattle.wfe_core.specs.defs.declared.event.Event.TheVariants as events
 use Rattle.wfe_core.specs.declared.post.Post.{Post}
 use Rattle.wfe_core.specs.Desks.{Desk, noting}
-use Rattle.wfe_core.specs.Locals.{Local, begun_post, busy_in, settled_by, turn, told_by, told_end, rounds_told}
+use Rattle.wfe_core.specs.Locals.{Local, begun_post, busy_in, may_begin, settled_by, turn, told_by, told_end, rounds_told}
 use Rattle.wfe_core.specs.Memory.{bump}
 use Rattle.wfe_core.specs.Posts.{counted}
 use Rattle.wfe_core.specs.Rest.{rest}
@@ -21,7 +21,7 @@ use Rattle.inv_all.specs.history.Turns.History.{Blank, Starts, Turns}
 use Rattle.inv_all.specs.history.Record.{Past, tells_of}
 use Rattle.inv_all.specs.history.Record.Past.{Then}
 use Rattle.inv_all.specs.history.History.{Item, Begins, Steps, Made, fits, done_if, did, done, made_from, first_made, made_of, world_of}
-use Rattle.inv_all.proofs.history.Along.{begins_right, low_seat}
+use Rattle.inv_all.proofs.history.Along.{begins_right, begins_within, low_seat}
 use Rattle.inv_all.specs.Ends.{CallsEnd}
 use Rattle.inv_all.specs.Inv.{Inv}
 use Rattle.inv_all.proofs.Inv.Ends.{inv_ends}
@@ -228,9 +228,9 @@ turn_right n w h i y o t =
     (both (schedule.begins_none (told_in w i)) (schedule.ends_with (schedule.turns_of i h + 1) (told_in w i)) (begins_none (told_in w i) (within_of w i))
     (ends_after (schedule.turns_of i h + 1) r.told (told_end r.post r.outcome) there.goes (end_count (schedule.turns_of i h + 1) r.post r.outcome count)))
 
-begin_keeps : (n : ℕ) (made : Made) (h : schedule.History) (i : ℕ) (call : Call) → i < made.world.layout.config.seats → is_busy made.world i ≡ false → Keeps n made h → Keeps n (done made (Begins i call)) (Starts h i call)
-begin_keeps n made h i call l f g =
-    let k = answering.begin_keeps n made i call f g.kept in
+begin_keeps : (n : ℕ) (made : Made) (h : schedule.History) (i : ℕ) (call : Call) → i < made.world.layout.config.seats → is_busy made.world i ≡ false → may_begin made.world.layout.config call ≡ true → Keeps n made h → Keeps n (done made (Begins i call)) (Starts h i call)
+begin_keeps n made h i call l f m g =
+    let k = answering.begin_keeps n made i call f m g.kept in
     let t = g.timed i in
     record {
       kept = k;
@@ -253,7 +253,10 @@ step_keeps n made h i l y g =
 
 item_keeps : (n : ℕ) (made : Made) (h : schedule.History) (item : Item) (fit : Bool) → fits made.world item ≡ fit → Keeps n made h → Keeps n (done_if made item fit) (heard_if made.world item fit h)
 item_keeps n made h item false f g = g
-item_keeps n made h (Begins i call) true f g = begin_keeps n made h i call (low_seat i made.world.layout.config.seats (not (is_busy made.world i)) f) (begins_right i made.world.layout.config.seats (is_busy made.world i) f) g
+item_keeps n made h (Begins i call) true f g =
+    let seats : ℕ = made.world.layout.config.seats in
+    let may : Bool = may_begin made.world.layout.config call in
+    begin_keeps n made h i call (low_seat i seats (not (is_busy made.world i) && may) f) (begins_right i seats (is_busy made.world i) may f) (begins_within i seats (is_busy made.world i) may f) g
 item_keeps n made h (Steps i) true f g =
     step_keeps n made h i (low_seat i made.world.layout.config.seats (is_busy made.world i) f) (rest_of (nat_lt i made.world.layout.config.seats) (is_busy made.world i) f) g
 

@@ -7,7 +7,7 @@ use Rattle.wfe_core.specs.defs.declared.event.Event.{Event}
 use Rattle.wfe_core.specs.defs.declared.event.Root.{Root}
 use Rattle.wfe_core.specs.defs.declared.event.Root.TheVariants as roots
 use Rattle.wfe_core.specs.declared.post.Post.{Post}
-use Rattle.wfe_core.specs.Posts.{with_tag}
+use Rattle.wfe_core.specs.Posts.{stands, with_tag}
 use Rattle.wfe_core.specs.Phases.{Aim, Alone, Follows, Walk, Base, Turn}
 use Rattle.wfe_core.specs.Phases.BeginAt.{LoadLower}
 use Rattle.wfe_core.specs.Phases.ProtectAt.{CheckClock, CheckOwnClock, AnswerOwn, TakeAnswer, WithdrawHelper, CheckUpper}
@@ -23,8 +23,9 @@ use Rattle.wfe_core.specs.Machine.{after}
 use Rattle.wfe_core.specs.Desks.{Desk}
 use Rattle.wfe_core.specs.Rounds.{scheme_of, clear_post}
 use Rattle.wfe_core.specs.Steps as steps
-use Rattle.wfe_core.specs.Calls.{Phase, Idle, Runs, Scans, Works}
-use Rattle.inv_all.proofs.history.Passes.{Closed, First, step_goes}
+use Rattle.wfe_core.specs.Calls.{KeepAt, Loosens, LoadHeld, StoreHeld, Looks, Misses, Work, Keeping, Phase, Idle, Runs, Scans, Works}
+use Rattle.wfe_core.specs.words.Schemes.{has_one_interval}
+use Rattle.inv_all.proofs.history.Passes.{Closed, First, copied_post, keep_post, work_post, step_goes}
 
 along : (a b c : ℕ) → b ≡ a → c ≡ b → c ≡ a
 along a b c h k = k ∙ h
@@ -91,6 +92,22 @@ cleared_steps He post index = refl
 cleared_steps Ibr post index = refl
 cleared_steps Wfe post index = refl
 
+-- a call on what is kept
+copied_steps : (index : ℕ) (post : Post) (o : Option ℕ) → (copied_post index post o).steps ≡ post.steps
+copied_steps index post None = refl
+copied_steps index post (Some slot) = refl
+
+keep_steps : (at : KeepAt) (post : Post) → (keep_post at post).steps ≡ post.steps
+keep_steps (Loosens let_go) post = refl
+keep_steps (LoadHeld from index) post = same_post_if (has_one_interval (scheme_of post)) post _ _ (copied_steps index post (stands post from)) refl
+keep_steps (StoreHeld from index era) post = copied_steps index post (stands post from)
+keep_steps (Looks index key at) post = refl
+keep_steps (Misses index) post = refl
+
+work_steps : (work : Work) (post : Post) → (work_post work post).steps ≡ post.steps
+work_steps (Keeping at) post = keep_steps at post
+work_steps work post = refl
+
 abbrev Count : ℕ → Post → List Event → Type 0
 Count m post told = post.steps ≡ m
 
@@ -101,7 +118,7 @@ first_count : (phase : Phase) (post : Post) (found : ℕ) → First (Count post.
 first_count Idle post found = refl
 first_count (Runs why base) post found = after_steps base post found
 first_count (Scans later at) post found = refl
-first_count (Works work) post found = refl
+first_count (Works work) post found = work_steps work post
 
 pub turn_steps : (phase : Phase) (post : Post) (desk : Desk) (found : ℕ) → (steps.phase_turn phase post desk found).post.steps ≡ post.steps
 turn_steps phase post desk found = step_goes (Count post.steps) (count_closed post.steps) phase post desk found (first_count phase post found)

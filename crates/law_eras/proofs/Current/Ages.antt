@@ -13,7 +13,7 @@ use Rattle.wfe_core.specs.defs.declared.event.Event.{Event}
 use Rattle.wfe_core.specs.defs.declared.event.Root.{Root}
 use Rattle.wfe_core.specs.declared.post.Post.{Post}
 use Rattle.wfe_core.specs.Allocate as allocates
-use Rattle.wfe_core.specs.Calls.{Why, Phase, Idle, Runs, Scans, Works}
+use Rattle.wfe_core.specs.Calls.{Why, Loosens, LoadHeld, StoreHeld, Looks, Misses, Work, Getting, Changing, Enqueuing, Dequeuing, Keeping, Phase, Idle, Runs, Scans, Works}
 use Rattle.wfe_core.specs.Machine as machine
 use Rattle.wfe_core.specs.Memory.{bump}
 use Rattle.wfe_core.specs.MoveClock as movers
@@ -26,14 +26,14 @@ use Rattle.wfe_core.specs.Phases.MoveAt.{LoadEra, LoadRequest, ShowEra, LoadAske
 use Rattle.wfe_core.specs.Phases.Base.{Begin, Protect, Reload, Clear, Finish, Release, Allocate, Write, GiveUp, Retire, Move}
 use Rattle.wfe_core.specs.Posts.{counted, upper, reserves_helper}
 use Rattle.wfe_core.specs.Protect as protects
-use Rattle.wfe_core.specs.Rounds.{protect_at, release_base, scheme_of}
+use Rattle.wfe_core.specs.Rounds.{protect_at, scheme_of}
 use Rattle.wfe_core.specs.SlowPath.{own_request, asking, answer_in, lost_turn}
 use Rattle.wfe_core.specs.WriteRow.{last_written}
-use Rattle.law_reuse.specs.inv.shapes.Frame.{Grows, Moves, Onward, Owes}
+use Rattle.law_reuse.specs.inv.shapes.Frame.{Grows, Moves, Onward, Owes, Stores}
 use Rattle.law_reuse.specs.inv.shapes.Seats.{PhaseFits, PostFits}
 use Rattle.law_reuse.proofs.inv.shapes.Frame.{moves_with}
 use Rattle.law_reuse.proofs.inv.shapes.Inside.{shape_moves}
-use Rattle.law_reuse.proofs.inv.shapes.Kept.{counted_fits, run_counted}
+use Rattle.law_reuse.proofs.inv.shapes.Kept.{counted_fits, run_counted, work_counted}
 use Rattle.law_reuse.proofs.inv.shapes.Shapes.{shape_grows}
 
 -- the eras of a phase are no earlier than this, and a retire era no earlier than the clock where the row was cut
@@ -89,7 +89,7 @@ base_since from cut (Protect aim index root steps at) = protect_since from at
 base_since from cut (Reload parent index slot era steps) = Unit {0}
 base_since from cut (Clear index) = Unit {0}
 base_since from cut Finish = Unit {0}
-base_since from cut Release = Unit {0}
+base_since from cut (Release index) = Unit {0}
 base_since from cut (Allocate at) = allocate_since from at
 base_since from cut (Write slot row place) = Unit {0}
 base_since from cut (GiveUp slot) = Unit {0}
@@ -251,11 +251,6 @@ opened_since from He = tt
 opened_since from Ibr = tt
 opened_since from Wfe = tt
 
-released_since : (from : ℕ) (cut : ℕ → ℕ) (scheme : SchemeKind) → base_since from cut (release_base scheme)
-released_since from cut He = tt
-released_since from cut Ibr = tt
-released_since from cut Wfe = tt
-
 abbrev pub Aged : (from : ℕ) (cut : ℕ → ℕ) → Post → Phase → Type 0
 Aged from cut post phase = PhaseSince from cut phase
 
@@ -263,6 +258,7 @@ pub since_grows : (layout : Layout) (k from : ℕ) (cut : ℕ → ℕ) → is_va
 since_grows layout k from cut v = let g = shape_grows layout k v in record {
   guarded = g.guarded;
   withdraws = g.withdraws;
+  copies = g.copies;
   idle = λ post q. tt;
   begins = λ post task s e q. tt;
   opens = λ post task s q. opened_since from (scheme_of post);
@@ -276,10 +272,11 @@ since_grows layout k from cut v = let g = shape_grows layout k v in record {
   retires = λ post answer slot q. tt;
   tidies = λ post later q. tt;
   advances = λ post q. tt;
-  releases = λ post key q. released_since from cut (scheme_of post);
+  clears_kept = λ post let_go s q. tt;
+  releases = λ post let_go s e q. tt;
   scans = λ post later number b q. tt;
   gives_back = λ post later place slot q. tt;
-  works = λ post work s q. tt;
+  works = λ post work n s q. tt;
 }
 
 onward_since : (from : ℕ) (cut : ℕ → ℕ) (why : Why) (post : Post) (outcome : Outcome) → OutSince from cut outcome → Onward (Aged from cut) why post outcome
@@ -292,6 +289,17 @@ PhaseLoads from cut (Runs why base) post found = Loads from cut base post found
 PhaseLoads from cut (Scans later at) post found = Unit {0}
 PhaseLoads from cut (Works work) post found = Unit {0}
 
+stores_since : (from : ℕ) (cut : ℕ → ℕ) (post : Post) (found : ℕ) (work : Work) → Stores (Aged from cut) post found work
+stores_since from cut post found (Keeping (LoadHeld one other)) = λ e. tt
+stores_since from cut post found (Keeping (StoreHeld one other era)) = tt
+stores_since from cut post found (Keeping (Loosens let_go)) = tt
+stores_since from cut post found (Keeping (Looks index key at)) = tt
+stores_since from cut post found (Keeping (Misses index)) = tt
+stores_since from cut post found (Getting key at) = tt
+stores_since from cut post found (Changing kept at) = tt
+stores_since from cut post found (Enqueuing kept at) = tt
+stores_since from cut post found (Dequeuing at) = tt
+
 pub since_owed : (layout : Layout) (k from : ℕ) (old cut : ℕ → ℕ) → is_valid layout ≡ true → (phase : Phase) (post : Post) (found : ℕ) → PostFits layout k post → PhaseFits layout post phase → PhaseLoads from cut phase (counted post) found → PhaseSince from old phase
     → Owes (PostFits layout k) (Aged from cut) (counted post) found phase
 since_owed layout k from old cut v Idle post found q p l f = counted_fits layout k post q
@@ -300,7 +308,7 @@ since_owed layout k from old cut v (Runs why base) post found q p l f =
     let m : Moves (PostFits layout k) (PhaseFits layout) why t = shape_moves layout k v why base (counted post) found (counted_fits layout k post q) (run_counted layout why base post p) in
     moves_with why t m (record { post = m.post; phase = onward_since from cut why t.post t.outcome (base_on from old cut base (counted post) found l f) })
 since_owed layout k from old cut v (Scans later at) post found q p l f = counted_fits layout k post q
-since_owed layout k from old cut v (Works work) post found q p l f = record { post = counted_fits layout k post q; span = p }
+since_owed layout k from old cut v (Works work) post found q p l f = record { post = counted_fits layout k post q; fits = work_counted work post p; stores = stores_since from cut (counted post) found work }
 
 -- the same eras, by other words for the clock from which they count
 same_retire : (cut next : ℕ → ℕ) (at : RetireAt) → ((s : ℕ) → next s ≡ cut s) → retire_since cut at → retire_since next at

@@ -30,7 +30,7 @@ use Rattle.law_reuse.proofs.inv.requests.Kept.{at_of}
 use Rattle.law_reuse.specs.inv.requests.NextDeals.{protect_deals, move_deals, base_deals, phase_deals}
 use Rattle.law_reuse.specs.inv.requests.Views.{View, Deal}
 use Rattle.law_reuse.specs.inv.requests.Views.Deal.{Quiet, Open, Answered, Passed, Taken}
-use Rattle.law_reuse.proofs.inv.covers.Fresh.{work_fresh, resume_fresh}
+use Rattle.law_reuse.proofs.inv.covers.Fresh.{works_start, resume_fresh}
 use Rattle.law_reuse.proofs.inv.covers.Scans.{scan_starts}
 use Rattle.law_reuse.specs.inv.covers.Tries.{starts_base, is_start}
 use Rattle.law_reuse.specs.inv.links.Tracked.{opened_by}
@@ -144,6 +144,10 @@ pub start_checked : (now : ℕ) (phase : Phase) → is_start phase ≡ true → 
 start_checked now (Runs why base) h = start_checked_base now base h
 start_checked now phase h = tt
 
+runs_checked : (now : ℕ) (phase : Phase) → ((why : Why) (base : Base) → phase ≡ Runs why base → starts_base base ≡ true) → Checked now phase
+runs_checked now (Runs why base) h = start_checked_base now base (h why base refl)
+runs_checked now phase h = tt
+
 plain_checked : (now : ℕ) (outcome : Outcome) → out_plain outcome ≡ true → OutChecked now outcome
 plain_checked now (Goes base) h = start_checked_base now base h
 plain_checked now (Ends ending) h = tt
@@ -217,7 +221,7 @@ turn_checked now Idle post desk found l = tt
 turn_checked now (Runs why base) post desk found l =
     let t : Turn = machine.after base post found in resumed_checked now why desk t.post t.told t.outcome (base_checked now base post found (l why base refl))
 turn_checked now (Scans later at) post desk found l = start_checked now _ (scan_starts later at post desk found)
-turn_checked now (Works work) post desk found l = start_checked now _ (work_fresh work post desk found).starts
+turn_checked now (Works work) post desk found l = runs_checked now _ (works_start work post desk found)
 
 -- so it answers no request of a call that began later
 checked_since_base : (layout : Layout) (from : ℕ → ℕ) (deals : ℕ → Deal) (now : ℕ) (base : Base) → ((k : ℕ) → from k ≤ now) → checked_base now base → base_helps layout from deals base

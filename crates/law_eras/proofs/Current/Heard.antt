@@ -29,7 +29,7 @@ use Rattle.law_reuse.specs.inv.requests.Roles.{knows}
 use Rattle.law_reuse.specs.inv.requests.Standing.{request_of, Requests}
 use Rattle.law_reuse.specs.inv.requests.Views.{View, Deal, Role, Role as roles}
 use Rattle.law_reuse.specs.inv.requests.Views.Deal.{Quiet, Open, Answered, Passed, Taken}
-use Rattle.law_reuse.proofs.inv.covers.Begun.{first_begins}
+use Rattle.law_reuse.proofs.inv.covers.Fresh.{first_begins}
 use Rattle.law_reuse.proofs.inv.covers.Held.{finds_at}
 use Rattle.law_reuse.specs.inv.covers.Tries.{starts_base, is_start}
 use Rattle.law_reuse.specs.inv.links.Tracked.{opened_by}

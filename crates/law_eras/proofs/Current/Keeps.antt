@@ -1,15 +1,16 @@
 -- The record of each history keeps the laws on the clock at the positions of a call.
-use Rattle.std.proofs.Common.{ℕ, ◌≡◌, ◌≤◌, ◌<◌, Bool, true, false, List, [], ◌∷◌, ◌++◌, refl, sym, ap, ◌∙◌, subst, arith}
+use Rattle.std.proofs.Common.{ℕ, ◌≡◌, ◌≤◌, ◌<◌, Bool, true, false, List, [], ◌∷◌, ◌++◌, Some, refl, sym, ap, ◌∙◌, subst, arith}
 use Rattle.std.proofs.lemmas.Bool.Decides.{nat_tests}
 use Rattle.std.specs.Prelude.{◌==◌}
 use Rattle.wfe_core.specs.words.Place.{is_valid}
 use Rattle.wfe_core.specs.words.Place.Place.{Clock}
 use Rattle.wfe_core.specs.words.declared.layout.Layout.{Layout}
 use Rattle.wfe_core.specs.defs.declared.call.Call.{Call}
+use Rattle.wfe_core.specs.defs.declared.call.Call.TheVariants as names
 use Rattle.wfe_core.specs.defs.declared.event.Event.{Event}
 use Rattle.wfe_core.specs.defs.declared.event.Event.TheVariants as events
-use Rattle.wfe_core.specs.Calls.{Why, Phase, Idle, Runs, Scans, Works}
-use Rattle.wfe_core.specs.Locals.{Local, after, begun, told_by}
+use Rattle.wfe_core.specs.Calls.{Why, Phase, Idle, Runs, Scans, Works, StoreHeld, Keeping}
+use Rattle.wfe_core.specs.Locals.{Local, after, begun, told_by, may_begin, busy_in}
 use Rattle.wfe_core.specs.Phases.{Base}
 use Rattle.wfe_core.specs.Phases.BeginAt.{LoadLower}
 use Rattle.wfe_core.specs.Phases.ProtectAt.{LoadClock, CheckClock, LoadOwnClock, CheckOwnClock, CheckUpper}
@@ -36,13 +37,13 @@ use Rattle.law_reuse.specs.inv.history.Record.{Past, Each, EachEntry, tells_of}
 use Rattle.law_reuse.specs.inv.history.Record.Past.{Then}
 use Rattle.law_reuse.proofs.inv.history.Entries.{entries_of_each}
 use Rattle.law_reuse.specs.inv.history.History.{Item, Begins, Steps, Made, fits, done, done_if, did, made_from, made_of, first_made, record_of}
-use Rattle.law_reuse.proofs.inv.history.Along.{begins_right, low_seat, made_snoc}
+use Rattle.law_reuse.proofs.inv.history.Along.{begins_right, low_seat, made_snoc, begins_within, Steady, items_keep}
 use Rattle.law_reuse.specs.inv.Known.{Known}
 use Rattle.law_reuse.proofs.inv.Inv.Begun.{known_start, known_begin}
 use Rattle.law_reuse.proofs.inv.Inv.Kept.{known_kept, asked_next}
 use Rattle.law_reuse.proofs.inv.Inv.Whole.{origins_need}
 use Rattle.law_reuse.proofs.inv.Machines.{within_of}
-use Rattle.laws.specs.StateAt.{clock_of}
+use Rattle.laws.specs.StateAt.{clock_of, value_of}
 use Rattle.law_eras.proofs.EraLaw.Keeps.{record_clock}
 use Rattle.laws.specs.HistoryEras.{birth_current, retire_current, reserve_current}
 use Rattle.law_eras.specs.Records.{RecordsGiveCurrent, RecordsRetireCurrent, RecordsReserveCurrent}
@@ -50,7 +51,15 @@ use Rattle.law_eras.proofs.Current.Ages.{loads_base, BaseHears, Loads, PhaseSinc
 use Rattle.law_eras.proofs.Current.Answers.{Answers}
 use Rattle.law_eras.proofs.Current.Heard.{answers_step, answers_begin, answers_start, hears_since, same_answers}
 use Rattle.law_eras.proofs.Current.Positions.{begun_at, cut_at, since_low, begun_stays, begun_other, cut_stays}
-use Rattle.law_eras.proofs.Current.Tells.{current_ok, led_each, step_led}
+use Rattle.law_eras.proofs.Current.Tells.{current_ok, Copies, step_led}
+use Rattle.wfe_core.specs.Guards.{one_era}
+use Rattle.law_reuse.specs.inv.covers.Covers.{eras_shown}
+use Rattle.law_reuse.proofs.Holding.Holds.{record_values}
+use Rattle.law_reuse.proofs.inv.requests.Known.{copying}
+use Rattle.wfe_core.specs.defs.declared.event.Guard.{Guard}
+use Rattle.wfe_core.specs.defs.declared.event.Guard.TheVariants.{Index}
+use Rattle.law_answers.proofs.AnswersTold.Answering as answering
+use Rattle.law_answers.proofs.AnswersTold.Owed.{Serves}
 
 -- a World is that of a history
 pub record OfItems (layout : Layout) (made : Made) : Type 0 where
@@ -64,6 +73,15 @@ next_items layout made item e h =
 pub tie : (layout : Layout) (made : Made) → is_valid layout ≡ true → OfItems layout made → clock_of made.past ≡ made.world.mem Clock
 tie layout made d h = subst (λ (m : Made). clock_of m.past ≡ m.world.mem Clock) (sym h.is) (record_clock layout h.items d)
 
+values_of : (layout : Layout) (made : Made) (guard : Guard) → is_valid layout ≡ true → OfItems layout made → value_of guard made.past ≡ eras_shown made.world guard
+values_of layout made guard d h = subst (λ (m : Made). value_of guard m.past ≡ eras_shown m.world guard) (sym h.is) (record_values layout h.items guard d)
+
+history_answers : (layout : Layout) (items : List Item) → is_valid layout ≡ true → answering.Keeps layout.config.buckets (made_of layout items)
+history_answers layout items d = items_keep (answering.Keeps layout.config.buckets) steady items (first_made layout) (answering.first_keeps layout d)
+  where
+    steady : Steady (answering.Keeps layout.config.buckets)
+    steady = record { begins = λ made i call b y m g. answering.begin_keeps layout.config.buckets made i call y m g; steps = λ made i b y g. answering.step_keeps layout.config.buckets made i b y g }
+
 -- what a history keeps
 pub record Current (layout : Layout) (made : Made) : Type 0 where
   pub table : made.world.layout ≡ layout
@@ -75,6 +93,21 @@ pub record Current (layout : Layout) (made : Made) : Type 0 where
   pub seats : (k : ℕ) → PhaseSince (begun_at k made.past) (cut_at k made.past) (made.world.seat k).phase
   pub answers : Answers made.world asked (λ k. begun_at k made.past)
   pub law : Each current_ok made.past
+
+-- at its second step a copy is the call that the seat began last, and the index word that it copies publishes the era
+calls_serve : (layout : Layout) (made : Made) → is_valid layout ≡ true → OfItems layout made → answering.Keeps layout.config.buckets made
+calls_serve layout made d h = subst (answering.Keeps layout.config.buckets) (sym h.is) (history_answers layout h.items d)
+
+copies_of : (layout : Layout) (made : Made) (i from index era : ℕ) → is_valid layout ≡ true → Current layout made → (made.world.seat i).phase ≡ Works (Keeping (StoreHeld from index era)) → Copies made.past i from index era
+copies_of layout made i from index era d g f =
+    let w : World = made.world in
+    let a = (calls_serve layout made d g.of).seats i in
+    let b : busy_in (w.seat i).phase ≡ true = ap busy_in f in
+    let s : (w.seat i).call ≡ names.Copy from index = subst (Serves (w.seat i).call) f (a.serves b) in
+    record {
+      began = a.began b ∙ ap (λ (call : Call). Some call) s;
+      shows = values_of layout made (Index i from) d g.of ∙ ap one_era ((copying w g.asked i g.known.valid g.known.requests).publishes from index era f);
+    }
 
 -- a step that loads the clock finds it
 loads_clock : (w : World) (i : ℕ) (why : Why) (base : Base) → (w.seat i).phase ≡ Runs why base → loads_base base ≡ true → finds w i ≡ w.mem Clock
@@ -155,7 +188,7 @@ step_current layout made i d h b g =
       seats = λ k. step_since w i k made.past g.asked (k == i) refl n e g.seats g.answers;
       answers = same_answers (step w i) q.0 (λ k. begun_at k made.past) (λ k. begun_at k (tells_of made.past i (told_in w i))) (λ k. begun_stays k i (told_in w i) made.past (within_of w i))
           (answers_step w i g.asked q.0 (λ k. begun_at k made.past) (cut_at i made.past) n q.1.deal (λ k. subst (λ (x : ℕ). begun_at k made.past ≤ x) e (since_low _ made.past)) (g.seats i) g.answers);
-      law = led_each i (told_in w i) made.past (step_led w i made.past e (g.known.eras.seats i).phase (g.seats i)) g.law;
+      law = step_led w i made.past e (g.known.eras.seats i).phase (g.seats i) (λ from index era f. copies_of layout made i from index era d g f) g.law;
     }
 
 -- a call begins
@@ -172,8 +205,8 @@ begin_since w i k call p z false q v s f =
     subst (λ (l : Local). PhaseSince (begun_at k later) (cut_at k later) l.phase) (sym (begin_stays w i k call q))
     (same_since (begun_at k p) (begun_at k later) (cut_at k p) (cut_at k later) (w.seat k).phase (begun_other k i (events.Begin call) p q) (λ s. refl) (f k))
 
-begin_current : (layout : Layout) (made : Made) (i : ℕ) (call : Call) → is_valid layout ≡ true → fits made.world (Begins i call) ≡ true → is_busy made.world i ≡ false → Current layout made → Current layout (done made (Begins i call))
-begin_current layout made i call d h f g =
+begin_current : (layout : Layout) (made : Made) (i : ℕ) (call : Call) → is_valid layout ≡ true → fits made.world (Begins i call) ≡ true → is_busy made.world i ≡ false → may_begin made.world.layout.config call ≡ true → Current layout made → Current layout (done made (Begins i call))
+begin_current layout made i call d h f m g =
     let w : World = made.world in
     let k = g.known in
     let q = requests_begin w i call g.asked k.valid f k.seats k.requests in
@@ -182,16 +215,19 @@ begin_current layout made i call d h f g =
       rows = g.rows;
       line = g.line;
       asked = q.0;
-      known = known_begin w i call g.rows g.line g.asked q.0 f k q.1.facts q.1.deal;
+      known = known_begin w i call g.rows g.line g.asked q.0 f m k q.1.facts q.1.deal;
       of = next_items layout made (Begins i call) h g.of;
-      seats = λ m. begin_since w i m call made.past g.asked (m == i) refl k.valid (k.seats.fits i).post g.seats;
-      answers = answers_begin w i call g.asked q.0 (λ m. begun_at m made.past) (λ m. begun_at m (Then made.past i (events.Begin call))) f k.requests q.1.deal (λ m e. begun_other m i (events.Begin call) made.past e) g.answers;
+      seats = λ j. begin_since w i j call made.past g.asked (j == i) refl k.valid (k.seats.fits i).post g.seats;
+      answers = answers_begin w i call g.asked q.0 (λ j. begun_at j made.past) (λ j. begun_at j (Then made.past i (events.Begin call))) f k.requests q.1.deal (λ j e. begun_other j i (events.Begin call) made.past e) g.answers;
       law = (refl, g.law);
     }
 
 item_current : (layout : Layout) (made : Made) (item : Item) (fit : Bool) → fits made.world item ≡ fit → is_valid layout ≡ true → Current layout made → Current layout (done_if made item fit)
 item_current layout made item false f d g = g
-item_current layout made (Begins i call) true f d g = begin_current layout made i call d f (begins_right i made.world.layout.config.seats (is_busy made.world i) f) g
+item_current layout made (Begins i call) true f d g =
+    let seats : ℕ = made.world.layout.config.seats in
+    let may : Bool = may_begin made.world.layout.config call in
+    begin_current layout made i call d f (begins_right i seats (is_busy made.world i) may f) (begins_within i seats (is_busy made.world i) may f) g
 item_current layout made (Steps i) true f d g = step_current layout made i d f (low_seat i made.world.layout.config.seats (is_busy made.world i) f) g
 
 items_current : (layout : Layout) (items : List Item) (made : Made) → is_valid layout ≡ true → Current layout made → Current layout (made_from made items)

@@ -10,7 +10,7 @@ use Rattle.wfe_core.specs.defs.declared.event.Event.{Event}
 use Rattle.wfe_core.specs.defs.declared.event.Event.TheVariants as events
 use Rattle.wfe_core.specs.defs.declared.lifetime.Interval.{Interval}
 use Rattle.wfe_core.specs.declared.post.Post.{Post}
-use Rattle.wfe_core.specs.Calls.{ChangeKept, EnqueueKept, ReadGuard, GiveBack, GetAt, FindVersion, ChangeAt, LoadVersion, EnqueueAt, LoadNumber, DequeueAt, LoadTail, Work, Getting, Changing, Enqueuing, Dequeuing, Why, Phase, Idle, Runs, Scans, Works}
+use Rattle.wfe_core.specs.Calls.{ChangeKept, EnqueueKept, ReadGuard, GiveBack, GetAt, FindVersion, Loosens, LoadHeld, StoreHeld, Looks, Misses, ChangeAt, LoadVersion, EnqueueAt, LoadNumber, DequeueAt, LoadTail, Work, Getting, Changing, Enqueuing, Dequeuing, Keeping, Why, Phase, Idle, Runs, Scans, Works}
 use Rattle.wfe_core.specs.Change.{change_move}
 use Rattle.wfe_core.specs.Dequeue.{dequeue_move}
 use Rattle.wfe_core.specs.Enqueue.{enqueue_move}
@@ -31,18 +31,19 @@ use Rattle.wfe_core.specs.Posts.{counted, lower, upper}
 use Rattle.wfe_core.specs.Steps as steps
 use Rattle.wfe_core.specs.World.{World, step, told_in}
 use Rattle.wfe_core.specs.words.Schemes.{is_ibr}
-use Rattle.law_reuse.specs.inv.shapes.Eras.{TurnIn, SpanIn}
+use Rattle.law_reuse.specs.inv.shapes.Eras.{TurnIn, SpanIn, work_eras}
 use Rattle.std.specs.List.{filter}
 use Rattle.law_reuse.specs.inv.history.Record.{Past}
 use Rattle.law_reuse.specs.inv.history.Record.Past.{Then}
 use Rattle.laws.proofs.Along.{along, Single, OfKind, along_kind}
-use Rattle.law_eras.proofs.EraLaw.Shapes.{shape_single}
+use Rattle.law_eras.proofs.EraLaw.Shapes.{shape_single, work_single}
 use Rattle.law_reuse.proofs.inv.ends.Told.Rows.{own_told, step_filter}
 use Rattle.law_reuse.proofs.inv.ends.Told.Turns.{is_later}
 use Rattle.laws.specs.StateAt.{born_by, birth_of, ticked_by, clock_of}
 use Rattle.law_reuse.proofs.Holding.Values.{Ranges}
 use Rattle.laws.specs.HistoryEras.{span_ok, era_ok}
-use Rattle.law_reuse.proofs.inv.history.MayTell.{Tells, base_shows, span_of, is_find, shape_of, base_all}
+use Rattle.law_reuse.proofs.inv.history.MayTell.{Tells, base_shows, span_of, is_find, shape_of, base_all, work_all}
+use Rattle.law_reuse.proofs.inv.history.Passes.{work_told}
 use Rattle.law_reuse.proofs.inv.history.AllOf.{all_of}
 use Rattle.wfe_core.proofs.Facts.{first_of, rest_of, number_is}
 use Rattle.wfe_core.specs.Allocate.{is_claimed}
@@ -222,7 +223,7 @@ base_dates layout mem p i (Move (ExchangeClock era)) post c r b = clock_dates la
 base_dates layout mem p i (Move at) post c r b = other_dates layout mem p i (Move at) post (finding mem (Move at) post) refl c r b
 base_dates layout mem p i base post c r b = other_dates layout mem p i base post (finding mem base post) refl c r b
 
--- a call's own steps and those of a scan tell nothing of eras
+-- a call's own steps leave the clock
 change_clock : (mem : Place → ℕ) (kept : ChangeKept) (at : ChangeAt) (post : Post) → written mem (change_move kept at post) places.Clock ≡ mem places.Clock
 change_clock mem kept (LoadVersion slot) post = refl
 change_clock mem kept at post = refl
@@ -244,17 +245,38 @@ work_clock mem (Getting key at) post = get_clock mem at
 work_clock mem (Changing kept at) post = change_clock mem kept at post
 work_clock mem (Enqueuing kept at) post = enqueue_clock mem kept at
 work_clock mem (Dequeuing at) post = dequeue_clock mem at
+work_clock mem (Keeping (Loosens let_go)) post = refl
+work_clock mem (Keeping (LoadHeld from index)) post = refl
+work_clock mem (Keeping (StoreHeld from index era)) post = refl
+work_clock mem (Keeping (Looks index key at)) post = get_clock mem at
+work_clock mem (Keeping (Misses index)) post = refl
 
-phase_dates : (layout : Layout) (mem : Place → ℕ) (p : Past) (i : ℕ) (phase : Phase) (post : Post) → clock_of p ≡ mem places.Clock → ((why : Why) (base : Base) → phase ≡ Runs why base → Ranges layout (mem places.Clock) post base × Retired p base)
+-- a copy publishes an era that the clock has shown
+stored_most : (clock from index era : ℕ) (work : Work) → work ≡ Keeping (StoreHeld from index era) → work_eras clock work → era ≤ clock
+stored_most clock from index era work e h = subst (work_eras clock) e h
+
+work_dates : (layout : Layout) (mem : Place → ℕ) (p : Past) (i : ℕ) (work : Work) (post : Post) → clock_of p ≡ mem places.Clock → work_eras (mem places.Clock) work
+    → Dates layout.config p i (mem places.Clock) (dated (work_told work (counted post))) (written mem (steps.work_move work post) places.Clock)
+work_dates layout mem p i work post c h =
+    let told : List Event = work_told work (counted post) in
+    record {
+      single = work_single is_dated (era_ok layout.config) p i (λ index slot. refl) (λ from index slot. refl) work (counted post)
+          (λ from index era e. one_ok layout.config.scheme era (mem places.Clock) (clock_of p) c (stored_most (mem places.Clock) from index era work e h));
+      ticks = sym (along_kind ticked_by is_dated ticks_quiet told (mem places.Clock))
+          ∙ no_ticks told (mem places.Clock) (work_all (λ event. not (is_tick event)) (λ index slot. refl) (λ from index slot. refl) (λ seat index era. refl) work (counted post))
+          ∙ sym (work_clock mem work post);
+    }
+
+phase_dates : (layout : Layout) (mem : Place → ℕ) (p : Past) (i : ℕ) (phase : Phase) (post : Post) → clock_of p ≡ mem places.Clock → ((why : Why) (base : Base) → phase ≡ Runs why base → Ranges layout (mem places.Clock) post base × Retired p base) → ((work : Work) → phase ≡ Works work → work_eras (mem places.Clock) work)
     → Dates layout.config p i (mem places.Clock) (dated (own_told phase (counted post) (memory.found (steps.phase_move phase post) (mem (place_in (steps.phase_move phase post)))))) (written mem (steps.phase_move phase post) places.Clock)
-phase_dates layout mem p i Idle post c r = record { single = tt; ticks = refl }
-phase_dates layout mem p i (Runs why base) post c r = let x = r why base refl in base_dates layout mem p i base post c x.0 x.1
-phase_dates layout mem p i (Scans later (ReadGuard number)) post c r = record { single = tt; ticks = refl }
-phase_dates layout mem p i (Scans later (GiveBack place slot)) post c r = record { single = tt; ticks = refl }
-phase_dates layout mem p i (Works work) post c r = record { single = tt; ticks = sym (work_clock mem work post) }
+phase_dates layout mem p i Idle post c r h = record { single = tt; ticks = refl }
+phase_dates layout mem p i (Runs why base) post c r h = let x = r why base refl in base_dates layout mem p i base post c x.0 x.1
+phase_dates layout mem p i (Scans later (ReadGuard number)) post c r h = record { single = tt; ticks = refl }
+phase_dates layout mem p i (Scans later (GiveBack place slot)) post c r h = record { single = tt; ticks = refl }
+phase_dates layout mem p i (Works work) post c r h = work_dates layout mem p i work post c (h work refl)
 
 -- a step
-pub step_dates : (w : World) (i : ℕ) (p : Past) → clock_of p ≡ w.mem places.Clock → ((why : Why) (base : Base) → (w.seat i).phase ≡ Runs why base → Ranges w.layout (w.mem places.Clock) (w.seat i).post base × Retired p base)
+pub step_dates : (w : World) (i : ℕ) (p : Past) → clock_of p ≡ w.mem places.Clock → ((why : Why) (base : Base) → (w.seat i).phase ≡ Runs why base → Ranges w.layout (w.mem places.Clock) (w.seat i).post base × Retired p base) → ((work : Work) → (w.seat i).phase ≡ Works work → work_eras (w.mem places.Clock) work)
     → Dates w.layout.config p i (w.mem places.Clock) (filter is_dated (told_in w i)) ((step w i).mem places.Clock)
-step_dates w i p c r =
-    subst (λ (es : List Event). Dates w.layout.config p i (w.mem places.Clock) es ((step w i).mem places.Clock)) (sym (step_filter is_dated w i later_undated)) (phase_dates w.layout w.mem p i (w.seat i).phase (w.seat i).post c r)
+step_dates w i p c r h =
+    subst (λ (es : List Event). Dates w.layout.config p i (w.mem places.Clock) es ((step w i).mem places.Clock)) (sym (step_filter is_dated w i later_undated)) (phase_dates w.layout w.mem p i (w.seat i).phase (w.seat i).post c r h)

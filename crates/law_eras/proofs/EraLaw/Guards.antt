@@ -15,7 +15,7 @@ use Rattle.wfe_core.specs.defs.declared.event.Event.TheVariants as events
 use Rattle.wfe_core.specs.defs.declared.event.Guard.{Guard}
 use Rattle.wfe_core.specs.defs.declared.event.Guard.TheVariants.{Helper, Index, Whole}
 use Rattle.wfe_core.specs.declared.post.Post.{Post}
-use Rattle.wfe_core.specs.Calls.{ReadGuard, GiveBack, Why, Phase, Idle, Runs, Scans, Works}
+use Rattle.wfe_core.specs.Calls.{ReadGuard, GiveBack, Why, StoreHeld, Work, Keeping, Phase, Idle, Runs, Scans, Works}
 use Rattle.wfe_core.specs.Guards.{guard_at, guards_by, guard_by, index_at}
 use Rattle.wfe_core.specs.Phases.{Base, Endless, Failed}
 use Rattle.wfe_core.specs.Phases.BeginAt.{LoadLower, PublishSpan}
@@ -23,6 +23,7 @@ use Rattle.wfe_core.specs.Phases.ProtectAt.{PublishEra, PublishHelper, TakeAnswe
 use Rattle.wfe_core.specs.Phases.MoveAt.{ShowEra, HandOver, HideEra, HideLate}
 use Rattle.wfe_core.specs.Phases.Base.{Begin, Protect, Clear, Finish, Release, Move}
 use Rattle.wfe_core.specs.Posts.{counted}
+use Rattle.wfe_core.specs.Rounds.{scheme_of}
 use Rattle.wfe_core.specs.World.{World, told_in, finds}
 use Rattle.wfe_core.proofs.Facts.{both, first_of, rest_of, and_true, false_of_not, lt_test, number_is}
 use Rattle.wfe_core.proofs.Ranges.{bounds_of}
@@ -32,7 +33,10 @@ use Rattle.law_reuse.specs.inv.history.History.{Made, first_made, record_of}
 use Rattle.law_reuse.specs.inv.history.Record.{Past, Each, tells_of}
 use Rattle.law_reuse.specs.inv.history.Record.Past.{Then}
 use Rattle.law_reuse.specs.inv.shapes.Eras.{base_eras}
+use Rattle.law_reuse.specs.inv.shapes.Frame.{Copied, WorkFits}
 use Rattle.law_reuse.specs.inv.shapes.Seats.{PhaseFits, base_fits}
+use Rattle.law_reuse.specs.inv.shapes.Slots.{CopyIn, PhaseIn, WorkIn}
+use Rattle.law_eras.proofs.EraLaw.Shapes.{work_passes}
 use Rattle.law_reuse.proofs.inv.Inv.Shapes.{index_in}
 use Rattle.law_reuse.proofs.inv.history.AllOf.{all_of}
 use Rattle.law_reuse.proofs.inv.history.Along.{Steady, items_keep}
@@ -85,7 +89,7 @@ stores_whole c (Begin LoadLower) f h = absurd (cc)
 stores_whole c (Protect aim index root made (RaiseUpper era)) f h = f
 stores_whole c (Protect aim index root made at) f h = absurd (cc)
 stores_whole c Finish f h = f
-stores_whole c Release f h = f
+stores_whole c (Release index) f h = f
 stores_whole c base f h = absurd (cc)
 
 -- so the guard is one of the table
@@ -116,7 +120,7 @@ stored_guard layout clock base post found (Index seat index) d b r h = by (base_
     by : (own : Bool) → base_index base index ≡ own → (if own then seat == post.seat else hands base found seat index) ≡ true → is_guard layout.config (Index seat index) ≡ true
     by true e h =
         index_there layout.config seat index (stores_index layout.config base index r.run.fits e) (same_below seat post.seat layout.config.seats h b)
-        (subst (λ (x : ℕ). nat_lt x layout.config.indexes ≡ true) (sym (own_index base index e)) (lt_test (index_base base) layout.config.indexes (index_in layout r.why base post d r.run)))
+        (subst (λ (x : ℕ). nat_lt x layout.config.indexes ≡ true) (sym (own_index base index e)) (lt_test (index_base base) layout.config.indexes (index_in layout r.why base post d r.within r.run)))
     by false e h = handed_guard layout clock base post found seat index r.run.fits r.eras h
 stored_guard layout clock base post found (Whole seat) d b r h =
     both (has_one_interval layout.config.scheme) (nat_lt seat layout.config.seats) (stores_whole layout.config base r.run.fits (first_of (base_whole base) (seat == post.seat) h))
@@ -131,6 +135,15 @@ told_guard layout clock base post found (events.Reserve guard span) d b r t = st
     stored (Whole seat) h = h
 told_guard layout clock base post found (events.Read guard span) d b r t = absurd (cc)
 told_guard layout clock base post found event d b r t = refl
+
+-- and the one of the index that a copy goes to
+copied_guard : (layout : Layout) (work : Work) (post : Post) (from index era : ℕ) → post.seat < layout.config.seats → post.layout ≡ layout → work ≡ Keeping (StoreHeld from index era) → WorkFits post work → WorkIn layout.config work → is_guard layout.config (Index post.seat index) ≡ true
+copied_guard layout work post from index era b t e f m =
+    let kept : Copied from post = subst (WorkFits post) e f in
+    let within : CopyIn layout.config from index = subst (WorkIn layout.config) e m in
+    index_there layout.config post.seat index
+    (subst (λ (table : Layout). publishes_eras table.config.scheme ≡ true) t (other_eras (scheme_of post) kept.plain))
+    (lt_test post.seat layout.config.seats b) (lt_test index layout.config.indexes within.below)
 
 -- a guard that is read
 index_read : (c : Config) (k : ℕ) → publishes_eras c.scheme ≡ true → 1 ≤ c.indexes → k < c.seats * c.indexes → is_guard c (index_at c k) ≡ true
@@ -154,16 +167,17 @@ guard_passes c = record { quiet = quiet_one; clears = λ index slot. refl }
     quiet_one (events.Read guard span) q = absurd (cc)
     quiet_one event q = refl
 
-phase_guards : (layout : Layout) (clock : ℕ) (phase : Phase) (post : Post) (found : ℕ) → is_valid layout ≡ true → post.seat < layout.config.seats → post.layout ≡ layout → PhaseFits layout post phase → ((why : Why) (base : Base) → phase ≡ Runs why base → Ranges layout clock post base)
+phase_guards : (layout : Layout) (clock : ℕ) (phase : Phase) (post : Post) (found : ℕ) → is_valid layout ≡ true → post.seat < layout.config.seats → post.layout ≡ layout → PhaseFits layout post phase → ((why : Why) (base : Base) → phase ≡ Runs why base → Ranges layout clock post base) → ((work : Work) → phase ≡ Works work → WorkIn layout.config work)
     → First (λ p told. all_of (is_guarded layout.config) told ≡ true) phase (counted post) found
-phase_guards layout clock Idle post found d b t f r = refl
-phase_guards layout clock (Runs why base) post found d b t f r = base_all (is_guarded layout.config) base (counted post) found (λ event. told_guard layout clock base post found event d b (r why base refl))
-phase_guards layout clock (Scans later (ReadGuard number)) post found d b t f r =
+phase_guards layout clock Idle post found d b t f r m = refl
+phase_guards layout clock (Runs why base) post found d b t f r m = base_all (is_guarded layout.config) base (counted post) found (λ event. told_guard layout clock base post found event d b (r why base refl))
+phase_guards layout clock (Scans later (ReadGuard number)) post found d b t f r m =
     and_true (is_guard layout.config (guard_at post.layout.config number))
     (subst (λ (table : Layout). is_guard layout.config (guard_at table.config number) ≡ true) (sym t)
     (read_guard layout.config number layout.config.scheme refl (let i = (bounds_of layout d).indexes in omega (arith, i.0)) (grind (arith, nat_tests))))
-phase_guards layout clock (Scans later (GiveBack place slot)) post found d b t f r = refl
-phase_guards layout clock (Works work) post found d b t f r = refl
+phase_guards layout clock (Scans later (GiveBack place slot)) post found d b t f r m = refl
+phase_guards layout clock (Works work) post found d b t f r m =
+    work_passes (is_guarded layout.config) (λ index slot. refl) (λ from index slot. refl) work (counted post) (λ from index era e. copied_guard layout work post from index era b t e f (m work refl))
 
 told_all : (ok : Event → Bool) (i : ℕ) (told : List Event) (p : Past) → all_of ok told ≡ true → Each (λ q k event. ok event) p → Each (λ q k event. ok event) (tells_of p i told)
 told_all ok i [] p h g = g
@@ -182,11 +196,11 @@ step_guards layout made i b h =
     let s : (w.seat i).post.seat < w.layout.config.seats = subst (λ (x : ℕ). x < w.layout.config.seats) (sym f.post.seat) b in
     subst (λ (table : Layout). all_of (is_guarded table.config) (told_in w i) ≡ true) h.table
     (step_all (is_guarded w.layout.config) (guard_passes w.layout.config) (w.seat i).phase (counted (w.seat i).post) (w.seat i).desk (finds w i)
-    (phase_guards w.layout (w.mem Clock) (w.seat i).phase (w.seat i).post (finds w i) k.valid s f.post.layout f.phase (λ why base e. ranges_of w i h.rows h.line h.asked why base k e)))
+    (phase_guards w.layout (w.mem Clock) (w.seat i).phase (w.seat i).post (finds w i) k.valid s f.post.layout f.phase (λ why base e. ranges_of w i h.rows h.line h.asked why base k e) (λ work e. subst (PhaseIn w.layout (w.seat i).desk) e (k.slots.seats i).phase)))
 
 steady : (layout : Layout) → Steady (Guarded layout)
 steady layout = record {
-  begins = λ made i call b y g. record { held = begin_held layout made i call y g.held; law = (refl, g.law) };
+  begins = λ made i call b y m g. record { held = begin_held layout made i call y m g.held; law = (refl, g.law) };
   steps = λ made i b y g. record { held = step_held layout made i b g.held; law = told_all (is_guarded layout.config) i (told_in made.world i) made.past (step_guards layout made i b g.held) g.law };
 }
 

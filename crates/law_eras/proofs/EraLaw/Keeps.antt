@@ -7,6 +7,8 @@ use Rattle.wfe_core.specs.words.declared.layout.Layout.{Layout}
 use Rattle.wfe_core.specs.defs.declared.call.Call.{Call}
 use Rattle.wfe_core.specs.defs.declared.event.Event.{Event}
 use Rattle.wfe_core.specs.Calls.{Why, Phase, Runs}
+use Rattle.wfe_core.specs.Locals.{may_begin}
+use Rattle.law_reuse.specs.inv.shapes.Eras.{PhaseEras}
 use Rattle.wfe_core.specs.Phases.{Base}
 use Rattle.wfe_core.specs.World.{World, finds, is_busy, step, told_in}
 use Rattle.law_reuse.specs.inv.rows.Rows.RowMove.{Lists}
@@ -51,7 +53,8 @@ dates_of layout made i g =
     let w : World = made.world in
     let h = g.held in
     subst (λ (table : Layout). Dates table.config made.past i (w.mem Clock) (filter is_dated (told_in w i)) ((step w i).mem Clock)) h.table
-    (step_dates w i made.past g.clock (λ why base e. (ranges_of w i h.rows h.line h.asked why base h.known e, retired_of layout made i why base h e)))
+    (step_dates w i made.past g.clock (λ why base e. (ranges_of w i h.rows h.line h.asked why base h.known e, retired_of layout made i why base h e))
+    (λ work e. subst (PhaseEras w.layout (w.mem Clock) (w.seat i).post) e (h.known.eras.seats i).phase))
 
 owned_of : (layout : Layout) (made : Made) (i : ℕ) → Held layout made → Single (guard_ok layout.config.scheme) made.past i (filter is_reserve (told_in made.world i))
 owned_of layout made i h =
@@ -60,8 +63,8 @@ owned_of layout made i h =
     (step_owned w i made.past (h.known.seats.fits i).post.seat
     (λ why base e. hands_of w i h.asked made.past why base h.known.requests (h.tied.values (Helper i)) e (ranges_of w i h.rows h.line h.asked why base h.known e)))
 
-begin_dated : (layout : Layout) (made : Made) (i : ℕ) (call : Call) → is_busy made.world i ≡ false → Dated layout made → Dated layout (done made (Begins i call))
-begin_dated layout made i call f g = record { held = begin_held layout made i call f g.held; clock = g.clock; law = (refl, g.law); guards = (refl, g.guards) }
+begin_dated : (layout : Layout) (made : Made) (i : ℕ) (call : Call) → is_busy made.world i ≡ false → may_begin made.world.layout.config call ≡ true → Dated layout made → Dated layout (done made (Begins i call))
+begin_dated layout made i call f m g = record { held = begin_held layout made i call f m g.held; clock = g.clock; law = (refl, g.law); guards = (refl, g.guards) }
 
 step_dated : (layout : Layout) (made : Made) (i : ℕ) → i < made.world.layout.config.seats → Dated layout made → Dated layout (done made (Steps i))
 step_dated layout made i b g =
@@ -75,7 +78,7 @@ step_dated layout made i b g =
     }
 
 steady : (layout : Layout) → Steady (Dated layout)
-steady layout = record { begins = λ made i call b y g. begin_dated layout made i call y g; steps = λ made i b y g. step_dated layout made i b g }
+steady layout = record { begins = λ made i call b y m g. begin_dated layout made i call y m g; steps = λ made i b y g. step_dated layout made i b g }
 
 history_dated : (layout : Layout) (items : List Item) → is_valid layout ≡ true → Dated layout (made_of layout items)
 history_dated layout items d = items_keep (Dated layout) (steady layout) items (first_made layout) (record { held = first_held layout d; clock = refl; law = tt; guards = tt })

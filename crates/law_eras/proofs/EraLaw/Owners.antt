@@ -23,7 +23,7 @@ use Rattle.std.specs.List.{filter}
 use Rattle.law_reuse.specs.inv.history.Record.{Past}
 use Rattle.law_reuse.specs.inv.history.Record.Past.{Then}
 use Rattle.laws.proofs.Along.{Single, OfKind}
-use Rattle.law_eras.proofs.EraLaw.Shapes.{shape_single}
+use Rattle.law_eras.proofs.EraLaw.Shapes.{shape_single, work_single}
 use Rattle.law_reuse.proofs.inv.ends.Told.Rows.{own_told, step_filter}
 use Rattle.law_reuse.proofs.inv.ends.Told.Turns.{is_later}
 use Rattle.law_reuse.proofs.Holding.Values.{Ranges}
@@ -118,7 +118,8 @@ phase_owned scheme p i Idle post found e h = tt
 phase_owned scheme p i (Runs why base) post found e h = base_owned scheme p i base post found e (h why base refl)
 phase_owned scheme p i (Scans later (ReadGuard number)) post found e h = tt
 phase_owned scheme p i (Scans later (GiveBack place slot)) post found e h = tt
-phase_owned scheme p i (Works work) post found e h = tt
+phase_owned scheme p i (Works work) post found e h =
+    work_single is_reserve (guard_ok scheme) p i (λ index slot. refl) (λ from index slot. refl) work (counted post) (λ from index era q. own_seat post.seat i _ e)
 
 pub step_owned : (w : World) (i : ℕ) (p : Past) → (w.seat i).post.seat ≡ i → ((why : Why) (base : Base) → (w.seat i).phase ≡ Runs why base → Hands w.layout.config.scheme p i base) → Single (guard_ok w.layout.config.scheme) p i (filter is_reserve (told_in w i))
 step_owned w i p e h =

@@ -1,12 +1,23 @@
--- A law on events of which a step tells one at most is kept where each event that a machine's step may tell keeps it.
-use Rattle.std.proofs.Common.{ℕ, ◌≡◌, Bool, true, false, List, [], ◌∷◌, refl, sym, ap, subst, None}
+-- A law on events of which a step tells one at most is kept where each event that a machine's step may tell keeps it, and what the
+-- second step of a copy publishes.
+use Rattle.std.proofs.Common.{ℕ, ◌≡◌, ◌∙◌, Bool, true, false, List, [], ◌∷◌, ◌++◌, refl, sym, ap, subst, Option, Some, None}
+use Rattle.std.proofs.lemmas.List.Elements.{filter-append}
 use Rattle.std.specs.List.{filter}
 use Rattle.std.specs.Prelude.{if◌then◌else◌}
 use Rattle.wfe_core.specs.Phases.{Base}
 use Rattle.wfe_core.specs.declared.post.Post.{Post}
 use Rattle.wfe_core.specs.defs.declared.event.Event.{Event}
 use Rattle.wfe_core.specs.defs.declared.event.Event.TheVariants as events
-use Rattle.law_reuse.proofs.inv.history.MayTell.{Shape, Silent, Clears, Takes, Tells, is_find}
+use Rattle.law_reuse.proofs.inv.history.MayTell.{Shape, Silent, Clears, Takes, Tells, is_find, cleared_all}
+use Rattle.law_reuse.proofs.inv.history.AllOf.{all_of, of_along}
+use Rattle.law_reuse.proofs.inv.history.Passes.{copied_told, keep_told, work_told}
+use Rattle.wfe_core.proofs.Facts.{and_true}
+use Rattle.wfe_core.specs.Calls.{KeepAt, Loosens, LoadHeld, StoreHeld, Looks, Misses, Work, Getting, Changing, Enqueuing, Dequeuing, Keeping}
+use Rattle.wfe_core.specs.Guards.{one_era}
+use Rattle.wfe_core.specs.Posts.{cleared, stands, reserves_index}
+use Rattle.wfe_core.specs.Rounds.{scheme_of, let_index}
+use Rattle.wfe_core.specs.defs.declared.event.Guard.TheVariants.{Index}
+use Rattle.wfe_core.specs.words.Schemes.{has_one_interval}
 use Rattle.law_reuse.specs.inv.history.Record.{Past, Test}
 use Rattle.laws.proofs.Along.{Single}
 
@@ -33,3 +44,75 @@ shape_single kind ok p i c f base post found told (Takes guard span event e t q 
         by : (b : Bool) → (if b then event ∷ filter kind (other ∷ []) else filter kind (other ∷ [])) ≡ (if b then event ∷ [] else [])
         by true = ap (λ (es : List Event). event ∷ es) (kept_none kind other [] k)
         by false = kept_none kind other [] k
+
+-- the same of a call's own step: of such a kind it tells at most what the second step of a copy publishes
+cleared_filter : (kind : Event → Bool) (index : ℕ) (x : Option ℕ) → ((index slot : ℕ) → kind (events.Clear index slot) ≡ false) → filter kind (cleared index x) ≡ []
+cleared_filter kind index None c = refl
+cleared_filter kind index (Some slot) c = kept_none kind (events.Clear index slot) [] (c index slot)
+
+no_more : (xs : List Event) → xs ++ [] ≡ xs
+no_more [] = refl
+no_more (x ∷ xs) = ap (λ (rest : List Event). x ∷ rest) (no_more xs)
+
+copied_filter : (kind : Event → Bool) (from index slot : ℕ) (post : Post) (reserved : List Event) → ((index slot : ℕ) → kind (events.Clear index slot) ≡ false) → ((from index slot : ℕ) → kind (events.Copied from index slot) ≡ false)
+    → filter kind (copied_told from index post reserved (Some slot)) ≡ filter kind reserved
+copied_filter kind from index slot post reserved c d =
+    let gone : List Event = cleared index (stands post index) in
+    filter-append kind (gone ++ reserved) (events.Copied from index slot ∷ [])
+    ∙ ap (λ (es : List Event). filter kind (gone ++ reserved) ++ es) (kept_none kind (events.Copied from index slot) [] (d from index slot))
+    ∙ no_more (filter kind (gone ++ reserved))
+    ∙ filter-append kind gone reserved
+    ∙ ap (λ (es : List Event). es ++ filter kind reserved) (cleared_filter kind index (stands post index) c)
+
+copied_single : (kind : Event → Bool) (ok : Test) (p : Past) (i from index : ℕ) (post : Post) (reserved : List Event) (x : Option ℕ) → ((index slot : ℕ) → kind (events.Clear index slot) ≡ false) → ((from index slot : ℕ) → kind (events.Copied from index slot) ≡ false)
+    → Single ok p i (filter kind reserved) → Single ok p i (filter kind (copied_told from index post reserved x))
+copied_single kind ok p i from index post reserved None c d h = tt
+copied_single kind ok p i from index post reserved (Some slot) c d h = subst (λ (es : List Event). Single ok p i es) (sym (copied_filter kind from index slot post reserved c d)) h
+
+load_single : (kind : Event → Bool) (ok : Test) (p : Past) (i from index : ℕ) (post : Post) (one : Bool) → ((index slot : ℕ) → kind (events.Clear index slot) ≡ false) → ((from index slot : ℕ) → kind (events.Copied from index slot) ≡ false)
+    → Single ok p i (filter kind (if one then copied_told from index post [] (stands post from) else []))
+load_single kind ok p i from index post true c d = copied_single kind ok p i from index post [] (stands post from) c d tt
+load_single kind ok p i from index post false c d = tt
+
+keep_single : (kind : Event → Bool) (ok : Test) (p : Past) (i : ℕ) → ((index slot : ℕ) → kind (events.Clear index slot) ≡ false) → ((from index slot : ℕ) → kind (events.Copied from index slot) ≡ false)
+    → (at : KeepAt) (post : Post) → ((from index era : ℕ) → at ≡ StoreHeld from index era → ok p i (events.Reserve (Index post.seat index) (one_era era)) ≡ true) → Single ok p i (filter kind (keep_told at post))
+keep_single kind ok p i c d (Loosens let_go) post h = rw (cleared_filter kind (let_index let_go) (stands post (let_index let_go)) c) tt
+keep_single kind ok p i c d (LoadHeld from index) post h = load_single kind ok p i from index post (has_one_interval (scheme_of post)) c d
+keep_single kind ok p i c d (StoreHeld from index era) post h =
+    let event : Event = events.Reserve (Index post.seat index) (one_era era) in
+    copied_single kind ok p i from index post (reserves_index post index era) (stands post from) c d (kept_one kind ok p i event (kind event) refl (h from index era refl))
+keep_single kind ok p i c d (Looks index key at) post h = tt
+keep_single kind ok p i c d (Misses index) post h = tt
+
+pub work_single : (kind : Event → Bool) (ok : Test) (p : Past) (i : ℕ) → ((index slot : ℕ) → kind (events.Clear index slot) ≡ false) → ((from index slot : ℕ) → kind (events.Copied from index slot) ≡ false)
+    → (work : Work) (post : Post) → ((from index era : ℕ) → work ≡ Keeping (StoreHeld from index era) → ok p i (events.Reserve (Index post.seat index) (one_era era)) ≡ true) → Single ok p i (filter kind (work_told work post))
+work_single kind ok p i c d (Getting key at) post h = tt
+work_single kind ok p i c d (Changing kept at) post h = tt
+work_single kind ok p i c d (Enqueuing kept at) post h = tt
+work_single kind ok p i c d (Dequeuing at) post h = tt
+work_single kind ok p i c d (Keeping at) post h = keep_single kind ok p i c d at post (λ from index era e. h from index era (ap (λ (x : KeepAt). Keeping x) e))
+
+-- a test that passes whatever such a step tells
+copied_all : (ok : Event → Bool) (from index : ℕ) (post : Post) (reserved : List Event) (x : Option ℕ) → ((index slot : ℕ) → ok (events.Clear index slot) ≡ true) → ((from index slot : ℕ) → ok (events.Copied from index slot) ≡ true) → all_of ok reserved ≡ true → all_of ok (copied_told from index post reserved x) ≡ true
+copied_all ok from index post reserved None c d h = refl
+copied_all ok from index post reserved (Some slot) c d h =
+    of_along ok (cleared index (stands post index) ++ reserved) (events.Copied from index slot ∷ [])
+    (of_along ok (cleared index (stands post index)) reserved (cleared_all ok index (stands post index) c) h) (and_true (ok (events.Copied from index slot)) (d from index slot))
+
+load_all : (ok : Event → Bool) (from index : ℕ) (post : Post) (one : Bool) → ((index slot : ℕ) → ok (events.Clear index slot) ≡ true) → ((from index slot : ℕ) → ok (events.Copied from index slot) ≡ true)
+    → all_of ok (if one then copied_told from index post [] (stands post from) else []) ≡ true
+load_all ok from index post true c d = copied_all ok from index post [] (stands post from) c d refl
+load_all ok from index post false c d = refl
+
+pub work_passes : (ok : Event → Bool) → ((index slot : ℕ) → ok (events.Clear index slot) ≡ true) → ((from index slot : ℕ) → ok (events.Copied from index slot) ≡ true)
+    → (work : Work) (post : Post) → ((from index era : ℕ) → work ≡ Keeping (StoreHeld from index era) → ok (events.Reserve (Index post.seat index) (one_era era)) ≡ true) → all_of ok (work_told work post) ≡ true
+work_passes ok c d (Getting key at) post h = refl
+work_passes ok c d (Changing kept at) post h = refl
+work_passes ok c d (Enqueuing kept at) post h = refl
+work_passes ok c d (Dequeuing at) post h = refl
+work_passes ok c d (Keeping (Loosens let_go)) post h = cleared_all ok (let_index let_go) (stands post (let_index let_go)) c
+work_passes ok c d (Keeping (LoadHeld from index)) post h = load_all ok from index post (has_one_interval (scheme_of post)) c d
+work_passes ok c d (Keeping (StoreHeld from index era)) post h =
+    copied_all ok from index post (reserves_index post index era) (stands post from) c d (and_true (ok (events.Reserve (Index post.seat index) (one_era era))) (h from index era refl))
+work_passes ok c d (Keeping (Looks index key at)) post h = refl
+work_passes ok c d (Keeping (Misses index)) post h = refl

@@ -23,11 +23,12 @@ use Rattle.wfe_core.specs.World.{World, finds, told_in}
 use Rattle.wfe_core.specs.Phases.{Base, Ending, Outcome, Goes, Ends}
 use Rattle.wfe_core.specs.Phases.Base.{Protect}
 use Rattle.wfe_core.specs.Phases.Ending.{Done, Protected, Followed, Allocated, Retired, Clocked}
-use Rattle.wfe_core.specs.Calls.{Task, Gets, Changes, Holds, Enqueues, Dequeues, Why, Opens, GetAt, FindVersion, FindCount, FindKey, FindValue, Work, Getting, Changing, Enqueuing, Dequeuing, ReadGuard, GiveBack, Phase, Idle, Runs, Scans, Works, CallOutcome, GoesOn, Answers}
+use Rattle.wfe_core.specs.Calls.{Task, Gets, Changes, Holds, Enqueues, Dequeues, Why, Opens, GetAt, FindVersion, FindCount, FindKey, FindValue, Work, Getting, Changing, Enqueuing, Dequeuing, Keeping, ReadGuard, GiveBack, Phase, Idle, Runs, Scans, Works, CallOutcome, GoesOn, Answers}
 use Rattle.wfe_core.proofs.Frames.{after_same}
 use Rattle.wfe_core.proofs.Facts.{same_number, first_of, rest_of, zero_test}
 use Rattle.law_places.specs.inv.contents.Contents.{ground_of}
 use Rattle.law_places.specs.inv.contents.Knows.{Knows, GetKnows, FoundRow, get_reads, reads_in}
+use Rattle.law_places.specs.inv.contents.Stands.{read_index}
 use Rattle.law_places.proofs.answers.OneStep.Along.{Kept, history_keeps}
 use Rattle.law_places.proofs.inv.links.Origins.Ends.{ends_with}
 use Rattle.law_places.specs.inv.links.Origins.{ends_base}
@@ -43,7 +44,7 @@ use Rattle.law_places.proofs.inv.history.AllOf.{all_of, of_weaker}
 use Rattle.law_places.proofs.inv.Machines.{is_machine, base_machine, clear_machine}
 use Rattle.laws.proofs.Tells.{seen_tells, tells_both}
 use Rattle.law_places.proofs.reuse.Reuse.Keeps.{record_stands}
-use Rattle.law_places.proofs.inv.history.Passes.{Closing, First, get_allows, ending_allows, why_allows, outcome_allows, work_allows, phase_allows, step_closes}
+use Rattle.law_places.proofs.inv.history.Passes.{Closing, First, get_allows, ending_allows, why_allows, outcome_allows, work_allows, work_told, phase_allows, step_closes}
 use Rattle.law_held.proofs.Roots.Ways.{record_each}
 use Rattle.law_places.proofs.inv.ends.Told.Rows.{own_told}
 use Rattle.law_places.specs.inv.history.Heard.{heard_of}
@@ -52,7 +53,8 @@ use Rattle.law_held.specs.Records.{RecordsTellRows}
 use Rattle.law_held.proofs.GotRows.Nulled.{nulled, nulled_at, NulledIn, step_nulled, begin_nulled, ended_null}
 use Rattle.law_held.proofs.GotRows.Rowed.{Rowed, step_rowed, begin_rowed, first_book_rowed}
 use Rattle.law_places.proofs.inv.handover.Asks.{run_of}
-use Rattle.law_places.proofs.answers.Lawful.Gots.{cleared_table}
+use Rattle.law_places.proofs.answers.Lawful.Gots.{cleared_table, work_table}
+use Rattle.law_places.proofs.inv.history.MayTell.{work_all}
 
 -- what is told but what a get tells
 abbrev is_gotless : Event → Bool
@@ -130,14 +132,14 @@ own_gotless Idle post found = refl
 own_gotless (Runs why base) post found = machines_gotless (machine.after base post found).told (base_machine base post found)
 own_gotless (Scans later (ReadGuard number)) post found = refl
 own_gotless (Scans later (GiveBack place slot)) post found = refl
-own_gotless (Works work) post found = refl
+own_gotless (Works work) post found = work_all is_gotless (λ index slot. refl) (λ from index slot. refl) (λ seat index era. refl) work post
 
 first_before : (layout : Layout) (phase : Phase) (post : Post) (found : ℕ) → post.layout ≡ layout → First (Before layout (own_told phase post found)) phase post found
 first_before layout Idle post found e = (e, refl)
 first_before layout (Runs why base) post found e = ((after_same base post found).layout ∙ e, refl)
 first_before layout (Scans later (ReadGuard number)) post found e = (e, refl)
 first_before layout (Scans later (GiveBack place slot)) post found e = (e, refl)
-first_before layout (Works work) post found e = (e, refl)
+first_before layout (Works work) post found e = (work_table work post ∙ e, refl)
 
 -- no row is that of version 0
 zero_changed : (b : ℕ) (p : Past) (x y : Option ℕ) (same : Bool) → y ≡ None → (if same then (if count_of b p + 1 == 0 then x else y) else y) ≡ None
@@ -156,7 +158,7 @@ version_right b version i s p true e r t =
     let n : row_at b version p ≡ None = ap (λ (v : ℕ). row_at b v p) z ∙ zero_row b p in absurd (cc)
 version_right b version i s p false e r t = rw (r, t) (same_number s)
 
-row_right : (w : World) (i key slot version : ℕ) (p : Past) → FoundRow (ground_of w) key slot version → stood_at i 0 p ≡ Some slot → Rowed w.book p → got_right (key % w.layout.config.buckets) version i p ≡ true
+row_right : (w : World) (i key slot version : ℕ) (p : Past) → FoundRow (ground_of w) (key % w.layout.config.buckets) slot version → stood_at i 0 p ≡ Some slot → Rowed w.book p → got_right (key % w.layout.config.buckets) version i p ≡ true
 row_right w i key slot version p h t g =
     let r = g.rows slot (key % w.layout.config.buckets) h.root in
     let at : row_at (key % w.layout.config.buckets) version p ≡ Some slot = subst (λ (n : ℕ). row_at (key % w.layout.config.buckets) n p ≡ Some slot) (sym h.shown) r.1 in
@@ -166,22 +168,23 @@ row_right w i key slot version p h t g =
 record Sees (w : World) (i : ℕ) (p : Past) : Type 0 where
   seats : Seats w
   knows : Knows (ground_of w) (w.seat i).phase
-  stood : (s : ℕ) → reads_in (w.seat i).phase s ≡ true → stood_at i 0 p ≡ Some s
+  stood : (s : ℕ) → reads_in (w.seat i).phase s ≡ true → stood_at i (read_index (w.seat i).phase) p ≡ Some s
   rowed : Rowed w.book p
   nulls : NulledIn w p i
 
-get_right : (w : World) (i key : ℕ) (at : GetAt) (p : Past) → GetKnows (ground_of w) key at → ((s : ℕ) → get_reads at s ≡ true → stood_at i 0 p ≡ Some s) → Rowed w.book p → get_allows (Allowed w.layout.config.buckets i p) key at
+get_right : (w : World) (i key : ℕ) (at : GetAt) (p : Past) → GetKnows (ground_of w) (key % w.layout.config.buckets) key at → ((s : ℕ) → get_reads at s ≡ true → stood_at i 0 p ≡ Some s) → Rowed w.book p → get_allows (Allowed w.layout.config.buckets i p) key at
 get_right w i key (FindVersion slot) p k t g = tt
 get_right w i key (FindCount slot version) p k t g = row_right w i key slot version p k (t slot (same_number slot)) g
 get_right w i key (FindKey slot version count pair) p k t g = row_right w i key slot version p k.row (t slot (same_number slot)) g
 get_right w i key (FindValue slot version pair) p k t g = row_right w i key slot version p k.row (t slot (same_number slot)) g
 
-work_right : (w : World) (i : ℕ) (work : Work) (p : Past) → (w.seat i).phase ≡ Works work → Sees w i p → work_allows (Allowed w.layout.config.buckets i p) work
+work_right : (w : World) (i : ℕ) (work : Work) (p : Past) → (w.seat i).phase ≡ Works work → Sees w i p → work_allows (Allowed w.layout.config.buckets i (tells_of p i (work_told work (counted (w.seat i).post)))) work
 work_right w i (Getting key at) p e s =
-    get_right w i key at p (subst (Knows (ground_of w)) e s.knows) (λ slot h. s.stood slot (ap (λ (x : Phase). reads_in x slot) e ∙ h)) s.rowed
+    get_right w i key at p (subst (Knows (ground_of w)) e s.knows) (λ slot h. subst (λ (x : Phase). stood_at i (read_index x) p ≡ Some slot) e (s.stood slot (ap (λ (x : Phase). reads_in x slot) e ∙ h))) s.rowed
 work_right w i (Changing kept at) p e s = tt
 work_right w i (Enqueuing kept at) p e s = tt
 work_right w i (Dequeuing at) p e s = tt
+work_right w i (Keeping at) p e s = tt
 
 null_right : (w : World) (i key : ℕ) (base : Base) (p : Past) → (w.seat i).phase ≡ Runs (Opens (Gets key)) base → ends_base (counted (w.seat i).post) base (finds w i) 0 ≡ true → Sees w i p → null_of i (tells_of p i (machine.after base (counted (w.seat i).post) (finds w i)).told) ≡ true
 null_right w i key (Protect aim index root made at) p e d s =
@@ -234,7 +237,7 @@ record GotsKept (made : Made) (h : schedule.History) : Type 0 where
 
 kept : Kept GotsKept
 kept = record {
-  begins = λ made h i call a b f g. record {
+  begins = λ made h i call a b f m g. record {
     rowed = begin_rowed made.world.book made.past i call g.rowed;
     nulls = λ k. begin_nulled made.world i k call made.past (k == i) refl a.known.known.valid a.known.known.seats g.nulls;
   };
@@ -255,5 +258,5 @@ records_tell_rows layout items d = record_each layout gots_ok items (record {
       let a : Inv w = inv_reached layout path d in
       let m = gots_of layout path d in
       step_gots w i (record_of layout path)
-      (record { seats = a.known.seats; knows = a.known.contents.seats i; stood = λ s e. record_stands layout path i 0 d ∙ (a.known.stands.stood i).reads s e; rowed = m.rowed; nulls = m.nulls i }) g;
+      (record { seats = a.known.seats; knows = a.known.contents.seats i; stood = λ s e. record_stands layout path i (read_index (w.seat i).phase) d ∙ (a.known.stands.stood i).reads s e; rowed = m.rowed; nulls = m.nulls i }) g;
 })

@@ -24,7 +24,7 @@ use Rattle.wfe_core.specs.Machine.{after, protect_turn}
 use Rattle.wfe_core.specs.Memory.{bump}
 use Rattle.wfe_core.specs.Posts.{counted, upper, with_row, reserves_helper}
 use Rattle.wfe_core.specs.Protect.{held_post, told_held, concluded, protected, failed_once, trying}
-use Rattle.wfe_core.specs.Rounds.{scheme_of, index_of, protect_at, release_base}
+use Rattle.wfe_core.specs.Rounds.{scheme_of, index_of, protect_at}
 use Rattle.wfe_core.specs.SlowPath.{own_request, answer_in, lost_turn}
 use Rattle.wfe_core.specs.World.{World, begin, step, finds, told_in}
 use Rattle.wfe_core.specs.Phases.BeginAt.{LoadLower, PublishSpan}
@@ -41,7 +41,7 @@ use Rattle.law_places.specs.inv.shapes.Seats.{PostFits, PhaseFits, Run, Seats, K
 use Rattle.law_places.proofs.inv.shapes.Frame.{seat_stays, seat_steps, begin_stays, begin_begins, after_seated, begun_seated, moves_with}
 use Rattle.law_places.proofs.inv.shapes.Shapes.{shape_grows}
 use Rattle.law_places.proofs.inv.shapes.Inside.{shape_moves}
-use Rattle.law_places.proofs.inv.shapes.Kept.{counted_fits, run_counted, begun_fits}
+use Rattle.law_places.proofs.inv.shapes.Kept.{counted_fits, run_counted, work_counted, begun_fits}
 use Rattle.law_places.specs.inv.history.Record.{Past, tells_of}
 use Rattle.law_places.specs.inv.history.Record.Past.{Then}
 use Rattle.laws.proofs.Along.{along}
@@ -49,6 +49,7 @@ use Rattle.law_places.proofs.Placing.Sums.{along_both}
 use Rattle.laws.proofs.Tells.{seen_tells, seen_stays, seen_other}
 use Rattle.law_places.proofs.inv.ends.Told.Rows.{own_told, own_post, step_adds}
 use Rattle.law_places.proofs.inv.ends.Told.Turns.{Adds, is_later}
+use Rattle.law_places.proofs.inv.ends.Told.Births.{each_stores}
 use Rattle.laws.specs.StateAt.{null_by, null_of}
 
 -- where an answer was taken whose link is null, index 0 was told null
@@ -76,17 +77,13 @@ starts_at He told = refl
 starts_at Ibr told = refl
 starts_at Wfe told = refl
 
-release_starts : (scheme : SchemeKind) (told : Bool) → nulled_base (release_base scheme) told ≡ true
-release_starts He told = refl
-release_starts Ibr told = refl
-release_starts Wfe told = refl
-
 null_grows : (layout : Layout) (k : ℕ) (told : Bool) → is_valid layout ≡ true → Grows (PostFits layout k) (In told)
 null_grows layout k told v =
     let g = shape_grows layout k v in
     record {
       guarded = g.guarded;
       withdraws = g.withdraws;
+      copies = g.copies;
       idle = λ post q. refl;
       begins = λ post task ibr none q. refl;
       opens = λ post task s q. or_more (not (index_of task == 0)) (nulled_at (protect_at (scheme_of post)) told) (starts_at (scheme_of post) told);
@@ -100,10 +97,11 @@ null_grows layout k told v =
       retires = λ post answer slot q. refl;
       tidies = λ post later q. refl;
       advances = λ post q. refl;
-      releases = λ post key q. release_starts (scheme_of post) told;
+      clears_kept = λ post let_go n q. refl;
+      releases = λ post let_go a b q. refl;
       scans = λ post later number b q. refl;
       gives_back = λ post later place slot q. refl;
-      works = λ post work s q. refl;
+      works = λ post work stores s q. refl;
     }
 
 -- a step inside a protection
@@ -225,13 +223,14 @@ owed : (layout : Layout) (k : ℕ) → is_valid layout ≡ true → (phase : Pha
 owed layout k v Idle post found was q f h = counted_fits layout k post q
 owed layout k v (Runs why base) post found was q f h = run_nulled layout k v why base (counted post) found was (counted_fits layout k post q) (run_counted layout why base post f) h
 owed layout k v (Scans later at) post found was q f h = counted_fits layout k post q
-owed layout k v (Works work) post found was q f h = record { post = counted_fits layout k post q; span = f }
+owed layout k v (Works work) post found was q f h = record { post = counted_fits layout k post q; fits = work_counted work post f; stores = each_stores (λ p phase. In (along null_by (own_told (Works work) (counted post) found) was) p phase) (λ p from index era. refl) (counted post) found work }
 
 -- what comes after a machine changes nothing of it
 later_one : (event : Event) (x : Bool) → is_later event ≡ true → null_by event x ≡ x
 later_one (events.Begin call) x h = absurd (cc)
 later_one (events.Held index slot count) x h = absurd (cc)
 later_one (events.Null index count) x h = absurd (cc)
+later_one (events.Copied from index slot) x h = absurd (cc)
 later_one event x h = refl
 
 later_null : (told : List Event) (x : Bool) → list_all is_later told ≡ true → along null_by told x ≡ x

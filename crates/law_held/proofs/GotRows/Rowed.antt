@@ -16,7 +16,7 @@ use Rattle.wfe_core.specs.Locals.{told_end, turn}
 use Rattle.wfe_core.specs.Memory.{upd}
 use Rattle.wfe_core.specs.Posts.{counted}
 use Rattle.wfe_core.specs.World.{World, finds, step, told_in}
-use Rattle.wfe_core.specs.Calls.{ChangeKept, EnqueueKept, LoadVersion, LoadCount, LoadKey, LoadValue, ExchangeRoot, LoadNumber, LoadNext, PassTail, ExchangeNext, ExchangeTail, LoadTail, SwingTail, TakeNumber, TakeValue, ExchangeHead, Getting, Changing, Enqueuing, Dequeuing, Phase, Idle, Runs, Scans, Works, CallTurn, CallOutcome, GoesOn, Answers}
+use Rattle.wfe_core.specs.Calls.{ChangeKept, EnqueueKept, LoadVersion, LoadCount, LoadKey, LoadValue, ExchangeRoot, LoadNumber, LoadNext, PassTail, ExchangeNext, ExchangeTail, LoadTail, SwingTail, TakeNumber, TakeValue, ExchangeHead, Getting, Changing, Enqueuing, Dequeuing, Keeping, Phase, Idle, Runs, Scans, Works, CallTurn, CallOutcome, GoesOn, Answers}
 use Rattle.wfe_core.proofs.Facts.{same_number, first_of, rest_of}
 use Rattle.law_places.proofs.inv.contents.Contents.Told.{booked_append}
 use Rattle.law_places.specs.inv.history.Record.{Past, tells_of}
@@ -205,6 +205,7 @@ first_rowed a p i (Works (Enqueuing kept LoadNext)) post found g = g
 first_rowed a p i (Works (Enqueuing kept (PassTail next))) post found g = moved_rowed a p i (next - 1) (found == kept.tail + 1) g
 first_rowed a p i (Works (Enqueuing kept (ExchangeNext slot))) post found g = queued_rowed a p i kept slot (found == 0) g
 first_rowed a p i (Works (Enqueuing kept (ExchangeTail slot))) post found g = moved_rowed a p i slot (found == kept.tail + 1) g
+first_rowed a p i (Works (Keeping at)) post found g = g
 first_rowed a p i (Works (Dequeuing (LoadTail head))) post found g = g
 first_rowed a p i (Works (Dequeuing (SwingTail head next))) post found g = moved_rowed a p i next (found == head + 1) g
 first_rowed a p i (Works (Dequeuing (TakeNumber head next))) post found g = g

@@ -11,6 +11,7 @@ use Rattle.wfe_core.specs.defs.declared.event.Root.{Root}
 use Rattle.wfe_core.specs.declared.post.Post.{Post}
 use Rattle.wfe_core.specs.Allocate as allocates
 use Rattle.wfe_core.specs.Desks.{Desk, with_life}
+use Rattle.wfe_core.specs.Keep as keeps
 use Rattle.wfe_core.specs.Locals.{told_by, told_end}
 use Rattle.wfe_core.specs.Machine as machine
 use Rattle.wfe_core.specs.Memory.{bump}
@@ -28,7 +29,7 @@ use Rattle.wfe_core.specs.Phases.ProtectAt.{PublishEra, CheckClock, PublishHelpe
 use Rattle.wfe_core.specs.Phases.AllocateAt.{LoadBirth, ClaimSlot, StoreLife}
 use Rattle.wfe_core.specs.Phases.Base.{Begin, Protect, Reload, Clear, Allocate, Write}
 use Rattle.wfe_core.specs.Phases.Ending.{Done, Protected, Followed, Allocated, Retired, Clocked}
-use Rattle.wfe_core.specs.Calls.{Task, Next, Again, MakeRoom, Answering, Retiring, AfterScan, Answered, Repeated, Counted, Why, Opens, FollowsHead, Fills, ClearsNext, Clears, Finishes, GivesUp, Retires, Tidies, Advances, Releases, GiveBack, Runs, Scans, CallTurn, CallOutcome, GoesOn, Answers}
+use Rattle.wfe_core.specs.Calls.{Task, Next, Again, MakeRoom, Answering, Retiring, AfterScan, Answered, Repeated, Counted, Why, Opens, FollowsHead, Fills, ClearsNext, Clears, Finishes, GivesUp, Retires, Tidies, Advances, Releases, LetGo, Released, Rehold, Dropped, GiveBack, Runs, Scans, CallTurn, CallOutcome, GoesOn, Answers}
 use Rattle.wfe_core.proofs.Facts.{first_of, rest_of, false_not_true}
 use Rattle.law_places.proofs.inv.history.MayTell as may
 use Rattle.law_places.proofs.inv.history.MayTell.{concluded_told, Silent, Single, Takes, takes, shape_of, held_any}
@@ -97,6 +98,7 @@ quiet_settled (event ∷ es) h =
     one (events.Retire slot birth retire) q = absurd (cc)
     one (events.Back slot) q = absurd (cc)
     one (events.Held index slot steps) q = absurd (cc)
+    one (events.Copied from index slot) q = absurd (cc)
     one (events.Clear index slot) q = absurd (cc)
     one event q = refl
 
@@ -128,7 +130,7 @@ plain_settled why base post desk found n =
     let h = step_goes (Onto (machine.after base post found).told) (onto_closed (machine.after base post found).told) (Runs why base) post desk found (n, none_more (machine.after base post found).told) in h.1
 
 -- where nothing is cleared any more
-end_settled : (post : Post) (outcome : CallOutcome) → all_of is_settled (told_end post outcome) ≡ true
+pub end_settled : (post : Post) (outcome : CallOutcome) → all_of is_settled (told_end post outcome) ≡ true
 end_settled post (GoesOn phase) = refl
 end_settled post (Answers answer) = refl
 
@@ -173,9 +175,10 @@ advanced_told (Followed end) post desk told = refl
 advanced_told (Allocated end) post desk told = refl
 advanced_told (Retired life) post desk told = refl
 
-released_told : (key : Option ℕ) (post : Post) (desk : Desk) (told : List Event) → (steps.released key post desk told).told ≡ told
-released_told None post desk told = refl
-released_told (Some key) post desk told = refl
+released_told : (let_go : LetGo) (post : Post) (desk : Desk) (told : List Event) → (keeps.released let_go post desk told).told ≡ told
+released_told Released post desk told = refl
+released_told (Rehold key) post desk told = refl
+released_told (Dropped index) post desk told = refl
 
 abbrev is_shut : Why → Bool
 is_shut (Opens task) = false
@@ -188,7 +191,7 @@ is_shut (GivesUp answer) = true
 is_shut (Retires answer) = true
 is_shut (Tidies later) = true
 is_shut Advances = true
-is_shut (Releases key) = true
+is_shut (Releases let_go) = true
 
 shut_resume : (why : Why) (ending : Ending) (post : Post) (desk : Desk) (told : List Event) → is_shut why ≡ true → (steps.resume why ending post desk told).told ≡ told
 shut_resume (Finishes task next) ending post desk told h = closed_told task next post desk told
@@ -196,7 +199,7 @@ shut_resume (GivesUp answer) ending post desk told h = refl
 shut_resume (Retires answer) ending post desk told h = retired_told answer ending post desk told
 shut_resume (Tidies later) ending post desk told h = tidied_told later ending post desk told
 shut_resume Advances ending post desk told h = advanced_told ending post desk told
-shut_resume (Releases key) ending post desk told h = released_told key post desk told
+shut_resume (Releases let_go) ending post desk told h = released_told let_go post desk told
 shut_resume why ending post desk told h = absurd (cc)
 
 shut_told : (why : Why) (desk : Desk) (post : Post) (told : List Event) (outcome : Outcome) → is_shut why ≡ true → (steps.resumed why desk post told outcome).told ≡ told

@@ -1,8 +1,8 @@
 -- What stands is held at each position of a history's record.
-use Rattle.std.proofs.Common.{ℕ, ◌≡◌, ◌-◌, Bool, true, false, List, [], ◌∷◌, ◌++◌, Some, None, refl, sym, ap, ◌∙◌, subst, arith}
+use Rattle.std.proofs.Common.{ℕ, ◌≡◌, ◌-◌, ◌⊎◌, inl, inr, Bool, true, false, List, [], ◌∷◌, ◌++◌, Option, Some, None, refl, sym, ap, ◌∙◌, subst, arith}
 use Rattle.std.proofs.lemmas.Bool.Decides.{nat_tests}
 use Rattle.std.specs.List.{list_any, list_all}
-use Rattle.std.specs.Prelude.{◌==◌, ◌&&◌, nat_lt, if◌then◌else◌}
+use Rattle.std.specs.Prelude.{◌==◌, ◌&&◌, ◌||◌, nat_lt, if◌then◌else◌}
 use Rattle.wfe_core.specs.words.Place.{is_valid}
 use Rattle.wfe_core.specs.words.declared.config.Config.{Config}
 use Rattle.wfe_core.specs.words.declared.layout.Layout.{Layout}
@@ -14,17 +14,23 @@ use Rattle.wfe_core.specs.defs.declared.event.Root.TheVariants as roots
 use Rattle.wfe_core.specs.declared.post.Post.{Post}
 use Rattle.wfe_core.proofs.Frames.{after_same}
 use Rattle.wfe_core.specs.Guards.{one_era}
-use Rattle.wfe_core.specs.Locals.{told_by, turn}
+use Rattle.wfe_core.specs.Locals.{told_by, told_end, turn}
 use Rattle.wfe_core.specs.Memory.{bump}
-use Rattle.wfe_core.specs.Posts.{stands, counted}
+use Rattle.wfe_core.specs.Posts.{stands, counted, cleared}
 use Rattle.wfe_core.specs.Protect.{told_held}
 use Rattle.wfe_core.specs.Steps as steps
 use Rattle.wfe_core.specs.World.{World, finds, is_busy, told_in, step}
 use Rattle.wfe_core.specs.Phases.{Aim, Base}
 use Rattle.wfe_core.specs.Phases.ProtectAt.{TakeAnswer}
 use Rattle.wfe_core.specs.Phases.Base.{Protect}
-use Rattle.wfe_core.specs.Calls.{ReadGuard, GiveBack, Why, Phase, Idle, Runs, Scans, Works}
-use Rattle.wfe_core.proofs.Facts.{same_number, rest_of, implies_or, then_of}
+use Rattle.wfe_core.specs.Calls.{ReadGuard, GiveBack, Why, Phase, Idle, Runs, Scans, Works, CallTurn, KeepAt, Loosens, LoadHeld, StoreHeld, Looks, Misses, Work, Getting, Changing, Enqueuing, Dequeuing, Keeping}
+use Rattle.wfe_core.specs.Keep as keeps
+use Rattle.wfe_core.specs.Rounds.{let_index, scheme_of}
+use Rattle.wfe_core.specs.words.Schemes.{has_one_interval}
+use Rattle.wfe_core.specs.defs.declared.event.Guard.{Guard}
+use Rattle.wfe_core.specs.defs.declared.lifetime.Interval.{Interval}
+use Rattle.law_places.proofs.inv.contents.Stands.Rounds.{is_clear}
+use Rattle.wfe_core.proofs.Facts.{both, same_number, first_of, rest_of, implies_or, or_left_true, or_more, then_of}
 use Rattle.law_places.proofs.inv.covers.Resting.{rests_give}
 use Rattle.law_places.proofs.inv.ends.Ends.Held.{held_stands}
 use Rattle.law_places.specs.inv.shapes.Seats.{Seats}
@@ -45,10 +51,14 @@ use Rattle.law_held.proofs.Roots.Ways.{Turning}
 use Rattle.law_places.proofs.inv.ends.Told.Rows.{own_told, own_post, step_adds}
 use Rattle.law_places.proofs.inv.ends.Told.Turns.{Adds, is_later}
 use Rattle.law_held.specs.Records.{RecordsHoldThroughout}
-use Rattle.law_held.proofs.Held.Flat.{is_flat, is_at, holds_ok, Good, late_each, take_each, plain_each}
-use Rattle.law_held.proofs.Held.Forms.{Shape, Even, Late, run_shape, back_shape}
+use Rattle.law_held.proofs.Held.Flat.{is_flat, is_settled, is_at, comes, settled_flat, all_flat, holds_ok, Good, late_each, take_each, copy_each, plain_each}
+use Rattle.law_held.proofs.Held.Forms.{Shape, Even, Late, end_settled, run_shape, back_shape}
 use Rattle.law_held.proofs.Resting.Resting.{next_made}
 use Rattle.wfe_core.specs.defs.Events.{is_held as event_is_held}
+use Rattle.law_places.specs.inv.ends.Stands.{is_copied}
+use Rattle.law_places.proofs.inv.ends.Ends.Copied.{copy_stands}
+use Rattle.law_places.proofs.inv.history.Passes.{copied_told, keep_told}
+use Rattle.law_places.proofs.inv.ends.Told.Turns.{keep_just}
 use Rattle.law_places.proofs.inv.handover.Asks.{run_of}
 use Rattle.law_places.proofs.answers.AnswersTold.Owed.{append_none}
 use Rattle.law_places.proofs.answers.AnswersTold.Answering.{append_one}
@@ -61,12 +71,42 @@ good_at layout path k j s d = λ r. records_hold layout path k j s d (row_of s (
 good_next : (layout : Layout) (path : List Item) (i k j s : ℕ) → is_valid layout ≡ true → Turning layout path i → Good layout.config k j s (tells_of (record_of layout path) i (told_in (world_of layout path) i))
 good_next layout path i k j s d t = subst (λ (m : Made). Good layout.config k j s m.past) (next_made layout path i t) (good_at layout (path ++ Steps i ∷ []) k j s d)
 
-stands_next : (layout : Layout) (path : List Item) (i k j s : ℕ) → is_valid layout ≡ true → Turning layout path i → list_any (event_is_held j s) (told_in (world_of layout path) i) ≡ true → (k == i) ≡ true → is_row s (stood_at k j (tells_of (record_of layout path) i (told_in (world_of layout path) i))) ≡ true
+-- a row that comes to stand is held, or copied from somewhere
+record Copies (j s : ℕ) (told : List Event) : Type 0 where
+  from : ℕ
+  is : list_any (is_copied from j s) told ≡ true
+
+abbrev Came : (j s : ℕ) → List Event → Type 0
+Came j s told = (list_any (event_is_held j s) told ≡ true) ⊎ Copies j s told
+
+came_more : (j s : ℕ) (event : Event) (told : List Event) → Came j s told → Came j s (event ∷ told)
+came_more j s event told (inl h) = inl (or_more (event_is_held j s event) (list_any (event_is_held j s) told) h)
+came_more j s event told (inr x) = inr (record { from = x.from; is = or_more (is_copied x.from j s event) (list_any (is_copied x.from j s) told) x.is })
+
+came_here : (j s : ℕ) (event : Event) (told : List Event) → comes j s event ≡ true → Came j s (event ∷ told)
+came_here j s (events.Held index slot steps) told h = inl (or_left_true ((index == j) && (slot == s)) (list_any (event_is_held j s) told) h)
+came_here j s (events.Copied from index slot) told h =
+    inr (record { from = from; is = or_left_true (is_copied from j s (events.Copied from index slot)) (list_any (is_copied from j s) told) (both (from == from) ((index == j) && (slot == s)) (same_number from) h) })
+came_here j s event told h = absurd (cc)
+
+came_by : (j s : ℕ) (event : Event) (told : List Event) (here : Bool) → comes j s event ≡ here → (list_any (comes j s) told ≡ true → Came j s told) → (here || list_any (comes j s) told) ≡ true → Came j s (event ∷ told)
+came_by j s event told true e f h = came_here j s event told e
+came_by j s event told false e f h = came_more j s event told (f h)
+
+came : (j s : ℕ) (told : List Event) → list_any (comes j s) told ≡ true → Came j s told
+came j s [] h = absurd (cc)
+came j s (event ∷ told) h = came_by j s event told (comes j s event) refl (λ k. came j s told k) h
+
+comes_stands : (w : World) (i j s : ℕ) → Inv w → Came j s (told_in w i) → stands ((step w i).seat i).post j ≡ Some s
+comes_stands w i j s a (inl h) = held_stands w i j s a.known.seats h
+comes_stands w i j s a (inr x) = (copy_stands w i x.from j s a.known.valid a.known.seats a.known.slots x.is).now
+
+stands_next : (layout : Layout) (path : List Item) (i k j s : ℕ) → is_valid layout ≡ true → Turning layout path i → list_any (comes j s) (told_in (world_of layout path) i) ≡ true → (k == i) ≡ true → is_row s (stood_at k j (tells_of (record_of layout path) i (told_in (world_of layout path) i))) ≡ true
 stands_next layout path i k j s d t h o =
     let w : World = world_of layout path in
     let a : Inv w = inv_reached layout path d in
     let one : k ≡ i = grind (arith, nat_tests) in
-    let later : stands ((step w i).seat i).post j ≡ Some s = held_stands w i j s a.known.seats h in
+    let later : stands ((step w i).seat i).post j ≡ Some s = comes_stands w i j s a (came j s (told_in w i) h) in
     let said : stood_at i j (done (made_of layout path) (Steps i)).past ≡ stands ((done (made_of layout path) (Steps i)).world.seat i).post j =
     subst (λ (m : Made). stood_at i j m.past ≡ stands (m.world.seat i).post j) (next_made layout path i t) (record_stands layout (path ++ Steps i ∷ []) i j d) in
     subst (λ (n : ℕ). is_row s (stood_at n j (tells_of (record_of layout path) i (told_in w i))) ≡ true) (sym one) (ap (is_row s) (said ∙ later) ∙ same_number s)
@@ -75,7 +115,7 @@ stands_next layout path i k j s d t h o =
 record Ends (c : Config) (k j s i : ℕ) (p : Past) (es : List Event) : Type 0 where
   now : Good c k j s p
   last : Good c k j s (tells_of p i es)
-  held : list_any (event_is_held j s) es ≡ true → (k == i) ≡ true → is_row s (stood_at k j (tells_of p i es)) ≡ true
+  held : list_any (comes j s) es ≡ true → (k == i) ≡ true → is_row s (stood_at k j (tells_of p i es)) ≡ true
 
 ends_as : (c : Config) (k j s i : ℕ) (p : Past) (xs ys : List Event) → xs ≡ ys → Ends c k j s i p xs → Ends c k j s i p ys
 ends_as c k j s i p xs ys e h = subst (Ends c k j s i p) e h
@@ -157,16 +197,89 @@ not_taking_each c k j s w i p why base q t a e g =
 
 run_each : (c : Config) (k j s : ℕ) (w : World) (i : ℕ) (p : Past) (why : Why) (base : Base) → (w.seat i).phase ≡ Runs why base → Inv w → ((n : ℕ) → stood_at i n p ≡ stands (w.seat i).post n) → Ends c k j s i p (told_in w i) → Each (holds_ok c k j s) p → Each (holds_ok c k j s) (tells_of p i (told_in w i))
 run_each c k j s w i p why (Protect aim index root made (TakeAnswer link era)) q a t e g =
-    let n = rests_give w i why (Protect aim index root made (TakeAnswer link era)) index (rests_need w i a.rows a.known.seats a.known.whole.both.rows) a.known.rests q (same_number index) in
+    let n = rests_give w i why (Protect aim index root made (TakeAnswer link era)) index (rests_need w i a.rows a.known.seats a.known.slots a.known.whole.both.rows) a.known.rests q (same_number index) in
     taking_each c k j s w i p why aim index root made link era q (t index ∙ n) e g
 run_each c k j s w i p why base q a t e g = not_taking_each c k j s w i p why base q refl a.known.seats e g
+
+-- a step on what is kept
+cleared_flat : (index : ℕ) (x : Option ℕ) → all_of is_flat (cleared index x) ≡ true
+cleared_flat index None = refl
+cleared_flat index (Some slot) = refl
+
+copied_flat : (from index : ℕ) (post : Post) (x : Option ℕ) → all_of is_flat (copied_told from index post [] x) ≡ true
+copied_flat from index post None = refl
+copied_flat from index post (Some slot) =
+    of_along is_flat (cleared index (stands post index) ++ []) (events.Copied from index slot ∷ []) (of_along is_flat (cleared index (stands post index)) [] (cleared_flat index (stands post index)) refl) refl
+
+load_flat : (from index : ℕ) (post : Post) (one : Bool) → all_of is_flat (if one then copied_told from index post [] (stands post from) else []) ≡ true
+load_flat from index post true = copied_flat from index post (stands post from)
+load_flat from index post false = refl
+
+cleared_clears : (index : ℕ) (x : Option ℕ) → all_of is_clear (cleared index x) ≡ true
+cleared_clears index None = refl
+cleared_clears index (Some slot) = refl
+
+gone_here : (k j i index : ℕ) (p : Past) (x : Option ℕ) → stood_at i index p ≡ x → ((k == i) && (j == index)) ≡ true → stood_at k j (tells_of p i (cleared index x)) ≡ None
+gone_here k j i index p None e h = none_here k j i index p e h
+gone_here k j i index p (Some slot) e h = rw (first_of (k == i) (j == index) h, rest_of (k == i) (j == index) h) refl
+
+settled_at : (at : ℕ) (told : List Event) → all_of is_settled told ≡ true → all_of (is_at at) told ≡ true
+settled_at at [] h = refl
+settled_at at (event ∷ told) h = both (is_at at event) (all_of (is_at at) told) (one event (first_of (is_settled event) (all_of is_settled told) h)) (settled_at at told (rest_of (is_settled event) (all_of is_settled told) h))
+  where
+    one : (event : Event) → is_settled event ≡ true → is_at at event ≡ true
+    one (events.Held index slot steps) q = absurd (cc)
+    one (events.Copied from index slot) q = absurd (cc)
+    one event q = q
+
+three_apart : (xs : List Event) (y z : Event) (ws : List Event) → ((xs ++ y ∷ []) ++ z ∷ []) ++ ws ≡ xs ++ y ∷ z ∷ ws
+three_apart [] y z ws = refl
+three_apart (x ∷ xs) y z ws = ap (λ (es : List Event). x ∷ es) (three_apart xs y z ws)
+
+store_by : (c : Config) (k j s i : ℕ) (p : Past) (post : Post) (from index : ℕ) (guard : Guard) (span : Option Interval) (x : Option ℕ) (more : List Event) → stood_at i index p ≡ stands post index → all_of is_settled more ≡ true → Ends c k j s i p (copied_told from index post (events.Reserve guard span ∷ []) x ++ more) → Each (holds_ok c k j s) p → Each (holds_ok c k j s) (tells_of p i (copied_told from index post (events.Reserve guard span ∷ []) x ++ more))
+store_by c k j s i p post from index guard span None more o m e g = plain_each c k j s i more p (all_flat is_settled more settled_flat m) e.now e.last e.held g
+store_by c k j s i p post from index guard span (Some slot) more o m e g =
+    let first : List Event = cleared index (stands post index) in
+    let later : List Event = events.Copied from index slot ∷ more in
+    let is = three_apart first (events.Reserve guard span) (events.Copied from index slot) more in
+    let x = ends_as c k j s i p (copied_told from index post (events.Reserve guard span ∷ []) (Some slot) ++ more) (first ++ events.Reserve guard span ∷ later) is e in
+    let at : all_of (is_at index) later ≡ true = both (index == index) (all_of (is_at index) more) (same_number index) (settled_at index more m) in
+    subst (λ (es : List Event). Each (holds_ok c k j s) (tells_of p i es)) (sym is)
+    (copy_each c k j s i index guard span first later p (cleared_clears index (stands post index)) at (λ h. gone_here k j i index p (stands post index) o h) x.now x.last
+    (λ h r. x.held (any_later j s first (events.Reserve guard span ∷ later) h) r) g)
+  where
+    any_later : (j s : ℕ) (xs ys : List Event) → list_any (comes j s) ys ≡ true → list_any (comes j s) (xs ++ ys) ≡ true
+    any_later j s [] ys h = h
+    any_later j s (event ∷ xs) ys h = or_more (comes j s event) (list_any (comes j s) (xs ++ ys)) (any_later j s xs ys h)
+
+store_each : (c : Config) (k j s : ℕ) (w : World) (i : ℕ) (p : Past) (from index era : ℕ) → (w.seat i).phase ≡ Works (Keeping (StoreHeld from index era)) → ((n : ℕ) → stood_at i n p ≡ stands (w.seat i).post n) → Ends c k j s i p (told_in w i) → Each (holds_ok c k j s) p → Each (holds_ok c k j s) (tells_of p i (told_in w i))
+store_each c k j s w i p from index era q o e g =
+    let post : Post = counted (w.seat i).post in
+    let at : KeepAt = StoreHeld from index era in
+    let t : CallTurn = keeps.keep_turn at post (w.seat i).desk (finds w i) in
+    let more : List Event = told_end t.post t.outcome in
+    let is : told_in w i ≡ keep_told at post ++ more =
+    ap (λ (x : Phase). told_by (steps.phase_turn x post (w.seat i).desk (finds w i))) q ∙ ap (λ (es : List Event). es ++ more) (keep_just at post (w.seat i).desk (finds w i)).told in
+    subst (λ (es : List Event). Each (holds_ok c k j s) (tells_of p i es)) (sym is)
+    (store_by c k j s i p post from index (Index post.seat index) (one_era era) (stands post from) more (o index) (end_settled t.post t.outcome) (ends_as c k j s i p (told_in w i) (keep_told at post ++ more) is e) g)
+
+work_each : (c : Config) (k j s : ℕ) (w : World) (i : ℕ) (p : Past) (work : Work) → (w.seat i).phase ≡ Works work → ((n : ℕ) → stood_at i n p ≡ stands (w.seat i).post n) → Ends c k j s i p (told_in w i) → Each (holds_ok c k j s) p → Each (holds_ok c k j s) (tells_of p i (told_in w i))
+work_each c k j s w i p (Keeping (StoreHeld from index era)) q t e g = store_each c k j s w i p from index era q t e g
+work_each c k j s w i p (Keeping (LoadHeld from index)) q t e g = adds_each c k j s w i p (phase_as w i (Works (Keeping (LoadHeld from index))) q (Even (load_flat from index (counted (w.seat i).post) (has_one_interval (scheme_of (counted (w.seat i).post)))))) e g
+work_each c k j s w i p (Keeping (Loosens let_go)) q t e g = adds_each c k j s w i p (phase_as w i (Works (Keeping (Loosens let_go))) q (Even (cleared_flat (let_index let_go) (stands (w.seat i).post (let_index let_go))))) e g
+work_each c k j s w i p (Keeping (Looks index key at)) q t e g = adds_each c k j s w i p (phase_as w i (Works (Keeping (Looks index key at))) q (Even refl)) e g
+work_each c k j s w i p (Keeping (Misses index)) q t e g = adds_each c k j s w i p (phase_as w i (Works (Keeping (Misses index))) q (Even refl)) e g
+work_each c k j s w i p (Getting key at) q t e g = adds_each c k j s w i p (phase_as w i (Works (Getting key at)) q (Even refl)) e g
+work_each c k j s w i p (Changing kept at) q t e g = adds_each c k j s w i p (phase_as w i (Works (Changing kept at)) q (Even refl)) e g
+work_each c k j s w i p (Enqueuing kept at) q t e g = adds_each c k j s w i p (phase_as w i (Works (Enqueuing kept at)) q (Even refl)) e g
+work_each c k j s w i p (Dequeuing at) q t e g = adds_each c k j s w i p (phase_as w i (Works (Dequeuing at)) q (Even refl)) e g
 
 phase_each : (c : Config) (k j s : ℕ) (w : World) (i : ℕ) (p : Past) (phase : Phase) → (w.seat i).phase ≡ phase → Inv w → ((n : ℕ) → stood_at i n p ≡ stands (w.seat i).post n) → Ends c k j s i p (told_in w i) → Each (holds_ok c k j s) p → Each (holds_ok c k j s) (tells_of p i (told_in w i))
 phase_each c k j s w i p Idle q a t e g = adds_each c k j s w i p (phase_as w i Idle q (Even refl)) e g
 phase_each c k j s w i p (Runs why base) q a t e g = run_each c k j s w i p why base q a t e g
 phase_each c k j s w i p (Scans later (ReadGuard number)) q a t e g = adds_each c k j s w i p (phase_as w i (Scans later (ReadGuard number)) q (Even refl)) e g
 phase_each c k j s w i p (Scans later (GiveBack place slot)) q a t e g = adds_each c k j s w i p (phase_as w i (Scans later (GiveBack place slot)) q (back_shape later place slot (counted (w.seat i).post) (w.seat i).desk (finds w i))) e g
-phase_each c k j s w i p (Works work) q a t e g = adds_each c k j s w i p (phase_as w i (Works work) q (Even refl)) e g
+phase_each c k j s w i p (Works work) q a t e g = work_each c k j s w i p work q t e g
 
 -- along a history
 step_each : (layout : Layout) (path : List Item) (i k j s : ℕ) → is_valid layout ≡ true → Turning layout path i → Each (holds_ok layout.config k j s) (record_of layout path) → Each (holds_ok layout.config k j s) (tells_of (record_of layout path) i (told_in (world_of layout path) i))

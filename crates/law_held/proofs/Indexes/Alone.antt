@@ -1,20 +1,21 @@
--- A protection ends only where nothing stands at its index.
+-- A protection ends only where nothing stands at its index, and so a copy is made.
 use Rattle.std.proofs.Common.{ℕ, ◌≡◌, Bool, true, false, List, [], ◌∷◌, ◌++◌, Option, None, refl, sym, ap, ◌∙◌, subst}
-use Rattle.std.specs.Prelude.{◌==◌, ◌&&◌, ◌||◌, not, is_none}
+use Rattle.std.specs.Prelude.{◌==◌, ◌&&◌, ◌||◌, not, is_none, if◌then◌else◌, Some}
 use Rattle.wfe_core.specs.words.Place.{is_valid}
 use Rattle.wfe_core.specs.words.declared.config.SchemeKind.{SchemeKind}
 use Rattle.wfe_core.specs.words.declared.layout.Layout.{Layout}
 use Rattle.wfe_core.specs.defs.declared.event.Event.{Event}
 use Rattle.wfe_core.specs.defs.declared.event.Event.TheVariants as events
 use Rattle.wfe_core.specs.declared.post.Post.{Post}
-use Rattle.wfe_core.specs.Calls.{Task, Gets, Changes, Holds, Enqueues, Dequeues, ReadGuard, GiveBack, Why, Opens, FollowsHead, Phase, Idle, Runs, Scans, Works}
+use Rattle.wfe_core.specs.Calls.{Task, Gets, Changes, Holds, Enqueues, Dequeues, ReadGuard, GiveBack, Why, Opens, FollowsHead, Phase, Idle, Runs, Scans, Works, Work, Getting, Changing, Enqueuing, Dequeuing, Keeping, Loosens, LoadHeld, StoreHeld, Looks, Misses}
 use Rattle.wfe_core.specs.Machine as machine
 use Rattle.wfe_core.specs.Memory.{bump}
 use Rattle.wfe_core.specs.Phases.{ProtectAt, Base}
 use Rattle.wfe_core.specs.Phases.ProtectAt.{CheckClock, TakeAnswer, CheckUpper}
 use Rattle.wfe_core.specs.Phases.Base.{Protect, Reload}
-use Rattle.wfe_core.specs.Posts.{stands, counted}
-use Rattle.wfe_core.specs.Rounds.{index_of, scheme_of, clear_told}
+use Rattle.wfe_core.specs.Posts.{stands, counted, cleared, reserves_index}
+use Rattle.wfe_core.specs.Rounds.{index_of, scheme_of, clear_told, let_index}
+use Rattle.wfe_core.specs.words.Schemes.{has_one_interval}
 use Rattle.wfe_core.specs.World.{World, finds, told_in}
 use Rattle.wfe_core.proofs.Facts.{same_number, first_of, rest_of, number_is}
 use Rattle.law_places.specs.inv.covers.Rests.{Vacant, bare, vacant, vacant_why}
@@ -23,9 +24,9 @@ use Rattle.law_places.specs.inv.history.History.{record_of, world_of}
 use Rattle.law_places.specs.inv.history.Record.{Past, Each, tells_of}
 use Rattle.law_places.specs.inv.history.Record.Past.{Then}
 use Rattle.law_places.proofs.inv.history.MayTell.{Shape, Silent, Clears, Takes, Tells, at_finds, finds_none, finds_row, shape_of, clear_any}
-use Rattle.law_places.proofs.inv.history.Passes.{is_quiet, all_quiet, Closed, First, step_goes}
+use Rattle.law_places.proofs.inv.history.Passes.{is_quiet, all_quiet, Closed, First, copied_told, step_goes, work_told}
 use Rattle.law_places.proofs.inv.handover.Asks.{run_of}
-use Rattle.law_places.proofs.reuse.Reuse.Follows.{stood}
+use Rattle.law_places.proofs.reuse.Reuse.Follows.{stood, stood_along}
 use Rattle.law_places.proofs.reuse.Reuse.Keeps.{record_stands}
 use Rattle.laws.proofs.Tells.{AllRight}
 use Rattle.laws.specs.StateAt.{stood_by, stood_at}
@@ -33,10 +34,11 @@ use Rattle.law_held.specs.Records.{RecordsHoldAlone}
 use Rattle.law_held.proofs.Indexes.Clears.{own_stood}
 use Rattle.law_held.proofs.Roots.Ways.{Along, record_each, answers_of}
 
--- at one index: where a protection is told to end there, nothing stood there
+-- at one index: where a protection is told to end there, or a row to be copied there, nothing stood there
 abbrev alone_right : ℕ → Event → Option ℕ → Bool
 alone_right j (events.Held index slot steps) x = not (j == index) || is_none x
 alone_right j (events.Null index steps) x = not (j == index) || is_none x
+alone_right j (events.Copied from index slot) x = not (j == index) || is_none x
 alone_right j event x = true
 
 abbrev AloneAt : ℕ → List Event → Option ℕ → Type 0
@@ -50,6 +52,7 @@ alone_along j (event ∷ xs) ys x h k = (h.0, alone_along j xs ys (stood_by j ev
 quiet_one : (j : ℕ) (event : Event) (x : Option ℕ) → is_quiet event ≡ true → alone_right j event x ≡ true
 quiet_one j (events.Held index slot steps) x h = absurd (cc)
 quiet_one j (events.Null index steps) x h = absurd (cc)
+quiet_one j (events.Copied from index slot) x h = absurd (cc)
 quiet_one j event x h = refl
 
 quiet_alone : (j : ℕ) (told : List Event) (x : Option ℕ) → all_quiet told ≡ true → AloneAt j told x
@@ -81,6 +84,7 @@ find_alone j base post found (events.Null index n) f t = none_there j index post
     row_of : (base : Base) (index n : ℕ) → finds_none base index n ≡ true → finds_row base index n ≡ true
     row_of (Protect aim own root made at) index n h = h
     row_of base index n h = absurd (cc)
+find_alone j base post found (events.Copied from index slot) f t = absurd (cc)
 find_alone j base post found event f t = refl
 
 shape_alone : (j : ℕ) (base : Base) (post : Post) (found : ℕ) (told : List Event) → Free base post → Shape base post found told → AloneAt j told (stands post j)
@@ -123,6 +127,45 @@ run_free layout why (Reload parent own slot era made) post r v index n h =
     v index (subst (λ (m : ℕ). vacant_why why (Reload parent own slot era made) m ≡ true) (sym (q ∙ a.at)) (reload_vacant why parent own slot era made r.suited))
 run_free layout why base post r v index n h = absurd (cc)
 
+-- a step on what is kept: what stood where a row is copied to is cleared before
+cleared_alone : (j index : ℕ) (x y : Option ℕ) → AloneAt j (cleared index x) y
+cleared_alone j index None y = tt
+cleared_alone j index (Some slot) y = (refl, tt)
+
+gone_none : (j index : ℕ) (x y : Option ℕ) → (j == index) ≡ true → y ≡ x → stood j (cleared index x) y ≡ None
+gone_none j index None y e h = h
+gone_none j index (Some slot) y e h = rw e refl
+
+copied_none : (j index : ℕ) (post : Post) (reserved : List Event) (same : Bool) → (j == index) ≡ same → ((y : Option ℕ) → stood j reserved y ≡ y) → (not same || is_none (stood j (cleared index (stands post index) ++ reserved) (stands post j))) ≡ true
+copied_none j index post reserved true e r =
+    let q : j ≡ index = number_is j index e in
+    let gone : List Event = cleared index (stands post index) in
+    ap (λ (x : Option ℕ). is_none x) (stood_along j gone reserved (stands post j) ∙ r (stood j gone (stands post j)) ∙ gone_none j index (stands post index) (stands post j) e (ap (stands post) q))
+copied_none j index post reserved false e r = refl
+
+copied_alone : (j from index : ℕ) (post : Post) (reserved : List Event) (x : Option ℕ) → ((y : Option ℕ) → stood j reserved y ≡ y) → ((y : Option ℕ) → AloneAt j reserved y) → AloneAt j (copied_told from index post reserved x) (stands post j)
+copied_alone j from index post reserved None r f = tt
+copied_alone j from index post reserved (Some slot) r f =
+    let gone : List Event = cleared index (stands post index) in
+    alone_along j (gone ++ reserved) (events.Copied from index slot ∷ []) (stands post j)
+    (alone_along j gone reserved (stands post j) (cleared_alone j index (stands post index) (stands post j)) (f (stood j gone (stands post j))))
+    (copied_none j index post reserved (j == index) refl r, tt)
+
+load_alone : (j from index : ℕ) (post : Post) (one : Bool) → AloneAt j (if one then copied_told from index post [] (stands post from) else []) (stands post j)
+load_alone j from index post true = copied_alone j from index post [] (stands post from) (λ y. refl) (λ y. tt)
+load_alone j from index post false = tt
+
+work_alone : (j : ℕ) (work : Work) (post : Post) → AloneAt j (work_told work post) (stands post j)
+work_alone j (Getting key at) post = tt
+work_alone j (Changing kept at) post = tt
+work_alone j (Enqueuing kept at) post = tt
+work_alone j (Dequeuing at) post = tt
+work_alone j (Keeping (Loosens let_go)) post = cleared_alone j (let_index let_go) (stands post (let_index let_go)) (stands post j)
+work_alone j (Keeping (LoadHeld from index)) post = load_alone j from index post (has_one_interval (scheme_of post))
+work_alone j (Keeping (StoreHeld from index era)) post = copied_alone j from index post (reserves_index post index era) (stands post from) (λ y. refl) (λ y. (refl, tt))
+work_alone j (Keeping (Looks index key at)) post = tt
+work_alone j (Keeping (Misses index)) post = tt
+
 -- a step
 phase_alone : (w : World) (i j : ℕ) (phase : Phase) → Seats w → (w.seat i).phase ≡ phase → Vacant (vacant phase) (w.seat i).post → First (λ post told. AloneAt j told (stands (w.seat i).post j)) phase (counted (w.seat i).post) (finds w i)
 phase_alone w i j Idle s e v = tt
@@ -131,7 +174,7 @@ phase_alone w i j (Runs why base) s e v =
     shape_alone j base post (finds w i) (machine.after base post (finds w i)).told (run_free w.layout why base (w.seat i).post (run_of w i why base s e) v) (shape_of base post (finds w i))
 phase_alone w i j (Scans later (ReadGuard number)) s e v = (refl, tt)
 phase_alone w i j (Scans later (GiveBack place slot)) s e v = (refl, tt)
-phase_alone w i j (Works work) s e v = tt
+phase_alone w i j (Works work) s e v = work_alone j work (counted (w.seat i).post)
 
 step_alone : (w : World) (i j : ℕ) → Seats w → Vacant (vacant (w.seat i).phase) (w.seat i).post → AloneAt j (told_in w i) (stands (w.seat i).post j)
 step_alone w i j s v = step_goes (λ post told. AloneAt j told (stands (w.seat i).post j)) (alone_closed j (stands (w.seat i).post j)) (w.seat i).phase (counted (w.seat i).post) (w.seat i).desk (finds w i) (phase_alone w i j (w.seat i).phase s refl v)
@@ -159,4 +202,5 @@ same_index j x h = let e : (j == j) ≡ true = same_number j in rw e at h
 pub records_hold_alone : RecordsHoldAlone
 records_hold_alone layout items d before i (events.Held index slot steps) later e = same_index index (stood_at i index before) (record_each layout (alone_at index) items (index_along layout index d) before i (events.Held index slot steps) later e)
 records_hold_alone layout items d before i (events.Null index steps) later e = same_index index (stood_at i index before) (record_each layout (alone_at index) items (index_along layout index d) before i (events.Null index steps) later e)
+records_hold_alone layout items d before i (events.Copied from index slot) later e = same_index index (stood_at i index before) (record_each layout (alone_at index) items (index_along layout index d) before i (events.Copied from index slot) later e)
 records_hold_alone layout items d before i event later e = refl

@@ -1,9 +1,12 @@
--- What a step clears stood where it is told.
+-- What a step clears stood where it is told, and so does what it copies.
 use Rattle.std.proofs.Common.{ℕ, ◌≡◌, ◌<◌, ◌+◌, ◌-◌, Bool, true, false, List, [], ◌∷◌, ◌++◌, length, Option, Some, None, refl, sym, ap, ◌∙◌, subst, arith}
 use Rattle.std.proofs.lemmas.Bool.Decides.{nat_tests}
 use Rattle.std.specs.List.{list_any}
 use Rattle.std.specs.Prelude.{◌==◌, ◌&&◌, ◌||◌, not, if◌then◌else◌}
+use Rattle.wfe_core.proofs.Ranges.{bounds_of}
 use Rattle.wfe_core.specs.words.Place.{is_valid}
+use Rattle.wfe_core.specs.words.Schemes.{has_one_interval}
+use Rattle.wfe_core.specs.words.declared.config.Config.{Config}
 use Rattle.wfe_core.specs.words.declared.config.SchemeKind.{SchemeKind}
 use Rattle.wfe_core.specs.words.declared.config.SchemeKind.TheVariants.{He, Ibr, Wfe}
 use Rattle.wfe_core.specs.words.declared.layout.Layout.{Layout}
@@ -12,7 +15,7 @@ use Rattle.wfe_core.specs.defs.declared.event.Event.TheVariants as events
 use Rattle.wfe_core.specs.defs.declared.event.Root.{Root}
 use Rattle.wfe_core.specs.defs.declared.event.Root.TheVariants as roots
 use Rattle.wfe_core.specs.declared.post.Post.{Post}
-use Rattle.wfe_core.specs.Calls.{Why, Phase, Idle, Runs, Scans, Works, ScanAt, ReadGuard, GiveBack}
+use Rattle.wfe_core.specs.Calls.{Why, Phase, Idle, Runs, Scans, Works, ScanAt, ReadGuard, GiveBack, Work, Getting, Changing, Enqueuing, Dequeuing, Keeping, Loosens, LoadHeld, StoreHeld, Looks, Misses}
 use Rattle.wfe_core.specs.Machine as machine
 use Rattle.wfe_core.specs.Memory.{bump}
 use Rattle.wfe_core.specs.Phases.{ProtectAt, Base}
@@ -20,29 +23,29 @@ use Rattle.wfe_core.specs.Phases.ProtectAt.{CheckClock, TakeAnswer, CheckUpper}
 use Rattle.wfe_core.specs.Phases.Base.{Begin, Protect, Reload, Clear, Finish, Release, Allocate, Write, GiveUp, Retire, Move}
 use Rattle.wfe_core.specs.Posts.{stands, counted, cleared, upper, reserves_index, reserves_span}
 use Rattle.wfe_core.specs.Protect.{told_held}
-use Rattle.wfe_core.specs.Rounds.{scheme_of, clear_told}
+use Rattle.wfe_core.specs.Rounds.{scheme_of, clear_told, let_index}
 use Rattle.wfe_core.specs.World.{World, finds, told_in}
-use Rattle.wfe_core.proofs.Facts.{same_number, first_of, rest_of, and_right_false}
+use Rattle.wfe_core.proofs.Facts.{same_number, first_of, rest_of, and_right_false, below_length}
 use Rattle.law_places.specs.inv.covers.Held.{index_base}
-use Rattle.law_places.proofs.inv.ends.Ends.Stood.{clear_calm}
-use Rattle.law_places.proofs.inv.ends.Ends.Tests.{at_shows, base_shows, base_any}
+use Rattle.law_places.proofs.inv.ends.Ends.Tests.{Calm, at_shows, base_shows, base_any}
 use Rattle.law_places.specs.inv.shapes.Seats.{Seats}
-use Rattle.law_places.specs.inv.history.History.{record_of, world_of}
-use Rattle.law_places.specs.inv.history.Record.{Past, Each, tells_of}
+use Rattle.law_places.specs.inv.shapes.Slots.{PhaseIn, Slots, WorkIn}
+use Rattle.law_places.specs.inv.history.History.{Item, record_of, world_of}
+use Rattle.law_places.specs.inv.history.Record.{Past, Each, EachEntry, tells_of}
 use Rattle.law_places.specs.inv.history.Record.Past.{Then}
 use Rattle.laws.proofs.Tells.{AllRight}
 use Rattle.laws.specs.StateAt.{stood_by, stood_at, is_row}
-use Rattle.law_places.proofs.reuse.Reuse.Follows.{stood, Follow, follow_closed, base_follows}
+use Rattle.law_places.proofs.reuse.Reuse.Follows.{stood, stood_along, Follow, follow_closed, base_follows, copy_index, work_follows}
 use Rattle.law_places.proofs.reuse.Reuse.Keeps.{record_stands, room_of}
-use Rattle.law_places.proofs.inv.history.Passes.{is_quiet, all_quiet, Closed, First, scan_told, step_goes}
-use Rattle.law_places.specs.inv.ends.Stands.{is_clear}
+use Rattle.law_places.proofs.inv.history.Passes.{is_quiet, all_quiet, Closed, First, copied_told, scan_told, step_goes, work_told}
 use Rattle.law_held.specs.Records.{RecordsClearRows}
 use Rattle.law_held.proofs.Roots.Ways.{Along, record_each, answers_of}
 use Rattle.wfe_core.proofs.Lists.{or_left, or_right}
 
--- at one index: what is cleared there stood there
-abbrev clear_right : ℕ → Event → Option ℕ → Bool
+-- at one index: what is cleared there stood there, and what is copied from there stands there
+abbrev pub clear_right : ℕ → Event → Option ℕ → Bool
 clear_right j (events.Clear index slot) x = not (j == index) || is_row slot x
+clear_right j (events.Copied from index slot) x = not (j == from) || is_row slot x
 clear_right j event x = true
 
 abbrev RightAt : ℕ → List Event → Option ℕ → Type 0
@@ -55,25 +58,36 @@ right_along j (event ∷ xs) ys x h k = (h.0, right_along j xs ys (stood_by j ev
 -- where nothing is cleared
 quiet_one : (j : ℕ) (event : Event) (x : Option ℕ) → is_quiet event ≡ true → clear_right j event x ≡ true
 quiet_one j (events.Clear index slot) x h = absurd (cc)
+quiet_one j (events.Copied from index slot) x h = absurd (cc)
 quiet_one j event x h = refl
 
 quiet_right : (j : ℕ) (told : List Event) (x : Option ℕ) → all_quiet told ≡ true → RightAt j told x
 quiet_right j [] x h = tt
 quiet_right j (event ∷ told) x h = (quiet_one j event x (first_of (is_quiet event) (all_quiet told) h), quiet_right j told (stood_by j event x) (rest_of (is_quiet event) (all_quiet told) h))
 
-none_one : (j : ℕ) (event : Event) (x : Option ℕ) → ((s : ℕ) → is_clear j s event ≡ false) → clear_right j event x ≡ true
+-- a row is cleared at the index, or copied
+abbrev is_moved : (j s : ℕ) → Event → Bool
+is_moved j s (events.Clear index slot) = (index == j) && (slot == s)
+is_moved j s (events.Copied from index slot) = true
+is_moved j s event = false
+
+moved_calm : (j s : ℕ) → Calm (is_moved j s)
+moved_calm j s = record { reserve = λ g x. refl; read = λ g x. refl; era = λ e. refl; give = λ a b. refl; unused = λ a. refl; retire = λ a b r. refl; back = λ a. refl }
+
+none_one : (j : ℕ) (event : Event) (x : Option ℕ) → ((s : ℕ) → is_moved j s event ≡ false) → clear_right j event x ≡ true
 none_one j (events.Clear index slot) x h =
     let same : (slot == slot) ≡ true = same_number slot in
     let other : (index == j && slot == slot) ≡ false = h slot in
     let none : (j == index) ≡ false = grind (arith, nat_tests) in
     rw none refl
+none_one j (events.Copied from index slot) x h = let e = h 0 in absurd (cc)
 none_one j event x h = refl
 
-none_right : (j : ℕ) (told : List Event) (x : Option ℕ) → ((s : ℕ) → list_any (is_clear j s) told ≡ false) → RightAt j told x
+none_right : (j : ℕ) (told : List Event) (x : Option ℕ) → ((s : ℕ) → list_any (is_moved j s) told ≡ false) → RightAt j told x
 none_right j [] x h = tt
 none_right j (event ∷ told) x h = (
-  none_one j event x (λ s. or_left (is_clear j s event) (list_any (is_clear j s) told) (h s)),
-  none_right j told (stood_by j event x) (λ s. or_right (is_clear j s event) (list_any (is_clear j s) told) (h s)),
+  none_one j event x (λ s. or_left (is_moved j s event) (list_any (is_moved j s) told) (h s)),
+  none_right j told (stood_by j event x) (λ s. or_right (is_moved j s event) (list_any (is_moved j s) told) (h s)),
 )
 
 -- what is cleared stands
@@ -112,28 +126,28 @@ cleared_closed post = let c = follow_closed post in record {
 }
 
 -- a machine clears what stands, or nothing
-link_none : (index slot n j s : ℕ) (null : Bool) → list_any (is_clear j s) (if null then events.Null index n ∷ [] else events.Held index slot n ∷ []) ≡ false
+link_none : (index slot n j s : ℕ) (null : Bool) → list_any (is_moved j s) (if null then events.Null index n ∷ [] else events.Held index slot n ∷ []) ≡ false
 link_none index slot n j s true = refl
 link_none index slot n j s false = refl
 
-next_none : (index n j s : ℕ) (null : Bool) → list_any (is_clear j s) (if null then events.Null index n ∷ [] else []) ≡ false
+next_none : (index n j s : ℕ) (null : Bool) → list_any (is_moved j s) (if null then events.Null index n ∷ [] else []) ≡ false
 next_none index n j s true = refl
 next_none index n j s false = refl
 
-held_none : (index : ℕ) (root : Root) (link n j s : ℕ) → list_any (is_clear j s) (told_held index root link n) ≡ false
+held_none : (index : ℕ) (root : Root) (link n j s : ℕ) → list_any (is_moved j s) (told_held index root link n) ≡ false
 held_none index (roots.Next parent) link n j s = next_none index n j s (link == 0)
 held_none index (roots.Bucket bucket) link n j s = link_none index (link - 1) n j s (link == 0)
 held_none index roots.Head link n j s = link_none index (link - 1) n j s (link == 0)
 held_none index roots.Tail link n j s = link_none index (link - 1) n j s (link == 0)
 
-at_none : (index : ℕ) (root : Root) (n : ℕ) (post : Post) (at : ProtectAt) (found j s : ℕ) → at_shows (is_clear j s) index root n post at found ≡ false
-at_none index root n post (CheckClock era tries link) found j s = and_right_false (found == era) (list_any (is_clear j s) (told_held index root link n)) (held_none index root link n j s)
+at_none : (index : ℕ) (root : Root) (n : ℕ) (post : Post) (at : ProtectAt) (found j s : ℕ) → at_shows (is_moved j s) index root n post at found ≡ false
+at_none index root n post (CheckClock era tries link) found j s = and_right_false (found == era) (list_any (is_moved j s) (told_held index root link n)) (held_none index root link n j s)
 at_none index root n post (TakeAnswer link era) found j s = held_none index root link n j s
-at_none index root n post (CheckUpper link) found j s = and_right_false (found == upper post.span) (list_any (is_clear j s) (told_held index root link n)) (held_none index root link n j s)
+at_none index root n post (CheckUpper link) found j s = and_right_false (found == upper post.span) (list_any (is_moved j s) (told_held index root link n)) (held_none index root link n j s)
 at_none index root n post at found j s = refl
 
-still_right : (base : Base) (post : Post) (found j : ℕ) → ((s : ℕ) → base_shows (is_clear j s) post base found ≡ false) → RightAt j (machine.after base post found).told (stands post j)
-still_right base post found j h = none_right j (machine.after base post found).told (stands post j) (λ s. base_any (is_clear j s) base post found (clear_calm j s) ∙ h s)
+still_right : (base : Base) (post : Post) (found j : ℕ) → ((s : ℕ) → base_shows (is_moved j s) post base found ≡ false) → RightAt j (machine.after base post found).told (stands post j)
+still_right base post found j h = none_right j (machine.after base post found).told (stands post j) (λ s. base_any (is_moved j s) base post found (moved_calm j s) ∙ h s)
 
 base_right : (base : Base) (post : Post) (found j : ℕ) → RightAt j (machine.after base post found).told (stands post j)
 base_right (Begin at) post found j = still_right (Begin at) post found j (λ s. refl)
@@ -141,7 +155,7 @@ base_right (Protect aim index root steps at) post found j = still_right (Protect
 base_right (Reload parent index slot era steps) post found j = still_right (Reload parent index slot era steps) post found j (λ s. and_right_false (found == parent + 1) false refl)
 base_right (Clear index) post found j = right_along j (cleared index (stands post index)) (reserves_index post index 0) (stands post j) (cleared_right j index post (stands post index) refl) (refl, tt)
 base_right Finish post found j = still_right Finish post found j (λ s. refl)
-base_right Release post found j = right_along j (cleared 2 (stands post 2)) (reserves_span post None) (stands post j) (cleared_right j 2 post (stands post 2) refl) (refl, tt)
+base_right (Release index) post found j = right_along j (cleared index (stands post index)) (reserves_span post None) (stands post j) (cleared_right j index post (stands post index) refl) (refl, tt)
 base_right (Allocate at) post found j = still_right (Allocate at) post found j (λ s. refl)
 base_right (Write slot row place) post found j = still_right (Write slot row place) post found j (λ s. refl)
 base_right (GiveUp slot) post found j = still_right (GiveUp slot) post found j (λ s. refl)
@@ -152,20 +166,76 @@ scan_cleared : (post : Post) (at : ScanAt) (found : ℕ) → Cleared post post (
 scan_cleared post (ReadGuard number) found = record { follows = λ j. refl; right = λ j. (refl, tt) }
 scan_cleared post (GiveBack place slot) found = record { follows = λ j. refl; right = λ j. (refl, tt) }
 
-first_cleared : (phase : Phase) (post : Post) (found : ℕ) → ((why : Why) (base : Base) → phase ≡ Runs why base → index_base base < length post.standing) → First (Cleared post) phase post found
-first_cleared Idle post found h = record { follows = λ j. refl; right = λ j. tt }
-first_cleared (Runs why base) post found h = record { follows = base_follows post base found (h why base refl); right = λ j. base_right base post found j }
-first_cleared (Scans later at) post found h = scan_cleared post at found
-first_cleared (Works work) post found h = record { follows = λ j. refl; right = λ j. tt }
+-- what a step on what is kept names: a copy goes upwards, to an index of the seat
+pub record Room (config : Config) (work : Work) (post : Post) : Type 0 where
+  pub names : WorkIn config work
+  pub below : copy_index work < length post.standing
 
-step_right : (w : World) (i j : ℕ) → is_valid w.layout ≡ true → Seats w → RightAt j (told_in w i) (stands (w.seat i).post j)
-step_right w i j d s =
+copy_in : (layout : Layout) (work : Work) → is_valid layout ≡ true → WorkIn layout.config work → copy_index work < layout.config.indexes
+copy_in layout (Keeping (LoadHeld from index)) d h = h.below
+copy_in layout (Keeping (StoreHeld from index era)) d h = h.below
+copy_in layout work d h = let m = (bounds_of layout d).indexes in omega (arith, m.0)
+
+pub work_room : (w : World) (i : ℕ) (work : Work) → is_valid w.layout ≡ true → Seats w → Slots w → (w.seat i).phase ≡ Works work → Room w.layout.config work (w.seat i).post
+work_room w i work d s t e =
+    let m = (bounds_of w.layout d).indexes in
+    let k : WorkIn w.layout.config work = subst (PhaseIn w.layout (w.seat i).desk) e (t.seats i).phase in
+    record { names = k; below = below_length (copy_index work) w.layout.config.indexes (length (w.seat i).post.standing) (copy_in w.layout work d k) m.1 (s.fits i).post.standing }
+
+-- a copy leaves what it copies
+pub away_stood : (j index : ℕ) (x y : Option ℕ) → (j == index) ≡ false → stood j (cleared index x) y ≡ y
+away_stood j index None y e = refl
+away_stood j index (Some slot) y e = rw e refl
+
+copied_there : (j from index slot : ℕ) (post : Post) (reserved : List Event) (same : Bool) → (j == from) ≡ same → from < index → stands post from ≡ Some slot → ((y : Option ℕ) → stood j reserved y ≡ y) → (not same || is_row slot (stood j (cleared index (stands post index) ++ reserved) (stands post j))) ≡ true
+copied_there j from index slot post reserved true e b h r =
+    let q : j ≡ from = grind (arith, nat_tests) in
+    let other : (j == index) ≡ false = grind (arith, nat_tests) in
+    let gone : List Event = cleared index (stands post index) in
+    row_there slot (stood j (gone ++ reserved) (stands post j)) (stood_along j gone reserved (stands post j) ∙ r (stood j gone (stands post j)) ∙ away_stood j index (stands post index) (stands post j) other ∙ ap (stands post) q ∙ h)
+copied_there j from index slot post reserved false e b h r = refl
+
+copied_right : (j from index : ℕ) (post : Post) (reserved : List Event) (x : Option ℕ) → stands post from ≡ x → from < index → ((y : Option ℕ) → stood j reserved y ≡ y) → ((y : Option ℕ) → RightAt j reserved y) → RightAt j (copied_told from index post reserved x) (stands post j)
+copied_right j from index post reserved None h b r f = tt
+copied_right j from index post reserved (Some slot) h b r f =
+    let gone : List Event = cleared index (stands post index) in
+    right_along j (gone ++ reserved) (events.Copied from index slot ∷ []) (stands post j)
+    (right_along j gone reserved (stands post j) (cleared_right j index post (stands post index) refl) (f (stood j gone (stands post j))))
+    (copied_there j from index slot post reserved (j == from) refl b h r, tt)
+
+load_right : (j from index : ℕ) (post : Post) (one : Bool) → from < index → RightAt j (if one then copied_told from index post [] (stands post from) else []) (stands post j)
+load_right j from index post true b = copied_right j from index post [] (stands post from) refl b (λ y. refl) (λ y. tt)
+load_right j from index post false b = tt
+
+work_right : (config : Config) (j : ℕ) (work : Work) (post : Post) → WorkIn config work → RightAt j (work_told work post) (stands post j)
+work_right config j (Getting key at) post k = tt
+work_right config j (Changing kept at) post k = tt
+work_right config j (Enqueuing kept at) post k = tt
+work_right config j (Dequeuing at) post k = tt
+work_right config j (Keeping (Loosens let_go)) post k = cleared_right j (let_index let_go) post (stands post (let_index let_go)) refl
+work_right config j (Keeping (LoadHeld from index)) post k = load_right j from index post (has_one_interval (scheme_of post)) k.rises
+work_right config j (Keeping (StoreHeld from index era)) post k = copied_right j from index post (reserves_index post index era) (stands post from) refl k.rises (λ y. refl) (λ y. (refl, tt))
+work_right config j (Keeping (Looks index key at)) post k = tt
+work_right config j (Keeping (Misses index)) post k = tt
+
+first_cleared : (config : Config) (phase : Phase) (post : Post) (found : ℕ) → ((why : Why) (base : Base) → phase ≡ Runs why base → index_base base < length post.standing) → ((work : Work) → phase ≡ Works work → Room config work post) → First (Cleared post) phase post found
+first_cleared config Idle post found h g = record { follows = λ j. refl; right = λ j. tt }
+first_cleared config (Runs why base) post found h g = record { follows = base_follows post base found (h why base refl); right = λ j. base_right base post found j }
+first_cleared config (Scans later at) post found h g = scan_cleared post at found
+first_cleared config (Works work) post found h g = let r = g work refl in record { follows = work_follows post work r.below; right = λ j. work_right config j work post r.names }
+
+-- counting a step changes nothing of it
+room_counted : (config : Config) (work : Work) (post : Post) → Room config work post → Room config work (counted post)
+room_counted config work post r = record { names = r.names; below = r.below }
+
+step_right : (w : World) (i j : ℕ) → is_valid w.layout ≡ true → Seats w → Slots w → RightAt j (told_in w i) (stands (w.seat i).post j)
+step_right w i j d s t =
     let post : Post = counted (w.seat i).post in
-    let c = step_goes (Cleared post) (cleared_closed post) (w.seat i).phase post (w.seat i).desk (finds w i) (first_cleared (w.seat i).phase post (finds w i) (λ why base e. room_of w i why base d s e)) in
+    let c = step_goes (Cleared post) (cleared_closed post) (w.seat i).phase post (w.seat i).desk (finds w i) (first_cleared w.layout.config (w.seat i).phase post (finds w i) (λ why base e. room_of w i why base d s t e) (λ work e. room_counted w.layout.config work (w.seat i).post (work_room w i work d s t e))) in
     c.right j
 
 -- the law of one index
-abbrev clears_at : ℕ → Past → ℕ → Event → Bool
+abbrev pub clears_at : ℕ → Past → ℕ → Event → Bool
 clears_at j p i event = clear_right j event (stood_at i j p)
 
 pub own_stood : (i j : ℕ) (p : Past) (event : Event) → stood_at i j (Then p i event) ≡ stood_by j event (stood_at i j p)
@@ -181,11 +251,18 @@ index_along layout j d = record {
   steps = λ path i t g.
       let w : World = world_of layout path in
       let k = (answers_of layout path d).known.known in
-      right_each i j (told_in w i) (record_of layout path) (subst (λ (x : Option ℕ). RightAt j (told_in w i) x) (sym (record_stands layout path i j d)) (step_right w i j k.valid k.seats)) g;
+      right_each i j (told_in w i) (record_of layout path) (subst (λ (x : Option ℕ). RightAt j (told_in w i) x) (sym (record_stands layout path i j d)) (step_right w i j k.valid k.seats k.slots)) g;
 }
 
 same_index : (j slot : ℕ) (x : Option ℕ) → (not (j == j) || is_row slot x) ≡ true → is_row slot x ≡ true
 same_index j slot x h = let e : (j == j) ≡ true = same_number j in rw e at h
+
+-- what is copied from an index stands there
+pub copied_rows : (layout : Layout) (items : List Item) → is_valid layout ≡ true → (from : ℕ) → EachEntry (clears_at from) (record_of layout items)
+copied_rows layout items d from = record_each layout (clears_at from) items (index_along layout from d)
+
+pub copied_row : (from index slot i : ℕ) (p : Past) → clears_at from p i (events.Copied from index slot) ≡ true → is_row slot (stood_at i from p) ≡ true
+copied_row from index slot i p h = same_index from slot (stood_at i from p) h
 
 pub records_clear_rows : RecordsClearRows
 records_clear_rows layout items d before i (events.Clear index slot) later e = same_index index slot (stood_at i index before) (record_each layout (clears_at index) items (index_along layout index d) before i (events.Clear index slot) later e)

@@ -16,11 +16,12 @@ use Rattle.wfe_core.specs.Posts.{upper}
 use Rattle.wfe_core.specs.Phases.{Aim, ProtectAt, Base}
 use Rattle.wfe_core.specs.Phases.Base.{Protect, Reload}
 use Rattle.wfe_core.specs.Calls.{Gets, Changes, Holds, Enqueues, Dequeues, Why, Opens, FollowsHead, Phase, Idle, Runs, Scans, Works}
+use Rattle.wfe_core.specs.Locals.{may_begin}
 use Rattle.wfe_core.specs.World.{World, finds, is_busy, told_in}
 use Rattle.wfe_core.proofs.Facts.{same_number, first_of, rest_of, or_more}
 use Rattle.law_places.specs.inv.shapes.Seats.{Seats, Run, root_by}
 use Rattle.law_places.specs.inv.history.History.{Item, Begins, Steps, Made, fits, done_if, made_of, first_made}
-use Rattle.law_places.proofs.inv.history.Along.{begins_right, low_seat, paths_keep}
+use Rattle.law_places.proofs.inv.history.Along.{begins_right, begins_within, low_seat, paths_keep}
 use Rattle.law_places.specs.inv.Known.{Known}
 use Rattle.law_places.proofs.inv.Inv.Begun.{known_start, known_begin}
 use Rattle.law_places.proofs.inv.Inv.Kept.{known_kept, asked_next}
@@ -153,17 +154,18 @@ item_kept layout made item false f t g = g
 item_kept layout made (Begins i call) true f t g =
     let w : World = made.world in
     let k = g.known in
-    let b = begins_right i w.layout.config.seats (is_busy w i) f in
+    let b = begins_right i w.layout.config.seats (is_busy w i) (may_begin w.layout.config call) f in
+    let m = begins_within i w.layout.config.seats (is_busy w i) (may_begin w.layout.config call) f in
     let q = requests_begin w i call g.asked k.valid b k.seats k.requests in
     record {
       table = g.table;
       rows = g.rows;
       line = g.line;
       asked = q.0;
-      known = known_begin w i call g.rows g.line g.asked q.0 b k q.1.facts q.1.deal;
+      known = known_begin w i call g.rows g.line g.asked q.0 b m k q.1.facts q.1.deal;
       nexts = record { next = g.nexts.next; fresh = g.nexts.fresh };
       links = origins_begin (had_none layout.config.slots (Then made.past i (events.Begin call))) w i call g.asked q.0 b k.requests q.1.deal
-          (record { tracked = λ m x h. begin_tracked layout.config.slots w i m x call made.past g.asked (m == i) refl b k.requests g.links h });
+          (record { tracked = λ n x h. begin_tracked layout.config.slots w i n x call made.past g.asked (n == i) refl b k.requests g.links h });
     }
 item_kept layout made (Steps i) true f t g =
     let w : World = made.world in

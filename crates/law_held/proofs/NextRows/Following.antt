@@ -25,9 +25,11 @@ use Rattle.wfe_core.specs.World.{World, finds, told_in}
 use Rattle.wfe_core.specs.Phases.{Aim, ProtectAt, Base, Turn, goes}
 use Rattle.wfe_core.specs.Phases.ProtectAt.{PublishEra, CheckClock, PublishHelper, CheckOwnClock, AnswerOwn, TakeAnswer, WithdrawHelper, CheckUpper, RaiseUpper}
 use Rattle.wfe_core.specs.Phases.Base.{Protect, Reload, Clear, Release}
-use Rattle.wfe_core.specs.Calls.{Task, Gets, Changes, Holds, Enqueues, Dequeues, ReadGuard, GiveBack, Why, Opens, FollowsHead, Phase, Idle, Runs, Scans, Works}
-use Rattle.wfe_core.proofs.Facts.{same_number, both, and_right_false, number_is, or_more}
-use Rattle.law_places.proofs.inv.history.MayTell.{concluded_told}
+use Rattle.wfe_core.specs.Calls.{Work, Task, Gets, Changes, Holds, Enqueues, Dequeues, ReadGuard, GiveBack, Why, Opens, FollowsHead, Phase, Idle, Runs, Scans, Works}
+use Rattle.wfe_core.proofs.Facts.{same_number, both, and_right_false, number_is, or_more, first_of, rest_of, false_of_not}
+use Rattle.law_places.proofs.inv.history.AllOf.{all_of}
+use Rattle.law_places.proofs.inv.history.Passes.{work_told}
+use Rattle.law_places.proofs.inv.history.MayTell.{concluded_told, work_all}
 use Rattle.law_places.proofs.inv.covers.Held.{finds_at}
 use Rattle.law_places.proofs.inv.ends.Ends.Tests.{Calm, at_shows, base_shows, base_any}
 use Rattle.law_places.specs.inv.shapes.Seats.{ToFollow, Run, suits, kind_of, protects, reloads, index_by}
@@ -134,8 +136,19 @@ base_one : (layout : Layout) (why : Why) (base : Base) (last post : Post) (found
 base_one layout why (Protect aim index root count at) last post found f r = at_one index root (bump count) post at found (why_one why index f r.suited r.shape.at)
 base_one layout why (Reload parent index slot era count) last post found f r = no_reload why (base_shows is_one post (Reload parent index slot era count) found) f r.suited
 base_one layout why (Clear index) last post found f r = cleared_one index (stands post index)
-base_one layout why Release last post found f r = cleared_one 2 (stands post 2)
+base_one layout why (Release index) last post found f r = cleared_one index (stands post index)
 base_one layout why base last post found f r = refl
+
+-- a call's own step tells of no protection
+one_free : (told : List Event) → all_of (λ (event : Event). not (is_one event)) told ≡ true → list_any is_one told ≡ false
+one_free [] h = refl
+one_free (event ∷ told) h =
+    let a : is_one event ≡ false = false_of_not (is_one event) (first_of (not (is_one event)) (all_of (λ (e : Event). not (is_one e)) told) h) in
+    let b : list_any is_one told ≡ false = one_free told (rest_of (not (is_one event)) (all_of (λ (e : Event). not (is_one e)) told) h) in
+    rw (a, b) refl
+
+pub work_one : (work : Work) (post : Post) → list_any is_one (work_told work post) ≡ false
+work_one work post = one_free (work_told work post) (work_all (λ (event : Event). not (is_one event)) (λ index slot. refl) (λ from index slot. refl) (λ seat index era. refl) work post)
 
 null_each : (slots i index head n : ℕ) (q : Past) (null : Bool) → stood_at i 0 q ≡ Some head → (if null then held_since (begins i) (is_last slots head) q else true) ≡ true → Each (behind_ok slots) q → Each (behind_ok slots) (tells_of q i (if null then events.Null index n ∷ [] else []))
 null_each slots i index head n q true s h g = (or_more (not (index == 1)) (was_last slots i q (stood_at i 0 q)) (subst (λ (x : Option ℕ). was_last slots i q x ≡ true) (sym s) h), g)
@@ -210,7 +223,7 @@ own_each slots w i v l z p (Runs why base) q k g =
     (base_any is_one base (counted (w.seat i).post) (finds w i) one_calm ∙ base_one w.layout why base (w.seat i).post (counted (w.seat i).post) (finds w i) refl (run_of w i why base k.known.seats q)) g
 own_each slots w i v l z p (Scans later (ReadGuard number)) q k g = (refl, g)
 own_each slots w i v l z p (Scans later (GiveBack place slot)) q k g = (refl, g)
-own_each slots w i v l z p (Works work) q k g = g
+own_each slots w i v l z p (Works work) q k g = other_each slots i (work_told work (counted (w.seat i).post)) p (work_one work (counted (w.seat i).post)) g
 
 step_nexts : (slots : ℕ) (w : World) (i : ℕ) (v : View) (l : Line) (z : Asked) (p : Past) → Sees slots w i v l z p → Each (behind_ok slots) p → Each (behind_ok slots) (tells_of p i (told_in w i))
 step_nexts slots w i v l z p k g =

@@ -1,5 +1,5 @@
--- Along each history a seat of 2GE whose round is over has no interval, unless a row stands at its index 2.
-use Rattle.std.proofs.Common.{ℕ, ◌≡◌, ◌<◌, ◌-◌, Bool, true, false, List, length, Option, Some, refl, sym, ap, ◌∙◌, subst, arith}
+-- Along each history a seat of 2GE whose round is over has no interval, unless a row stands at an index of it from 2 on.
+use Rattle.std.proofs.Common.{ℕ, ◌≡◌, ◌-◌, Bool, true, false, List, length, refl, sym, ap, ◌∙◌, subst, arith}
 use Rattle.std.proofs.lemmas.Bool.Decides.{nat_tests}
 use Rattle.std.specs.Prelude.{◌==◌, ◌%◌, if◌then◌else◌}
 use Rattle.wfe_core.specs.words.Place.{is_valid}
@@ -30,21 +30,23 @@ use Rattle.wfe_core.specs.Phases.ProtectAt.{CheckClock, CheckOwnClock, AnswerOwn
 use Rattle.wfe_core.specs.Phases.RetireAt.{LoadLife, LoadRetire, StoreRetired}
 use Rattle.wfe_core.specs.Phases.Base.{Begin, Protect, Reload, Clear, Finish, Release, GiveUp, Retire, Move}
 use Rattle.wfe_core.specs.Phases.Ending.{Protected, Followed}
-use Rattle.wfe_core.specs.Calls.{Task, Gets, Changes, Holds, Enqueues, Dequeues, AfterScan, Next, Why, Opens, FollowsHead, Fills, ClearsNext, Clears, Finishes, GivesUp, Retires, Tidies, Advances, Releases, Phase, Idle, Runs, Scans, Works, CallTurn}
+use Rattle.wfe_core.specs.Calls.{Task, Gets, Changes, Holds, Enqueues, Dequeues, AfterScan, Next, Why, Opens, FollowsHead, Fills, ClearsNext, Clears, Finishes, GivesUp, Retires, Tidies, Advances, Releases, LetGo, Phase, Idle, Runs, Scans, Works, CallTurn}
 use Rattle.law_places.proofs.inv.covers.Held.{stepped_post, stepped_phase}
 use Rattle.wfe_core.specs.words.Schemes.{is_ibr}
 use Rattle.law_places.specs.inv.shapes.Frame.{phase_left}
-use Rattle.law_places.specs.inv.shapes.Seats.{Seats, ToFinish, ToGiveUp, ToRetire, ToMove, ToRelease, Run, suits, base_fits, protect_fits, task_root}
+use Rattle.law_places.specs.inv.shapes.Slots.{PhaseIn, Slots}
+use Rattle.law_places.proofs.inv.shapes.Kept.{work_counted}
+use Rattle.law_places.specs.inv.shapes.Seats.{PhaseFits, Seats, ToFinish, ToGiveUp, ToRetire, ToMove, ToRelease, Run, suits, base_fits, protect_fits, task_root}
 use Rattle.law_places.proofs.inv.shapes.Frame.{seat_stays, begin_stays, begin_begins}
 use Rattle.law_places.specs.inv.history.History.{Item, Made, made_of, world_of}
 use Rattle.law_places.specs.inv.history.Turns as schedule
 use Rattle.law_places.proofs.answers.OneStep.Along.{Kept, history_keeps}
 use Rattle.law_places.proofs.inv.steps_left.Rest.Moves.{move_post}
 use Rattle.law_places.specs.inv.history.Heard.{heard_of}
-use Rattle.law_held.proofs.Resting.Spent.{Ended, over_why, Spent, Opened, Resumes, Out, resumed_spent, work_spent, scan_spent, first_spent, plain_ended}
+use Rattle.law_held.proofs.Resting.Spent.{Ended, over_why, Spent, Opened, Resumes, Out, resumed_spent, work_spent, scan_spent, first_spent, plain_ended, put_ended}
 use Rattle.law_turns.proofs.Counting.Fits.{is_hold}
 use Rattle.law_places.proofs.inv.handover.Asks.{run_of}
-use Rattle.wfe_core.proofs.Standing.{stands-with_row_same}
+use Rattle.wfe_core.proofs.Ranges.{bounds_of}
 use Rattle.law_places.proofs.inv.steps_left.Rest.Falling.{wfe_plain}
 use Rattle.wfe_core.proofs.Facts.{false_of_not}
 
@@ -54,7 +56,7 @@ row_ended post link true h n = absurd (cc)
 row_ended post link false h n = h refl
 
 stood_ended : (post : Post) (slot : ℕ) → length post.standing ≡ 8 → Ended (with_row post 2 slot)
-stood_ended post slot l = λ b n. let few : 2 < length post.standing = omega (l, arith) in let s : stands (with_row post 2 slot) 2 ≡ Some slot = stands-with_row_same post 2 slot few in absurd (cc)
+stood_ended post slot l = put_ended post 2 slot (omega arith) (omega (l, arith))
 
 bucket_ended : (post : Post) (index bucket link : ℕ) → length post.standing ≡ 8 → index ≡ 2 → (link == 0) ≡ false → Ended (held_post post index (roots.Bucket bucket) link)
 bucket_ended post index bucket link l e n = rw e (row_ended post link (link == 0) (λ z. stood_ended post (link - 1) l) n)
@@ -146,10 +148,10 @@ advances_out : (base : Base) (post : Post) (found : ℕ) → suits base ToMove �
 advances_out (Move at) post found s h = outer_out Advances (move_turn at post found).post (move_turn at post found).outcome (subst Ended (sym (move_post at post found)) h) (λ e g. g)
 advances_out base post found s h = absurd (cc)
 
-releases_out : (config : Config) (key : Option ℕ) (base : Base) (post : Post) (found : ℕ) → suits base ToRelease ≡ true → base_fits config base ≡ true → scheme_of post ≡ config.scheme → Out (Releases key) (after base post found).post (after base post found).outcome
-releases_out config key (Clear index) post found s f e = plain_ended (after (Clear index) post found).post (ap is_ibr e ∙ false_of_not (is_ibr config.scheme) f)
-releases_out config key Release post found s f e = λ b n. refl
-releases_out config key base post found s f e = absurd (cc)
+releases_out : (config : Config) (let_go : LetGo) (base : Base) (post : Post) (found : ℕ) → suits base ToRelease ≡ true → base_fits config base ≡ true → scheme_of post ≡ config.scheme → Out (Releases let_go) (after base post found).post (after base post found).outcome
+releases_out config let_go (Clear index) post found s f e = plain_ended (after (Clear index) post found).post (ap is_ibr e ∙ false_of_not (is_ibr config.scheme) f)
+releases_out config let_go (Release index) post found s f e = λ b n. refl
+releases_out config let_go base post found s f e = absurd (cc)
 
 run_out : (layout : Layout) (why : Why) (base : Base) (last post : Post) (found : ℕ) → Run layout why base last → post.layout ≡ layout → length post.standing ≡ 8 → (over_why why ≡ true → Ended post) → Out why (after base post found).post (after base post found).outcome
 run_out layout (Opens task) base last post found r t l h = opens_out layout task base last post found r t l
@@ -162,33 +164,37 @@ run_out layout (GivesUp answer) base last post found r t l h = gives_up_out answ
 run_out layout (Retires answer) base last post found r t l h = retires_out answer base post found r.suited (h refl)
 run_out layout (Tidies later) base last post found r t l h = tidies_out later base post found r.suited (h refl)
 run_out layout Advances base last post found r t l h = advances_out base post found r.suited (h refl)
-run_out layout (Releases key) base last post found r t l h = releases_out layout.config key base post found r.suited r.fits (ap (λ (x : Layout). x.config.scheme) t)
+run_out layout (Releases let_go) base last post found r t l h = releases_out layout.config let_go base post found r.suited r.fits (ap (λ (x : Layout). x.config.scheme) t)
 
 -- a step
-turn_out : (w : World) (i : ℕ) (phase : Phase) → (w.seat i).phase ≡ phase → Seats w → Spent (w.seat i).post phase → Spent (steps.phase_turn phase (counted (w.seat i).post) (w.seat i).desk (finds w i)).post (phase_left (steps.phase_turn phase (counted (w.seat i).post) (w.seat i).desk (finds w i)).outcome)
-turn_out w i Idle e s h = h
-turn_out w i (Runs why base) e s h =
+turn_out : (w : World) (i : ℕ) (phase : Phase) → (w.seat i).phase ≡ phase → is_valid w.layout ≡ true → Seats w → Slots w → Spent (w.seat i).post phase → Spent (steps.phase_turn phase (counted (w.seat i).post) (w.seat i).desk (finds w i)).post (phase_left (steps.phase_turn phase (counted (w.seat i).post) (w.seat i).desk (finds w i)).outcome)
+turn_out w i Idle e d s l h = h
+turn_out w i (Runs why base) e d s l h =
     let t : Turn = after base (counted (w.seat i).post) (finds w i) in
     let f = (s.fits i).post in
     resumed_spent why (w.seat i).desk t.post t.told t.outcome (run_out w.layout why base (w.seat i).post (counted (w.seat i).post) (finds w i) (run_of w i why base s e) f.layout f.standing h)
-turn_out w i (Scans later at) e s h = scan_spent later at (counted (w.seat i).post) (w.seat i).desk (finds w i) (h refl)
-turn_out w i (Works work) e s h = work_spent work (counted (w.seat i).post) (w.seat i).desk (finds w i)
+turn_out w i (Scans later at) e d s l h = scan_spent later at (counted (w.seat i).post) (w.seat i).desk (finds w i) (h refl)
+turn_out w i (Works work) e d s l h =
+    let f = s.fits i in
+    let m = (bounds_of w.layout d).indexes in
+    work_spent w.layout.config work (counted (w.seat i).post) (w.seat i).desk (finds w i)
+    (work_counted work (w.seat i).post (subst (PhaseFits w.layout (w.seat i).post) e f.phase)) (subst (PhaseIn w.layout (w.seat i).desk) e (l.seats i).phase) (omega (m.1, f.post.standing, arith)) h
 
 abbrev pub SpentIn : World → ℕ → Type 0
 SpentIn w k = Spent (w.seat k).post (w.seat k).phase
 
-step_own : (w : World) (i : ℕ) → Seats w → SpentIn w i → SpentIn (step w i) i
-step_own w i s h =
+step_own : (w : World) (i : ℕ) → is_valid w.layout ≡ true → Seats w → Slots w → SpentIn w i → SpentIn (step w i) i
+step_own w i d s l h =
     let t : CallTurn = turn (w.seat i) (finds w i) in
-    let q : Spent t.post (phase_left t.outcome) = turn_out w i (w.seat i).phase refl s h in
+    let q : Spent t.post (phase_left t.outcome) = turn_out w i (w.seat i).phase refl d s l h in
     subst (λ (p : Post). Spent p ((step w i).seat i).phase) (sym (stepped_post w i))
     (subst (λ (p : Phase). Spent t.post p) (sym (stepped_phase w i)) q)
 
-step_spent : (w : World) (i k : ℕ) (same : Bool) → (k == i) ≡ same → Seats w → ((m : ℕ) → SpentIn w m) → SpentIn (step w i) k
-step_spent w i k true e s h =
+step_spent : (w : World) (i k : ℕ) (same : Bool) → (k == i) ≡ same → is_valid w.layout ≡ true → Seats w → Slots w → ((m : ℕ) → SpentIn w m) → SpentIn (step w i) k
+step_spent w i k true e d s l h =
     let one : k ≡ i = grind (arith, nat_tests) in
-    subst (λ (m : ℕ). SpentIn (step w i) m) (sym one) (step_own w i s (h i))
-step_spent w i k false e s h = subst (λ (l : Local). Spent l.post l.phase) (sym (seat_stays w i k e)) (h k)
+    subst (λ (m : ℕ). SpentIn (step w i) m) (sym one) (step_own w i d s l (h i))
+step_spent w i k false e d s l h = subst (λ (l : Local). Spent l.post l.phase) (sym (seat_stays w i k e)) (h k)
 
 idle_ended : (phase : Phase) (post : Post) → busy_in phase ≡ false → Spent post phase → Ended post
 idle_ended Idle post b h = h refl
@@ -208,8 +214,8 @@ record SpentAll (made : Made) (h : schedule.History) : Type 0 where
 
 kept : Kept SpentAll
 kept = record {
-  begins = λ made h i call a b f g. record { seats = λ k. begin_spent made.world i k call (k == i) refl f g.seats };
-  steps = λ made h i a b y g. record { seats = λ k. step_spent made.world i k (k == i) refl a.known.known.seats g.seats };
+  begins = λ made h i call a b f m g. record { seats = λ k. begin_spent made.world i k call (k == i) refl f g.seats };
+  steps = λ made h i a b y g. record { seats = λ k. step_spent made.world i k (k == i) refl a.known.known.valid a.known.known.seats a.known.known.slots g.seats };
 }
 
 pub spent_of : (layout : Layout) (items : List Item) (k : ℕ) → is_valid layout ≡ true → SpentIn (world_of layout items) k

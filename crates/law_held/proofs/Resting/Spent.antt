@@ -1,6 +1,6 @@
--- Under 2GE a seat whose round is over has no interval, unless a row stands at its index 2.
-use Rattle.std.proofs.Common.{ℕ, ◌≡◌, ◌-◌, ◌+◌, ◌%◌, Bool, true, false, List, [], ◌∷◌, ◌++◌, length, Option, Some, None, refl, ap}
-use Rattle.std.specs.Prelude.{◌==◌, nat_lt}
+-- Under 2GE a seat whose round is over has no interval, unless a row stands at an index of it from 2 on.
+use Rattle.std.proofs.Common.{ℕ, ◌≡◌, ◌≤◌, ◌<◌, subst, arith, ◌-◌, ◌+◌, ◌%◌, Bool, true, false, List, [], ◌∷◌, ◌++◌, length, Option, Some, None, refl, ap}
+use Rattle.std.specs.Prelude.{◌==◌, is_some, nat_lt}
 use Rattle.wfe_core.specs.words.declared.config.SchemeKind.{SchemeKind}
 use Rattle.wfe_core.specs.words.declared.config.SchemeKind.TheVariants.{He, Ibr, Wfe}
 use Rattle.wfe_core.specs.defs.declared.call.Answer.{Answer}
@@ -23,20 +23,25 @@ use Rattle.wfe_core.specs.Desks.{Desk, with_life}
 use Rattle.wfe_core.specs.Enqueue as enqueues
 use Rattle.wfe_core.specs.Get as gets
 use Rattle.wfe_core.specs.Guards.{guards, guard_at, eras_in, published}
-use Rattle.wfe_core.specs.Posts.{stands}
-use Rattle.wfe_core.specs.Rounds.{scheme_of, bucket_of, index_of, taken_of, begin_base, release_base, clear_base, clear_post, clear_told, finish_base, finish_span, round_by, round, given_up, closed, finishing_by, finishing, clearing_by, clearing, clearing_next_by, clearing_next}
+use Rattle.wfe_core.specs.Keep as keeps
+use Rattle.wfe_core.specs.Posts.{cleared, reserves_index, stands, with_row, withdrawn}
+use Rattle.wfe_core.proofs.Standing.{none_kept, stands-with_row_same}
+use Rattle.wfe_core.specs.words.Schemes.{has_one_interval}
+use Rattle.wfe_core.specs.words.declared.config.Config.{Config}
+use Rattle.wfe_core.specs.Rounds.{scheme_of, bucket_of, index_of, taken_of, begin_base, kept_row, let_index, letting, letting_by, release_base, clear_base, clear_post, clear_told, finish_base, finish_span, round_by, round, given_up, closed, finishing_by, finishing, clearing_by, clearing, clearing_next_by, clearing_next}
 use Rattle.wfe_core.specs.Scan as scan
 use Rattle.wfe_core.specs.Steps as steps
 use Rattle.wfe_core.specs.Phases.{Base, Ending, Outcome, Goes, Ends}
 use Rattle.wfe_core.specs.Phases.Ending.{Done, Protected, Followed, Allocated, Retired, Clocked}
-use Rattle.wfe_core.specs.Calls.{Task, Gets, Changes, Holds, Enqueues, Dequeues, Next, Again, MakeRoom, Answering, Retiring, AfterScan, Answered, Repeated, Counted, ChangeKept, EnqueueKept, GetAt, FindVersion, FindCount, FindKey, FindValue, ChangeAt, LoadVersion, LoadCount, LoadKey, LoadValue, ExchangeRoot, EnqueueAt, LoadNumber, LoadNext, PassTail, ExchangeNext, ExchangeTail, DequeueAt, SwingTail, ExchangeHead, Work, Getting, Changing, Enqueuing, Dequeuing, ScanAt, ReadGuard, GiveBack, Why, Opens, FollowsHead, Fills, ClearsNext, Clears, Finishes, GivesUp, Retires, Tidies, Advances, Releases, Phase, Idle, Runs, Scans, Works, CallTurn}
+use Rattle.wfe_core.specs.Calls.{Task, Gets, Changes, Holds, Enqueues, Dequeues, Next, Again, MakeRoom, Answering, Retiring, AfterScan, Answered, Repeated, Counted, ChangeKept, EnqueueKept, GetAt, FindVersion, FindCount, FindKey, FindValue, ChangeAt, LoadVersion, LoadCount, LoadKey, LoadValue, ExchangeRoot, EnqueueAt, LoadNumber, LoadNext, PassTail, ExchangeNext, ExchangeTail, DequeueAt, SwingTail, ExchangeHead, Work, Getting, Changing, Enqueuing, Dequeuing, Keeping, KeepAt, Loosens, LoadHeld, StoreHeld, Looks, Misses, LetGo, Released, Rehold, Dropped, ScanAt, ReadGuard, GiveBack, Why, Opens, FollowsHead, Fills, ClearsNext, Clears, Finishes, GivesUp, Retires, Tidies, Advances, Releases, Phase, Idle, Runs, Scans, Works, CallTurn}
 use Rattle.wfe_core.specs.words.Schemes.{is_ibr}
-use Rattle.law_places.specs.inv.shapes.Frame.{phase_left}
+use Rattle.law_places.specs.inv.shapes.Frame.{KeepFits, WorkFits, phase_left}
+use Rattle.law_places.specs.inv.shapes.Slots.{KeepIn, WorkIn}
 use Rattle.law_turns.proofs.Counting.Fits.{is_hold}
 
--- under 2GE no interval stands where no row stands at index 2
+-- under 2GE no interval stands where no row is kept
 abbrev pub Ended : Post → Type 0
-Ended post = is_ibr (scheme_of post) ≡ true → stands post 2 ≡ None → post.span ≡ None
+Ended post = is_ibr (scheme_of post) ≡ true → kept_row post ≡ None → post.span ≡ None
 
 -- no round is under way
 abbrev pub over_why : Why → Bool
@@ -50,13 +55,17 @@ over_why (GivesUp answer) = true
 over_why (Retires answer) = true
 over_why (Tidies later) = true
 over_why Advances = true
-over_why (Releases key) = false
+over_why (Releases let_go) = false
+
+abbrev pub over_work : Work → Bool
+over_work (Keeping at) = true
+over_work work = false
 
 abbrev pub over : Phase → Bool
 over Idle = true
 over (Runs why base) = over_why why
 over (Scans later at) = true
-over (Works work) = false
+over (Works work) = over_work work
 
 abbrev pub Spent : Post → Phase → Type 0
 Spent post phase = over phase ≡ true → Ended post
@@ -67,8 +76,17 @@ Turned t = Spent t.post (phase_left t.outcome)
 inner : (phase : Phase) (post : Post) → over phase ≡ false → Spent post phase
 inner phase post e = λ o. absurd (cc)
 
-held_ended : (post : Post) (slot : ℕ) → stands post 2 ≡ Some slot → Ended post
+held_ended : (post : Post) (slot : ℕ) → kept_row post ≡ Some slot → Ended post
 held_ended post slot e = λ b n. absurd (cc)
+
+kept_ended : (post : Post) → is_some (kept_row post) ≡ true → Ended post
+kept_ended post e = λ b n. let none : false ≡ true = subst (λ (x : Option ℕ). is_some x ≡ true) n e in absurd (cc)
+
+-- a row comes to stand at an index from 2 on
+pub put_ended : (post : Post) (index slot : ℕ) → 2 ≤ index → index < length post.standing → Ended (with_row post index slot)
+put_ended post index slot low few = λ b n.
+    let none : stands (with_row post index slot) index ≡ None = none_kept (with_row post index slot) index n low in
+    let some : stands (with_row post index slot) index ≡ Some slot = stands-with_row_same post index slot few in absurd (cc)
 
 pub plain_ended : (post : Post) → is_ibr (scheme_of post) ≡ false → Ended post
 plain_ended post e = λ b n. absurd (cc)
@@ -92,13 +110,13 @@ closed_spent task MakeRoom post desk told h = λ o. h
 closed_spent task (Answering answer) post desk told h = given_up_spent answer post desk told (taken_of task) h
 closed_spent task (Retiring slot answer) post desk told h = λ o. h
 
-finish_spent : (task : Task) (next : Next) (post : Post) (desk : Desk) (told : List Event) (x : Option ℕ) → stands post 2 ≡ x → Turned (finishing_by task next post desk told (finish_span x))
+finish_spent : (task : Task) (next : Next) (post : Post) (desk : Desk) (told : List Event) (x : Option ℕ) → kept_row post ≡ x → Turned (finishing_by task next post desk told (finish_span x))
 finish_spent task next post desk told None e = λ o. absurd (cc)
 finish_spent task next post desk told (Some slot) e = closed_spent task next post desk told (held_ended post slot e)
 
 finishing_by_spent : (task : Task) (next : Next) (post : Post) (desk : Desk) (told : List Event) (scheme : SchemeKind) → scheme_of post ≡ scheme → Turned (finishing_by task next post desk told (finish_base scheme post))
 finishing_by_spent task next post desk told He e = closed_spent task next post desk told (plain_ended post (ap is_ibr e))
-finishing_by_spent task next post desk told Ibr e = finish_spent task next post desk told (stands post 2) refl
+finishing_by_spent task next post desk told Ibr e = finish_spent task next post desk told (kept_row post) refl
 finishing_by_spent task next post desk told Wfe e = closed_spent task next post desk told (plain_ended post (ap is_ibr e))
 
 finishing_spent : (task : Task) (next : Next) (post : Post) (desk : Desk) (told : List Event) → Turned (finishing task next post desk told)
@@ -144,7 +162,7 @@ deciding_by_spent kept post desk told (Some answer) = clearing_spent (Changes ke
 deciding_by_spent kept post desk told None = λ o. absurd (cc)
 
 deciding_spent : (kept : ChangeKept) (post : Post) (desk : Desk) (told : List Event) → Turned (alters.deciding kept post desk told)
-deciding_spent kept post desk told = deciding_by_spent kept post desk told (alters.refusal post.layout.config kept.version kept.pairs kept.change)
+deciding_spent kept post desk told = deciding_by_spent kept post desk told (alters.refused post.layout.config kept)
 
 reading_spent : (kept : ChangeKept) (slot count : ℕ) (post : Post) (desk : Desk) (more : Bool) → Turned (alters.reading kept slot count post desk more)
 reading_spent kept slot count post desk true = λ o. absurd (cc)
@@ -189,11 +207,50 @@ dequeue_spent (SwingTail head next) post desk found = clearing_next_spent Again 
 dequeue_spent (ExchangeHead head next number value) post desk found = taken_spent head next number value post desk (found == head + 1)
 dequeue_spent at post desk found = λ o. absurd (cc)
 
-pub work_spent : (work : Work) (post : Post) (desk : Desk) (found : ℕ) → Turned (steps.work_turn work post desk found)
-work_spent (Getting key at) post desk found = get_spent key at post desk found
-work_spent (Changing kept at) post desk found = change_spent kept at post desk found
-work_spent (Enqueuing kept at) post desk found = enqueue_spent kept at post desk found
-work_spent (Dequeuing at) post desk found = dequeue_spent at post desk found
+-- something is let go, copied or looked at
+released_spent : (let_go : LetGo) (post : Post) (desk : Desk) (told : List Event) → Ended post → Turned (keeps.released let_go post desk told)
+released_spent Released post desk told h = λ o. h
+released_spent (Rehold key) post desk told h = round_spent (Holds key) post
+released_spent (Dropped index) post desk told h = λ o. h
+
+copied_spent : (from index : ℕ) (post : Post) (desk : Desk) (reserved : List Event) (x : Option ℕ) → 2 ≤ index → index < length post.standing → Ended post → Turned (keeps.copied from index post desk reserved x)
+copied_spent from index post desk reserved None low few h = λ o. h
+copied_spent from index post desk reserved (Some slot) low few h = λ o. put_ended post index slot low few
+
+load_spent : (from index : ℕ) (post : Post) (desk : Desk) (found : ℕ) (one : Bool) → 2 ≤ index → index < length post.standing → Ended post → Turned (keeps.load_held from index post desk found one)
+load_spent from index post desk found true low few h = copied_spent from index post desk [] (stands post from) low few h
+load_spent from index post desk found false low few h = λ o. h
+
+looking_spent : (index key slot version count : ℕ) (post : Post) (desk : Desk) (more : Bool) (pair : ℕ) → Ended post → Turned (keeps.looking index key slot version count post desk more pair)
+looking_spent index key slot version count post desk true pair h = λ o. h
+looking_spent index key slot version count post desk false pair h = λ o. h
+
+looked_key_spent : (index key slot version count pair : ℕ) (post : Post) (desk : Desk) (own : Bool) → Ended post → Turned (keeps.looked_key index key slot version count pair post desk own)
+looked_key_spent index key slot version count pair post desk true h = λ o. h
+looked_key_spent index key slot version count pair post desk false h = looking_spent index key slot version count post desk (nat_lt (pair + 1) count) (pair + 1) h
+
+look_spent : (index key : ℕ) (at : GetAt) (post : Post) (desk : Desk) (found : ℕ) → Ended post → Turned (keeps.look_turn index key at post desk found)
+look_spent index key (FindVersion slot) post desk found h = λ o. h
+look_spent index key (FindCount slot version) post desk found h = looking_spent index key slot version found post desk (nat_lt 0 found) 0 h
+look_spent index key (FindKey slot version count pair) post desk found h = looked_key_spent index key slot version count pair post desk (found == key) h
+look_spent index key (FindValue slot version pair) post desk found h = λ o. h
+
+keep_spent : (config : Config) (at : KeepAt) (post : Post) (desk : Desk) (found : ℕ) → KeepFits post at → KeepIn config at → config.indexes ≤ length post.standing → Ended post → Turned (keeps.keep_turn at post desk found)
+keep_spent config (Loosens let_go) post desk found f k few h =
+    released_spent let_go (withdrawn post (let_index let_go)) desk (cleared (let_index let_go) (stands post (let_index let_go))) (kept_ended (withdrawn post (let_index let_go)) f.kept)
+keep_spent config (LoadHeld from index) post desk found f k few h =
+    load_spent from index post desk found (has_one_interval (scheme_of post)) (omega (arith, k.kept, k.rises)) (omega (arith, k.below, few)) h
+keep_spent config (StoreHeld from index era) post desk found f k few h =
+    copied_spent from index post desk (reserves_index post index era) (stands post from) (omega (arith, k.kept, k.rises)) (omega (arith, k.below, few)) h
+keep_spent config (Looks index key at) post desk found f k few h = look_spent index key at post desk found h
+keep_spent config (Misses index) post desk found f k few h = λ o. h
+
+pub work_spent : (config : Config) (work : Work) (post : Post) (desk : Desk) (found : ℕ) → WorkFits post work → WorkIn config work → config.indexes ≤ length post.standing → (over_work work ≡ true → Ended post) → Turned (steps.work_turn work post desk found)
+work_spent config (Getting key at) post desk found f k few h = get_spent key at post desk found
+work_spent config (Changing kept at) post desk found f k few h = change_spent kept at post desk found
+work_spent config (Enqueuing kept at) post desk found f k few h = enqueue_spent kept at post desk found
+work_spent config (Dequeuing at) post desk found f k few h = dequeue_spent at post desk found
+work_spent config (Keeping at) post desk found f k few h = keep_spent config at post desk found f k few (h refl)
 
 -- a scan
 scanned_spent : (later : AfterScan) (post : Post) (desk : Desk) (told : List Event) → Ended post → Turned (scan.scanned later post desk told)
@@ -297,10 +354,6 @@ advanced_spent (Followed end) post desk told h = λ o. h
 advanced_spent (Allocated end) post desk told h = λ o. h
 advanced_spent (Retired life) post desk told h = λ o. h
 
-released_spent : (key : Option ℕ) (post : Post) (desk : Desk) (told : List Event) → Ended post → Turned (steps.released key post desk told)
-released_spent None post desk told h = λ o. h
-released_spent (Some key) post desk told h = round_spent (Holds key) post
-
 -- what has to hold where a machine has ended
 abbrev pub Opened : Task → Post → Ending → Type 0
 Opened task post (Protected (protect_ends.Held slot era)) = is_hold task ≡ true → Ended post
@@ -317,7 +370,7 @@ Resumes (GivesUp answer) post ending = Ended post
 Resumes (Retires answer) post ending = Ended post
 Resumes (Tidies later) post ending = Ended post
 Resumes Advances post ending = Ended post
-Resumes (Releases key) post ending = Ended post
+Resumes (Releases let_go) post ending = Ended post
 
 opened_spent : (task : Task) (ending : Ending) (post : Post) (desk : Desk) (told : List Event) → Opened task post ending → Turned (steps.opened task ending post desk told)
 opened_spent task (Protected (protect_ends.Held slot era)) post desk told h = opened_row_spent task slot post desk told h
@@ -339,7 +392,7 @@ resume_spent (GivesUp answer) ending post desk told h = λ o. h
 resume_spent (Retires answer) ending post desk told h = retired_spent answer ending post desk told h
 resume_spent (Tidies later) ending post desk told h = tidied_spent later ending post desk told h
 resume_spent Advances ending post desk told h = advanced_spent ending post desk told h
-resume_spent (Releases key) ending post desk told h = released_spent key post desk told h
+resume_spent (Releases let_go) ending post desk told h = released_spent let_go post desk told h
 
 -- a machine goes on, or has ended
 abbrev pub Out : Why → Post → Outcome → Type 0
@@ -351,12 +404,24 @@ resumed_spent why desk post told (Goes base) h = h
 resumed_spent why desk post told (Ends ending) h = resume_spent why ending post desk told h
 
 -- a call begins
-release_spent : (key : Option ℕ) (post : Post) → Spent post (Runs (Releases key) (release_base (scheme_of post)))
-release_spent key post = λ o. absurd (cc)
+letting_spent : (let_go : LetGo) (post : Post) (x : Option Base) → Ended post → Spent post (letting_by let_go x)
+letting_spent let_go post None h = λ o. h
+letting_spent let_go post (Some base) h = λ o. absurd (cc)
 
-holding_spent : (key : ℕ) (post : Post) (o : Option ℕ) → Spent post (steps.holding key post o)
-holding_spent key post None = round_spent (Holds key) post
-holding_spent key post (Some slot) = release_spent (Some key) post
+release_spent : (let_go : LetGo) (post : Post) → Ended post → Spent post (letting let_go post)
+release_spent let_go post h = letting_spent let_go post (release_base (scheme_of post) post (let_index let_go)) h
+
+holding_spent : (key : ℕ) (post : Post) (o : Option ℕ) → Ended post → Spent post (steps.holding key post o)
+holding_spent key post None h = round_spent (Holds key) post
+holding_spent key post (Some slot) h = release_spent (Rehold key) post h
+
+copying_spent : (from index : ℕ) (post : Post) (o : Option ℕ) → Ended post → Spent post (steps.copying from index o)
+copying_spent from index post None h = λ o. h
+copying_spent from index post (Some slot) h = λ o. h
+
+looking_at_spent : (index key : ℕ) (post : Post) (o : Option ℕ) → Ended post → Spent post (steps.looking_at index key o)
+looking_at_spent index key post None h = λ o. h
+looking_at_spent index key post (Some slot) h = λ o. h
 
 pub first_spent : (call : Call) (post : Post) → Ended post → Spent post (steps.first_phase call post)
 first_spent (names.Get key) post h = round_spent (Gets key) post
@@ -364,7 +429,11 @@ first_spent (names.Put key value) post h = round_spent (Changes _) post
 first_spent (names.Remove key) post h = round_spent (Changes _) post
 first_spent (names.Enqueue value) post h = round_spent (Enqueues _) post
 first_spent names.Dequeue post h = round_spent Dequeues post
-first_spent (names.Hold key) post h = holding_spent key post (stands post 2)
-first_spent names.Release post h = release_spent None post
+first_spent (names.PutIf key value version) post h = round_spent (Changes _) post
+first_spent (names.Hold key) post h = holding_spent key post (stands post 2) h
+first_spent names.Release post h = release_spent Released post h
+first_spent (names.Copy from index) post h = copying_spent from index post (stands post from) h
+first_spent (names.DropIndex index) post h = release_spent (Dropped index) post h
+first_spent (names.Look index key) post h = looking_at_spent index key post (stands post index) h
 first_spent names.Advance post h = λ o. h
 first_spent names.Scan post h = λ o. h

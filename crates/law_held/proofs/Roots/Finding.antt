@@ -139,8 +139,8 @@ record FindsKept (layout : Layout) (made : Made) : Type 0 where
 
 steady : (layout : Layout) → Steady (FindsKept layout)
 steady layout = record {
-  begins = λ made i call b y g. record {
-    answers = answering.begin_keeps layout.config.buckets made i call y g.answers;
+  begins = λ made i call b y m g. record {
+    answers = answering.begin_keeps layout.config.buckets made i call y m g.answers;
     found = λ k. begin_found made.world i k call made.past (k == i) refl g.found;
   };
   steps = λ made i b y g. record {

@@ -22,6 +22,7 @@ use Rattle.wfe_core.specs.Posts.{stands, counted, upper}
 use Rattle.wfe_core.specs.Protect.{told_held}
 use Rattle.wfe_core.specs.World.{World, finds, told_in}
 use Rattle.wfe_core.proofs.Facts.{same_number, and_right_false, number_is, or_more}
+use Rattle.law_places.proofs.inv.history.Passes.{work_told}
 use Rattle.law_places.proofs.inv.ends.Ends.Tests.{at_shows, base_shows, base_any}
 use Rattle.law_places.specs.inv.shapes.Seats.{ToFollow, Shaped, suits, kind_of}
 use Rattle.law_places.specs.inv.history.History.{record_of, world_of}
@@ -43,7 +44,7 @@ use Rattle.law_held.proofs.Roots.Ways.{record_each, answers_of}
 use Rattle.law_places.proofs.inv.rows.Queued.{finds_phase}
 use Rattle.law_turns.proofs.TurnCounts.Tried.{is_follow}
 use Rattle.law_places.proofs.inv.ends.Ends.Stood.{is_standing, standing_calm}
-use Rattle.law_held.proofs.NextRows.Following.{is_one, no_reload, why_one, later_one, at_one, cleared_one, one_calm}
+use Rattle.law_held.proofs.NextRows.Following.{is_one, no_reload, why_one, later_one, at_one, cleared_one, one_calm, work_one}
 use Rattle.law_held.proofs.Indexes.Clears.{row_there}
 use Rattle.wfe_core.proofs.Lists.{or_left, or_right}
 
@@ -71,6 +72,7 @@ still_ok slots p i event h s = refl
 
 still_stood : (i : ℕ) (p : Past) (event : Event) → is_standing event ≡ false → stood_at i 0 (Then p i event) ≡ stood_at i 0 p
 still_stood i p (events.Held index slot count) h = absurd (cc)
+still_stood i p (events.Copied from index slot) h = absurd (cc)
 still_stood i p (events.Clear index slot) h = absurd (cc)
 still_stood i p event h = by (i == i)
   where
@@ -88,7 +90,7 @@ base_one : (buckets : ℕ) (why : Why) (base : Base) (post : Post) (found : ℕ)
 base_one buckets why (Protect aim index root count at) post found f k h = at_one index root (bump count) post at found (why_one why index f k h.at)
 base_one buckets why (Reload parent index slot era count) post found f k h = no_reload why (base_shows is_one post (Reload parent index slot era count) found) f k
 base_one buckets why (Clear index) post found f k h = cleared_one index (stands post index)
-base_one buckets why Release post found f k h = cleared_one 2 (stands post 2)
+base_one buckets why (Release index) post found f k h = cleared_one index (stands post index)
 base_one buckets why base post found f k h = refl
 
 -- the protection of a next link tells no row
@@ -134,7 +136,7 @@ own_each buckets slots i mem (Runs why base) post p k g =
     other_each slots i (machine.after base (counted post) found).told p (base_any is_one base (counted post) found one_calm ∙ base_one buckets why base (counted post) found refl k.fits.0 k.fits.1) g
 own_each buckets slots i mem (Scans later (ReadGuard number)) post p k g = (refl, g)
 own_each buckets slots i mem (Scans later (GiveBack place slot)) post p k g = (refl, g)
-own_each buckets slots i mem (Works work) post p k g = g
+own_each buckets slots i mem (Works work) post p k g = other_each slots i (work_told work (counted post)) p (work_one work (counted post)) g
 
 step_follows : (buckets slots : ℕ) (w : World) (i : ℕ) (p : Past) → Here buckets slots i w.mem (w.seat i).phase (w.seat i).post p → Each (follows_ok slots) p → Each (follows_ok slots) (tells_of p i (told_in w i))
 step_follows buckets slots w i p k g =

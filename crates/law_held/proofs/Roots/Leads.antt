@@ -4,6 +4,7 @@ use Rattle.wfe_core.specs.words.Place.{Place, is_valid}
 use Rattle.wfe_core.specs.words.Place.Place.{Head, Tail, Bucket}
 use Rattle.wfe_core.specs.words.declared.layout.Layout.{Layout}
 use Rattle.wfe_core.specs.defs.declared.call.Call.{Call}
+use Rattle.wfe_core.specs.Locals.{may_begin}
 use Rattle.wfe_core.specs.World.{World, is_busy, step, told_in}
 use Rattle.law_places.specs.inv.history.History.{Item, Begins, Steps, Made, done, first_made, record_of, world_of}
 use Rattle.law_places.proofs.inv.history.Along.{Steady, items_keep}
@@ -43,8 +44,8 @@ tail_step w i v l z p k h =
     ap (λ (n : ℕ). n + 1) (whole_comes tail_by (tail_at w.layout.config.slots) w i p (λ q event. refl) tail_still tail_end)
     ∙ tail_moved w.layout.config.slots i w.mem v l (w.seat i).phase (w.seat i).post (w.seat i).desk.list (tail_at w.layout.config.slots p) (here_of w i v l z k) h
 
-begin_kept : (layout : Layout) (made : Made) (i : ℕ) (call : Call) → is_busy made.world i ≡ false → LeadsKept layout made → LeadsKept layout (done made (Begins i call))
-begin_kept layout made i call f g =
+begin_kept : (layout : Layout) (made : Made) (i : ℕ) (call : Call) → is_busy made.world i ≡ false → may_begin made.world.layout.config call ≡ true → LeadsKept layout made → LeadsKept layout (done made (Begins i call))
+begin_kept layout made i call f m g =
     let k = g.known in
     let q = requests_begin made.world i call g.asked k.valid f k.seats k.requests in
     record {
@@ -52,7 +53,7 @@ begin_kept layout made i call f g =
       rows = g.rows;
       line = g.line;
       asked = q.0;
-      known = known_begin made.world i call g.rows g.line g.asked q.0 f k q.1.facts q.1.deal;
+      known = known_begin made.world i call g.rows g.line g.asked q.0 f m k q.1.facts q.1.deal;
       roots = record { buckets = g.roots.buckets; head = g.roots.head };
       tail = g.tail;
     }
@@ -72,7 +73,7 @@ step_kept layout made i b g =
     }
 
 steady : (layout : Layout) → Steady (LeadsKept layout)
-steady layout = record { begins = λ made i call b y g. begin_kept layout made i call y g; steps = λ made i b y g. step_kept layout made i b g }
+steady layout = record { begins = λ made i call b y m g. begin_kept layout made i call y m g; steps = λ made i b y g. step_kept layout made i b g }
 
 first_kept : (layout : Layout) → is_valid layout ≡ true → LeadsKept layout (first_made layout)
 first_kept layout d =

@@ -18,7 +18,7 @@ use Rattle.wfe_core.specs.Enqueue.{told_link}
 use Rattle.wfe_core.specs.Locals.{told_end, turn}
 use Rattle.wfe_core.specs.Posts.{stands, counted}
 use Rattle.wfe_core.specs.World.{World, finds, told_in}
-use Rattle.wfe_core.specs.Calls.{ChangeKept, EnqueueKept, LoadVersion, LoadCount, LoadKey, LoadValue, ExchangeRoot, LoadNumber, LoadNext, PassTail, ExchangeNext, ExchangeTail, LoadTail, SwingTail, TakeNumber, TakeValue, ExchangeHead, Getting, Changing, Enqueuing, Dequeuing, Phase, Idle, Runs, Scans, Works, CallTurn, CallOutcome, GoesOn, Answers}
+use Rattle.wfe_core.specs.Calls.{ChangeKept, EnqueueKept, LoadVersion, LoadCount, LoadKey, LoadValue, ExchangeRoot, LoadNumber, LoadNext, PassTail, ExchangeNext, ExchangeTail, LoadTail, SwingTail, TakeNumber, TakeValue, ExchangeHead, Getting, Changing, Enqueuing, Dequeuing, Keeping, Phase, Idle, Runs, Scans, Works, CallTurn, CallOutcome, GoesOn, Answers}
 use Rattle.wfe_core.proofs.Facts.{same_number, both, first_of, rest_of, number_is, or_more}
 use Rattle.law_places.specs.inv.history.Record.{Past, Each, tells_of}
 use Rattle.law_places.specs.inv.history.Record.Past.{Then}
@@ -125,6 +125,7 @@ ordered_each slots i mem (Works (Enqueuing kept (PassTail next))) post call p b 
 ordered_each slots i mem (Works (Enqueuing kept (ExchangeNext slot))) post call p b g = appended_each slots i p kept slot (mem (Row kept.tail 0) == 0) (b.first ∙ b.stood.queue kept.tail (same_number kept.tail)) g
 ordered_each slots i mem (Works (Enqueuing kept (ExchangeTail slot))) post call p b g =
     swung_each slots i mem p kept.tail slot (mem Tail == kept.tail + 1) refl b.leads.tail (b.first ∙ b.stood.queue kept.tail (same_number kept.tail)) (no_dequeue kept.value call (began_of i p) (is_row slot (stood_at i 1 p)) b.began b.serves) g
+ordered_each slots i mem (Works (Keeping at)) post call p b g = g
 ordered_each slots i mem (Works (Dequeuing (LoadTail head))) post call p b g = g
 ordered_each slots i mem (Works (Dequeuing (SwingTail head next))) post call p b g =
     swung_each slots i mem p head next (mem Tail == head + 1) refl b.leads.tail (b.first ∙ b.stood.queue head (same_number head))

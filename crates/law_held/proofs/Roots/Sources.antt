@@ -18,6 +18,7 @@ use Rattle.wfe_core.specs.defs.declared.fold.Change.TheVariants as changes
 use Rattle.wfe_core.specs.declared.post.Post.{Post}
 use Rattle.wfe_core.specs.Calls.{Task, Gets, Changes, Holds, Enqueues, Dequeues, Why, Opens, FollowsHead, Phase, Idle, Runs, Scans, Works}
 use Rattle.wfe_core.specs.Links.{link_place}
+use Rattle.wfe_core.specs.Locals.{may_begin}
 use Rattle.wfe_core.specs.Memory.{bump}
 use Rattle.wfe_core.specs.Phases.{Aim, ProtectAt, Base}
 use Rattle.wfe_core.specs.Phases.ProtectAt.{CheckClock, TakeAnswer, CheckUpper}
@@ -26,10 +27,10 @@ use Rattle.wfe_core.specs.Posts.{counted, cleared, stands, upper}
 use Rattle.wfe_core.specs.Protect.{told_held}
 use Rattle.wfe_core.specs.World.{World, finds, is_busy, told_in}
 use Rattle.wfe_core.proofs.Facts.{same_number, both, first_of, rest_of, true_of_not}
-use Rattle.law_places.proofs.inv.ends.Ends.Tests.{Calm, at_shows, base_shows, phase_shows, step_any}
+use Rattle.law_places.proofs.inv.ends.Ends.Tests.{Calm, at_shows, base_shows, none_worked, phase_shows, step_any}
 use Rattle.law_places.specs.inv.shapes.Seats.{Seats, protects, kind_of, task_root}
 use Rattle.law_places.specs.inv.history.History.{Item, Begins, Steps, Made, fits, done_if, made_of, first_made, record_of, world_of}
-use Rattle.law_places.proofs.inv.history.Along.{begins_right, low_seat, paths_keep}
+use Rattle.law_places.proofs.inv.history.Along.{begins_right, begins_within, low_seat, paths_keep}
 use Rattle.law_places.specs.inv.Known.{Known}
 use Rattle.law_places.proofs.inv.Inv.Begun.{known_start, known_begin}
 use Rattle.law_places.proofs.inv.Inv.Kept.{known_kept, asked_next}
@@ -139,16 +140,17 @@ item_kept layout made item false f l g = g
 item_kept layout made (Begins i call) true f l g =
     let w : World = made.world in
     let k = g.known in
-    let b = begins_right i w.layout.config.seats (is_busy w i) f in
+    let b = begins_right i w.layout.config.seats (is_busy w i) (may_begin w.layout.config call) f in
+    let m = begins_within i w.layout.config.seats (is_busy w i) (may_begin w.layout.config call) f in
     let q = requests_begin w i call g.asked k.valid b k.seats k.requests in
     record {
       table = g.table;
       rows = g.rows;
       line = g.line;
       asked = q.0;
-      known = known_begin w i call g.rows g.line g.asked q.0 b k q.1.facts q.1.deal;
+      known = known_begin w i call g.rows g.line g.asked q.0 b m k q.1.facts q.1.deal;
       links = origins_begin (had_link layout.config (Then made.past i (events.Begin call))) w i call g.asked q.0 b k.requests q.1.deal
-          (record { tracked = λ m x t. begin_tracked layout.config w i m x call made.past g.asked (m == i) refl b k.requests g.links t });
+          (record { tracked = λ n x t. begin_tracked layout.config w i n x call made.past g.asked (n == i) refl b k.requests g.links t });
     }
 item_kept layout made (Steps i) true f l g =
     let w : World = made.world in
@@ -203,13 +205,14 @@ one_even c p i index slot n true e = let q : (index == 1) ≡ true = grind (arit
 one_even c p i index slot n false e = refl
 
 -- of the root of a task
-change_had : (c : Config) (p : Past) (i : ℕ) (change : Change) (x : ℕ) → had_link c p i (task_root c.buckets (Changes (record { change = change; taken = None; walked = false; link = 0; version = 0; pairs = [] }))) x ≡ true → has_had c i p (Some (call_for change)) (row_of x) ≡ true
-change_had c p i (changes.Put key value) x h = h
-change_had c p i (changes.Removed key) x h = h
+change_had : (c : Config) (p : Past) (i : ℕ) (change : Change) (wanted : Option ℕ) (x : ℕ) → had_link c p i (task_root c.buckets (Changes (record { change = change; wanted = None; taken = None; walked = false; link = 0; version = 0; pairs = [] }))) x ≡ true → has_had c i p (Some (call_for change wanted)) (row_of x) ≡ true
+change_had c p i (changes.Put key value) None x h = h
+change_had c p i (changes.Put key value) (Some version) x h = h
+change_had c p i (changes.Removed key) wanted x h = h
 
 call_had : (c : Config) (p : Past) (i : ℕ) (call : Call) (task : Task) (x : ℕ) → TaskServes call task → had_link c p i (task_root c.buckets task) x ≡ true → has_had c i p (Some call) (row_of x) ≡ true
 call_had c p i call (Gets key) x s h = subst (λ (y : Call). has_had c i p (Some y) (row_of x) ≡ true) (sym s) h
-call_had c p i call (Changes kept) x s h = subst (λ (y : Call). has_had c i p (Some y) (row_of x) ≡ true) (sym s) (change_had c p i kept.change x h)
+call_had c p i call (Changes kept) x s h = subst (λ (y : Call). has_had c i p (Some y) (row_of x) ≡ true) (sym s.is) (change_had c p i kept.change kept.wanted x h)
 call_had c p i call (Holds key) x s h = subst (λ (y : Call). has_had c i p (Some y) (row_of x) ≡ true) (sym s) h
 call_had c p i call (Enqueues kept) x s h = subst (λ (y : Call). has_had c i p (Some y) (row_of x) ≡ true) (sym s) h
 call_had c p i call Dequeues x s h = subst (λ (y : Call). has_had c i p (Some y) (row_of x) ≡ true) (sym s) h
@@ -293,19 +296,20 @@ run_even c w i z p why (Reload parent index slot era count) q b =
     let r = run_of w i why (Reload parent index slot era count) b.seats q in
     and_by (finds w i == parent + 1) (is_odd c p i (events.Held index slot (bump count))) (λ e. reload_even c p i index slot (bump count) (reload_index why index r.suited r.shape.at))
 run_even c w i z p why (Clear index) q b = cleared_even c p i index (stands (w.seat i).post index)
-run_even c w i z p why Release q b = cleared_even c p i 2 (stands (w.seat i).post 2)
+run_even c w i z p why (Release index) q b = cleared_even c p i index (stands (w.seat i).post index)
 run_even c w i z p why base q b = refl
 
 phase_even : (c : Config) (w : World) (i : ℕ) (z : Asked) (p : Past) (phase : Phase) → (w.seat i).phase ≡ phase → Knows c w i z p → phase_shows (is_odd c p i) (counted (w.seat i).post) phase (finds w i) ≡ false
 phase_even c w i z p Idle q b = refl
 phase_even c w i z p (Runs why base) q b = run_even c w i z p why base q b
 phase_even c w i z p (Scans later at) q b = refl
-phase_even c w i z p (Works work) q b = refl
+phase_even c w i z p (Works work) q b = none_worked (is_odd c p i) work (counted (w.seat i).post) (λ index slot. refl) (λ from index slot. refl)
 
 -- what is right where a step begins is right where it is told
 had_more : (c : Config) (p : Past) (i : ℕ) (event : Event) (call : Option Call) (found : Option ℕ) → is_within event ≡ true → has_had c i p call found ≡ true → has_had c i (Then p i event) call found ≡ true
 had_more c p i event (Some (names.Get key)) found w h = one_held i i (λ (q : Past). same_value found (bucket_at (key % c.buckets) q)) p event (within_begins i i p event w) h
 had_more c p i event (Some (names.Put key value)) found w h = one_held i i (λ (q : Past). same_value found (bucket_at (key % c.buckets) q)) p event (within_begins i i p event w) h
+had_more c p i event (Some (names.PutIf key value version)) found w h = one_held i i (λ (q : Past). same_value found (bucket_at (key % c.buckets) q)) p event (within_begins i i p event w) h
 had_more c p i event (Some (names.Remove key)) found w h = one_held i i (λ (q : Past). same_value found (bucket_at (key % c.buckets) q)) p event (within_begins i i p event w) h
 had_more c p i event (Some (names.Hold key)) found w h = one_held i i (λ (q : Past). same_value found (bucket_at (key % c.buckets) q)) p event (within_begins i i p event w) h
 had_more c p i event (Some (names.Enqueue value)) found w h = one_held i i (λ (q : Past). same_value found (Some (tail_at c.slots q))) p event (within_begins i i p event w) h

@@ -31,12 +31,15 @@ item_each layout ok a path (Steps i) true f g =
     let w : World = world_of layout path in
     a.steps path i (record { seat = low_seat i w.layout.config.seats (is_busy w i) f; busy = rest_of (nat_lt i w.layout.config.seats) (is_busy w i) f }) g
 
+pub record_all : (layout : Layout) (ok : Test) (items : List Item) → Along layout ok → Each ok (record_of layout items)
+record_all layout ok items a = paths_keep layout (λ (made : Made). Each ok made.past) (λ path item fit f g. item_each layout ok a path item fit f g) tt items
+
 pub record_each : (layout : Layout) (ok : Test) (items : List Item) → Along layout ok → EachEntry ok (record_of layout items)
-record_each layout ok items a = entries_of_each ok (record_of layout items) (paths_keep layout (λ (made : Made). Each ok made.past) (λ path item fit f g. item_each layout ok a path item fit f g) tt items)
+record_each layout ok items a = entries_of_each ok (record_of layout items) (record_all layout ok items a)
 
 -- what a history has told of its answers
 steady : (n : ℕ) → Steady (answering.Keeps n)
-steady n = record { begins = λ made i call b y g. answering.begin_keeps n made i call y g; steps = λ made i b y g. answering.step_keeps n made i b y g }
+steady n = record { begins = λ made i call b y m g. answering.begin_keeps n made i call y m g; steps = λ made i b y g. answering.step_keeps n made i b y g }
 
 pub answers_of : (layout : Layout) (path : List Item) → is_valid layout ≡ true → answering.Keeps layout.config.buckets (made_of layout path)
 answers_of layout path d = items_keep (answering.Keeps layout.config.buckets) (steady layout.config.buckets) path (first_made layout) (answering.first_keeps layout d)

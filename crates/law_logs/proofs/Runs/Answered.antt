@@ -30,6 +30,7 @@ use Rattle.laws.specs.HistoryAnswers.{ClockTally, answer_fits, outcome_fits, pla
 use Rattle.laws.specs.StateAt.{has_told, is_back, is_give, list_of, one, retires_of, times}
 use Rattle.law_logs.specs.RunLaw.{AnswersLaw, IsCall, IsRight, clock_told, is_allowed, is_due, is_still, retired_by}
 use Rattle.law_logs.specs.Runs.{AtRest, logs_of}
+use Rattle.law_logs.proofs.Runs.Bare.{none_noted}
 use Rattle.law_logs.proofs.Runs.Calls.{Called, called, log_at}
 use Rattle.law_logs.proofs.Runs.Clocks.{due_right, retires_noted}
 use Rattle.law_logs.proofs.Runs.Closes.{Closes, closes}
@@ -39,11 +40,14 @@ use Rattle.law_logs.proofs.Runs.Notes.{backs_noted, none_given}
 allowed_by : (c : Config) (from : Counts) (r : Past) (call : Call) (answer : Answer) → suits call answer ≡ true → Says c from r call answer
     → is_allowed c.last_version answer ≡ true
 allowed_by c from r (calls.Put key value) (answers.Done version clock) u s = le_test version c.last_version s.most
+allowed_by c from r (calls.PutIf key value wanted) (answers.Done version clock) u s = le_test version c.last_version s.done.most
 allowed_by c from r (calls.Remove key) (answers.Done version clock) u s = le_test version c.last_version s.most
 allowed_by c from r call (answers.Done version clock) u s = absurd (cc)
 allowed_by c from r (calls.Put key value) (answers.BucketFull version) u s = lt_test version c.last_version s.early
+allowed_by c from r (calls.PutIf key value wanted) (answers.BucketFull version) u s = lt_test version c.last_version s.full.early
 allowed_by c from r call (answers.BucketFull version) u s = absurd (cc)
 allowed_by c from r (calls.Put key value) (answers.Spent number) u s = same_test number c.last_version s.final
+allowed_by c from r (calls.PutIf key value wanted) (answers.Spent number) u s = same_test number c.last_version s.spent.final
 allowed_by c from r (calls.Remove key) (answers.Spent number) u s = same_test number c.last_version s.spent.final
 allowed_by c from r (calls.Enqueue value) (answers.Spent number) u s = same_test number c.last_version s.final
 allowed_by c from r call (answers.Spent number) u s = absurd (cc)
@@ -55,6 +59,7 @@ allowed_by c from r call answer u s = refl
 full_by : (c : Config) (k : ℕ) (p : Past) (call : Call) (answer : Answer) → answer ≡ answers.Full → suits call answer ≡ true → SaysOfRows c k p call answer
     → has_told k is_give p ≡ false
 full_by c k p (calls.Put key value) answers.Full e u s = s.given
+full_by c k p (calls.PutIf key value wanted) answers.Full e u s = s.given
 full_by c k p (calls.Remove key) answers.Full e u s = s.given
 full_by c k p (calls.Enqueue value) answers.Full e u s = s.given
 full_by c k p call answers.Full e u s = absurd (cc)
@@ -133,6 +138,7 @@ right layout items rest before group h =
       clock = λ move f. clock_by c.last_era t group.answer move f l.clock ∙ ap (λ (x : Bool). if x then false else true) due;
       back = λ kept back f.
           back_by c k p group.call group.answer kept back f z.suits l.reason ∙ backs_noted k p ∙ ap (λ (x : Notes). length x.back) (sym e.notes);
+      bare = none_noted layout items before group rest.valid h;
     }
 
 pub answered : (layout : Layout) (items : List Item) → AtRest layout items → AnswersLaw layout.config (logs_of layout items)

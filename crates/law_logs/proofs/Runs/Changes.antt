@@ -49,6 +49,8 @@ change_owed n b version = record { owed = owed }
     owed (calls.Get key) (answers.Got number value) notes = refl
     owed (calls.Put key value) (answers.Done number clock) notes = omega arith
     owed (calls.Remove key) (answers.Done number clock) notes = omega arith
+    owed (calls.PutIf key value wanted) (answers.Done number clock) notes = omega arith
+    owed (calls.Copy from index) (answers.Copied slot) notes = refl
     owed (calls.Enqueue value) (answers.Queued number) notes = refl
     owed calls.Dequeue (answers.Taken number value clock) notes = refl
     owed call answer notes = refl

@@ -6,7 +6,7 @@ use Rattle.wfe_core.specs.defs.declared.event.Event.{Event}
 use Rattle.wfe_core.specs.defs.declared.event.Event.TheVariants as events
 use Rattle.law_all.specs.inv.history.Record.{Past}
 use Rattle.law_all.proofs.letter.Each.{counted_by}
-use Rattle.law_logs.specs.Ledgers.{Ledger, ledger_by, no_ledger, notes_of}
+use Rattle.law_logs.specs.Ledgers.{Ledger, ledger_by, no_ledger}
 use Rattle.law_logs.specs.Records.{IsEnded}
 use Rattle.laws.specs.StateAt.{is_give}
 use Rattle.law_logs.proofs.Runs.Notes.{both_seen}

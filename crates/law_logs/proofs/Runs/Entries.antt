@@ -1,14 +1,14 @@
 -- What each history keeps of a call's entries beside its laws: a row that is retired is not on the seat's list yet, no dequeue is given a
 -- row, and only a dequeue links the head.
-use Rattle.std.proofs.Common.{ℕ, ◌≡◌, ◌<◌, Bool, true, false, List, [], ◌∷◌, ◌++◌, Option, Some, refl, sym, ap, ◌∙◌, subst}
+use Rattle.std.proofs.Common.{ℕ, ◌≡◌, ◌<◌, Bool, true, false, List, [], ◌∷◌, ◌++◌, None, Option, Some, refl, sym, ap, ◌∙◌, subst}
 use Rattle.std.specs.List.{filter}
 use Rattle.std.specs.Prelude.{◌==◌, not, if◌then◌else◌}
 use Rattle.wfe_core.proofs.Facts.{both, first_of, rest_of}
 use Rattle.wfe_core.specs.Allocate.{is_claimed}
-use Rattle.wfe_core.specs.Calls.{Task, Gets, Changes, Holds, Enqueues, Dequeues, ChangeKept, EnqueueKept, LoadVersion, LoadCount, LoadKey, LoadValue, ExchangeRoot, LoadNumber, LoadNext, PassTail, ExchangeNext, ExchangeTail, LoadTail, SwingTail, TakeNumber, TakeValue, ExchangeHead, Getting, Changing, Enqueuing, Dequeuing, ReadGuard, GiveBack, Why, Fills, Phase, Idle, Runs, Scans, Works, CallTurn, CallOutcome, GoesOn, Answers}
+use Rattle.wfe_core.specs.Calls.{Task, Gets, Changes, Holds, Enqueues, Dequeues, ChangeKept, EnqueueKept, LoadVersion, LoadCount, LoadKey, LoadValue, ExchangeRoot, LoadNumber, LoadNext, PassTail, ExchangeNext, ExchangeTail, LoadTail, SwingTail, TakeNumber, TakeValue, ExchangeHead, Getting, Keeping, Changing, Enqueuing, Dequeuing, ReadGuard, GiveBack, Why, Fills, Phase, Idle, Runs, Scans, Works, CallTurn, CallOutcome, GoesOn, Answers}
 use Rattle.wfe_core.specs.Change.{told_change}
 use Rattle.wfe_core.specs.Enqueue.{told_link}
-use Rattle.wfe_core.specs.Locals.{told_end, turn}
+use Rattle.wfe_core.specs.Locals.{may_begin, told_end, turn}
 use Rattle.wfe_core.specs.Phases.{Base, Walk}
 use Rattle.wfe_core.specs.Phases.AllocateAt.{ClaimSlot}
 use Rattle.wfe_core.specs.Phases.Base.{Allocate, Retire}
@@ -99,11 +99,12 @@ kinds_ok p i event = kind_right (began_of i p) event
 fill_kind : (task : Task) (birth slot : ℕ) (walk : Walk) (call : Call) → runs_right (Fills task) (Allocate (ClaimSlot birth walk)) ≡ true
     → TaskServes call task → all_of (kind_right (Some call)) (events.Give slot birth ∷ []) ≡ true
 fill_kind (Gets key) birth slot walk call r s = absurd (cc)
-fill_kind (Changes kept) birth slot walk call r s = rw s (by kept.change)
+fill_kind (Changes kept) birth slot walk call r s = rw s.is (by kept.change kept.wanted)
   where
-    by : (change : Change) → all_of (kind_right (Some (call_for change))) (events.Give slot birth ∷ []) ≡ true
-    by (changes.Put key value) = refl
-    by (changes.Removed key) = refl
+    by : (change : Change) (wanted : Option ℕ) → all_of (kind_right (Some (call_for change wanted))) (events.Give slot birth ∷ []) ≡ true
+    by (changes.Put key value) None = refl
+    by (changes.Put key value) (Some version) = refl
+    by (changes.Removed key) wanted = refl
 fill_kind (Holds key) birth slot walk call r s = absurd (cc)
 fill_kind (Enqueues kept) birth slot walk call r s = rw s refl
 fill_kind Dequeues birth slot walk call r s = absurd (cc)
@@ -156,6 +157,7 @@ marks_kind (Runs why base) post found list call r s = run_kind why base post fou
 marks_kind (Scans later (ReadGuard number)) post found list call r s = refl
 marks_kind (Scans later (GiveBack place slot)) post found list call r s = refl
 marks_kind (Works (Getting key at)) post found list call r s = refl
+marks_kind (Works (Keeping at)) post found list call r s = refl
 marks_kind (Works (Changing kept (LoadVersion slot))) post found list call r s = refl
 marks_kind (Works (Changing kept (LoadCount slot))) post found list call r s = refl
 marks_kind (Works (Changing kept (LoadKey slot count))) post found list call r s = refl
@@ -226,11 +228,11 @@ record Keeps (layout : Layout) (made : Made) : Type 0 where
   fresh : Each fresh_ok made.past
   kinds : Each kinds_ok made.past
 
-begin_keeps : (layout : Layout) (made : Made) (i : ℕ) (call : Call) → is_busy made.world i ≡ false → Keeps layout made
-    → Keeps layout (done made (Begins i call))
-begin_keeps layout made i call f g = record {
-  base = once.begin_keeps layout made i call f g.base;
-  answers = answering.begin_keeps layout.config.buckets made i call f g.answers;
+begin_keeps : (layout : Layout) (made : Made) (i : ℕ) (call : Call) → is_busy made.world i ≡ false → may_begin made.world.layout.config call ≡ true
+    → Keeps layout made → Keeps layout (done made (Begins i call))
+begin_keeps layout made i call f m g = record {
+  base = once.begin_keeps layout made i call f m g.base;
+  answers = answering.begin_keeps layout.config.buckets made i call f m g.answers;
   fresh = (refl, g.fresh);
   kinds = (refl, g.kinds);
 }
@@ -256,7 +258,7 @@ step_keeps layout made i b y g =
     }
 
 steady : (layout : Layout) → Steady (Keeps layout)
-steady layout = record { begins = λ made i call b y g. begin_keeps layout made i call y g; steps = λ made i b y g. step_keeps layout made i b y g }
+steady layout = record { begins = λ made i call b y m g. begin_keeps layout made i call y m g; steps = λ made i b y g. step_keeps layout made i b y g }
 
 keeps_all : (layout : Layout) (items : List Item) → is_valid layout ≡ true → Keeps layout (made_of layout items)
 keeps_all layout items d =

@@ -1,25 +1,25 @@
 -- The law of runs from its parts.
-use Rattle.std.proofs.Common.{Bool, List, [], ap, arith, eqb, false, length, refl, subst, suc, sym, take, take_all, true, zero, ℕ, ◌+◌, ◌<◌, ◌==◌, ◌∙◌, ◌∷◌, ◌≡◌, ◌≤◌}
-use Rattle.std.specs.Prelude.{filter, if◌then◌else◌, map}
+use Rattle.std.proofs.Common.{Bool, List, ap, arith, false, length, refl, subst, suc, sym, take, take_all, true, zero, ℕ, ◌+◌, ◌<◌, ◌==◌, ◌∙◌, ◌∷◌, ◌≡◌, ◌≤◌}
+use Rattle.std.specs.Prelude.{filter, if◌then◌else◌}
 use Rattle.std.specs.List.{range_with_len}
 use Rattle.std.proofs.lemmas.Bool.Decides.{nat_tests}
 use Rattle.std.proofs.lemmas.List.FromFn.{get_or-map-range_with_len, length-map-range_with_len}
 use Rattle.wfe_core.specs.Locals.{Group}
-use Rattle.wfe_core.specs.World.{World}
-use Rattle.wfe_core.specs.defs.Pairs.{Pair, pairs_after}
+use Rattle.wfe_core.specs.defs.Pairs.{pairs_after}
 use Rattle.wfe_core.specs.defs.declared.fold.Change.{Change}
-use Rattle.wfe_core.specs.words.Place.{is_valid, row_count}
+use Rattle.wfe_core.specs.words.Place.{row_count}
 use Rattle.wfe_core.specs.words.declared.layout.Layout.{Layout}
-use Rattle.laws.specs.StateAt.{Filling, changes_of, clock_of, count_of, filling_at, is_among, one, queued_of, taken_at, taken_of}
-use Rattle.law_all.specs.inv.history.History.{Item, record_of, world_of}
+use Rattle.laws.specs.StateAt.{Filling, changes_of, clock_of, filling_at, is_among, one, queued_of, taken_at, taken_of}
+use Rattle.law_all.specs.inv.history.History.{record_of}
 use Rattle.law_all.specs.inv.history.Record.{Past}
 use Rattle.law_logs.proofs.Runs.Agrees.{runs_agree}
+use Rattle.law_logs.proofs.Runs.Keeping.{runs_keep}
 use Rattle.law_logs.proofs.Runs.Bounds.{bounds}
 use Rattle.law_logs.proofs.Runs.Listed.{runs_list}
 use Rattle.law_logs.proofs.Runs.Sums.{runs_add_up}
 use Rattle.law_logs.proofs.Runs.Ticks.{runs_tick}
 use Rattle.law_logs.specs.RunLaw.{backs_in, bucket_in, gives, no_bucket, total, unuseds}
-use Rattle.law_logs.specs.Runs.{AddsUp, Agrees, AtRest, RunsAddUp, RunsAgree, RunsAreLawful, RunsList, RunsTick, Ticks, at_close, logs_of}
+use Rattle.law_logs.specs.Runs.{AddsUp, Agrees, RunsAddUp, RunsAgree, RunsAreLawful, RunsKeep, RunsList, RunsTick, Ticks, at_close, logs_of}
 
 -- a bucket of the closed table is that of the record
 bucket_closed : (layout : Layout) (p : Past) (b : ℕ) → b < layout.config.buckets → bucket_in b (at_close layout p) ≡ filling_at p b
@@ -69,8 +69,8 @@ same_filter test other first (suc count) h =
     (same_filter test other (first + 1) count (λ slot low high. h slot (omega arith) (omega arith)))
 
 -- the whole law, by its parts
-by_parts : RunsAddUp → RunsAgree → RunsTick → RunsList → RunsAreLawful
-by_parts add agree tick list layout items rest =
+by_parts : RunsAddUp → RunsAgree → RunsKeep → RunsTick → RunsList → RunsAreLawful
+by_parts add agree keep tick list layout items rest =
     let p : Past = record_of layout items in
     let logs : List (List Group) = logs_of layout items in
     let sums : AddsUp layout p logs = add layout items rest in
@@ -90,6 +90,7 @@ by_parts add agree tick list layout items rest =
         reads = says.reads;
       };
       rises = says.rises;
+      keeps = keep layout items rest;
       queue = record {
         most = (bounds layout items rest.valid).taken;
         once_queued = sums.queued;
@@ -116,4 +117,4 @@ by_parts add agree tick list layout items rest =
     }
 
 pub runs_are_lawful : RunsAreLawful
-runs_are_lawful = by_parts runs_add_up runs_agree runs_tick runs_list
+runs_are_lawful = by_parts runs_add_up runs_agree runs_keep runs_tick runs_list

@@ -1,8 +1,8 @@
 -- What answers say of the map is so by the changes that the record has.
-use Rattle.std.proofs.Common.{Bool, List, Some, ap, arith, false, get_or, length, length-append, refl, sym, true, ℕ, ◌+◌, ◌-◌, ◌<◌, ◌∙◌, ◌≡◌, ◌≤◌}
+use Rattle.std.proofs.Common.{[], ◌∷◌, Bool, List, Some, ap, arith, false, get_or, length, length-append, refl, sym, true, ℕ, ◌+◌, ◌-◌, ◌<◌, ◌∙◌, ◌≡◌, ◌≤◌}
 use Rattle.std.proofs.lemmas.List.{get_or_append_left}
 use Rattle.std.proofs.lemmas.Option.{slice_get_read}
-use Rattle.std.specs.Prelude.{if◌then◌else◌, is_some, nat_le, nat_lt, slice_get, ◌&&◌, ◌||◌}
+use Rattle.std.specs.Prelude.{if◌then◌else◌, is_some, nat_le, nat_lt, slice_get, ◌&&◌, ◌==◌, ◌||◌}
 use Rattle.wfe_core.proofs.Facts.{rest_of}
 use Rattle.wfe_core.specs.Locals.{Group}
 use Rattle.wfe_core.specs.defs.Pairs.{Pair, value_in}
@@ -10,6 +10,7 @@ use Rattle.wfe_core.specs.defs.declared.call.Answer.TheVariants as answers
 use Rattle.wfe_core.specs.defs.declared.call.Answer.{Answer}
 use Rattle.wfe_core.specs.defs.declared.call.Call.TheVariants as calls
 use Rattle.wfe_core.specs.defs.declared.call.Call.{Call}
+use Rattle.wfe_core.specs.defs.declared.call.ClockMove.TheVariants as moves
 use Rattle.wfe_core.specs.defs.declared.call.ClockMove.{ClockMove}
 use Rattle.wfe_core.specs.defs.declared.event.Event.TheVariants as events
 use Rattle.wfe_core.specs.defs.declared.fold.Change.TheVariants as changes
@@ -23,7 +24,8 @@ use Rattle.law_logs.specs.Versions.{Counts, counts_of}
 use Rattle.law_logs.proofs.Answered.{pairs_on}
 use Rattle.law_logs.proofs.Counts.{begun_counts}
 use Rattle.law_logs.proofs.Grows.{Grows}
-use Rattle.law_logs.proofs.Heard.{ChangeHeard, heard_one, same_put, same_removed}
+use Rattle.laws.specs.HistoryAnswers.{put_reason, same_told}
+use Rattle.law_logs.proofs.Heard.{AllHeard, ChangeHeard, heard_one, same_put, same_removed}
 use Rattle.laws.specs.StateAt.{bucket_of, changes_of, count_of, had_version, is_there, pairs_at, told_of}
 use Rattle.law_logs.specs.RunLaw.{IsCall, IsMade, ReadsRight, could_put}
 use Rattle.law_logs.specs.Runs.{AtRest, logs_of}
@@ -60,16 +62,22 @@ either_is : (a b : Bool) → (a || b) ≡ true → (if a then true else b) ≡ t
 either_is true b h = refl
 either_is false b h = h
 
-put_made : (c : Config) (k : ℕ) (p r : Past) (key value version : ℕ) (clock : ClockMove) → Closes c k p r (calls.Put key value) (answers.Done version clock)
-    → ReadsRight c (λ b. changes_of b r) (calls.Put key value) (answers.Done version clock)
-put_made c k p r key value version clock h =
+record PutHeard (c : Config) (k : ℕ) (p : Past) (key value version : ℕ) : Type 0 where
+  told : same_told (told_of k p) (events.Put (bucket_of c.buckets key) version key value ∷ []) ≡ true
+  heard : AllHeard c.buckets (begun_counts k p) p (told_of k p)
+  reason : put_reason c k (bucket_of c.buckets key) key p (answers.Done version moves.Still) ≡ true
+
+put_made : (c : Config) (k : ℕ) (p r : Past) (key value version : ℕ) → PutHeard c k p key value version → Grows p r
+    → IsMade (changes_of (bucket_of c.buckets key) r) (changes.Put key value) version
+    (could_put c.pairs (pairs_at (bucket_of c.buckets key) (version - 1) r) key)
+put_made c k p r key value version h g =
     let b : ℕ = bucket_of c.buckets key in
     let room : Bool = nat_lt (length (pairs_at b (version - 1) p)) c.pairs in
     let could : Bool = is_there b (version - 1) key p || room in
     let heard = heard_one c.buckets (begun_counts k p) p (events.Put b version key value) (told_of k p) (same_put b version key value) h.told h.heard in
     let possible : could ≡ true =
     rest_of (had_version b (version - 1) p) could (rest_of (nat_le version c.last_version) (had_version b (version - 1) p && could) h.reason) in
-    made c.buckets (begun_counts k p) p r b key version (changes.Put key value) (λ (ps : List Pair). could_put c.pairs ps key) heard h.grows
+    made c.buckets (begun_counts k p) p r b key version (changes.Put key value) (λ (ps : List Pair). could_put c.pairs ps key) heard g
     (either_is (is_there b (version - 1) key p) room possible)
 
 remove_made : (c : Config) (k : ℕ) (p r : Past) (key version : ℕ) (clock : ClockMove) → Closes c k p r (calls.Remove key) (answers.Done version clock)
@@ -89,10 +97,21 @@ last_there version count last h e k = omega (arith, h, e, k)
 reads_by : (c : Config) (from : Counts) (k : ℕ) (p r : Past) (call : Call) (answer : Answer) → Bounds c.last_version r → Closes c k p r call answer
     → Says c from r call answer → ReadsRight c (λ b. changes_of b r) call answer
 reads_by c from k p r (calls.Get key) (answers.Got version value) m h s = (s.met.until, s.value_is)
-reads_by c from k p r (calls.Put key value) (answers.Done version clock) m h s = put_made c k p r key value version clock h
+reads_by c from k p r (calls.Put key value) (answers.Done version clock) m h s =
+    put_made c k p r key value version (record { told = h.told; heard = h.heard; reason = h.reason }) h.grows
 reads_by c from k p r (calls.Put key value) (answers.BucketFull version) m h s = (record { had = s.met.until; away = s.value_is }, s.room)
 reads_by c from k p r (calls.Put key value) (answers.Spent version) m h s =
     let b : ℕ = bucket_of c.buckets key in last_there version (count_of b r) c.last_version s.met.until s.final (m.versions b)
+reads_by c from k p r (calls.PutIf key value wanted) (answers.Done version clock) m h s =
+    let b : ℕ = bucket_of c.buckets key in
+    let could : Bool = had_version b (version - 1) p && (is_there b (version - 1) key p || nat_lt (length (pairs_at b (version - 1) p)) c.pairs) in
+    let reason = rest_of (version == wanted + 1) (nat_le version c.last_version && could) h.reason in
+    (put_made c k p r key value version (record { told = h.told; heard = h.heard; reason = reason }) h.grows, s.next)
+reads_by c from k p r (calls.PutIf key value wanted) (answers.BucketFull version) m h s =
+    ((record { had = s.full.met.until; away = s.full.value_is }, s.full.room), s.same)
+reads_by c from k p r (calls.PutIf key value wanted) (answers.Spent version) m h s =
+    let b : ℕ = bucket_of c.buckets key in (last_there version (count_of b r) c.last_version s.spent.met.until s.spent.final (m.versions b), s.same)
+reads_by c from k p r (calls.PutIf key value wanted) (answers.Stale version) m h s = (s.met.until, s.other)
 reads_by c from k p r (calls.Remove key) (answers.Done version clock) m h s = remove_made c k p r key version clock h
 reads_by c from k p r (calls.Remove key) (answers.Absent version) m h s = record { had = s.met.until; away = s.value_is }
 reads_by c from k p r (calls.Remove key) (answers.Spent version) m h s =

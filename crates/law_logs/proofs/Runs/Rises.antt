@@ -17,7 +17,8 @@ use Rattle.law_all.specs.inv.history.Record.{Past}
 use Rattle.law_logs.proofs.Meets.{logs_extend, version_met}
 use Rattle.law_logs.specs.RunLaw.{InOrder, RisesLaw, change_made, has_number, is_queued_as, is_taken_as, is_version}
 use Rattle.law_logs.specs.Runs.{AtRest, logs_of}
-use Rattle.law_logs.proofs.Runs.Calls.{Follow, follow}
+use Rattle.law_logs.proofs.Runs.Calls.{Called, Follow, called, follow}
+use Rattle.law_logs.proofs.Runs.Keeping.{looked_before}
 
 -- what a log has met with one call more is what the call has told
 version_last : (n b version : ℕ) (told : Option (ℕ × ℕ)) (before : ℕ) → is_version n b version told ≡ true → version_by n b told before ≡ version
@@ -69,6 +70,7 @@ later_by from place b told version low h =
 change_later : (c : Config) (from : Counts) (r : Past) (call : Call) (answer : Answer) (b version : ℕ) → Says c from r call answer
     → (is_some (change_made call answer) && is_version c.buckets b version (version_told call answer)) ≡ true → from.versions b < version
 change_later c from r (calls.Put key value) (answers.Done told clock) b version s h = later_by from (bucket_of c.buckets key) b told version s.later h
+change_later c from r (calls.PutIf key value wanted) (answers.Done told clock) b version s h = later_by from (bucket_of c.buckets key) b told version s.done.later h
 change_later c from r (calls.Remove key) (answers.Done told clock) b version s h = later_by from (bucket_of c.buckets key) b told version s.later h
 change_later c from r call answer b version s h = absurd (cc)
 
@@ -104,6 +106,12 @@ rises layout items rest = record {
       below low ((met_in n (f.before ++ one ∷ [])).versions b) ((counts_of f.second.begun.from).versions b) high
       (met_version n b low f.before one l) (f.met.versions b)
       (change_later layout.config (counts_of f.second.begun.from) (record_of layout items) two.call two.answer b high f.second.says k);
+  after_looks = λ before group b version h k.
+      let r : Past = record_of layout items in
+      let a : Called layout items before group = called layout items before group rest.valid h in
+      let looked = looked_before layout items a.seat b before group rest a.is in
+      let later = change_later layout.config (counts_of a.is.begun.from) r group.call group.answer b version a.is.says k in
+      omega (arith, looked, later);
 }
 
 pub queued_rise : (layout : Layout) (items : List Item) → AtRest layout items → (one two : Group) (low high : ℕ) → InOrder (logs_of layout items) one two

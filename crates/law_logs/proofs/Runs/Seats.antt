@@ -149,6 +149,7 @@ calm all read list scans course next h s n = record { whole = λ e. all_read all
 first_counts : (call : Call) (read : List Seen) → Counts (first_course call) read
 first_counts (calls.Put key value) read = tt
 first_counts (calls.Remove key) read = tt
+first_counts (calls.PutIf key value version) read = tt
 first_counts (calls.Enqueue value) read = tt
 first_counts calls.Advance read = tt
 first_counts calls.Scan read = tt

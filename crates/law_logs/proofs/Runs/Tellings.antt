@@ -2,7 +2,7 @@
 use Rattle.std.proofs.Common.{ℕ, ◌≡◌, ◌+◌, Bool, true, false, List, [], ◌∷◌, ◌++◌, Option, Some, refl, sym, ap, ◌∙◌, subst, arith}
 use Rattle.std.proofs.lemmas.List.Sums.{sum_by_push}
 use Rattle.std.specs.Prelude.{count_by, if◌then◌else◌, ◌&&◌, ◌==◌}
-use Rattle.wfe_core.proofs.Facts.{first_of, rest_of, same_number}
+use Rattle.wfe_core.proofs.Facts.{first_of, number_is, rest_of}
 use Rattle.wfe_core.specs.Desks.{Notes, noted}
 use Rattle.wfe_core.specs.Locals.{Group}
 use Rattle.wfe_core.specs.defs.declared.call.Answer.{Answer}
@@ -34,6 +34,11 @@ same_is (events.Put b version key value) (events.Put b' version' key' value') h 
 same_is (events.Removed b version key) (events.Removed b' version' key') h = same_removed b' version' key' (events.Removed b version key) h
 same_is (events.Queued number value) (events.Queued number' value') h = same_queued_event number' value' (events.Queued number value) h
 same_is (events.Taken number value) (events.Taken number' value') h = same_taken number' value' (events.Taken number value) h
+same_is (events.Copied from index slot) (events.Copied from' index' slot') h =
+    let rest = rest_of (from == from') (index == index' && slot == slot') h in
+    let e1 = number_is from from' (first_of (from == from') (index == index' && slot == slot') h) in
+    let e2 = number_is index index' (first_of (index == index') (slot == slot') rest) in
+    let e3 = number_is slot slot' (rest_of (index == index') (slot == slot') rest) in cc
 same_is event other h = absurd (cc)
 
 told_same : (told others : List Event) → same_told told others ≡ true → told ≡ others
@@ -75,6 +80,7 @@ count_more kind told (events.Put bucket version key value) o h = count_push kind
 count_more kind told (events.Removed bucket version key) o h = count_push kind told (events.Removed bucket version key)
 count_more kind told (events.Queued number value) o h = count_push kind told (events.Queued number value)
 count_more kind told (events.Taken number value) o h = count_push kind told (events.Taken number value)
+count_more kind told (events.Copied from index slot) o h = count_push kind told (events.Copied from index slot)
 count_more kind told event o h = count_quiet kind told event (o.quiet event refl)
 
 -- groups that pass a test where their answers say an event of the kind

@@ -2,8 +2,6 @@
 use Rattle.std.proofs.Common.{List, None, Option, Some, arith, refl, subst, sym, ℕ, ◌++◌, ◌∙◌, ◌∷◌, ◌≡◌, ◌≤◌}
 use Rattle.wfe_core.proofs.Ranges.{bounds_of}
 use Rattle.wfe_core.specs.Locals.{Group}
-use Rattle.wfe_core.specs.defs.declared.call.ClockMove.TheVariants as moves
-use Rattle.wfe_core.specs.defs.declared.call.ClockMove.{ClockMove}
 use Rattle.wfe_core.specs.defs.declared.event.Event.TheVariants as events
 use Rattle.wfe_core.specs.words.declared.config.Config.{Config}
 use Rattle.wfe_core.specs.words.declared.layout.Layout.{Layout}
@@ -17,7 +15,7 @@ use Rattle.law_logs.proofs.Cuts.{logs_are_cut}
 use Rattle.laws.specs.AnswerLaw.{clocks_ok}
 use Rattle.laws.specs.EraLaw.{era_ok}
 use Rattle.laws.specs.StateAt.{clock_of}
-use Rattle.law_logs.specs.RunLaw.{InOrder, IsCall, clock_told, era_moved, era_told}
+use Rattle.law_logs.specs.RunLaw.{InOrder, IsCall, clock_told, era_told}
 use Rattle.law_logs.specs.Runs.{AtRest, RunsTick, logs_of}
 use Rattle.law_logs.proofs.Runs.Calls.{Called, Follow, called, follow}
 use Rattle.law_logs.proofs.Runs.Eras.{SinceAt, Timed, Timely, clock_most, clock_rises, since_call, since_start, timed, timely_tells}

@@ -57,6 +57,8 @@ queued_owed n number = record { owed = owed }
     owed (calls.Get key) (answers.Got version value) notes = refl
     owed (calls.Put key value) (answers.Done version clock) notes = refl
     owed (calls.Remove key) (answers.Done version clock) notes = refl
+    owed (calls.PutIf key value wanted) (answers.Done version clock) notes = refl
+    owed (calls.Copy from index) (answers.Copied slot) notes = refl
     owed (calls.Enqueue value) (answers.Queued other) notes = omega arith
     owed calls.Dequeue (answers.Taken other value clock) notes = refl
     owed call answer notes = refl
@@ -71,6 +73,8 @@ taken_owed n number = record { owed = owed }
     owed (calls.Get key) (answers.Got version value) notes = refl
     owed (calls.Put key value) (answers.Done version clock) notes = refl
     owed (calls.Remove key) (answers.Done version clock) notes = refl
+    owed (calls.PutIf key value wanted) (answers.Done version clock) notes = refl
+    owed (calls.Copy from index) (answers.Copied slot) notes = refl
     owed (calls.Enqueue value) (answers.Queued other) notes = refl
     owed calls.Dequeue (answers.Taken other value clock) notes = omega arith
     owed call answer notes = refl

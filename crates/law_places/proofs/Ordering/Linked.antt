@@ -16,11 +16,11 @@ use Rattle.wfe_core.specs.declared.post.Post.{Post}
 use Rattle.wfe_core.specs.Change.{told_change, changed_bucket}
 use Rattle.wfe_core.specs.Enqueue.{told_link}
 use Rattle.wfe_core.specs.Memory.{written}
-use Rattle.wfe_core.specs.Locals.{told_end, turn}
+use Rattle.wfe_core.specs.Locals.{told_end, turn, may_begin}
 use Rattle.wfe_core.specs.Posts.{counted}
 use Rattle.wfe_core.specs.Steps.{phase_move}
 use Rattle.wfe_core.specs.World.{World, step, finds, is_busy, told_in}
-use Rattle.wfe_core.specs.Calls.{ChangeKept, EnqueueKept, LoadVersion, LoadCount, LoadKey, LoadValue, ExchangeRoot, LoadNumber, LoadNext, PassTail, ExchangeNext, ExchangeTail, LoadTail, SwingTail, TakeNumber, TakeValue, ExchangeHead, Getting, Changing, Enqueuing, Dequeuing, ReadGuard, GiveBack, Phase, Idle, Runs, Scans, Works, CallTurn, CallOutcome, GoesOn, Answers}
+use Rattle.wfe_core.specs.Calls.{ChangeKept, EnqueueKept, LoadVersion, LoadCount, LoadKey, LoadValue, ExchangeRoot, LoadNumber, LoadNext, PassTail, ExchangeNext, ExchangeTail, LoadTail, SwingTail, TakeNumber, TakeValue, ExchangeHead, Getting, Changing, Enqueuing, Dequeuing, Keeping, ReadGuard, GiveBack, Phase, Idle, Runs, Scans, Works, CallTurn, CallOutcome, GoesOn, Answers}
 use Rattle.wfe_core.proofs.Facts.{same_number, both, first_of, rest_of, none_by, if_same, unless_true, same_both, number_is}
 use Rattle.law_answers.specs.inv.requests.Views.{View as Asked}
 use Rattle.law_answers.proofs.inv.requests.Kept.{requests_begin, requests_start}
@@ -163,6 +163,7 @@ none_moved (Runs why base) post found s h = rows_none s (birth_in (Runs why base
 none_moved (Scans later (ReadGuard number)) post found s h = refl
 none_moved (Scans later (GiveBack place slot)) post found s h = refl
 none_moved (Works (Getting key at)) post found s h = refl
+none_moved (Works (Keeping at)) post found s h = refl
 none_moved (Works (Changing kept (LoadVersion slot))) post found s h = refl
 none_moved (Works (Changing kept (LoadCount slot))) post found s h = refl
 none_moved (Works (Changing kept (LoadKey slot count))) post found s h = refl
@@ -195,6 +196,7 @@ lined_by (Runs why base) found l s h = inl h
 lined_by (Scans later (ReadGuard number)) found l s h = inl h
 lined_by (Scans later (GiveBack place slot)) found l s h = inl (unless_true (l.lined s) (s == slot) h)
 lined_by (Works (Getting key at)) found l s h = inl h
+lined_by (Works (Keeping at)) found l s h = inl h
 lined_by (Works (Changing kept at)) found l s h = inl h
 lined_by (Works (Enqueuing kept LoadNumber)) found l s h = inl h
 lined_by (Works (Enqueuing kept LoadNext)) found l s h = inl h
@@ -430,6 +432,7 @@ ordered_each slots table i mem v l Idle post list p k b g = g
 ordered_each slots table i mem v l (Runs why base) post list p k b g = g
 ordered_each slots table i mem v l (Scans later at) post list p k b g = g
 ordered_each slots table i mem v l (Works (Getting key at)) post list p k b g = g
+ordered_each slots table i mem v l (Works (Keeping at)) post list p k b g = g
 ordered_each slots table i mem v l (Works (Changing kept (LoadVersion slot))) post list p k b g = g
 ordered_each slots table i mem v l (Works (Changing kept (LoadCount slot))) post list p k b g = g
 ordered_each slots table i mem v l (Works (Changing kept (LoadKey slot count))) post list p k b g = g
@@ -480,8 +483,8 @@ record LinksKept (layout : Layout) (made : Made) : Type 0 where
 begin_nexts : (slots : ℕ) (w u : World) (v : View) (l : Line) (p : Past) (i : ℕ) (call : Call) → u.mem Tail ≡ w.mem Tail → ((s : ℕ) → u.mem (Row s 0) ≡ w.mem (Row s 0)) → Nexts slots w v l p → Nexts slots u v l (Then p i (events.Begin call))
 begin_nexts slots w u v l p i call t n g = record { tail = g.tail ∙ sym t; next = λ s h. g.next s h ∙ sym (n s); fresh = g.fresh; given = g.given }
 
-begin_kept : (layout : Layout) (made : Made) (i : ℕ) (call : Call) → is_busy made.world i ≡ false → LinksKept layout made → LinksKept layout (done made (Begins i call))
-begin_kept layout made i call f g =
+begin_kept : (layout : Layout) (made : Made) (i : ℕ) (call : Call) → is_busy made.world i ≡ false → may_begin made.world.layout.config call ≡ true → LinksKept layout made → LinksKept layout (done made (Begins i call))
+begin_kept layout made i call f n g =
     let k = g.known in
     let q = requests_begin made.world i call g.asked k.valid f k.seats k.requests in
     let d = done made (Begins i call) in
@@ -490,7 +493,7 @@ begin_kept layout made i call f g =
       rows = g.rows;
       line = g.line;
       asked = q.0;
-      known = known_begin made.world i call g.rows g.line g.asked q.0 f k q.1.facts q.1.deal;
+      known = known_begin made.world i call g.rows g.line g.asked q.0 f n k q.1.facts q.1.deal;
       roots = record { buckets = g.roots.buckets; head = g.roots.head };
       nexts = begin_nexts made.world.layout.config.slots made.world d.world g.rows g.line made.past i call refl (λ s. refl) g.nexts;
       law = (refl, g.law);
@@ -523,7 +526,7 @@ step_kept layout made i b g =
     }
 
 steady : (layout : Layout) → Steady (LinksKept layout)
-steady layout = record { begins = λ made i call b y g. begin_kept layout made i call y g; steps = λ made i b y g. step_kept layout made i b g }
+steady layout = record { begins = λ made i call b y m g. begin_kept layout made i call y m g; steps = λ made i b y g. step_kept layout made i b g }
 
 -- and no row is taken but the dummy
 first_given : (s slots : ℕ) (same : Bool) → is_taken (if same then InQueue else Free) ≡ true → same ≡ true

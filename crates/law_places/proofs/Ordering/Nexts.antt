@@ -3,7 +3,7 @@ use Rattle.std.proofs.Common.{ℕ, ◌≡◌, ◌<◌, ◌+◌, ◌-◌, Bool, t
 use Rattle.std.proofs.lemmas.Bool.Decides.{nat_tests}
 use Rattle.std.specs.Prelude.{◌==◌, ◌&&◌, if◌then◌else◌}
 use Rattle.wfe_core.specs.words.Place.{Place, same}
-use Rattle.wfe_core.specs.words.Place.Place.{Head, Tail, Bucket, Row}
+use Rattle.wfe_core.specs.words.Place.Place.{Head, Tail, Bucket, Index, Row}
 use Rattle.wfe_core.specs.defs.declared.event.Event.{Event}
 use Rattle.wfe_core.specs.defs.declared.event.Event.TheVariants as events
 use Rattle.wfe_core.specs.defs.declared.event.Root.TheVariants as roots
@@ -18,10 +18,10 @@ use Rattle.wfe_core.specs.Memory.{written}
 use Rattle.wfe_core.specs.Machine.{base_move}
 use Rattle.wfe_core.specs.Phases.{Base, RowOf}
 use Rattle.wfe_core.specs.Phases.Base.{Write}
-use Rattle.wfe_core.specs.Posts.{counted}
+use Rattle.wfe_core.specs.Posts.{counted, index_word}
 use Rattle.wfe_core.specs.Steps.{phase_move}
 use Rattle.wfe_core.specs.WriteRow.{row_word}
-use Rattle.wfe_core.specs.Calls.{ChangeKept, EnqueueKept, LoadVersion, LoadCount, LoadKey, LoadValue, ExchangeRoot, LoadNumber, LoadNext, PassTail, ExchangeNext, ExchangeTail, LoadTail, SwingTail, TakeNumber, TakeValue, ExchangeHead, Getting, Changing, Enqueuing, Dequeuing, GetAt, FindVersion, ReadGuard, GiveBack, Why, Phase, Idle, Runs, Scans, Works}
+use Rattle.wfe_core.specs.Calls.{ChangeKept, EnqueueKept, LoadVersion, LoadCount, LoadKey, LoadValue, ExchangeRoot, LoadNumber, LoadNext, PassTail, ExchangeNext, ExchangeTail, LoadTail, SwingTail, TakeNumber, TakeValue, ExchangeHead, KeepAt, StoreHeld, Looks, Getting, Changing, Enqueuing, Dequeuing, Keeping, GetAt, FindVersion, ReadGuard, GiveBack, Why, Phase, Idle, Runs, Scans, Works}
 use Rattle.wfe_core.proofs.Facts.{same_number, same_both}
 use Rattle.law_answers.specs.inv.rows.Agree.{Plays}
 use Rattle.law_answers.specs.inv.rows.Hands.{row_move}
@@ -164,6 +164,11 @@ get_left : (mem : Place → ℕ) (key : ℕ) (at : GetAt) (post : Post) (s : ℕ
 get_left mem key (FindVersion slot) post s = refl
 get_left mem key at post s = refl
 
+keep_left : (mem : Place → ℕ) (at : KeepAt) (post : Post) (s : ℕ) → written mem (phase_move (Works (Keeping at)) post) (Row s 0) ≡ mem (Row s 0)
+keep_left mem (StoreHeld from index era) post s = put_other mem (Index post.seat index) (Row s 0) (index_word post index era) refl
+keep_left mem (Looks index key at) post s = get_left mem key at post s
+keep_left mem at post s = refl
+
 -- the next link of a row that was in the queue since it was claimed
 pub next_moved : (slots i : ℕ) (mem : Place → ℕ) (v : View) (l : Line) (phase : Phase) (post : Post) (list : List Lifetime) (s : ℕ) (x : Option ℕ) → Here slots i mem v l phase post list → l.lined s ≡ true → word_of x ≡ mem (Row s 0)
     → word_of (along (next_by s) (marks phase post (finds_phase mem phase post)) x) ≡ written mem (phase_move phase post) (Row s 0)
@@ -172,6 +177,7 @@ next_moved slots i mem v l (Runs why base) post list s x k e h = plain_next slot
 next_moved slots i mem v l (Scans later (ReadGuard number)) post list s x k e h = h
 next_moved slots i mem v l (Scans later (GiveBack place slot)) post list s x k e h = h ∙ sym (unlinked_row mem (phase_move (Scans later (GiveBack place slot)) post) s refl)
 next_moved slots i mem v l (Works (Getting key at)) post list s x k e h = h ∙ sym (get_left mem key at post s)
+next_moved slots i mem v l (Works (Keeping at)) post list s x k e h = h ∙ sym (keep_left mem at post s)
 next_moved slots i mem v l (Works (Changing kept (LoadVersion slot))) post list s x k e h = h
 next_moved slots i mem v l (Works (Changing kept (LoadCount slot))) post list s x k e h = h
 next_moved slots i mem v l (Works (Changing kept (LoadKey slot count))) post list s x k e h = h
@@ -229,6 +235,11 @@ pub get_tail : (mem : Place → ℕ) (key : ℕ) (at : GetAt) (post : Post) → 
 get_tail mem key (FindVersion slot) post = refl
 get_tail mem key at post = refl
 
+pub keep_tail : (mem : Place → ℕ) (at : KeepAt) (post : Post) → written mem (phase_move (Works (Keeping at)) post) Tail ≡ mem Tail
+keep_tail mem (StoreHeld from index era) post = put_other mem (Index post.seat index) Tail (index_word post index era) refl
+keep_tail mem (Looks index key at) post = get_tail mem key at post
+keep_tail mem at post = refl
+
 pub before_next : (next : ℕ) → 0 < next → next - 1 + 1 ≡ next
 before_next next h = omega (h, arith)
 
@@ -239,6 +250,7 @@ tail_moved slots i mem v l (Runs why base) post list x k h = ap (λ (n : ℕ). n
 tail_moved slots i mem v l (Scans later (ReadGuard number)) post list x k h = h
 tail_moved slots i mem v l (Scans later (GiveBack place slot)) post list x k h = h ∙ sym (unlinked_tail mem (phase_move (Scans later (GiveBack place slot)) post) refl)
 tail_moved slots i mem v l (Works (Getting key at)) post list x k h = h ∙ sym (get_tail mem key at post)
+tail_moved slots i mem v l (Works (Keeping at)) post list x k h = h ∙ sym (keep_tail mem at post)
 tail_moved slots i mem v l (Works (Changing kept (LoadVersion slot))) post list x k h = h
 tail_moved slots i mem v l (Works (Changing kept (LoadCount slot))) post list x k h = h
 tail_moved slots i mem v l (Works (Changing kept (LoadKey slot count))) post list x k h = h

@@ -11,7 +11,7 @@ use Rattle.wfe_core.specs.defs.declared.event.Event.TheVariants as events
 use Rattle.wfe_core.specs.defs.declared.event.Root.TheVariants as roots
 use Rattle.wfe_core.specs.declared.post.Post.{Post}
 use Rattle.wfe_core.specs.Calls.{Phase, Idle, Runs, Scans, Works, CallTurn, CallOutcome, GoesOn, Answers}
-use Rattle.wfe_core.specs.Locals.{told_end, turn}
+use Rattle.wfe_core.specs.Locals.{told_end, turn, may_begin}
 use Rattle.wfe_core.specs.Memory as memory
 use Rattle.wfe_core.specs.Memory.{upd}
 use Rattle.wfe_core.specs.Steps.{phase_move}
@@ -331,15 +331,15 @@ record Keeps (layout : Layout) (made : Made) : Type 0 where
   roots : Roots layout.config.slots rows made.past
   settled : Settled layout.config.slots made.past
 
-begin_keeps : (layout : Layout) (made : Made) (i : ℕ) (call : Call) → is_busy made.world i ≡ false → Keeps layout made → Keeps layout (done made (Begins i call))
-begin_keeps layout made i call f g =
+begin_keeps : (layout : Layout) (made : Made) (i : ℕ) (call : Call) → is_busy made.world i ≡ false → may_begin made.world.layout.config call ≡ true → Keeps layout made → Keeps layout (done made (Begins i call))
+begin_keeps layout made i call f n g =
     let k = g.known in
     let q = requests_begin made.world i call g.asked k.valid f k.seats k.requests in
     record {
       rows = g.rows;
       line = g.line;
       asked = q.0;
-      known = known_begin made.world i call g.rows g.line g.asked q.0 f k q.1.facts q.1.deal;
+      known = known_begin made.world i call g.rows g.line g.asked q.0 f n k q.1.facts q.1.deal;
       roots = record { buckets = g.roots.buckets; head = g.roots.head };
       settled = plain_settles layout.config.slots i (events.Begin call ∷ []) made.past refl g.settled;
     }
@@ -359,7 +359,7 @@ step_keeps layout made i b g =
     }
 
 steady : (layout : Layout) → Steady (Keeps layout)
-steady layout = record { begins = λ made i call b y g. begin_keeps layout made i call y g; steps = λ made i b y g. step_keeps layout made i b g }
+steady layout = record { begins = λ made i call b y m g. begin_keeps layout made i call y m g; steps = λ made i b y g. step_keeps layout made i b g }
 
 first_keeps : (layout : Layout) → is_valid layout ≡ true → Keeps layout (first_made layout)
 first_keeps layout d =

@@ -1,5 +1,5 @@
 -- What a step tells first: what its machine or scan tells, or what the call's own step links and changes. After it nothing comes
--- but what was got and what is cleared, and the end.
+-- but what was got, what is cleared, what is copied with what is published for it, and the end.
 use Rattle.std.proofs.Common.{ℕ, ◌≡◌, ◌+◌, ◌-◌, ◌%◌, Bool, true, false, List, [], ◌∷◌, ◌++◌, length, Option, Some, None, refl, sym, ◌∙◌}
 use Rattle.std.proofs.lemmas.List.{append_assoc}
 use Rattle.std.specs.Prelude.{◌==◌, nat_lt}
@@ -22,22 +22,27 @@ use Rattle.wfe_core.specs.Desks.{Desk, with_life}
 use Rattle.wfe_core.specs.Enqueue as enqueues
 use Rattle.wfe_core.specs.Get as gets
 use Rattle.wfe_core.specs.Guards.{guards, guard_at, eras_in, published}
+use Rattle.wfe_core.specs.Keep as keeps
 use Rattle.wfe_core.specs.Machine as machine
+use Rattle.wfe_core.specs.Posts.{cleared, reserves_index, stands, with_row, withdrawn}
+use Rattle.wfe_core.specs.words.Schemes.{has_one_interval}
 use Rattle.wfe_core.specs.Scan as scan
 use Rattle.wfe_core.specs.Steps as steps
-use Rattle.wfe_core.specs.Rounds.{scheme_of, bucket_of, index_of, taken_of, finish_base, clear_base, clear_post, clear_told, given_up, closed, finishing_by, finishing, clearing_by, clearing, clearing_next_by, clearing_next}
+use Rattle.wfe_core.specs.Rounds.{scheme_of, bucket_of, index_of, taken_of, finish_base, clear_base, clear_post, clear_told, given_up, closed, finishing_by, finishing, clearing_by, clearing, clearing_next_by, clearing_next, let_index}
 use Rattle.wfe_core.specs.Phases.{Base, Ending, Outcome, Goes, Ends}
 use Rattle.wfe_core.specs.Phases.Ending.{Done, Protected, Followed, Allocated, Retired, Clocked}
-use Rattle.wfe_core.specs.Calls.{Task, Gets, Changes, Holds, Enqueues, Dequeues, Next, Again, MakeRoom, Answering, Retiring, AfterScan, Answered, Repeated, Counted, ChangeKept, EnqueueKept, GetAt, FindVersion, FindCount, FindKey, FindValue, ChangeAt, LoadVersion, LoadCount, LoadKey, LoadValue, ExchangeRoot, EnqueueAt, LoadNumber, LoadNext, PassTail, ExchangeNext, ExchangeTail, DequeueAt, LoadTail, SwingTail, TakeNumber, TakeValue, ExchangeHead, Work, Getting, Changing, Enqueuing, Dequeuing, ScanAt, ReadGuard, GiveBack, Why, Opens, FollowsHead, Fills, ClearsNext, Clears, Finishes, GivesUp, Retires, Tidies, Advances, Releases, Phase, Idle, Runs, Scans, Works, CallTurn, CallOutcome}
+use Rattle.wfe_core.specs.Calls.{Task, Gets, Changes, Holds, Enqueues, Dequeues, Next, Again, MakeRoom, Answering, Retiring, AfterScan, Answered, Repeated, Counted, ChangeKept, EnqueueKept, GetAt, FindVersion, FindCount, FindKey, FindValue, ChangeAt, LoadVersion, LoadCount, LoadKey, LoadValue, ExchangeRoot, EnqueueAt, LoadNumber, LoadNext, PassTail, ExchangeNext, ExchangeTail, DequeueAt, LoadTail, SwingTail, TakeNumber, TakeValue, ExchangeHead, Work, Getting, Changing, Enqueuing, Dequeuing, Keeping, KeepAt, Loosens, LoadHeld, StoreHeld, Looks, Misses, LetGo, Released, Rehold, Dropped, ScanAt, ReadGuard, GiveBack, Why, Opens, FollowsHead, Fills, ClearsNext, Clears, Finishes, GivesUp, Retires, Tidies, Advances, Releases, Phase, Idle, Runs, Scans, Works, CallTurn, CallOutcome}
 use Rattle.law_answers.proofs.inv.history.Passes.{scan_told}
 use Rattle.law_answers.proofs.AnswersTold.Owed.{append_none}
 use Rattle.law_answers.proofs.inv.history.AllOf.{all_of, of_along}
-use Rattle.law_answers.proofs.inv.history.MayTell.{clear_all}
+use Rattle.law_answers.proofs.inv.history.MayTell.{clear_all, cleared_all}
 
 -- what comes after
 abbrev pub is_after : Event → Bool
 is_after (events.Got bucket version key value) = true
 is_after (events.Clear index slot) = true
+is_after (events.Reserve guard span) = true
+is_after (events.Copied from index slot) = true
 is_after event = false
 
 -- a turn tells these events, and then no others than those
@@ -120,7 +125,7 @@ deciding_by_starts kept post desk told (Some answer) = clearing_starts (Changes 
 deciding_by_starts kept post desk told None = here told post desk _
 
 deciding_starts : (kept : ChangeKept) (post : Post) (desk : Desk) (told : List Event) → Starts told (alters.deciding kept post desk told)
-deciding_starts kept post desk told = deciding_by_starts kept post desk told (alters.refusal post.layout.config kept.version kept.pairs kept.change)
+deciding_starts kept post desk told = deciding_by_starts kept post desk told (alters.refused post.layout.config kept)
 
 reading_starts : (kept : ChangeKept) (slot count : ℕ) (post : Post) (desk : Desk) (on : Bool) → Starts [] (alters.reading kept slot count post desk on)
 reading_starts kept slot count post desk true = here [] post desk _
@@ -210,17 +215,61 @@ dequeue_starts (SwingTail head next) post desk found = clearing_next_starts Agai
 dequeue_starts (ExchangeHead head next number value) post desk found = taken_starts head next number value post desk (found == head + 1)
 dequeue_starts at post desk found = here [] post desk _
 
+-- what stands at indexes from 2 on
+released_starts : (let_go : LetGo) (post : Post) (desk : Desk) (told : List Event) → Starts told (keeps.released let_go post desk told)
+released_starts Released post desk told = here told post desk _
+released_starts (Rehold key) post desk told = here told post desk _
+released_starts (Dropped index) post desk told = here told post desk _
+
+cleared_after : (index : ℕ) (o : Option ℕ) → all_of is_after (cleared index o) ≡ true
+cleared_after index o = cleared_all is_after index o (λ index slot. refl)
+
+copied_starts : (from index : ℕ) (post : Post) (desk : Desk) (reserved : List Event) (o : Option ℕ) → all_of is_after reserved ≡ true → Starts [] (keeps.copied from index post desk reserved o)
+copied_starts from index post desk reserved None r = here [] post desk _
+copied_starts from index post desk reserved (Some slot) r =
+    let told : List Event = cleared index (stands post index) ++ reserved ++ events.Copied from index slot ∷ [] in
+    later [] told _ (of_along is_after (cleared index (stands post index) ++ reserved) (events.Copied from index slot ∷ []) (of_along is_after (cleared index (stands post index)) reserved (cleared_after index (stands post index)) r) refl) (here told (with_row post index slot) desk _)
+
+load_starts : (from index : ℕ) (post : Post) (desk : Desk) (found : ℕ) (one : Bool) → Starts [] (keeps.load_held from index post desk found one)
+load_starts from index post desk found true = copied_starts from index post desk [] (stands post from) refl
+load_starts from index post desk found false = here [] post desk _
+
+looking_starts : (index key slot version count : ℕ) (post : Post) (desk : Desk) (on : Bool) (pair : ℕ) → Starts [] (keeps.looking index key slot version count post desk on pair)
+looking_starts index key slot version count post desk true pair = here [] post desk _
+looking_starts index key slot version count post desk false pair = here [] post desk _
+
+looked_key_starts : (index key slot version count pair : ℕ) (post : Post) (desk : Desk) (own : Bool) → Starts [] (keeps.looked_key index key slot version count pair post desk own)
+looked_key_starts index key slot version count pair post desk true = here [] post desk _
+looked_key_starts index key slot version count pair post desk false = looking_starts index key slot version count post desk (nat_lt (pair + 1) count) (pair + 1)
+
+look_starts : (index key : ℕ) (at : GetAt) (post : Post) (desk : Desk) (found : ℕ) → Starts [] (keeps.look_turn index key at post desk found)
+look_starts index key (FindVersion slot) post desk found = here [] post desk _
+look_starts index key (FindCount slot version) post desk found = looking_starts index key slot version found post desk (nat_lt 0 found) 0
+look_starts index key (FindKey slot version count pair) post desk found = looked_key_starts index key slot version count pair post desk (found == key)
+look_starts index key (FindValue slot version pair) post desk found = here [] post desk _
+
+keep_starts : (at : KeepAt) (post : Post) (desk : Desk) (found : ℕ) → Starts [] (keeps.keep_turn at post desk found)
+keep_starts (Loosens let_go) post desk found =
+    let told : List Event = cleared (let_index let_go) (stands post (let_index let_go)) in
+    later [] told _ (cleared_after (let_index let_go) (stands post (let_index let_go))) (released_starts let_go (withdrawn post (let_index let_go)) desk told)
+keep_starts (LoadHeld from index) post desk found = load_starts from index post desk found (has_one_interval (scheme_of post))
+keep_starts (StoreHeld from index era) post desk found = copied_starts from index post desk (reserves_index post index era) (stands post from) refl
+keep_starts (Looks index key at) post desk found = look_starts index key at post desk found
+keep_starts (Misses index) post desk found = here [] post desk _
+
 abbrev pub work_front : Work → Post → ℕ → List Event
 work_front (Getting key at) post found = []
 work_front (Changing kept at) post found = change_front kept at post found
 work_front (Enqueuing kept at) post found = enqueue_front kept at found
 work_front (Dequeuing at) post found = dequeue_front at found
+work_front (Keeping at) post found = []
 
 pub work_starts : (work : Work) (post : Post) (desk : Desk) (found : ℕ) → Starts (work_front work post found) (steps.work_turn work post desk found)
 work_starts (Getting key at) post desk found = get_starts key at post desk found
 work_starts (Changing kept at) post desk found = change_starts kept at post desk found
 work_starts (Enqueuing kept at) post desk found = enqueue_starts kept at post desk found
 work_starts (Dequeuing at) post desk found = dequeue_starts at post desk found
+work_starts (Keeping at) post desk found = keep_starts at post desk found
 
 -- a scan
 scanned_starts : (later : AfterScan) (post : Post) (desk : Desk) (told : List Event) → Starts told (scan.scanned later post desk told)
@@ -325,10 +374,6 @@ advanced_starts (Followed end) post desk told = here told post desk _
 advanced_starts (Allocated end) post desk told = here told post desk _
 advanced_starts (Retired life) post desk told = here told post desk _
 
-released_starts : (key : Option ℕ) (post : Post) (desk : Desk) (told : List Event) → Starts told (steps.released key post desk told)
-released_starts None post desk told = here told post desk _
-released_starts (Some key) post desk told = here told post desk _
-
 resume_starts : (why : Why) (ending : Ending) (post : Post) (desk : Desk) (told : List Event) → Starts told (steps.resume why ending post desk told)
 resume_starts (Opens task) ending post desk told = opened_starts task ending post desk told
 resume_starts (FollowsHead head tail) ending post desk told = followed_by_starts head tail ending post desk told
@@ -340,7 +385,7 @@ resume_starts (GivesUp answer) ending post desk told = here told post desk _
 resume_starts (Retires answer) ending post desk told = retired_starts answer ending post desk told
 resume_starts (Tidies later) ending post desk told = tidied_starts later ending post desk told
 resume_starts Advances ending post desk told = advanced_starts ending post desk told
-resume_starts (Releases key) ending post desk told = released_starts key post desk told
+resume_starts (Releases let_go) ending post desk told = released_starts let_go post desk told
 
 resumed_starts : (why : Why) (desk : Desk) (post : Post) (told : List Event) (outcome : Outcome) → Starts told (steps.resumed why desk post told outcome)
 resumed_starts why desk post told (Goes base) = here told post desk _

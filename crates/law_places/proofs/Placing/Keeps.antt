@@ -10,7 +10,7 @@ use Rattle.wfe_core.specs.defs.declared.event.Event.{Event}
 use Rattle.wfe_core.specs.defs.declared.event.Event.TheVariants as events
 use Rattle.wfe_core.specs.declared.post.Post.{Post}
 use Rattle.wfe_core.specs.Calls.{CallTurn, CallOutcome, GoesOn, Answers}
-use Rattle.wfe_core.specs.Locals.{Local, busy_in, told_end, turn}
+use Rattle.wfe_core.specs.Locals.{Local, busy_in, may_begin, told_end, turn}
 use Rattle.wfe_core.specs.World.{World, begin, step, finds, is_busy, told_in}
 use Rattle.wfe_core.proofs.Facts.{same_number, first_of, rest_of}
 use Rattle.law_answers.proofs.inv.covers.Held.{stepped_phase}
@@ -299,19 +299,19 @@ begin_comes w i k v call p true e h c =
 begin_comes w i k v call p false e h c =
     subst (λ (b : Bool). ComesTo (v.hand k) b k (Then p i (events.Begin call))) (sym (ap (λ (l : Local). busy_in l.phase) (begin_stays w i k call e))) (begin_other k i (is_busy w k) (v.hand k) call p e c)
 
-begin_keeps : (layout : Layout) (made : Made) (i : ℕ) (call : Call) → is_busy made.world i ≡ false → Keeps layout made → Keeps layout (done made (Begins i call))
-begin_keeps layout made i call f g =
+begin_keeps : (layout : Layout) (made : Made) (i : ℕ) (call : Call) → is_busy made.world i ≡ false → may_begin made.world.layout.config call ≡ true → Keeps layout made → Keeps layout (done made (Begins i call))
+begin_keeps layout made i call f n g =
     let w : World = made.world in
     let k = g.known in
     let q = requests_begin w i call g.asked k.valid f k.seats k.requests in
     let a = agree_of w g.rows g.line g.asked k in
     let h : g.rows.hand i ≡ Empty = (a.plays i).hand ∙ idle_hand (w.seat i).phase f in
     record {
-      answers = answering.begin_keeps layout.config.buckets made i call f g.answers;
+      answers = answering.begin_keeps layout.config.buckets made i call f n g.answers;
       rows = g.rows;
       line = g.line;
       asked = q.0;
-      known = known_begin w i call g.rows g.line g.asked q.0 f k q.1.facts q.1.deal;
+      known = known_begin w i call g.rows g.line g.asked q.0 f n k q.1.facts q.1.deal;
       comes = λ m. begin_comes w i m g.rows call made.past (m == i) refl h (g.comes m);
       placing = (refl, g.placing);
       retiring = (refl, g.retiring);
@@ -321,7 +321,7 @@ begin_keeps layout made i call f g =
     }
 
 steady : (layout : Layout) → Steady (Keeps layout)
-steady layout = record { begins = λ made i call b y g. begin_keeps layout made i call y g; steps = λ made i b y g. step_keeps layout made i b y g }
+steady layout = record { begins = λ made i call b y m g. begin_keeps layout made i call y m g; steps = λ made i b y g. step_keeps layout made i b y g }
 
 first_keeps : (layout : Layout) → is_valid layout ≡ true → Keeps layout (first_made layout)
 first_keeps layout d =

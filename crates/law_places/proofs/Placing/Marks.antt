@@ -16,7 +16,7 @@ use Rattle.wfe_core.specs.Desks.{Desk}
 use Rattle.wfe_core.specs.Locals.{told_end, turn}
 use Rattle.wfe_core.specs.Posts.{counted}
 use Rattle.wfe_core.specs.Steps.{phase_turn}
-use Rattle.wfe_core.specs.Calls.{ChangeKept, EnqueueKept, LoadVersion, LoadCount, LoadKey, LoadValue, ExchangeRoot, LoadNumber, LoadNext, PassTail, ExchangeNext, ExchangeTail, LoadTail, SwingTail, TakeNumber, TakeValue, ExchangeHead, Work, Getting, Changing, Enqueuing, Dequeuing, Phase, Idle, Runs, Scans, Works, CallTurn, CallOutcome, GoesOn, Answers}
+use Rattle.wfe_core.specs.Calls.{ChangeKept, EnqueueKept, LoadVersion, LoadCount, LoadKey, LoadValue, ExchangeRoot, LoadNumber, LoadNext, PassTail, ExchangeNext, ExchangeTail, LoadTail, SwingTail, TakeNumber, TakeValue, ExchangeHead, Work, Getting, Changing, Enqueuing, Dequeuing, Keeping, Phase, Idle, Runs, Scans, Works, CallTurn, CallOutcome, GoesOn, Answers}
 use Rattle.wfe_core.specs.World.{World, finds}
 use Rattle.wfe_core.proofs.Facts.{first_of, rest_of}
 use Rattle.law_answers.specs.inv.rows.Hands.{row_move}
@@ -161,6 +161,7 @@ work_marked (Enqueuing kept LoadNext) post found = refl
 work_marked (Enqueuing kept (PassTail next)) post found = link_marked roots.Tail (next - 1) _
 work_marked (Enqueuing kept (ExchangeNext slot)) post found = queued_marked kept slot (found == 0)
 work_marked (Enqueuing kept (ExchangeTail slot)) post found = link_marked roots.Tail slot _
+work_marked (Keeping at) post found = refl
 work_marked (Dequeuing (LoadTail head)) post found = refl
 work_marked (Dequeuing (SwingTail head next)) post found = link_marked roots.Tail next _
 work_marked (Dequeuing (TakeNumber head next)) post found = refl

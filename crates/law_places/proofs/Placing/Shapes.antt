@@ -25,7 +25,7 @@ use Rattle.wfe_core.specs.Phases.RetireAt.{LoadLife, LoadRetire, StoreRetired}
 use Rattle.wfe_core.specs.Phases.Base.{Allocate, GiveUp, Retire}
 use Rattle.wfe_core.specs.Posts.{counted}
 use Rattle.wfe_core.specs.Steps.{phase_move, phase_turn}
-use Rattle.wfe_core.specs.Calls.{Task, Gets, Changes, Holds, Enqueues, Dequeues, ChangeKept, EnqueueKept, LoadVersion, LoadCount, LoadKey, LoadValue, ExchangeRoot, LoadNumber, LoadNext, PassTail, ExchangeNext, ExchangeTail, LoadTail, SwingTail, TakeNumber, TakeValue, ExchangeHead, Getting, Changing, Enqueuing, Dequeuing, ReadGuard, GiveBack, Why, Fills, GivesUp, Retires, Phase, Idle, Runs, Scans, Works, Answers}
+use Rattle.wfe_core.specs.Calls.{Task, Gets, Changes, Holds, Enqueues, Dequeues, ChangeKept, EnqueueKept, LoadVersion, LoadCount, LoadKey, LoadValue, ExchangeRoot, LoadNumber, LoadNext, PassTail, ExchangeNext, ExchangeTail, LoadTail, SwingTail, TakeNumber, TakeValue, ExchangeHead, Getting, Changing, Enqueuing, Dequeuing, Keeping, ReadGuard, GiveBack, Why, Fills, GivesUp, Retires, Phase, Idle, Runs, Scans, Works, Answers}
 use Rattle.law_answers.specs.inv.rows.Hands.{hand_of, hand_in, hand_why, hand_base, is_right, runs_right, is_plain, base_row, linked_row, row_move}
 use Rattle.law_answers.specs.inv.rows.Rows.{Hand, RowMove}
 use Rattle.law_answers.specs.inv.rows.Rows.Hand.{Empty, New, Taken, Old, Known, Dated}
@@ -94,6 +94,7 @@ hand_fits (Runs why b) post found list r = base_hand b found (hand_why why b) (w
 hand_fits (Scans later (ReadGuard number)) post found list r = tt
 hand_fits (Scans later (GiveBack place slot)) post found list r = tt
 hand_fits (Works (Getting key at)) post found list r = tt
+hand_fits (Works (Keeping at)) post found list r = tt
 hand_fits (Works (Changing kept (LoadVersion slot))) post found list r = tt
 hand_fits (Works (Changing kept (LoadCount slot))) post found list r = tt
 hand_fits (Works (Changing kept (LoadKey slot count))) post found list r = tt
@@ -255,6 +256,7 @@ shape_of (Runs why b) post found list r = run_shape why b post found r
 shape_of (Scans later (ReadGuard number)) post found list r = refl
 shape_of (Scans later (GiveBack place slot)) post found list r = refl
 shape_of (Works (Getting key at)) post found list r = refl
+shape_of (Works (Keeping at)) post found list r = refl
 shape_of (Works (Changing kept (LoadVersion slot))) post found list r = refl
 shape_of (Works (Changing kept (LoadCount slot))) post found list r = refl
 shape_of (Works (Changing kept (LoadKey slot count))) post found list r = refl

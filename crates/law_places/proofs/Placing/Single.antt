@@ -8,7 +8,7 @@ use Rattle.wfe_core.specs.defs.declared.call.Call.TheVariants as calls
 use Rattle.wfe_core.specs.defs.declared.event.Event.{Event}
 use Rattle.wfe_core.specs.defs.declared.event.Event.TheVariants as events
 use Rattle.wfe_core.specs.declared.post.Post.{Post}
-use Rattle.wfe_core.specs.Calls.{Phase, Idle, Runs, Scans, Works, Why, Opens, FollowsHead, Fills, ClearsNext, Clears, Finishes, GivesUp, Retires, Tidies, Advances, Releases, Next, Again, MakeRoom, Answering, Retiring, AfterScan, Answered, Repeated, Counted, Getting, Changing, Enqueuing, Dequeuing, EnqueueKept, EnqueueAt, LoadNumber, LoadNext, PassTail, ExchangeNext, ExchangeTail}
+use Rattle.wfe_core.specs.Calls.{Phase, Idle, Runs, Scans, Works, Why, Opens, FollowsHead, Fills, ClearsNext, Clears, Finishes, GivesUp, Retires, Tidies, Advances, Releases, Next, Again, MakeRoom, Answering, Retiring, AfterScan, Answered, Repeated, Counted, Getting, Changing, Enqueuing, Dequeuing, Keeping, EnqueueKept, EnqueueAt, LoadNumber, LoadNext, PassTail, ExchangeNext, ExchangeTail}
 use Rattle.wfe_core.proofs.Facts.{first_of, rest_of, both}
 use Rattle.law_answers.specs.inv.rows.Rows.{RowMove}
 use Rattle.law_answers.specs.inv.rows.Rows.RowMove.{Stays, Claims, Bears, Drops, Links, Replaces, Appends, Pops, Reads, Seals, Lists, Returns}
@@ -124,6 +124,14 @@ take_first : (n : ℕ) (answer : Answer) (retires : ℕ) → retires + 1 ≡ alo
 take_first n (answers.Taken number value clock) retires h = (refl, some_said retires true h)
 take_first n answer retires h = absurd (none_said retires h)
 
+copy_first : (n from index : ℕ) (answer : Answer) (retires : ℕ) → retires + 1 ≡ along said_by (owes n (calls.Copy from index) answer) 0 → RetiresFirst (calls.Copy from index) retires
+copy_first n from index (answers.Copied slot) retires h = absurd (none_said retires h)
+copy_first n from index answer retires h = absurd (none_said retires h)
+
+put_if_first : (n key value wanted : ℕ) (answer : Answer) (retires : ℕ) → retires + 1 ≡ along said_by (owes n (calls.PutIf key value wanted) answer) 0 → RetiresFirst (calls.PutIf key value wanted) retires
+put_if_first n key value wanted (answers.Done version clock) retires h = (refl, some_said retires (nat_lt 1 version) h)
+put_if_first n key value wanted answer retires h = absurd (none_said retires h)
+
 owes_first : (n : ℕ) (call : Call) (answer : Answer) (retires : ℕ) → retires + 1 ≡ along said_by (owes n call answer) 0 → RetiresFirst call retires
 owes_first n (calls.Get key) answer retires h = get_first n key answer retires h
 owes_first n (calls.Put key value) answer retires h = put_first n key value answer retires h
@@ -134,6 +142,10 @@ owes_first n (calls.Hold key) answer retires h = absurd (none_said retires h)
 owes_first n calls.Release answer retires h = absurd (none_said retires h)
 owes_first n calls.Advance answer retires h = absurd (none_said retires h)
 owes_first n calls.Scan answer retires h = absurd (none_said retires h)
+owes_first n (calls.Copy from index) answer retires h = copy_first n from index answer retires h
+owes_first n (calls.DropIndex index) answer retires h = absurd (none_said retires h)
+owes_first n (calls.Look index key) answer retires h = absurd (none_said retires h)
+owes_first n (calls.PutIf key value wanted) answer retires h = put_if_first n key value wanted answer retires h
 
 next_first : (n : ℕ) (call : Call) (next : Next) (retires : ℕ) → retires + 1 ≡ along said_by (next_owed n call next) 0 → RetiresFirst call retires
 next_first n call Again retires h = absurd (none_said retires h)
@@ -157,7 +169,7 @@ why_first n call (GivesUp answer) retires h = owes_first n call answer retires h
 why_first n call (Retires answer) retires h = owes_first n call answer retires h
 why_first n call (Tidies later) retires h = later_first n call later retires h
 why_first n call Advances retires h = absurd (none_said retires h)
-why_first n call (Releases key) retires h = absurd (none_said retires h)
+why_first n call (Releases let_go) retires h = absurd (none_said retires h)
 
 enqueue_first : (n : ℕ) (call : Call) (kept : EnqueueKept) (at : EnqueueAt) (retires : ℕ) → retires + 1 ≡ along said_by (enqueue_owed n call kept at) 0 → RetiresFirst call retires
 enqueue_first n call kept LoadNumber retires h = absurd (none_said retires h)
@@ -174,6 +186,7 @@ phase_first n call (Works (Getting key at)) retires h = absurd (none_said retire
 phase_first n call (Works (Changing kept at)) retires h = absurd (none_said retires h)
 phase_first n call (Works (Enqueuing kept at)) retires h = enqueue_first n call kept at retires h
 phase_first n call (Works (Dequeuing at)) retires h = absurd (none_said retires h)
+phase_first n call (Works (Keeping at)) retires h = absurd (none_said retires h)
 
 -- what a move of rows tells is right, where the one that retires is the call's first
 abbrev pub OnlyFirst : RowMove → Single → Type 0

@@ -86,13 +86,14 @@ pub along_both : {X : Type 0} (next : Event → X → X) (xs ys : List Event) (x
 along_both next [] ys x = refl
 along_both next (event ∷ xs) ys x = along_both next xs ys (next event x)
 
--- what was told of the map and of the queue comes to the same
+-- what was told of the map, of the queue and of copies comes to the same
 said_one : (event : Event) (told : List Event) → along said_by (with_told event told) 0 ≡ said_by event (along said_by told 0)
 said_one (events.Got bucket version key value) told = along_both said_by told (events.Got bucket version key value ∷ []) 0
 said_one (events.Put bucket version key value) told = along_both said_by told (events.Put bucket version key value ∷ []) 0
 said_one (events.Removed bucket version key) told = along_both said_by told (events.Removed bucket version key ∷ []) 0
 said_one (events.Queued number value) told = along_both said_by told (events.Queued number value ∷ []) 0
 said_one (events.Taken number value) told = along_both said_by told (events.Taken number value ∷ []) 0
+said_one (events.Copied from index slot) told = along_both said_by told (events.Copied from index slot ∷ []) 0
 said_one event told = refl
 
 loud_one : (event : Event) (told : List Event) → along loud_by (with_told event told) false ≡ loud_by event (along loud_by told false)
@@ -101,6 +102,7 @@ loud_one (events.Put bucket version key value) told = along_both loud_by told (e
 loud_one (events.Removed bucket version key) told = along_both loud_by told (events.Removed bucket version key ∷ []) false
 loud_one (events.Queued number value) told = along_both loud_by told (events.Queued number value ∷ []) false
 loud_one (events.Taken number value) told = along_both loud_by told (events.Taken number value ∷ []) false
+loud_one (events.Copied from index slot) told = along_both loud_by told (events.Copied from index slot ∷ []) false
 loud_one event told = refl
 
 heard_by : {X : Type 0} (next : Event → X → X) (first x : X) (event : Event) (told : List Event) (same : Bool) → along next (with_told event told) first ≡ next event (along next told first) → x ≡ along next told first → (if same then next event x else x) ≡ along next (if same then with_told event told else told) first
@@ -130,6 +132,7 @@ said_same (events.Removed b version key) (events.Removed b' version' key') x h =
 said_same (events.Got b version key value) (events.Got b' version' key' value') x h = refl
 said_same (events.Queued number value) (events.Queued number' value') x h = refl
 said_same (events.Taken number value) (events.Taken number' value') x h = refl
+said_same (events.Copied from index slot) (events.Copied from' index' slot') x h = refl
 said_same event other x h = absurd (cc)
 
 loud_same : (event other : Event) (x : Bool) → same_event event other ≡ true → loud_by event x ≡ loud_by other x
@@ -138,6 +141,7 @@ loud_same (events.Removed b version key) (events.Removed b' version' key') x h =
 loud_same (events.Got b version key value) (events.Got b' version' key' value') x h = refl
 loud_same (events.Queued number value) (events.Queued number' value') x h = refl
 loud_same (events.Taken number value) (events.Taken number' value') x h = refl
+loud_same (events.Copied from index slot) (events.Copied from' index' slot') x h = refl
 loud_same event other x h = absurd (cc)
 
 same_along : {X : Type 0} (next : Event → X → X) → ((event other : Event) (x : X) → same_event event other ≡ true → next event x ≡ next other x) → (told others : List Event) (x : X) → same_told told others ≡ true → along next told x ≡ along next others x
@@ -168,6 +172,16 @@ owes_said n (calls.Hold key) answers.Nothing s = refl
 owes_said n calls.Release answers.Released s = refl
 owes_said n calls.Advance (answers.Clock clock) s = refl
 owes_said n calls.Scan (answers.Scanned kept back) s = refl
+owes_said n (calls.Copy from index) (answers.Copied slot) s = refl
+owes_said n (calls.Copy from index) answers.Nothing s = refl
+owes_said n (calls.DropIndex index) answers.Dropped s = refl
+owes_said n (calls.Look index key) (answers.Looked slot version value) s = refl
+owes_said n (calls.Look index key) answers.Nothing s = refl
+owes_said n (calls.PutIf key value wanted) (answers.Done version clock) s = refl
+owes_said n (calls.PutIf key value wanted) (answers.Stale version) s = refl
+owes_said n (calls.PutIf key value wanted) answers.Full s = refl
+owes_said n (calls.PutIf key value wanted) (answers.BucketFull version) s = refl
+owes_said n (calls.PutIf key value wanted) (answers.Spent number) s = refl
 owes_said n call answer s = absurd (cc)
 
 owes_loud : (n : ℕ) (call : Call) (answer : Answer) → suits call answer ≡ true → along loud_by (owes n call answer) false ≡ is_change answer
@@ -190,6 +204,16 @@ owes_loud n (calls.Hold key) answers.Nothing s = refl
 owes_loud n calls.Release answers.Released s = refl
 owes_loud n calls.Advance (answers.Clock clock) s = refl
 owes_loud n calls.Scan (answers.Scanned kept back) s = refl
+owes_loud n (calls.Copy from index) (answers.Copied slot) s = refl
+owes_loud n (calls.Copy from index) answers.Nothing s = refl
+owes_loud n (calls.DropIndex index) answers.Dropped s = refl
+owes_loud n (calls.Look index key) (answers.Looked slot version value) s = refl
+owes_loud n (calls.Look index key) answers.Nothing s = refl
+owes_loud n (calls.PutIf key value wanted) (answers.Done version clock) s = refl
+owes_loud n (calls.PutIf key value wanted) (answers.Stale version) s = refl
+owes_loud n (calls.PutIf key value wanted) answers.Full s = refl
+owes_loud n (calls.PutIf key value wanted) (answers.BucketFull version) s = refl
+owes_loud n (calls.PutIf key value wanted) (answers.Spent number) s = refl
 owes_loud n call answer s = absurd (cc)
 
 pub answer_said : (n : ℕ) (began : Option Call) (told : List Event) (answer : Answer) → answer_right n began told answer ≡ true → along said_by told 0 ≡ retires_for answer

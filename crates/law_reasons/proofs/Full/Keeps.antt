@@ -16,7 +16,7 @@ use Rattle.wfe_core.specs.Steps as steps
 use Rattle.wfe_core.specs.Phases.AllocateAt.{ClaimSlot}
 use Rattle.wfe_core.specs.Phases.Base.{Allocate}
 use Rattle.wfe_core.specs.Calls.{AfterScan, Answered, Repeated, Counted, ScanAt, ReadGuard, GiveBack, Phase, Idle, Runs, Scans, Works, CallTurn, CallOutcome, GoesOn, Answers}
-use Rattle.wfe_core.specs.Locals.{Local, begun, begun_post, told_end, turn}
+use Rattle.wfe_core.specs.Locals.{Local, begun, begun_post, may_begin, told_end, turn}
 use Rattle.wfe_core.specs.Posts.{counted}
 use Rattle.wfe_core.specs.World.{World, begin, step, finds, is_busy, told_in}
 use Rattle.wfe_core.proofs.Facts.{both, first_of, rest_of, or_left_true, same_test, or_more}
@@ -456,13 +456,13 @@ begin_walks w i m call p false e g =
     subst (λ (l : Local). WalkPhase c.slots (lates c r m) l.phase) (sym (begin_stays w i m call e))
     (walk_more c.slots (lates c p m) (lates c r m) (λ s h. lates_on c p r m s (o.since s) h) (w.seat m).phase (g.walks m))
 
-pub begin_keeps : (layout : Layout) (made : Made) (i : ℕ) (call : Call) → is_busy made.world i ≡ false → Keeps layout made → Keeps layout (done made (Begins i call))
-begin_keeps layout made i call f k = record {
-  once = once.begin_keeps layout made i call f k.once;
-  answers = answering.begin_keeps made.world.layout.config.buckets made i call f k.answers;
-  sees = begin_sees made i call f k.sees;
-  walking = record { walks = λ m. begin_walks made.world i m call made.past (m == i) refl k.walking };
-  seats = λ m. begin_fits made.world i m call made.past (m == i) refl k.seats;
+pub begin_keeps : (layout : Layout) (made : Made) (i : ℕ) (call : Call) → is_busy made.world i ≡ false → may_begin made.world.layout.config call ≡ true → Keeps layout made → Keeps layout (done made (Begins i call))
+begin_keeps layout made i call f m k = record {
+  once = once.begin_keeps layout made i call f m k.once;
+  answers = answering.begin_keeps made.world.layout.config.buckets made i call f m k.answers;
+  sees = begin_sees made i call f m k.sees;
+  walking = record { walks = λ n. begin_walks made.world i n call made.past (n == i) refl k.walking };
+  seats = λ n. begin_fits made.world i n call made.past (n == i) refl k.seats;
   rooms = λ s l. (refl, k.rooms s l);
   fulls = λ s l. (refl, k.fulls s l);
   lacks = (refl, k.lacks);
@@ -481,7 +481,7 @@ first_keeps layout d = record {
 }
 
 steady : (layout : Layout) → Steady (Keeps layout)
-steady layout = record { begins = λ made i call b y g. begin_keeps layout made i call y g; steps = λ made i b y g. step_keeps layout made i b y g }
+steady layout = record { begins = λ made i call b y m g. begin_keeps layout made i call y m g; steps = λ made i b y g. step_keeps layout made i b y g }
 
 history_keeps : (layout : Layout) (items : List Item) → is_valid layout ≡ true → Keeps layout (made_of layout items)
 history_keeps layout items d = items_keep (Keeps layout) (steady layout) items (first_made layout) (first_keeps layout d)

@@ -21,8 +21,8 @@ use Rattle.wfe_core.specs.Phases.{Base, Outcome, Goes, Ends}
 use Rattle.wfe_core.specs.Phases.Ending.{Done, Protected, Followed, Allocated, Retired, Clocked}
 use Rattle.wfe_core.specs.Calls.{Task, Gets, Changes, Holds, Enqueues, Dequeues, Opens, EnqueueKept, LoadCount, LoadValue, LoadNext, Changing, Enqueuing, Phase, Idle, Runs, Scans, Works}
 use Rattle.wfe_core.specs.World.{World, finds}
-use Rattle.wfe_core.proofs.Facts.{same_number, both, below_unless, true_of_not, or_left_true, same_both, lt_test_2, or_more}
-use Rattle.law_scans.proofs.answers.AnswersTold.Owed.{Serves, call_for}
+use Rattle.wfe_core.proofs.Facts.{same_number, both, first_of, rest_of, below_unless, true_of_not, or_left_true, same_both, lt_test_2, or_more}
+use Rattle.law_scans.proofs.answers.AnswersTold.Owed.{ChangeServes, Serves, call_for, may_want}
 use Rattle.law_scans.proofs.inv.covers.Held.{finds_at}
 use Rattle.laws.specs.StateAt.{was_current, bucket_of, count_of, queued_of, is_there, pairs_at}
 use Rattle.law_scans.specs.inv.history.Record.{Past, begins, held_since}
@@ -64,18 +64,34 @@ lacks_last c i p q (Some (calls.Remove key)) l m h =
     any_map (remove_at c i b key p) (remove_at c i b key q) (count_of b p) (count_of b q) (more_count i b p q l)
     (λ version k. current_lasts i b version p q (λ cs. nat_lt version c.last_version && is_some (value_in (pairs_after cs) key)) l k) h
 lacks_last c i p q (Some (calls.Enqueue value)) l m h = m h
+lacks_last c i p q (Some (calls.PutIf key value wanted)) l m h =
+    let b : ℕ = bucket_of c.buckets key in
+    any_map (λ (version : ℕ). version == wanted && put_at c i b key p version) (λ (version : ℕ). version == wanted && put_at c i b key q version) (count_of b p) (count_of b q) (more_count i b p q l)
+    (λ version k. both (version == wanted) (put_at c i b key q version) (first_of (version == wanted) (put_at c i b key p version) k)
+    (current_lasts i b version p q (λ cs. nat_lt version c.last_version && (is_some (value_in (pairs_after cs) key) || nat_lt (length (pairs_after cs)) c.pairs)) l (rest_of (version == wanted) (put_at c i b key p version) k))) h
 lacks_last c i p q call l m h = absurd (cc)
 
-put_lacks : (c : Config) (i b key version : ℕ) (pairs : List Pair) (p : Past) (spent full : Bool) → ReadAt c i b version pairs p → (version == c.last_version) ≡ spent → (not (alters.has_key pairs key) && length pairs == c.pairs) ≡ full
-    → (if spent then Some (answers.Spent version) else if full then Some (answers.BucketFull version) else None) ≡ None → any_up_to (put_at c i b key p) (count_of b p) ≡ true
-put_lacks c i b key version pairs p true full r e f h = absurd (cc)
-put_lacks c i b key version pairs p false true r e f h = absurd (cc)
-put_lacks c i b key version pairs p false false r e f h =
+put_fits : (c : Config) (i b key version : ℕ) (pairs : List Pair) (p : Past) (spent full : Bool) → ReadAt c i b version pairs p → (version == c.last_version) ≡ spent → (not (alters.has_key pairs key) && length pairs == c.pairs) ≡ full
+    → (if spent then Some (answers.Spent version) else if full then Some (answers.BucketFull version) else None) ≡ None → put_at c i b key p version ≡ true
+put_fits c i b key version pairs p true full r e f h = absurd (cc)
+put_fits c i b key version pairs p false true r e f h = absurd (cc)
+put_fits c i b key version pairs p false false r e f h =
     let g : (not (is_there b version key p) && length (pairs_at b version p) == c.pairs) ≡ false = subst (λ (ps : List Pair). (not (is_some (value_in ps key)) && length ps == c.pairs) ≡ false) r.read f in
-    any_at (put_at c i b key p) version (count_of b p) r.within
     (both (was_current i b version p) (nat_lt version c.last_version && (is_there b version key p || nat_lt (length (pairs_at b version p)) c.pairs)) (current_of c i b version pairs p r)
     (both (nat_lt version c.last_version) (is_there b version key p || nat_lt (length (pairs_at b version p)) c.pairs) (lt_test_2 version (count_of b p) c.last_version r.within r.most e)
     (below_unless (is_there b version key p) (length (pairs_at b version p)) c.pairs r.room g)))
+
+put_lacks : (c : Config) (i b key version : ℕ) (pairs : List Pair) (p : Past) (spent full : Bool) → ReadAt c i b version pairs p → (version == c.last_version) ≡ spent → (not (alters.has_key pairs key) && length pairs == c.pairs) ≡ full
+    → (if spent then Some (answers.Spent version) else if full then Some (answers.BucketFull version) else None) ≡ None → any_up_to (put_at c i b key p) (count_of b p) ≡ true
+put_lacks c i b key version pairs p spent full r e f h = any_at (put_at c i b key p) version (count_of b p) r.within (put_fits c i b key version pairs p spent full r e f h)
+
+-- a put that names a version
+put_if_lacks : (c : Config) (i b key value version wanted : ℕ) (pairs : List Pair) (p : Past) (same : Bool) → ReadAt c i b version pairs p → (version == wanted) ≡ same
+    → (if same then alters.refusal c version pairs (changes.Put key value) else Some (answers.Stale version)) ≡ None → any_up_to (λ (n : ℕ). n == wanted && put_at c i b key p n) (count_of b p) ≡ true
+put_if_lacks c i b key value version wanted pairs p true r w h =
+    any_at (λ (n : ℕ). n == wanted && put_at c i b key p n) version (count_of b p) r.within
+    (both (version == wanted) (put_at c i b key p version) w (put_fits c i b key version pairs p (version == c.last_version) (not (alters.has_key pairs key) && length pairs == c.pairs) r refl refl h))
+put_if_lacks c i b key value version wanted pairs p false r w h = absurd (cc)
 
 remove_lacks : (c : Config) (i b key version : ℕ) (pairs : List Pair) (p : Past) (none spent : Bool) → ReadAt c i b version pairs p → not (alters.has_key pairs key) ≡ none → (version == c.last_version) ≡ spent
     → (if none then Some (answers.Absent version) else if spent then Some (answers.Spent version) else None) ≡ None → any_up_to (remove_at c i b key p) (count_of b p) ≡ true
@@ -87,9 +103,12 @@ remove_lacks c i b key version pairs p false false r f e h =
     (both (was_current i b version p) (nat_lt version c.last_version && is_there b version key p) (current_of c i b version pairs p r)
     (both (nat_lt version c.last_version) (is_there b version key p) (lt_test_2 version (count_of b p) c.last_version r.within r.most e) there))
 
-change_lacks : (c : Config) (i version : ℕ) (pairs : List Pair) (change : Change) (p : Past) → ReadAt c i (key_of change % c.buckets) version pairs p → alters.refusal c version pairs change ≡ None → lacks_row c i p (Some (call_for change)) ≡ true
-change_lacks c i version pairs (changes.Put key value) p r h = put_lacks c i (key % c.buckets) key version pairs p (version == c.last_version) (not (alters.has_key pairs key) && length pairs == c.pairs) r refl refl h
-change_lacks c i version pairs (changes.Removed key) p r h = remove_lacks c i (key % c.buckets) key version pairs p (not (alters.has_key pairs key)) (version == c.last_version) r refl refl h
+change_lacks : (c : Config) (i version : ℕ) (pairs : List Pair) (change : Change) (wanted : Option ℕ) (p : Past) → ReadAt c i (key_of change % c.buckets) version pairs p → may_want change wanted ≡ true
+    → alters.stale_or wanted version (alters.refusal c version pairs change) ≡ None → lacks_row c i p (Some (call_for change wanted)) ≡ true
+change_lacks c i version pairs (changes.Put key value) None p r m h = put_lacks c i (key % c.buckets) key version pairs p (version == c.last_version) (not (alters.has_key pairs key) && length pairs == c.pairs) r refl refl h
+change_lacks c i version pairs (changes.Put key value) (Some wanted) p r m h = put_if_lacks c i (key % c.buckets) key value version wanted pairs p (version == wanted) r refl h
+change_lacks c i version pairs (changes.Removed key) None p r m h = remove_lacks c i (key % c.buckets) key version pairs p (not (alters.has_key pairs key)) (version == c.last_version) r refl refl h
+change_lacks c i version pairs (changes.Removed key) (Some wanted) p r m h = absurd (cc)
 
 number_left : (w : World) (i : ℕ) (v : View) (l : Line) (z : Asked) (p : Past) (kept : EnqueueKept) → Shown w v l z p → (w.seat i).phase ≡ Works (Enqueuing kept LoadNext) → (finds w i == 0) ≡ true → (kept.number == w.layout.config.last_version) ≡ false → has_number w.layout.config p ≡ true
 number_left w i v l z p kept h e none apart =
@@ -107,20 +126,22 @@ number_left w i v l z p kept h e none apart =
     is_below number count last e m a = grind (arith, nat_tests)
 
 -- so a step that decides is sure that the call lacks nothing but a row
-refused_by : (one two : Layout) (version : ℕ) (pairs : List Pair) (change : Change) → one ≡ two → alters.refusal one.config version pairs change ≡ None → alters.refusal two.config version pairs change ≡ None
-refused_by one two version pairs change e h = subst (λ (table : Layout). alters.refusal table.config version pairs change ≡ None) e h
+refused_by : (one two : Layout) (wanted : Option ℕ) (version : ℕ) (pairs : List Pair) (change : Change) → one ≡ two
+    → alters.stale_or wanted version (alters.refusal one.config version pairs change) ≡ None → alters.stale_or wanted version (alters.refusal two.config version pairs change) ≡ None
+refused_by one two wanted version pairs change e h = subst (λ (table : Layout). alters.stale_or wanted version (alters.refusal table.config version pairs change) ≡ None) e h
 
 abbrev Lacks : World → ℕ → Past → Call → Now → Type 0
 Lacks w i p call y = lacks_row w.layout.config i p (Some call) ≡ true → y.fits ≡ true
 
-change_sure : (w : World) (i : ℕ) (p : Past) (call : Call) (y : Now) (version : ℕ) (pairs : List Pair) (change : Change) → Lacks w i p call y → call ≡ call_for change → ReadAt w.layout.config i (key_of change % w.layout.config.buckets) version pairs p → alters.refusal w.layout.config version pairs change ≡ None → y.fits ≡ true
-change_sure w i p call y version pairs change up s r h = up (subst (λ (x : Call). lacks_row w.layout.config i p (Some x) ≡ true) (sym s) (change_lacks w.layout.config i version pairs change p r h))
+change_sure : (w : World) (i : ℕ) (p : Past) (call : Call) (y : Now) (version : ℕ) (pairs : List Pair) (change : Change) (wanted : Option ℕ) → Lacks w i p call y → ChangeServes call change wanted
+    → ReadAt w.layout.config i (key_of change % w.layout.config.buckets) version pairs p → alters.stale_or wanted version (alters.refusal w.layout.config version pairs change) ≡ None → y.fits ≡ true
+change_sure w i p call y version pairs change wanted up s r h = up (subst (λ (x : Call). lacks_row w.layout.config i p (Some x) ≡ true) (sym s.is) (change_lacks w.layout.config i version pairs change wanted p r s.may h))
 
 opens_sure : (w : World) (i : ℕ) (v : View) (l : Line) (z : Asked) (p : Past) (call : Call) (y : Now) (task : Task) (base : Base) (outcome : Outcome) → Shown w v l z p → Lacks w i p call y → (w.seat i).phase ≡ Runs (Opens task) base → Serves call (Runs (Opens task) base)
     → (machine.after base (counted (w.seat i).post) (finds w i)).outcome ≡ outcome → OutcomeSure task outcome (machine.after base (counted (w.seat i).post) (finds w i)).post y
 opens_sure w i v l z p call y (Changes kept) base (Ends (Protected protect_ends.Null)) h up e s o = λ r.
     let table : (machine.after base (counted (w.seat i).post) (finds w i)).post.layout ≡ w.layout = (after_same base (counted (w.seat i).post) (finds w i)).layout ∙ (h.known.seats.fits i).post.layout in
-    change_sure w i p call y 0 [] kept.change up s (null_read w i v l z p kept base h e o) (refused_by (machine.after base (counted (w.seat i).post) (finds w i)).post.layout w.layout 0 [] kept.change table r)
+    change_sure w i p call y 0 [] kept.change kept.wanted up s (null_read w i v l z p kept base h e o) (refused_by (machine.after base (counted (w.seat i).post) (finds w i)).post.layout w.layout kept.wanted 0 [] kept.change table r)
 opens_sure w i v l z p call y (Changes kept) base (Ends (Protected (protect_ends.Held slot era))) h up e s o = tt
 opens_sure w i v l z p call y (Changes kept) base (Ends Done) h up e s o = tt
 opens_sure w i v l z p call y (Changes kept) base (Ends (Followed end)) h up e s o = tt
@@ -142,10 +163,10 @@ phase_sure w i v l z p call y Idle a h up e s = tt
 phase_sure w i v l z p call y (Scans later at) a h up e s = tt
 phase_sure w i v l z p call y (Runs (Opens task) base) a h up e s = opens_sure w i v l z p call y task base (machine.after base (counted (w.seat i).post) (finds w i)).outcome h up e s refl
 phase_sure w i v l z p call y (Works (Changing kept (LoadCount slot))) a h up e s = λ none r.
-    change_sure w i p call y kept.version kept.pairs kept.change up s (count_read w i v l z p kept slot a h e none) (refused_by (w.seat i).post.layout w.layout kept.version kept.pairs kept.change (h.known.seats.fits i).post.layout r)
+    change_sure w i p call y kept.version kept.pairs kept.change kept.wanted up s (count_read w i v l z p kept slot a h e none) (refused_by (w.seat i).post.layout w.layout kept.wanted kept.version kept.pairs kept.change (h.known.seats.fits i).post.layout r)
 phase_sure w i v l z p call y (Works (Changing kept (LoadValue slot count key))) a h up e s = λ none r.
     let pairs : List Pair = (alters.with_read kept key (finds w i)).pairs in
-    change_sure w i p call y kept.version pairs kept.change up s (value_read w i v l z p kept slot count key a h e none) (refused_by (w.seat i).post.layout w.layout kept.version pairs kept.change (h.known.seats.fits i).post.layout r)
+    change_sure w i p call y kept.version pairs kept.change kept.wanted up s (value_read w i v l z p kept slot count key a h e none) (refused_by (w.seat i).post.layout w.layout kept.wanted kept.version pairs kept.change (h.known.seats.fits i).post.layout r)
 phase_sure w i v l z p call y (Works (Enqueuing kept LoadNext)) a h up e s = λ none apart.
     let far : (kept.number == w.layout.config.last_version) ≡ false = subst (λ (table : Layout). (kept.number == table.config.last_version) ≡ false) (h.known.seats.fits i).post.layout apart in
     up (subst (λ (x : Call). lacks_row w.layout.config i p (Some x) ≡ true) (sym s) (held_now (begins i) (has_number w.layout.config) p (number_left w i v l z p kept h e none far)))

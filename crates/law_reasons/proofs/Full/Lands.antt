@@ -22,7 +22,7 @@ use Rattle.wfe_core.specs.Enqueue as enqueues
 use Rattle.wfe_core.specs.Guards.{guards, guard_at, eras_in, published}
 use Rattle.wfe_core.specs.Machine as machine
 use Rattle.wfe_core.specs.Posts.{stands}
-use Rattle.wfe_core.specs.Rounds.{with_clock}
+use Rattle.wfe_core.specs.Rounds.{let_index, letting, letting_by, release_base, scheme_of, with_clock}
 use Rattle.wfe_core.specs.Scan as scan
 use Rattle.wfe_core.specs.Steps as steps
 use Rattle.wfe_core.specs.WriteRow.{last_written}
@@ -32,7 +32,7 @@ use Rattle.wfe_core.specs.Phases.AllocateAt.{LoadBirth, ClaimSlot, StoreLife}
 use Rattle.wfe_core.specs.Phases.RetireAt.{LoadLife, LoadRetire, StoreRetired}
 use Rattle.wfe_core.specs.Phases.Base.{Allocate, Write, Retire, Move}
 use Rattle.wfe_core.specs.Phases.Ending.{Done, Protected, Followed, Allocated, Retired, Clocked}
-use Rattle.wfe_core.specs.Calls.{Task, Gets, Changes, Holds, Enqueues, Dequeues, Next, Again, MakeRoom, Answering, Retiring, AfterScan, Answered, Repeated, Counted, LoadNumber, LoadNext, PassTail, ExchangeNext, ExchangeTail, Work, Getting, Changing, Enqueuing, Dequeuing, ScanAt, ReadGuard, GiveBack, Why, Opens, FollowsHead, Fills, ClearsNext, Clears, Finishes, GivesUp, Retires, Tidies, Advances, Releases, Phase, Idle, Runs, Scans, Works, CallOutcome, GoesOn, Answers}
+use Rattle.wfe_core.specs.Calls.{Task, Gets, Changes, Holds, Enqueues, Dequeues, Next, Again, MakeRoom, Answering, Retiring, AfterScan, Answered, Repeated, Counted, LoadNumber, LoadNext, PassTail, ExchangeNext, ExchangeTail, Work, Getting, Changing, Enqueuing, Dequeuing, Keeping, LetGo, Released, Rehold, Dropped, ScanAt, ReadGuard, GiveBack, Why, Opens, FollowsHead, Fills, ClearsNext, Clears, Finishes, GivesUp, Retires, Tidies, Advances, Releases, Phase, Idle, Runs, Scans, Works, CallOutcome, GoesOn, Answers}
 use Rattle.law_scans.specs.inv.shapes.Seats.{Kind, ToOpen, ToFollow, ToClear, ToFinish, ToRelease, ToGiveUp, ToFill, ToRetire, ToMove, kind_of, suits, fills, retires, scan_fits}
 use Rattle.law_scans.specs.inv.rows.Hands.{task_fills, runs_right}
 use Rattle.laws.proofs.Along.{along}
@@ -229,6 +229,7 @@ work_on c (Enqueuing kept (PassTail next)) x y o f = task_on c (Enqueues kept) x
 work_on c (Enqueuing kept (ExchangeNext slot)) x y o f = task_on c (Enqueues kept) x y o f
 work_on c (Enqueuing kept (ExchangeTail slot)) x y o f = tt
 work_on c (Dequeuing at) x y o f = tt
+work_on c (Keeping at) x y o f = tt
 
 pub phase_on : (c : Config) (phase : Phase) (x y : Now) → Onto x y → PhaseFits c phase x → PhaseFits c phase y
 phase_on c Idle x y o f = tt
@@ -284,7 +285,7 @@ run_fits c z (GivesUp answer) base post desk found s h f d a u = let t = machine
 run_fits c z (Retires answer) base post desk found s h f d a u = retires_fits c z answer base post desk found s f
 run_fits c z (Tidies later) base post desk found s h f d a u = let t = machine.after base post found in still_fits c _ base ToMove found z s refl refl (resumed_tidies c later desk t.post t.told t.outcome z f)
 run_fits c z Advances base post desk found s h f d a u = let t = machine.after base post found in still_fits c _ base ToMove found z s refl refl (resumed_advances c desk t.post t.told t.outcome z)
-run_fits c z (Releases key) base post desk found s h f d a u = let t = machine.after base post found in still_fits c _ base ToRelease found z s refl refl (resumed_releases c key desk t.post t.told t.outcome z)
+run_fits c z (Releases let_go) base post desk found s h f d a u = let t = machine.after base post found in still_fits c _ base ToRelease found z s refl refl (resumed_releases c let_go desk t.post t.told t.outcome z)
 
 -- a scan
 walked_reads : (all : ℕ) (task : Task) → is_walked task ≡ true → reads_in all task ≡ all
@@ -337,6 +338,14 @@ turn_fits z (Runs why base) post desk found p f d a u = run_fits post.layout.con
 turn_fits z (Scans later at) post desk found p f d a u = scan_fits_on z later at post desk found p f
 turn_fits z (Works work) post desk found p f d a u = work_fits post.layout.config work post desk found z d f
 
+-- nothing is let go of a search
+letting_fits : (c : Config) (let_go : LetGo) (post : Post) (z : Now) → PhaseFits c (letting let_go post) z
+letting_fits c let_go post z = by (release_base (scheme_of post) post (let_index let_go))
+  where
+    by : (x : Option Base) → PhaseFits c (letting_by let_go x) z
+    by None = tt
+    by (Some base) = tt
+
 -- a call begins
 pub first_fits : (c : Config) (call : Call) (post : Post) (was since : ℕ → Bool) (fits : Bool) → PhaseFits c (steps.first_phase call post) (record { search = record { seeks = seeks_row call; reads = 0 }; was = was; since = since; fits = fits })
 first_fits c (names.Get key) post was since fits = round_fits c (Gets key) post _ (other_task c (Gets key) _ refl refl)
@@ -348,7 +357,19 @@ first_fits c (names.Hold key) post was since fits = held_fits (stands post 2)
   where
     held_fits : (x : Option ℕ) → PhaseFits c (steps.holding key post x) (record { search = record { seeks = false; reads = 0 }; was = was; since = since; fits = fits })
     held_fits None = round_fits c (Holds key) post _ (other_task c (Holds key) _ refl refl)
-    held_fits (Some slot) = tt
-first_fits c names.Release post was since fits = tt
+    held_fits (Some slot) = letting_fits c (Rehold key) post _
+first_fits c names.Release post was since fits = letting_fits c Released post _
+first_fits c (names.Copy from index) post was since fits = copy_fits (stands post from)
+  where
+    copy_fits : (x : Option ℕ) → PhaseFits c (steps.copying from index x) (record { search = record { seeks = false; reads = 0 }; was = was; since = since; fits = fits })
+    copy_fits None = tt
+    copy_fits (Some slot) = tt
+first_fits c (names.DropIndex index) post was since fits = letting_fits c (Dropped index) post _
+first_fits c (names.Look index key) post was since fits = look_fits (stands post index)
+  where
+    look_fits : (x : Option ℕ) → PhaseFits c (steps.looking_at index key x) (record { search = record { seeks = false; reads = 0 }; was = was; since = since; fits = fits })
+    look_fits None = tt
+    look_fits (Some slot) = tt
+first_fits c (names.PutIf key value version) post was since fits = round_fits c _ post _ (record { seeks = λ h. refl; reads = λ h. refl })
 first_fits c names.Advance post was since fits = tt
 first_fits c names.Scan post was since fits = refl

@@ -5,6 +5,7 @@ use Rattle.wfe_core.specs.words.declared.layout.Layout.{Layout}
 use Rattle.wfe_core.specs.defs.declared.call.Call.{Call}
 use Rattle.wfe_core.specs.defs.declared.event.Event.TheVariants as events
 use Rattle.wfe_core.specs.Book.{booked_all}
+use Rattle.wfe_core.specs.Locals.{may_begin}
 use Rattle.wfe_core.specs.World.{World, start, begin, step, is_busy, told_in}
 use Rattle.law_scans.proofs.inv.requests.Kept.{requests_start, requests_begin}
 use Rattle.law_scans.specs.inv.requests.Views.{Deal, View as Asked}
@@ -50,8 +51,8 @@ step_sees made i b g =
       agrees = m;
     }
 
-pub begin_sees : (made : Made) (i : ℕ) (call : Call) → is_busy made.world i ≡ false → Sees made → Sees (done made (Begins i call))
-begin_sees made i call f g =
+pub begin_sees : (made : Made) (i : ℕ) (call : Call) → is_busy made.world i ≡ false → may_begin made.world.layout.config call ≡ true → Sees made → Sees (done made (Begins i call))
+begin_sees made i call f m g =
     let w : World = made.world in
     let p : Past = made.past in
     let k = g.shown.known in
@@ -61,9 +62,9 @@ begin_sees made i call f g =
       line = g.line;
       asked = next.0;
       shown = record {
-        known = known_begin w i call g.rows g.line g.asked next.0 f k next.1.facts next.1.deal;
+        known = known_begin w i call g.rows g.line g.asked next.0 f m k next.1.facts next.1.deal;
         current = current_same (base_begun (base_of p) w i) (base_of (Then p i (events.Begin call))) (begin w i call) next.0
-            (λ m b. begin_base w i m b call p (g.shown.changes b))
+            (λ n b. begin_base w i n b call p (g.shown.changes b))
             (current_begin w i call g.asked next.0 (base_of p) f k.requests next.1.deal g.shown.current);
         changes = g.shown.changes;
         queued = g.shown.queued;

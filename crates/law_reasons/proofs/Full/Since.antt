@@ -1,6 +1,6 @@
 -- What was so at a position of a record since an entry goes on to be so; and what a walk has seen stays seen.
 use Rattle.std.proofs.Common.{ℕ, ◌≡◌, ◌+◌, Bool, true, false, List, [], ◌∷◌, Option, Some, None, refl, ap}
-use Rattle.std.specs.Prelude.{◌==◌, ◌&&◌, ◌||◌, not, nat_lt}
+use Rattle.std.specs.Prelude.{◌==◌, ◌&&◌, ◌||◌, not, nat_lt, if◌then◌else◌}
 use Rattle.wfe_core.specs.defs.declared.call.Call.{Call}
 use Rattle.wfe_core.specs.defs.declared.call.Call.TheVariants as names
 use Rattle.wfe_core.specs.defs.declared.event.Event.{Event}
@@ -9,12 +9,13 @@ use Rattle.wfe_core.specs.defs.declared.lifetime.Interval.{Interval}
 use Rattle.wfe_core.specs.declared.post.Post.{Post}
 use Rattle.wfe_core.specs.Desks.{Desk}
 use Rattle.wfe_core.specs.Phases.AllocateAt.{ClaimSlot}
-use Rattle.wfe_core.specs.Phases.Base.{Allocate}
+use Rattle.wfe_core.specs.Phases.Base.{Allocate, Clear}
 use Rattle.wfe_core.specs.Locals.{told_by}
-use Rattle.wfe_core.specs.Calls.{Releases, AfterScan, Answered, Repeated, Counted, ReadGuard, GiveBack, ScanAt, Holds, Task, Phase, Idle, Runs, Scans, Works}
+use Rattle.wfe_core.specs.Calls.{LetGo, Released, Rehold, Dropped, AfterScan, Answered, Repeated, Counted, ReadGuard, GiveBack, ScanAt, Holds, Task, Phase, Idle, Runs, Scans, Works}
 use Rattle.wfe_core.specs.Guards.{guards, guard_at, eras_in, published}
-use Rattle.wfe_core.specs.Posts.{stands}
-use Rattle.wfe_core.specs.Rounds.{begin_base, begin_span, release_base, round, round_by, scheme_of}
+use Rattle.wfe_core.specs.Posts.{stands, withdrawn}
+use Rattle.wfe_core.specs.words.Schemes.{has_one_interval}
+use Rattle.wfe_core.specs.Rounds.{begin_base, begin_span, kept_row, let_index, letting, letting_by, release_span, round, round_by, scheme_of}
 use Rattle.wfe_core.specs.Scan as scan
 use Rattle.wfe_core.specs.Steps as steps
 use Rattle.wfe_core.proofs.Facts.{both, first_of, rest_of, or_left_true, or_more}
@@ -114,14 +115,29 @@ base_walks slots seen task post Wfe = tt
 round_walks : (slots : ℕ) (seen : ℕ → Bool) (task : Task) (post : Post) → WalkPhase slots seen (round task post)
 round_walks slots seen task post = base_walks slots seen task post (scheme_of post)
 
-release_walks : (slots : ℕ) (seen : ℕ → Bool) (key : Option ℕ) (scheme : SchemeKind) → WalkPhase slots seen (Runs (Releases key) (release_base scheme))
-release_walks slots seen key He = tt
-release_walks slots seen key Ibr = tt
-release_walks slots seen key Wfe = tt
+-- nor with letting go
+span_unwalks : (slots : ℕ) (seen : ℕ → Bool) (let_go : LetGo) (index : ℕ) (x : Option ℕ) → WalkPhase slots seen (letting_by let_go (release_span index x))
+span_unwalks slots seen let_go index None = tt
+span_unwalks slots seen let_go index (Some slot) = tt
+
+base_unwalks : (slots : ℕ) (seen : ℕ → Bool) (let_go : LetGo) (index : ℕ) (x : Option ℕ) (one : Bool) → WalkPhase slots seen (letting_by let_go (if one then release_span index x else Some (Clear index)))
+base_unwalks slots seen let_go index x true = span_unwalks slots seen let_go index x
+base_unwalks slots seen let_go index x false = tt
+
+release_walks : (slots : ℕ) (seen : ℕ → Bool) (let_go : LetGo) (post : Post) → WalkPhase slots seen (letting let_go post)
+release_walks slots seen let_go post = base_unwalks slots seen let_go (let_index let_go) (kept_row (withdrawn post (let_index let_go))) (has_one_interval (scheme_of post))
+
+copying_walks : (slots : ℕ) (seen : ℕ → Bool) (from index : ℕ) (x : Option ℕ) → WalkPhase slots seen (steps.copying from index x)
+copying_walks slots seen from index None = tt
+copying_walks slots seen from index (Some slot) = tt
+
+looking_walks : (slots : ℕ) (seen : ℕ → Bool) (index key : ℕ) (x : Option ℕ) → WalkPhase slots seen (steps.looking_at index key x)
+looking_walks slots seen index key None = tt
+looking_walks slots seen index key (Some slot) = tt
 
 holding_walks : (slots : ℕ) (seen : ℕ → Bool) (key : ℕ) (post : Post) (x : Option ℕ) → WalkPhase slots seen (steps.holding key post x)
 holding_walks slots seen key post None = round_walks slots seen (Holds key) post
-holding_walks slots seen key post (Some slot) = release_walks slots seen (Some key) (scheme_of post)
+holding_walks slots seen key post (Some slot) = release_walks slots seen (Rehold key) post
 
 pub first_walks : (slots : ℕ) (seen : ℕ → Bool) (call : Call) (post : Post) → WalkPhase slots seen (steps.first_phase call post)
 first_walks slots seen (names.Get key) post = round_walks slots seen _ post
@@ -130,7 +146,11 @@ first_walks slots seen (names.Remove key) post = round_walks slots seen _ post
 first_walks slots seen (names.Enqueue value) post = round_walks slots seen _ post
 first_walks slots seen names.Dequeue post = round_walks slots seen _ post
 first_walks slots seen (names.Hold key) post = holding_walks slots seen key post (stands post 2)
-first_walks slots seen names.Release post = release_walks slots seen None (scheme_of post)
+first_walks slots seen names.Release post = release_walks slots seen Released post
+first_walks slots seen (names.Copy from index) post = copying_walks slots seen from index (stands post from)
+first_walks slots seen (names.DropIndex index) post = release_walks slots seen (Dropped index) post
+first_walks slots seen (names.Look index key) post = looking_walks slots seen index key (stands post index)
+first_walks slots seen (names.PutIf key value version) post = round_walks slots seen _ post
 first_walks slots seen names.Advance post = tt
 first_walks slots seen names.Scan post = tt
 

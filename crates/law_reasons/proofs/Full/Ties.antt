@@ -21,13 +21,16 @@ use Rattle.wfe_core.specs.Dequeue as dequeues
 use Rattle.wfe_core.specs.Enqueue as enqueues
 use Rattle.wfe_core.specs.Get as gets
 use Rattle.wfe_core.specs.Guards.{guards}
+use Rattle.wfe_core.specs.Keep as keeps
+use Rattle.wfe_core.specs.Posts.{cleared, reserves_index, stands, withdrawn}
+use Rattle.wfe_core.specs.words.Schemes.{has_one_interval}
 use Rattle.wfe_core.specs.Steps as steps
-use Rattle.wfe_core.specs.Rounds.{scheme_of, bucket_of, index_of, taken_of, begin_base, round, round_by, finish_base, clear_base, clear_post, clear_told, given_up, closed, finishing_by, finishing, clearing_by, clearing, clearing_next_by, clearing_next}
+use Rattle.wfe_core.specs.Rounds.{scheme_of, let_index, bucket_of, index_of, taken_of, begin_base, round, round_by, finish_base, clear_base, clear_post, clear_told, given_up, closed, finishing_by, finishing, clearing_by, clearing, clearing_next_by, clearing_next}
 use Rattle.wfe_core.specs.Phases.{Base, Ending, Outcome, Goes, Ends}
 use Rattle.wfe_core.specs.Phases.AllocateAt.{LoadBirth, ClaimSlot, StoreLife}
 use Rattle.wfe_core.specs.Phases.Base.{Allocate}
 use Rattle.wfe_core.specs.Phases.Ending.{Done, Protected, Followed, Allocated, Retired, Clocked}
-use Rattle.wfe_core.specs.Calls.{Task, Gets, Changes, Holds, Enqueues, Dequeues, Next, Again, MakeRoom, Answering, Retiring, AfterScan, Answered, Repeated, Counted, ChangeKept, EnqueueKept, GetAt, FindVersion, FindCount, FindKey, FindValue, ChangeAt, LoadVersion, LoadCount, LoadKey, LoadValue, ExchangeRoot, EnqueueAt, LoadNumber, LoadNext, PassTail, ExchangeNext, ExchangeTail, DequeueAt, SwingTail, ExchangeHead, Work, Getting, Changing, Enqueuing, Dequeuing, ScanAt, ReadGuard, GiveBack, Why, Opens, FollowsHead, Fills, ClearsNext, Clears, Finishes, GivesUp, Retires, Tidies, Advances, Releases, Phase, Idle, Runs, Scans, Works, CallOutcome, GoesOn, Answers}
+use Rattle.wfe_core.specs.Calls.{Task, Gets, Changes, Holds, Enqueues, Dequeues, Next, Again, MakeRoom, Answering, Retiring, AfterScan, Answered, Repeated, Counted, ChangeKept, EnqueueKept, GetAt, FindVersion, FindCount, FindKey, FindValue, ChangeAt, LoadVersion, LoadCount, LoadKey, LoadValue, ExchangeRoot, EnqueueAt, LoadNumber, LoadNext, PassTail, ExchangeNext, ExchangeTail, DequeueAt, SwingTail, ExchangeHead, Work, Getting, Changing, Enqueuing, Dequeuing, ScanAt, ReadGuard, GiveBack, Why, Opens, FollowsHead, Fills, ClearsNext, Clears, Finishes, GivesUp, Retires, Tidies, Advances, Releases, Phase, Idle, Runs, Scans, Works, CallOutcome, GoesOn, Answers, Keeping, KeepAt, Loosens, LoadHeld, StoreHeld, Looks, Misses, LetGo, Released, Rehold, Dropped}
 use Rattle.law_scans.specs.inv.rows.Hands.{holds_none}
 use Rattle.laws.specs.HistoryScans.{Search}
 
@@ -132,7 +135,7 @@ WhyFits c (GivesUp answer) base z = AnswerFits c answer z
 WhyFits c (Retires answer) base z = is_full answer ≡ false
 WhyFits c (Tidies later) base z = LaterFits c 0 later z
 WhyFits c Advances base z = Unit {0}
-WhyFits c (Releases key) base z = Unit {0}
+WhyFits c (Releases let_go) base z = Unit {0}
 
 abbrev pub EnqueueFits : Config → EnqueueKept → EnqueueAt → Now → Type 0
 EnqueueFits c kept (ExchangeTail slot) z = Unit {0}
@@ -143,6 +146,7 @@ WorkFits c (Getting key at) z = Unit {0}
 WorkFits c (Changing kept at) z = TaskFits c (Changes kept) z
 WorkFits c (Enqueuing kept at) z = EnqueueFits c kept at z
 WorkFits c (Dequeuing at) z = Unit {0}
+WorkFits c (Keeping at) z = Unit {0}
 
 abbrev pub PhaseFits : Config → Phase → Now → Type 0
 PhaseFits c Idle z = Unit {0}
@@ -156,7 +160,7 @@ OutFits c (Answers answer) z = AnswerFits c answer z
 
 -- where a step decides that a row is filled, the call lacks nothing else
 abbrev pub ChangeSure : ChangeKept → Post → Now → Type 0
-ChangeSure kept post z = alters.refusal post.layout.config kept.version kept.pairs kept.change ≡ None → z.fits ≡ true
+ChangeSure kept post z = alters.refused post.layout.config kept ≡ None → z.fits ≡ true
 
 abbrev pub AlterSure : ChangeKept → ChangeAt → Post → (found : ℕ) → Now → Type 0
 AlterSure kept (LoadCount slot) post found z = nat_lt 0 found ≡ false → ChangeSure kept post z
@@ -285,8 +289,16 @@ deciding_by_fits : (c : Config) (kept : ChangeKept) (post : Post) (desk : Desk) 
 deciding_by_fits c kept post desk told (Some answer) z q d f = clearing_fits c (Changes kept) (Answering answer) post desk told z (λ h. let n : is_full answer ≡ false = q answer refl in absurd (cc))
 deciding_by_fits c kept post desk told None z q d f = change_fills c (alters.with_change kept) kept.taken z (again_change c kept (alters.with_change kept) z refl refl f) (d refl)
 
+refused_not_full : (config : Config) (wanted : Option ℕ) (version : ℕ) (pairs : List Pair) (change : Change) → NotFull (alters.stale_or wanted version (alters.refusal config version pairs change))
+refused_not_full config None version pairs change = refusal_not_full config version pairs change
+refused_not_full config (Some wanted) version pairs change = by (version == wanted)
+  where
+    by : (same : Bool) → NotFull (if same then alters.refusal config version pairs change else Some (the_answers.Stale version))
+    by true = refusal_not_full config version pairs change
+    by false = λ answer e. subst (λ (x : Option Answer). full_in x ≡ false) e refl
+
 deciding_fits : (c : Config) (kept : ChangeKept) (post : Post) (desk : Desk) (told : List Event) (z : Now) → ChangeSure kept post z → TaskFits c (Changes kept) z → OutFits c (alters.deciding kept post desk told).outcome z
-deciding_fits c kept post desk told z d f = deciding_by_fits c kept post desk told (alters.refusal post.layout.config kept.version kept.pairs kept.change) z (refusal_not_full post.layout.config kept.version kept.pairs kept.change) d f
+deciding_fits c kept post desk told z d f = deciding_by_fits c kept post desk told (alters.refused post.layout.config kept) z (refused_not_full post.layout.config kept.wanted kept.version kept.pairs kept.change) d f
 
 reading_fits : (c : Config) (kept : ChangeKept) (slot count : ℕ) (post : Post) (desk : Desk) (on : Bool) (z : Now) → (on ≡ false → ChangeSure kept post z) → TaskFits c (Changes kept) z → OutFits c (alters.reading kept slot count post desk on).outcome z
 reading_fits c kept slot count post desk true z d f = f
@@ -355,11 +367,47 @@ dequeue_fits c (SwingTail head next) post desk found z = clearing_next_fits c Ag
 dequeue_fits c (ExchangeHead head next number value) post desk found z = taken_fits c head next number value post desk (found == head + 1) z
 dequeue_fits c at post desk found z = tt
 
+-- what is kept
+released_fits : (c : Config) (let_go : LetGo) (post : Post) (desk : Desk) (told : List Event) (z : Now) → OutFits c (keeps.released let_go post desk told).outcome z
+released_fits c Released post desk told z = λ h. absurd (cc)
+released_fits c (Rehold key) post desk told z = round_fits c (Holds key) post z (other_task c (Holds key) z refl refl)
+released_fits c (Dropped index) post desk told z = λ h. absurd (cc)
+
+copied_fits : (c : Config) (from index : ℕ) (post : Post) (desk : Desk) (reserved : List Event) (x : Option ℕ) (z : Now) → OutFits c (keeps.copied from index post desk reserved x).outcome z
+copied_fits c from index post desk reserved None z = λ h. absurd (cc)
+copied_fits c from index post desk reserved (Some slot) z = λ h. absurd (cc)
+
+load_held_fits : (c : Config) (from index : ℕ) (post : Post) (desk : Desk) (found : ℕ) (one : Bool) (z : Now) → OutFits c (keeps.load_held from index post desk found one).outcome z
+load_held_fits c from index post desk found true z = copied_fits c from index post desk [] (stands post from) z
+load_held_fits c from index post desk found false z = tt
+
+looking_fits : (c : Config) (index key slot version count : ℕ) (post : Post) (desk : Desk) (more : Bool) (pair : ℕ) (z : Now) → OutFits c (keeps.looking index key slot version count post desk more pair).outcome z
+looking_fits c index key slot version count post desk true pair z = tt
+looking_fits c index key slot version count post desk false pair z = λ h. absurd (cc)
+
+looked_key_fits : (c : Config) (index key slot version count pair : ℕ) (post : Post) (desk : Desk) (own : Bool) (z : Now) → OutFits c (keeps.looked_key index key slot version count pair post desk own).outcome z
+looked_key_fits c index key slot version count pair post desk true z = tt
+looked_key_fits c index key slot version count pair post desk false z = looking_fits c index key slot version count post desk (nat_lt (pair + 1) count) (pair + 1) z
+
+look_fits : (c : Config) (index key : ℕ) (at : GetAt) (post : Post) (desk : Desk) (found : ℕ) (z : Now) → OutFits c (keeps.look_turn index key at post desk found).outcome z
+look_fits c index key (FindVersion slot) post desk found z = tt
+look_fits c index key (FindCount slot version) post desk found z = looking_fits c index key slot version found post desk (nat_lt 0 found) 0 z
+look_fits c index key (FindKey slot version count pair) post desk found z = looked_key_fits c index key slot version count pair post desk (found == key) z
+look_fits c index key (FindValue slot version pair) post desk found z = λ h. absurd (cc)
+
+keep_fits : (c : Config) (at : KeepAt) (post : Post) (desk : Desk) (found : ℕ) (z : Now) → OutFits c (keeps.keep_turn at post desk found).outcome z
+keep_fits c (Loosens let_go) post desk found z = released_fits c let_go (withdrawn post (let_index let_go)) desk (cleared (let_index let_go) (stands post (let_index let_go))) z
+keep_fits c (LoadHeld from index) post desk found z = load_held_fits c from index post desk found (has_one_interval (scheme_of post)) z
+keep_fits c (StoreHeld from index era) post desk found z = copied_fits c from index post desk (reserves_index post index era) (stands post from) z
+keep_fits c (Looks index key at) post desk found z = look_fits c index key at post desk found z
+keep_fits c (Misses index) post desk found z = λ h. absurd (cc)
+
 pub work_fits : (c : Config) (work : Work) (post : Post) (desk : Desk) (found : ℕ) (z : Now) → WorkSure work post found z → WorkFits c work z → OutFits c (steps.work_turn work post desk found).outcome z
 work_fits c (Getting key at) post desk found z d f = get_fits c key at post desk found z
 work_fits c (Changing kept at) post desk found z d f = change_fits c kept at post desk found z d f
 work_fits c (Enqueuing kept at) post desk found z d f = enqueue_fits c kept at post desk found z d f
 work_fits c (Dequeuing at) post desk found z d f = dequeue_fits c at post desk found z
+work_fits c (Keeping at) post desk found z d f = keep_fits c at post desk found z
 
 -- what comes after a machine
 opened_row_fits : (c : Config) (task : Task) (slot : ℕ) (post : Post) (desk : Desk) (told : List Event) (z : Now) → TaskFits c task z → OutFits c (steps.opened_row task slot post desk told).outcome z
@@ -393,10 +441,6 @@ followed_by_fits c head tail (Allocated end) post desk told z = closed_fits c De
 followed_by_fits c head tail (Retired life) post desk told z = closed_fits c Dequeues Again post desk told z (other_task c Dequeues z refl refl)
 followed_by_fits c head tail (Clocked clock) post desk told z = closed_fits c Dequeues Again post desk told z (other_task c Dequeues z refl refl)
 
-released_fits : (c : Config) (key : Option ℕ) (post : Post) (desk : Desk) (told : List Event) (z : Now) → OutFits c (steps.released key post desk told).outcome z
-released_fits c None post desk told z = λ h. absurd (cc)
-released_fits c (Some key) post desk told z = round_fits c (Holds key) post z (other_task c (Holds key) z refl refl)
-
 -- whatever the machine makes
 pub resumed_opens : (c : Config) (task : Task) (desk : Desk) (post : Post) (told : List Event) (outcome : Outcome) (z : Now) → OutcomeSure task outcome post z → TaskFits c task z → OutFits c (steps.resumed (Opens task) desk post told outcome).outcome z
 resumed_opens c task desk post told (Goes base) z d f = f
@@ -422,6 +466,6 @@ pub resumed_gives : (c : Config) (answer : Answer) (desk : Desk) (post : Post) (
 resumed_gives c answer desk post told (Goes base) z f = f
 resumed_gives c answer desk post told (Ends ending) z f = f
 
-pub resumed_releases : (c : Config) (key : Option ℕ) (desk : Desk) (post : Post) (told : List Event) (outcome : Outcome) (z : Now) → OutFits c (steps.resumed (Releases key) desk post told outcome).outcome z
-resumed_releases c key desk post told (Goes base) z = tt
-resumed_releases c key desk post told (Ends ending) z = released_fits c key post desk told z
+pub resumed_releases : (c : Config) (let_go : LetGo) (desk : Desk) (post : Post) (told : List Event) (outcome : Outcome) (z : Now) → OutFits c (steps.resumed (Releases let_go) desk post told outcome).outcome z
+resumed_releases c let_go desk post told (Goes base) z = tt
+resumed_releases c let_go desk post told (Ends ending) z = released_fits c let_go post desk told z

@@ -1,5 +1,5 @@
 -- The indexes and rows at which protections are told to end, and those that are cleared, are those of the table.
-use Rattle.std.proofs.Common.{ℕ, ◌≡◌, ◌≤◌, ◌+◌, ◌-◌, Bool, true, false, List, [], ◌∷◌, Option, Some, None, refl, ap, ◌∙◌, subst}
+use Rattle.std.proofs.Common.{ℕ, ◌≡◌, ◌≤◌, ◌+◌, ◌-◌, Bool, true, false, List, [], ◌∷◌, ◌++◌, Option, Some, None, refl, ap, ◌∙◌, subst}
 use Rattle.std.specs.List.{list_any}
 use Rattle.std.specs.Prelude.{◌==◌, ◌&&◌, not, nat_le, nat_lt, if◌then◌else◌}
 use Rattle.wfe_core.specs.words.Place.{is_valid}
@@ -12,36 +12,38 @@ use Rattle.wfe_core.specs.defs.declared.event.Event.TheVariants as events
 use Rattle.wfe_core.specs.defs.declared.event.Root.{Root}
 use Rattle.wfe_core.specs.defs.declared.event.Root.TheVariants as roots
 use Rattle.wfe_core.specs.declared.post.Post.{Post}
-use Rattle.wfe_core.specs.Calls.{ReadGuard, GiveBack, Why, Phase, Idle, Runs, Scans, Works}
+use Rattle.wfe_core.specs.Calls.{Getting, Changing, Enqueuing, Dequeuing, Keeping, KeepAt, Loosens, LoadHeld, StoreHeld, Looks, Misses, Work, ReadGuard, GiveBack, Why, Phase, Idle, Runs, Scans, Works}
 use Rattle.wfe_core.specs.Machine as machine
 use Rattle.wfe_core.specs.Memory.{bump, found, place_in}
 use Rattle.wfe_core.specs.Phases.{ProtectAt, Base}
 use Rattle.wfe_core.specs.Phases.ProtectAt.{CheckClock, TakeAnswer, CheckUpper}
 use Rattle.wfe_core.specs.Phases.Base.{Protect, Reload, Clear, Release}
-use Rattle.wfe_core.specs.Posts.{stands, counted, cleared, upper}
+use Rattle.wfe_core.specs.Posts.{stands, counted, cleared, reserves_index, upper}
+use Rattle.wfe_core.specs.words.Schemes.{has_one_interval}
 use Rattle.wfe_core.specs.Protect.{told_held}
-use Rattle.wfe_core.specs.Rounds.{scheme_of, clear_post, clear_told}
+use Rattle.wfe_core.specs.Rounds.{scheme_of, let_index, clear_post, clear_told}
 use Rattle.wfe_core.specs.Steps.{phase_move}
 use Rattle.wfe_core.specs.World.{World, finds, told_in}
 use Rattle.wfe_core.proofs.Facts.{both, not_or_false, and_true, and_right_false, first_of, le_test, lt_test}
 use Rattle.law_scans.specs.inv.shapes.Eras.{Eras}
 use Rattle.law_scans.specs.inv.shapes.Seats.{PhaseFits, Run, Seats}
-use Rattle.law_scans.specs.inv.shapes.Slots.{BaseIn, PhaseIn, PostIn, ProtectIn, StandsIn, Slots}
+use Rattle.law_scans.specs.inv.shapes.Slots.{BaseIn, CopyIn, KeepIn, PhaseIn, PostIn, ProtectIn, StandsIn, Slots, WhyIn, WorkIn}
 use Rattle.law_scans.proofs.inv.Inv.Shapes.{index_in}
 use Rattle.law_scans.proofs.inv.ends.Ends.Tests.{Calm, at_shows, base_shows, base_any}
 use Rattle.law_scans.proofs.inv.history.AllOf.{all_of, of_along, of_weaker}
-use Rattle.law_scans.proofs.inv.history.Passes.{is_quiet, Closed, First, step_goes}
+use Rattle.law_scans.proofs.inv.history.Passes.{is_quiet, Closed, First, copied_post, copied_told, keep_post, keep_told, step_goes, work_post, work_told}
 use Rattle.law_scans.proofs.inv.shapes.Decode.{told_of}
 use Rattle.law_scans.proofs.inv.shapes.Frame.{finds_counted}
 use Rattle.law_scans.proofs.inv.shapes.Kept.{run_counted}
 use Rattle.law_scans.proofs.inv.shapes.SlotCalls.{link_row}
-use Rattle.law_scans.proofs.inv.shapes.SlotRounds.{withdrawn_slots}
+use Rattle.law_scans.proofs.inv.shapes.SlotRounds.{row_slots, withdrawn_slots}
 use Rattle.law_scans.proofs.inv.shapes.SlotSteps.{machine_slots}
 
 abbrev pub finds_in : Config → Event → Bool
 finds_in c (events.Held index slot steps) = nat_lt index c.indexes && nat_le slot c.slots
 finds_in c (events.Null index steps) = nat_lt index c.indexes
 finds_in c (events.Clear index slot) = nat_lt index c.indexes && nat_le slot c.slots
+finds_in c (events.Copied from index slot) = nat_lt from c.indexes && (nat_lt index c.indexes && nat_le slot c.slots)
 finds_in c event = true
 
 abbrev is_odd : Config → Event → Bool
@@ -88,15 +90,15 @@ cleared_even : (layout : Layout) (index : ℕ) (x : Option ℕ) → StandsIn lay
 cleared_even layout index None s = refl
 cleared_even layout index (Some slot) s = one_even layout.config (events.Clear index slot) (first_of _ _ (stood_in layout index (Some slot) s))
 
-base_even : (layout : Layout) (why : Why) (base : Base) (post : Post) (found : ℕ) → is_valid layout ≡ true → Run layout why base post → BaseIn layout base → PostIn layout post → base_shows (is_odd layout.config) post base found ≡ false
-base_even layout why (Protect aim index root steps at) post found d r h q =
-    at_even layout index root (bump steps) post at found (lt_test index layout.config.indexes (index_in layout why (Protect aim index root steps at) post d r)) h.at_in
-base_even layout why (Reload parent index slot era steps) post found d r h q =
+base_even : (layout : Layout) (why : Why) (base : Base) (post : Post) (found : ℕ) → is_valid layout ≡ true → WhyIn layout.config why → Run layout why base post → BaseIn layout base → PostIn layout post → base_shows (is_odd layout.config) post base found ≡ false
+base_even layout why (Protect aim index root steps at) post found d y r h q =
+    at_even layout index root (bump steps) post at found (lt_test index layout.config.indexes (index_in layout why (Protect aim index root steps at) post d y r)) h.at_in
+base_even layout why (Reload parent index slot era steps) post found d y r h q =
     and_right_false (found == parent + 1) (is_odd layout.config (events.Held index slot (bump steps)))
-    (ap not (both (nat_lt index layout.config.indexes) (nat_le slot layout.config.slots) (lt_test index layout.config.indexes (index_in layout why (Reload parent index slot era steps) post d r)) (le_test slot layout.config.slots h.1)))
-base_even layout why (Clear index) post found d r h q = cleared_even layout index (stands post index) (q index)
-base_even layout why Release post found d r h q = cleared_even layout 2 (stands post 2) (q 2)
-base_even layout why base post found d r h q = refl
+    (ap not (both (nat_lt index layout.config.indexes) (nat_le slot layout.config.slots) (lt_test index layout.config.indexes (index_in layout why (Reload parent index slot era steps) post d y r)) (le_test slot layout.config.slots h.1)))
+base_even layout why (Clear index) post found d y r h q = cleared_even layout index (stands post index) (q index)
+base_even layout why (Release index) post found d y r h q = cleared_even layout index (stands post index) (q index)
+base_even layout why base post found d y r h q = refl
 
 -- a step
 abbrev StepIn : Layout → Post → List Event → Type 0
@@ -106,6 +108,7 @@ quiet_in : (c : Config) (event : Event) → is_quiet event ≡ true → finds_in
 quiet_in c (events.Held index slot steps) h = absurd (cc)
 quiet_in c (events.Null index steps) h = absurd (cc)
 quiet_in c (events.Clear index slot) h = absurd (cc)
+quiet_in c (events.Copied from index slot) h = absurd (cc)
 quiet_in c event h = refl
 
 clear_in : (layout : Layout) (scheme : SchemeKind) (post : Post) (index : ℕ) → PostIn layout post → StepIn layout (clear_post scheme post index) (clear_told scheme post index)
@@ -119,6 +122,39 @@ in_closed layout = record {
   clears = λ post told index h. let c = clear_in layout (scheme_of post) post index h.0 in (c.0, of_along (finds_in layout.config) told (clear_told (scheme_of post) post index) h.1 c.1);
 }
 
+-- a step of a call on what is kept
+copied_in : (layout : Layout) (from index : ℕ) (post : Post) (reserved : List Event) (x : Option ℕ) → CopyIn layout.config from index → StandsIn layout x from → all_of (finds_in layout.config) reserved ≡ true → PostIn layout post
+    → StepIn layout (copied_post index post x) (copied_told from index post reserved x)
+copied_in layout from index post reserved None k s r q = (q, refl)
+copied_in layout from index post reserved (Some slot) k s r q =
+    let c : Config = layout.config in
+    let one : all_of (finds_in c) (events.Copied from index slot ∷ []) ≡ true =
+    and_true (nat_lt from c.indexes && (nat_lt index c.indexes && nat_le slot c.slots))
+    (both (nat_lt from c.indexes) (nat_lt index c.indexes && nat_le slot c.slots) (lt_test from c.indexes s.1)
+    (both (nat_lt index c.indexes) (nat_le slot c.slots) (lt_test index c.indexes k.below) (le_test slot c.slots s.0))) in (
+      row_slots layout post index slot s.0 k.below q,
+      of_along (finds_in c) (cleared index (stands post index) ++ reserved) (events.Copied from index slot ∷ []) (of_along (finds_in c) (cleared index (stands post index)) reserved (stood_in layout index (stands post index) (q index)) r) one,
+    )
+
+load_in : (layout : Layout) (from index : ℕ) (post : Post) (one : Bool) → CopyIn layout.config from index → PostIn layout post
+    → StepIn layout (if one then copied_post index post (stands post from) else post) (if one then copied_told from index post [] (stands post from) else [])
+load_in layout from index post true k q = copied_in layout from index post [] (stands post from) k (q from) refl q
+load_in layout from index post false k q = (q, refl)
+
+keep_in : (layout : Layout) (at : KeepAt) (post : Post) → KeepIn layout.config at → PostIn layout post → StepIn layout (keep_post at post) (keep_told at post)
+keep_in layout (Loosens let_go) post k q = (withdrawn_slots layout post (let_index let_go) q, stood_in layout (let_index let_go) (stands post (let_index let_go)) (q (let_index let_go)))
+keep_in layout (LoadHeld from index) post k q = load_in layout from index post (has_one_interval (scheme_of post)) k q
+keep_in layout (StoreHeld from index era) post k q = copied_in layout from index post (reserves_index post index era) (stands post from) k (q from) refl q
+keep_in layout (Looks index key at) post k q = (q, refl)
+keep_in layout (Misses index) post k q = (q, refl)
+
+work_in : (layout : Layout) (work : Work) (post : Post) → WorkIn layout.config work → PostIn layout post → StepIn layout (work_post work post) (work_told work post)
+work_in layout (Getting key at) post k q = (q, refl)
+work_in layout (Changing kept at) post k q = (q, refl)
+work_in layout (Enqueuing kept at) post k q = (q, refl)
+work_in layout (Dequeuing at) post k q = (q, refl)
+work_in layout (Keeping at) post k q = keep_in layout at post k q
+
 phase_in : (w : World) (i : ℕ) (phase : Phase) → is_valid w.layout ≡ true → Eras w → Slots w → PhaseFits w.layout (w.seat i).post phase → PhaseIn w.layout (w.seat i).desk phase
     → First (StepIn w.layout) phase (counted (w.seat i).post) (found (phase_move phase (counted (w.seat i).post)) (w.mem (place_in (phase_move phase (counted (w.seat i).post)))))
 phase_in w i Idle d e s f h = ((s.seats i).post, refl)
@@ -127,11 +163,11 @@ phase_in w i (Runs why base) d e s f h =
     let run = run_counted w.layout why base (w.seat i).post f in
     let there : ℕ = found (phase_move (Runs why base) post) (w.mem (place_in (phase_move (Runs why base) post))) in (
       (machine_slots w.layout w.mem (record { told = told_of w d e; links = s.words }) why base post run h.1 (s.seats i).post).post,
-      none_odd w.layout.config (machine.after base post there).told (base_any (is_odd w.layout.config) base post there (odd_calm w.layout.config) ∙ base_even w.layout why base post there d run h.1 (s.seats i).post),
+      none_odd w.layout.config (machine.after base post there).told (base_any (is_odd w.layout.config) base post there (odd_calm w.layout.config) ∙ base_even w.layout why base post there d h.0 run h.1 (s.seats i).post),
     )
 phase_in w i (Scans later (ReadGuard number)) d e s f h = ((s.seats i).post, refl)
 phase_in w i (Scans later (GiveBack place slot)) d e s f h = ((s.seats i).post, refl)
-phase_in w i (Works work) d e s f h = ((s.seats i).post, refl)
+phase_in w i (Works work) d e s f h = work_in w.layout work (counted (w.seat i).post) h (s.seats i).post
 
 pub step_finds : (w : World) (i : ℕ) → is_valid w.layout ≡ true → Seats w → Eras w → Slots w → all_of (finds_in w.layout.config) (told_in w i) ≡ true
 step_finds w i d a e s =

@@ -15,7 +15,7 @@ use Rattle.wfe_core.specs.defs.declared.event.Event.{Event}
 use Rattle.wfe_core.specs.defs.declared.event.Event.TheVariants as events
 use Rattle.wfe_core.specs.declared.post.Post.{Post}
 use Rattle.wfe_core.specs.Calls.{CallTurn, CallOutcome, GoesOn, Answers}
-use Rattle.wfe_core.specs.Locals.{told_end, turn}
+use Rattle.wfe_core.specs.Locals.{may_begin, told_end, turn}
 use Rattle.wfe_core.specs.World.{World, finds, is_busy, told_in}
 use Rattle.wfe_core.proofs.Facts.{both, first_of, lt_test, number_is, rest_of}
 use Rattle.wfe_core.proofs.Ranges.{bounds_of}
@@ -57,9 +57,9 @@ record Ranged (layout : Layout) (made : Made) : Type 0 where
   held : Held layout made
   law : Each (λ q k event. step_in layout.config k event) made.past
 
-begin_ranged : (layout : Layout) (made : Made) (i : ℕ) (call : Call) → i < made.world.layout.config.seats → is_busy made.world i ≡ false → Ranged layout made → Ranged layout (done made (Begins i call))
-begin_ranged layout made i call b y g = record {
-  held = begin_held layout made i call y g.held;
+begin_ranged : (layout : Layout) (made : Made) (i : ℕ) (call : Call) → i < made.world.layout.config.seats → is_busy made.world i ≡ false → may_begin made.world.layout.config call ≡ true → Ranged layout made → Ranged layout (done made (Begins i call))
+begin_ranged layout made i call b y m g = record {
+  held = begin_held layout made i call y m g.held;
   law = (both (nat_lt i layout.config.seats) true (subst (λ (table : Layout). nat_lt i table.config.seats ≡ true) g.held.table (lt_test i made.world.layout.config.seats b)) refl, g.law);
 }
 
@@ -76,7 +76,7 @@ step_ranges layout made i h =
 
 steady : (layout : Layout) → Steady (Ranged layout)
 steady layout = record {
-  begins = λ made i call b y g. begin_ranged layout made i call b y g;
+  begins = λ made i call b y m g. begin_ranged layout made i call b y m g;
   steps = λ made i b y g. record {
     held = step_held layout made i b g.held;
     law = seated layout.config i (told_in made.world i) made.past (subst (λ (table : Layout). nat_lt i table.config.seats ≡ true) g.held.table (lt_test i made.world.layout.config.seats b)) (step_ranges layout made i g.held) g.law;
@@ -98,6 +98,7 @@ low_if c false x y a b = b
 
 low_by : (c : Config) (j : ℕ) (event : Event) (x : Option ℕ) → finds_in c event ≡ true → stands_low c x ≡ true → stands_low c (stood_by j event x) ≡ true
 low_by c j (events.Held index slot steps) x f h = low_if c (j == index) (Some slot) x (rest_of (nat_lt index c.indexes) (nat_le slot c.slots) f) h
+low_by c j (events.Copied from index slot) x f h = low_if c (j == index) (Some slot) x (rest_of (nat_lt index c.indexes) (nat_le slot c.slots) (rest_of (nat_lt from c.indexes) (nat_lt index c.indexes && nat_le slot c.slots) f)) h
 low_by c j (events.Clear index slot) x f h = low_if c (j == index) None x refl h
 low_by c j event x f h = h
 
@@ -118,6 +119,17 @@ held_low c i p (Some (calls.Hold key)) told slot a r l = row_low c slot (stood_a
 held_low c i p (Some call) told slot a r l = absurd (cc)
 held_low c i p None told slot a r l = absurd (cc)
 
+copied_low : (c : Config) (i : ℕ) (p : Past) (call : Option Call) (told : List Event) (slot : ℕ) → answer_right c.buckets call told (answers.Copied slot) ≡ true → reason c i p call (answers.Copied slot) ≡ true → ((j : ℕ) → stands_low c (stood_at i j p) ≡ true) → nat_le slot c.slots ≡ true
+copied_low c i p (Some (calls.Copy from index)) told slot a r l = row_low c slot (stood_at i from p) (first_of (is_row slot (stood_at i from p)) (is_row slot (stood_at i index p)) r) (l from)
+copied_low c i p (Some call) told slot a r l = absurd (cc)
+copied_low c i p None told slot a r l = absurd (cc)
+
+looked_low : (c : Config) (i : ℕ) (p : Past) (call : Option Call) (told : List Event) (slot version : ℕ) (value : Option ℕ) → answer_right c.buckets call told (answers.Looked slot version value) ≡ true → reason c i p call (answers.Looked slot version value) ≡ true
+    → ((j : ℕ) → stands_low c (stood_at i j p) ≡ true) → nat_le slot c.slots ≡ true
+looked_low c i p (Some (calls.Look index key)) told slot version value a r l = row_low c slot (stood_at i index p) (first_of (is_row slot (stood_at i index p)) _ r) (l index)
+looked_low c i p (Some call) told slot version value a r l = absurd (cc)
+looked_low c i p None told slot version value a r l = absurd (cc)
+
 -- and the buckets of changes are those of their keys
 own_bucket : (c : Config) (bucket key : ℕ) → 1 ≤ c.buckets → (bucket == bucket_of c.buckets key) ≡ true → nat_lt bucket c.buckets ≡ true
 own_bucket c bucket key b h = let m : key % c.buckets < c.buckets = mod-lt key b in grind (arith, nat_tests)
@@ -131,6 +143,9 @@ in_range c p i event b g s m a = both (nat_lt i c.seats) (is_in_range c event) (
 
     by : (event : Event) → map_ok c.buckets p i event ≡ true → ((steps : ℕ) (answer : Answer) → event ≡ events.End steps answer → (answer_right c.buckets (began_of i p) (told_of i p) answer ≡ true) × (reason c i p (began_of i p) answer ≡ true)) → rows_in c event ≡ true → finds_in c event ≡ true → is_in_range c event ≡ true
     by (events.End steps (answers.Holding slot)) m a r f = let q = a steps (answers.Holding slot) refl in held_low c i p (began_of i p) (told_of i p) slot q.0 q.1 (stood_low c i 2 p g)
+    by (events.End steps (answers.Copied slot)) m a r f = let q = a steps (answers.Copied slot) refl in copied_low c i p (began_of i p) (told_of i p) slot q.0 q.1 (λ j. stood_low c i j p g)
+    by (events.End steps (answers.Looked slot version value)) m a r f =
+        let q = a steps (answers.Looked slot version value) refl in looked_low c i p (began_of i p) (told_of i p) slot version value q.0 q.1 (λ j. stood_low c i j p g)
     by (events.End steps answer) m a r f = refl
     by (events.Give slot birth) m a r f = r
     by (events.Unused slot) m a r f = r
@@ -141,6 +156,7 @@ in_range c p i event b g s m a = both (nat_lt i c.seats) (is_in_range c event) (
     by (events.Held index slot steps) m a r f = f
     by (events.Null index steps) m a r f = f
     by (events.Clear index slot) m a r f = f
+    by (events.Copied from index slot) m a r f = f
     by (events.Put bucket version key value) m a r f = own_bucket c bucket key b (rest_of _ (bucket == bucket_of c.buckets key) m)
     by (events.Removed bucket version key) m a r f = own_bucket c bucket key b (rest_of _ (bucket == bucket_of c.buckets key) m)
     by (events.Got bucket version key value) m a r f = own_bucket c bucket key b (first_of (bucket == bucket_of c.buckets key) _ m)

@@ -18,7 +18,7 @@ use Rattle.wfe_core.specs.Allocate.{is_claimed}
 use Rattle.wfe_core.specs.Change.{changed_bucket, told_change, told_cut}
 use Rattle.wfe_core.specs.Desks.{Desk}
 use Rattle.wfe_core.specs.Enqueue.{told_link}
-use Rattle.wfe_core.specs.Calls.{ChangeKept, EnqueueKept, ReadGuard, GiveBack, Getting, Changing, Enqueuing, Dequeuing, ChangeAt, ExchangeRoot, EnqueueAt, PassTail, ExchangeNext, ExchangeTail, DequeueAt, SwingTail, ExchangeHead, Work, Why, Phase, Idle, Runs, Scans, Works}
+use Rattle.wfe_core.specs.Calls.{ChangeKept, EnqueueKept, ReadGuard, GiveBack, Getting, Changing, Enqueuing, Dequeuing, Keeping, ChangeAt, ExchangeRoot, EnqueueAt, PassTail, ExchangeNext, ExchangeTail, DequeueAt, SwingTail, ExchangeHead, Work, Why, Phase, Idle, Runs, Scans, Works}
 use Rattle.wfe_core.specs.Phases.{Base}
 use Rattle.wfe_core.specs.Phases.AllocateAt.{ClaimSlot}
 use Rattle.wfe_core.specs.Phases.RetireAt.{StoreRetired}
@@ -129,6 +129,7 @@ work_in layout (Getting key at) post found d t w = refl
 work_in layout (Changing kept at) post found d t w = change_in layout kept at post found d t w
 work_in layout (Enqueuing kept at) post found d t w = enqueue_in layout.config kept at found w
 work_in layout (Dequeuing at) post found d t w = dequeue_in layout.config at found w
+work_in layout (Keeping at) post found d t w = refl
 
 -- a step
 marks_in : (layout : Layout) (phase : Phase) (post : Post) (desk : Desk) (found : ℕ) → is_valid layout ≡ true → post.layout ≡ layout → PhaseFits layout post phase → PhaseIn layout desk phase → AllIn layout.config (marks phase post found)

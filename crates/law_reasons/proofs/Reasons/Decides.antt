@@ -1,7 +1,7 @@
 -- What a step of a call decides has its reason in the record.
-use Rattle.std.proofs.Common.{ℕ, ◌≡◌, ◌≤◌, ◌<◌, ◌+◌, ◌%◌, Bool, true, false, List, length, Option, Some, None, refl, sym, ap, ◌∙◌, subst, arith}
+use Rattle.std.proofs.Common.{ℕ, ◌≡◌, ◌≢◌, ◌≤◌, ◌<◌, ◌+◌, ◌%◌, Bool, true, false, List, [], take, length, Option, Some, None, refl, sym, ap, ◌∙◌, subst, arith}
 use Rattle.std.proofs.lemmas.Bool.Decides.{nat_tests}
-use Rattle.std.specs.Prelude.{◌==◌, ◌&&◌, nat_le, not, if◌then◌else◌}
+use Rattle.std.specs.Prelude.{◌==◌, ◌&&◌, is_none, is_some, nat_le, nat_lt, not, if◌then◌else◌}
 use Rattle.wfe_core.specs.words.declared.config.Config.{Config}
 use Rattle.wfe_core.specs.words.declared.layout.Layout.{Layout}
 use Rattle.wfe_core.specs.defs.Pairs.{Pair}
@@ -17,34 +17,51 @@ use Rattle.wfe_core.specs.declared.ends.FollowEnd.TheVariants as follow_ends
 use Rattle.wfe_core.specs.declared.ends.ProtectEnd.TheVariants as protect_ends
 use Rattle.wfe_core.specs.declared.post.Post.{Post}
 use Rattle.wfe_core.proofs.Frames.{after_same}
-use Rattle.wfe_core.proofs.Standing.{stands-withdrawn_same}
+use Rattle.wfe_core.proofs.Ranges.{bounds_of}
+use Rattle.wfe_core.proofs.Standing.{stands-withdrawn_same, stands-with_row_same, stands-with_row_other}
 use Rattle.wfe_core.specs.Change as alters
 use Rattle.wfe_core.specs.Locals.{turn}
 use Rattle.wfe_core.specs.Machine as machine
-use Rattle.wfe_core.specs.Posts.{counted, stands, withdrawn}
-use Rattle.wfe_core.specs.Rounds.{key_of, with_clock}
+use Rattle.wfe_core.specs.Keep as keeps
+use Rattle.wfe_core.specs.Desks.{Desk}
+use Rattle.wfe_core.specs.words.Schemes.{has_one_interval}
+use Rattle.wfe_core.specs.defs.declared.event.Event.{Event}
+use Rattle.wfe_core.specs.defs.Pairs.{pairs_after, value_in}
+use Rattle.wfe_core.specs.Posts.{cleared, counted, reserves_index, stands, with_row, withdrawn}
+use Rattle.wfe_core.specs.Rounds.{key_of, let_index, scheme_of, with_clock}
 use Rattle.wfe_core.specs.Steps as steps
 use Rattle.wfe_core.specs.Phases.{Base, Ending, Outcome, Goes, Ends, Turn}
 use Rattle.wfe_core.specs.Phases.Ending.{Protected, Followed}
 use Rattle.wfe_core.specs.Phases.Base.{Clear, Release}
-use Rattle.wfe_core.specs.Calls.{Task, Changes, Holds, ChangeKept, EnqueueKept, ChangeAt, LoadCount, LoadValue, EnqueueAt, LoadNext, Work, Changing, Enqueuing, Why, Opens, FollowsHead, Releases, Phase, Idle, Runs, Scans, Works}
+use Rattle.wfe_core.specs.Calls.{Keeping, KeepAt, Loosens, LoadHeld, StoreHeld, Looks, Misses, LetGo, Released, Rehold, Dropped, GetAt, FindVersion, FindCount, FindKey, FindValue, CallOutcome, Answers, Task, Changes, Holds, ChangeKept, EnqueueKept, ChangeAt, LoadCount, LoadValue, EnqueueAt, LoadNext, Work, Changing, Enqueuing, Why, Opens, FollowsHead, Releases, Phase, Idle, Runs, Scans, Works}
 use Rattle.wfe_core.specs.World.{World, finds}
-use Rattle.wfe_core.proofs.Facts.{both, none_by}
-use Rattle.law_scans.proofs.answers.AnswersTold.Owed.{Serves, WhyServes, WorkServes, call_for}
+use Rattle.wfe_core.proofs.Facts.{both, none_by, same_number}
+use Rattle.law_scans.proofs.answers.AnswersTold.Owed.{ChangeServes, FreeServes, KeepServes, MissServes, Serves, WhyServes, WorkServes}
 use Rattle.wfe_core.specs.defs.Events.{is_null, is_held}
 use Rattle.law_scans.proofs.inv.shapes.Kept.{counted_fits, run_counted}
-use Rattle.law_scans.specs.inv.shapes.Seats.{Run, Seats}
-use Rattle.law_scans.specs.inv.history.Record.{Past}
+use Rattle.law_scans.specs.inv.shapes.Seats.{PhaseFits, Run, Seats}
+use Rattle.law_scans.specs.inv.history.Record.{Past, tells_of}
+use Rattle.law_scans.proofs.inv.history.Passes.{keep_post}
+use Rattle.law_scans.proofs.inv.ends.Told.Turns.{keep_just}
+use Rattle.law_scans.specs.inv.contents.Told.{LookRight}
+use Rattle.law_scans.proofs.inv.contents.Contents.Kept.{contents_looked}
+use Rattle.law_scans.proofs.inv.Inv.Whole.{contents_need}
+use Rattle.law_scans.specs.inv.shapes.Frame.{KeepFits, read_slot}
+use Rattle.law_scans.specs.inv.shapes.Slots.{CopyIn, KeepIn, PhaseIn, Slots}
 use Rattle.laws.specs.StateAt.{queued_of, stood_at, is_row, begun_at, has_told, was_empty}
 use Rattle.law_scans.proofs.inv.requests.Standings.{machine_stands}
 use Rattle.law_scans.specs.inv.requests.Parents.{OutcomeStands, base_stands, phase_stands}
 use Rattle.law_scans.specs.inv.requests.Views.{View as Asked}
 use Rattle.law_scans.specs.inv.rows.Queue.{Line}
 use Rattle.law_scans.specs.inv.rows.Rows.{View}
-use Rattle.laws.specs.AnswerLaw.{enqueue_reason}
-use Rattle.laws.specs.HistoryAnswers.{put_reason, remove_reason, dequeue_reason, hold_reason, release_reason, reason}
+use Rattle.laws.specs.AnswerLaw.{enqueue_reason, shows_value, tells_none}
+use Rattle.laws.specs.StateAt.{RowShows, same_value, shows_of, times, value_at}
+use Rattle.laws.specs.StateAt.RowShows.{ShowsVersion}
+use Rattle.law_reasons.proofs.Reasons.Missing.{MissesAt, is_any, is_copying, missed_none}
+use Rattle.law_reasons.proofs.Reasons.Shows.{Shows}
+use Rattle.laws.specs.HistoryAnswers.{put_reason, put_if_reason, remove_reason, dequeue_reason, hold_reason, release_reason, copy_reason, drop_reason, look_reason, reason}
 use Rattle.law_reasons.proofs.Reasons.Later.{Later, Bounds, is_last, reason_lasts}
-use Rattle.law_reasons.proofs.Reasons.Deciding.{Sound, is_plain, ChangeDecides, EnqueueDecides, TaskDecides, FollowDecides, FreeDecides, WhyDecides, OutcomeDecides, AlterDecides, AppendDecides, WorkDecides, PhaseDecides, PhaseKeeps, OutKeeps, keeps_on, turn_keeps}
+use Rattle.law_reasons.proofs.Reasons.Deciding.{Sound, is_plain, ChangeDecides, EnqueueDecides, TaskDecides, FollowDecides, FreeDecides, WhyDecides, OutcomeDecides, AlterDecides, AppendDecides, KeepDecides, WorkDecides, PhaseDecides, PhaseKeeps, OutKeeps, keeps_on, turn_keeps}
 use Rattle.law_reasons.proofs.Reasons.Emptied.{Emptied, no_next_seen}
 use Rattle.law_reasons.proofs.Reasons.Reading.{Shown, NumberAt, count_read, value_read, null_base, null_read, number_read}
 use Rattle.law_reasons.proofs.Reasons.Refusing.{ReadAt, some_is, change_refused, change_fits}
@@ -54,7 +71,7 @@ use Rattle.law_scans.proofs.inv.handover.Asks.{run_of}
 
 -- an answer that is decided has its reason, which lasts
 pub record Kept (c : Config) (i : ℕ) (p : Past) (call : Call) (answer : Answer) : Type 0 where
-  pub lasts : is_last answer ≡ false
+  pub lasts : is_last call answer ≡ false
   pub right : reason c i p (Some call) answer ≡ true
 
 abbrev pub Right : Config → ℕ → Past → Call → Answer → Type 0
@@ -94,6 +111,26 @@ release_clock i p (the_answers.Done version old) clock h = refl
 release_clock i p (the_answers.Taken number value old) clock h = refl
 release_clock i p answer clock h = h
 
+copy_clock : (i from index : ℕ) (p : Past) (answer : Answer) (clock : ClockMove) → copy_reason i from index p answer ≡ true → copy_reason i from index p (with_clock answer clock) ≡ true
+copy_clock i from index p (the_answers.Done version old) clock h = refl
+copy_clock i from index p (the_answers.Taken number value old) clock h = refl
+copy_clock i from index p answer clock h = h
+
+drop_clock : (i index : ℕ) (p : Past) (answer : Answer) (clock : ClockMove) → drop_reason i index p answer ≡ true → drop_reason i index p (with_clock answer clock) ≡ true
+drop_clock i index p (the_answers.Done version old) clock h = refl
+drop_clock i index p (the_answers.Taken number value old) clock h = refl
+drop_clock i index p answer clock h = h
+
+look_clock : (i index key : ℕ) (p : Past) (answer : Answer) (clock : ClockMove) → look_reason i index key p answer ≡ true → look_reason i index key p (with_clock answer clock) ≡ true
+look_clock i index key p (the_answers.Done version old) clock h = refl
+look_clock i index key p (the_answers.Taken number value old) clock h = refl
+look_clock i index key p answer clock h = h
+
+put_if_clock : (c : Config) (i b key wanted : ℕ) (p : Past) (answer : Answer) (clock : ClockMove) → put_if_reason c i b key wanted p answer ≡ true → put_if_reason c i b key wanted p (with_clock answer clock) ≡ true
+put_if_clock c i b key wanted p (the_answers.Done version old) clock h = h
+put_if_clock c i b key wanted p (the_answers.Taken number value old) clock h = refl
+put_if_clock c i b key wanted p answer clock h = h
+
 clock_right : (c : Config) (i : ℕ) (p : Past) (call : Call) (answer : Answer) (clock : ClockMove) → Right c i p call answer → Right c i p call (with_clock answer clock)
 clock_right c i p (names.Put key value) answer clock h = put_clock c i (key % c.buckets) key p answer clock h
 clock_right c i p (names.Remove key) answer clock h = remove_clock c i (key % c.buckets) key p answer clock h
@@ -101,12 +138,16 @@ clock_right c i p (names.Enqueue value) answer clock h = enqueue_clock c p answe
 clock_right c i p names.Dequeue answer clock h = dequeue_clock i p answer clock h
 clock_right c i p (names.Hold key) answer clock h = hold_clock i (key % c.buckets) p answer clock h
 clock_right c i p names.Release answer clock h = release_clock i p answer clock h
+clock_right c i p (names.Copy from index) answer clock h = copy_clock i from index p answer clock h
+clock_right c i p (names.DropIndex index) answer clock h = drop_clock i index p answer clock h
+clock_right c i p (names.Look index key) answer clock h = look_clock i index key p answer clock h
+clock_right c i p (names.PutIf key value wanted) answer clock h = put_if_clock c i (key % c.buckets) key wanted p answer clock h
 clock_right c i p call answer clock h = refl
 
-clock_last : (answer : Answer) (clock : ClockMove) → is_last answer ≡ false → is_last (with_clock answer clock) ≡ false
-clock_last (the_answers.Done version old) clock h = refl
-clock_last (the_answers.Taken number value old) clock h = refl
-clock_last answer clock h = h
+clock_last : (call : Call) (answer : Answer) (clock : ClockMove) → is_last call answer ≡ false → is_last call (with_clock answer clock) ≡ false
+clock_last call (the_answers.Done version old) clock h = refl
+clock_last call (the_answers.Taken number value old) clock h = refl
+clock_last call answer clock h = h
 
 -- answers of which the law says nothing
 put_plain : (c : Config) (i b key : ℕ) (p : Past) (answer : Answer) → is_plain answer ≡ true → put_reason c i b key p answer ≡ true
@@ -139,6 +180,27 @@ release_plain : (i : ℕ) (p : Past) (answer : Answer) → is_plain answer ≡ t
 release_plain i p the_answers.Released h = absurd (cc)
 release_plain i p answer h = refl
 
+copy_plain : (i from index : ℕ) (p : Past) (answer : Answer) → is_plain answer ≡ true → copy_reason i from index p answer ≡ true
+copy_plain i from index p (the_answers.Copied slot) h = absurd (cc)
+copy_plain i from index p the_answers.Nothing h = absurd (cc)
+copy_plain i from index p answer h = refl
+
+drop_plain : (i index : ℕ) (p : Past) (answer : Answer) → is_plain answer ≡ true → drop_reason i index p answer ≡ true
+drop_plain i index p the_answers.Dropped h = absurd (cc)
+drop_plain i index p answer h = refl
+
+look_plain : (i index key : ℕ) (p : Past) (answer : Answer) → is_plain answer ≡ true → look_reason i index key p answer ≡ true
+look_plain i index key p (the_answers.Looked slot version value) h = absurd (cc)
+look_plain i index key p the_answers.Nothing h = absurd (cc)
+look_plain i index key p answer h = refl
+
+put_if_plain : (c : Config) (i b key wanted : ℕ) (p : Past) (answer : Answer) → is_plain answer ≡ true → put_if_reason c i b key wanted p answer ≡ true
+put_if_plain c i b key wanted p (the_answers.Done version clock) h = absurd (cc)
+put_if_plain c i b key wanted p (the_answers.Stale version) h = absurd (cc)
+put_if_plain c i b key wanted p (the_answers.Spent version) h = absurd (cc)
+put_if_plain c i b key wanted p (the_answers.BucketFull version) h = absurd (cc)
+put_if_plain c i b key wanted p answer h = refl
+
 plain_right : (c : Config) (i : ℕ) (p : Past) (call : Call) (answer : Answer) → is_plain answer ≡ true → Right c i p call answer
 plain_right c i p (names.Put key value) answer h = put_plain c i (key % c.buckets) key p answer h
 plain_right c i p (names.Remove key) answer h = remove_plain c i (key % c.buckets) key p answer h
@@ -146,49 +208,65 @@ plain_right c i p (names.Enqueue value) answer h = enqueue_plain c p answer h
 plain_right c i p names.Dequeue answer h = dequeue_plain i p answer h
 plain_right c i p (names.Hold key) answer h = hold_plain i (key % c.buckets) p answer h
 plain_right c i p names.Release answer h = release_plain i p answer h
+plain_right c i p (names.Copy from index) answer h = copy_plain i from index p answer h
+plain_right c i p (names.DropIndex index) answer h = drop_plain i index p answer h
+plain_right c i p (names.Look index key) answer h = look_plain i index key p answer h
+plain_right c i p (names.PutIf key value wanted) answer h = put_if_plain c i (key % c.buckets) key wanted p answer h
 plain_right c i p call answer h = refl
 
-plain_last : (answer : Answer) → is_plain answer ≡ true → is_last answer ≡ false
-plain_last (the_answers.Holding slot) h = absurd (cc)
-plain_last the_answers.Released h = absurd (cc)
-plain_last answer h = refl
+plain_last : (call : Call) (answer : Answer) → is_plain answer ≡ true → is_last call answer ≡ false
+plain_last call (the_answers.Holding slot) h = absurd (cc)
+plain_last call the_answers.Released h = absurd (cc)
+plain_last call (the_answers.Copied slot) h = absurd (cc)
+plain_last call the_answers.Dropped h = absurd (cc)
+plain_last call (the_answers.Looked slot version value) h = absurd (cc)
+plain_last call the_answers.Nothing h = absurd (cc)
+plain_last call answer h = refl
 
 pub kept_sound : (c : Config) (i : ℕ) (p : Past) (call : Call) → Sound (Kept c i p call) (Right c i p call)
 kept_sound c i p call = record {
   ends = λ answer h. h.right;
-  clock = λ answer clock h. record { lasts = clock_last answer clock h.lasts; right = clock_right c i p call answer clock h.right };
-  plain = λ answer h. record { lasts = plain_last answer h; right = plain_right c i p call answer h };
+  clock = λ answer clock h. record { lasts = clock_last call answer clock h.lasts; right = clock_right c i p call answer clock h.right };
+  plain = λ answer h. record { lasts = plain_last call answer h; right = plain_right c i p call answer h };
 }
 
 -- a change: the answer that refuses it
-refusal_last : (c : Config) (version : ℕ) (pairs : List Pair) (change : Change) (answer : Answer) → alters.refusal c version pairs change ≡ Some answer → is_last answer ≡ false
-refusal_last c version pairs (changes.Put key value) answer h = put_by (version == c.last_version) (not (alters.has_key pairs key) && length pairs == c.pairs) h
+refusal_last : (c : Config) (call : Call) (version : ℕ) (pairs : List Pair) (change : Change) (answer : Answer) → alters.refusal c version pairs change ≡ Some answer → is_last call answer ≡ false
+refusal_last c call version pairs (changes.Put key value) answer h = put_by (version == c.last_version) (not (alters.has_key pairs key) && length pairs == c.pairs) h
   where
-    put_by : (spent full : Bool) → (if spent then Some (the_answers.Spent version) else if full then Some (the_answers.BucketFull version) else None) ≡ Some answer → is_last answer ≡ false
-    put_by true full e = subst (λ (x : Answer). is_last x ≡ false) (some_is (the_answers.Spent version) answer e) refl
-    put_by false true e = subst (λ (x : Answer). is_last x ≡ false) (some_is (the_answers.BucketFull version) answer e) refl
+    put_by : (spent full : Bool) → (if spent then Some (the_answers.Spent version) else if full then Some (the_answers.BucketFull version) else None) ≡ Some answer → is_last call answer ≡ false
+    put_by true full e = subst (λ (x : Answer). is_last call x ≡ false) (some_is (the_answers.Spent version) answer e) refl
+    put_by false true e = subst (λ (x : Answer). is_last call x ≡ false) (some_is (the_answers.BucketFull version) answer e) refl
     put_by false false e = absurd (cc)
-refusal_last c version pairs (changes.Removed key) answer h = removed_by (not (alters.has_key pairs key)) (version == c.last_version) h
+refusal_last c call version pairs (changes.Removed key) answer h = removed_by (not (alters.has_key pairs key)) (version == c.last_version) h
   where
-    removed_by : (none spent : Bool) → (if none then Some (the_answers.Absent version) else if spent then Some (the_answers.Spent version) else None) ≡ Some answer → is_last answer ≡ false
-    removed_by true spent e = subst (λ (x : Answer). is_last x ≡ false) (some_is (the_answers.Absent version) answer e) refl
-    removed_by false true e = subst (λ (x : Answer). is_last x ≡ false) (some_is (the_answers.Spent version) answer e) refl
+    removed_by : (none spent : Bool) → (if none then Some (the_answers.Absent version) else if spent then Some (the_answers.Spent version) else None) ≡ Some answer → is_last call answer ≡ false
+    removed_by true spent e = subst (λ (x : Answer). is_last call x ≡ false) (some_is (the_answers.Absent version) answer e) refl
+    removed_by false true e = subst (λ (x : Answer). is_last call x ≡ false) (some_is (the_answers.Spent version) answer e) refl
     removed_by false false e = absurd (cc)
 
-read_decides : (table : Layout) (i : ℕ) (p q : Past) (call : Call) (kept : ChangeKept) (post : Post) → post.layout ≡ table → call ≡ call_for kept.change → Later i p q → Bounds table.config q
+stale_last : (c : Config) (call : Call) (wanted : Option ℕ) (version : ℕ) (pairs : List Pair) (change : Change) (answer : Answer) → alters.stale_or wanted version (alters.refusal c version pairs change) ≡ Some answer → is_last call answer ≡ false
+stale_last c call None version pairs change answer h = refusal_last c call version pairs change answer h
+stale_last c call (Some wanted) version pairs change answer h = by (version == wanted) h
+  where
+    by : (same : Bool) → (if same then alters.refusal c version pairs change else Some (the_answers.Stale version)) ≡ Some answer → is_last call answer ≡ false
+    by true e = refusal_last c call version pairs change answer e
+    by false e = subst (λ (x : Answer). is_last call x ≡ false) (some_is (the_answers.Stale version) answer e) refl
+
+read_decides : (table : Layout) (i : ℕ) (p q : Past) (call : Call) (kept : ChangeKept) (post : Post) → post.layout ≡ table → ChangeServes call kept.change kept.wanted → Later i p q → Bounds table.config q
     → ReadAt table.config i (key_of kept.change % table.config.buckets) kept.version kept.pairs p → ChangeDecides (Kept table.config i q call) kept post
 read_decides table i p q call kept post e s l n r = record {
   refused = λ answer h.
-      let g : alters.refusal table.config kept.version kept.pairs kept.change ≡ Some answer = subst (λ (x : Layout). alters.refusal x.config kept.version kept.pairs kept.change ≡ Some answer) e h in
+      let g : alters.refused table.config kept ≡ Some answer = subst (λ (x : Layout). alters.refused x.config kept ≡ Some answer) e h in
       kept_lasts table.config i p q call answer l n (record {
-        lasts = refusal_last table.config kept.version kept.pairs kept.change answer g;
-        right = subst (λ (x : Call). Right table.config i p x answer) (sym s) (change_refused table.config i kept.version kept.pairs kept.change p answer r g);
+        lasts = stale_last table.config call kept.wanted kept.version kept.pairs kept.change answer g;
+        right = subst (λ (x : Call). Right table.config i p x answer) (sym s.is) (change_refused table.config i kept.version kept.pairs kept.change kept.wanted p answer r s.may g);
       });
   fits = λ h.
-      let g : alters.refusal table.config kept.version kept.pairs kept.change ≡ None = subst (λ (x : Layout). alters.refusal x.config kept.version kept.pairs kept.change ≡ None) e h in
+      let g : alters.refused table.config kept ≡ None = subst (λ (x : Layout). alters.refused x.config kept ≡ None) e h in
       kept_lasts table.config i p q call (the_answers.Done (kept.version + 1) moves.Still) l n (record {
         lasts = refl;
-        right = subst (λ (x : Call). Right table.config i p x (the_answers.Done (kept.version + 1) moves.Still)) (sym s) (change_fits table.config i kept.version kept.pairs kept.change p r g);
+        right = subst (λ (x : Call). Right table.config i p x (the_answers.Done (kept.version + 1) moves.Still)) (sym s.is) (change_fits table.config i kept.version kept.pairs kept.change kept.wanted p r s.may g);
       });
 }
 
@@ -221,11 +299,14 @@ pub record Stepping (w : World) (i : ℕ) (v : View) (l : Line) (z : Asked) (p q
   pub below : i < w.layout.config.seats
   pub shown : Shown w v l z p
   pub later : Later i p q
+  pub is : q ≡ tells_of p i (turn (w.seat i) (finds w i)).told
   pub bounds : Bounds w.layout.config q
   pub serves : Serves (w.seat i).call (w.seat i).phase
   pub emptied : Emptied (λ k. was_empty k p) w z
   pub says : (why : Why) (base : Base) → (w.seat i).phase ≡ Runs why base → RunSays i why (machine.after base (counted (w.seat i).post) (finds w i)).outcome q
-  pub stood : stood_at i 2 q ≡ stands (turn (w.seat i) (finds w i)).post 2
+  pub stood : (j : ℕ) → stood_at i j q ≡ stands (turn (w.seat i) (finds w i)).post j
+  pub shows : Shows w.book p
+  pub missed : MissesAt (w.seat i) (times i is_any p)
 
 abbrev IsKept : World → ℕ → Past → Answer → Type 0
 IsKept w i q answer = Kept w.layout.config i q (w.seat i).call answer
@@ -264,7 +345,7 @@ held_stands w i v l z p q key slot era base g e o =
     let m : OutcomeStands (Opens (Holds key)) t.outcome t.post =
     machine_stands w.layout i (Opens (Holds key)) base (counted (w.seat i).post) (finds w i) (counted_fits w.layout i (w.seat i).post (a.seats.fits i).post) (run_counted w.layout (Opens (Holds key)) base (w.seat i).post (run_of w i (Opens (Holds key)) base a.seats e)) (base_counted base (w.seat i).post s) in
     let there : stands t.post 2 ≡ Some slot = subst (λ (x : Outcome). OutcomeStands (Opens (Holds key)) x t.post) o m in
-    g.stood ∙ ap (λ (x : Post). stands x 2) (ended_post w i (Opens (Holds key)) base (Protected (protect_ends.Held slot era)) e o) ∙ there
+    g.stood 2 ∙ ap (λ (x : Post). stands x 2) (ended_post w i (Opens (Holds key)) base (Protected (protect_ends.Held slot era)) e o) ∙ there
 
 is_own : (slot : ℕ) (x : Option ℕ) → x ≡ Some slot → is_row slot x ≡ true
 is_own slot x h = let same : (slot == slot) ≡ true = grind (arith, nat_tests) in rw h same
@@ -286,7 +367,7 @@ nothing_right w i v l z p q key base g e o =
     let first : begun_at i b p ≤ 0 = null_base w i v l z p (Holds key) base b g.shown e refl o in
     let none : (begun_at i b p == 0) ≡ true = grind (arith, nat_tests) in
     let still : (begun_at i b q == 0) ≡ true = subst (λ (n : ℕ). (n == 0) ≡ true) (sym (g.later.begun b)) none in
-    record { lasts = refl; right = subst (λ (x : Call). Right w.layout.config i q x the_answers.Nothing) (sym call) (both (has_told i (is_null 2) q) (begun_at i b q == 0) told still) }
+    record { lasts = subst (λ (x : Call). is_last x the_answers.Nothing ≡ false) (sym call) refl; right = subst (λ (x : Call). Right w.layout.config i q x the_answers.Nothing) (sym call) (both (has_told i (is_null 2) q) (begun_at i b q == 0) told still) }
 
 fresh_right : (w : World) (i : ℕ) (v : View) (l : Line) (z : Asked) (p q : Past) (kept : ChangeKept) (base : Base) → Stepping w i v l z p q → (w.seat i).phase ≡ Runs (Opens (Changes kept)) base
     → (machine.after base (counted (w.seat i).post) (finds w i)).outcome ≡ Ends (Protected protect_ends.Null) → ChangeDecides (IsKept w i q) (alters.at_link kept 0) (machine.after base (counted (w.seat i).post) (finds w i)).post
@@ -303,19 +384,30 @@ empty_right w i v l z p q head tail base g e o =
     record { lasts = refl; right = subst (λ (x : Call). Right w.layout.config i q x the_answers.Empty) (sym call) (both (was_empty i q) (has_told i (is_null 1) q) (g.later.empty seen) told) }
 
 -- what is let go stands no more
-release_stands : (layout : Layout) (key : Option ℕ) (base : Base) (post : Post) (found : ℕ) → Run layout (Releases key) base post → stands (machine.after base post found).post 2 ≡ None
-release_stands layout key (Clear index) post found r = subst (λ (j : ℕ). stands (withdrawn post j) 2 ≡ None) (sym r.shape) (stands-withdrawn_same post 2)
-release_stands layout key Release post found r = stands-withdrawn_same post 2
-release_stands layout key base post found r = let x = r.suited in absurd (cc)
+release_stands : (layout : Layout) (let_go : LetGo) (base : Base) (post : Post) (found : ℕ) → Run layout (Releases let_go) base post → stands (machine.after base post found).post (let_index let_go) ≡ None
+release_stands layout let_go (Clear index) post found r = subst (λ (j : ℕ). stands (withdrawn post j) (let_index let_go) ≡ None) (sym r.shape) (stands-withdrawn_same post (let_index let_go))
+release_stands layout let_go (Release index) post found r = subst (λ (j : ℕ). stands (withdrawn post j) (let_index let_go) ≡ None) (sym r.shape) (stands-withdrawn_same post (let_index let_go))
+release_stands layout let_go base post found r = let x = r.suited in absurd (cc)
 
-released_right : (w : World) (i : ℕ) (v : View) (l : Line) (z : Asked) (p q : Past) (base : Base) (ending : Ending) → Stepping w i v l z p q → (w.seat i).phase ≡ Runs (Releases None) base
-    → (machine.after base (counted (w.seat i).post) (finds w i)).outcome ≡ Ends ending → IsRight w i q the_answers.Released
-released_right w i v l z p q base ending g e o =
+released_post : (let_go : LetGo) (post : Post) (desk : Desk) (told : List Event) → (keeps.released let_go post desk told).post ≡ post
+released_post Released post desk told = refl
+released_post (Rehold key) post desk told = refl
+released_post (Dropped index) post desk told = refl
+
+-- nothing stands there any more
+gone_stood : (w : World) (i : ℕ) (v : View) (l : Line) (z : Asked) (p q : Past) (let_go : LetGo) (base : Base) (ending : Ending) → Stepping w i v l z p q → (w.seat i).phase ≡ Runs (Releases let_go) base
+    → (machine.after base (counted (w.seat i).post) (finds w i)).outcome ≡ Ends ending → stood_at i (let_index let_go) q ≡ None
+gone_stood w i v l z p q let_go base ending g e o =
     let a = g.shown.known in
-    let call : (w.seat i).call ≡ names.Release = why_call w i (Releases None) base g.serves e in
-    let gone = release_stands w.layout None base (counted (w.seat i).post) (finds w i) (run_counted w.layout (Releases None) base (w.seat i).post (run_of w i (Releases None) base a.seats e)) in
-    let none : stood_at i 2 q ≡ None = g.stood ∙ ap (λ (x : Post). stands x 2) (ended_post w i (Releases None) base ending e o) ∙ gone in
-    subst (λ (x : Call). Right w.layout.config i q x the_answers.Released) (sym call) (none_by (stood_at i 2 q) none)
+    let t : Turn = machine.after base (counted (w.seat i).post) (finds w i) in
+    let gone = release_stands w.layout let_go base (counted (w.seat i).post) (finds w i) (run_counted w.layout (Releases let_go) base (w.seat i).post (run_of w i (Releases let_go) base a.seats e)) in
+    g.stood (let_index let_go) ∙ ap (λ (x : Post). stands x (let_index let_go)) (ended_post w i (Releases let_go) base ending e o ∙ released_post let_go t.post (w.seat i).desk t.told) ∙ gone
+
+-- the answer of what is let go
+let_go_right : (c : Config) (i : ℕ) (q : Past) (call : Call) (let_go : LetGo) → FreeServes call let_go → stood_at i (let_index let_go) q ≡ None → FreeDecides (Right c i q call) let_go
+let_go_right c i q call Released s n = subst (λ (x : Call). Right c i q x the_answers.Released) (sym s) (none_by (stood_at i 2 q) n)
+let_go_right c i q call (Rehold key) s n = tt
+let_go_right c i q call (Dropped index) s n = subst (λ (x : Call). Right c i q x the_answers.Dropped) (sym s) (none_by (stood_at i index q) n)
 
 -- by what comes after the machine
 task_decides : (w : World) (i : ℕ) (v : View) (l : Line) (z : Asked) (p q : Past) (task : Task) (base : Base) (ending : Ending) → Stepping w i v l z p q → (w.seat i).phase ≡ Runs (Opens task) base
@@ -330,16 +422,15 @@ follow_decides : (w : World) (i : ℕ) (v : View) (l : Line) (z : Asked) (p q : 
 follow_decides w i v l z p q head tail base (Followed follow_ends.NoNext) g e o = empty_right w i v l z p q head tail base g e o
 follow_decides w i v l z p q head tail base ending g e o = tt
 
-free_decides : (w : World) (i : ℕ) (v : View) (l : Line) (z : Asked) (p q : Past) (key : Option ℕ) (base : Base) (ending : Ending) → Stepping w i v l z p q → (w.seat i).phase ≡ Runs (Releases key) base
-    → (machine.after base (counted (w.seat i).post) (finds w i)).outcome ≡ Ends ending → FreeDecides (IsRight w i q) key
-free_decides w i v l z p q None base ending g e o = released_right w i v l z p q base ending g e o
-free_decides w i v l z p q (Some key) base ending g e o = tt
+free_decides : (w : World) (i : ℕ) (v : View) (l : Line) (z : Asked) (p q : Past) (let_go : LetGo) (base : Base) (ending : Ending) → Stepping w i v l z p q → (w.seat i).phase ≡ Runs (Releases let_go) base
+    → (machine.after base (counted (w.seat i).post) (finds w i)).outcome ≡ Ends ending → FreeDecides (IsRight w i q) let_go
+free_decides w i v l z p q let_go base ending g e o = let_go_right w.layout.config i q (w.seat i).call let_go (why_call w i (Releases let_go) base g.serves e) (gone_stood w i v l z p q let_go base ending g e o)
 
 why_decides : (w : World) (i : ℕ) (v : View) (l : Line) (z : Asked) (p q : Past) (why : Why) (base : Base) (ending : Ending) → Stepping w i v l z p q → (w.seat i).phase ≡ Runs why base
     → (machine.after base (counted (w.seat i).post) (finds w i)).outcome ≡ Ends ending → WhyDecides (IsKept w i q) (IsRight w i q) why ending (machine.after base (counted (w.seat i).post) (finds w i)).post
 why_decides w i v l z p q (Opens task) base ending g e o = task_decides w i v l z p q task base ending g e o
 why_decides w i v l z p q (FollowsHead head tail) base ending g e o = follow_decides w i v l z p q head tail base ending g e o
-why_decides w i v l z p q (Releases key) base ending g e o = free_decides w i v l z p q key base ending g e o
+why_decides w i v l z p q (Releases let_go) base ending g e o = free_decides w i v l z p q let_go base ending g e o
 why_decides w i v l z p q why base ending g e o = tt
 
 outcome_decides : (w : World) (i : ℕ) (v : View) (l : Line) (z : Asked) (p q : Past) (why : Why) (base : Base) (outcome : Outcome) → Stepping w i v l z p q → (w.seat i).phase ≡ Runs why base
@@ -361,12 +452,145 @@ append_decides w i v l z p q kept LoadNext g e =
     number_decides w.layout i p q (w.seat i).call kept (counted (w.seat i).post) (g.shown.known.seats.fits i).post.layout (work_call w i (Enqueuing kept LoadNext) g.serves e) g.later g.bounds (number_read w i v l z p kept g.shown e)
 append_decides w i v l z p q kept at g e = tt
 
-work_decides : (w : World) (i : ℕ) (v : View) (l : Line) (z : Asked) (p q : Past) (work : Work) → Stepping w i v l z p q → (w.seat i).phase ≡ Works work → WorkDecides (IsKept w i q) work (counted (w.seat i).post) (finds w i)
+-- a step on what is kept leaves this post, and tells this
+keep_post_left : (w : World) (i : ℕ) (at : KeepAt) → (w.seat i).phase ≡ Works (Keeping at) → (turn (w.seat i) (finds w i)).post ≡ keep_post at (counted (w.seat i).post)
+keep_post_left w i at e = ap (λ (x : Phase). (steps.phase_turn x (counted (w.seat i).post) (w.seat i).desk (finds w i)).post) e ∙ (keep_just at (counted (w.seat i).post) (w.seat i).desk (finds w i)).post
+
+answer_is : (x y : Answer) → ◌≡◌ {A = CallOutcome} (Answers x) (Answers y) → x ≡ y
+answer_is x y h = cc
+
+keep_call : (w : World) (i : ℕ) (at : KeepAt) → Serves (w.seat i).call (w.seat i).phase → (w.seat i).phase ≡ Works (Keeping at) → KeepServes (w.seat i).call at
+keep_call w i at s e = subst (λ (x : Phase). Serves (w.seat i).call x) e s
+
+loosen_by : (R : Answer → Type 0) (let_go : LetGo) (post : Post) (desk : Desk) (told : List Event) → FreeDecides R let_go → (answer : Answer) → (keeps.released let_go post desk told).outcome ≡ Answers answer → R answer
+loosen_by R Released post desk told d answer o = subst R (answer_is the_answers.Released answer o) d
+loosen_by R (Rehold key) post desk told d answer o = absurd (cc)
+loosen_by R (Dropped index) post desk told d answer o = subst R (answer_is the_answers.Dropped answer o) d
+
+-- a copy
+copied_by : (R : Answer → Type 0) (from index : ℕ) (post : Post) (desk : Desk) (reserved : List Event) (x : Option ℕ) → is_some x ≡ true → ((slot : ℕ) → x ≡ Some slot → R (the_answers.Copied slot)) → (answer : Answer) → (keeps.copied from index post desk reserved x).outcome ≡ Answers answer → R answer
+copied_by R from index post desk reserved None s d answer o = absurd (cc)
+copied_by R from index post desk reserved (Some slot) s d answer o = subst R (answer_is (the_answers.Copied slot) answer o) (d slot refl)
+
+load_by : (R : Answer → Type 0) (from index : ℕ) (post : Post) (desk : Desk) (found : ℕ) (one : Bool) → is_some (stands post from) ≡ true → (one ≡ true → (slot : ℕ) → stands post from ≡ Some slot → R (the_answers.Copied slot)) → (answer : Answer) → (keeps.load_held from index post desk found one).outcome ≡ Answers answer → R answer
+load_by R from index post desk found true s d answer o = copied_by R from index post desk [] (stands post from) s (d refl) answer o
+load_by R from index post desk found false s d answer o = absurd (cc)
+
+-- the row stands at both indexes
+copied_right : (w : World) (i : ℕ) (v : View) (l : Line) (z : Asked) (p q : Past) (from index slot : ℕ) → Stepping w i v l z p q → (w.seat i).call ≡ names.Copy from index → CopyIn w.layout.config from index → stands (w.seat i).post from ≡ Some slot
+    → (turn (w.seat i) (finds w i)).post ≡ with_row (counted (w.seat i).post) index slot → IsRight w i q (the_answers.Copied slot)
+copied_right w i v l z p q from index slot g s k r e =
+    let a = g.shown.known in
+    let m = (bounds_of w.layout a.valid).indexes in
+    let long = (a.seats.fits i).post.standing in
+    let apart : from ≢ index = (let up = k.rises in omega (up, arith)) in
+    let few : index < length (w.seat i).post.standing = omega (k.below, m.1, long, arith) in
+    let one : stood_at i from q ≡ Some slot = g.stood from ∙ ap (λ (x : Post). stands x from) e ∙ stands-with_row_other (counted (w.seat i).post) index slot from apart ∙ r in
+    let two : stood_at i index q ≡ Some slot = g.stood index ∙ ap (λ (x : Post). stands x index) e ∙ stands-with_row_same (counted (w.seat i).post) index slot few in
+    subst (λ (x : Call). Right w.layout.config i q x (the_answers.Copied slot)) (sym s)
+    (both (is_row slot (stood_at i from q)) (is_row slot (stood_at i index q)) (is_own slot (stood_at i from q) one) (is_own slot (stood_at i index q) two))
+
+-- a look
+record Looked (at : GetAt) (answer : Answer) : Type 0 where
+  version : ℕ
+  value : Option ℕ
+  is : answer ≡ the_answers.Looked (read_slot at) version value
+
+looking_by : (index key slot version count : ℕ) (post : Post) (desk : Desk) (more : Bool) (pair : ℕ) (answer : Answer) → (keeps.looking index key slot version count post desk more pair).outcome ≡ Answers answer → answer ≡ the_answers.Looked slot version None
+looking_by index key slot version count post desk true pair answer o = absurd (cc)
+looking_by index key slot version count post desk false pair answer o = sym (answer_is (the_answers.Looked slot version None) answer o)
+
+looked_key_by : (index key slot version count pair : ℕ) (post : Post) (desk : Desk) (own : Bool) (answer : Answer) → (keeps.looked_key index key slot version count pair post desk own).outcome ≡ Answers answer → answer ≡ the_answers.Looked slot version None
+looked_key_by index key slot version count pair post desk true answer o = absurd (cc)
+looked_key_by index key slot version count pair post desk false answer o = looking_by index key slot version count post desk (nat_lt (pair + 1) count) (pair + 1) answer o
+
+look_by : (index key : ℕ) (at : GetAt) (post : Post) (desk : Desk) (found : ℕ) (answer : Answer) → (keeps.look_turn index key at post desk found).outcome ≡ Answers answer → Looked at answer
+look_by index key (FindVersion slot) post desk found answer o = absurd (cc)
+look_by index key (FindCount slot version) post desk found answer o = record { version = version; value = None; is = looking_by index key slot version found post desk (nat_lt 0 found) 0 answer o }
+look_by index key (FindKey slot version count pair) post desk found answer o = record { version = version; value = None; is = looked_key_by index key slot version count pair post desk (found == key) answer o }
+look_by index key (FindValue slot version pair) post desk found answer o = record { version = version; value = Some found; is = sym (answer_is (the_answers.Looked slot version (Some found)) answer o) }
+
+same_self : (x : Option ℕ) → same_value x x ≡ true
+same_self None = refl
+same_self (Some n) = same_number n
+
+shows_right : (w : World) (v : View) (l : Line) (z : Asked) (p : Past) (slot version key : ℕ) (value : Option ℕ) → Shown w v l z p → Shows w.book p → LookRight w.book slot version key value → shows_value version key value p (shows_of slot p) ≡ true
+shows_right w v l z p slot version key value h s r =
+    let n : ℕ = (w.book.row slot).version in
+    let is : shows_of slot p ≡ ShowsVersion r.bucket n = s.shows slot r.bucket r.root in
+    let same : value ≡ value_at r.bucket n key p = r.right ∙ ap (λ (m : ℕ). value_in (pairs_after (take m (w.book.changes r.bucket))) key) r.shown ∙ sym (ap (λ (cs : List Change). value_in (pairs_after (take n cs)) key) (h.changes r.bucket)) in
+    let both_same : (version == n && same_value value (value_at r.bucket n key p)) ≡ true =
+    both (version == n) (same_value value (value_at r.bucket n key p)) (subst (λ (m : ℕ). (version == m) ≡ true) r.shown (same_number version)) (subst (λ (x : Option ℕ). same_value value x ≡ true) same (same_self value)) in
+    subst (λ (x : RowShows). shows_value version key value p x ≡ true) (sym is) both_same
+
+looked_right : (w : World) (i : ℕ) (v : View) (l : Line) (z : Asked) (p q : Past) (index key : ℕ) (at : GetAt) (answer : Answer) → Stepping w i v l z p q → (w.seat i).phase ≡ Works (Keeping (Looks index key at)) → stands (w.seat i).post index ≡ Some (read_slot at)
+    → (turn (w.seat i) (finds w i)).outcome ≡ Answers answer → Looked at answer → IsRight w i q answer
+looked_right w i v l z p q index key at answer g e r o x =
+    let a = g.shown.known in
+    let slot : ℕ = read_slot at in
+    let call : (w.seat i).call ≡ names.Look index key = keep_call w i (Looks index key at) g.serves e in
+    let right : LookRight w.book slot x.version key x.value = contents_looked w i v index key at slot x.version x.value (contents_need w i v l z g.below a) a.contents e (o ∙ ap Answers x.is) in
+    let none : (turn (w.seat i) (finds w i)).told ≡ [] = ap (λ (y : Phase). (steps.phase_turn y (counted (w.seat i).post) (w.seat i).desk (finds w i)).told) e ∙ (keep_just (Looks index key at) (counted (w.seat i).post) (w.seat i).desk (finds w i)).told in
+    let still : stood_at i index q ≡ Some slot = g.stood index ∙ ap (λ (y : Post). stands y index) (keep_post_left w i (Looks index key at) e) ∙ r in
+    let shows : shows_value x.version key x.value q (shows_of slot q) ≡ true = subst (λ (y : Past). shows_value x.version key x.value y (shows_of slot y) ≡ true) (sym (g.is ∙ ap (tells_of p i) none)) (shows_right w v l z p slot x.version key x.value g.shown g.shows right) in
+    subst (λ (y : Answer). IsRight w i q y) (sym x.is) (subst (λ (y : Call). Right w.layout.config i q y (the_answers.Looked slot x.version x.value)) (sym call)
+    (both (is_row slot (stood_at i index q)) (shows_value x.version key x.value q (shows_of slot q)) (is_own slot (stood_at i index q) still) shows))
+
+-- nothing stands there
+miss_right : (c : Config) (i index : ℕ) (q : Past) (call : Call) → MissServes call index → stood_at i index q ≡ None → (is_copying call ≡ true → tells_none i q ≡ true) → Right c i q call the_answers.Nothing
+miss_right c i index q (names.Copy from other) s n t =
+    let none : stood_at i from q ≡ None = subst (λ (j : ℕ). stood_at i j q ≡ None) (sym s) n in
+    both (is_none (stood_at i from q)) (tells_none i q) (none_by (stood_at i from q) none) (t refl)
+miss_right c i index q (names.Look own key) s n t =
+    let none : stood_at i own q ≡ None = subst (λ (j : ℕ). stood_at i j q ≡ None) (sym s) n in none_by (stood_at i own q) none
+miss_right c i index q call s n t = absurd (s)
+
+missed_right : (w : World) (i : ℕ) (v : View) (l : Line) (z : Asked) (p q : Past) (index : ℕ) (answer : Answer) → Stepping w i v l z p q → (w.seat i).phase ≡ Works (Keeping (Misses index)) → stands (w.seat i).post index ≡ None → IsRight w i q the_answers.Nothing
+missed_right w i v l z p q index answer g e r =
+    let none : (turn (w.seat i) (finds w i)).told ≡ [] = ap (λ (y : Phase). (steps.phase_turn y (counted (w.seat i).post) (w.seat i).desk (finds w i)).told) e in
+    let still : stood_at i index q ≡ None = g.stood index ∙ ap (λ (y : Post). stands y index) (keep_post_left w i (Misses index) e) ∙ r in
+    miss_right w.layout.config i index q (w.seat i).call (keep_call w i (Misses index) g.serves e) still
+    (λ c. subst (λ (y : Past). tells_none i y ≡ true) (sym (g.is ∙ ap (tells_of p i) none)) (missed_none (w.seat i) i p index c e g.missed))
+
+keep_fits_of : (w : World) (i : ℕ) (at : KeepAt) → Seats w → (w.seat i).phase ≡ Works (Keeping at) → KeepFits (w.seat i).post at
+keep_fits_of w i at s e = subst (PhaseFits w.layout (w.seat i).post) e (s.fits i).phase
+
+keep_in_of : (w : World) (i : ℕ) (at : KeepAt) → Slots w → (w.seat i).phase ≡ Works (Keeping at) → KeepIn w.layout.config at
+keep_in_of w i at s e = subst (PhaseIn w.layout (w.seat i).desk) e (s.seats i).phase
+
+keep_decides : (w : World) (i : ℕ) (v : View) (l : Line) (z : Asked) (p q : Past) (at : KeepAt) → Stepping w i v l z p q → (w.seat i).phase ≡ Works (Keeping at) → KeepDecides (IsRight w i q) at (counted (w.seat i).post) (w.seat i).desk (finds w i)
+keep_decides w i v l z p q (Loosens let_go) g e =
+    let post : Post = counted (w.seat i).post in
+    let gone : stood_at i (let_index let_go) q ≡ None = g.stood (let_index let_go) ∙ ap (λ (y : Post). stands y (let_index let_go)) (keep_post_left w i (Loosens let_go) e) ∙ stands-withdrawn_same post (let_index let_go) in
+    loosen_by (IsRight w i q) let_go (withdrawn post (let_index let_go)) (w.seat i).desk (cleared (let_index let_go) (stands post (let_index let_go))) (let_go_right w.layout.config i q (w.seat i).call let_go (keep_call w i (Loosens let_go) g.serves e) gone)
+keep_decides w i v l z p q (LoadHeld from index) g e =
+    let a = g.shown.known in
+    let post : Post = counted (w.seat i).post in
+    load_by (IsRight w i q) from index post (w.seat i).desk (finds w i) (has_one_interval (scheme_of post)) (keep_fits_of w i (LoadHeld from index) a.seats e)
+    (λ one slot r. copied_right w i v l z p q from index slot g (keep_call w i (LoadHeld from index) g.serves e) (keep_in_of w i (LoadHeld from index) a.slots e) r
+    (keep_post_left w i (LoadHeld from index) e ∙ rw (one, r) refl))
+keep_decides w i v l z p q (StoreHeld from index era) g e =
+    let a = g.shown.known in
+    let post : Post = counted (w.seat i).post in
+    let f = keep_fits_of w i (StoreHeld from index era) a.seats e in
+    copied_by (IsRight w i q) from index post (w.seat i).desk (reserves_index post index era) (stands post from) f.kept
+    (λ slot r. copied_right w i v l z p q from index slot g (keep_call w i (StoreHeld from index era) g.serves e) (keep_in_of w i (StoreHeld from index era) a.slots e) r
+    (keep_post_left w i (StoreHeld from index era) e ∙ rw r refl))
+keep_decides w i v l z p q (Looks index key at) g e = λ answer o.
+    let a = g.shown.known in
+    let out : (turn (w.seat i) (finds w i)).outcome ≡ Answers answer = ap (λ (x : Phase). (steps.phase_turn x (counted (w.seat i).post) (w.seat i).desk (finds w i)).outcome) e ∙ o in
+    looked_right w i v l z p q index key at answer g e (keep_fits_of w i (Looks index key at) a.seats e) out (look_by index key at (counted (w.seat i).post) (w.seat i).desk (finds w i) answer o)
+keep_decides w i v l z p q (Misses index) g e = λ answer o.
+    let a = g.shown.known in
+    subst (λ (x : Answer). IsRight w i q x) (answer_is the_answers.Nothing answer o) (missed_right w i v l z p q index answer g e (keep_fits_of w i (Misses index) a.seats e))
+
+work_decides : (w : World) (i : ℕ) (v : View) (l : Line) (z : Asked) (p q : Past) (work : Work) → Stepping w i v l z p q → (w.seat i).phase ≡ Works work → WorkDecides (IsKept w i q) (IsRight w i q) work (counted (w.seat i).post) (w.seat i).desk (finds w i)
 work_decides w i v l z p q (Changing kept at) g e = alter_decides w i v l z p q kept at g e
 work_decides w i v l z p q (Enqueuing kept at) g e = append_decides w i v l z p q kept at g e
+work_decides w i v l z p q (Keeping at) g e = keep_decides w i v l z p q at g e
 work_decides w i v l z p q work g e = tt
 
-phase_decides : (w : World) (i : ℕ) (v : View) (l : Line) (z : Asked) (p q : Past) (phase : Phase) → Stepping w i v l z p q → (w.seat i).phase ≡ phase → PhaseDecides (IsKept w i q) (IsRight w i q) phase (counted (w.seat i).post) (finds w i)
+phase_decides : (w : World) (i : ℕ) (v : View) (l : Line) (z : Asked) (p q : Past) (phase : Phase) → Stepping w i v l z p q → (w.seat i).phase ≡ phase → PhaseDecides (IsKept w i q) (IsRight w i q) phase (counted (w.seat i).post) (w.seat i).desk (finds w i)
 phase_decides w i v l z p q Idle g e = tt
 phase_decides w i v l z p q (Runs why base) g e = outcome_decides w i v l z p q why base (machine.after base (counted (w.seat i).post) (finds w i)).outcome g e refl
 phase_decides w i v l z p q (Scans later at) g e = tt

@@ -23,13 +23,15 @@ use Rattle.wfe_core.specs.Enqueue as enqueues
 use Rattle.wfe_core.specs.Get as gets
 use Rattle.wfe_core.specs.Guards.{guard_at, guards, eras_in, published}
 use Rattle.wfe_core.specs.Machine as machine
-use Rattle.wfe_core.specs.Posts.{stands}
+use Rattle.wfe_core.specs.Keep as keeps
+use Rattle.wfe_core.specs.Posts.{cleared, reserves_index, stands, withdrawn}
+use Rattle.wfe_core.specs.words.Schemes.{has_one_interval}
 use Rattle.wfe_core.specs.Scan as scan
 use Rattle.wfe_core.specs.Steps as steps
-use Rattle.wfe_core.specs.Rounds.{scheme_of, taken_of, index_of, bucket_of, begin_base, finish_base, clear_base, given_up, round, round_by, closed, finishing_by, finishing, clearing_by, clearing, clearing_next_by, clearing_next, with_clock}
+use Rattle.wfe_core.specs.Rounds.{scheme_of, taken_of, index_of, bucket_of, begin_base, finish_base, clear_base, given_up, round, round_by, closed, finishing_by, finishing, clearing_by, clearing, clearing_next_by, clearing_next, let_index, letting, letting_by, release_base, with_clock}
 use Rattle.wfe_core.specs.Phases.{Base, Ending, Outcome, Goes, Ends}
 use Rattle.wfe_core.specs.Phases.Ending.{Done, Protected, Followed, Allocated, Retired, Clocked}
-use Rattle.wfe_core.specs.Calls.{Task, Gets, Changes, Holds, Enqueues, Dequeues, Next, Again, MakeRoom, Answering, Retiring, AfterScan, Answered, Repeated, Counted, ChangeKept, EnqueueKept, GetAt, FindVersion, FindCount, FindKey, FindValue, ChangeAt, LoadVersion, LoadCount, LoadKey, LoadValue, ExchangeRoot, EnqueueAt, LoadNumber, LoadNext, PassTail, ExchangeNext, ExchangeTail, DequeueAt, SwingTail, ExchangeHead, Work, Getting, Changing, Enqueuing, Dequeuing, ScanAt, ReadGuard, GiveBack, Why, Opens, FollowsHead, Fills, ClearsNext, Clears, Finishes, GivesUp, Retires, Tidies, Advances, Releases, Phase, Idle, Runs, Scans, Works, CallOutcome, GoesOn, Answers}
+use Rattle.wfe_core.specs.Calls.{Keeping, KeepAt, Loosens, LoadHeld, StoreHeld, Looks, Misses, LetGo, Released, Rehold, Dropped, Task, Gets, Changes, Holds, Enqueues, Dequeues, Next, Again, MakeRoom, Answering, Retiring, AfterScan, Answered, Repeated, Counted, ChangeKept, EnqueueKept, GetAt, FindVersion, FindCount, FindKey, FindValue, ChangeAt, LoadVersion, LoadCount, LoadKey, LoadValue, ExchangeRoot, EnqueueAt, LoadNumber, LoadNext, PassTail, ExchangeNext, ExchangeTail, DequeueAt, SwingTail, ExchangeHead, Work, Getting, Changing, Enqueuing, Dequeuing, ScanAt, ReadGuard, GiveBack, Why, Opens, FollowsHead, Fills, ClearsNext, Clears, Finishes, GivesUp, Retires, Tidies, Advances, Releases, Phase, Idle, Runs, Scans, Works, CallOutcome, GoesOn, Answers}
 
 -- a change that fills a row answers with the version after the one that it read, and an enqueue with the number after it
 abbrev pub change_done : ChangeKept → Answer
@@ -68,7 +70,7 @@ WhyKeeps K (GivesUp answer) = K answer
 WhyKeeps K (Retires answer) = K answer
 WhyKeeps K (Tidies later) = LaterKeeps K later
 WhyKeeps K Advances = Unit {0}
-WhyKeeps K (Releases key) = Unit {0}
+WhyKeeps K (Releases let_go) = Unit {0}
 
 abbrev pub ChangeKeeps : (Answer → Type 0) → ChangeKept → ChangeAt → Type 0
 ChangeKeeps K kept (LoadVersion slot) = Unit {0}
@@ -89,6 +91,7 @@ WorkKeeps K (Getting key at) = Unit {0}
 WorkKeeps K (Changing kept at) = ChangeKeeps K kept at
 WorkKeeps K (Enqueuing kept at) = EnqueueKeeps K kept at
 WorkKeeps K (Dequeuing at) = Unit {0}
+WorkKeeps K (Keeping at) = Unit {0}
 
 abbrev pub PhaseKeeps : (Answer → Type 0) → Phase → Type 0
 PhaseKeeps K Idle = Unit {0}
@@ -138,6 +141,7 @@ work_on K L (Enqueuing kept (PassTail next)) f h = tt
 work_on K L (Enqueuing kept (ExchangeNext slot)) f h = f (enqueue_done kept) h
 work_on K L (Enqueuing kept (ExchangeTail slot)) f h = f (enqueue_done kept) h
 work_on K L (Dequeuing at) f h = tt
+work_on K L (Keeping at) f h = tt
 
 pub keeps_on : (K L : Answer → Type 0) (phase : Phase) → ((answer : Answer) → K answer → L answer) → PhaseKeeps K phase → PhaseKeeps L phase
 keeps_on K L Idle f h = tt
@@ -168,8 +172,8 @@ pub record Sound (K R : Answer → Type 0) : Type 0 where
 
 -- of a change that has read these pairs: it is refused, or it may be done
 pub record ChangeDecides (K : Answer → Type 0) (kept : ChangeKept) (post : Post) : Type 0 where
-  pub refused : (answer : Answer) → alters.refusal post.layout.config kept.version kept.pairs kept.change ≡ Some answer → K answer
-  pub fits : alters.refusal post.layout.config kept.version kept.pairs kept.change ≡ None → K (change_done kept)
+  pub refused : (answer : Answer) → alters.refused post.layout.config kept ≡ Some answer → K answer
+  pub fits : alters.refused post.layout.config kept ≡ None → K (change_done kept)
 
 abbrev pub TaskDecides : (K R : Answer → Type 0) → Task → Ending → Post → Type 0
 TaskDecides K R (Changes kept) (Protected protect_ends.Null) post = ChangeDecides K (alters.at_link kept 0) post
@@ -181,14 +185,15 @@ abbrev pub FollowDecides : (Answer → Type 0) → Ending → Type 0
 FollowDecides K (Followed follow_ends.NoNext) = K the_answers.Empty
 FollowDecides K ending = Unit {0}
 
-abbrev pub FreeDecides : (Answer → Type 0) → Option ℕ → Type 0
-FreeDecides R None = R the_answers.Released
-FreeDecides R (Some key) = Unit {0}
+abbrev pub FreeDecides : (Answer → Type 0) → LetGo → Type 0
+FreeDecides R Released = R the_answers.Released
+FreeDecides R (Rehold key) = Unit {0}
+FreeDecides R (Dropped index) = R the_answers.Dropped
 
 abbrev pub WhyDecides : (K R : Answer → Type 0) → Why → Ending → Post → Type 0
 WhyDecides K R (Opens task) ending post = TaskDecides K R task ending post
 WhyDecides K R (FollowsHead head tail) ending post = FollowDecides K ending
-WhyDecides K R (Releases key) ending post = FreeDecides R key
+WhyDecides K R (Releases let_go) ending post = FreeDecides R let_go
 WhyDecides K R why ending post = Unit {0}
 
 abbrev pub OutcomeDecides : (K R : Answer → Type 0) → Why → Outcome → Post → Type 0
@@ -209,16 +214,21 @@ abbrev pub AppendDecides : (Answer → Type 0) → EnqueueKept → EnqueueAt →
 AppendDecides K kept LoadNext post = EnqueueDecides K kept post
 AppendDecides K kept at post = Unit {0}
 
-abbrev pub WorkDecides : (Answer → Type 0) → Work → Post → ℕ → Type 0
-WorkDecides K (Changing kept at) post found = AlterDecides K kept at post found
-WorkDecides K (Enqueuing kept at) post found = AppendDecides K kept at post
-WorkDecides K work post found = Unit {0}
+-- of a step on what is kept: its answer is right
+abbrev pub KeepDecides : (Answer → Type 0) → KeepAt → Post → Desk → ℕ → Type 0
+KeepDecides R at post desk found = (answer : Answer) → (keeps.keep_turn at post desk found).outcome ≡ Answers answer → R answer
 
-abbrev pub PhaseDecides : (K R : Answer → Type 0) → Phase → Post → ℕ → Type 0
-PhaseDecides K R Idle post found = Unit {0}
-PhaseDecides K R (Runs why base) post found = OutcomeDecides K R why (machine.after base post found).outcome (machine.after base post found).post
-PhaseDecides K R (Scans later at) post found = Unit {0}
-PhaseDecides K R (Works work) post found = WorkDecides K work post found
+abbrev pub WorkDecides : (K R : Answer → Type 0) → Work → Post → Desk → ℕ → Type 0
+WorkDecides K R (Changing kept at) post desk found = AlterDecides K kept at post found
+WorkDecides K R (Enqueuing kept at) post desk found = AppendDecides K kept at post
+WorkDecides K R (Keeping at) post desk found = KeepDecides R at post desk found
+WorkDecides K R work post desk found = Unit {0}
+
+abbrev pub PhaseDecides : (K R : Answer → Type 0) → Phase → Post → Desk → ℕ → Type 0
+PhaseDecides K R Idle post desk found = Unit {0}
+PhaseDecides K R (Runs why base) post desk found = OutcomeDecides K R why (machine.after base post found).outcome (machine.after base post found).post
+PhaseDecides K R (Scans later at) post desk found = Unit {0}
+PhaseDecides K R (Works work) post desk found = WorkDecides K R work post desk found
 
 -- the end of a round
 round_by_keeps : (K : Answer → Type 0) (task : Task) (post : Post) (x : Option Base) → PhaseKeeps K (round_by task post x)
@@ -281,12 +291,12 @@ get_keeps K R s key (FindKey slot version count pair) post desk found = found_ke
 get_keeps K R s key (FindValue slot version pair) post desk found = got_keeps K R s key version (Some found) post desk []
 
 -- a change
-deciding_by_keeps : (K R : Answer → Type 0) → Sound K R → (kept : ChangeKept) (post : Post) (desk : Desk) (told : List Event) (x : Option Answer) → alters.refusal post.layout.config kept.version kept.pairs kept.change ≡ x → ChangeDecides K kept post → OutKeeps K R (alters.deciding_by kept post desk told x).outcome
+deciding_by_keeps : (K R : Answer → Type 0) → Sound K R → (kept : ChangeKept) (post : Post) (desk : Desk) (told : List Event) (x : Option Answer) → alters.refused post.layout.config kept ≡ x → ChangeDecides K kept post → OutKeeps K R (alters.deciding_by kept post desk told x).outcome
 deciding_by_keeps K R s kept post desk told (Some answer) e d = clearing_keeps K R s (Changes kept) (Answering answer) post desk told (d.refused answer e)
 deciding_by_keeps K R s kept post desk told None e d = d.fits e
 
 deciding_keeps : (K R : Answer → Type 0) → Sound K R → (kept : ChangeKept) (post : Post) (desk : Desk) (told : List Event) → ChangeDecides K kept post → OutKeeps K R (alters.deciding kept post desk told).outcome
-deciding_keeps K R s kept post desk told d = deciding_by_keeps K R s kept post desk told (alters.refusal post.layout.config kept.version kept.pairs kept.change) refl d
+deciding_keeps K R s kept post desk told d = deciding_by_keeps K R s kept post desk told (alters.refused post.layout.config kept) refl d
 
 reading_keeps : (K R : Answer → Type 0) → Sound K R → (kept : ChangeKept) (slot count : ℕ) (post : Post) (desk : Desk) (on : Bool) → (on ≡ false → ChangeDecides K kept post) → OutKeeps K R (alters.reading kept slot count post desk on).outcome
 reading_keeps K R s kept slot count post desk true d = tt
@@ -346,11 +356,55 @@ dequeue_keeps K R s (SwingTail head next) post desk found = clearing_next_keeps 
 dequeue_keeps K R s (ExchangeHead head next number value) post desk found = taken_keeps K R s head next number value post desk (found == head + 1)
 dequeue_keeps K R s at post desk found = tt
 
-work_keeps : (K R : Answer → Type 0) → Sound K R → (work : Work) (post : Post) (desk : Desk) (found : ℕ) → WorkKeeps K work → WorkDecides K work post found → OutKeeps K R (steps.work_turn work post desk found).outcome
+-- a step on what is kept decides nothing but its answer
+abbrev NextRight : (Answer → Type 0) → CallOutcome → Type 0
+NextRight K (GoesOn phase) = PhaseKeeps K phase
+NextRight K (Answers answer) = Unit {0}
+
+let_go_next : (K : Answer → Type 0) (let_go : LetGo) (post : Post) (desk : Desk) (told : List Event) → NextRight K (keeps.released let_go post desk told).outcome
+let_go_next K Released post desk told = tt
+let_go_next K (Rehold key) post desk told = round_keeps K (Holds key) post
+let_go_next K (Dropped index) post desk told = tt
+
+copied_next : (K : Answer → Type 0) (from index : ℕ) (post : Post) (desk : Desk) (reserved : List Event) (x : Option ℕ) → NextRight K (keeps.copied from index post desk reserved x).outcome
+copied_next K from index post desk reserved None = tt
+copied_next K from index post desk reserved (Some slot) = tt
+
+load_next : (K : Answer → Type 0) (from index : ℕ) (post : Post) (desk : Desk) (found : ℕ) (one : Bool) → NextRight K (keeps.load_held from index post desk found one).outcome
+load_next K from index post desk found true = copied_next K from index post desk [] (stands post from)
+load_next K from index post desk found false = tt
+
+looking_next : (K : Answer → Type 0) (index key slot version count : ℕ) (post : Post) (desk : Desk) (more : Bool) (pair : ℕ) → NextRight K (keeps.looking index key slot version count post desk more pair).outcome
+looking_next K index key slot version count post desk true pair = tt
+looking_next K index key slot version count post desk false pair = tt
+
+looked_key_next : (K : Answer → Type 0) (index key slot version count pair : ℕ) (post : Post) (desk : Desk) (own : Bool) → NextRight K (keeps.looked_key index key slot version count pair post desk own).outcome
+looked_key_next K index key slot version count pair post desk true = tt
+looked_key_next K index key slot version count pair post desk false = looking_next K index key slot version count post desk (nat_lt (pair + 1) count) (pair + 1)
+
+look_next : (K : Answer → Type 0) (index key : ℕ) (at : GetAt) (post : Post) (desk : Desk) (found : ℕ) → NextRight K (keeps.look_turn index key at post desk found).outcome
+look_next K index key (FindVersion slot) post desk found = tt
+look_next K index key (FindCount slot version) post desk found = looking_next K index key slot version found post desk (nat_lt 0 found) 0
+look_next K index key (FindKey slot version count pair) post desk found = looked_key_next K index key slot version count pair post desk (found == key)
+look_next K index key (FindValue slot version pair) post desk found = tt
+
+keep_next : (K : Answer → Type 0) (at : KeepAt) (post : Post) (desk : Desk) (found : ℕ) → NextRight K (keeps.keep_turn at post desk found).outcome
+keep_next K (Loosens let_go) post desk found = let_go_next K let_go (withdrawn post (let_index let_go)) desk (cleared (let_index let_go) (stands post (let_index let_go)))
+keep_next K (LoadHeld from index) post desk found = load_next K from index post desk found (has_one_interval (scheme_of post))
+keep_next K (StoreHeld from index era) post desk found = copied_next K from index post desk (reserves_index post index era) (stands post from)
+keep_next K (Looks index key at) post desk found = look_next K index key at post desk found
+keep_next K (Misses index) post desk found = tt
+
+kept_keeps : (K R : Answer → Type 0) (outcome : CallOutcome) → NextRight K outcome → ((answer : Answer) → outcome ≡ Answers answer → R answer) → OutKeeps K R outcome
+kept_keeps K R (GoesOn phase) n d = n
+kept_keeps K R (Answers answer) n d = d answer refl
+
+work_keeps : (K R : Answer → Type 0) → Sound K R → (work : Work) (post : Post) (desk : Desk) (found : ℕ) → WorkKeeps K work → WorkDecides K R work post desk found → OutKeeps K R (steps.work_turn work post desk found).outcome
 work_keeps K R s (Getting key at) post desk found h d = get_keeps K R s key at post desk found
 work_keeps K R s (Changing kept at) post desk found h d = change_keeps K R s kept at post desk found h d
 work_keeps K R s (Enqueuing kept at) post desk found h d = enqueue_keeps K R s kept at post desk found h d
 work_keeps K R s (Dequeuing at) post desk found h d = dequeue_keeps K R s at post desk found
+work_keeps K R s (Keeping at) post desk found h d = kept_keeps K R (keeps.keep_turn at post desk found).outcome (keep_next K at post desk found) d
 
 -- a scan
 scanned_keeps : (K R : Answer → Type 0) → Sound K R → (later : AfterScan) (post : Post) (desk : Desk) (told : List Event) → LaterKeeps K later → OutKeeps K R (scan.scanned later post desk told).outcome
@@ -457,9 +511,10 @@ advanced_keeps K R s (Followed end) post desk told = tt
 advanced_keeps K R s (Allocated end) post desk told = tt
 advanced_keeps K R s (Retired life) post desk told = tt
 
-released_keeps : (K R : Answer → Type 0) → (key : Option ℕ) (post : Post) (desk : Desk) (told : List Event) → FreeDecides R key → OutKeeps K R (steps.released key post desk told).outcome
-released_keeps K R None post desk told d = d
-released_keeps K R (Some key) post desk told d = round_keeps K (Holds key) post
+released_keeps : (K R : Answer → Type 0) → (let_go : LetGo) (post : Post) (desk : Desk) (told : List Event) → FreeDecides R let_go → OutKeeps K R (keeps.released let_go post desk told).outcome
+released_keeps K R Released post desk told d = d
+released_keeps K R (Rehold key) post desk told d = round_keeps K (Holds key) post
+released_keeps K R (Dropped index) post desk told d = d
 
 resume_keeps : (K R : Answer → Type 0) → Sound K R → (why : Why) (ending : Ending) (post : Post) (desk : Desk) (told : List Event) → WhyKeeps K why → WhyDecides K R why ending post → OutKeeps K R (steps.resume why ending post desk told).outcome
 resume_keeps K R s (Opens task) ending post desk told h d = opened_keeps K R s task ending post desk told d
@@ -472,23 +527,38 @@ resume_keeps K R s (GivesUp answer) ending post desk told h d = s.ends answer h
 resume_keeps K R s (Retires answer) ending post desk told h d = retired_keeps K R s answer ending post desk told h
 resume_keeps K R s (Tidies later) ending post desk told h d = tidied_keeps K R s later ending post desk told h
 resume_keeps K R s Advances ending post desk told h d = advanced_keeps K R s ending post desk told
-resume_keeps K R s (Releases key) ending post desk told h d = released_keeps K R key post desk told d
+resume_keeps K R s (Releases let_go) ending post desk told h d = released_keeps K R let_go post desk told d
 
 resumed_keeps : (K R : Answer → Type 0) → Sound K R → (why : Why) (desk : Desk) (post : Post) (told : List Event) (outcome : Outcome) → WhyKeeps K why → OutcomeDecides K R why outcome post → OutKeeps K R (steps.resumed why desk post told outcome).outcome
 resumed_keeps K R s why desk post told (Goes base) h d = h
 resumed_keeps K R s why desk post told (Ends ending) h d = resume_keeps K R s why ending post desk told h d
 
 -- so it is after a step
-pub turn_keeps : (K R : Answer → Type 0) → Sound K R → (phase : Phase) (post : Post) (desk : Desk) (found : ℕ) → PhaseKeeps K phase → PhaseDecides K R phase post found → OutKeeps K R (steps.phase_turn phase post desk found).outcome
+pub turn_keeps : (K R : Answer → Type 0) → Sound K R → (phase : Phase) (post : Post) (desk : Desk) (found : ℕ) → PhaseKeeps K phase → PhaseDecides K R phase post desk found → OutKeeps K R (steps.phase_turn phase post desk found).outcome
 turn_keeps K R s Idle post desk found h d = tt
 turn_keeps K R s (Runs why base) post desk found h d = resumed_keeps K R s why desk _ _ (machine.after base post found).outcome h d
 turn_keeps K R s (Scans later at) post desk found h d = scan_keeps K R s later at post desk found h
 turn_keeps K R s (Works work) post desk found h d = work_keeps K R s work post desk found h d
 
 -- a call begins with nothing decided
+letting_by_keeps : (K : Answer → Type 0) (let_go : LetGo) (x : Option Base) → PhaseKeeps K (letting_by let_go x)
+letting_by_keeps K let_go None = tt
+letting_by_keeps K let_go (Some base) = tt
+
+letting_keeps : (K : Answer → Type 0) (let_go : LetGo) (post : Post) → PhaseKeeps K (letting let_go post)
+letting_keeps K let_go post = letting_by_keeps K let_go (release_base (scheme_of post) post (let_index let_go))
+
 holding_keeps : (K : Answer → Type 0) (key : ℕ) (post : Post) (x : Option ℕ) → PhaseKeeps K (steps.holding key post x)
 holding_keeps K key post None = round_keeps K (Holds key) post
-holding_keeps K key post (Some slot) = tt
+holding_keeps K key post (Some slot) = letting_keeps K (Rehold key) post
+
+copying_keeps : (K : Answer → Type 0) (from index : ℕ) (x : Option ℕ) → PhaseKeeps K (steps.copying from index x)
+copying_keeps K from index None = tt
+copying_keeps K from index (Some slot) = tt
+
+looking_at_keeps : (K : Answer → Type 0) (index key : ℕ) (x : Option ℕ) → PhaseKeeps K (steps.looking_at index key x)
+looking_at_keeps K index key None = tt
+looking_at_keeps K index key (Some slot) = tt
 
 pub first_keeps : (K : Answer → Type 0) (call : Call) (post : Post) → PhaseKeeps K (steps.first_phase call post)
 first_keeps K (names.Get key) post = round_keeps K (Gets key) post
@@ -497,6 +567,10 @@ first_keeps K (names.Remove key) post = round_keeps K _ post
 first_keeps K (names.Enqueue value) post = round_keeps K _ post
 first_keeps K names.Dequeue post = round_keeps K Dequeues post
 first_keeps K (names.Hold key) post = holding_keeps K key post (stands post 2)
-first_keeps K names.Release post = tt
+first_keeps K names.Release post = letting_keeps K Released post
+first_keeps K (names.Copy from index) post = copying_keeps K from index (stands post from)
+first_keeps K (names.DropIndex index) post = letting_keeps K (Dropped index) post
+first_keeps K (names.Look index key) post = looking_at_keeps K index key (stands post index)
+first_keeps K (names.PutIf key value version) post = round_keeps K _ post
 first_keeps K names.Advance post = tt
 first_keeps K names.Scan post = tt

@@ -12,7 +12,7 @@ use Rattle.wfe_core.specs.declared.post.Post.{Post}
 use Rattle.wfe_core.specs.Desks.{Desk, noting}
 use Rattle.wfe_core.specs.Book.{booked_all}
 use Rattle.wfe_core.specs.Calls.{CallTurn, CallOutcome, GoesOn, Answers}
-use Rattle.wfe_core.specs.Locals.{Local, begun_post, rounds_told, settled_by, told_by, told_end, turn}
+use Rattle.wfe_core.specs.Locals.{Local, begun_post, may_begin, rounds_told, settled_by, told_by, told_end, turn}
 use Rattle.wfe_core.specs.Posts.{stands}
 use Rattle.wfe_core.specs.Steps.{first_phase}
 use Rattle.wfe_core.specs.World.{World, start, begin, step, finds, is_busy, told_in}
@@ -35,11 +35,12 @@ use Rattle.law_scans.proofs.inv.history.Entries.{entries_of_each}
 use Rattle.law_scans.specs.inv.history.Record.{Past, Each, tells_of}
 use Rattle.law_scans.specs.inv.history.Record.Past.{Start, Then}
 use Rattle.law_scans.specs.inv.history.History.{Item, Begins, Steps, Made, fits, done_if, did, done, first_made, made_from, made_of, record_of}
-use Rattle.law_scans.proofs.inv.history.Along.{begins_right, low_seat, made_snoc}
+use Rattle.law_scans.proofs.inv.history.Along.{begins_right, begins_within, low_seat, made_snoc}
 use Rattle.law_scans.proofs.inv.Inv.Begun.{known_start, known_begin}
 use Rattle.law_scans.proofs.inv.Inv.Kept.{known_kept, asked_next}
+use Rattle.law_scans.proofs.inv.Inv.Tells.{inv_tells}
 use Rattle.law_scans.proofs.reuse.Reuse.Keeps.{record_stands}
-use Rattle.laws.specs.StateAt.{stood_at, queued_of, taken_of, began_of, told_of, all_taken, was_empty}
+use Rattle.laws.specs.StateAt.{times, stood_at, queued_of, taken_of, began_of, told_of, all_taken, was_empty}
 use Rattle.law_scans.proofs.answers.Lawful.Current.{base_begun, current_start, current_begin, current_kept, current_same}
 use Rattle.law_scans.proofs.inv.history.AllOf.{all_of}
 use Rattle.law_scans.proofs.inv.Machines.{is_within, within_of}
@@ -55,8 +56,10 @@ use Rattle.law_reasons.proofs.Reasons.Decides.{Kept, Right, kept_lasts, step_dec
 use Rattle.law_reasons.proofs.Reasons.Deciding.{PhaseKeeps, OutKeeps, keeps_on, first_keeps}
 use Rattle.law_reasons.proofs.Reasons.Emptied.{Emptied, emptied_begin, emptied_kept, emptied_start}
 use Rattle.law_reasons.proofs.Reasons.Later.{Later, Bounds, later_all, later_same, later_then}
+use Rattle.law_reasons.proofs.Reasons.Missing.{is_any, MissesAt, begin_misses, other_misses, start_misses, step_misses}
 use Rattle.law_reasons.proofs.Reasons.Reading.{Shown, count_most}
 use Rattle.law_reasons.proofs.Reasons.Saying.{PhaseSays, Tells, ends_say, says_lasts, start_says, told_now, turn_says}
+use Rattle.law_reasons.proofs.Reasons.Shows.{Shows, begin_shows, first_book_shows, step_shows}
 use Rattle.laws.proofs.Tells.{tells_both}
 
 -- the law along what a turn tells
@@ -111,6 +114,8 @@ record Keeps (layout : Layout) (made : Made) : Type 0 where
   asked : Asked
   shown : Shown made.world rows line asked made.past
   agrees : Agrees made.world.book made.past
+  shows : Shows made.world.book made.past
+  misses : (k : ℕ) → MissesAt (made.world.seat k) (times k is_any made.past)
   emptied : Emptied (λ k. was_empty k made.past) made.world asked
   seats : (k : ℕ) → Seat made.world.layout.config k (made.world.seat k) made.past
   law : Each (reasons_ok made.world.layout.config) made.past
@@ -132,8 +137,9 @@ record Went (w : World) (i : ℕ) (q : Past) : Type 0 where
   says : PhaseSays i (phase_left (turn (w.seat i) (finds w i)).outcome) q
 
 went_of : (w : World) (i : ℕ) (v : View) (l : Line) (z : Asked) (p : Past) → i < w.layout.config.seats → is_busy w i ≡ true → Shown w v l z p → answering.Right w.layout.config.buckets (w.seat i) (began_of i p) (told_of i p) → Emptied (λ k. was_empty k p) w z
-    → Seat w.layout.config i (w.seat i) p → Bounds w.layout.config (tells_of p i (told_in w i)) → stood_at i 2 (tells_of p i (told_in w i)) ≡ stands ((step w i).seat i).post 2 → Went w i (tells_of p i (turn (w.seat i) (finds w i)).told)
-went_of w i v l z p b y h r e s n stood =
+    → Seat w.layout.config i (w.seat i) p → Bounds w.layout.config (tells_of p i (told_in w i)) → ((j : ℕ) → stood_at i j (tells_of p i (told_in w i)) ≡ stands ((step w i).seat i).post j) → Shows w.book p → MissesAt (w.seat i) (times i is_any p)
+    → Went w i (tells_of p i (turn (w.seat i) (finds w i)).told)
+went_of w i v l z p b y h r e s n stood shows missed =
     let t : CallTurn = turn (w.seat i) (finds w i) in
     let q : Past = tells_of p i t.told in
     let within : all_of is_within t.told ≡ true = first_all is_within t.told (told_end t.post t.outcome) (within_of w i) in
@@ -145,13 +151,16 @@ went_of w i v l z p b y h r e s n stood =
       decided = step_decides w i v l z p q
           (record {
             below = b;
+            is = refl;
             shown = h;
             later = later;
             bounds = before_bounds w.layout.config i t.post t.outcome q (subst (λ (x : Past). Bounds w.layout.config x) along n);
             serves = r.serves y;
             emptied = e;
             says = λ why base g. ends_say w i why base q h.known.seats g tells said;
-            stood = sym (before_stood i 2 t.post t.outcome q) ∙ sym (ap (λ (x : Past). stood_at i 2 x) along) ∙ stood ∙ ap (λ (x : Post). stands x 2) (stepped_post w i);
+            stood = λ j. sym (before_stood i j t.post t.outcome q) ∙ sym (ap (λ (x : Past). stood_at i j x) along) ∙ stood j ∙ ap (λ (x : Post). stands x j) (stepped_post w i);
+            shows = shows;
+            missed = missed;
           })
           s.decided;
       says = turn_says w i q h.known.seats tells said;
@@ -207,9 +216,28 @@ step_emptied w i v l z next p b d a h e =
     let later : (k : ℕ) → Later k p (tells_of p i (told_in w i)) = λ k. later_all k i p p (told_in w i) (within_of w i) (later_same k p) in
     emptied_kept w i v l z next (λ k. was_empty k p) (λ k. was_empty k (tells_of p i (told_in w i))) b h.known d (λ k g. (later k).empty g) (λ k g. (later k).empty (now_empty k p (all_taken_by w p a g))) e
 
--- what stands at index 2 by the record of a history stands in the post
+-- what stands at an index by the record of a history stands in the post
 abbrev Stood : Made → Type 0
-Stood made = (k : ℕ) → stood_at k 2 made.past ≡ stands (made.world.seat k).post 2
+Stood made = (k j : ℕ) → stood_at k j made.past ≡ stands (made.world.seat k).post j
+
+-- a copy that finds nothing has told nothing
+step_missed : (w : World) (i k : ℕ) (p : Past) (same : Bool) → (k == i) ≡ same → ((m : ℕ) → MissesAt (w.seat m) (times m is_any p)) → MissesAt ((step w i).seat k) (times k is_any (tells_of p i (told_in w i)))
+step_missed w i k p true e h =
+    let t : CallTurn = turn (w.seat i) (finds w i) in
+    let one : k ≡ i = grind (arith, nat_tests) in
+    subst (λ (m : ℕ). MissesAt ((step w i).seat m) (times m is_any (tells_of p i (told_in w i)))) (sym one)
+    (subst (λ (x : Local). MissesAt x (times i is_any (tells_of p i (told_in w i)))) (sym (seat_steps w i))
+    (step_misses (w.seat i) t.post (noting t.desk (told_by t)) (rounds_told (w.seat i).rounds (told_by t)) (finds w i) (times i is_any p) (times i is_any (tells_of p i (told_in w i))) (h i)))
+step_missed w i k p false e h =
+    subst (λ (x : Local). MissesAt x (times k is_any (tells_of p i (told_in w i)))) (sym (seat_stays w i k e)) (other_misses (w.seat k) k i (told_in w i) p e (h k))
+
+begin_missed : (w : World) (i k : ℕ) (call : Call) (p : Past) (same : Bool) → (k == i) ≡ same → ((m : ℕ) → MissesAt (w.seat m) (times m is_any p)) → MissesAt ((begin w i call).seat k) (times k is_any (Then p i (events.Begin call)))
+begin_missed w i k call p true e h =
+    let one : k ≡ i = grind (arith, nat_tests) in
+    subst (λ (m : ℕ). MissesAt ((begin w i call).seat m) (times m is_any (Then p i (events.Begin call)))) (sym one)
+    (subst (λ (x : Local). MissesAt x (times i is_any (Then p i (events.Begin call)))) (sym (begin_begins w i call)) (begin_misses (w.seat i) i call p))
+begin_missed w i k call p false e h =
+    subst (λ (x : Local). MissesAt x (times k is_any (Then p i (events.Begin call)))) (sym (begin_stays w i k call e)) (other_misses (w.seat k) k i (events.Begin call ∷ []) p e (h k))
 
 step_keeps : (layout : Layout) (made : Made) (i : ℕ) → i < made.world.layout.config.seats → is_busy made.world i ≡ true → Stood (done made (Steps i)) → Keeps layout made → Keeps layout (done made (Steps i))
 step_keeps layout made i b y stood g =
@@ -221,7 +249,7 @@ step_keeps layout made i b y stood g =
     let bounds : Bounds w.layout.config (tells_of p i (told_in w i)) = bounds_of (step w i) (rows_after w i g.rows) (line_after w i g.line) next.0 (tells_of p i (told_in w i)) shown in
     let r = g.answers.seats i in
     let o : Owes n (w.seat i).call (owed n (w.seat i).call (w.seat i).phase) (turn (w.seat i) (finds w i)) = owes_of n w i g.answers.table g.answers.known (r.serves y) in
-    let went : Went w i (tells_of p i (turn (w.seat i) (finds w i)).told) = went_of w i g.rows g.line g.asked p b y g.shown r g.emptied (g.seats i) bounds (stood i) in
+    let went : Went w i (tells_of p i (turn (w.seat i) (finds w i)).told) = went_of w i g.rows g.line g.asked p b y g.shown r g.emptied (g.seats i) bounds (stood i) g.shows (g.misses i) in
     record {
       table = g.table;
       answers = answering.step_keeps n made i b y g.answers;
@@ -230,6 +258,8 @@ step_keeps layout made i b y stood g =
       asked = next.0;
       shown = shown;
       agrees = told_agrees i (told_in w i) p w.book g.agrees;
+      shows = step_shows w i p (inv_tells w i b (record { rows = g.rows; line = g.line; asked = g.asked; known = g.shown.known })).map g.shows;
+      misses = λ k. step_missed w i k p (k == i) refl g.misses;
       emptied = step_emptied w i g.rows g.line g.asked next.0 p b next.1.deal g.agrees g.shown g.emptied;
       seats = λ k. step_seat w i k p (k == i) refl bounds went g.seats;
       law = step_law w i p (r.began y) o.told.goes went g.law;
@@ -252,29 +282,31 @@ begun_seat w i k call p false e n s =
     subst (λ (x : Local). Seat w.layout.config k x (Then p i (events.Begin call))) (sym (begin_stays w i k call e))
     (other_seat w.layout.config k (w.seat k) p (Then p i (events.Begin call)) (begin_later i k call p e) (record { versions = n.versions; numbers = n.numbers }) (s k))
 
-begin_keeps : (layout : Layout) (made : Made) (i : ℕ) (call : Call) → is_busy made.world i ≡ false → Keeps layout made → Keeps layout (done made (Begins i call))
-begin_keeps layout made i call f g =
+begin_keeps : (layout : Layout) (made : Made) (i : ℕ) (call : Call) → is_busy made.world i ≡ false → may_begin made.world.layout.config call ≡ true → Keeps layout made → Keeps layout (done made (Begins i call))
+begin_keeps layout made i call f m g =
     let w : World = made.world in
     let p : Past = made.past in
     let k = g.shown.known in
     let next = requests_begin w i call g.asked k.valid f k.seats k.requests in
     record {
       table = g.table;
-      answers = answering.begin_keeps w.layout.config.buckets made i call f g.answers;
+      answers = answering.begin_keeps w.layout.config.buckets made i call f m g.answers;
       rows = g.rows;
       line = g.line;
       asked = next.0;
       shown = record {
-        known = known_begin w i call g.rows g.line g.asked next.0 f k next.1.facts next.1.deal;
+        known = known_begin w i call g.rows g.line g.asked next.0 f m k next.1.facts next.1.deal;
         current = current_same (base_begun (base_of p) w i) (base_of (Then p i (events.Begin call))) (begin w i call) next.0
-            (λ m b. begin_base w i m b call p (g.shown.changes b))
+            (λ n b. begin_base w i n b call p (g.shown.changes b))
             (current_begin w i call g.asked next.0 (base_of p) f k.requests next.1.deal g.shown.current);
         changes = g.shown.changes;
         queued = g.shown.queued;
       };
       agrees = record { queued = g.agrees.queued; taken = g.agrees.taken };
-      emptied = emptied_begin w i call g.asked next.0 (λ m. was_empty m p) (λ m. was_empty m (Then p i (events.Begin call))) f k.requests next.1.deal (λ m e h. (begin_later i m call p e).empty h) g.emptied;
-      seats = λ m. begun_seat w i m call p (m == i) refl (bounds_of w g.rows g.line g.asked p g.shown) g.seats;
+      shows = begin_shows w.book p i call g.shows;
+      misses = λ n. begin_missed w i n call p (n == i) refl g.misses;
+      emptied = emptied_begin w i call g.asked next.0 (λ n. was_empty n p) (λ n. was_empty n (Then p i (events.Begin call))) f k.requests next.1.deal (λ n e h. (begin_later i n call p e).empty h) g.emptied;
+      seats = λ n. begun_seat w i n call p (n == i) refl (bounds_of w g.rows g.line g.asked p g.shown) g.seats;
       law = (refl, g.law);
     }
 
@@ -295,6 +327,8 @@ start_keeps layout d =
         queued = refl;
       };
       agrees = record { queued = refl; taken = refl };
+      shows = first_book_shows;
+      misses = λ k. start_misses ((start layout).seat k) (times k is_any Start) refl;
       emptied = emptied_start layout q.0 (λ k. was_empty k Start) quiet;
       seats = λ k. record { decided = tt; says = tt };
       law = tt;
@@ -302,13 +336,13 @@ start_keeps layout d =
 
 item_keeps : (layout : Layout) (made : Made) (item : Item) (fit : Bool) → fits made.world item ≡ fit → Stood (done_if made item fit) → Keeps layout made → Keeps layout (done_if made item fit)
 item_keeps layout made item false f s g = g
-item_keeps layout made (Begins i call) true f s g = begin_keeps layout made i call (begins_right i made.world.layout.config.seats (is_busy made.world i) f) g
+item_keeps layout made (Begins i call) true f s g = begin_keeps layout made i call (begins_right i made.world.layout.config.seats (is_busy made.world i) (may_begin made.world.layout.config call) f) (begins_within i made.world.layout.config.seats (is_busy made.world i) (may_begin made.world.layout.config call) f) g
 item_keeps layout made (Steps i) true f s g =
     step_keeps layout made i (low_seat i made.world.layout.config.seats (is_busy made.world i) f) (rest_of (nat_lt i made.world.layout.config.seats) (is_busy made.world i) f) s g
 
 -- the record of a history says what stands
 stood_of : (layout : Layout) (path : List Item) (made : Made) → is_valid layout ≡ true → made ≡ made_of layout path → Stood made
-stood_of layout path made d e = subst Stood (sym e) (λ k. record_stands layout path k 2 d)
+stood_of layout path made d e = subst Stood (sym e) (λ k j. record_stands layout path k j d)
 
 items_keep : (layout : Layout) (items path : List Item) (made : Made) → is_valid layout ≡ true → made ≡ made_of layout path → Keeps layout made → Keeps layout (made_from made items)
 items_keep layout [] path made d e g = g

@@ -21,7 +21,7 @@ use Rattle.law_scans.proofs.inv.history.AllOf.{all_of}
 use Rattle.law_scans.proofs.inv.Machines.{is_within, within_begins}
 use Rattle.wfe_core.specs.defs.Events.{is_null}
 use Rattle.laws.specs.AnswerLaw.{enqueue_reason}
-use Rattle.laws.specs.HistoryAnswers.{put_reason, remove_reason, dequeue_reason, hold_reason, release_reason, reason}
+use Rattle.laws.specs.HistoryAnswers.{put_reason, put_if_reason, remove_reason, dequeue_reason, hold_reason, release_reason, copy_reason, drop_reason, look_reason, reason}
 
 -- q comes after p in the same call of seat i
 pub record Later (i : ℕ) (p q : Past) : Type 0 where
@@ -121,10 +121,15 @@ stays_last : (n count more last : ℕ) → count ≤ more → more ≤ last → 
 stays_last n count more last a b h = grind (arith, nat_tests)
 
 -- the answers that are right only where the call ends, for what stands then
-abbrev pub is_last : Answer → Bool
-is_last (answers.Holding slot) = true
-is_last answers.Released = true
-is_last answer = false
+abbrev pub is_last : Call → Answer → Bool
+is_last call (answers.Holding slot) = true
+is_last call answers.Released = true
+is_last call (answers.Copied slot) = true
+is_last call answers.Dropped = true
+is_last call (answers.Looked slot version value) = true
+is_last (calls.Hold key) answers.Nothing = false
+is_last call answers.Nothing = true
+is_last call answer = false
 
 done_lasts : (i b key version most : ℕ) (p q : Past) (last : ℕ) → Later i p q → (nat_le version last && (had_version b (version - 1) p && (is_there b (version - 1) key p || nat_lt (length (pairs_at b (version - 1) p)) most))) ≡ true
     → (nat_le version last && (had_version b (version - 1) q && (is_there b (version - 1) key q || nat_lt (length (pairs_at b (version - 1) q)) most))) ≡ true
@@ -190,22 +195,56 @@ dequeue_lasts i p q answers.Empty l h =
     both (was_empty i q) (has_told i (is_null 1) q) (l.empty (first_of (was_empty i p) (has_told i (is_null 1) p) h)) (l.told (is_null 1) (rest_of (was_empty i p) (has_told i (is_null 1) p) h))
 dequeue_lasts i p q answer l h = refl
 
-hold_lasts : (i b : ℕ) (p q : Past) (answer : Answer) → Later i p q → is_last answer ≡ false → hold_reason i b p answer ≡ true → hold_reason i b q answer ≡ true
-hold_lasts i b p q (answers.Holding slot) l f h = absurd (cc)
-hold_lasts i b p q answers.Nothing l f h =
+hold_lasts : (i b key : ℕ) (p q : Past) (answer : Answer) → Later i p q → is_last (calls.Hold key) answer ≡ false → hold_reason i b p answer ≡ true → hold_reason i b q answer ≡ true
+hold_lasts i b key p q (answers.Holding slot) l f h = absurd (cc)
+hold_lasts i b key p q answers.Nothing l f h =
     both (has_told i (is_null 2) q) (begun_at i b q == 0) (l.told (is_null 2) (first_of (has_told i (is_null 2) p) (begun_at i b p == 0) h))
     (subst (λ (n : ℕ). (n == 0) ≡ true) (sym (l.begun b)) (rest_of (has_told i (is_null 2) p) (begun_at i b p == 0) h))
-hold_lasts i b p q answer l f h = refl
+hold_lasts i b key p q answer l f h = refl
 
-release_lasts : (i : ℕ) (p q : Past) (answer : Answer) → is_last answer ≡ false → release_reason i p answer ≡ true → release_reason i q answer ≡ true
+release_lasts : (i : ℕ) (p q : Past) (answer : Answer) → is_last calls.Release answer ≡ false → release_reason i p answer ≡ true → release_reason i q answer ≡ true
 release_lasts i p q answers.Released f h = absurd (cc)
 release_lasts i p q answer f h = refl
 
-pub reason_lasts : (c : Config) (i : ℕ) (p q : Past) (call : Call) (answer : Answer) → Later i p q → Bounds c q → is_last answer ≡ false → reason c i p (Some call) answer ≡ true → reason c i q (Some call) answer ≡ true
+copy_lasts : (i from index : ℕ) (p q : Past) (answer : Answer) → is_last (calls.Copy from index) answer ≡ false → copy_reason i from index q answer ≡ true
+copy_lasts i from index p q (answers.Copied slot) f = absurd (cc)
+copy_lasts i from index p q answers.Nothing f = absurd (cc)
+copy_lasts i from index p q answer f = refl
+
+drop_lasts : (i index : ℕ) (p q : Past) (answer : Answer) → is_last (calls.DropIndex index) answer ≡ false → drop_reason i index q answer ≡ true
+drop_lasts i index p q answers.Dropped f = absurd (cc)
+drop_lasts i index p q answer f = refl
+
+look_lasts : (i index key : ℕ) (p q : Past) (answer : Answer) → is_last (calls.Look index key) answer ≡ false → look_reason i index key q answer ≡ true
+look_lasts i index key p q (answers.Looked slot version value) f = absurd (cc)
+look_lasts i index key p q answers.Nothing f = absurd (cc)
+look_lasts i index key p q answer f = refl
+
+-- and of a put that names a version
+both_last : (a b d : Bool) → (b ≡ true → d ≡ true) → (a && b) ≡ true → (a && d) ≡ true
+both_last true b d f h = f h
+both_last false b d f h = h
+
+put_if_lasts : (c : Config) (i b key wanted : ℕ) (p q : Past) (answer : Answer) → Later i p q → Bounds c q → put_if_reason c i b key wanted p answer ≡ true → put_if_reason c i b key wanted q answer ≡ true
+put_if_lasts c i b key wanted p q (answers.Done version clock) l n h =
+    both_last (version == wanted + 1) (put_reason c i b key p (answers.Done version clock)) (put_reason c i b key q (answers.Done version clock)) (λ g. put_lasts c i b key p q (answers.Done version clock) l n g) h
+put_if_lasts c i b key wanted p q (answers.Stale version) l n h =
+    both (was_current i b version q) (not (version == wanted)) (current_later i b version p q l (first_of (was_current i b version p) (not (version == wanted)) h)) (rest_of (was_current i b version p) (not (version == wanted)) h)
+put_if_lasts c i b key wanted p q (answers.Spent version) l n h =
+    both_last (version == wanted) (put_reason c i b key p (answers.Spent version)) (put_reason c i b key q (answers.Spent version)) (λ g. put_lasts c i b key p q (answers.Spent version) l n g) h
+put_if_lasts c i b key wanted p q (answers.BucketFull version) l n h =
+    both_last (version == wanted) (put_reason c i b key p (answers.BucketFull version)) (put_reason c i b key q (answers.BucketFull version)) (λ g. put_lasts c i b key p q (answers.BucketFull version) l n g) h
+put_if_lasts c i b key wanted p q answer l n h = refl
+
+pub reason_lasts : (c : Config) (i : ℕ) (p q : Past) (call : Call) (answer : Answer) → Later i p q → Bounds c q → is_last call answer ≡ false → reason c i p (Some call) answer ≡ true → reason c i q (Some call) answer ≡ true
 reason_lasts c i p q (calls.Put key value) answer l n f h = put_lasts c i (bucket_of c.buckets key) key p q answer l n h
 reason_lasts c i p q (calls.Remove key) answer l n f h = remove_lasts c i (bucket_of c.buckets key) key p q answer l n h
 reason_lasts c i p q (calls.Enqueue value) answer l n f h = enqueue_lasts c i p q answer l n h
 reason_lasts c i p q calls.Dequeue answer l n f h = dequeue_lasts i p q answer l h
-reason_lasts c i p q (calls.Hold key) answer l n f h = hold_lasts i (bucket_of c.buckets key) p q answer l f h
+reason_lasts c i p q (calls.Hold key) answer l n f h = hold_lasts i (bucket_of c.buckets key) key p q answer l f h
 reason_lasts c i p q calls.Release answer l n f h = release_lasts i p q answer f h
+reason_lasts c i p q (calls.Copy from index) answer l n f h = copy_lasts i from index p q answer f
+reason_lasts c i p q (calls.DropIndex index) answer l n f h = drop_lasts i index p q answer f
+reason_lasts c i p q (calls.Look index key) answer l n f h = look_lasts i index key p q answer f
+reason_lasts c i p q (calls.PutIf key value wanted) answer l n f h = put_if_lasts c i (bucket_of c.buckets key) key wanted p q answer l n h
 reason_lasts c i p q call answer l n f h = refl

@@ -23,7 +23,7 @@ use Rattle.wfe_core.proofs.Facts.{same_number, same_both}
 use Rattle.law_scans.proofs.inv.contents.Contents.Lasts.{on}
 use Rattle.law_scans.proofs.inv.contents.Contents.Lists.{take_next}
 use Rattle.law_scans.proofs.inv.contents.Contents.Reading.{count_shown, value_shown}
-use Rattle.law_scans.specs.inv.contents.Knows.{AtCount, AtValue, Knows, pair_at, reads_in}
+use Rattle.law_scans.specs.inv.contents.Knows.{AtCount, AtValue, Knows, pair_at, reads_in, looks_in}
 use Rattle.law_scans.specs.inv.contents.Shelf.{pairs_by, shelf_of}
 use Rattle.law_scans.proofs.inv.covers.Held.{finds_at}
 use Rattle.law_scans.specs.inv.shapes.Seats.{root_by}
@@ -78,7 +78,7 @@ pub count_read : (w : World) (i : ℕ) (v : View) (l : Line) (z : Asked) (p : Pa
     → ReadAt w.layout.config i (key_of kept.change % w.layout.config.buckets) kept.version kept.pairs p
 count_read w i v l z p kept slot a h e none =
     let b : ℕ = key_of kept.change % w.layout.config.buckets in
-    let k : AtCount (on w.layout.config.buckets (shelf_since (base_of p i) w.book) w.mem) kept slot = subst (λ (x : Phase). Knows (on w.layout.config.buckets (shelf_since (base_of p i) w.book) w.mem) x) e (h.current.knows i) in
+    let k : AtCount (on w.layout.config.buckets (shelf_since (base_of p i) w.book) w.mem) kept slot = subst (λ (x : Phase). Knows (on w.layout.config.buckets (shelf_since (base_of p i) w.book) w.mem) x) e (h.current.knows i (ap looks_in e)) in
     let link = k.row.link in
     let own : (kept.link == slot + 1) ≡ true = grind (arith, nat_tests) in
     let y : reads_in (w.seat i).phase slot ≡ true = subst (λ (x : Phase). reads_in x slot ≡ true) (sym e) own in
@@ -97,7 +97,7 @@ pub value_read : (w : World) (i : ℕ) (v : View) (l : Line) (z : Asked) (p : Pa
     → ReadAt w.layout.config i (key_of kept.change % w.layout.config.buckets) kept.version (alters.with_read kept key (finds w i)).pairs p
 value_read w i v l z p kept slot count key a h e none =
     let b : ℕ = key_of kept.change % w.layout.config.buckets in
-    let k : AtValue (on w.layout.config.buckets (shelf_since (base_of p i) w.book) w.mem) kept slot count key = subst (λ (x : Phase). Knows (on w.layout.config.buckets (shelf_since (base_of p i) w.book) w.mem) x) e (h.current.knows i) in
+    let k : AtValue (on w.layout.config.buckets (shelf_since (base_of p i) w.book) w.mem) kept slot count key = subst (λ (x : Phase). Knows (on w.layout.config.buckets (shelf_since (base_of p i) w.book) w.mem) x) e (h.current.knows i (ap looks_in e)) in
     let link = k.row.link in
     let own : (kept.link == slot + 1) ≡ true = grind (arith, nat_tests) in
     let y : reads_in (w.seat i).phase slot ≡ true = subst (λ (x : Phase). reads_in x slot ≡ true) (sym e) own in

@@ -13,10 +13,10 @@ use Rattle.wfe_core.specs.defs.declared.fold.Change.TheVariants as changes
 use Rattle.wfe_core.specs.Change as alters
 use Rattle.wfe_core.specs.Rounds.{key_of}
 use Rattle.wfe_core.proofs.Facts.{both, first_of, rest_of, below_unless, true_of_not, one_more_less, lt_test_2}
-use Rattle.law_scans.proofs.answers.AnswersTold.Owed.{call_for}
+use Rattle.law_scans.proofs.answers.AnswersTold.Owed.{call_for, may_want}
 use Rattle.laws.specs.StateAt.{was_current, count_of, begun_at, had_version, is_there, pairs_at}
 use Rattle.law_scans.specs.inv.history.Record.{Past}
-use Rattle.laws.specs.HistoryAnswers.{put_reason, remove_reason, reason}
+use Rattle.laws.specs.HistoryAnswers.{put_if_reason, put_reason, remove_reason, reason}
 
 -- a call of seat i has read these pairs at this version of bucket b
 pub record ReadAt (c : Config) (i b version : ℕ) (pairs : List Pair) (p : Past) : Type 0 where
@@ -102,11 +102,45 @@ remove_fits c i b key version pairs p true spent r f e h = absurd (cc)
 remove_fits c i b key version pairs p false true r f e h = absurd (cc)
 remove_fits c i b key version pairs p false false r f e h = remove_done c i b key version pairs p r f e
 
--- either change
-pub change_refused : (c : Config) (i version : ℕ) (pairs : List Pair) (change : Change) (p : Past) (answer : Answer) → ReadAt c i (key_of change % c.buckets) version pairs p → alters.refusal c version pairs change ≡ Some answer → reason c i p (Some (call_for change)) answer ≡ true
-change_refused c i version pairs (changes.Put key value) p answer r h = put_refused c i (key % c.buckets) key version pairs p answer (version == c.last_version) (not (alters.has_key pairs key) && length pairs == c.pairs) r refl refl h
-change_refused c i version pairs (changes.Removed key) p answer r h = remove_refused c i (key % c.buckets) key version pairs p answer (not (alters.has_key pairs key)) (version == c.last_version) r refl refl h
+-- a put that names a version
+wanted_refused : (c : Config) (i b key version wanted : ℕ) (pairs : List Pair) (p : Past) (answer : Answer) (spent full : Bool) → ReadAt c i b version pairs p → (version == wanted) ≡ true → (version == c.last_version) ≡ spent → (not (alters.has_key pairs key) && length pairs == c.pairs) ≡ full
+    → (if spent then Some (answers.Spent version) else if full then Some (answers.BucketFull version) else None) ≡ Some answer → put_if_reason c i b key wanted p answer ≡ true
+wanted_refused c i b key version wanted pairs p answer true full r w e f h =
+    subst (λ (x : Answer). put_if_reason c i b key wanted p x ≡ true) (some_is (answers.Spent version) answer h)
+    (both (version == wanted) (put_reason c i b key p (answers.Spent version)) w (put_refused c i b key version pairs p (answers.Spent version) true full r e f refl))
+wanted_refused c i b key version wanted pairs p answer false true r w e f h =
+    subst (λ (x : Answer). put_if_reason c i b key wanted p x ≡ true) (some_is (answers.BucketFull version) answer h)
+    (both (version == wanted) (put_reason c i b key p (answers.BucketFull version)) w (put_refused c i b key version pairs p (answers.BucketFull version) false true r e f refl))
+wanted_refused c i b key version wanted pairs p answer false false r w e f h = absurd (cc)
 
-pub change_fits : (c : Config) (i version : ℕ) (pairs : List Pair) (change : Change) (p : Past) → ReadAt c i (key_of change % c.buckets) version pairs p → alters.refusal c version pairs change ≡ None → reason c i p (Some (call_for change)) (answers.Done (version + 1) moves.Still) ≡ true
-change_fits c i version pairs (changes.Put key value) p r h = put_fits c i (key % c.buckets) key version pairs p (version == c.last_version) (not (alters.has_key pairs key) && length pairs == c.pairs) r refl refl h
-change_fits c i version pairs (changes.Removed key) p r h = remove_fits c i (key % c.buckets) key version pairs p (not (alters.has_key pairs key)) (version == c.last_version) r refl refl h
+put_if_refused : (c : Config) (i b key value version wanted : ℕ) (pairs : List Pair) (p : Past) (answer : Answer) (same : Bool) → ReadAt c i b version pairs p → (version == wanted) ≡ same
+    → (if same then alters.refusal c version pairs (changes.Put key value) else Some (answers.Stale version)) ≡ Some answer → put_if_reason c i b key wanted p answer ≡ true
+put_if_refused c i b key value version wanted pairs p answer true r w h = wanted_refused c i b key version wanted pairs p answer (version == c.last_version) (not (alters.has_key pairs key) && length pairs == c.pairs) r w refl refl h
+put_if_refused c i b key value version wanted pairs p answer false r w h =
+    subst (λ (x : Answer). put_if_reason c i b key wanted p x ≡ true) (some_is (answers.Stale version) answer h)
+    (both (was_current i b version p) (not (version == wanted)) (current_of c i b version pairs p r) (ap not w))
+
+next_same : (version wanted : ℕ) → (version == wanted) ≡ true → (version + 1 == wanted + 1) ≡ true
+next_same version wanted h = grind (arith, nat_tests)
+
+put_if_fits : (c : Config) (i b key value version wanted : ℕ) (pairs : List Pair) (p : Past) (same : Bool) → ReadAt c i b version pairs p → (version == wanted) ≡ same
+    → (if same then alters.refusal c version pairs (changes.Put key value) else Some (answers.Stale version)) ≡ None → put_if_reason c i b key wanted p (answers.Done (version + 1) moves.Still) ≡ true
+put_if_fits c i b key value version wanted pairs p true r w h =
+    both (version + 1 == wanted + 1) (put_reason c i b key p (answers.Done (version + 1) moves.Still)) (next_same version wanted w)
+    (put_fits c i b key version pairs p (version == c.last_version) (not (alters.has_key pairs key) && length pairs == c.pairs) r refl refl h)
+put_if_fits c i b key value version wanted pairs p false r w h = absurd (cc)
+
+-- either change
+pub change_refused : (c : Config) (i version : ℕ) (pairs : List Pair) (change : Change) (wanted : Option ℕ) (p : Past) (answer : Answer) → ReadAt c i (key_of change % c.buckets) version pairs p → may_want change wanted ≡ true
+    → alters.stale_or wanted version (alters.refusal c version pairs change) ≡ Some answer → reason c i p (Some (call_for change wanted)) answer ≡ true
+change_refused c i version pairs (changes.Put key value) None p answer r m h = put_refused c i (key % c.buckets) key version pairs p answer (version == c.last_version) (not (alters.has_key pairs key) && length pairs == c.pairs) r refl refl h
+change_refused c i version pairs (changes.Put key value) (Some wanted) p answer r m h = put_if_refused c i (key % c.buckets) key value version wanted pairs p answer (version == wanted) r refl h
+change_refused c i version pairs (changes.Removed key) None p answer r m h = remove_refused c i (key % c.buckets) key version pairs p answer (not (alters.has_key pairs key)) (version == c.last_version) r refl refl h
+change_refused c i version pairs (changes.Removed key) (Some wanted) p answer r m h = absurd (cc)
+
+pub change_fits : (c : Config) (i version : ℕ) (pairs : List Pair) (change : Change) (wanted : Option ℕ) (p : Past) → ReadAt c i (key_of change % c.buckets) version pairs p → may_want change wanted ≡ true
+    → alters.stale_or wanted version (alters.refusal c version pairs change) ≡ None → reason c i p (Some (call_for change wanted)) (answers.Done (version + 1) moves.Still) ≡ true
+change_fits c i version pairs (changes.Put key value) None p r m h = put_fits c i (key % c.buckets) key version pairs p (version == c.last_version) (not (alters.has_key pairs key) && length pairs == c.pairs) r refl refl h
+change_fits c i version pairs (changes.Put key value) (Some wanted) p r m h = put_if_fits c i (key % c.buckets) key value version wanted pairs p (version == wanted) r refl h
+change_fits c i version pairs (changes.Removed key) None p r m h = remove_fits c i (key % c.buckets) key version pairs p (not (alters.has_key pairs key)) (version == c.last_version) r refl refl h
+change_fits c i version pairs (changes.Removed key) (Some wanted) p r m h = absurd (cc)

@@ -19,16 +19,18 @@ use Rattle.wfe_core.specs.Desks.{Desk}
 use Rattle.wfe_core.specs.Locals.{turn, told_end}
 use Rattle.wfe_core.specs.Machine as machine
 use Rattle.wfe_core.specs.Memory.{bump}
-use Rattle.wfe_core.specs.Posts.{counted, upper, reserves_helper}
+use Rattle.wfe_core.specs.Posts.{counted, reserves_index, stands, upper, reserves_helper}
+use Rattle.wfe_core.specs.words.Schemes.{has_one_interval}
+use Rattle.wfe_core.specs.Keep as keeps
 use Rattle.wfe_core.specs.Protect as protects
-use Rattle.wfe_core.specs.Rounds.{index_of}
+use Rattle.wfe_core.specs.Rounds.{index_of, scheme_of}
 use Rattle.wfe_core.specs.SlowPath as slow
 use Rattle.wfe_core.specs.Steps as steps
 use Rattle.wfe_core.specs.Phases.{Aim, Alone, Follows, Tries, Endless, Failed, ProtectAt, Base, Ending, Outcome, Goes, Ends, Turn}
 use Rattle.wfe_core.specs.Phases.Ending.{Done, Protected, Followed, Allocated, Retired, Clocked}
 use Rattle.wfe_core.specs.Phases.ProtectAt.{PublishEra, LoadLink, CheckClock, PublishRequest, CheckOwnClock, AnswerOwn, LoadAnswer, TakeAnswer, WithdrawRequest, WithdrawHelper, CheckUpper}
 use Rattle.wfe_core.specs.Phases.Base.{Protect, Move}
-use Rattle.wfe_core.specs.Calls.{Task, Why, Opens, FollowsHead, Phase, Idle, Runs, Scans, Works, CallTurn, CallOutcome, GoesOn, Answers}
+use Rattle.wfe_core.specs.Calls.{Getting, Changing, Enqueuing, Dequeuing, Keeping, KeepAt, Loosens, LoadHeld, StoreHeld, Looks, Misses, Work, Task, Why, Opens, FollowsHead, Phase, Idle, Runs, Scans, Works, CallTurn, CallOutcome, GoesOn, Answers}
 use Rattle.wfe_core.specs.World.{World, finds, told_in}
 use Rattle.wfe_core.proofs.Facts.{same_number, both, first_of, rest_of, is_one_more}
 use Rattle.law_scans.specs.inv.shapes.Frame.{phase_left}
@@ -308,11 +310,34 @@ resumed_says : (i : ℕ) (why : Why) (desk : Desk) (post : Post) (told : List Ev
 resumed_says i why desk post told (Goes base) q h = h
 resumed_says i why desk post told (Ends ending) q h = start_says i (phase_left (steps.resume why ending post desk told).outcome) q (resume_fresh why ending post desk told).starts
 
+-- a step of a call's own
+copied_says : (i from index : ℕ) (post : Post) (desk : Desk) (reserved : List Event) (x : Option ℕ) (q : Past) → PhaseSays i (phase_left (keeps.copied from index post desk reserved x).outcome) q
+copied_says i from index post desk reserved None q = tt
+copied_says i from index post desk reserved (Some slot) q = tt
+
+load_says : (i from index : ℕ) (post : Post) (desk : Desk) (found : ℕ) (one : Bool) (q : Past) → PhaseSays i (phase_left (keeps.load_held from index post desk found one).outcome) q
+load_says i from index post desk found true q = copied_says i from index post desk [] (stands post from) q
+load_says i from index post desk found false q = tt
+
+keep_says : (i : ℕ) (at : KeepAt) (post : Post) (desk : Desk) (found : ℕ) (q : Past) → PhaseSays i (phase_left (keeps.keep_turn at post desk found).outcome) q
+keep_says i (Loosens let_go) post desk found q = start_says i _ q (work_fresh (Keeping (Loosens let_go)) post desk found refl).starts
+keep_says i (LoadHeld from index) post desk found q = load_says i from index post desk found (has_one_interval (scheme_of post)) q
+keep_says i (StoreHeld from index era) post desk found q = copied_says i from index post desk (reserves_index post index era) (stands post from) q
+keep_says i (Looks index key at) post desk found q = start_says i _ q (work_fresh (Keeping (Looks index key at)) post desk found refl).starts
+keep_says i (Misses index) post desk found q = tt
+
+work_says : (i : ℕ) (work : Work) (post : Post) (desk : Desk) (found : ℕ) (q : Past) → PhaseSays i (phase_left (steps.work_turn work post desk found).outcome) q
+work_says i (Getting key at) post desk found q = start_says i _ q (work_fresh (Getting key at) post desk found refl).starts
+work_says i (Changing kept at) post desk found q = start_says i _ q (work_fresh (Changing kept at) post desk found refl).starts
+work_says i (Enqueuing kept at) post desk found q = start_says i _ q (work_fresh (Enqueuing kept at) post desk found refl).starts
+work_says i (Dequeuing at) post desk found q = start_says i _ q (work_fresh (Dequeuing at) post desk found refl).starts
+work_says i (Keeping at) post desk found q = keep_says i at post desk found q
+
 phase_says : (w : World) (i : ℕ) (phase : Phase) (q : Past) → Seats w → (w.seat i).phase ≡ phase → Tells w i q → PhaseSays i (w.seat i).phase q → PhaseSays i (phase_left (steps.phase_turn phase (counted (w.seat i).post) (w.seat i).desk (finds w i)).outcome) q
 phase_says w i Idle q s e t h = tt
 phase_says w i (Runs why base) q s e t h = resumed_says i why (w.seat i).desk _ _ (machine.after base (counted (w.seat i).post) (finds w i)).outcome q (ends_say w i why base q s e t h)
 phase_says w i (Scans later at) q s e t h = start_says i _ q (scan_starts later at (counted (w.seat i).post) (w.seat i).desk (finds w i))
-phase_says w i (Works work) q s e t h = start_says i _ q (work_fresh work (counted (w.seat i).post) (w.seat i).desk (finds w i)).starts
+phase_says w i (Works work) q s e t h = work_says i work (counted (w.seat i).post) (w.seat i).desk (finds w i) q
 
 pub turn_says : (w : World) (i : ℕ) (q : Past) → Seats w → Tells w i q → PhaseSays i (w.seat i).phase q → PhaseSays i (phase_left (turn (w.seat i) (finds w i)).outcome) q
 turn_says w i q s t h = phase_says w i (w.seat i).phase q s refl t h

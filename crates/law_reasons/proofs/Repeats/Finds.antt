@@ -22,9 +22,9 @@ use Rattle.wfe_core.proofs.Facts.{first_of, rest_of, number_is}
 use Rattle.law_scans.specs.inv.shapes.Seats.{Run}
 use Rattle.law_scans.proofs.inv.history.AllOf.{all_of, of_weaker}
 use Rattle.law_scans.proofs.inv.steps_left.Rest.Closings.{rounds_join}
-use Rattle.law_scans.proofs.inv.history.Passes.{is_quiet, Closed, First, scan_told, step_goes}
+use Rattle.law_scans.proofs.inv.history.Passes.{is_quiet, Closed, First, scan_told, step_goes, work_told}
 use Rattle.law_reasons.proofs.Repeats.Shift.{more_told}
-use Rattle.law_scans.proofs.inv.history.MayTell.{Tells, Shape, Silent, Single, Takes, at_finds, shape_of, clear_all}
+use Rattle.law_scans.proofs.inv.history.MayTell.{Tells, Shape, Silent, Single, Takes, at_finds, shape_of, clear_all, work_all}
 
 abbrev pub finds_in : List Event → ℕ
 finds_in told = rounds_told 0 told
@@ -138,7 +138,7 @@ first_finds : (phase : Phase) (post : Post) (found : ℕ) → First (Finds (phas
 first_finds Idle post found = plain_finds [] 0 refl
 first_finds (Runs why base) post found = base_finds base post found
 first_finds (Scans later at) post found = plain_finds (scan_told at post found) 0 (scan_plain at post found)
-first_finds (Works work) post found = plain_finds [] 0 refl
+first_finds (Works work) post found = plain_finds (work_told work post) 0 (work_all is_plain (λ index slot. refl) (λ from index slot. refl) (λ seat index era. refl) work post)
 
 pub step_finds : (phase : Phase) (post : Post) (desk : Desk) (found : ℕ) → finds_in (told_by (steps.phase_turn phase post desk found)) ≤ phase_top phase
 step_finds phase post desk found = step_goes (Finds (phase_top phase)) (finds_closed (phase_top phase)) phase post desk found (first_finds phase post found)
@@ -159,7 +159,7 @@ pub run_opens : (layout : Layout) (why : Why) (base : Base) (post : Post) → Ru
 run_opens layout why (Begin at) post r = omega arith
 run_opens layout why (Clear index) post r = omega arith
 run_opens layout why Finish post r = omega arith
-run_opens layout why Release post r = omega arith
+run_opens layout why (Release index) post r = omega arith
 run_opens layout why (Allocate at) post r = omega arith
 run_opens layout why (Write slot row place) post r = omega arith
 run_opens layout why (GiveUp slot) post r = omega arith

@@ -18,7 +18,7 @@ use Rattle.law_scans.specs.inv.shapes.Eras.{Eras}
 use Rattle.law_scans.specs.inv.shapes.Slots.{Slots}
 use Rattle.law_scans.proofs.inv.Inv.Kept.{rest_need, rounds_need}
 use Rattle.law_scans.specs.inv.Known.{Known}
-use Rattle.law_scans.proofs.answers.AnswersTold.Owed.{Serves, TaskServes, call_for}
+use Rattle.law_scans.proofs.answers.AnswersTold.Owed.{ChangeServes, Serves, TaskServes}
 use Rattle.law_scans.specs.inv.requests.Views.{View as Asked}
 use Rattle.law_scans.proofs.inv.steps_left.Rest.Fits.{round_fit}
 use Rattle.law_scans.proofs.inv.steps_left.Rest.Lasting.{losses_begin, losses_kept}
@@ -34,9 +34,11 @@ abbrev pub once_more : Option Call → ℕ
 once_more (Some (calls.Get key)) = 1
 once_more call = 0
 
-changed_once : (change : Change) → once_more (Some (call_for change)) ≡ 0
-changed_once (changes.Put key value) = refl
-changed_once (changes.Removed key) = refl
+changed_once : (call : Call) (change : Change) (wanted : Option ℕ) → ChangeServes call change wanted → once_more (Some call) ≡ 0
+changed_once call (changes.Put key value) None s = ap (λ (x : Call). once_more (Some x)) s.is
+changed_once call (changes.Put key value) (Some version) s = ap (λ (x : Call). once_more (Some x)) s.is
+changed_once call (changes.Removed key) None s = ap (λ (x : Call). once_more (Some x)) s.is
+changed_once call (changes.Removed key) (Some version) s = let m = s.may in absurd (cc)
 
 -- what a step needs in such a World
 shifted_slots : (w : World) (n : ℕ → ℕ) → Slots w → Slots (shifted w n)
@@ -74,7 +76,7 @@ abbrev pub CallOnce : Call → ℕ → Type 0
 CallOnce call n = n ≡ once_more (Some call)
 
 task_once : (c : Config) (call : Call) (n rounds : ℕ) (task : Task) → CallOnce call n → TaskServes call task → fills_fit c rounds task → n ≡ 0
-task_once c call n rounds (Changes kept) o s f = o ∙ ap (λ (x : Call). once_more (Some x)) s ∙ changed_once kept.change
+task_once c call n rounds (Changes kept) o s f = o ∙ changed_once call kept.change kept.wanted s
 task_once c call n rounds (Enqueues kept) o s f = o ∙ ap (λ (x : Call). once_more (Some x)) s
 task_once c call n rounds (Gets key) o s f = absurd (cc)
 task_once c call n rounds (Holds key) o s f = absurd (cc)
@@ -86,7 +88,7 @@ shifted_give w i v l z n b k s o =
     let at : (phase : Phase) → (w.seat i).phase ≡ phase → Serves (w.seat i).call phase = λ phase e. subst (λ (x : Phase). Serves (w.seat i).call x) e s in
     let once : Call → ℕ = λ x. once_more (Some x) in
     record {
-      changes = λ kept slot e d. no_more (w.seat i).rounds _ (n i) (o ∙ ap once (at _ e) ∙ changed_once kept.change) (h.changes kept slot e d);
+      changes = λ kept slot e d. no_more (w.seat i).rounds _ (n i) (o ∙ changed_once (w.seat i).call kept.change kept.wanted (at _ e)) (h.changes kept slot e d);
       passes = λ kept next e. no_more (w.seat i).rounds _ (n i) (o ∙ ap once (at _ e)) (h.passes kept next e);
       enqueues = λ kept slot e d. no_more (w.seat i).rounds _ (n i) (o ∙ ap once (at _ e)) (h.enqueues kept slot e d);
       reloads = λ head tail parent index slot era x e d. no_more (w.seat i).rounds _ (n i) (o ∙ ap once (at _ e)) (h.reloads head tail parent index slot era x e d);

@@ -20,7 +20,7 @@ use Rattle.wfe_core.specs.Rest.{is_told, lost_by}
 use Rattle.wfe_core.specs.Rounds.{index_of, key_of}
 use Rattle.wfe_core.specs.Calls.{Task, Gets, Changes, Holds, Enqueues, Dequeues, Why, Opens, Phase, Idle, Runs, Scans, Works, CallTurn, CallOutcome, GoesOn, Answers}
 use Rattle.wfe_core.specs.Desks.{noting}
-use Rattle.wfe_core.specs.Locals.{Local, rounds_told, settled_by, told_by, told_end, turn}
+use Rattle.wfe_core.specs.Locals.{Local, may_begin, rounds_told, settled_by, told_by, told_end, turn}
 use Rattle.wfe_core.specs.World.{World, start, begin, step, finds, is_busy, told_in}
 use Rattle.wfe_core.proofs.Facts.{same_number, first_of, rest_of}
 use Rattle.law_scans.specs.inv.shapes.Seats.{Run}
@@ -43,7 +43,7 @@ use Rattle.law_scans.proofs.inv.history.Along.{Steady, items_keep}
 use Rattle.law_scans.proofs.inv.history.AllOf.{all_of}
 use Rattle.law_scans.proofs.inv.Machines.{is_within, within_of}
 use Rattle.law_scans.proofs.answers.AnswersTold.Answering.{first_all, owes_of}
-use Rattle.law_scans.proofs.answers.AnswersTold.Owed.{Owes, Serves, TaskServes, call_for, is_open, owed}
+use Rattle.law_scans.proofs.answers.AnswersTold.Owed.{Owes, Serves, TaskServes, ChangeServes, is_open, owed}
 use Rattle.laws.proofs.Tells.{seen_stays, tells_both}
 use Rattle.law_scans.specs.inv.steps_left.Rounds.{Rounds}
 use Rattle.law_scans.specs.inv.steps_left.Tallies.{Tally, once, tally, phase_paced, task_paced, why_paced}
@@ -92,6 +92,7 @@ record Keeps (layout : Layout) (made : Made) : Type 0 where
 abbrev world_moves : Tally → Call → ℕ
 world_moves t (calls.Put key value) = t.count (key % t.buckets)
 world_moves t (calls.Remove key) = t.count (key % t.buckets)
+world_moves t (calls.PutIf key value version) = t.count (key % t.buckets)
 world_moves t (calls.Enqueue value) = t.passes
 world_moves t calls.Dequeue = t.takes
 world_moves t call = 0
@@ -99,6 +100,7 @@ world_moves t call = 0
 same_moves : (layout : Layout) (made : Made) (k : Keeps layout made) (call : Call) → moves_of made.world.layout.config (Some call) made.past ≡ world_moves (tally made.world k.line) call
 same_moves layout made k (calls.Put key value) = ap length (k.full.sees.shown.changes (key % made.world.layout.config.buckets))
 same_moves layout made k (calls.Remove key) = ap length (k.full.sees.shown.changes (key % made.world.layout.config.buckets))
+same_moves layout made k (calls.PutIf key value version) = ap length (k.full.sees.shown.changes (key % made.world.layout.config.buckets))
 same_moves layout made k (calls.Enqueue value) = let a = ap length k.full.sees.shown.queued in let b = k.tails in omega (arith, a, b)
 same_moves layout made k calls.Dequeue = let a = k.full.sees.agrees.taken in let b = k.tails in omega (arith, a, b)
 same_moves layout made k call = refl
@@ -138,9 +140,11 @@ get_finds c i told p n f z m =
     let d = before_stays c i i told p n in
     omega (arith, z, m, a, b, d, f)
 
-change_moves : (t : Tally) (change : Change) → world_moves t (call_for change) ≡ t.count (key_of change % t.buckets)
-change_moves t (changes.Put key value) = refl
-change_moves t (changes.Removed key) = refl
+change_moves : (t : Tally) (call : Call) (change : Change) (wanted : Option ℕ) → ChangeServes call change wanted → world_moves t call ≡ t.count (key_of change % t.buckets)
+change_moves t call (changes.Put key value) None s = ap (world_moves t) s.is
+change_moves t call (changes.Put key value) (Some version) s = ap (world_moves t) s.is
+change_moves t call (changes.Removed key) None s = ap (world_moves t) s.is
+change_moves t call (changes.Removed key) (Some version) s = let m = s.may in absurd (cc)
 
 top_one : (index : ℕ) (zero : Bool) → (index == 0) ≡ zero → top_of false index ≤ 1
 top_one index true e = rw e (omega arith)
@@ -174,7 +178,7 @@ task_finds layout made i told k (Changes kept) b s f p n t v =
     let u : Tally = tally made.world k.line in
     let call : Call = (made.world.seat i).call in
     let m : moves_of c (began_of i made.past) made.past ≡ u.count (key_of kept.change % u.buckets) =
-    ap (λ (x : Option Call). moves_of c x made.past) b ∙ same_moves layout made k call ∙ ap (world_moves u) s ∙ change_moves u kept.change in
+    ap (λ (x : Option Call). moves_of c x made.past) b ∙ same_moves layout made k call ∙ change_moves u call kept.change kept.wanted s in
     found_once c i told made.past (made.world.seat i).rounds (once kept.walked) n t (k.found i) (omega (arith, m, p)) (whole_once (guards c) (search_of i made.past) kept.walked (f.reads refl))
 task_finds layout made i told k (Enqueues kept) b s f p n t v =
     let c : Config = made.world.layout.config in
@@ -267,6 +271,7 @@ step_found layout made i m false e k = finds_others m i (told_in made.world i) m
 moves_most : (t : Tally) (last : ℕ) (call : Call) → Few t last → world_moves t call ≤ 2 * last
 moves_most t last (calls.Put key value) f = let a = f.count (key % t.buckets) in omega (arith, a)
 moves_most t last (calls.Remove key) f = let a = f.count (key % t.buckets) in omega (arith, a)
+moves_most t last (calls.PutIf key value version) f = let a = f.count (key % t.buckets) in omega (arith, a)
 moves_most t last (calls.Enqueue value) f = f.passes
 moves_most t last calls.Dequeue f = f.takes
 moves_most t last call f = omega arith
@@ -349,6 +354,7 @@ begin_moves : (c : Config) (x : Option Call) (i : ℕ) (call : Call) (p : Past) 
 begin_moves c None i call p = refl
 begin_moves c (Some (calls.Put key value)) i call p = refl
 begin_moves c (Some (calls.Remove key)) i call p = refl
+begin_moves c (Some (calls.PutIf key value version)) i call p = refl
 begin_moves c (Some (calls.Enqueue value)) i call p = refl
 begin_moves c (Some calls.Dequeue) i call p = refl
 begin_moves c (Some x) i call p = refl
@@ -377,6 +383,7 @@ before_other c k i call p e =
 counted_by : (t : Tally) (call : Call) (n : ℕ) → n ≡ world_moves t call → counted_for t call n
 counted_by t (calls.Put key value) n e = omega (arith, e)
 counted_by t (calls.Remove key) n e = omega (arith, e)
+counted_by t (calls.PutIf key value version) n e = omega (arith, e)
 counted_by t (calls.Enqueue value) n e = omega (arith, e)
 counted_by t calls.Dequeue n e = omega (arith, e)
 counted_by t (calls.Get key) n e = tt
@@ -384,6 +391,9 @@ counted_by t (calls.Hold key) n e = tt
 counted_by t calls.Release n e = tt
 counted_by t calls.Advance n e = tt
 counted_by t calls.Scan n e = tt
+counted_by t (calls.Copy from index) n e = tt
+counted_by t (calls.DropIndex index) n e = tt
+counted_by t (calls.Look index key) n e = tt
 
 finds_now : (i : ℕ) (call : Call) (p : Past) → finds_of i (Then p i (events.Begin call)) ≡ 0
 finds_now i call p = rw (same_number i) refl
@@ -413,23 +423,23 @@ begin_may c i m call p false e g =
     let x : whole_scan (guards c) (search_of m (Then p i (events.Begin call))) ≡ whole_scan (guards c) (search_of m p) = ap (whole_scan (guards c)) (seen_stays search_by no_search m i (events.Begin call ∷ []) p e) in
     omega (arith, r, a, b, s, x)
 
-begin_keeps : (layout : Layout) (made : Made) (i : ℕ) (call : Call) → is_busy made.world i ≡ false → Keeps layout made → Keeps layout (done made (Begins i call))
-begin_keeps layout made i call f k =
+begin_keeps : (layout : Layout) (made : Made) (i : ℕ) (call : Call) → is_busy made.world i ≡ false → may_begin made.world.layout.config call ≡ true → Keeps layout made → Keeps layout (done made (Begins i call))
+begin_keeps layout made i call f m k =
     let w : World = made.world in
     let c : Config = w.layout.config in
     let r : Past = Then made.past i (events.Begin call) in
     let q = requests_begin w i call k.asked k.known.valid f k.known.seats k.known.requests in
     record {
-      full = full.begin_keeps layout made i call f k.full;
+      full = full.begin_keeps layout made i call f m k.full;
       rows = k.rows;
       line = k.line;
       asked = q.0;
-      known = known_begin w i call k.rows k.line k.asked q.0 f k.known q.1.facts q.1.deal;
+      known = known_begin w i call k.rows k.line k.asked q.0 f m k.known q.1.facts q.1.deal;
       tails = k.tails;
       rounds = paced_begin w i call k.line k.asked q.0 (before_of c made.past) (before_of c r) f k.known.requests q.1.deal (λ j e. before_other c j i call made.past e) (counted_by (tally w k.line) call (moves_before c i r) (before_now c i call made.past ∙ same_moves layout made k call)) k.rounds;
       gets = gets_begin w i call (once_of made.past) (once_of r) (λ j e. ap once_more (began_other j i call made.past e)) (ap once_more (began_now i call made.past)) k.known.losses k.gets;
-      found = λ m. begin_found w i m call made.past (m == i) refl k.found;
-      may = λ m. begin_may c i m call made.past (m == i) refl k.may;
+      found = λ n. begin_found w i n call made.past (n == i) refl k.found;
+      may = λ n. begin_may c i n call made.past (n == i) refl k.may;
       law = (refl, k.law);
     }
 
@@ -452,7 +462,7 @@ first_keeps layout d =
     }
 
 steady : (layout : Layout) → Steady (Keeps layout)
-steady layout = record { begins = λ made i call b y g. begin_keeps layout made i call y g; steps = λ made i b y g. step_keeps layout made i b y g }
+steady layout = record { begins = λ made i call b y m g. begin_keeps layout made i call y m g; steps = λ made i b y g. step_keeps layout made i b y g }
 
 pub records_keep_repeats : RecordsKeepRepeats
 records_keep_repeats layout items d =

@@ -1,15 +1,15 @@
 -- A call that has found its root more often still loses no more rounds than its task may, where what it has lost is counted.
-use Rattle.std.proofs.Common.{ℕ, ◌≡◌, ◌≤◌, ◌+◌, ◌-◌, ◌*◌, ◌%◌, Bool, true, false, Option, Some, None, refl, ap, ◌∙◌, subst, arith}
+use Rattle.std.proofs.Common.{ℕ, ◌≡◌, ◌≤◌, ◌+◌, ◌-◌, ◌*◌, ◌%◌, Bool, true, false, refl, ap, ◌∙◌, subst, arith}
 use Rattle.wfe_core.specs.words.declared.config.Config.{Config}
 use Rattle.wfe_core.specs.defs.declared.call.Call.{Call}
 use Rattle.wfe_core.specs.defs.declared.call.Call.TheVariants as names
 use Rattle.wfe_core.specs.Phases.{Base}
 use Rattle.wfe_core.specs.Rest.{is_told, lost_by, rounds_most}
 use Rattle.wfe_core.specs.Rounds.{key_of}
-use Rattle.wfe_core.specs.Calls.{ChangeKept, EnqueueKept, Task, Gets, Changes, Holds, Enqueues, Dequeues, Next, Again, MakeRoom, Answering, Retiring, AfterScan, Answered, Repeated, Counted, Why, Opens, FollowsHead, Fills, ClearsNext, Clears, Finishes, Tidies, Releases, EnqueueAt, ExchangeTail, DequeueAt, LoadTail, Work, Getting, Changing, Enqueuing, Dequeuing, Phase, Idle, Runs, Scans, Works}
+use Rattle.wfe_core.specs.Calls.{ChangeKept, EnqueueKept, Task, Gets, Changes, Holds, Enqueues, Dequeues, Next, Again, MakeRoom, Answering, Retiring, AfterScan, Answered, Repeated, Counted, Why, Opens, FollowsHead, Fills, ClearsNext, Clears, Finishes, Tidies, Releases, EnqueueAt, ExchangeTail, DequeueAt, LoadTail, Work, Getting, Changing, Enqueuing, Dequeuing, Keeping, KeepAt, Loosens, LoadHeld, StoreHeld, Looks, Misses, LetGo, Released, Rehold, Dropped, Phase, Idle, Runs, Scans, Works}
 use Rattle.wfe_core.specs.Locals.{busy_in}
 use Rattle.law_reasons.proofs.Repeats.Records.{is_counted}
-use Rattle.law_scans.proofs.answers.AnswersTold.Owed.{Serves, WhyServes, WorkServes, LaterServes, TaskServes, FreeServes}
+use Rattle.law_scans.proofs.answers.AnswersTold.Owed.{Serves, WhyServes, WorkServes, LaterServes, TaskServes, FreeServes, KeepServes, MissServes}
 use Rattle.law_scans.specs.inv.steps_left.Losses.{InRound, LostRound, tells_fit, opens_fit, fills_fit, lost_fit, next_fit, finish_fit, later_fit, why_fit, work_fit, phase_fit}
 use Rattle.law_scans.specs.inv.steps_left.Tallies.{Tally, changes_so_far, passes_so_far, task_paced, fills_paced, next_paced, later_paced, why_paced, enqueue_paced, dequeue_paced, work_paced, phase_paced}
 use Rattle.law_scans.proofs.inv.steps_left.Rounds.Ending.{once_few}
@@ -92,9 +92,25 @@ later_more c t call rounds n (Answered answer) k s h p = tt
 later_more c t call rounds n (Repeated task) k s h p = task_more c t call rounds n task k s h p
 later_more c t call rounds n Counted k s h p = tt
 
-releases_more : (c : Config) (t : Tally) (call : Call) (rounds n : ℕ) (key : Option ℕ) → Counts c t call n → FreeServes call key → rounds ≡ 0 → rounds + n ≡ 0
-releases_more c t call rounds n None k s h = none_more c (λ r. r ≡ 0) rounds n (zero_by c t call names.Release n k s refl) h
-releases_more c t call rounds n (Some key) k s h = none_more c (λ r. r ≡ 0) rounds n (zero_by c t call (names.Hold key) n k s refl) h
+free_uncounted : (call : Call) (let_go : LetGo) → FreeServes call let_go → is_counted call ≡ false
+free_uncounted call Released s = ap is_counted s
+free_uncounted call (Rehold key) s = ap is_counted s
+free_uncounted call (Dropped index) s = ap is_counted s
+
+miss_uncounted : (call : Call) (index : ℕ) → MissServes call index → is_counted call ≡ false
+miss_uncounted (names.Copy from other) index s = refl
+miss_uncounted (names.Look own key) index s = refl
+miss_uncounted call index s = absurd (s)
+
+keep_uncounted : (call : Call) (at : KeepAt) → KeepServes call at → is_counted call ≡ false
+keep_uncounted call (Loosens let_go) s = free_uncounted call let_go s
+keep_uncounted call (LoadHeld from index) s = ap is_counted s
+keep_uncounted call (StoreHeld from index era) s = ap is_counted s
+keep_uncounted call (Looks index key at) s = ap is_counted s
+keep_uncounted call (Misses index) s = miss_uncounted call index s
+
+releases_more : (c : Config) (t : Tally) (call : Call) (rounds n : ℕ) (let_go : LetGo) → Counts c t call n → FreeServes call let_go → rounds ≡ 0 → rounds + n ≡ 0
+releases_more c t call rounds n let_go k s h = none_more c (λ r. r ≡ 0) rounds n (k.zero (free_uncounted call let_go s)) h
 
 why_more : (c : Config) (t : Tally) (call : Call) (rounds n : ℕ) (base : Base) (why : Why) → Counts c t call n → WhyServes call why → why_fit c rounds base why → why_paced t (rounds + n) base why → why_fit c (rounds + n) base why
 why_more c t call rounds n base (Opens task) k s h p = opens_more c t call rounds n task (is_told base) k s h p
@@ -104,7 +120,7 @@ why_more c t call rounds n base (ClearsNext next) k s h p = next_more c t call r
 why_more c t call rounds n base (Clears task next) k s h p = next_more c t call rounds n task next k s.0 h p
 why_more c t call rounds n base (Finishes task next) k s h p = finish_more c t call rounds n task next k s.0 h p
 why_more c t call rounds n base (Tidies later) k s h p = later_more c t call rounds n later k s h p
-why_more c t call rounds n base (Releases key) k s h p = releases_more c t call rounds n key k s h
+why_more c t call rounds n base (Releases let_go) k s h p = releases_more c t call rounds n let_go k s h
 why_more c t call rounds n base why k s h p = tt
 
 enqueue_more : (c : Config) (t : Tally) (call : Call) (rounds n : ℕ) (kept : EnqueueKept) (at : EnqueueAt) → Counts c t call n → (rounds + n ≤ 2 * c.last_version + 2) → InRound (rounds_most c (Enqueues kept)) rounds → enqueue_paced t kept at (rounds + n - 1) → InRound (rounds_most c (Enqueues kept)) (rounds + n)
@@ -120,6 +136,7 @@ work_more c t call rounds n (Getting key at) k i s h p = none_more c (λ r. InRo
 work_more c t call rounds n (Changing kept at) k i s h p = in_more (rounds_most c (Changes kept)) rounds n (changes_so_far t kept) h p.lost_few (changes_few c t kept k.few)
 work_more c t call rounds n (Enqueuing kept at) k i s h p = enqueue_more c t call rounds n kept at k (i (ap is_counted s)) h p
 work_more c t call rounds n (Dequeuing at) k i s h p = in_more (rounds_most c Dequeues) rounds n t.takes h (dequeue_lost t at (rounds + n - 1) p) (takes_few c t k.few)
+work_more c t call rounds n (Keeping at) k i s h p = none_more c (λ r. r ≡ 0) rounds n (k.zero (keep_uncounted call at s)) h
 
 pub phase_more : (c : Config) (t : Tally) (call : Call) (rounds n : ℕ) (phase : Phase) → Few t c.last_version → (busy_in phase ≡ true → is_counted call ≡ false → n ≡ 0) → (busy_in phase ≡ true → is_counted call ≡ true → rounds + n ≤ 2 * c.last_version + 2) → (busy_in phase ≡ true → Serves call phase) → phase_fit c rounds phase → phase_paced t (rounds + n) phase
     → phase_fit c (rounds + n) phase

@@ -7,9 +7,11 @@ use Rattle.wfe_core.specs.words.Place.Place.{Tail}
 use Rattle.wfe_core.specs.defs.declared.call.Call.{Call}
 use Rattle.wfe_core.specs.defs.declared.call.Call.TheVariants as names
 use Rattle.wfe_core.specs.declared.post.Post.{Post}
-use Rattle.wfe_core.specs.Calls.{Gets, Changes, Holds, Enqueues, Dequeues}
+use Rattle.wfe_core.specs.Calls.{Gets, Changes, Holds, Enqueues, Dequeues, LetGo, Released, Rehold, Dropped}
 use Rattle.wfe_core.specs.Locals.{Local, begun_post, busy_in}
 use Rattle.wfe_core.specs.Posts.{stands}
+use Rattle.wfe_core.specs.Phases.{Base}
+use Rattle.wfe_core.specs.Rounds.{let_index, letting, letting_by, release_base, scheme_of}
 use Rattle.wfe_core.specs.Steps as steps
 use Rattle.wfe_core.specs.World.{World, begin, step, is_busy}
 use Rattle.law_scans.proofs.inv.shapes.Frame.{begin_stays, begin_begins}
@@ -71,13 +73,29 @@ paced_step w i v l z next n m b k g d e r = same_shift (step w i) (line_after w 
 abbrev pub counted_for : Tally → Call → ℕ → Type 0
 counted_for t (names.Put key value) n = n ≤ t.count (key % t.buckets)
 counted_for t (names.Remove key) n = n ≤ t.count (key % t.buckets)
+counted_for t (names.PutIf key value version) n = n ≤ t.count (key % t.buckets)
 counted_for t (names.Enqueue value) n = n ≤ t.passes
 counted_for t names.Dequeue n = n ≤ t.takes
 counted_for t call n = Unit {0}
 
+letting_paced : (t : Tally) (n : ℕ) (let_go : LetGo) (post : Post) → phase_paced t n (letting let_go post)
+letting_paced t n let_go post = by (release_base (scheme_of post) post (let_index let_go))
+  where
+    by : (x : Option Base) → phase_paced t n (letting_by let_go x)
+    by None = tt
+    by (Some base) = tt
+
+copying_paced : (t : Tally) (n from index : ℕ) (x : Option ℕ) → phase_paced t n (steps.copying from index x)
+copying_paced t n from index None = tt
+copying_paced t n from index (Some slot) = tt
+
+looking_paced : (t : Tally) (n index key : ℕ) (x : Option ℕ) → phase_paced t n (steps.looking_at index key x)
+looking_paced t n index key None = tt
+looking_paced t n index key (Some slot) = tt
+
 holding_paced : (t : Tally) (n key : ℕ) (post : Post) (stood : Option ℕ) → phase_paced t n (steps.holding key post stood)
 holding_paced t n key post None = round_paced t n (Holds key) post tt
-holding_paced t n key post (Some slot) = tt
+holding_paced t n key post (Some slot) = letting_paced t n (Rehold key) post
 
 no_more : (n m : ℕ) → n ≤ m → n ≤ m + 0
 no_more n m h = omega (arith, h)
@@ -89,7 +107,11 @@ first_paced t (names.Remove key) n post h = round_paced t n (Changes _) post (no
 first_paced t (names.Enqueue value) n post h = round_paced t n (Enqueues _) post (no_more n t.passes h)
 first_paced t names.Dequeue n post h = round_paced t n Dequeues post h
 first_paced t (names.Hold key) n post h = holding_paced t n key post (stands post 2)
-first_paced t names.Release n post h = tt
+first_paced t names.Release n post h = letting_paced t n Released post
+first_paced t (names.Copy from index) n post h = copying_paced t n from index (stands post from)
+first_paced t (names.DropIndex index) n post h = letting_paced t n (Dropped index) post
+first_paced t (names.Look index key) n post h = looking_paced t n index key (stands post index)
+first_paced t (names.PutIf key value version) n post h = round_paced t n (Changes _) post (no_more n (t.count (key % t.buckets)) h)
 first_paced t names.Advance n post h = tt
 first_paced t names.Scan n post h = tt
 

@@ -70,6 +70,7 @@ before_stays c k i told p h =
 abbrev pub is_counted : Call → Bool
 is_counted (calls.Put key value) = true
 is_counted (calls.Remove key) = true
+is_counted (calls.PutIf key value version) = true
 is_counted (calls.Enqueue value) = true
 is_counted calls.Dequeue = true
 is_counted call = false
@@ -85,6 +86,7 @@ value_zero k (Then p i event) = zero_if (begins k p i event) (value_since (begin
 plain_zero : (c : Config) (k : ℕ) (p : Past) (call : Call) → is_counted call ≡ false → value_since (begins k) (moves_of c (Some call)) p ≡ 0
 plain_zero c k p (calls.Put key value) h = absurd (cc)
 plain_zero c k p (calls.Remove key) h = absurd (cc)
+plain_zero c k p (calls.PutIf key value version) h = absurd (cc)
 plain_zero c k p (calls.Enqueue value) h = absurd (cc)
 plain_zero c k p calls.Dequeue h = absurd (cc)
 plain_zero c k p call h = value_zero k p
@@ -115,6 +117,7 @@ tails_grow i (event ∷ told) p = let a = one_tail event (tails_of p) in let b =
 pub moves_grow : (c : Config) (call : Option Call) (i : ℕ) (told : List Event) (p : Past) → all_of is_within told ≡ true → moves_of c call p ≤ moves_of c call (tells_of p i told)
 moves_grow c (Some (calls.Put key value)) i told p h = more_count i (bucket_of c.buckets key) p (tells_of p i told) (later_all i i p p told h (later_same i p))
 moves_grow c (Some (calls.Remove key)) i told p h = more_count i (bucket_of c.buckets key) p (tells_of p i told) (later_all i i p p told h (later_same i p))
+moves_grow c (Some (calls.PutIf key value version)) i told p h = more_count i (bucket_of c.buckets key) p (tells_of p i told) (later_all i i p p told h (later_same i p))
 moves_grow c (Some (calls.Enqueue value)) i told p h =
     let a = more_queued i p (tells_of p i told) (later_all i i p p told h (later_same i p)) in let b = tails_grow i told p in omega (arith, a, b)
 moves_grow c (Some calls.Dequeue) i told p h = let a = taken_grows i told p in let b = tails_grow i told p in omega (arith, a, b)

@@ -13,11 +13,13 @@ use Rattle.wfe_core.specs.defs.declared.lifetime.Lifetime.{Lifetime}
 use Rattle.wfe_core.specs.declared.post.Post.{Post}
 use Rattle.wfe_core.specs.Change.{told_change, changed_bucket}
 use Rattle.wfe_core.specs.Enqueue.{told_link}
+use Rattle.wfe_core.specs.Get.{get_move}
+use Rattle.wfe_core.specs.Keep.{keep_move}
 use Rattle.wfe_core.specs.Memory as memory
 use Rattle.wfe_core.specs.Memory.{written}
 use Rattle.wfe_core.specs.Posts.{counted}
 use Rattle.wfe_core.specs.Steps.{phase_move}
-use Rattle.wfe_core.specs.Calls.{ChangeKept, EnqueueKept, LoadVersion, LoadCount, LoadKey, LoadValue, ExchangeRoot, LoadNumber, LoadNext, PassTail, ExchangeNext, ExchangeTail, LoadTail, SwingTail, TakeNumber, TakeValue, ExchangeHead, Getting, Changing, Enqueuing, Dequeuing, ReadGuard, GiveBack, Phase, Idle, Runs, Scans, Works, CallOutcome, GoesOn, Answers}
+use Rattle.wfe_core.specs.Calls.{ChangeKept, EnqueueKept, LoadVersion, LoadCount, LoadKey, LoadValue, ExchangeRoot, LoadNumber, LoadNext, PassTail, ExchangeNext, ExchangeTail, LoadTail, SwingTail, TakeNumber, TakeValue, ExchangeHead, Getting, Changing, Enqueuing, Dequeuing, Keeping, KeepAt, Loosens, LoadHeld, StoreHeld, Looks, Misses, GetAt, FindVersion, FindCount, FindKey, FindValue, ReadGuard, GiveBack, Phase, Idle, Runs, Scans, Works, CallOutcome, GoesOn, Answers}
 use Rattle.law_scans.specs.inv.rows.Hands.{row_move, hand_in, is_right}
 use Rattle.law_scans.specs.inv.rows.Queue.{Line, line_move, moved_line}
 use Rattle.law_scans.specs.inv.rows.Rows.{View, RowMove}
@@ -90,6 +92,20 @@ linked_tail kept slot post x true = cut_tail kept.link (kept.link == 0) _ x (cha
 linked_tail kept slot post x false = refl
 
 -- how often the tail was moved is its row's number
+-- what is kept moves no tail
+look_tail : (mem : Place → ℕ) (at : GetAt) → written mem (get_move at) Tail ≡ mem Tail
+look_tail mem (FindVersion slot) = refl
+look_tail mem (FindCount slot version) = refl
+look_tail mem (FindKey slot version count pair) = refl
+look_tail mem (FindValue slot version pair) = refl
+
+keep_tail : (mem : Place → ℕ) (at : KeepAt) (post : Post) → written mem (keep_move at post) Tail ≡ mem Tail
+keep_tail mem (Loosens let_go) post = refl
+keep_tail mem (LoadHeld from index) post = refl
+keep_tail mem (StoreHeld from index era) post = refl
+keep_tail mem (Looks index key at) post = look_tail mem at
+keep_tail mem (Misses index) post = refl
+
 pub tail_moved : (slots i : ℕ) (mem : Place → ℕ) (v : View) (l : Line) (phase : Phase) (post : Post) (list : List Lifetime) (n : ℕ) → Here slots i mem v l phase post list → ((kept : EnqueueKept) (slot : ℕ) → phase ≡ Works (Enqueuing kept (ExchangeNext slot)) → l.lined slot ≡ false) → n ≡ l.number (mem Tail - 1)
     → along tails_by (marks phase post (finds_phase mem phase post)) n ≡ (moved_line l (line_move phase (finds_phase mem phase post))).number (written mem (phase_move phase post) Tail - 1)
 tail_moved slots i mem v l Idle post list n k u h = h
@@ -113,6 +129,7 @@ tail_moved slots i mem v l (Works (Enqueuing kept (ExchangeNext slot))) post lis
     ∙ sym (ap (λ (x : ℕ). (moved_line l (line_move (Works (Enqueuing kept (ExchangeNext slot))) (finds_phase mem (Works (Enqueuing kept (ExchangeNext slot))) post))).number (x - 1)) (cas_other mem (Row kept.tail 0) Tail 0 (slot + 1) refl))
 tail_moved slots i mem v l (Works (Enqueuing kept (ExchangeTail slot))) post list n k u h =
     swung_tail mem l slot kept.tail (slot + 1) n (mem Tail == kept.tail + 1) refl (λ e. next_number v l mem (Works (Enqueuing kept (ExchangeTail slot))) kept.tail (slot + 1) k.line k.walks (same_both kept.tail (slot + 1)) (number_is (mem Tail) (kept.tail + 1) e)) h
+tail_moved slots i mem v l (Works (Keeping at)) post list n k u h = h ∙ sym (ap (λ (x : ℕ). l.number (x - 1)) (keep_tail mem at post))
 tail_moved slots i mem v l (Works (Dequeuing (LoadTail head))) post list n k u h = h
 tail_moved slots i mem v l (Works (Dequeuing (SwingTail head next))) post list n k u h =
     swung_tail mem l next head (next + 1) n (mem Tail == head + 1) refl (λ e. next_number v l mem (Works (Dequeuing (SwingTail head next))) head (next + 1) k.line k.walks (same_both head (next + 1)) (number_is (mem Tail) (head + 1) e)) h

@@ -17,7 +17,7 @@ use Rattle.wfe_core.specs.Steps.{phase_turn}
 use Rattle.wfe_core.proofs.Facts.{same_number, first_of, rest_of}
 use Rattle.inv_all.specs.shapes.Frame.{phase_left}
 use Rattle.inv_all.specs.covers.Covers.{is_fresh}
-use Rattle.inv_all.proofs.covers.Fresh.{work_fresh}
+use Rattle.inv_all.proofs.covers.Fresh.{works_fresh as fresh_work}
 use Rattle.inv_all.specs.history.Record.{Past, Each, tells_of}
 use Rattle.inv_all.specs.history.Record.Past.{Then}
 use Rattle.laws.specs.StateAt.{list_of, read_by, read_of, is_scan, scans_of}
@@ -117,4 +117,4 @@ pub run_fresh : (why : Why) (base : Base) (post : Post) (desk : Desk) (found : �
 run_fresh why base post desk found = resumed_fresh why desk (after base post found).post (after base post found).told (after base post found).outcome
 
 pub works_fresh : (work : Work) (post : Post) (desk : Desk) (found : ℕ) → is_fresh (phase_left (phase_turn (Works work) post desk found).outcome) ≡ true
-works_fresh work post desk found = (work_fresh work post desk found).fresh
+works_fresh work post desk found = fresh_work work post desk found

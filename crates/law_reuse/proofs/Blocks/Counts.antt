@@ -15,7 +15,7 @@ use Rattle.wfe_core.specs.declared.post.Post.{Post}
 use Rattle.wfe_core.specs.Calls.{AfterScan, Counted, ScanAt, ReadGuard, GiveBack, Phase, Idle, Runs, Scans, Works, CallTurn, CallOutcome, GoesOn, Answers}
 use Rattle.wfe_core.specs.Desks.{Desk, Report, noting}
 use Rattle.wfe_core.specs.Guards.{guards, guard_at, eras_in, published}
-use Rattle.wfe_core.specs.Locals.{Local, after, begun, settled, rounds_told, told_by, told_end, turn}
+use Rattle.wfe_core.specs.Locals.{Local, after, begun, settled, rounds_told, told_by, told_end, turn, may_begin}
 use Rattle.wfe_core.specs.Posts.{counted}
 use Rattle.wfe_core.specs.Scan.{Entry, giving_back, reading, with_read, with_back, unmet_from, scan_turn}
 use Rattle.wfe_core.specs.Steps.{phase_turn}
@@ -303,6 +303,10 @@ begun_by all i l names.Dequeue p h = absurd (cc)
 begun_by all i l (names.Hold key) p h = absurd (cc)
 begun_by all i l names.Release p h = absurd (cc)
 begun_by all i l names.Advance p h = absurd (cc)
+begun_by all i l (names.Copy from index) p h = absurd (cc)
+begun_by all i l (names.DropIndex index) p h = absurd (cc)
+begun_by all i l (names.Look index key) p h = absurd (cc)
+begun_by all i l (names.PutIf key value version) p h = absurd (cc)
 begun_by all i l names.Scan p h = record { at = ReadGuard 0; stands = refl; reads = none_told i is_read names.Scan p; backs = none_told i is_back names.Scan p }
 
 begin_seats : (all : ℕ) (w : World) (i k : ℕ) (call : Call) (p : Past) (same : Bool) → (k == i) ≡ same → ((j : ℕ) → SeatCounts all j (w.seat j) p) → SeatCounts all k ((begin w i call).seat k) (Then p i (events.Begin call))
@@ -315,9 +319,9 @@ begin_seats all w i k call p false e h =
     let c = h k (sym (ap is_scan_call (call_other k i (events.Begin call ∷ []) p e)) ∙ y) in
     record { at = c.at; stands = c.stands; reads = times_other k i is_read (events.Begin call ∷ []) p e ∙ c.reads; backs = times_other k i is_back (events.Begin call ∷ []) p e ∙ c.backs })
 
-begin_item : (layout : Layout) (made : Made) (i : ℕ) (call : Call) → is_busy made.world i ≡ false → CountsScans layout made → CountsScans layout (done made (Begins i call))
-begin_item layout made i call f g = record {
-  base = begin_keeps layout made i call f g.base;
+begin_item : (layout : Layout) (made : Made) (i : ℕ) (call : Call) → is_busy made.world i ≡ false → may_begin made.world.layout.config call ≡ true → CountsScans layout made → CountsScans layout (done made (Begins i call))
+begin_item layout made i call f m g = record {
+  base = begin_keeps layout made i call f m g.base;
   seats = λ k. begin_seats (guards layout.config) made.world i k call made.past (k == i) refl g.seats;
   law = (refl, g.law);
 }
@@ -333,7 +337,7 @@ step_item layout made i b g =
     }
 
 steady : (layout : Layout) → Steady (CountsScans layout)
-steady layout = record { begins = λ made i call b y g. begin_item layout made i call y g; steps = λ made i b y g. step_item layout made i b g }
+steady layout = record { begins = λ made i call b y m g. begin_item layout made i call y m g; steps = λ made i b y g. step_item layout made i b g }
 
 pub records_count_scans : RecordsCountScans
 records_count_scans layout items d =

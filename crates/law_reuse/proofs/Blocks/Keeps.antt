@@ -14,13 +14,13 @@ use Rattle.wfe_core.specs.declared.post.Post.{Post}
 use Rattle.wfe_core.specs.Calls.{AfterScan, ScanAt, Phase, Idle, Runs, Scans, Works, CallTurn, CallOutcome, GoesOn, Answers}
 use Rattle.wfe_core.specs.Desks.{Desk, Report, noting}
 use Rattle.wfe_core.specs.Guards.{guards}
-use Rattle.wfe_core.specs.Locals.{Local, after, begun, begun_post, busy_in, settled, rounds_told, told_by, told_end, turn}
+use Rattle.wfe_core.specs.Locals.{Local, after, begun, begun_post, busy_in, settled, rounds_told, told_by, told_end, turn, may_begin}
 use Rattle.wfe_core.specs.Posts.{counted}
 use Rattle.wfe_core.specs.Scan.{scan_turn}
 use Rattle.wfe_core.specs.Steps.{phase_turn}
 use Rattle.wfe_core.specs.World.{World, begin, step, finds, is_busy, told_in}
 use Rattle.inv_all.specs.covers.Covers.{is_fresh}
-use Rattle.inv_all.proofs.covers.Begun.{first_begins}
+use Rattle.inv_all.proofs.covers.Fresh.{first_begins}
 use Rattle.inv_all.proofs.covers.Held.{settled_phase}
 use Rattle.inv_all.specs.shapes.Frame.{phase_left}
 use Rattle.inv_all.specs.shapes.Seats.{Seats, PhaseFits, scan_fits}
@@ -212,10 +212,10 @@ pub record Scanned (layout : Layout) (made : Made) : Type 0 where
   pub tied : Tied (guards layout.config) made.world made.past
   pub law : Each (scan_ok layout.config) made.past
 
-begin_scanned : (layout : Layout) (made : Made) (i : ℕ) (call : Call) → is_busy made.world i ≡ false → Scanned layout made → Scanned layout (done made (Begins i call))
-begin_scanned layout made i call f g =
+begin_scanned : (layout : Layout) (made : Made) (i : ℕ) (call : Call) → is_busy made.world i ≡ false → may_begin made.world.layout.config call ≡ true → Scanned layout made → Scanned layout (done made (Begins i call))
+begin_scanned layout made i call f m g =
     let all : ℕ = guards layout.config in
-    let later = begin_keeps layout made i call f g.base in
+    let later = begin_keeps layout made i call f m g.base in
     let l : list_of i made.past ≡ (made.world.seat i).desk.list = g.base.shows.lists i in
     let q : list_of i (Then made.past i (events.Begin call)) ≡ (made.world.seat i).desk.list = later.shows.lists i ∙ ap (λ (x : Local). x.desk.list) (begin_begins made.world i call) in
     record {
@@ -245,7 +245,7 @@ step_scanned layout made i b g =
     }
 
 steady : (layout : Layout) → Steady (Scanned layout)
-steady layout = record { begins = λ made i call b y g. begin_scanned layout made i call y g; steps = λ made i b y g. step_scanned layout made i b g }
+steady layout = record { begins = λ made i call b y m g. begin_scanned layout made i call y m g; steps = λ made i b y g. step_scanned layout made i b g }
 
 first_scanned : (layout : Layout) → is_valid layout ≡ true → Scanned layout (first_made layout)
 first_scanned layout d = record {

@@ -10,7 +10,7 @@ use Rattle.wfe_core.specs.defs.declared.event.Guard.{Guard}
 use Rattle.wfe_core.specs.defs.declared.event.Guard.TheVariants.{Helper, Index, Whole}
 use Rattle.wfe_core.specs.defs.declared.event.Root.{Root}
 use Rattle.wfe_core.specs.declared.post.Post.{Post}
-use Rattle.wfe_core.specs.Calls.{ReadGuard, GiveBack, Phase, Idle, Runs, Scans, Works, LoadVersion, LoadNumber, LoadTail, FindVersion, Work, Getting, Changing, Enqueuing, Dequeuing, Why}
+use Rattle.wfe_core.specs.Calls.{ReadGuard, GiveBack, Phase, Idle, Runs, Scans, Works, LoadVersion, LoadNumber, LoadTail, FindVersion, Work, Getting, Changing, Enqueuing, Dequeuing, Why, Keeping, Loosens, LoadHeld, StoreHeld, Looks, Misses}
 use Rattle.wfe_core.specs.Guards.{guard_place, eras_in, one_era, from_to}
 use Rattle.wfe_core.specs.Machine as machine
 use Rattle.wfe_core.specs.Memory as memory
@@ -23,7 +23,7 @@ use Rattle.wfe_core.specs.Phases.AllocateAt.{LoadBirth}
 use Rattle.wfe_core.specs.Phases.RetireAt.{LoadLife}
 use Rattle.wfe_core.specs.Phases.MoveAt.{ShowEra, HandOver, HideEra, HideLate}
 use Rattle.wfe_core.specs.Phases.Base.{Begin, Protect, Clear, Finish, Release, Allocate, Retire}
-use Rattle.wfe_core.specs.Posts.{stands, cleared, counted, lower, upper, tag_of, reserves_helper}
+use Rattle.wfe_core.specs.Posts.{stands, cleared, counted, lower, upper, tag_of, reserves_helper, index_word}
 use Rattle.wfe_core.specs.Steps.{phase_move, work_move}
 use Rattle.inv_all.proofs.ends.Told.Rows.{own_told, step_filter}
 use Rattle.laws.proofs.Along.{along, along_kind}
@@ -38,11 +38,15 @@ use Rattle.wfe_core.specs.defs.declared.lifetime.Interval.{Interval}
 use Rattle.wfe_core.specs.World.{World, start, step, finds, told_in}
 use Rattle.inv_all.specs.covers.Covers.{eras_shown}
 use Rattle.inv_all.specs.shapes.Eras.{PhaseEras, SpanIn, base_eras, begin_eras, protect_eras, move_eras}
-use Rattle.wfe_core.specs.words.Schemes.{is_ibr}
+use Rattle.wfe_core.specs.words.Schemes.{is_ibr, has_one_interval}
 use Rattle.inv_all.specs.shapes.Seats.{PhaseFits, Run}
 use Rattle.inv_all.specs.history.Record.{Past, tells_of}
 use Rattle.inv_all.specs.history.Record.Past.{Then}
 use Rattle.inv_all.proofs.ends.Told.Turns.{is_later}
+use Rattle.inv_all.proofs.history.Passes.{copied_told, work_told}
+use Rattle.wfe_core.specs.Rounds.{let_index, scheme_of}
+use Rattle.inv_all.specs.shapes.Frame.{WorkFits, stores_held}
+use Rattle.std.proofs.lemmas.List.Elements.{filter-append}
 
 -- the events of guards
 abbrev pub is_guard : Event → Bool
@@ -126,7 +130,7 @@ base_shows guard mem (Protect aim index root steps at) post h = protect_shows gu
 base_shows guard mem (Clear index) post h =
     put_published guard (Index post.seat index) mem _ (one_era 0) _ (era_shown 0 (tag_of post index) h) (cleared_one index (stands post index) (events.Reserve (Index post.seat index) (one_era 0)) refl)
 base_shows guard mem Finish post h = put_published guard (Whole post.seat) mem 0 None _ (nothing_shown (Whole post.seat)) refl
-base_shows guard mem Release post h = put_published guard (Whole post.seat) mem 0 None _ (nothing_shown (Whole post.seat)) (cleared_one 2 (stands post 2) (events.Reserve (Whole post.seat) None) refl)
+base_shows guard mem (Release index) post h = put_published guard (Whole post.seat) mem 0 None _ (nothing_shown (Whole post.seat)) (cleared_one index (stands post index) (events.Reserve (Whole post.seat) None) refl)
 base_shows guard mem (Allocate LoadBirth) post h = refl
 base_shows guard mem (Allocate at) post h = bare_shows guard mem (Allocate at) post refl refl
 base_shows guard mem (Retire (LoadLife slot)) post h = refl
@@ -134,19 +138,81 @@ base_shows guard mem (Retire at) post h = bare_shows guard mem (Retire at) post 
 base_shows guard mem (Base.Move at) post h = move_shows guard mem at post h
 base_shows guard mem base post h = bare_shows guard mem base post refl refl
 
--- a call's own steps write no guard's word
-work_leaves : (work : Work) (post : Post) → leaves (work_move work post) ≡ true
-work_leaves (Getting key (FindVersion slot)) post = refl
-work_leaves (Getting key at) post = refl
-work_leaves (Changing kept (LoadVersion slot)) post = refl
-work_leaves (Changing kept at) post = refl
-work_leaves (Enqueuing kept LoadNumber) post = refl
-work_leaves (Enqueuing kept at) post = refl
-work_leaves (Dequeuing (LoadTail head)) post = refl
-work_leaves (Dequeuing at) post = refl
+-- what the second step of a copy takes: a row to copy, and a tag of 32 bits
+pub record StoreWords (from index : ℕ) (post : Post) : Type 0 where
+  pub kept : is_some (stands post from) ≡ true
+  pub tag : tag_of post index < 4294967296
+
+abbrev pub WorkWords : Work → Post → Type 0
+WorkWords (Keeping (StoreHeld from index era)) post = StoreWords from index post
+WorkWords work post = Unit {0}
+
+copied_one : (from index : ℕ) (post : Post) (x : Option ℕ) (event : Event) → is_some x ≡ true → is_guard event ≡ true → of_guards (copied_told from index post (event ∷ []) x) ≡ event ∷ []
+copied_one from index post None event k h = absurd (cc)
+copied_one from index post (Some slot) event k h =
+    filter-append is_guard (cleared index (stands post index) ++ event ∷ []) (events.Copied from index slot ∷ []) ∙ rw (cleared_one index (stands post index) event h) refl
+
+cleared_none : (index : ℕ) (x : Option ℕ) → of_guards (cleared index x) ≡ []
+cleared_none index None = refl
+cleared_none index (Some slot) = refl
+
+copied_none : (from index : ℕ) (post : Post) (x : Option ℕ) → of_guards (copied_told from index post [] x) ≡ []
+copied_none from index post None = refl
+copied_none from index post (Some slot) =
+    filter-append is_guard (cleared index (stands post index) ++ []) (events.Copied from index slot ∷ []) ∙ rw (filter-append is_guard (cleared index (stands post index)) [], cleared_none index (stands post index)) refl
+
+load_none : (from index : ℕ) (post : Post) (one : Bool) → of_guards (if one then copied_told from index post [] (stands post from) else []) ≡ []
+load_none from index post true = copied_none from index post (stands post from)
+load_none from index post false = refl
+
+-- a call's own steps write no guard's word, but for the second step of a copy
+work_leaves : (work : Work) (post : Post) → stores_held work ≡ false → leaves (work_move work post) ≡ true
+work_leaves (Getting key (FindVersion slot)) post n = refl
+work_leaves (Getting key at) post n = refl
+work_leaves (Changing kept (LoadVersion slot)) post n = refl
+work_leaves (Changing kept at) post n = refl
+work_leaves (Enqueuing kept LoadNumber) post n = refl
+work_leaves (Enqueuing kept at) post n = refl
+work_leaves (Dequeuing (LoadTail head)) post n = refl
+work_leaves (Dequeuing at) post n = refl
+work_leaves (Keeping (StoreHeld from index era)) post n = absurd (cc)
+work_leaves (Keeping (Looks index key (FindVersion slot))) post n = refl
+work_leaves (Keeping (Looks index key at)) post n = refl
+work_leaves (Keeping at) post n = refl
+
+work_quiet : (work : Work) (post : Post) → stores_held work ≡ false → of_guards (work_told work post) ≡ []
+work_quiet (Keeping (Loosens let_go)) post n = cleared_none (let_index let_go) (stands post (let_index let_go))
+work_quiet (Keeping (LoadHeld from index)) post n = load_none from index post (has_one_interval (scheme_of post))
+work_quiet (Keeping (StoreHeld from index era)) post n = absurd (cc)
+work_quiet (Keeping (Looks index key at)) post n = refl
+work_quiet (Keeping (Misses index)) post n = refl
+work_quiet (Getting key at) post n = refl
+work_quiet (Changing kept at) post n = refl
+work_quiet (Enqueuing kept at) post n = refl
+work_quiet (Dequeuing at) post n = refl
+
+abbrev WorkShows : Guard → (Place → ℕ) → Work → Post → Type 0
+WorkShows guard mem work post = Publishes guard mem (work_move work post) (of_guards (work_told work (counted post)))
+
+plain_shows : (guard : Guard) (mem : Place → ℕ) (work : Work) (post : Post) → stores_held work ≡ false → WorkShows guard mem work post
+plain_shows guard mem work post n = none_published guard mem (work_move work post) (of_guards (work_told work (counted post))) (work_leaves work post n) (work_quiet work (counted post) n)
+
+work_shows : (guard : Guard) (mem : Place → ℕ) (work : Work) (post : Post) → WorkWords work post → WorkShows guard mem work post
+work_shows guard mem (Keeping (StoreHeld from index era)) post h =
+    put_published guard (Index post.seat index) mem (index_word post index era) (one_era era) (of_guards (work_told (Keeping (StoreHeld from index era)) (counted post))) (era_shown era (tag_of post index) h.tag)
+    (copied_one from index (counted post) (stands post from) (events.Reserve (Index post.seat index) (one_era era)) h.kept refl)
+work_shows guard mem (Keeping (Loosens let_go)) post h = plain_shows guard mem (Keeping (Loosens let_go)) post refl
+work_shows guard mem (Keeping (LoadHeld from index)) post h = plain_shows guard mem (Keeping (LoadHeld from index)) post refl
+work_shows guard mem (Keeping (Looks index key at)) post h = plain_shows guard mem (Keeping (Looks index key at)) post refl
+work_shows guard mem (Keeping (Misses index)) post h = plain_shows guard mem (Keeping (Misses index)) post refl
+work_shows guard mem (Getting key at) post h = plain_shows guard mem (Getting key at) post refl
+work_shows guard mem (Changing kept at) post h = plain_shows guard mem (Changing kept at) post refl
+work_shows guard mem (Enqueuing kept at) post h = plain_shows guard mem (Enqueuing kept at) post refl
+work_shows guard mem (Dequeuing at) post h = plain_shows guard mem (Dequeuing at) post refl
 
 abbrev pub PhaseWords : Phase → Post → Type 0
 PhaseWords (Runs why base) post = BaseWords base post
+PhaseWords (Works work) post = WorkWords work post
 PhaseWords phase post = Unit {0}
 
 -- what a step tells of guards is what it makes them publish
@@ -155,7 +221,7 @@ phase_shows guard mem Idle post h = refl
 phase_shows guard mem (Runs why base) post h = base_shows guard mem base post h
 phase_shows guard mem (Scans later (ReadGuard number)) post h = refl
 phase_shows guard mem (Scans later (GiveBack place slot)) post h = none_published guard mem (machine.free_move slot) _ refl refl
-phase_shows guard mem (Works work) post h = none_published guard mem (work_move work post) _ (work_leaves work post) refl
+phase_shows guard mem (Works work) post h = work_shows guard mem work post h
 
 -- what a step's machine takes of the eras and tags
 raise_words : (x : Option Interval) (era clock : ℕ) → SpanIn clock x → is_some x ≡ true → upper x ≤ era → era ≤ clock → clock < 4294967296 → (0 < lower x) × (lower x ≤ era) × (era < 4294967296)
@@ -187,11 +253,15 @@ base_words layout clock why (Clear index) post t c s l r e = let a = t index in 
 base_words layout clock why (Base.Move at) post t c s l r e = move_words layout clock at post e
 base_words layout clock why base post t c s l r e = tt
 
+work_words : (work : Work) (post : Post) → ((j : ℕ) → tag_of post j < 4294967295) → WorkFits post work → WorkWords work post
+work_words (Keeping (StoreHeld from index era)) post t r = let a = t index in record { kept = r.kept; tag = omega arith }
+work_words work post t r = tt
+
 pub phase_words : (layout : Layout) (clock : ℕ) (phase : Phase) (post : Post) → ((j : ℕ) → tag_of post j < 4294967295) → clock < 4294967296 → SpanIn clock post.span → post.layout ≡ layout → PhaseFits layout post phase → PhaseEras layout clock post phase → PhaseWords phase post
 phase_words layout clock Idle post t c s l r e = tt
 phase_words layout clock (Runs why base) post t c s l r e = base_words layout clock why base post t c s l r e
 phase_words layout clock (Scans later at) post t c s l r e = tt
-phase_words layout clock (Works work) post t c s l r e = tt
+phase_words layout clock (Works work) post t c s l r e = work_words work post t r
 
 -- what the record says after a step
 later_guards : (event : Event) → is_later event ≡ true → is_guard event ≡ false

@@ -12,7 +12,7 @@ use Rattle.wfe_core.specs.declared.post.Post.{Post}
 use Rattle.wfe_core.specs.Calls.{AfterScan, ScanAt, ReadGuard, GiveBack, Phase, Idle, Runs, Scans, Works, CallTurn, CallOutcome, GoesOn, Answers}
 use Rattle.wfe_core.specs.Desks.{Desk}
 use Rattle.wfe_core.specs.Guards.{guard_at, guard_place, eras_in}
-use Rattle.wfe_core.specs.Locals.{told_by, told_end}
+use Rattle.wfe_core.specs.Locals.{told_by, told_end, may_begin}
 use Rattle.wfe_core.specs.Memory.{found, place_in}
 use Rattle.wfe_core.specs.Posts.{counted}
 use Rattle.wfe_core.specs.Scan.{scan_turn}
@@ -95,8 +95,8 @@ words_of layout made i b =
     let n : ErasNeeds w i = eras_need w i b.rows b.asked k.valid k.seats k.whole.both.rows k.requests in
     phase_words w.layout (w.mem Place.Clock) (w.seat i).phase (w.seat i).post n.tags (clock_small w k.valid k.eras) (k.eras.seats i).post.span (k.seats.fits i).post.layout (k.seats.fits i).phase (k.eras.seats i).phase
 
-begin_read : (layout : Layout) (made : Made) (i : ℕ) (call : Call) → is_busy made.world i ≡ false → Read layout made → Read layout (done made (Begins i call))
-begin_read layout made i call f g = record { base = begin_keeps layout made i call f g.base; shows = g.shows; law = (refl, g.law) }
+begin_read : (layout : Layout) (made : Made) (i : ℕ) (call : Call) → is_busy made.world i ≡ false → may_begin made.world.layout.config call ≡ true → Read layout made → Read layout (done made (Begins i call))
+begin_read layout made i call f m g = record { base = begin_keeps layout made i call f m g.base; shows = g.shows; law = (refl, g.law) }
 
 step_read : (layout : Layout) (made : Made) (i : ℕ) → i < made.world.layout.config.seats → Read layout made → Read layout (done made (Steps i))
 step_read layout made i b g = record {
@@ -106,7 +106,7 @@ step_read layout made i b g = record {
 }
 
 steady : (layout : Layout) → Steady (Read layout)
-steady layout = record { begins = λ made i call b y g. begin_read layout made i call y g; steps = λ made i b y g. step_read layout made i b g }
+steady layout = record { begins = λ made i call b y m g. begin_read layout made i call y m g; steps = λ made i b y g. step_read layout made i b g }
 
 pub records_read_guards : RecordsReadGuards
 records_read_guards layout items d =

@@ -25,6 +25,7 @@ use Rattle.inv_all.specs.rows.Chain.{first_line, line_after}
 use Rattle.inv_all.specs.rows.Queue.{Line}
 use Rattle.inv_all.specs.rows.Rows.{Status, View, is_settled, is_taken, retire_in}
 use Rattle.inv_all.specs.rows.Rows.Status.{Free, Claimed, Born, Linked, InQueue, Cut, Sealed, Listed}
+use Rattle.inv_all.specs.shapes.Slots.{PhaseIn}
 use Rattle.inv_all.specs.covers.Covers.{eras_shown, shown, retired_at, life_of}
 use Rattle.inv_all.proofs.covers.Kept.{before_at}
 use Rattle.inv_all.specs.history.Record.{Past, tells_of}
@@ -53,6 +54,7 @@ use Rattle.law_reuse.proofs.Holding.Lives.{retire_tells, retire_quiet, birth_tel
 use Rattle.law_reuse.proofs.Holding.Values.{Ranges}
 use Rattle.law_reuse.proofs.Blocks.Reserves.{PhaseWords, phase_words, step_shown, start_shown}
 use Rattle.inv_all.proofs.handover.Asks.{run_of}
+use Rattle.wfe_core.specs.Locals.{may_begin}
 
 -- what a record says of guards and lives is so
 pub record Tied (w : World) (v : View) (p : Past) (births : ℕ → ℕ) : Type 0 where
@@ -90,6 +92,7 @@ ranges_of w i v l z why base k e = record {
   tags = (eras_need w i v z k.valid k.seats k.whole.both.rows k.requests).tags;
   why = why;
   run = run_of w i why base k.seats e;
+  within = (subst (PhaseIn w.layout (w.seat i).desk) e (k.slots.seats i).phase).0;
   table = (k.seats.fits i).post.layout;
   span = (k.eras.seats i).post.span;
   eras = eras_of w i why base k.eras e;
@@ -125,8 +128,8 @@ pub record Held (layout : Layout) (made : Made) : Type 0 where
   pub births : ℕ → ℕ
   pub tied : Tied made.world rows made.past births
 
-pub begin_held : (layout : Layout) (made : Made) (i : ℕ) (call : Call) → is_busy made.world i ≡ false → Held layout made → Held layout (done made (Begins i call))
-begin_held layout made i call f g =
+pub begin_held : (layout : Layout) (made : Made) (i : ℕ) (call : Call) → is_busy made.world i ≡ false → may_begin made.world.layout.config call ≡ true → Held layout made → Held layout (done made (Begins i call))
+begin_held layout made i call f m g =
     let k = g.known in
     let q = requests_begin made.world i call g.asked k.valid f k.seats k.requests in
     record {
@@ -134,7 +137,7 @@ begin_held layout made i call f g =
       rows = g.rows;
       line = g.line;
       asked = q.0;
-      known = known_begin made.world i call g.rows g.line g.asked q.0 f k q.1.facts q.1.deal;
+      known = known_begin made.world i call g.rows g.line g.asked q.0 f m k q.1.facts q.1.deal;
       births = g.births;
       tied = record {
         values = g.tied.values;
@@ -160,7 +163,7 @@ step_held layout made i b g =
     }
 
 steady : (layout : Layout) → Steady (Held layout)
-steady layout = record { begins = λ made i call b y g. begin_held layout made i call y g; steps = λ made i b y g. step_held layout made i b g }
+steady layout = record { begins = λ made i call b y m g. begin_held layout made i call y m g; steps = λ made i b y g. step_held layout made i b g }
 
 pub first_held : (layout : Layout) → is_valid layout ≡ true → Held layout (first_made layout)
 first_held layout d =

@@ -7,12 +7,14 @@ use Rattle.wfe_core.specs.Phases.{Base}
 use Rattle.wfe_core.specs.Posts.{tag_of}
 use Rattle.inv_all.specs.shapes.Seats.{Run}
 use Rattle.inv_all.specs.shapes.Eras.{SpanIn, base_eras}
+use Rattle.inv_all.specs.shapes.Slots.{WhyIn}
 
 pub record Ranges (layout : Layout) (clock : ℕ) (post : Post) (base : Base) : Type 0 where
   pub small : clock < 4294967296
   pub tags : (index : ℕ) → tag_of post index < 4294967295
   pub why : Why
   pub run : Run layout why base post
+  pub within : WhyIn layout.config why
   pub table : post.layout ≡ layout
   pub span : SpanIn clock post.span
   pub eras : base_eras layout clock post base

@@ -34,6 +34,7 @@ use Rattle.laws.specs.HistoryEras.{birth_ok}
 use Rattle.law_reuse.specs.Records.{RecordsKeepBirths}
 use Rattle.laws.proofs.Along.{Single, OfKind, single_each}
 use Rattle.law_reuse.proofs.Holding.Holds.{given_need}
+use Rattle.wfe_core.specs.Locals.{may_begin}
 
 -- what is told of births
 one_born : (event : Event) (given : ℕ → ℕ) (s : ℕ) (x : ℕ) → x ≡ given s → born_by s event x ≡ given_by event given s
@@ -93,15 +94,15 @@ record BirthsKept (layout : Layout) (made : Made) : Type 0 where
   given : Given made.world rows (λ s. birth_of s made.past)
   law : Each birth_ok made.past
 
-begin_births : (layout : Layout) (made : Made) (i : ℕ) (call : Call) → is_busy made.world i ≡ false → BirthsKept layout made → BirthsKept layout (done made (Begins i call))
-begin_births layout made i call f g =
+begin_births : (layout : Layout) (made : Made) (i : ℕ) (call : Call) → is_busy made.world i ≡ false → may_begin made.world.layout.config call ≡ true → BirthsKept layout made → BirthsKept layout (done made (Begins i call))
+begin_births layout made i call f m g =
     let k = g.known in
     let q = requests_begin made.world i call g.asked k.valid f k.seats k.requests in
     record {
       rows = g.rows;
       line = g.line;
       asked = q.0;
-      known = known_begin made.world i call g.rows g.line g.asked q.0 f k q.1.facts q.1.deal;
+      known = known_begin made.world i call g.rows g.line g.asked q.0 f m k q.1.facts q.1.deal;
       given = given_begin made.world i call g.rows (λ s. birth_of s made.past) k.valid k.seats g.given;
       law = (refl, g.law);
     }
@@ -126,7 +127,7 @@ step_births layout made i b g =
     }
 
 steady : (layout : Layout) → Steady (BirthsKept layout)
-steady layout = record { begins = λ made i call b y g. begin_births layout made i call y g; steps = λ made i b y g. step_births layout made i b g }
+steady layout = record { begins = λ made i call b y m g. begin_births layout made i call y m g; steps = λ made i b y g. step_births layout made i b g }
 
 first_births : (layout : Layout) → is_valid layout ≡ true → BirthsKept layout (first_made layout)
 first_births layout d =

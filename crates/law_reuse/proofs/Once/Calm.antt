@@ -28,7 +28,7 @@ use Rattle.wfe_core.specs.SlowPath.{own_request, asking}
 use Rattle.wfe_core.specs.WriteRow.{last_written}
 use Rattle.std.specs.Prelude.{◌==◌, if◌then◌else◌}
 use Rattle.inv_all.proofs.history.AllOf.{all_of, of_weaker}
-use Rattle.inv_all.proofs.history.MayTell.{Tells, base_all, Passes, step_all}
+use Rattle.inv_all.proofs.history.MayTell.{Tells, base_all, Passes, step_all, work_all}
 
 -- no guard is read, and no row goes back
 abbrev pub is_unread : Event → Bool
@@ -66,7 +66,7 @@ pub run_calm : (why : Why) (base : Base) (post : Post) (desk : Desk) (found : �
 run_calm why base post desk found = step_all is_calm passes (Runs why base) post desk found (base_all is_calm base post found (tells_calm base post found))
 
 pub work_calm : (work : Work) (post : Post) (desk : Desk) (found : ℕ) → All (told_by (steps.phase_turn (Works work) post desk found))
-work_calm work post desk found = step_all is_calm passes (Works work) post desk found refl
+work_calm work post desk found = step_all is_calm passes (Works work) post desk found (work_all is_calm (λ index slot. refl) (λ from index slot. refl) (λ seat index era. refl) work post)
 
 calm_unread : (event : Event) → is_calm event ≡ true → is_unread event ≡ true
 calm_unread (events.Read guard span) h = absurd (cc)

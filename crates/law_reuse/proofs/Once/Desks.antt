@@ -16,14 +16,16 @@ use Rattle.wfe_core.specs.declared.post.Post.{Post}
 use Rattle.wfe_core.specs.Desks.{Desk, with_life}
 use Rattle.wfe_core.specs.Phases.{Base, Ending, Outcome, Goes, Ends}
 use Rattle.wfe_core.specs.Phases.Ending.{Protected, Followed, Allocated, Retired, Clocked}
-use Rattle.wfe_core.specs.Calls.{ChangeKept, EnqueueKept, Task, Gets, Changes, Holds, Enqueues, Dequeues, Next, Again, MakeRoom, Answering, Retiring, AfterScan, Why, Opens, FollowsHead, Fills, ClearsNext, Clears, Finishes, GivesUp, Retires, Tidies, Advances, Releases, GetAt, FindVersion, FindCount, FindKey, FindValue, ChangeAt, LoadVersion, LoadCount, LoadKey, LoadValue, ExchangeRoot, EnqueueAt, LoadNumber, LoadNext, PassTail, ExchangeNext, ExchangeTail, DequeueAt, SwingTail, ExchangeHead, Work, Getting, Changing, Enqueuing, Dequeuing}
-use Rattle.wfe_core.specs.Rounds.{scheme_of, clear_post, closed, finishing_by, finishing, clearing_by, clearing, clearing_next_by, clearing_next, given_up}
+use Rattle.wfe_core.specs.Calls.{ChangeKept, EnqueueKept, Task, Gets, Changes, Holds, Enqueues, Dequeues, Next, Again, MakeRoom, Answering, Retiring, AfterScan, Why, Opens, FollowsHead, Fills, ClearsNext, Clears, Finishes, GivesUp, Retires, Tidies, Advances, Releases, GetAt, FindVersion, FindCount, FindKey, FindValue, ChangeAt, LoadVersion, LoadCount, LoadKey, LoadValue, ExchangeRoot, EnqueueAt, LoadNumber, LoadNext, PassTail, ExchangeNext, ExchangeTail, DequeueAt, SwingTail, ExchangeHead, Work, Getting, Changing, Enqueuing, Dequeuing, LetGo, Released, Rehold, Dropped, KeepAt, Loosens, LoadHeld, StoreHeld, Looks, Misses, Keeping}
+use Rattle.wfe_core.specs.Rounds.{scheme_of, clear_post, closed, finishing_by, finishing, clearing_by, clearing, clearing_next_by, clearing_next, given_up, let_index}
 use Rattle.wfe_core.specs.Rounds as rounds
 use Rattle.wfe_core.specs.Get.{got, finding, found_key, get_turn}
 use Rattle.wfe_core.specs.Change.{with_read, answer_done, told_linked, at_link, with_walked, no_room, deciding_by, deciding, reading, exchanged, change_turn}
 use Rattle.wfe_core.specs.Enqueue.{told_link, item_walked, appending, at_next, appended, enqueue_turn}
 use Rattle.wfe_core.specs.Dequeue.{followed_row, followed, taken, dequeue_turn}
-use Rattle.wfe_core.specs.Steps.{opened_row, opened_null, opened, filled_by, written_row, filled, followed_by, tidying, retired_by, tidied, advanced, released, resume, resumed, work_turn}
+use Rattle.wfe_core.specs.Steps.{opened_row, opened_null, opened, filled_by, written_row, filled, followed_by, tidying, retired_by, tidied, advanced, resume, resumed, work_turn}
+use Rattle.wfe_core.specs.Posts.{withdrawn}
+use Rattle.wfe_core.specs.Keep.{copied, load_held, looking, looked_key, look_turn, keep_turn, released}
 
 given_up_desk : (answer : Answer) (post : Post) (desk : Desk) (told : List Event) (o : Option ℕ) → (given_up answer post desk told o).desk ≡ desk
 given_up_desk answer post desk told None = refl
@@ -148,11 +150,46 @@ dequeue_desk (SwingTail head next) post desk found =
 dequeue_desk (ExchangeHead head next number value) post desk found = taken_desk head next number value post desk _
 dequeue_desk at post desk found = refl
 
+released_desk : (let_go : LetGo) (post : Post) (desk : Desk) (told : List Event) → (released let_go post desk told).desk ≡ desk
+released_desk Released post desk told = refl
+released_desk (Rehold key) post desk told = refl
+released_desk (Dropped index) post desk told = refl
+
+copied_desk : (from index : ℕ) (post : Post) (desk : Desk) (reserved : List Event) (o : Option ℕ) → (copied from index post desk reserved o).desk ≡ desk
+copied_desk from index post desk reserved None = refl
+copied_desk from index post desk reserved (Some slot) = refl
+
+load_held_desk : (from index : ℕ) (post : Post) (desk : Desk) (found : ℕ) (one : Bool) → (load_held from index post desk found one).desk ≡ desk
+load_held_desk from index post desk found true = copied_desk from index post desk [] _
+load_held_desk from index post desk found false = refl
+
+looking_desk : (index key slot version count : ℕ) (post : Post) (desk : Desk) (more : Bool) (pair : ℕ) → (looking index key slot version count post desk more pair).desk ≡ desk
+looking_desk index key slot version count post desk true pair = refl
+looking_desk index key slot version count post desk false pair = refl
+
+looked_key_desk : (index key slot version count pair : ℕ) (post : Post) (desk : Desk) (own : Bool) → (looked_key index key slot version count pair post desk own).desk ≡ desk
+looked_key_desk index key slot version count pair post desk true = refl
+looked_key_desk index key slot version count pair post desk false = looking_desk index key slot version count post desk _ _
+
+look_desk : (index key : ℕ) (at : GetAt) (post : Post) (desk : Desk) (found : ℕ) → (look_turn index key at post desk found).desk ≡ desk
+look_desk index key (FindVersion slot) post desk found = refl
+look_desk index key (FindCount slot version) post desk found = looking_desk index key slot version found post desk _ 0
+look_desk index key (FindKey slot version count pair) post desk found = looked_key_desk index key slot version count pair post desk _
+look_desk index key (FindValue slot version pair) post desk found = refl
+
+keep_desk : (at : KeepAt) (post : Post) (desk : Desk) (found : ℕ) → (keep_turn at post desk found).desk ≡ desk
+keep_desk (Loosens let_go) post desk found = released_desk let_go (withdrawn post (let_index let_go)) desk _
+keep_desk (LoadHeld from index) post desk found = load_held_desk from index post desk found _
+keep_desk (StoreHeld from index era) post desk found = copied_desk from index post desk _ _
+keep_desk (Looks index key at) post desk found = look_desk index key at post desk found
+keep_desk (Misses index) post desk found = refl
+
 pub work_desk : (work : Work) (post : Post) (desk : Desk) (found : ℕ) → (work_turn work post desk found).desk ≡ desk
 work_desk (Getting key at) post desk found = get_desk key at post desk found
 work_desk (Changing kept at) post desk found = change_desk kept at post desk found
 work_desk (Enqueuing kept at) post desk found = enqueue_desk kept at post desk found
 work_desk (Dequeuing at) post desk found = dequeue_desk at post desk found
+work_desk (Keeping at) post desk found = keep_desk at post desk found
 
 opened_row_desk : (task : Task) (slot : ℕ) (post : Post) (desk : Desk) (told : List Event) → (opened_row task slot post desk told).desk ≡ desk
 opened_row_desk (Gets key) slot post desk told = refl
@@ -220,10 +257,6 @@ advanced_desk : (ending : Ending) (post : Post) (desk : Desk) (told : List Event
 advanced_desk (Clocked clock) post desk told = refl
 advanced_desk ending post desk told = refl
 
-released_desk : (key : Option ℕ) (post : Post) (desk : Desk) (told : List Event) → (released key post desk told).desk ≡ desk
-released_desk None post desk told = refl
-released_desk (Some key) post desk told = refl
-
 resume_desk : (why : Why) (ending : Ending) (post : Post) (desk : Desk) (told : List Event) → (resume why ending post desk told).desk ≡ left_desk why ending desk
 resume_desk (Opens task) ending post desk told = opened_desk task ending post desk told
 resume_desk (FollowsHead head tail) ending post desk told = followed_by_desk head tail ending post desk told
@@ -235,7 +268,7 @@ resume_desk (GivesUp answer) ending post desk told = refl
 resume_desk (Retires answer) ending post desk told = retired_desk answer ending post desk told
 resume_desk (Tidies later) ending post desk told = tidied_desk later ending post desk told
 resume_desk Advances ending post desk told = advanced_desk ending post desk told
-resume_desk (Releases key) ending post desk told = released_desk key post desk told
+resume_desk (Releases let_go) ending post desk told = released_desk let_go post desk told
 
 abbrev pub left_at : Why → Outcome → Desk → Desk
 left_at why (Goes base) desk = desk

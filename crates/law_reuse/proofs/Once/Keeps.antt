@@ -12,7 +12,7 @@ use Rattle.wfe_core.specs.defs.declared.lifetime.Lifetime.{Lifetime}
 use Rattle.wfe_core.specs.declared.post.Post.{Post}
 use Rattle.wfe_core.specs.Calls.{CallTurn, CallOutcome, GoesOn, Answers}
 use Rattle.wfe_core.specs.Desks.{Desk, noting}
-use Rattle.wfe_core.specs.Locals.{Local, after, settled_by, rounds_told, told_by, turn}
+use Rattle.wfe_core.specs.Locals.{Local, after, settled_by, rounds_told, told_by, turn, may_begin}
 use Rattle.wfe_core.specs.Posts.{counted}
 use Rattle.wfe_core.specs.World.{World, start, begin, step, finds, is_busy, told_in}
 use Rattle.wfe_core.proofs.Facts.{both, same_number}
@@ -261,8 +261,8 @@ step_back w i v p n h t =
     let s : Single back_ok p i (row_events b (move_of w i)) = back_move w i b v p (move_of w i) (before_at w i v n) h in
     single_each is_of_rows back_ok back_kind i (told_in w i) p (subst (λ (es : List Event). Single back_ok p i es) (sym (rows_told w i)) s) t
 
-pub begin_keeps : (layout : Layout) (made : Made) (i : ℕ) (call : Call) → is_busy made.world i ≡ false → Keeps layout made → Keeps layout (done made (Begins i call))
-begin_keeps layout made i call f g =
+pub begin_keeps : (layout : Layout) (made : Made) (i : ℕ) (call : Call) → is_busy made.world i ≡ false → may_begin made.world.layout.config call ≡ true → Keeps layout made → Keeps layout (done made (Begins i call))
+begin_keeps layout made i call f m g =
     let k = g.known in
     let q = requests_begin made.world i call g.asked k.valid f k.seats k.requests in
     record {
@@ -270,7 +270,7 @@ begin_keeps layout made i call f g =
       rows = g.rows;
       line = g.line;
       asked = q.0;
-      known = known_begin made.world i call g.rows g.line g.asked q.0 f k q.1.facts q.1.deal;
+      known = known_begin made.world i call g.rows g.line g.asked q.0 f m k q.1.facts q.1.deal;
       shows = shows_begin made.world i call g.rows made.past g.shows;
       once = (refl, g.once);
       backs = (refl, g.backs);
@@ -293,7 +293,7 @@ step_keeps layout made i b g =
     }
 
 steady : (layout : Layout) → Steady (Keeps layout)
-steady layout = record { begins = λ made i call b y g. begin_keeps layout made i call y g; steps = λ made i b y g. step_keeps layout made i b g }
+steady layout = record { begins = λ made i call b y m g. begin_keeps layout made i call y m g; steps = λ made i b y g. step_keeps layout made i b g }
 
 pub first_keeps : (layout : Layout) → is_valid layout ≡ true → Keeps layout (first_made layout)
 first_keeps layout d =

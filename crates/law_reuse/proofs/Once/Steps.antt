@@ -14,7 +14,7 @@ use Rattle.wfe_core.specs.defs.declared.event.Root.TheVariants as roots
 use Rattle.wfe_core.specs.defs.declared.lifetime.Lifetime.{Lifetime}
 use Rattle.wfe_core.specs.declared.post.Post.{Post}
 use Rattle.wfe_core.specs.Allocate.{is_claimed}
-use Rattle.wfe_core.specs.Calls.{ChangeKept, Task, Changes, Dequeues, Next, Again, MakeRoom, Answering, Retiring, AfterScan, Answered, Repeated, Counted, Why, Fills, Retires, ReadGuard, GiveBack, LoadVersion, LoadCount, LoadKey, LoadValue, ExchangeRoot, LoadNumber, LoadNext, PassTail, ExchangeNext, ExchangeTail, LoadTail, SwingTail, TakeNumber, TakeValue, ExchangeHead, Work, Getting, Changing, Enqueuing, Dequeuing, Phase, Idle, Runs, Scans, Works, CallTurn}
+use Rattle.wfe_core.specs.Calls.{ChangeKept, Task, Changes, Dequeues, Next, Again, MakeRoom, Answering, Retiring, AfterScan, Answered, Repeated, Counted, Why, Fills, Retires, ReadGuard, GiveBack, LoadVersion, LoadCount, LoadKey, LoadValue, ExchangeRoot, LoadNumber, LoadNext, PassTail, ExchangeNext, ExchangeTail, LoadTail, SwingTail, TakeNumber, TakeValue, ExchangeHead, Work, Getting, Changing, Enqueuing, Dequeuing, Phase, Idle, Runs, Scans, Works, CallTurn, Keeping}
 use Rattle.wfe_core.specs.Change.{told_linked, told_change, changed_bucket, answer_done}
 use Rattle.wfe_core.specs.Desks.{Desk}
 use Rattle.wfe_core.specs.Guards.{guards, guard_at, eras_in, published}
@@ -96,6 +96,7 @@ work_list (Dequeuing (SwingTail head next)) post found list = refl
 work_list (Dequeuing (TakeNumber head next)) post found list = refl
 work_list (Dequeuing (TakeValue head next number)) post found list = refl
 work_list (Dequeuing (ExchangeHead head next number value)) post found list = pop_list head next (found == head + 1) list
+work_list (Keeping at) post found list = refl
 
 -- a scan
 scanned_list : (later : AfterScan) (post : Post) (desk : Desk) (told : List Event) → (scan.scanned later post desk told).desk ≡ desk
@@ -135,7 +136,7 @@ run_list why (Protect aim index root steps at) last post desk found h = calm_lis
 run_list why (Reload parent index slot era steps) last post desk found h = calm_list why (Reload parent index slot era steps) post desk found refl
 run_list why (Clear index) last post desk found h = calm_list why (Clear index) post desk found refl
 run_list why Finish last post desk found h = calm_list why Finish post desk found refl
-run_list why Release last post desk found h = calm_list why Release post desk found refl
+run_list why (Release index) last post desk found h = calm_list why (Release index) post desk found refl
 run_list why (Allocate at) last post desk found h = calm_list why (Allocate at) post desk found refl
 run_list why (Write slot row place) last post desk found h = calm_list why (Write slot row place) post desk found refl
 run_list why (GiveUp slot) last post desk found h = calm_list why (GiveUp slot) post desk found refl
@@ -237,6 +238,7 @@ work_has s (Dequeuing (SwingTail head next)) last post desk found h = absurd (cc
 work_has s (Dequeuing (TakeNumber head next)) last post desk found h = absurd (cc)
 work_has s (Dequeuing (TakeValue head next number)) last post desk found h = absurd (cc)
 work_has s (Dequeuing (ExchangeHead head next number value)) last post desk found h = pop_has s head next number value post desk found (found == head + 1) refl h
+work_has s (Keeping at) last post desk found h = absurd (cc)
 
 -- no machine cuts a row
 claim_cuts : (s slot : ℕ) (taken : Bool) → cuts (if taken then Stays else Claims slot) s ≡ true → false ≡ true

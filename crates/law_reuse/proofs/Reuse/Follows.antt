@@ -14,9 +14,9 @@ use Rattle.wfe_core.specs.Allocate as allocates
 use Rattle.wfe_core.specs.Machine as machine
 use Rattle.wfe_core.specs.Memory.{bump}
 use Rattle.wfe_core.specs.MoveClock as movers
-use Rattle.wfe_core.specs.Posts.{stands, cleared, reserves_helper, with_row, with_tag, withdrawn, tag_of, upper}
+use Rattle.wfe_core.specs.Posts.{stands, cleared, reserves_helper, with_row, with_tag, withdrawn, tag_of, upper, reserves_index}
 use Rattle.wfe_core.specs.Protect as protects
-use Rattle.wfe_core.specs.Rounds.{scheme_of, clear_post, clear_told}
+use Rattle.wfe_core.specs.Rounds.{scheme_of, clear_post, clear_told, let_index}
 use Rattle.wfe_core.specs.Phases.{Aim, Alone, Follows, BeginAt, ProtectAt, AllocateAt, RetireAt, MoveAt, Walk, Base, Turn, RowOf, Tries}
 use Rattle.wfe_core.specs.Phases.BeginAt.{LoadLower, PublishSpan}
 use Rattle.wfe_core.specs.Phases.ProtectAt.{CheckClock, CheckOwnClock, AnswerOwn, TakeAnswer, WithdrawHelper, CheckUpper}
@@ -27,13 +27,15 @@ use Rattle.wfe_core.specs.Phases.Base.{Begin, Protect, Reload, Clear, Finish, Re
 use Rattle.wfe_core.specs.WriteRow.{last_written, after_write}
 use Rattle.inv_all.specs.covers.Held.{index_base}
 use Rattle.laws.specs.StateAt.{stood_by}
-use Rattle.inv_all.proofs.history.Passes.{is_quiet, all_quiet, Closed}
+use Rattle.inv_all.proofs.history.Passes.{is_quiet, all_quiet, Closed, copied_post, copied_told, work_post, work_told}
 use Rattle.wfe_core.specs.SlowPath.{own_request, asking}
 use Rattle.wfe_core.specs.Follow.{after_reload}
 use Rattle.wfe_core.specs.defs.declared.event.Guard.TheVariants as the_guards
 use Rattle.wfe_core.specs.Guards.{one_era}
 use Rattle.wfe_core.proofs.Facts.{first_of, rest_of, number_is}
 use Rattle.wfe_core.proofs.Standing.{stands-withdrawn_same, stands-with_row_same, stands-withdrawn_other, stands-with_row_other}
+use Rattle.wfe_core.specs.Calls.{Work, Getting, Changing, Enqueuing, Dequeuing, Keeping, Loosens, LoadHeld, StoreHeld, Looks, Misses}
+use Rattle.wfe_core.specs.words.Schemes.{has_one_interval}
 
 -- what these events make of what stood
 abbrev pub stood : ℕ → List Event → Option ℕ → Option ℕ
@@ -46,6 +48,7 @@ stood_along j (event ∷ xs) ys x = stood_along j xs ys (stood_by j event x)
 
 quiet_by : (j : ℕ) (event : Event) (x : Option ℕ) → is_quiet event ≡ true → stood_by j event x ≡ x
 quiet_by j (events.Held index slot steps) x h = absurd (cc)
+quiet_by j (events.Copied from index slot) x h = absurd (cc)
 quiet_by j (events.Clear index slot) x h = absurd (cc)
 quiet_by j event x h = refl
 
@@ -222,9 +225,43 @@ base_follows post (Protect aim index root steps at) found h = protect_follows po
 base_follows post (Reload parent index slot era steps) found h = reload_follows post parent index slot (bump steps) found (found == parent + 1) refl h
 base_follows post (Clear index) found h = quiet_last post (withdrawn post index) (cleared index (stands post index)) (events.Reserve (the_guards.Index post.seat index) (one_era 0)) (λ j x. refl) (cleared_follows post index (stands post index) refl)
 base_follows post Finish found h = λ j. refl
-base_follows post Release found h = quiet_last post (withdrawn post 2) (cleared 2 (stands post 2)) (events.Reserve (the_guards.Whole post.seat) None) (λ j x. refl) (cleared_follows post 2 (stands post 2) refl)
+base_follows post (Release index) found h = quiet_last post (withdrawn post index) (cleared index (stands post index)) (events.Reserve (the_guards.Whole post.seat) None) (λ j x. refl) (cleared_follows post index (stands post index) refl)
 base_follows post (Allocate at) found h = allocate_follows post at found
 base_follows post (Write slot row place) found h = write_follows post slot row place (place == last_written row) refl
 base_follows post (GiveUp slot) found h = λ j. refl
 base_follows post (Retire at) found h = retire_follows post at found
 base_follows post (Move at) found h = move_follows post at found
+
+-- a row stands at another index too from the event Copied on, and what stood there stands no more
+over_stood : (post : Post) (index slot j : ℕ) (same : Bool) → (j == index) ≡ same → index < length post.standing → (if same then Some slot else stands (withdrawn post index) j) ≡ stands (with_row post index slot) j
+over_stood post index slot j true e h = row_stood post index slot 0 j true e h
+over_stood post index slot j false e h = stands-withdrawn_other post index j (other_index j index e) ∙ row_stood post index slot 0 j false e h
+
+copied_follows : (post : Post) (from index : ℕ) (reserved : List Event) (x : Option ℕ) → ((j : ℕ) (y : Option ℕ) → stood j reserved y ≡ y) → index < length post.standing → Follow post (copied_post index post x) (copied_told from index post reserved x)
+copied_follows post from index reserved None q h = λ j. refl
+copied_follows post from index reserved (Some slot) q h =
+    let gone : List Event = cleared index (stands post index) in
+    follow_on post (withdrawn post index) (with_row post index slot) (gone ++ reserved) (events.Copied from index slot ∷ [])
+    (λ j. stood_along j gone reserved (stands post j) ∙ q j (stood j gone (stands post j)) ∙ cleared_follows post index (stands post index) refl j)
+    (λ j. over_stood post index slot j (j == index) refl h)
+
+-- the index that a copy goes to
+abbrev pub copy_index : Work → ℕ
+copy_index (Keeping (LoadHeld from index)) = index
+copy_index (Keeping (StoreHeld from index era)) = index
+copy_index work = 0
+
+load_follows : (post : Post) (from index : ℕ) (one : Bool) → index < length post.standing → Follow post (if one then copied_post index post (stands post from) else post) (if one then copied_told from index post [] (stands post from) else [])
+load_follows post from index true h = copied_follows post from index [] (stands post from) (λ j y. refl) h
+load_follows post from index false h = λ j. refl
+
+pub work_follows : (post : Post) (work : Work) → copy_index work < length post.standing → Follow post (work_post work post) (work_told work post)
+work_follows post (Getting key at) h = λ j. refl
+work_follows post (Changing kept at) h = λ j. refl
+work_follows post (Enqueuing kept at) h = λ j. refl
+work_follows post (Dequeuing at) h = λ j. refl
+work_follows post (Keeping (Loosens let_go)) h = cleared_follows post (let_index let_go) (stands post (let_index let_go)) refl
+work_follows post (Keeping (LoadHeld from index)) h = load_follows post from index (has_one_interval (scheme_of post)) h
+work_follows post (Keeping (StoreHeld from index era)) h = copied_follows post from index (reserves_index post index era) (stands post from) (λ j y. refl) h
+work_follows post (Keeping (Looks index key at)) h = λ j. refl
+work_follows post (Keeping (Misses index)) h = λ j. refl

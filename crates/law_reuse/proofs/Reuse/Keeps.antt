@@ -8,11 +8,11 @@ use Rattle.wfe_core.specs.defs.declared.call.Call.{Call}
 use Rattle.wfe_core.specs.defs.declared.event.Event.{Event}
 use Rattle.wfe_core.specs.defs.declared.event.Event.TheVariants as events
 use Rattle.wfe_core.specs.declared.post.Post.{Post}
-use Rattle.wfe_core.specs.Locals.{Local}
+use Rattle.wfe_core.specs.Locals.{Local, may_begin}
 use Rattle.wfe_core.specs.Posts.{stands, counted}
 use Rattle.wfe_core.specs.Phases.{Base}
 use Rattle.wfe_core.specs.Phases.Base.{Begin, Protect, Reload, Clear, Finish, Release, Allocate, Write, GiveUp, Retire, Move}
-use Rattle.wfe_core.specs.Calls.{Why, ScanAt, ReadGuard, GiveBack, Phase, Idle, Runs, Scans, Works}
+use Rattle.wfe_core.specs.Calls.{Why, ScanAt, ReadGuard, GiveBack, Phase, Idle, Runs, Scans, Works, Work, Getting, Changing, Enqueuing, Dequeuing, Keeping, LoadHeld, StoreHeld}
 use Rattle.wfe_core.proofs.Ranges.{bounds_of}
 use Rattle.wfe_core.specs.World.{World, start, begin, step, finds, told_in, is_busy}
 use Rattle.wfe_core.proofs.Facts.{first_of, rest_of, and_false, not_of_false, below_length}
@@ -36,7 +36,7 @@ use Rattle.laws.proofs.Along.{row_of}
 use Rattle.law_reuse.specs.Reuse.{reuses}
 use Rattle.laws.specs.StateAt.{stood_by, stood_at, is_row}
 use Rattle.law_reuse.specs.Records.{RecordsKeepReuse, RecordStands}
-use Rattle.law_reuse.proofs.Reuse.Follows.{stood, Follow, base_follows, follow_closed}
+use Rattle.law_reuse.proofs.Reuse.Follows.{stood, Follow, base_follows, follow_closed, copy_index, work_follows}
 use Rattle.law_reuse.proofs.Reuse.Never.{no_reuse}
 use Rattle.inv_all.proofs.history.Passes.{First, scan_told, step_goes}
 use Rattle.law_reuse.proofs.Reuse.Told.{told_free}
@@ -44,28 +44,40 @@ use Rattle.law_reuse.proofs.Reuse.Unheld.{is_unheld, unheld, phase_holds_none, t
 use Rattle.inv_all.proofs.handover.Asks.{run_of}
 use Rattle.inv_all.proofs.covers.Held.{stepped_post}
 use Rattle.wfe_core.proofs.Lists.{or_left, or_right}
+use Rattle.inv_all.specs.shapes.Slots.{Slots, PhaseIn, WorkIn}
 
 -- a step leaves of what stands what it tells
 scan_follows : (post : Post) (at : ScanAt) (found : ℕ) → Follow post post (scan_told at post found)
 scan_follows post (ReadGuard number) found j = refl
 scan_follows post (GiveBack place slot) found j = refl
 
-first_follows : (phase : Phase) (post : Post) (found : ℕ) → ((why : Why) (base : Base) → phase ≡ Runs why base → index_base base < length post.standing) → First (Follow post) phase post found
-first_follows Idle post found h = λ j. refl
-first_follows (Runs why base) post found h = base_follows post base found (h why base refl)
-first_follows (Scans later at) post found h = scan_follows post at found
-first_follows (Works work) post found h = λ j. refl
+first_follows : (phase : Phase) (post : Post) (found : ℕ) → ((why : Why) (base : Base) → phase ≡ Runs why base → index_base base < length post.standing) → ((work : Work) → phase ≡ Works work → copy_index work < length post.standing) → First (Follow post) phase post found
+first_follows Idle post found h c = λ j. refl
+first_follows (Runs why base) post found h c = base_follows post base found (h why base refl)
+first_follows (Scans later at) post found h c = scan_follows post at found
+first_follows (Works work) post found h c = work_follows post work (c work refl)
 
-pub room_of : (w : World) (i : ℕ) (why : Why) (base : Base) → is_valid w.layout ≡ true → Seats w → (w.seat i).phase ≡ Runs why base → index_base base < length (w.seat i).post.standing
-room_of w i why base d s e =
+pub room_of : (w : World) (i : ℕ) (why : Why) (base : Base) → is_valid w.layout ≡ true → Seats w → Slots w → (w.seat i).phase ≡ Runs why base → index_base base < length (w.seat i).post.standing
+room_of w i why base d s t e =
     let m = (bounds_of w.layout d).indexes in
-    below_length (index_base base) w.layout.config.indexes (length (w.seat i).post.standing) (index_in w.layout why base (w.seat i).post d (run_of w i why base s e)) m.1 (s.fits i).post.standing
+    below_length (index_base base) w.layout.config.indexes (length (w.seat i).post.standing) (index_in w.layout why base (w.seat i).post d (subst (PhaseIn w.layout (w.seat i).desk) e (t.seats i).phase).0 (run_of w i why base s e)) m.1 (s.fits i).post.standing
+
+copy_in : (layout : Layout) (work : Work) → is_valid layout ≡ true → WorkIn layout.config work → copy_index work < layout.config.indexes
+copy_in layout (Keeping (LoadHeld from index)) d h = h.below
+copy_in layout (Keeping (StoreHeld from index era)) d h = h.below
+copy_in layout work d h = let m = (bounds_of layout d).indexes in omega (arith, m.0)
+
+copy_room : (w : World) (i : ℕ) (work : Work) → is_valid w.layout ≡ true → Seats w → Slots w → (w.seat i).phase ≡ Works work → copy_index work < length (w.seat i).post.standing
+copy_room w i work d s t e =
+    let m = (bounds_of w.layout d).indexes in
+    below_length (copy_index work) w.layout.config.indexes (length (w.seat i).post.standing)
+    (copy_in w.layout work d (subst (PhaseIn w.layout (w.seat i).desk) e (t.seats i).phase)) m.1 (s.fits i).post.standing
 
 -- what stands in a seat's post after its step is what it told
-own_follows : (w : World) (i j : ℕ) → is_valid w.layout ≡ true → Seats w → stood j (told_in w i) (stands (w.seat i).post j) ≡ stands ((step w i).seat i).post j
-own_follows w i j d s =
+own_follows : (w : World) (i j : ℕ) → is_valid w.layout ≡ true → Seats w → Slots w → stood j (told_in w i) (stands (w.seat i).post j) ≡ stands ((step w i).seat i).post j
+own_follows w i j d s t =
     step_goes (Follow (counted (w.seat i).post)) (follow_closed (counted (w.seat i).post)) (w.seat i).phase (counted (w.seat i).post) (w.seat i).desk (finds w i)
-    (first_follows (w.seat i).phase (counted (w.seat i).post) (finds w i) (λ why base e. room_of w i why base d s e)) j
+    (first_follows (w.seat i).phase (counted (w.seat i).post) (finds w i) (λ why base e. room_of w i why base d s t e) (λ work e. copy_room w i work d s t e)) j
     ∙ sym (ap (λ (post : Post). stands post j) (stepped_post w i))
 
 -- the same of the record
@@ -81,13 +93,13 @@ told_stands k i j false e p (event ∷ told) = told_stands k i j false e (Then p
     other_one : (k i j : ℕ) → (k == i) ≡ false → (p : Past) (event : Event) → stood_at k j (Then p i event) ≡ stood_at k j p
     other_one k i j e p event = rw e refl
 
-step_stands : (w : World) (i k j : ℕ) (p : Past) (same : Bool) → (k == i) ≡ same → is_valid w.layout ≡ true → Seats w → stood_at k j p ≡ stands (w.seat k).post j → stood_at k j (tells_of p i (told_in w i)) ≡ stands ((step w i).seat k).post j
-step_stands w i k j p true e d s h =
+step_stands : (w : World) (i k j : ℕ) (p : Past) (same : Bool) → (k == i) ≡ same → is_valid w.layout ≡ true → Seats w → Slots w → stood_at k j p ≡ stands (w.seat k).post j → stood_at k j (tells_of p i (told_in w i)) ≡ stands ((step w i).seat k).post j
+step_stands w i k j p true e d s t h =
     let one : k ≡ i = grind (arith, nat_tests) in
     let here : stands (w.seat k).post j ≡ stands (w.seat i).post j = ap (λ (m : ℕ). stands (w.seat m).post j) one in
     let there : stands ((step w i).seat i).post j ≡ stands ((step w i).seat k).post j = ap (λ (m : ℕ). stands ((step w i).seat m).post j) (sym one) in
-    told_stands k i j true e p (told_in w i) ∙ ap (stood j (told_in w i)) (h ∙ here) ∙ own_follows w i j d s ∙ there
-step_stands w i k j p false e d s h = told_stands k i j false e p (told_in w i) ∙ h ∙ sym (ap (λ (l : Local). stands l.post j) (seat_stays w i k e))
+    told_stands k i j true e p (told_in w i) ∙ ap (stood j (told_in w i)) (h ∙ here) ∙ own_follows w i j d s t ∙ there
+step_stands w i k j p false e d s t h = told_stands k i j false e p (told_in w i) ∙ h ∙ sym (ap (λ (l : Local). stands l.post j) (seat_stays w i k e))
 
 begin_same : (w : World) (i k j : ℕ) (call : Call) (same : Bool) → (k == i) ≡ same → stands ((begin w i call).seat k).post j ≡ stands (w.seat k).post j
 begin_same w i k j call true e =
@@ -112,6 +124,7 @@ if_row s false x h = h
 
 stood_back : (s j : ℕ) (event : Event) (x : Option ℕ) → is_unheld event ≡ true → is_row s (stood_by j event x) ≡ true → is_row s x ≡ true
 stood_back s j (events.Held index slot steps) x u h = absurd (cc)
+stood_back s j (events.Copied from index slot) x u h = absurd (cc)
 stood_back s j (events.Clear index slot) x u h = if_row s (j == index) x h
 stood_back s j event x u h = h
 
@@ -130,7 +143,7 @@ unheld_each k j s i (event ∷ told) p u h g =
     by_row true b f = not_of_false b (f refl)
     by_row false b f = refl
 
--- a protection and a reload neither give nor free a row
+-- a protection, a reload and a step on what is kept neither give nor free a row
 protects_free : (s : ℕ) (phase : Phase) (post : Post) (found : ℕ) → phase_holds_none phase ≡ false → takes_or_frees (row_move phase post found) s ≡ false
 protects_free s Idle post found h = absurd (cc)
 protects_free s (Runs why (Begin at)) post found h = absurd (cc)
@@ -138,14 +151,18 @@ protects_free s (Runs why (Protect aim index root steps at)) post found h = refl
 protects_free s (Runs why (Reload parent index slot era steps)) post found h = refl
 protects_free s (Runs why (Clear index)) post found h = absurd (cc)
 protects_free s (Runs why Finish) post found h = absurd (cc)
-protects_free s (Runs why Release) post found h = absurd (cc)
+protects_free s (Runs why (Release index)) post found h = absurd (cc)
 protects_free s (Runs why (Allocate at)) post found h = absurd (cc)
 protects_free s (Runs why (Write slot row place)) post found h = absurd (cc)
 protects_free s (Runs why (GiveUp slot)) post found h = absurd (cc)
 protects_free s (Runs why (Retire at)) post found h = absurd (cc)
 protects_free s (Runs why (Move at)) post found h = absurd (cc)
 protects_free s (Scans later at) post found h = absurd (cc)
-protects_free s (Works work) post found h = absurd (cc)
+protects_free s (Works (Keeping at)) post found h = refl
+protects_free s (Works (Getting key at)) post found h = absurd (cc)
+protects_free s (Works (Changing kept at)) post found h = absurd (cc)
+protects_free s (Works (Enqueuing kept at)) post found h = absurd (cc)
+protects_free s (Works (Dequeuing at)) post found h = absurd (cc)
 
 step_each : (w : World) (i k j s : ℕ) (p : Past) (none : Bool) → phase_holds_none (w.seat i).phase ≡ none → Inv w → stood_at k j p ≡ stands (w.seat k).post j → Each (reuse_ok k j s) p → Each (reuse_ok k j s) (tells_of p i (told_in w i))
 step_each w i k j s p true e a h g =
@@ -164,10 +181,10 @@ record Keeps (layout : Layout) (made : Made) : Type 0 where
 begin_stood : (k i j : ℕ) (call : Call) (p : Past) → stood_at k j (Then p i (events.Begin call)) ≡ stood_at k j p
 begin_stood k i j call p = same_either (k == i) (stood_at k j p)
 
-begin_keeps : (layout : Layout) (made : Made) (i : ℕ) (call : Call) → is_busy made.world i ≡ false → Keeps layout made → Keeps layout (done made (Begins i call))
-begin_keeps layout made i call f g = record {
+begin_keeps : (layout : Layout) (made : Made) (i : ℕ) (call : Call) → is_busy made.world i ≡ false → may_begin made.world.layout.config call ≡ true → Keeps layout made → Keeps layout (done made (Begins i call))
+begin_keeps layout made i call f m g = record {
   table = g.table;
-  known = inv_begin made.world i call f g.known;
+  known = inv_begin made.world i call f m g.known;
   stands = λ k j. begin_stood k i j call made.past ∙ g.stands k j ∙ sym (begin_same made.world i k j call (k == i) refl);
   law = λ k j s. (not_of_false (is_row s (stood_at k j made.past) && false) (and_false (is_row s (stood_at k j made.past))), g.law k j s);
 }
@@ -179,12 +196,12 @@ step_keeps layout made i b g =
     record {
       table = g.table;
       known = inv_kept made.world i b a;
-      stands = λ k j. step_stands made.world i k j made.past (k == i) refl t.valid t.seats (g.stands k j);
+      stands = λ k j. step_stands made.world i k j made.past (k == i) refl t.valid t.seats t.slots (g.stands k j);
       law = λ k j s. step_each made.world i k j s made.past (phase_holds_none (made.world.seat i).phase) refl a (g.stands k j) (g.law k j s);
     }
 
 steady : (layout : Layout) → Steady (Keeps layout)
-steady layout = record { begins = λ made i call b y g. begin_keeps layout made i call y g; steps = λ made i b y g. step_keeps layout made i b g }
+steady layout = record { begins = λ made i call b y m g. begin_keeps layout made i call y m g; steps = λ made i b y g. step_keeps layout made i b g }
 
 none_stands : (layout : Layout) (k j : ℕ) → None ≡ stands ((start layout).seat k).post j
 none_stands layout k zero = refl

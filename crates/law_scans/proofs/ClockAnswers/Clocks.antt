@@ -25,20 +25,21 @@ use Rattle.wfe_core.specs.Desks.{Desk, with_life}
 use Rattle.wfe_core.specs.Dequeue as dequeues
 use Rattle.wfe_core.specs.Enqueue as enqueues
 use Rattle.wfe_core.specs.Get as gets
+use Rattle.wfe_core.specs.Keep as keeps
 use Rattle.wfe_core.specs.Guards.{guards, guard_at, eras_in, published}
 use Rattle.wfe_core.specs.Machine as machine
 use Rattle.wfe_core.specs.Memory.{bump}
-use Rattle.wfe_core.specs.Posts.{stands}
+use Rattle.wfe_core.specs.Posts.{stands, withdrawn, cleared, reserves_index}
 use Rattle.wfe_core.specs.Scan as scan
 use Rattle.wfe_core.specs.Steps as steps
-use Rattle.wfe_core.specs.Rounds.{with_clock, scheme_of, bucket_of, index_of, taken_of, begin_base, round, round_by, finish_base, clear_base, clear_post, clear_told, given_up, closed, finishing_by, finishing, clearing_by, clearing, clearing_next_by, clearing_next}
+use Rattle.wfe_core.specs.Rounds.{with_clock, scheme_of, bucket_of, index_of, taken_of, begin_base, round, round_by, finish_base, clear_base, clear_post, clear_told, given_up, closed, finishing_by, finishing, clearing_by, clearing, clearing_next_by, clearing_next, let_index, letting, letting_by, release_base}
 use Rattle.wfe_core.specs.Phases.{MoveAt, Base, Ending, Outcome, Goes, Ends}
 use Rattle.wfe_core.specs.Phases.AllocateAt.{ClaimSlot}
 use Rattle.wfe_core.specs.Phases.RetireAt.{LoadLife, LoadRetire, StoreRetired}
 use Rattle.wfe_core.specs.Phases.MoveAt.{LoadEra, CheckEra, AnswerAsked, LoadReserved, HandOver, HideLate, ExchangeClock}
 use Rattle.wfe_core.specs.Phases.Base.{Allocate, Retire, Move}
 use Rattle.wfe_core.specs.Phases.Ending.{Done, Protected, Followed, Allocated, Retired, Clocked}
-use Rattle.wfe_core.specs.Calls.{Task, Gets, Changes, Holds, Enqueues, Dequeues, Next, Again, MakeRoom, Answering, Retiring, AfterScan, Answered, Repeated, Counted, ChangeKept, EnqueueKept, GetAt, FindVersion, FindCount, FindKey, FindValue, ChangeAt, LoadVersion, LoadCount, LoadKey, LoadValue, ExchangeRoot, EnqueueAt, LoadNumber, LoadNext, PassTail, ExchangeNext, ExchangeTail, DequeueAt, SwingTail, ExchangeHead, Work, Getting, Changing, Enqueuing, Dequeuing, ScanAt, ReadGuard, GiveBack, Why, Opens, FollowsHead, Fills, ClearsNext, Clears, Finishes, GivesUp, Retires, Tidies, Advances, Releases, Phase, Idle, Runs, Scans, Works, CallOutcome, GoesOn, Answers}
+use Rattle.wfe_core.specs.Calls.{Task, Gets, Changes, Holds, Enqueues, Dequeues, Next, Again, MakeRoom, Answering, Retiring, AfterScan, Answered, Repeated, Counted, ChangeKept, EnqueueKept, GetAt, FindVersion, FindCount, FindKey, FindValue, ChangeAt, LoadVersion, LoadCount, LoadKey, LoadValue, ExchangeRoot, EnqueueAt, LoadNumber, LoadNext, PassTail, ExchangeNext, ExchangeTail, DequeueAt, SwingTail, ExchangeHead, Work, Getting, Changing, Enqueuing, Dequeuing, ScanAt, ReadGuard, GiveBack, Why, Opens, FollowsHead, Fills, ClearsNext, Clears, Finishes, GivesUp, Retires, Tidies, Advances, Releases, Phase, Idle, Runs, Scans, Works, CallOutcome, GoesOn, Answers, LetGo, Released, Rehold, Dropped, KeepAt, Loosens, LoadHeld, StoreHeld, Looks, Misses, Keeping}
 use Rattle.law_places.specs.inv.shapes.Seats.{Kind, ToRetire, ToMove, kind_of, suits, retires, moves as moves_kind}
 use Rattle.laws.proofs.Along.{along}
 use Rattle.law_places.proofs.inv.history.Passes.{scan_told}
@@ -53,6 +54,7 @@ use Rattle.laws.specs.HistoryAnswers.{ClockTally, outcome_fits, answer_fits}
 use Rattle.law_scans.specs.Outcomes.{clock_by}
 use Rattle.law_scans.proofs.DueScans.Lands.{PhaseRight, due_same}
 use Rattle.law_scans.proofs.DueScans.Still.{claim_front, tick_front, move_front, base_front, front, counts}
+use Rattle.wfe_core.specs.words.Schemes.{has_one_interval}
 
 -- an answer that says of the clock at most that it is still
 abbrev pub is_plain : Answer → Bool
@@ -99,7 +101,7 @@ WhyFits last (GivesUp answer) c = (c.due ≡ false) × (is_plain answer ≡ true
 WhyFits last (Retires answer) c = (c.due ≡ false) × (is_plain answer ≡ true)
 WhyFits last (Tidies later) c = LaterFits later c
 WhyFits last Advances c = MoveDue c
-WhyFits last (Releases key) c = c.due ≡ false
+WhyFits last (Releases let_go) c = c.due ≡ false
 
 abbrev pub PhaseFits : ℕ → Phase → ClockTally → Type 0
 PhaseFits last Idle c = Unit {0}
@@ -206,9 +208,13 @@ refusal_plain config version pairs (changes.Removed key) =
     plain_if (not (alters.has_key pairs key)) (Some (the_answers.Absent version)) (if version == config.last_version then Some (the_answers.Spent version) else None) refl
     (plain_if (version == config.last_version) (Some (the_answers.Spent version)) None refl refl)
 
+stale_plain : (wanted : Option ℕ) (version : ℕ) (other : Option Answer) → all_plain other ≡ true → all_plain (alters.stale_or wanted version other) ≡ true
+stale_plain None version other h = h
+stale_plain (Some want) version other h = plain_if (version == want) other (Some (the_answers.Stale version)) h refl
+
 deciding_fits : (last : ℕ) (kept : ChangeKept) (post : Post) (desk : Desk) (told : List Event) (c : ClockTally) → c.due ≡ false → OutFits last (alters.deciding kept post desk told).outcome c
 deciding_fits last kept post desk told c f =
-    deciding_by_fits last kept post desk told (alters.refusal post.layout.config kept.version kept.pairs kept.change) c f (refusal_plain post.layout.config kept.version kept.pairs kept.change)
+    deciding_by_fits last kept post desk told (alters.refused post.layout.config kept) c f (stale_plain kept.wanted kept.version (alters.refusal post.layout.config kept.version kept.pairs kept.change) (refusal_plain post.layout.config kept.version kept.pairs kept.change))
 
 reading_fits : (last : ℕ) (kept : ChangeKept) (slot count : ℕ) (post : Post) (desk : Desk) (on : Bool) (c : ClockTally) → c.due ≡ false → OutFits last (alters.reading kept slot count post desk on).outcome c
 reading_fits last kept slot count post desk true c f = f
@@ -273,11 +279,54 @@ dequeue_fits last (SwingTail head next) post desk found c s = clearing_next_fits
 dequeue_fits last (ExchangeHead head next number value) post desk found c s = taken_fits last head next number value post desk (found == head + 1) c s
 dequeue_fits last at post desk found c s = s
 
+-- what is let go, a copy and a look
+released_fits : (last : ℕ) (let_go : LetGo) (post : Post) (desk : Desk) (told : List Event) (c : ClockTally) → c.due ≡ false → OutFits last (keeps.released let_go post desk told).outcome c
+released_fits last Released post desk told c s = refl
+released_fits last (Rehold key) post desk told c s = round_fits last (Holds key) post c s
+released_fits last (Dropped index) post desk told c s = refl
+
+copied_fits : (last from index : ℕ) (post : Post) (desk : Desk) (reserved : List Event) (x : Option ℕ) (c : ClockTally) → c.due ≡ false → OutFits last (keeps.copied from index post desk reserved x).outcome c
+copied_fits last from index post desk reserved None c s = refl
+copied_fits last from index post desk reserved (Some slot) c s = refl
+
+load_fits : (last from index : ℕ) (post : Post) (desk : Desk) (found : ℕ) (one : Bool) (c : ClockTally) → c.due ≡ false → OutFits last (keeps.load_held from index post desk found one).outcome c
+load_fits last from index post desk found true c s = copied_fits last from index post desk [] (stands post from) c s
+load_fits last from index post desk found false c s = s
+
+looking_fits : (last index key slot version count : ℕ) (post : Post) (desk : Desk) (on : Bool) (pair : ℕ) (c : ClockTally) → c.due ≡ false → OutFits last (keeps.looking index key slot version count post desk on pair).outcome c
+looking_fits last index key slot version count post desk true pair c s = s
+looking_fits last index key slot version count post desk false pair c s = refl
+
+looked_key_fits : (last index key slot version count pair : ℕ) (post : Post) (desk : Desk) (own : Bool) (c : ClockTally) → c.due ≡ false → OutFits last (keeps.looked_key index key slot version count pair post desk own).outcome c
+looked_key_fits last index key slot version count pair post desk true c s = s
+looked_key_fits last index key slot version count pair post desk false c s = looking_fits last index key slot version count post desk (nat_lt (pair + 1) count) (pair + 1) c s
+
+look_fits : (last index key : ℕ) (at : GetAt) (post : Post) (desk : Desk) (found : ℕ) (c : ClockTally) → c.due ≡ false → OutFits last (keeps.look_turn index key at post desk found).outcome c
+look_fits last index key (FindVersion slot) post desk found c s = s
+look_fits last index key (FindCount slot version) post desk found c s = looking_fits last index key slot version found post desk (nat_lt 0 found) 0 c s
+look_fits last index key (FindKey slot version count pair) post desk found c s = looked_key_fits last index key slot version count pair post desk (found == key) c s
+look_fits last index key (FindValue slot version pair) post desk found c s = refl
+
+keep_fits : (last : ℕ) (at : KeepAt) (post : Post) (desk : Desk) (found : ℕ) (c : ClockTally) → c.due ≡ false → OutFits last (keeps.keep_turn at post desk found).outcome c
+keep_fits last (Loosens let_go) post desk found c s = released_fits last let_go (withdrawn post (let_index let_go)) desk (cleared (let_index let_go) (stands post (let_index let_go))) c s
+keep_fits last (LoadHeld from index) post desk found c s = load_fits last from index post desk found (has_one_interval (scheme_of post)) c s
+keep_fits last (StoreHeld from index era) post desk found c s = copied_fits last from index post desk (reserves_index post index era) (stands post from) c s
+keep_fits last (Looks index key at) post desk found c s = look_fits last index key at post desk found c s
+keep_fits last (Misses index) post desk found c s = refl
+
+pub letting_fits : (last : ℕ) (let_go : LetGo) (post : Post) (c : ClockTally) → c.due ≡ false → PhaseFits last (letting let_go post) c
+letting_fits last let_go post c s = by (release_base (scheme_of post) post (let_index let_go))
+  where
+    by : (x : Option Base) → PhaseFits last (letting_by let_go x) c
+    by None = s
+    by (Some base) = s
+
 pub work_fits : (last : ℕ) (work : Work) (post : Post) (desk : Desk) (found : ℕ) (c : ClockTally) → c.due ≡ false → OutFits last (steps.work_turn work post desk found).outcome c
 work_fits last (Getting key at) post desk found c f = get_fits last key at post desk found c f
 work_fits last (Changing kept at) post desk found c f = change_fits last kept at post desk found c f
 work_fits last (Enqueuing kept at) post desk found c f = enqueue_fits last kept at post desk found c f
 work_fits last (Dequeuing at) post desk found c f = dequeue_fits last at post desk found c f
+work_fits last (Keeping at) post desk found c f = keep_fits last at post desk found c f
 
 -- what comes after a machine
 opened_row_fits : (last : ℕ) (task : Task) (slot : ℕ) (post : Post) (desk : Desk) (told : List Event) (c : ClockTally) → c.due ≡ false → OutFits last (steps.opened_row task slot post desk told).outcome c
@@ -311,10 +360,6 @@ followed_by_fits last head tail (Allocated end) post desk told c s = closed_fits
 followed_by_fits last head tail (Retired life) post desk told c s = closed_fits last Dequeues Again post desk told c s
 followed_by_fits last head tail (Clocked clock) post desk told c s = closed_fits last Dequeues Again post desk told c s
 
-released_fits : (last : ℕ) (key : Option ℕ) (post : Post) (desk : Desk) (told : List Event) (c : ClockTally) → c.due ≡ false → OutFits last (steps.released key post desk told).outcome c
-released_fits last None post desk told c s = refl
-released_fits last (Some key) post desk told c s = round_fits last (Holds key) post c s
-
 -- whatever the machine makes
 pub resumed_opens : (last : ℕ) (task : Task) (desk : Desk) (post : Post) (told : List Event) (outcome : Outcome) (c : ClockTally) → c.due ≡ false → OutFits last (steps.resumed (Opens task) desk post told outcome).outcome c
 resumed_opens last task desk post told (Goes base) c f = f
@@ -340,9 +385,9 @@ pub resumed_gives : (last : ℕ) (answer : Answer) (desk : Desk) (post : Post) (
 resumed_gives last answer desk post told (Goes base) c f = f
 resumed_gives last answer desk post told (Ends ending) c f = plain_fits last c answer f.0 f.1
 
-pub resumed_releases : (last : ℕ) (key : Option ℕ) (desk : Desk) (post : Post) (told : List Event) (outcome : Outcome) (c : ClockTally) → c.due ≡ false → OutFits last (steps.resumed (Releases key) desk post told outcome).outcome c
-resumed_releases last key desk post told (Goes base) c f = f
-resumed_releases last key desk post told (Ends ending) c f = released_fits last key post desk told c f
+pub resumed_releases : (last : ℕ) (let_go : LetGo) (desk : Desk) (post : Post) (told : List Event) (outcome : Outcome) (c : ClockTally) → c.due ≡ false → OutFits last (steps.resumed (Releases let_go) desk post told outcome).outcome c
+resumed_releases last let_go desk post told (Goes base) c f = f
+resumed_releases last let_go desk post told (Ends ending) c f = released_fits last let_go post desk told c f
 
 -- a row is filled
 written_fits : (last : ℕ) (task : Task) (post : Post) (desk : Desk) (told : List Event) (c : ClockTally) → c.due ≡ false → OutFits last (steps.written_row task post desk told).outcome c
@@ -599,8 +644,8 @@ run_lands x (Finishes task next) base post desk found s r f =
     let t = machine.after base post found in calm_lands post.layout.config.every post.layout.config.last_era x (Finishes task next) base found _ s refl (resumed_finishes post.layout.config.last_era task next desk t.post t.told t.outcome x f)
 run_lands x (GivesUp answer) base post desk found s r f =
     let t = machine.after base post found in calm_lands post.layout.config.every post.layout.config.last_era x (GivesUp answer) base found _ s refl (resumed_gives post.layout.config.last_era answer desk t.post t.told t.outcome x f)
-run_lands x (Releases key) base post desk found s r f =
-    let t = machine.after base post found in calm_lands post.layout.config.every post.layout.config.last_era x (Releases key) base found _ s refl (resumed_releases post.layout.config.last_era key desk t.post t.told t.outcome x f)
+run_lands x (Releases let_go) base post desk found s r f =
+    let t = machine.after base post found in calm_lands post.layout.config.every post.layout.config.last_era x (Releases let_go) base found _ s refl (resumed_releases post.layout.config.last_era let_go desk t.post t.told t.outcome x f)
 run_lands x (Retires answer) base post desk found s r f = retires_lands post.layout.config.last_era x answer base post desk found s r f.0 f.1
 run_lands x (Tidies later) base post desk found s r f = tidies_lands post.layout.config.every x later base post desk found s f
 run_lands x Advances base post desk found s r f = advances_lands post.layout.config.every x base post desk found s f
@@ -644,7 +689,19 @@ first_fits last retired (names.Hold key) post = held_fits (stands post 2)
   where
     held_fits : (x : Option ℕ) → PhaseFits last (steps.holding key post x) (record { retired = retired; due = false; moved = None })
     held_fits None = round_fits last (Holds key) post _ refl
-    held_fits (Some slot) = refl
-first_fits last retired names.Release post = refl
+    held_fits (Some slot) = letting_fits last (Rehold key) post _ refl
+first_fits last retired names.Release post = letting_fits last Released post _ refl
 first_fits last retired names.Advance post = record { due = refl; none = refl }
 first_fits last retired names.Scan post = refl
+first_fits last retired (names.Copy from index) post = copying_fits (stands post from)
+  where
+    copying_fits : (x : Option ℕ) → PhaseFits last (steps.copying from index x) (record { retired = retired; due = false; moved = None })
+    copying_fits None = refl
+    copying_fits (Some slot) = refl
+first_fits last retired (names.DropIndex index) post = letting_fits last (Dropped index) post _ refl
+first_fits last retired (names.Look index key) post = looked_fits (stands post index)
+  where
+    looked_fits : (x : Option ℕ) → PhaseFits last (steps.looking_at index key x) (record { retired = retired; due = false; moved = None })
+    looked_fits None = refl
+    looked_fits (Some slot) = refl
+first_fits last retired (names.PutIf key value version) post = round_fits last _ post _ refl

@@ -163,7 +163,7 @@ begin_fits every last w i k call p false e g =
     (subst (λ (x : ClockTally). SeatClock last (w.seat k).phase (w.seat k).post x) (sym (seen_other (clock_by every) no_clock k i p (events.Begin call) e)) (g k))
 
 pub steady : (layout : Layout) → Steady (KeepsClocks layout)
-steady layout = record { begins = λ made i call b y g. record { base = begin_keeps layout made i call y g.base; seats = λ m. begin_fits layout.config.every layout.config.last_era made.world i m call made.past (m == i) refl g.seats; law = (refl, g.law) }; steps = λ made i b y g. record { base = step_keeps layout made i b y g.base; seats = λ m. step_fits layout made i g m (m == i) refl; law = step_law layout made i y g } }
+steady layout = record { begins = λ made i call b y m g. record { base = begin_keeps layout made i call y m g.base; seats = λ j. begin_fits layout.config.every layout.config.last_era made.world i j call made.past (j == i) refl g.seats; law = (refl, g.law) }; steps = λ made i b y g. record { base = step_keeps layout made i b y g.base; seats = λ m. step_fits layout made i g m (m == i) refl; law = step_law layout made i y g } }
 
 pub first_clocks : (layout : Layout) → is_valid layout ≡ true → KeepsClocks layout (first_made layout)
 first_clocks layout d = record { base = first_keeps layout d; seats = λ k. record { retired = refl; fits = tt }; law = tt }

@@ -155,7 +155,7 @@ retiring_in last from now (Runs why (Retire at)) post p r = why_in why p.0
     why_in (Clears task next) s = tt
     why_in (Finishes task next) s = tt
     why_in (GivesUp answer) s = tt
-    why_in (Releases key) s = tt
+    why_in (Releases let_go) s = tt
 retiring_in last from now (Runs why base) post p r = absurd (cc)
 
 -- where the clock is loaded it is found

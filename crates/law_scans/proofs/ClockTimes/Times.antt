@@ -20,13 +20,13 @@ use Rattle.wfe_core.specs.Machine as machine
 use Rattle.wfe_core.specs.Posts.{stands}
 use Rattle.wfe_core.specs.Scan as scan
 use Rattle.wfe_core.specs.Steps as steps
-use Rattle.wfe_core.specs.Rounds.{scheme_of, begin_base, round, round_by, with_clock}
+use Rattle.wfe_core.specs.Rounds.{scheme_of, begin_base, round, round_by, with_clock, let_index, letting, letting_by, release_base}
 use Rattle.wfe_core.specs.Phases.{MoveAt, Base, Ending, Outcome, Goes, Ends}
 use Rattle.wfe_core.specs.Phases.AllocateAt.{ClaimSlot}
 use Rattle.wfe_core.specs.Phases.MoveAt.{LoadEra, LoadRequest, ShowEra, LoadAsked, CheckEra, AnswerAsked, LoadReserved, HandOver, HideEra, HideLate, ExchangeClock}
 use Rattle.wfe_core.specs.Phases.Base.{Allocate, Retire, Move}
 use Rattle.wfe_core.specs.Phases.Ending.{Done, Protected, Followed, Allocated, Retired, Clocked}
-use Rattle.wfe_core.specs.Calls.{Task, Gets, Holds, Dequeues, Next, Again, MakeRoom, Answering, Retiring, AfterScan, Answered, Repeated, Counted, ScanAt, ReadGuard, GiveBack, Why, Opens, FollowsHead, Fills, ClearsNext, Clears, Finishes, GivesUp, Retires, Tidies, Advances, Releases, Phase, Idle, Runs, Scans, Works, CallOutcome, GoesOn, Answers}
+use Rattle.wfe_core.specs.Calls.{Task, Gets, Holds, Dequeues, Next, Again, MakeRoom, Answering, Retiring, AfterScan, Answered, Repeated, Counted, ScanAt, ReadGuard, GiveBack, Why, Opens, FollowsHead, Fills, ClearsNext, Clears, Finishes, GivesUp, Retires, Tidies, Advances, Releases, Phase, Idle, Runs, Scans, Works, CallOutcome, GoesOn, Answers, LetGo, Released, Rehold, Dropped}
 use Rattle.law_places.specs.inv.shapes.Seats.{Kind, ToRetire, kind_of, suits, retires}
 use Rattle.laws.proofs.Along.{along}
 use Rattle.law_places.proofs.inv.history.Passes.{scan_told}
@@ -381,8 +381,8 @@ run_in every last from now x (Finishes task next) base post desk found n s f w o
     calm_out last from now (along (clock_by every) (base_front base found) x) _ (base_due every x base found (not_retiring base (kind_of (Finishes task next)) s refl) ∙ (next_due last task next x f)) o
 run_in every last from now x (GivesUp answer) base post desk found n s f w o =
     calm_out last from now (along (clock_by every) (base_front base found) x) _ (base_due every x base found (not_retiring base (kind_of (GivesUp answer)) s refl) ∙ (f.0)) o
-run_in every last from now x (Releases key) base post desk found n s f w o =
-    calm_out last from now (along (clock_by every) (base_front base found) x) _ (base_due every x base found (not_retiring base (kind_of (Releases key)) s refl) ∙ (f)) o
+run_in every last from now x (Releases let_go) base post desk found n s f w o =
+    calm_out last from now (along (clock_by every) (base_front base found) x) _ (base_due every x base found (not_retiring base (kind_of (Releases let_go)) s refl) ∙ (f)) o
 
 scan_calm : (every : ℕ) (x : ClockTally) (at : ScanAt) (post : Post) (found : ℕ) → (along (clock_by every) (scan_told at post found) x).due ≡ x.due
 scan_calm every x (ReadGuard n) post found = refl
@@ -405,6 +405,13 @@ round_in last from now task post = by (begin_base (scheme_of post) post)
     by None = tt
     by (Some base) = tt
 
+letting_in : (last from now : ℕ) (let_go : LetGo) (post : Post) → PhaseIn last from now (letting let_go post)
+letting_in last from now let_go post = by (release_base (scheme_of post) post (let_index let_go))
+  where
+    by : (x : Option Base) → PhaseIn last from now (letting_by let_go x)
+    by None = tt
+    by (Some base) = tt
+
 pub first_in : (last from now : ℕ) (call : Call) (post : Post) → PhaseIn last from now (steps.first_phase call post)
 first_in last from now (names.Get key) post = round_in last from now (Gets key) post
 first_in last from now (names.Put key value) post = round_in last from now _ post
@@ -415,7 +422,19 @@ first_in last from now (names.Hold key) post = held_in (stands post 2)
   where
     held_in : (x : Option ℕ) → PhaseIn last from now (steps.holding key post x)
     held_in None = round_in last from now (Holds key) post
-    held_in (Some slot) = tt
-first_in last from now names.Release post = tt
+    held_in (Some slot) = letting_in last from now (Rehold key) post
+first_in last from now names.Release post = letting_in last from now Released post
 first_in last from now names.Advance post = tt
 first_in last from now names.Scan post = tt
+first_in last from now (names.Copy one other) post = copying_in (stands post one)
+  where
+    copying_in : (x : Option ℕ) → PhaseIn last from now (steps.copying one other x)
+    copying_in None = tt
+    copying_in (Some slot) = tt
+first_in last from now (names.DropIndex index) post = letting_in last from now (Dropped index) post
+first_in last from now (names.Look index key) post = looking_in (stands post index)
+  where
+    looking_in : (x : Option ℕ) → PhaseIn last from now (steps.looking_at index key x)
+    looking_in None = tt
+    looking_in (Some slot) = tt
+first_in last from now (names.PutIf key value version) post = round_in last from now _ post

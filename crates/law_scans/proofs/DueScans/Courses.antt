@@ -16,13 +16,14 @@ use Rattle.wfe_core.specs.Desks.{Desk}
 use Rattle.wfe_core.specs.Dequeue as dequeues
 use Rattle.wfe_core.specs.Enqueue as enqueues
 use Rattle.wfe_core.specs.Get as gets
+use Rattle.wfe_core.specs.Keep as keeps
 use Rattle.wfe_core.specs.Steps as steps
-use Rattle.wfe_core.specs.Rounds.{scheme_of, bucket_of, index_of, taken_of, begin_base, round, round_by, finish_base, clear_base, clear_post, clear_told, given_up, closed, finishing_by, finishing, clearing_by, clearing, clearing_next_by, clearing_next}
+use Rattle.wfe_core.specs.Rounds.{scheme_of, bucket_of, index_of, taken_of, begin_base, round, round_by, finish_base, clear_base, clear_post, clear_told, given_up, closed, finishing_by, finishing, clearing_by, clearing, clearing_next_by, clearing_next, let_index, letting, letting_by, release_base}
 use Rattle.wfe_core.specs.Phases.{Base, Ending, Outcome, Goes, Ends}
 use Rattle.wfe_core.specs.Phases.AllocateAt.{StoreLife}
 use Rattle.wfe_core.specs.Phases.Base.{Allocate, Retire, Move}
 use Rattle.wfe_core.specs.Phases.Ending.{Done, Protected, Followed, Allocated, Retired, Clocked}
-use Rattle.wfe_core.specs.Calls.{Task, Gets, Changes, Holds, Enqueues, Dequeues, Next, Again, MakeRoom, Answering, Retiring, AfterScan, Answered, Repeated, Counted, ChangeKept, EnqueueKept, GetAt, FindVersion, FindCount, FindKey, FindValue, ChangeAt, LoadVersion, LoadCount, LoadKey, LoadValue, ExchangeRoot, EnqueueAt, LoadNumber, LoadNext, PassTail, ExchangeNext, ExchangeTail, DequeueAt, SwingTail, ExchangeHead, Work, Getting, Changing, Enqueuing, Dequeuing, ScanAt, ReadGuard, GiveBack, Why, Opens, FollowsHead, Fills, ClearsNext, Clears, Finishes, GivesUp, Retires, Tidies, Advances, Releases, Phase, Idle, Runs, Scans, Works, CallOutcome, GoesOn, Answers}
+use Rattle.wfe_core.specs.Calls.{Task, Gets, Changes, Holds, Enqueues, Dequeues, Next, Again, MakeRoom, Answering, Retiring, AfterScan, Answered, Repeated, Counted, ChangeKept, EnqueueKept, GetAt, FindVersion, FindCount, FindKey, FindValue, ChangeAt, LoadVersion, LoadCount, LoadKey, LoadValue, ExchangeRoot, EnqueueAt, LoadNumber, LoadNext, PassTail, ExchangeNext, ExchangeTail, DequeueAt, SwingTail, ExchangeHead, Work, Getting, Changing, Enqueuing, Dequeuing, ScanAt, ReadGuard, GiveBack, Why, Opens, FollowsHead, Fills, ClearsNext, Clears, Finishes, GivesUp, Retires, Tidies, Advances, Releases, Phase, Idle, Runs, Scans, Works, CallOutcome, GoesOn, Answers, LetGo, Released, Rehold, Dropped, KeepAt, Loosens, LoadHeld, StoreHeld, Looks, Misses, Keeping}
 use Rattle.law_places.specs.inv.shapes.Seats.{Kind, ToFill, ToRetire, ToMove, kind_of, suits, fills, retires, moves as moves_kind}
 use Rattle.law_places.specs.inv.rows.Hands.{holds_none}
 use Rattle.laws.proofs.Along.{along}
@@ -31,6 +32,8 @@ use Rattle.laws.specs.HistoryScans.{Course, Advancing, MayScan, MustScan, Readin
 use Rattle.law_scans.specs.Scans.{tally_by}
 use Rattle.laws.specs.HistoryEras.{move_right}
 use Rattle.law_scans.proofs.DueScans.Still.{base_front, counts}
+use Rattle.wfe_core.specs.words.Schemes.{has_one_interval}
+use Rattle.wfe_core.specs.Posts.{stands, withdrawn, cleared, reserves_index}
 
 -- both laws at once
 abbrev pub course_right : (all : ℕ) → Event → Tally → Bool
@@ -103,7 +106,7 @@ WhyFits all (GivesUp answer) base c = is_settled all c ≡ true
 WhyFits all (Retires answer) base c = is_settled all c ≡ true
 WhyFits all (Tidies later) base c = LaterFits later c
 WhyFits all Advances base c = c ≡ Advancing
-WhyFits all (Releases key) base c = is_settled all c ≡ true
+WhyFits all (Releases let_go) base c = is_settled all c ≡ true
 
 abbrev pub EnqueueFits : ℕ → EnqueueKept → EnqueueAt → Course → Type 0
 EnqueueFits all kept (ExchangeTail slot) c = is_settled all c ≡ true
@@ -114,6 +117,7 @@ WorkFits all (Getting key at) c = is_settled all c ≡ true
 WorkFits all (Changing kept at) c = TaskFits all (Changes kept) c
 WorkFits all (Enqueuing kept at) c = EnqueueFits all kept at c
 WorkFits all (Dequeuing at) c = is_settled all c ≡ true
+WorkFits all (Keeping at) c = is_settled all c ≡ true
 
 abbrev pub PhaseFits : ℕ → Phase → Course → Type 0
 PhaseFits all Idle c = Unit {0}
@@ -213,7 +217,7 @@ deciding_by_fits all kept post desk told (Some answer) c f = clearing_fits all (
 deciding_by_fits all kept post desk told None c f = change_fills all (alters.with_change kept) kept.taken c (again_change all kept (alters.with_change kept) c refl refl f)
 
 deciding_fits : (all : ℕ) (kept : ChangeKept) (post : Post) (desk : Desk) (told : List Event) (c : Course) → TaskFits all (Changes kept) c → OutFits all (alters.deciding kept post desk told).outcome c
-deciding_fits all kept post desk told c f = deciding_by_fits all kept post desk told (alters.refusal post.layout.config kept.version kept.pairs kept.change) c f
+deciding_fits all kept post desk told c f = deciding_by_fits all kept post desk told (alters.refused post.layout.config kept) c f
 
 reading_fits : (all : ℕ) (kept : ChangeKept) (slot count : ℕ) (post : Post) (desk : Desk) (on : Bool) (c : Course) → TaskFits all (Changes kept) c → OutFits all (alters.reading kept slot count post desk on).outcome c
 reading_fits all kept slot count post desk true c f = f
@@ -282,11 +286,54 @@ dequeue_fits all (SwingTail head next) post desk found c s = clearing_next_fits 
 dequeue_fits all (ExchangeHead head next number value) post desk found c s = taken_fits all head next number value post desk (found == head + 1) c s
 dequeue_fits all at post desk found c s = s
 
+-- what is let go, a copy and a look
+released_fits : (all : ℕ) (let_go : LetGo) (post : Post) (desk : Desk) (told : List Event) (c : Course) → is_settled all c ≡ true → OutFits all (keeps.released let_go post desk told).outcome c
+released_fits all Released post desk told c s = s
+released_fits all (Rehold key) post desk told c s = round_fits all (Holds key) post c (other_task all (Holds key) c refl s)
+released_fits all (Dropped index) post desk told c s = s
+
+copied_fits : (all from index : ℕ) (post : Post) (desk : Desk) (reserved : List Event) (x : Option ℕ) (c : Course) → is_settled all c ≡ true → OutFits all (keeps.copied from index post desk reserved x).outcome c
+copied_fits all from index post desk reserved None c s = s
+copied_fits all from index post desk reserved (Some slot) c s = s
+
+load_fits : (all from index : ℕ) (post : Post) (desk : Desk) (found : ℕ) (one : Bool) (c : Course) → is_settled all c ≡ true → OutFits all (keeps.load_held from index post desk found one).outcome c
+load_fits all from index post desk found true c s = copied_fits all from index post desk [] (stands post from) c s
+load_fits all from index post desk found false c s = s
+
+looking_fits : (all index key slot version count : ℕ) (post : Post) (desk : Desk) (on : Bool) (pair : ℕ) (c : Course) → is_settled all c ≡ true → OutFits all (keeps.looking index key slot version count post desk on pair).outcome c
+looking_fits all index key slot version count post desk true pair c s = s
+looking_fits all index key slot version count post desk false pair c s = s
+
+looked_key_fits : (all index key slot version count pair : ℕ) (post : Post) (desk : Desk) (own : Bool) (c : Course) → is_settled all c ≡ true → OutFits all (keeps.looked_key index key slot version count pair post desk own).outcome c
+looked_key_fits all index key slot version count pair post desk true c s = s
+looked_key_fits all index key slot version count pair post desk false c s = looking_fits all index key slot version count post desk (nat_lt (pair + 1) count) (pair + 1) c s
+
+look_fits : (all index key : ℕ) (at : GetAt) (post : Post) (desk : Desk) (found : ℕ) (c : Course) → is_settled all c ≡ true → OutFits all (keeps.look_turn index key at post desk found).outcome c
+look_fits all index key (FindVersion slot) post desk found c s = s
+look_fits all index key (FindCount slot version) post desk found c s = looking_fits all index key slot version found post desk (nat_lt 0 found) 0 c s
+look_fits all index key (FindKey slot version count pair) post desk found c s = looked_key_fits all index key slot version count pair post desk (found == key) c s
+look_fits all index key (FindValue slot version pair) post desk found c s = s
+
+keep_fits : (all : ℕ) (at : KeepAt) (post : Post) (desk : Desk) (found : ℕ) (c : Course) → is_settled all c ≡ true → OutFits all (keeps.keep_turn at post desk found).outcome c
+keep_fits all (Loosens let_go) post desk found c s = released_fits all let_go (withdrawn post (let_index let_go)) desk (cleared (let_index let_go) (stands post (let_index let_go))) c s
+keep_fits all (LoadHeld from index) post desk found c s = load_fits all from index post desk found (has_one_interval (scheme_of post)) c s
+keep_fits all (StoreHeld from index era) post desk found c s = copied_fits all from index post desk (reserves_index post index era) (stands post from) c s
+keep_fits all (Looks index key at) post desk found c s = look_fits all index key at post desk found c s
+keep_fits all (Misses index) post desk found c s = s
+
+pub letting_fits : (all : ℕ) (let_go : LetGo) (post : Post) (c : Course) → is_settled all c ≡ true → PhaseFits all (letting let_go post) c
+letting_fits all let_go post c s = by (release_base (scheme_of post) post (let_index let_go))
+  where
+    by : (x : Option Base) → PhaseFits all (letting_by let_go x) c
+    by None = s
+    by (Some base) = s
+
 pub work_fits : (all : ℕ) (work : Work) (post : Post) (desk : Desk) (found : ℕ) (c : Course) → WorkFits all work c → OutFits all (steps.work_turn work post desk found).outcome c
 work_fits all (Getting key at) post desk found c f = get_fits all key at post desk found c f
 work_fits all (Changing kept at) post desk found c f = change_fits all kept at post desk found c f
 work_fits all (Enqueuing kept at) post desk found c f = enqueue_fits all kept at post desk found c f
 work_fits all (Dequeuing at) post desk found c f = dequeue_fits all at post desk found c f
+work_fits all (Keeping at) post desk found c f = keep_fits all at post desk found c f
 
 -- what comes after a machine
 opened_row_fits : (all : ℕ) (task : Task) (slot : ℕ) (post : Post) (desk : Desk) (told : List Event) (c : Course) → TaskFits all task c → OutFits all (steps.opened_row task slot post desk told).outcome c
@@ -319,10 +366,6 @@ followed_by_fits all head tail (Protected end) post desk told c s = closed_fits 
 followed_by_fits all head tail (Allocated end) post desk told c s = closed_fits all Dequeues Again post desk told c (other_task all Dequeues c refl s)
 followed_by_fits all head tail (Retired life) post desk told c s = closed_fits all Dequeues Again post desk told c (other_task all Dequeues c refl s)
 followed_by_fits all head tail (Clocked clock) post desk told c s = closed_fits all Dequeues Again post desk told c (other_task all Dequeues c refl s)
-
-released_fits : (all : ℕ) (key : Option ℕ) (post : Post) (desk : Desk) (told : List Event) (c : Course) → is_settled all c ≡ true → OutFits all (steps.released key post desk told).outcome c
-released_fits all None post desk told c s = s
-released_fits all (Some key) post desk told c s = round_fits all (Holds key) post c (other_task all (Holds key) c refl s)
 
 -- a machine that gives, retires and moves nothing
 abbrev pub is_silent : Kind → Bool
@@ -385,6 +428,6 @@ pub resumed_gives : (all : ℕ) (answer : Answer) (desk : Desk) (post : Post) (t
 resumed_gives all answer desk post told (Goes base) c f = f
 resumed_gives all answer desk post told (Ends ending) c f = f
 
-pub resumed_releases : (all : ℕ) (key : Option ℕ) (desk : Desk) (post : Post) (told : List Event) (outcome : Outcome) (c : Course) → is_settled all c ≡ true → OutFits all (steps.resumed (Releases key) desk post told outcome).outcome c
-resumed_releases all key desk post told (Goes base) c f = f
-resumed_releases all key desk post told (Ends ending) c f = released_fits all key post desk told c f
+pub resumed_releases : (all : ℕ) (let_go : LetGo) (desk : Desk) (post : Post) (told : List Event) (outcome : Outcome) (c : Course) → is_settled all c ≡ true → OutFits all (steps.resumed (Releases let_go) desk post told outcome).outcome c
+resumed_releases all let_go desk post told (Goes base) c f = f
+resumed_releases all let_go desk post told (Ends ending) c f = released_fits all let_go post desk told c f

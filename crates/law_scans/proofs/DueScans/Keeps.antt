@@ -11,7 +11,7 @@ use Rattle.wfe_core.specs.defs.declared.lifetime.Lifetime.{Lifetime}
 use Rattle.wfe_core.specs.declared.post.Post.{Post}
 use Rattle.wfe_core.specs.Calls.{Phase, Idle, Runs, Scans, Works, CallTurn, CallOutcome, GoesOn, Answers}
 use Rattle.wfe_core.specs.Guards.{guards}
-use Rattle.wfe_core.specs.Locals.{Local, begun, begun_post, told_end, turn}
+use Rattle.wfe_core.specs.Locals.{Local, begun, begun_post, told_end, turn, may_begin}
 use Rattle.wfe_core.specs.Posts.{counted}
 use Rattle.wfe_core.specs.World.{World, begin, step, finds, is_busy, told_in}
 use Rattle.wfe_core.proofs.Facts.{both, first_of, rest_of}
@@ -229,24 +229,24 @@ begin_fits every all w i k call p false e g =
     subst (λ (l : Local). SeatFits every all l.phase l.post (tally_of every k (Then p i (events.Begin call)))) (sym (begin_stays w i k call e))
     (subst (λ (x : Tally). SeatFits every all (w.seat k).phase (w.seat k).post x) (sym (seen_other (tally_by every) no_tally k i p (events.Begin call) e)) (g k))
 
-pub begin_keeps : (layout : Layout) (made : Made) (i : ℕ) (call : Call) → is_busy made.world i ≡ false → Keeps layout made → Keeps layout (done made (Begins i call))
-begin_keeps layout made i call f g =
+pub begin_keeps : (layout : Layout) (made : Made) (i : ℕ) (call : Call) → is_busy made.world i ≡ false → may_begin made.world.layout.config call ≡ true → Keeps layout made → Keeps layout (done made (Begins i call))
+begin_keeps layout made i call f m g =
     let w : World = made.world in
     let k = g.known in
     let q = requests_begin w i call g.asked k.valid f k.seats k.requests in
     record {
-      answers = answering.begin_keeps layout.config.buckets made i call f g.answers;
+      answers = answering.begin_keeps layout.config.buckets made i call f m g.answers;
       table = g.table;
       rows = g.rows;
       line = g.line;
       asked = q.0;
-      known = known_begin w i call g.rows g.line g.asked q.0 f k q.1.facts q.1.deal;
-      seats = λ m. begin_fits layout.config.every (guards layout.config) w i m call made.past (m == i) refl g.seats;
+      known = known_begin w i call g.rows g.line g.asked q.0 f m k q.1.facts q.1.deal;
+      seats = λ j. begin_fits layout.config.every (guards layout.config) w i j call made.past (j == i) refl g.seats;
       law = (refl, g.law);
     }
 
 steady : (layout : Layout) → Steady (Keeps layout)
-steady layout = record { begins = λ made i call b y g. begin_keeps layout made i call y g; steps = λ made i b y g. step_keeps layout made i b y g }
+steady layout = record { begins = λ made i call b y m g. begin_keeps layout made i call y m g; steps = λ made i b y g. step_keeps layout made i b y g }
 
 pub first_keeps : (layout : Layout) → is_valid layout ≡ true → Keeps layout (first_made layout)
 first_keeps layout d =

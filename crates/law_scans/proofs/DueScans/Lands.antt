@@ -29,7 +29,7 @@ use Rattle.wfe_core.specs.Phases.RetireAt.{LoadLife, LoadRetire, StoreRetired}
 use Rattle.wfe_core.specs.Phases.MoveAt.{LoadEra, LoadRequest, ShowEra, LoadAsked, CheckEra, AnswerAsked, LoadReserved, HandOver, HideEra, HideLate, ExchangeClock}
 use Rattle.wfe_core.specs.Phases.Base.{Allocate, Write, Retire, Move}
 use Rattle.wfe_core.specs.Phases.Ending.{Done, Protected, Followed, Allocated, Retired, Clocked}
-use Rattle.wfe_core.specs.Calls.{Task, Gets, Changes, Holds, Enqueues, Dequeues, Again, AfterScan, Answered, Repeated, Counted, ScanAt, ReadGuard, GiveBack, Why, Opens, FollowsHead, Fills, ClearsNext, Clears, Finishes, GivesUp, Retires, Tidies, Advances, Releases, Phase, Idle, Runs, Scans, Works}
+use Rattle.wfe_core.specs.Calls.{Task, Gets, Changes, Holds, Enqueues, Dequeues, Again, AfterScan, Answered, Repeated, Counted, ScanAt, ReadGuard, GiveBack, Why, Opens, FollowsHead, Fills, ClearsNext, Clears, Finishes, GivesUp, Retires, Tidies, Advances, Releases, Released, Rehold, Dropped, Phase, Idle, Runs, Scans, Works}
 use Rattle.wfe_core.proofs.Facts.{both, rest_of}
 use Rattle.law_places.specs.inv.shapes.Seats.{ToFill, ToRetire, ToMove, kind_of, suits, scan_fits}
 use Rattle.law_places.specs.inv.rows.Hands.{holds_none, task_fills, runs_right}
@@ -37,7 +37,7 @@ use Rattle.law_places.proofs.inv.history.Passes.{scan_told}
 use Rattle.laws.specs.HistoryScans.{Course, Plain, Advancing, MayScan, MustScan, Reading, Tally, first_course, moved_course, read_course, retired_course, may_read, is_settled}
 use Rattle.laws.specs.HistoryEras.{may_move}
 use Rattle.law_scans.proofs.DueScans.Still.{claim_front, tick_front, base_front, front}
-use Rattle.law_scans.proofs.DueScans.Courses.{is_may, is_fresh, is_walked, TaskFits, NextFits, LaterFits, AfterFits, at_guard, at_end, ScanAtFits, FillFits, WhyFits, PhaseFits, OutFits, Lands, other_task, round_fits, closed_fits, clearing_fits, work_fits, silent_lands, resumed_opens, resumed_follows, resumed_next, resumed_clears, resumed_finishes, resumed_gives, resumed_releases}
+use Rattle.law_scans.proofs.DueScans.Courses.{letting_fits, is_may, is_fresh, is_walked, TaskFits, NextFits, LaterFits, AfterFits, at_guard, at_end, ScanAtFits, FillFits, WhyFits, PhaseFits, OutFits, Lands, other_task, round_fits, closed_fits, clearing_fits, work_fits, silent_lands, resumed_opens, resumed_follows, resumed_next, resumed_clears, resumed_finishes, resumed_gives, resumed_releases}
 
 -- a row is filled
 written_fits : (all : ℕ) (task : Task) (post : Post) (desk : Desk) (told : List Event) (c : Course) → TaskFits all task c → OutFits all (steps.written_row task post desk told).outcome c
@@ -228,8 +228,8 @@ run_lands all x (GivesUp answer) base post desk found s h r f =
 run_lands all x (Retires answer) base post desk found s h r f = retires_lands all x answer base post desk found s r f
 run_lands all x (Tidies later) base post desk found s h r f = tidies_lands post.layout.config.every all x later base post desk found s f
 run_lands all x Advances base post desk found s h r f = advances_lands post.layout.config.every all x base post desk found s f
-run_lands all x (Releases key) base post desk found s h r f =
-    let t = machine.after base post found in silent_lands post.layout.config.every all x (Releases key) base found _ s refl (resumed_releases all key desk t.post t.told t.outcome x.course f)
+run_lands all x (Releases let_go) base post desk found s h r f =
+    let t = machine.after base post found in silent_lands post.layout.config.every all x (Releases let_go) base found _ s refl (resumed_releases all let_go desk t.post t.told t.outcome x.course f)
 
 -- a scan
 scanned_fits : (all : ℕ) (later : AfterScan) (post : Post) (desk : Desk) (told : List Event) (c : Course) → is_settled all c ≡ true → AfterFits later → OutFits all (scan.scanned later post desk told).outcome c
@@ -327,7 +327,19 @@ first_fits all (names.Hold key) post = held_fits (stands post 2)
   where
     held_fits : (x : Option ℕ) → PhaseFits all (steps.holding key post x) Plain
     held_fits None = round_fits all (Holds key) post Plain (other_task all (Holds key) Plain refl refl)
-    held_fits (Some slot) = refl
-first_fits all names.Release post = refl
+    held_fits (Some slot) = letting_fits all (Rehold key) post Plain refl
+first_fits all names.Release post = letting_fits all Released post Plain refl
 first_fits all names.Advance post = refl
 first_fits all names.Scan post = (refl, tt)
+first_fits all (names.Copy from index) post = copying_fits (stands post from)
+  where
+    copying_fits : (x : Option ℕ) → PhaseFits all (steps.copying from index x) Plain
+    copying_fits None = refl
+    copying_fits (Some slot) = refl
+first_fits all (names.DropIndex index) post = letting_fits all (Dropped index) post Plain refl
+first_fits all (names.Look index key) post = looking_fits (stands post index)
+  where
+    looking_fits : (x : Option ℕ) → PhaseFits all (steps.looking_at index key x) Plain
+    looking_fits None = refl
+    looking_fits (Some slot) = refl
+first_fits all (names.PutIf key value version) post = round_fits all _ post MayScan (record { settled = refl; fresh = λ h. refl })

@@ -17,7 +17,8 @@ use Rattle.wfe_core.specs.Locals.{told_by}
 use Rattle.wfe_core.specs.Machine as machine
 use Rattle.wfe_core.specs.Memory.{bump}
 use Rattle.wfe_core.specs.MoveClock as movers
-use Rattle.wfe_core.specs.Posts.{reserves_helper, upper, with_tag}
+use Rattle.wfe_core.specs.Posts.{reserves_helper, stands, upper, with_tag}
+use Rattle.wfe_core.specs.words.Schemes.{has_one_interval}
 use Rattle.wfe_core.specs.Protect as protects
 use Rattle.wfe_core.specs.Rounds.{scheme_of, clear_post, clear_told}
 use Rattle.wfe_core.specs.Steps as steps
@@ -30,10 +31,10 @@ use Rattle.wfe_core.specs.Phases.AllocateAt.{LoadBirth, ClaimSlot, StoreLife}
 use Rattle.wfe_core.specs.Phases.RetireAt.{LoadLife, LoadRetire, StoreRetired}
 use Rattle.wfe_core.specs.Phases.MoveAt.{LoadEra, CheckEra, AnswerAsked, LoadReserved, HandOver, ExchangeClock}
 use Rattle.wfe_core.specs.Phases.Base.{Begin, Protect, Reload, Allocate, Write, Retire, Move}
-use Rattle.wfe_core.specs.Calls.{Phase, Idle, Runs, Scans, Works}
-use Rattle.law_places.proofs.inv.history.Passes.{is_quiet, Closed, First, scan_told, step_goes}
+use Rattle.wfe_core.specs.Calls.{Loosens, LoadHeld, StoreHeld, Looks, Misses, Work, Getting, Changing, Enqueuing, Dequeuing, Keeping, Phase, Idle, Runs, Scans, Works}
+use Rattle.law_places.proofs.inv.history.Passes.{is_quiet, Closed, First, scan_told, step_goes, copied_post, work_post, work_told}
 use Rattle.law_places.proofs.inv.history.AllOf.{all_of, of_along, of_weaker}
-use Rattle.law_places.proofs.inv.history.MayTell.{Tells, base_all, clear_all}
+use Rattle.law_places.proofs.inv.history.MayTell.{Tells, base_all, clear_all, work_all}
 
 -- an event that leaves a tally as it is
 abbrev pub is_still : Event → Bool
@@ -228,11 +229,30 @@ begins_closed first n = record {
       record { rest = h.rest ++ more; is = ap (λ (all : List Event). all ++ more) h.is ∙ append_assoc first h.rest more; still = of_along is_still h.rest more h.still (clear_all is_still (scheme_of post) post index (λ index slot. refl)); count = clear_count (scheme_of post) post index ∙ h.count };
 }
 
+copied_count : (index : ℕ) (post : Post) (x : Option ℕ) → (copied_post index post x).retired ≡ post.retired
+copied_count index post None = refl
+copied_count index post (Some slot) = refl
+
+load_count : (from index : ℕ) (post : Post) (one : Bool) → (if one then copied_post index post (stands post from) else post).retired ≡ post.retired
+load_count from index post true = copied_count index post (stands post from)
+load_count from index post false = refl
+
+work_count : (work : Work) (post : Post) → (work_post work post).retired ≡ post.retired
+work_count (Keeping (Loosens let_go)) post = refl
+work_count (Keeping (LoadHeld from index)) post = load_count from index post (has_one_interval (scheme_of post))
+work_count (Keeping (StoreHeld from index era)) post = copied_count index post (stands post from)
+work_count (Keeping (Looks index key at)) post = refl
+work_count (Keeping (Misses index)) post = refl
+work_count (Getting key at) post = refl
+work_count (Changing kept at) post = refl
+work_count (Enqueuing kept at) post = refl
+work_count (Dequeuing at) post = refl
+
 first_begins : (phase : Phase) (post : Post) (found : ℕ) → First (Begins (front phase post found) (counts phase post.retired)) phase post found
 first_begins Idle post found = begins_all [] post
 first_begins (Runs why base) post found = base_begins base post found
 first_begins (Scans later at) post found = begins_all (scan_told at post found) post
-first_begins (Works work) post found = begins_all [] post
+first_begins (Works work) post found = record { rest = work_told work post; is = refl; still = work_all is_still (λ index slot. refl) (λ from index slot. refl) (λ seat index era. refl) work post; count = work_count work post }
 
 pub told_begins : (phase : Phase) (post : Post) (desk : Desk) (found : ℕ) → Begins (front phase post found) (counts phase post.retired) (steps.phase_turn phase post desk found).post (told_by (steps.phase_turn phase post desk found))
 told_begins phase post desk found = step_goes (Begins (front phase post found) (counts phase post.retired)) (begins_closed (front phase post found) (counts phase post.retired)) phase post desk found (first_begins phase post found)

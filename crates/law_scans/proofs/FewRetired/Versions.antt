@@ -17,6 +17,7 @@ use Rattle.law_places.proofs.inv.Inv.Begun.{inv_start, inv_begin}
 use Rattle.law_places.proofs.inv.Inv.Kept.{inv_kept}
 use Rattle.law_places.proofs.answers.Lawful.Maps.{told_changes}
 use Rattle.law_places.proofs.answers.Lawful.Queues.{Agrees, told_agrees}
+use Rattle.wfe_core.specs.Locals.{may_begin}
 
 -- what a history keeps: the record's changes and counts are the book's
 record Keeps (layout : Layout) (made : Made) : Type 0 where
@@ -25,10 +26,10 @@ record Keeps (layout : Layout) (made : Made) : Type 0 where
   changes : (b : ℕ) → changes_of b made.past ≡ made.world.book.changes b
   agrees : Agrees made.world.book made.past
 
-begin_keeps : (layout : Layout) (made : Made) (i : ℕ) (call : Call) → is_busy made.world i ≡ false → Keeps layout made → Keeps layout (done made (Begins i call))
-begin_keeps layout made i call f g = record {
+begin_keeps : (layout : Layout) (made : Made) (i : ℕ) (call : Call) → is_busy made.world i ≡ false → may_begin made.world.layout.config call ≡ true → Keeps layout made → Keeps layout (done made (Begins i call))
+begin_keeps layout made i call f m g = record {
   table = g.table;
-  known = inv_begin made.world i call f g.known;
+  known = inv_begin made.world i call f m g.known;
   changes = g.changes;
   agrees = record { queued = g.agrees.queued; taken = g.agrees.taken };
 }
@@ -42,7 +43,7 @@ step_keeps layout made i b g = record {
 }
 
 steady : (layout : Layout) → Steady (Keeps layout)
-steady layout = record { begins = λ made i call b y g. begin_keeps layout made i call y g; steps = λ made i b y g. step_keeps layout made i b g }
+steady layout = record { begins = λ made i call b y m g. begin_keeps layout made i call y m g; steps = λ made i b y g. step_keeps layout made i b g }
 
 -- bounds of a record
 pub record Bounds (most : ℕ) (p : Past) : Type 0 where

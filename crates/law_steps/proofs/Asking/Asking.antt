@@ -16,28 +16,29 @@ use Rattle.wfe_core.specs.Memory.{bump}
 use Rattle.wfe_core.specs.MoveClock as movers
 use Rattle.wfe_core.specs.Posts.{stands, cleared, reserves_index, reserves_helper, reserves_span}
 use Rattle.wfe_core.specs.Protect as protects
-use Rattle.wfe_core.specs.Rounds.{scheme_of, clear_told, index_of}
+use Rattle.wfe_core.specs.Rounds.{scheme_of, clear_told, index_of, let_index}
+use Rattle.wfe_core.specs.words.Schemes.{has_one_interval}
 use Rattle.wfe_core.specs.Phases.{Aim, ProtectAt, MoveAt, Base}
 use Rattle.wfe_core.specs.Phases.BeginAt.{PublishSpan}
 use Rattle.wfe_core.specs.Phases.ProtectAt.{PublishEra, PublishHelper, TakeAnswer, WithdrawHelper, RaiseUpper}
 use Rattle.wfe_core.specs.Phases.MoveAt.{ShowEra, HandOver, HideEra, HideLate}
 use Rattle.wfe_core.specs.Phases.Base.{Begin, Protect, Clear, Finish, Release, Move}
-use Rattle.wfe_core.specs.Calls.{Task, Gets, Changes, Holds, Enqueues, Dequeues, AfterScan, Answered, Repeated, Counted, Why, Opens, FollowsHead, Fills, ClearsNext, Clears, Finishes, GivesUp, Retires, Tidies, Advances, Releases}
+use Rattle.wfe_core.specs.Calls.{Work, Getting, Changing, Enqueuing, Dequeuing, Keeping, Loosens, LoadHeld, StoreHeld, Looks, Misses, Task, Gets, Changes, Holds, Enqueues, Dequeues, AfterScan, Answered, Repeated, Counted, Why, Opens, FollowsHead, Fills, ClearsNext, Clears, Finishes, GivesUp, Retires, Tidies, Advances, Releases}
 use Rattle.wfe_core.proofs.Facts.{same_number, first_of, rest_of}
-use Rattle.law_turns.specs.inv.shapes.Seats.{Shaped, kind_of, suits, index_by}
-use Rattle.law_turns.specs.inv.history.Record.{Past, Test, Each, tells_of}
-use Rattle.law_turns.specs.inv.history.Record.Past.{Then}
-use Rattle.law_turns.proofs.inv.history.AllOf.{all_of, of_weaker}
-use Rattle.law_turns.proofs.inv.history.Passes.{Closed}
-use Rattle.law_turns.proofs.Counting.Passing.{Apart}
-use Rattle.law_turns.proofs.inv.history.MayTell.{concluded_told, publishes, is_reserve, no_reserve, held_any}
+use Rattle.law_held.specs.turns.inv.shapes.Seats.{Shaped, kind_of, suits, index_by}
+use Rattle.law_held.specs.turns.inv.history.Record.{Past, Test, Each, tells_of}
+use Rattle.law_held.specs.turns.inv.history.Record.Past.{Then}
+use Rattle.law_held.proofs.turns.inv.history.AllOf.{all_of, of_weaker}
+use Rattle.law_held.proofs.turns.inv.history.Passes.{Closed, copied_told, work_told}
+use Rattle.law_held.proofs.turns.Counting.Passing.{Apart}
+use Rattle.law_held.proofs.turns.inv.history.MayTell.{concluded_told, publishes, is_reserve, no_reserve, held_any}
 use Rattle.laws.specs.HistoryScans.{Course}
 use Rattle.laws.specs.HistoryEras.{may_move}
 use Rattle.law_scans.specs.Scans.{tally_of}
 use Rattle.law_scans.proofs.DueScans.Courses as courses
 use Rattle.laws.specs.StateAt.{tried_of, shown_of}
-use Rattle.law_turns.proofs.TurnCounts.Trying.{base_tried}
-use Rattle.law_turns.proofs.Withdrawals.Withdrawing.{is_mute, all_mute, quiet_mute, clear_mute, base_shows}
+use Rattle.law_held.proofs.turns.TurnCounts.Trying.{base_tried}
+use Rattle.law_held.proofs.turns.Withdrawals.Withdrawing.{is_mute, all_mute, quiet_mute, clear_mute, base_shows}
 use Rattle.laws.specs.HistorySteps.{failed_at, failed_once}
 
 -- both laws at once
@@ -189,18 +190,54 @@ clear_asks : (c : Config) (i : ℕ) (p : Past) (post : Post) (index : ℕ) (stan
 clear_asks c i p post index None h = index_asks c i p post index 0 h
 clear_asks c i p post index (Some slot) h = (refl, index_asks c i (Then p i (events.Clear index slot)) post index 0 (shown_here i p index slot ∙ h))
 
-release_asks : (c : Config) (i : ℕ) (p : Past) (post : Post) (standing : Option ℕ) → Asks c i (cleared 2 standing ++ reserves_span post None) p
-release_asks c i p post None = (refl, tt)
-release_asks c i p post (Some slot) = (refl, (refl, tt))
+release_asks : (c : Config) (i : ℕ) (p : Past) (post : Post) (index : ℕ) (standing : Option ℕ) → Asks c i (cleared index standing ++ reserves_span post None) p
+release_asks c i p post index None = (refl, tt)
+release_asks c i p post index (Some slot) = (refl, (refl, tt))
 
 pub base_asks : (c : Config) (i : ℕ) (p : Past) (buckets last : ℕ) (why : Why) (base : Base) (post : Post) (found : ℕ) → Site c i p buckets found last why base → Asks c i (machine.after base post found).told p
 base_asks c i p buckets last why (Begin (PublishSpan era)) post found s = (refl, tt)
 base_asks c i p buckets last why (Protect aim index root steps at) post found s = protect_asks c i p buckets last why aim index root steps at post found s
 base_asks c i p buckets last why (Clear index) post found s = clear_asks c i p post index (stands post index) s.shown
 base_asks c i p buckets last why Finish post found s = (refl, tt)
-base_asks c i p buckets last why Release post found s = release_asks c i p post (stands post 2)
+base_asks c i p buckets last why (Release index) post found s = release_asks c i p post index (stands post index)
 base_asks c i p buckets last why (Move at) post found s = move_asks c i p at post found s.apart (s.moves at refl)
 base_asks c i p buckets last why base post found s = bare_asks c i p base post found refl
+
+-- a step on what is kept: its seat's helper word publishes nothing
+cleared_asks : (c : Config) (i : ℕ) (p : Past) (index : ℕ) (standing : Option ℕ) → Asks c i (cleared index standing) p
+cleared_asks c i p index None = tt
+cleared_asks c i p index (Some slot) = (refl, tt)
+
+load_by : (c : Config) (i : ℕ) (p : Past) (from index slot : ℕ) (standing : Option ℕ) → Asks c i ((cleared index standing ++ []) ++ events.Copied from index slot ∷ []) p
+load_by c i p from index slot None = (refl, tt)
+load_by c i p from index slot (Some row) = (refl, (refl, tt))
+
+store_by : (c : Config) (i : ℕ) (p : Past) (post : Post) (from index era slot : ℕ) (standing : Option ℕ) → shown_of i p ≡ false → Asks c i ((cleared index standing ++ reserves_index post index era) ++ events.Copied from index slot ∷ []) p
+store_by c i p post from index era slot None h = ((index_asks c i p post index era h).0, (refl, tt))
+store_by c i p post from index era slot (Some row) h = (refl, ((index_asks c i (Then p i (events.Clear index row)) post index era (shown_here i p index row ∙ h)).0, (refl, tt)))
+
+loads_asks : (c : Config) (i : ℕ) (p : Past) (from index : ℕ) (post : Post) (x : Option ℕ) → Asks c i (copied_told from index post [] x) p
+loads_asks c i p from index post None = tt
+loads_asks c i p from index post (Some slot) = load_by c i p from index slot (stands post index)
+
+load_asks : (c : Config) (i : ℕ) (p : Past) (from index : ℕ) (post : Post) (one : Bool) → Asks c i (if one then copied_told from index post [] (stands post from) else []) p
+load_asks c i p from index post true = loads_asks c i p from index post (stands post from)
+load_asks c i p from index post false = tt
+
+store_asks : (c : Config) (i : ℕ) (p : Past) (from index era : ℕ) (post : Post) (x : Option ℕ) → shown_of i p ≡ false → Asks c i (copied_told from index post (reserves_index post index era) x) p
+store_asks c i p from index era post None h = tt
+store_asks c i p from index era post (Some slot) h = store_by c i p post from index era slot (stands post index) h
+
+pub work_asks : (c : Config) (i : ℕ) (p : Past) (work : Work) (post : Post) → shown_of i p ≡ false → Asks c i (work_told work post) p
+work_asks c i p (Getting key at) post h = tt
+work_asks c i p (Changing kept at) post h = tt
+work_asks c i p (Enqueuing kept at) post h = tt
+work_asks c i p (Dequeuing at) post h = tt
+work_asks c i p (Keeping (Loosens let_go)) post h = cleared_asks c i p (let_index let_go) (stands post (let_index let_go))
+work_asks c i p (Keeping (LoadHeld from index)) post h = load_asks c i p from index post (has_one_interval (scheme_of post))
+work_asks c i p (Keeping (StoreHeld from index era)) post h = store_asks c i p from index era post (stands post from) h
+work_asks c i p (Keeping (Looks index key at)) post h = tt
+work_asks c i p (Keeping (Misses index)) post h = tt
 
 -- a machine that moves the clock runs only where the call may move it
 pub move_course : (all : ℕ) (why : Why) (base : Base) (at : MoveAt) (course : Course) → base ≡ Move at → suits base (kind_of why) ≡ true → courses.WhyFits all why base course → may_move course ≡ true

@@ -19,30 +19,31 @@ use Rattle.wfe_core.specs.Phases.{Base}
 use Rattle.wfe_core.specs.Phases.ProtectAt.{PublishHelper}
 use Rattle.wfe_core.specs.Phases.MoveAt.{ShowEra}
 use Rattle.wfe_core.specs.Phases.Base.{Protect, Clear, Move}
-use Rattle.wfe_core.specs.Calls.{Why, Opens, FollowsHead, Fills, ClearsNext, Clears, Finishes, GivesUp, Retires, Tidies, Advances, Releases, ReadGuard, GiveBack, Phase, Idle, Runs, Scans, Works}
+use Rattle.wfe_core.specs.Calls.{Work, Why, Opens, FollowsHead, Fills, ClearsNext, Clears, Finishes, GivesUp, Retires, Tidies, Advances, Releases, ReadGuard, GiveBack, Phase, Idle, Runs, Scans, Works}
 use Rattle.wfe_core.proofs.Facts.{same_number, both, first_of, rest_of}
 use Rattle.wfe_core.specs.words.Schemes.{is_wfe}
-use Rattle.law_turns.specs.inv.shapes.Seats.{PhaseFits, kind_of, suits}
-use Rattle.law_turns.specs.inv.history.Record.{Past, Each, tells_of}
-use Rattle.law_turns.specs.inv.history.Record.Past.{Then}
-use Rattle.law_turns.proofs.inv.history.Entries.{entries_of_each}
-use Rattle.law_turns.specs.inv.history.Turns as schedule
-use Rattle.law_turns.specs.inv.history.Turns.{record_of}
-use Rattle.law_turns.specs.inv.history.History.{Made}
-use Rattle.law_turns.specs.inv.history.History as histories
-use Rattle.law_turns.specs.answers.Heard.{IsCounted}
-use Rattle.law_turns.proofs.answers.Turns.Counted.{histories_count}
-use Rattle.law_turns.proofs.inv.history.Passes.{Closed, First, step_goes}
-use Rattle.law_turns.proofs.answers.OneStep.Along.{Around, Kept, history_keeps}
+use Rattle.law_held.specs.turns.inv.shapes.Seats.{PhaseFits, kind_of, suits}
+use Rattle.law_held.specs.turns.inv.history.Record.{Past, Each, tells_of}
+use Rattle.law_held.specs.turns.inv.history.Record.Past.{Then}
+use Rattle.law_held.proofs.turns.inv.history.Entries.{entries_of_each}
+use Rattle.law_held.specs.turns.inv.history.Turns as schedule
+use Rattle.law_held.specs.turns.inv.history.Turns.{record_of}
+use Rattle.law_held.specs.turns.inv.history.History.{Made}
+use Rattle.law_held.specs.turns.inv.history.History as histories
+use Rattle.law_held.specs.turns.answers.Heard.{IsCounted}
+use Rattle.law_held.proofs.turns.answers.Turns.Counted.{histories_count}
+use Rattle.law_held.proofs.turns.inv.history.Passes.{Closed, First, step_goes, work_told}
+use Rattle.law_held.proofs.turns.inv.history.MayTell.{work_all}
+use Rattle.law_held.proofs.turns.answers.OneStep.Along.{Around, Kept, history_keeps}
 use Rattle.laws.specs.HistoryTurns.{turns_since}
 use Rattle.laws.specs.StateAt.{tried_by, tried_of, last_of}
 use Rattle.laws.specs.HistorySteps.{tried_enough, helper_ok}
 use Rattle.law_steps.specs.Records.{RecordsKeepHelpers}
-use Rattle.law_turns.proofs.Withdrawals.Withdrawing.{is_mute, all_mute, quiet_mute, clear_mute, is_plain, all_plain, base_plain}
-use Rattle.law_turns.proofs.TurnCounts.Trying.{base_tried}
-use Rattle.law_turns.proofs.TurnCounts.Tried.{why_tried, phase_tried}
-use Rattle.law_turns.proofs.TurnCounts.Underway as underway
-use Rattle.law_turns.proofs.TurnCounts.Underway.{Lasts}
+use Rattle.law_held.proofs.turns.Withdrawals.Withdrawing.{is_mute, all_mute, quiet_mute, clear_mute, is_plain, all_plain, base_plain}
+use Rattle.law_held.proofs.turns.TurnCounts.Trying.{base_tried}
+use Rattle.law_held.proofs.turns.TurnCounts.Tried.{why_tried, phase_tried}
+use Rattle.law_held.proofs.turns.TurnCounts.Underway as underway
+use Rattle.law_held.proofs.turns.TurnCounts.Underway.{Lasts}
 
 -- an event of the seat, where a protection at the index has published so often
 abbrev event_helps : (tries : ℕ) → Event → ℕ → Bool
@@ -85,6 +86,10 @@ helps_closed i j tries n = record {
 abbrev pub is_clearing : Base → Bool
 is_clearing (Clear index) = true
 is_clearing base = false
+
+-- and a call's own step publishes no helper word
+pub work_plain : (work : Work) (post : Post) → all_plain (work_told work post) ≡ true
+work_plain work post = work_all is_plain (λ index slot. refl) (λ from index slot. refl) (λ seat index era. refl) work post
 
 helper_helps : (i j tries n : ℕ) (post : Post) (era : ℕ) → tried_enough tries n ≡ true → helps_along i j tries (reserves_helper post era) n ≡ true
 helper_helps i j tries n post era h = by (one_era era)
@@ -135,7 +140,7 @@ phase_helps w i j times last u Idle f h = refl
 phase_helps w i j times last u (Runs why base) f h = helping_base w.layout.config i j times last u why base (counted (w.seat i).post) (finds w i) f.suited h
 phase_helps w i j times last u (Scans later (ReadGuard number)) f h = refl
 phase_helps w i j times last u (Scans later (GiveBack place slot)) f h = refl
-phase_helps w i j times last u (Works work) f h = refl
+phase_helps w i j times last u (Works work) f h = plain_helps i j w.layout.config.tries (work_told work (counted (w.seat i).post)) times (work_plain work (counted (w.seat i).post))
 
 step_helps : (layout : Layout) (made : Made) (h : schedule.History) (i j : ℕ) → Around made h → Lasts layout made h → helps_along i j made.world.layout.config.tries (told_in made.world i) (tried_of i j (record_of h)) ≡ true
 step_helps layout made h i j a g =
@@ -170,7 +175,7 @@ step_law layout made h i j a g e =
 
 kept : (layout : Layout) → is_wfe layout.config.scheme ≡ true → Kept (Helps layout)
 kept layout f = record {
-  begins = λ made h i call a b y g. record { lasts = underway.begin_kept layout made h i call a y g.lasts; law = λ j. (refl, g.law j) };
+  begins = λ made h i call a b y m g. record { lasts = underway.begin_kept layout made h i call a y g.lasts; law = λ j. (refl, g.law j) };
   steps = λ made h i a b y g. record { lasts = underway.step_kept layout made h i f a b y g.lasts; law = λ j. step_law layout made h i j a g.lasts (g.law j) };
 }
 

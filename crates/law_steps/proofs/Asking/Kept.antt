@@ -15,19 +15,19 @@ use Rattle.wfe_core.specs.Phases.Base.{Protect}
 use Rattle.wfe_core.specs.Posts.{counted}
 use Rattle.wfe_core.specs.World.{World, finds, told_in}
 use Rattle.wfe_core.specs.words.Schemes.{is_wfe}
-use Rattle.law_turns.specs.inv.shapes.Seats.{kind_of, suits}
-use Rattle.law_turns.specs.inv.shapes.Seats as seats
-use Rattle.law_turns.specs.inv.history.Record.{Past, Each, EachEntry}
-use Rattle.law_turns.proofs.inv.history.Entries.{entries_of_each}
-use Rattle.law_turns.specs.inv.history.Turns as schedule
-use Rattle.law_turns.specs.inv.history.Turns.{record_of}
-use Rattle.law_turns.specs.inv.history.History.{Item, Made}
-use Rattle.law_turns.specs.inv.history.History as histories
-use Rattle.law_turns.specs.answers.Heard.{IsCounted}
-use Rattle.law_turns.proofs.answers.Turns.Counted.{histories_count}
-use Rattle.law_turns.proofs.inv.history.Passes.{First, step_goes}
-use Rattle.law_turns.proofs.answers.OneStep.Along.{Around, Kept, history_keeps}
-use Rattle.law_turns.proofs.Counting.Passing.{Apart}
+use Rattle.law_held.specs.turns.inv.shapes.Seats.{kind_of, suits}
+use Rattle.law_held.specs.turns.inv.shapes.Seats as seats
+use Rattle.law_held.specs.turns.inv.history.Record.{Past, Each, EachEntry}
+use Rattle.law_held.proofs.turns.inv.history.Entries.{entries_of_each}
+use Rattle.law_held.specs.turns.inv.history.Turns as schedule
+use Rattle.law_held.specs.turns.inv.history.Turns.{record_of}
+use Rattle.law_held.specs.turns.inv.history.History.{Item, Made}
+use Rattle.law_held.specs.turns.inv.history.History as histories
+use Rattle.law_held.specs.turns.answers.Heard.{IsCounted}
+use Rattle.law_held.proofs.turns.answers.Turns.Counted.{histories_count}
+use Rattle.law_held.proofs.turns.inv.history.Passes.{First, step_goes}
+use Rattle.law_held.proofs.turns.answers.OneStep.Along.{Around, Kept, history_keeps}
+use Rattle.law_held.proofs.turns.Counting.Passing.{Apart}
 use Rattle.laws.specs.HistoryTurns.{turns_since}
 use Rattle.laws.specs.HistoryScans.{Tally, plain_tally}
 use Rattle.laws.specs.HistoryEras.{may_move}
@@ -36,14 +36,14 @@ use Rattle.law_scans.proofs.DueScans.Courses as courses
 use Rattle.law_scans.proofs.DueScans.Keeps as scans
 use Rattle.law_scans.proofs.FewRetired.Plain.{records_count_plainly}
 use Rattle.laws.specs.StateAt.{tried_of, last_of, shown_of}
-use Rattle.law_turns.proofs.TurnCounts.Lasting.{base_apart}
-use Rattle.law_turns.proofs.TurnCounts.Tried.{why_tried, phase_tried}
-use Rattle.law_turns.proofs.TurnCounts.Underway as underway
-use Rattle.law_turns.proofs.TurnCounts.Underway.{Lasts}
-use Rattle.law_turns.proofs.Withdrawals.Withdrawing.{phase_shows}
+use Rattle.law_held.proofs.turns.TurnCounts.Lasting.{base_apart}
+use Rattle.law_held.proofs.turns.TurnCounts.Tried.{why_tried, phase_tried}
+use Rattle.law_held.proofs.turns.TurnCounts.Underway as underway
+use Rattle.law_held.proofs.turns.TurnCounts.Underway.{Lasts}
+use Rattle.law_held.proofs.turns.Withdrawals.Withdrawing.{phase_shows}
 use Rattle.laws.specs.HistorySteps.{failed_once, shows_ok, takes_ok}
 use Rattle.law_steps.specs.Records.{RecordsShowLate, RecordsTakeLate}
-use Rattle.law_steps.proofs.Asking.Asking.{Asks, asks_ok, asks_closed, Tries, base_asks, move_course, told_each}
+use Rattle.law_steps.proofs.Asking.Asking.{work_asks, Asks, asks_ok, asks_closed, Tries, base_asks, move_course, told_each}
 
 -- what is known of a seat where it makes a step
 record Stand (c : Config) (layout : Layout) (i : ℕ) (p : Past) (turns : ℕ → ℕ) (all last found : ℕ) (post : Post) (phase : Phase) : Type 0 where
@@ -82,7 +82,7 @@ phase_asks c layout i p turns all last found post (Runs why base) s =
     })
 phase_asks c layout i p turns all last found post (Scans later (ReadGuard number)) s = (refl, tt)
 phase_asks c layout i p turns all last found post (Scans later (GiveBack place slot)) s = (refl, tt)
-phase_asks c layout i p turns all last found post (Works work) s = tt
+phase_asks c layout i p turns all last found post (Works work) s = work_asks c i p work (counted post) s.shown
 
 -- along a history
 record Keeps (layout : Layout) (made : Made) (h : schedule.History) : Type 0 where
@@ -116,9 +116,9 @@ step_asks layout made h i a b g =
 
 kept : (layout : Layout) → is_wfe layout.config.scheme ≡ true → Kept (Keeps layout)
 kept layout f = record {
-  begins = λ made h i call a b y g. record {
+  begins = λ made h i call a b y m g. record {
     lasts = underway.begin_kept layout made h i call a y g.lasts;
-    scans = scans.begin_keeps layout made i call y g.scans;
+    scans = scans.begin_keeps layout made i call y m g.scans;
     law = (refl, g.law);
   };
   steps = λ made h i a b y g. record {

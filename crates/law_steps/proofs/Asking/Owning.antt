@@ -26,36 +26,36 @@ use Rattle.wfe_core.specs.Steps as steps
 use Rattle.wfe_core.specs.Steps.{phase_move}
 use Rattle.wfe_core.specs.World.{World, begin, step, finds, told_in}
 use Rattle.wfe_core.proofs.Facts.{both, first_of, rest_of, number_is, same_number}
-use Rattle.law_turns.specs.inv.shapes.Eras.{Eras}
-use Rattle.law_turns.specs.inv.shapes.Seats.{PhaseFits, Run, kind_of, suits}
-use Rattle.law_turns.specs.inv.history.History as histories
-use Rattle.law_turns.specs.inv.history.History.{Begins, Item, Made, Steps, done}
-use Rattle.law_turns.specs.inv.history.Record.{Past, Test, Each, tells_of}
-use Rattle.law_turns.specs.inv.history.Record.Past.{Then}
-use Rattle.law_turns.specs.inv.history.Turns as schedule
-use Rattle.law_turns.specs.inv.history.Turns.{record_of}
-use Rattle.law_turns.specs.inv.history.Turns.History.{Starts}
-use Rattle.law_turns.specs.answers.Heard.{IsCounted}
-use Rattle.law_turns.proofs.answers.OneStep.Along.{Around, Kept, history_keeps}
-use Rattle.law_turns.proofs.answers.Turns.Counted.{histories_count}
-use Rattle.law_turns.proofs.inv.Inv.Shapes.{eras_of}
-use Rattle.law_turns.proofs.inv.handover.Asks.{run_of}
-use Rattle.law_turns.proofs.inv.history.Entries.{entries_of_each}
-use Rattle.law_turns.proofs.inv.history.Passes.{Closed, First, step_goes}
-use Rattle.law_turns.proofs.inv.shapes.Frame.{begin_begins, begin_stays, seat_stays}
-use Rattle.law_turns.proofs.inv.shapes.Kept.{begun_fits}
-use Rattle.law_turns.proofs.TurnCounts.Tried.{phase_tried, why_tried}
-use Rattle.law_turns.proofs.TurnCounts.Underway as underway
-use Rattle.law_turns.proofs.TurnCounts.Underway.{Lasts}
-use Rattle.law_turns.proofs.Withdrawals.Leaving.{Leads, Left, first_new, stepped_leads, tries_none}
-use Rattle.law_turns.proofs.Withdrawals.Withdrawing.{all_plain, base_plain, clear_mute, is_plain, quiet_mute}
+use Rattle.law_held.specs.turns.inv.shapes.Eras.{Eras}
+use Rattle.law_held.specs.turns.inv.shapes.Seats.{PhaseFits, Run, kind_of, suits}
+use Rattle.law_held.specs.turns.inv.history.History as histories
+use Rattle.law_held.specs.turns.inv.history.History.{Made}
+use Rattle.law_held.specs.turns.inv.history.Record.{Past, Test, Each, tells_of}
+use Rattle.law_held.specs.turns.inv.history.Record.Past.{Then}
+use Rattle.law_held.specs.turns.inv.history.Turns as schedule
+use Rattle.law_held.specs.turns.inv.history.Turns.{record_of}
+use Rattle.law_held.specs.turns.inv.history.Turns.History.{Starts}
+use Rattle.law_held.specs.turns.answers.Heard.{IsCounted}
+use Rattle.law_held.proofs.turns.answers.OneStep.Along.{Around, Kept, history_keeps}
+use Rattle.law_held.proofs.turns.answers.Turns.Counted.{histories_count}
+use Rattle.law_held.proofs.turns.inv.Inv.Shapes.{eras_of}
+use Rattle.law_held.proofs.turns.inv.handover.Asks.{run_of}
+use Rattle.law_held.proofs.turns.inv.history.Entries.{entries_of_each}
+use Rattle.law_held.proofs.turns.inv.history.Passes.{Closed, First, step_goes, work_told}
+use Rattle.law_held.proofs.turns.inv.shapes.Frame.{begin_begins, begin_stays, seat_stays}
+use Rattle.law_held.proofs.turns.inv.shapes.Kept.{begun_fits}
+use Rattle.law_held.proofs.turns.TurnCounts.Tried.{phase_tried, why_tried}
+use Rattle.law_held.proofs.turns.TurnCounts.Underway as underway
+use Rattle.law_held.proofs.turns.TurnCounts.Underway.{Lasts}
+use Rattle.law_held.proofs.turns.Withdrawals.Leaving.{Leads, Left, first_new, stepped_leads, tries_none}
+use Rattle.law_held.proofs.turns.Withdrawals.Withdrawing.{all_plain, base_plain, clear_mute, is_plain, quiet_mute}
 use Rattle.laws.specs.HistorySteps.{asks_ok}
 use Rattle.laws.specs.StateAt.{own_last_by, own_last_of, own_rising_by, own_rising_of}
 use Rattle.laws.specs.HistoryTurns.{turns_since}
 use Rattle.laws.specs.StateAt.{last_of, tried_of}
 use Rattle.laws.specs.HistorySteps.{helper_ok, tried_enough}
 use Rattle.law_steps.specs.Records.{RecordsAskLate}
-use Rattle.law_steps.proofs.Asking.Helping.{mute_plain, other_why, records_keep_helpers}
+use Rattle.law_steps.proofs.Asking.Helping.{mute_plain, other_why, records_keep_helpers, work_plain}
 use Rattle.law_steps.proofs.Asking.Owns.{Begun, Comes, Leaves, Out, OwnEra, base_leaves, base_own, comes_along, fresh_of, last_told, new_own, phase_own, rise_told}
 
 -- where an era is published in a helper word, the eras of the protection under way have risen
@@ -117,7 +117,7 @@ phase_fine w i j p u last Idle f t h = tt
 phase_fine w i j p u last (Runs why base) f t h = base_fine w.layout.config j i p u last why base (counted (w.seat i).post) (finds w i) f.suited t h
 phase_fine w i j p u last (Scans later (ReadGuard number)) f t h = (refl, tt)
 phase_fine w i j p u last (Scans later (GiveBack place slot)) f t h = (refl, tt)
-phase_fine w i j p u last (Works work) f t h = tt
+phase_fine w i j p u last (Works work) f t h = plain_fine j i (work_told work (counted (w.seat i).post)) p (work_plain work (counted (w.seat i).post))
 
 -- what a step needs
 own_era : (w : World) (i : ℕ) (why : Why) (base : Base) → Eras w → (w.seat i).phase ≡ Runs why base → OwnEra base (finds w i)
@@ -266,7 +266,7 @@ begin_seats layout made h i k j call false e a g =
 
 kept : (layout : Layout) → is_wfe layout.config.scheme ≡ true → Kept (Owns layout)
 kept layout f = record {
-  begins = λ made h i call a b y g. record { lasts = underway.begin_kept layout made h i call a y g.lasts; own = λ k j. begin_seats layout made h i k j call (k == i) refl a g; law = λ j. (refl, g.law j) };
+  begins = λ made h i call a b y m g. record { lasts = underway.begin_kept layout made h i call a y g.lasts; own = λ k j. begin_seats layout made h i k j call (k == i) refl a g; law = λ j. (refl, g.law j) };
   steps = λ made h i a b y g. record { lasts = underway.step_kept layout made h i f a b y g.lasts; own = λ k j. step_seats layout made h i k j (k == i) refl a g; law = λ j. step_law layout made h i j a g };
 }
 

@@ -30,10 +30,10 @@ use Rattle.wfe_core.specs.Protect as protects
 use Rattle.wfe_core.specs.SlowPath as slow
 use Rattle.wfe_core.specs.WriteRow.{last_written}
 use Rattle.wfe_core.proofs.Facts.{both, first_of, rest_of, same_number}
-use Rattle.law_turns.specs.inv.history.Record.{Past}
-use Rattle.law_turns.specs.inv.history.Record.Past.{Start, Then}
-use Rattle.law_turns.proofs.Withdrawals.Leaving.{is_first, is_new}
-use Rattle.law_turns.proofs.Withdrawals.Withdrawing.{is_mute, all_mute}
+use Rattle.law_held.specs.turns.inv.history.Record.{Past}
+use Rattle.law_held.specs.turns.inv.history.Record.Past.{Start, Then}
+use Rattle.law_held.proofs.turns.Withdrawals.Leaving.{is_first, is_new}
+use Rattle.law_held.proofs.turns.Withdrawals.Withdrawing.{is_mute, all_mute}
 use Rattle.laws.specs.StateAt.{own_last_by, own_last_of, own_rising_by, own_rising_of}
 use Rattle.laws.specs.StateAt.{is_index_word, one_more, tried_by, tried_of}
 use Rattle.laws.specs.StateAt.{era_grows}
@@ -60,12 +60,14 @@ rise_both i j (e ∷ xs) ys x r = rise_both i j xs ys (own_last_by i j e x) (own
 mute_last : (i j : ℕ) (event : Event) (x : Option Interval) → is_mute event ≡ true → own_last_by i j event x ≡ x
 mute_last i j (events.Reserve guard span) x h = absurd (cc)
 mute_last i j (events.Held index slot steps) x h = absurd (cc)
+mute_last i j (events.Copied from index slot) x h = absurd (cc)
 mute_last i j (events.Null index steps) x h = absurd (cc)
 mute_last i j event x h = refl
 
 mute_rise : (i j : ℕ) (event : Event) (x : Option Interval) (r : Bool) → is_mute event ≡ true → own_rising_by i j x event r ≡ r
 mute_rise i j (events.Reserve guard span) x r h = absurd (cc)
 mute_rise i j (events.Held index slot steps) x r h = absurd (cc)
+mute_rise i j (events.Copied from index slot) x r h = absurd (cc)
 mute_rise i j (events.Null index steps) x r h = absurd (cc)
 mute_rise i j event x r h = refl
 
@@ -104,6 +106,11 @@ fresh_by i j n x r (events.Held index slot steps) f h = by (index == j) h
     by true h = record { last = refl; rising = refl }
     by false h = f h
 fresh_by i j n x r (events.Null index steps) f h = by (index == j) h
+  where
+    by : (own : Bool) → ((if own then 0 else n) == 0) ≡ true → Fresh (if own then None else x) (if own then true else r)
+    by true h = record { last = refl; rising = refl }
+    by false h = f h
+fresh_by i j n x r (events.Copied from index slot) f h = by (index == j) h
   where
     by : (own : Bool) → ((if own then 0 else n) == 0) ≡ true → Fresh (if own then None else x) (if own then true else r)
     by true h = record { last = refl; rising = refl }

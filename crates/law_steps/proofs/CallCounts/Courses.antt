@@ -27,12 +27,12 @@ use Rattle.wfe_core.specs.Phases.ProtectAt.{LoadClock, CheckClock, CheckOwnClock
 use Rattle.wfe_core.specs.Phases.MoveAt.{LoadEra, ExchangeClock}
 use Rattle.wfe_core.specs.Phases.Base.{Protect, Clear, Release, Move}
 use Rattle.wfe_core.specs.Phases.Ending.{Protected, Clocked}
-use Rattle.wfe_core.specs.Calls.{Task, Gets, Holds, Next, Answering, Why, Opens, Clears, Advances, Releases, GetAt, FindVersion, FindCount, FindKey, FindValue, Getting, Phase, Runs, Works, CallOutcome, GoesOn, Answers}
+use Rattle.wfe_core.specs.Calls.{Task, Gets, Holds, Next, Answering, Why, Opens, Clears, Advances, Releases, Rehold, GetAt, FindVersion, FindCount, FindKey, FindValue, Getting, Phase, Runs, Works, CallOutcome, GoesOn, Answers}
 use Rattle.wfe_core.specs.words.Schemes.{is_wfe}
-use Rattle.law_turns.specs.inv.shapes.Seats.{Kind, kind_of, suits, move_fits}
-use Rattle.law_turns.specs.inv.shapes.Slots.{GetIn}
-use Rattle.law_turns.specs.inv.requests.Paces.{Falls}
-use Rattle.law_turns.proofs.answers.AnswersTold.Owed.{out_clocked}
+use Rattle.law_held.specs.turns.inv.shapes.Seats.{Kind, kind_of, suits, move_fits}
+use Rattle.law_held.specs.turns.inv.shapes.Slots.{GetIn}
+use Rattle.law_held.specs.turns.inv.requests.Paces.{Falls}
+use Rattle.law_held.proofs.turns.answers.AnswersTold.Owed.{out_clocked}
 use Rattle.law_steps.proofs.CallCounts.Counting.{short_move, at_advance, alone_steps, at_hold, getting_steps, at_get, Out}
 use Rattle.wfe_core.proofs.Facts.{le_of_test, le_test}
 
@@ -153,9 +153,9 @@ free_get : (c : Config) (k backs m : ℕ) (outcome : CallOutcome) → is_wfe c.s
 free_get c k backs m (GoesOn phase) f = rw f refl
 free_get c k backs m (Answers answer) f = rw f refl
 
-hold_released : (c : Config) (k key : ℕ) (base : Base) (post : Post) (desk : Desk) (found backs n m : ℕ) → is_wfe c.scheme ≡ true → scheme_of post ≡ Wfe → suits base Kind.ToRelease ≡ true → (n == 0) ≡ true → m ≡ n + 1 → Out c (calls.Hold k) backs m (steps.phase_turn (Runs (Releases (Some key)) base) post desk found).outcome
+hold_released : (c : Config) (k key : ℕ) (base : Base) (post : Post) (desk : Desk) (found backs n m : ℕ) → is_wfe c.scheme ≡ true → scheme_of post ≡ Wfe → suits base Kind.ToRelease ≡ true → (n == 0) ≡ true → m ≡ n + 1 → Out c (calls.Hold k) backs m (steps.phase_turn (Runs (Releases (Rehold key)) base) post desk found).outcome
 hold_released c k key (Clear index) post desk found backs n m f s u h e = rw f (subst (λ (x : Phase). at_hold c x m ≡ true) (sym (round_next (Holds key) _ s)) (grind (arith, nat_tests)))
-hold_released c k key Release post desk found backs n m f s u h e = rw f (subst (λ (x : Phase). at_hold c x m ≡ true) (sym (round_next (Holds key) _ s)) (grind (arith, nat_tests)))
+hold_released c k key (Release index) post desk found backs n m f s u h e = rw f (subst (λ (x : Phase). at_hold c x m ≡ true) (sym (round_next (Holds key) _ s)) (grind (arith, nat_tests)))
 hold_released c k key base post desk found backs n m f s u h e = absurd (cc)
 
 hold_cleared : (c : Config) (k key : ℕ) (answer : Answer) (base : Base) (post : Post) (desk : Desk) (found backs n m : ℕ) → is_wfe c.scheme ≡ true → scheme_of post ≡ Wfe → suits base Kind.ToClear ≡ true → nat_le n (3 * c.tries + 15) ≡ true → m ≡ n + 1
@@ -174,7 +174,7 @@ hold_protects c k key Alone index root made at post desk found backs n m f s t l
 hold_protects c k key Follows index root made at post desk found backs n m f s t l h e = absurd (cc)
 
 hold_by : (c : Config) (k : ℕ) (phase : Phase) (post : Post) (desk : Desk) (found backs n m : ℕ) → is_wfe c.scheme ≡ true → Facts c phase post found → n < 2 ^ 62 → at_hold c phase n ≡ true → m ≡ n + 1 → Out c (calls.Hold k) backs m (steps.phase_turn phase post desk found).outcome
-hold_by c k (Runs (Releases (Some key)) base) post desk found backs n m f x l h e = hold_released c k key base post desk found backs n m f (x.scheme ∙ wfe_scheme c.scheme f) (x.suited (Releases (Some key)) base refl) h e
+hold_by c k (Runs (Releases (Rehold key)) base) post desk found backs n m f x l h e = hold_released c k key base post desk found backs n m f (x.scheme ∙ wfe_scheme c.scheme f) (x.suited (Releases (Rehold key)) base refl) h e
 hold_by c k (Runs (Opens (Holds key)) (Protect aim index root made at)) post desk found backs n m f x l h e =
     hold_protects c k key aim index root made at post desk found backs n m f (x.left (Opens (Holds key)) (Protect aim index root made at) refl ∙ wfe_scheme c.scheme f) (x.paced (Opens (Holds key)) aim index root made at f refl) l h e
 hold_by c k (Runs (Clears (Holds key) (Answering answer)) base) post desk found backs n m f x l h e =

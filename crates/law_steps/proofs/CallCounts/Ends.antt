@@ -4,7 +4,7 @@ use Rattle.std.proofs.lemmas.Bool.Decides.{nat_tests}
 use Rattle.std.specs.Prelude.{◌==◌, ◌&&◌, ◌||◌, ◌*◌, not, nat_le, nat_lt, if◌then◌else◌}
 use Rattle.wfe_core.specs.words.declared.config.Config.{Config}
 use Rattle.wfe_core.specs.words.declared.config.SchemeKind.{SchemeKind}
-use Rattle.wfe_core.specs.words.declared.config.SchemeKind.TheVariants.{He, Ibr, Wfe}
+use Rattle.wfe_core.specs.words.declared.config.SchemeKind.TheVariants.{Wfe}
 use Rattle.wfe_core.specs.words.declared.layout.Layout.{Layout}
 use Rattle.wfe_core.specs.defs.declared.call.Answer.{Answer}
 use Rattle.wfe_core.specs.defs.declared.call.Call.{Call}
@@ -15,44 +15,46 @@ use Rattle.wfe_core.specs.declared.post.Post.{Post}
 use Rattle.wfe_core.specs.Desks.{Desk, noting}
 use Rattle.wfe_core.specs.Guards.{guards, guard_at, published as publishes}
 use Rattle.wfe_core.specs.Scan as scans
-use Rattle.wfe_core.specs.Locals.{Local, busy_in, begun_post, told_by, told_end, turn, rounds_told, settled_by}
+use Rattle.wfe_core.specs.Phases.{Base}
+use Rattle.law_held.proofs.turns.inv.shapes.Kept.{work_counted}
+use Rattle.wfe_core.specs.Locals.{Local, may_begin, busy_in, begun_post, told_by, told_end, turn, rounds_told, settled_by}
 use Rattle.wfe_core.specs.Phases.Base.{Move}
 use Rattle.wfe_core.specs.Posts.{counted, stands}
 use Rattle.wfe_core.specs.Rest.{rest, move_left}
 use Rattle.wfe_core.specs.Phases.MoveAt.{LoadEra}
-use Rattle.wfe_core.specs.Calls.{Gets, Counted, Advances, Releases, ScanAt, ReadGuard, GiveBack, Phase, Runs, Scans, CallTurn, CallOutcome, GoesOn, Answers}
-use Rattle.wfe_core.specs.Rounds.{scheme_of, release_base, move_base, helps, round}
+use Rattle.wfe_core.specs.Calls.{Gets, Counted, Advances, Releases, Released, Dropped, Loosens, Keeping, ScanAt, ReadGuard, GiveBack, Phase, Runs, Scans, Works, CallTurn, CallOutcome, GoesOn, Answers}
+use Rattle.wfe_core.specs.Rounds.{scheme_of, letting_by, release_base, move_base, helps, round}
 use Rattle.wfe_core.specs.Steps as steps
 use Rattle.wfe_core.specs.World.{World, begin, step, finds, is_busy, told_in}
 use Rattle.wfe_core.proofs.Frames.{after_same}
-use Rattle.wfe_core.proofs.Facts.{same_number, both, first_of, rest_of}
+use Rattle.wfe_core.proofs.Facts.{same_number, first_of, rest_of}
 use Rattle.wfe_core.specs.words.Schemes.{is_wfe}
-use Rattle.law_turns.specs.inv.shapes.Seats.{PhaseFits, Run}
-use Rattle.law_turns.specs.inv.shapes.Slots.{PhaseIn}
-use Rattle.law_turns.proofs.inv.shapes.Frame.{seat_stays, seat_steps, begin_stays, begin_begins}
-use Rattle.law_turns.specs.inv.history.Record.{Past, Each, tells_of}
-use Rattle.law_turns.specs.inv.history.Record.Past.{Then}
-use Rattle.law_turns.proofs.inv.history.Entries.{entries_of_each}
-use Rattle.law_turns.specs.inv.history.Turns as schedule
-use Rattle.law_turns.specs.inv.history.Turns.History.{Starts, Turns}
-use Rattle.law_turns.specs.inv.history.History.{Begins, Steps, Made, done}
-use Rattle.law_turns.specs.inv.history.History as histories
-use Rattle.law_turns.proofs.inv.requests.Paced.{in_time}
-use Rattle.law_turns.proofs.inv.requests.Falling.{moves_on}
-use Rattle.law_turns.proofs.inv.covers.Held.{stepped_post}
-use Rattle.law_turns.specs.inv.Inv.{Inv}
+use Rattle.law_held.specs.turns.inv.shapes.Seats.{PhaseFits, Run}
+use Rattle.law_held.specs.turns.inv.shapes.Slots.{PhaseIn}
+use Rattle.law_held.proofs.turns.inv.shapes.Frame.{seat_stays, seat_steps, begin_stays, begin_begins}
+use Rattle.law_held.specs.turns.inv.history.Record.{Past, Each, tells_of}
+use Rattle.law_held.specs.turns.inv.history.Record.Past.{Then}
+use Rattle.law_held.proofs.turns.inv.history.Entries.{entries_of_each}
+use Rattle.law_held.specs.turns.inv.history.Turns as schedule
+use Rattle.law_held.specs.turns.inv.history.Turns.History.{Starts, Turns}
+use Rattle.law_held.specs.turns.inv.history.History.{Begins, Steps, Made, done}
+use Rattle.law_held.specs.turns.inv.history.History as histories
+use Rattle.law_held.proofs.turns.inv.requests.Paced.{in_time}
+use Rattle.law_held.proofs.turns.inv.requests.Falling.{moves_on}
+use Rattle.law_held.proofs.turns.inv.covers.Held.{stepped_post}
+use Rattle.law_held.specs.turns.inv.Inv.{Inv}
 use Rattle.laws.specs.StateAt.{began_of, backs_by, backs_of}
-use Rattle.law_turns.proofs.answers.AnswersTold.Answering as answering
-use Rattle.law_turns.proofs.inv.Machines.{within_of}
-use Rattle.law_turns.proofs.answers.AnswersTold.Answering.{began_along, first_all, owes_of}
-use Rattle.law_turns.proofs.answers.AnswersTold.Moves.{phase_ends}
-use Rattle.law_turns.proofs.answers.AnswersTold.Owed.{is_open}
-use Rattle.law_turns.proofs.answers.AnswersTold.Owing.{PhaseEnds}
-use Rattle.law_turns.proofs.inv.history.AllOf.{all_of}
-use Rattle.law_turns.proofs.answers.OneStep.Along.{Around, Kept, history_keeps}
+use Rattle.law_held.proofs.turns.answers.AnswersTold.Answering as answering
+use Rattle.law_held.proofs.turns.inv.Machines.{within_of}
+use Rattle.law_held.proofs.turns.answers.AnswersTold.Answering.{began_along, first_all, owes_of}
+use Rattle.law_held.proofs.turns.answers.AnswersTold.Moves.{phase_ends}
+use Rattle.law_held.proofs.turns.answers.AnswersTold.Owed.{is_open}
+use Rattle.law_held.proofs.turns.answers.AnswersTold.Owing.{PhaseEnds}
+use Rattle.law_held.proofs.turns.inv.history.AllOf.{all_of}
+use Rattle.law_held.proofs.turns.answers.OneStep.Along.{Around, Kept, history_keeps}
 use Rattle.laws.specs.HistorySteps.{steps_right, end_ok}
 use Rattle.law_steps.specs.Records.{RecordsKeepEnds}
-use Rattle.law_steps.proofs.CallCounts.Counting.{at_release, at_scan, at_advance, at_hold, at_get, call_steps, Out, release_out, scan_small, backs_at, scan_out}
+use Rattle.law_steps.proofs.CallCounts.Counting.{at_release, at_drop, at_copy, at_look, at_scan, at_advance, at_hold, at_get, call_steps, Out, release_out, drop_out, copy_out, look_out, scan_small, backs_at, scan_out}
 use Rattle.law_steps.proofs.CallCounts.Courses.{Facts, wfe_scheme, advance_out, hold_out, get_out}
 use Rattle.law_scans.proofs.reuse.Blocks.Placed.{scan_event}
 use Rattle.laws.proofs.Tells.{tells_both}
@@ -109,11 +111,35 @@ scan_tells (ReadGuard number) post desk found =
 scan_tells (GiveBack place slot) post desk found = giving_tells post (scans.with_back desk place) (events.Back slot ∷ []) (scans.unmet_from (scans.with_back desk place) place)
 
 release_case : (w : World) (i : ℕ) (phase : Phase) (before backs m : ℕ) → Inv w → (w.seat i).phase ≡ phase → (at_release phase && (w.seat i).post.steps == 0) ≡ true → m ≡ (w.seat i).post.steps + 1 → Goal w i calls.Release backs m phase
-release_case w i (Runs (Releases None) base) before backs m a e h q =
+release_case w i (Runs (Releases Released) base) before backs m a e h q =
     let k = a.known in
-    let r : Run w.layout (Releases None) base (w.seat i).post = subst (PhaseFits w.layout (w.seat i).post) e (k.seats.fits i).phase in
-    release_out w.layout.config None base (counted (w.seat i).post) (w.seat i).desk (finds w i) backs (w.seat i).post.steps m r.suited h q
+    let r : Run w.layout (Releases Released) base (w.seat i).post = subst (PhaseFits w.layout (w.seat i).post) e (k.seats.fits i).phase in
+    release_out w.layout.config base (counted (w.seat i).post) (w.seat i).desk (finds w i) backs (w.seat i).post.steps m r.suited h q
+release_case w i (Works (Keeping (Loosens Released))) before backs m a e h q = grind (arith, nat_tests)
 release_case w i phase before backs m a e h q = absurd (cc)
+
+drop_case : (w : World) (i index : ℕ) (phase : Phase) (before backs m : ℕ) → Inv w → (w.seat i).phase ≡ phase → (at_drop phase && (w.seat i).post.steps == 0) ≡ true → m ≡ (w.seat i).post.steps + 1 → Goal w i (calls.DropIndex index) backs m phase
+drop_case w i index (Runs (Releases (Dropped own)) base) before backs m a e h q =
+    let k = a.known in
+    let r : Run w.layout (Releases (Dropped own)) base (w.seat i).post = subst (PhaseFits w.layout (w.seat i).post) e (k.seats.fits i).phase in
+    drop_out w.layout.config index own base (counted (w.seat i).post) (w.seat i).desk (finds w i) backs (w.seat i).post.steps m r.suited h q
+drop_case w i index (Works (Keeping (Loosens (Dropped own)))) before backs m a e h q = grind (arith, nat_tests)
+drop_case w i index phase before backs m a e h q = absurd (cc)
+
+copy_case : (w : World) (i from index : ℕ) (phase : Phase) (before backs m : ℕ) → Inv w → (w.seat i).phase ≡ phase → at_copy phase (w.seat i).post.steps ≡ true → m ≡ (w.seat i).post.steps + 1 → Goal w i (calls.Copy from index) backs m phase
+copy_case w i from index (Works (Keeping at)) before backs m a e h q =
+    let k = a.known in
+    let f = k.seats.fits i in
+    copy_out w.layout.config from index at (counted (w.seat i).post) (w.seat i).desk (finds w i) backs (w.seat i).post.steps m (ap (λ (table : Layout). table.config.scheme) f.post.layout)
+    (work_counted (Keeping at) (w.seat i).post (subst (PhaseFits w.layout (w.seat i).post) e f.phase)) h q
+copy_case w i from index phase before backs m a e h q = absurd (cc)
+
+look_case : (w : World) (i index key : ℕ) (phase : Phase) (before backs m : ℕ) → Inv w → (w.seat i).phase ≡ phase → at_look phase (w.seat i).post.steps ≡ true → m ≡ (w.seat i).post.steps + 1 → Goal w i (calls.Look index key) backs m phase
+look_case w i index key (Works (Keeping at)) before backs m a e h q =
+    let k = a.known in
+    let s = k.slots.seats i in
+    look_out w.layout.config index key at (counted (w.seat i).post) (w.seat i).desk (finds w i) backs (w.seat i).post.steps m (subst (PhaseIn w.layout (w.seat i).desk) e s.phase) h q
+look_case w i index key phase before backs m a e h q = absurd (cc)
 
 small_of : (c : Config) (layout : Layout) (at : ScanAt) (post : Post) → layout.config ≡ c → PhaseFits layout post (Scans Counted at) → scan_small c at ≡ true
 small_of c layout (ReadGuard number) post e h = subst (λ (d : Config). nat_lt number (guards d) ≡ true) e h
@@ -152,6 +178,10 @@ free_case w i call backs m phase f g = by (steps.phase_turn phase (counted (w.se
 
 call_case : (w : World) (i : ℕ) (call : Call) (before backs m : ℕ) → Inv w → (w.seat i).post.steps < 2 ^ 62 → call_steps w.layout.config call (w.seat i).phase before (w.seat i).post.steps ≡ true → m ≡ (w.seat i).post.steps + 1 → backs ≡ backs_along (Told_by w i (w.seat i).phase) before → Goal w i call backs m (w.seat i).phase
 call_case w i calls.Release before backs m a l h q b = release_case w i (w.seat i).phase before backs m a refl h q
+call_case w i (calls.DropIndex index) before backs m a l h q b = drop_case w i index (w.seat i).phase before backs m a refl h q
+call_case w i (calls.Copy from index) before backs m a l h q b = copy_case w i from index (w.seat i).phase before backs m a refl h q
+call_case w i (calls.Look index key) before backs m a l h q b = look_case w i index key (w.seat i).phase before backs m a refl h q
+call_case w i (calls.PutIf key value version) before backs m a l h q b = free_case w i (calls.PutIf key value version) backs m (w.seat i).phase (λ c b n p. refl) (λ c b n r. refl)
 call_case w i calls.Scan before backs m a l h q b = scan_case w i (w.seat i).phase before backs m a refl h q b
 call_case w i calls.Advance before backs m a l h q b = advance_case w i (w.seat i).phase before backs m a refl h q
 call_case w i (calls.Hold key) before backs m a l h q b = hold_out w.layout.config key (w.seat i).phase (counted (w.seat i).post) (w.seat i).desk (finds w i) backs (w.seat i).post.steps m (facts_of w i a) l h q
@@ -249,17 +279,28 @@ step_kept layout made h i a b y g = record {
 }
 
 -- a call begins
-release_first : (scheme : SchemeKind) → at_release (Runs (Releases None) (release_base scheme)) ≡ true
-release_first He = refl
-release_first Ibr = refl
-release_first Wfe = refl
+release_first : (x : Option Base) → (at_release (letting_by Released x) && true) ≡ true
+release_first None = refl
+release_first (Some base) = refl
+
+drop_first : (index : ℕ) (x : Option Base) → (at_drop (letting_by (Dropped index) x) && true) ≡ true
+drop_first index None = refl
+drop_first index (Some base) = refl
+
+copy_first : (from index : ℕ) (x : Option ℕ) → at_copy (steps.copying from index x) 0 ≡ true
+copy_first from index None = refl
+copy_first from index (Some slot) = refl
+
+look_first : (index key : ℕ) (x : Option ℕ) → at_look (steps.looking_at index key x) 0 ≡ true
+look_first index key None = refl
+look_first index key (Some slot) = refl
 
 hold_first : (c : Config) (key : ℕ) (post : Post) (x : Option ℕ) → scheme_of post ≡ c.scheme → (not (is_wfe c.scheme) || at_hold c (steps.holding key post x) 0) ≡ true
 hold_first c key post x e = by (is_wfe c.scheme) refl
   where
     held : (x : Option ℕ) → scheme_of post ≡ Wfe → at_hold c (steps.holding key post x) 0 ≡ true
     held None s = rw s refl
-    held (Some slot) s = refl
+    held (Some slot) s = rw s refl
 
     by : (helped : Bool) → is_wfe c.scheme ≡ helped → (not helped || at_hold c (steps.holding key post x) 0) ≡ true
     by true f = held x (e ∙ wfe_scheme c.scheme f)
@@ -283,7 +324,11 @@ advance_first c scheme = by (is_wfe c.scheme)
     by false = refl
 
 first_counts : (c : Config) (call : Call) (post : Post) → scheme_of post ≡ c.scheme → call_steps c call (steps.first_phase call post) 0 0 ≡ true
-first_counts c calls.Release post e = both (at_release (Runs (Releases None) (release_base (scheme_of post)))) true (release_first (scheme_of post)) refl
+first_counts c calls.Release post e = release_first (release_base (scheme_of post) post 2)
+first_counts c (calls.DropIndex index) post e = drop_first index (release_base (scheme_of post) post index)
+first_counts c (calls.Copy from index) post e = copy_first from index (stands post from)
+first_counts c (calls.Look index key) post e = look_first index key (stands post index)
+first_counts c (calls.PutIf key value version) post e = refl
 first_counts c calls.Scan post e = refl
 first_counts c calls.Advance post e = advance_first c (scheme_of post)
 first_counts c (calls.Hold key) post e = hold_first c key post (stands post 2) e
@@ -308,16 +353,16 @@ begin_seats layout made h i k call false e a g =
     let w : World = made.world in
     subst (λ (l : Local). SeatCounts w.layout.config (backs_of k (Then made.past i (events.Begin call))) l) (sym (begin_stays w i k call e)) (λ y. rw e (g.seats k y))
 
-begin_kept : (layout : Layout) (made : Made) (h : schedule.History) (i : ℕ) (call : Call) → Around made h → is_busy made.world i ≡ false → Counts layout made h → Counts layout (done made (Begins i call)) (Starts h i call)
-begin_kept layout made h i call a f g = record {
-  answers = answering.begin_keeps layout.config.buckets made i call f g.answers;
+begin_kept : (layout : Layout) (made : Made) (h : schedule.History) (i : ℕ) (call : Call) → Around made h → is_busy made.world i ≡ false → may_begin made.world.layout.config call ≡ true → Counts layout made h → Counts layout (done made (Begins i call)) (Starts h i call)
+begin_kept layout made h i call a f m g = record {
+  answers = answering.begin_keeps layout.config.buckets made i call f m g.answers;
   table = g.table;
   seats = λ k. begin_seats layout made h i k call (k == i) refl a g;
   law = (refl, g.law);
 }
 
 kept : (layout : Layout) → Kept (Counts layout)
-kept layout = record { begins = λ made h i call a b f g. begin_kept layout made h i call a f g; steps = λ made h i a b y g. step_kept layout made h i a b y g }
+kept layout = record { begins = λ made h i call a b f m g. begin_kept layout made h i call a f m g; steps = λ made h i a b y g. step_kept layout made h i a b y g }
 
 pub records_keep_ends : RecordsKeepEnds
 records_keep_ends layout items d =

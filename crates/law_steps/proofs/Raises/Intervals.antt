@@ -18,7 +18,7 @@ use Rattle.wfe_core.specs.Links.{parent_of}
 use Rattle.wfe_core.specs.Machine as machine
 use Rattle.wfe_core.specs.Memory.{bump}
 use Rattle.wfe_core.specs.Posts.{stands, cleared, upper, lower, withdrawn, with_span, reserves_span}
-use Rattle.law_turns.proofs.Counting.Runs.{bump_low, calm_kind, is_calm, calm_of}
+use Rattle.law_held.proofs.turns.Counting.Runs.{bump_low, calm_kind, is_calm, calm_of}
 use Rattle.wfe_core.specs.Protect as protects
 use Rattle.wfe_core.specs.Rounds.{scheme_of}
 use Rattle.wfe_core.specs.Phases.{Aim, Alone, Follows, Tries, BeginAt, ProtectAt, Base, Turn, Ending, Outcome, Goes, Ends, goes, ends}
@@ -29,15 +29,15 @@ use Rattle.wfe_core.specs.Phases.Ending.{Done, Protected, Followed, Allocated, R
 use Rattle.wfe_core.specs.Calls.{Task, Gets, Changes, Holds, Enqueues, Dequeues, Why, Opens, FollowsHead, Fills, ClearsNext, Clears, Finishes, GivesUp, Retires, Tidies, Advances, Releases}
 use Rattle.wfe_core.proofs.Facts.{both, first_of, rest_of, and_true, zero_of_test, le_of_test, le_one_more, no_truth}
 use Rattle.wfe_core.specs.words.Schemes.{is_ibr}
-use Rattle.law_turns.specs.inv.shapes.Frame.{Moves, Passed}
-use Rattle.law_turns.specs.inv.shapes.Seats.{PostFits, PhaseFits, Run, protect_fits, kind_of, protects as protecting, index_by, root_by, aim_by}
+use Rattle.law_held.specs.turns.inv.shapes.Frame.{Moves, Passed}
+use Rattle.law_held.specs.turns.inv.shapes.Seats.{PostFits, PhaseFits, Run, protect_fits, kind_of, protects as protecting, index_by, root_by, aim_by}
 use Rattle.laws.specs.StateAt.{is_whole, spanned_by, raised_by}
 use Rattle.laws.specs.StepLaw.{number_raised}
 use Rattle.law_steps.proofs.Raises.Raising.{spanned_along, raised_along, counts_along, still_spans, still_raises, still_counts, at_raised, base_raised, Out, Made, made_if, calm_still, calm_span}
-use Rattle.law_turns.proofs.TurnCounts.Tried.{is_follow, other_kind, is_other, calm_other, other_of_kind}
-use Rattle.law_turns.proofs.Withdrawals.Withdrawing.{tells_link}
-use Rattle.law_turns.proofs.TryCounts.{task_index}
-use Rattle.law_turns.proofs.inv.history.MayTell.{concluded_told}
+use Rattle.law_held.proofs.turns.TurnCounts.Tried.{is_follow, other_kind, is_other, calm_other, other_of_kind}
+use Rattle.law_held.proofs.turns.Withdrawals.Withdrawing.{tells_link}
+use Rattle.law_held.proofs.turns.TryCounts.{task_index}
+use Rattle.law_held.proofs.turns.inv.history.MayTell.{concluded_told}
 
 -- what is known of a machine that makes a step; `count` are the steps of its call before it
 pub record Stage (i : ℕ) (s : Bool) (r : ℕ) (layout : Layout) (why : Why) (base : Base) (post : Post) (found count : ℕ) : Type 0 where
@@ -302,15 +302,15 @@ finish_made i s r post found e z = record { spans = spanned_none i post.seat s e
     last_span true false = z
     last_span false t = z
 
-release_made : (i : ℕ) (s : Bool) (r : ℕ) (post : Post) (found : ℕ) → post.seat ≡ i → r ≡ 0 → Made false i s r (machine.after Release post found)
-release_made i s r post found e z = by (stands post 2)
+release_made : (i : ℕ) (s : Bool) (r index : ℕ) (post : Post) (found : ℕ) → post.seat ≡ i → r ≡ 0 → Made false i s r (machine.after (Release index) post found)
+release_made i s r index post found e z = by (stands post index)
   where
     last_span : (own t : Bool) (m : ℕ) → m ≡ 0 → (if own && (t && false) then m + 1 else m) ≡ 0
     last_span true true m h = h
     last_span true false m h = h
     last_span false t m h = h
 
-    by : (o : Option ℕ) → Made false i s r (ends (with_span (withdrawn post 2) None) (cleared 2 o ++ reserves_span post None) Done)
+    by : (o : Option ℕ) → Made false i s r (ends (with_span (withdrawn post index) None) (cleared index o ++ reserves_span post None) Done)
     by None = record { spans = spanned_none i post.seat s e; counts = refl; out = last_span (is_whole i (Whole post.seat)) s r z }
     by (Some slot) = record { spans = spanned_none i post.seat s e; counts = refl; out = last_span (is_whole i (Whole post.seat)) s 0 refl }
 
@@ -362,7 +362,7 @@ run_made i s r layout (Fills task) base post found count x = calm_made false i s
 run_made i s r layout (ClearsNext next) (Clear index) post found count x = absurd (no_fit (is_ibr layout.config.scheme) (is_interval layout.config.scheme x.interval) x.run.fits)
 run_made i s r layout (Clears task next) (Clear index) post found count x = absurd (no_fit (is_ibr layout.config.scheme) (is_interval layout.config.scheme x.interval) x.run.fits)
 run_made i s r layout (Releases key) (Clear index) post found count x = absurd (no_fit (is_ibr layout.config.scheme) (is_interval layout.config.scheme x.interval) x.run.fits)
-run_made i s r layout (Releases key) Release post found count x = release_made i s r post found x.seat (zero_of_test r x.right)
+run_made i s r layout (Releases key) (Release index) post found count x = release_made i s r index post found x.seat (zero_of_test r x.right)
 run_made i s r layout (Finishes task next) Finish post found count x = finish_made i s r post found x.seat (zero_of_test r x.right)
 run_made i s r layout (GivesUp answer) base post found count x = calm_made false i s r layout (GivesUp answer) base post found count refl x
 run_made i s r layout (Retires answer) base post found count x = calm_made false i s r layout (Retires answer) base post found count refl x

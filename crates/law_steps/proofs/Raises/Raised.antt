@@ -9,6 +9,7 @@ use Rattle.wfe_core.specs.defs.declared.call.Call.{Call}
 use Rattle.wfe_core.specs.defs.declared.event.Event.{Event}
 use Rattle.wfe_core.specs.defs.declared.event.Event.TheVariants as events
 use Rattle.wfe_core.specs.declared.ends.FollowEnd.TheVariants as follow_ends
+use Rattle.wfe_core.specs.defs.declared.lifetime.Interval.{Interval}
 use Rattle.wfe_core.specs.declared.post.Post.{Post}
 use Rattle.wfe_core.specs.Desks.{Desk}
 use Rattle.wfe_core.specs.Locals.{Local, busy_in, begun_post, told_by}
@@ -25,36 +26,36 @@ use Rattle.wfe_core.specs.Phases.Ending.{Done, Protected, Followed, Allocated, R
 use Rattle.wfe_core.specs.Calls.{Again, Why, Opens, FollowsHead, Fills, ClearsNext, Clears, Finishes, GivesUp, Retires, Tidies, Advances, Releases, ReadGuard, GiveBack, Phase, Idle, Runs, Scans, Works, CallTurn}
 use Rattle.wfe_core.proofs.Facts.{same_number, first_of, rest_of, zero_of_test}
 use Rattle.wfe_core.specs.words.Schemes.{is_ibr}
-use Rattle.law_turns.specs.inv.shapes.Frame.{Moves, phase_left}
-use Rattle.law_turns.specs.inv.shapes.Seats.{PostFits, PhaseFits, Run}
-use Rattle.law_turns.proofs.inv.shapes.Frame.{seat_stays, begin_stays, begin_begins}
-use Rattle.law_turns.proofs.inv.shapes.Inside.{shape_moves}
-use Rattle.law_turns.proofs.inv.shapes.Kept.{begun_fits, counted_fits, run_counted}
-use Rattle.law_turns.specs.inv.history.Record.{Past, Each, tells_of}
-use Rattle.law_turns.specs.inv.history.Record.Past.{Then}
-use Rattle.law_turns.proofs.inv.history.Entries.{entries_of_each}
-use Rattle.law_turns.specs.inv.history.Turns as schedule
-use Rattle.law_turns.specs.inv.history.Turns.{record_of}
-use Rattle.law_turns.specs.inv.history.Turns.History.{Starts, Turns}
-use Rattle.law_turns.specs.inv.history.History.{Begins, Steps, Made, done}
-use Rattle.law_turns.specs.inv.history.History as histories
-use Rattle.law_turns.specs.inv.requests.Parents.{OutcomeStands, why_stands, phase_stands}
-use Rattle.law_turns.proofs.inv.requests.Standings.{machine_stands}
-use Rattle.law_turns.proofs.inv.covers.Held.{stepped_post, stepped_phase}
-use Rattle.law_turns.specs.inv.Inv.{Inv}
-use Rattle.law_turns.proofs.inv.history.Passes.{First, step_goes}
-use Rattle.law_turns.specs.answers.Heard.{IsCounted}
-use Rattle.law_turns.proofs.answers.Turns.Counted.{histories_count}
-use Rattle.law_turns.proofs.answers.OneStep.Along.{Around, Kept, history_keeps}
-use Rattle.law_turns.proofs.Counting.Runs.{bump_low}
+use Rattle.law_held.specs.turns.inv.shapes.Frame.{Moves, phase_left}
+use Rattle.law_held.specs.turns.inv.shapes.Seats.{PostFits, PhaseFits, Run}
+use Rattle.law_held.proofs.turns.inv.shapes.Frame.{seat_stays, begin_stays, begin_begins}
+use Rattle.law_held.proofs.turns.inv.shapes.Inside.{shape_moves}
+use Rattle.law_held.proofs.turns.inv.shapes.Kept.{begun_fits, counted_fits, run_counted}
+use Rattle.law_held.specs.turns.inv.history.Record.{Past, Each, tells_of}
+use Rattle.law_held.specs.turns.inv.history.Record.Past.{Then}
+use Rattle.law_held.proofs.turns.inv.history.Entries.{entries_of_each}
+use Rattle.law_held.specs.turns.inv.history.Turns as schedule
+use Rattle.law_held.specs.turns.inv.history.Turns.{record_of}
+use Rattle.law_held.specs.turns.inv.history.Turns.History.{Starts, Turns}
+use Rattle.law_held.specs.turns.inv.history.History.{Begins, Steps, Made, done}
+use Rattle.law_held.specs.turns.inv.history.History as histories
+use Rattle.law_held.specs.turns.inv.requests.Parents.{OutcomeStands, why_stands, phase_stands}
+use Rattle.law_held.proofs.turns.inv.requests.Standings.{machine_stands}
+use Rattle.law_held.proofs.turns.inv.covers.Held.{stepped_post, stepped_phase}
+use Rattle.law_held.specs.turns.inv.Inv.{Inv}
+use Rattle.law_held.proofs.turns.inv.history.Passes.{First, step_goes, work_told}
+use Rattle.law_held.specs.turns.answers.Heard.{IsCounted}
+use Rattle.law_held.proofs.turns.answers.Turns.Counted.{histories_count}
+use Rattle.law_held.proofs.turns.answers.OneStep.Along.{Around, Kept, history_keeps}
+use Rattle.law_held.proofs.turns.Counting.Runs.{bump_low}
 use Rattle.laws.specs.StateAt.{spanned_by, spanned_of, raised_by, raised_of}
 use Rattle.laws.specs.StepLaw.{number_raised, raise_ok}
 use Rattle.law_steps.specs.Records.{RecordsKeepRaises}
-use Rattle.law_turns.proofs.Withdrawals.Leaving.{protects_at, is_first, is_new, Leads, Left, stepped_leads, first_new}
-use Rattle.law_steps.proofs.Raises.Raising.{spanned_along, raised_along, counts_along, raised_both, spans_closed, counts_closed, none_closed, at_raised, base_raised, Out}
+use Rattle.law_held.proofs.turns.Withdrawals.Leaving.{protects_at, is_first, is_new, Leads, Left, stepped_leads, first_new}
+use Rattle.law_steps.proofs.Raises.Raising.{spanned_along, raised_along, counts_along, raised_both, still_spans, still_raises, still_counts, work_still, work_span, spans_closed, counts_closed, none_closed, at_raised, base_raised, Out}
 use Rattle.law_steps.proofs.Raises.Intervals.{Stage, run_made}
-use Rattle.law_turns.proofs.TurnCounts.Tried.{is_follow}
-use Rattle.law_turns.proofs.inv.requests.Parents.{why_counted}
+use Rattle.law_held.proofs.turns.TurnCounts.Tried.{is_follow}
+use Rattle.law_held.proofs.turns.inv.requests.Parents.{why_counted}
 use Rattle.wfe_core.proofs.Standing.{stands-withdrawn_other}
 
 abbrev pub phase_raised : Phase → (most raised : ℕ) → Bool
@@ -170,7 +171,9 @@ first_spans w i s r (Runs why base) e k =
     let m = run_made i s r w.layout why base (counted (w.seat i).post) (finds w i) (w.seat i).post.steps (stage_of w i s r k.known why base k.scheme e (k.low (ap busy_in e)) k.spans (subst (λ (phase : Phase). phase_raised phase (w.seat i).post.steps r ≡ true) e k.right)) in m.spans
 first_spans w i s r (Scans later (ReadGuard number)) e k = k.spans
 first_spans w i s r (Scans later (GiveBack place slot)) e k = k.spans
-first_spans w i s r (Works work) e k = k.spans
+first_spans w i s r (Works work) e k =
+    let post : Post = counted (w.seat i).post in
+    still_spans i (work_told work post) s (work_still work post) ∙ k.spans ∙ sym (ap (λ (x : Option Interval). is_some x) (work_span work post))
 
 first_counts : (w : World) (i : ℕ) (s : Bool) (r : ℕ) (phase : Phase) → (w.seat i).phase ≡ phase → Known w i s r → First (λ post told. counts_along i told s r ≡ true) phase (counted (w.seat i).post) (finds w i)
 first_counts w i s r Idle e k = refl
@@ -178,7 +181,7 @@ first_counts w i s r (Runs why base) e k =
     let m = run_made i s r w.layout why base (counted (w.seat i).post) (finds w i) (w.seat i).post.steps (stage_of w i s r k.known why base k.scheme e (k.low (ap busy_in e)) k.spans (subst (λ (phase : Phase). phase_raised phase (w.seat i).post.steps r ≡ true) e k.right)) in m.counts
 first_counts w i s r (Scans later (ReadGuard number)) e k = refl
 first_counts w i s r (Scans later (GiveBack place slot)) e k = refl
-first_counts w i s r (Works work) e k = refl
+first_counts w i s r (Works work) e k = still_counts i (work_told work (counted (w.seat i).post)) s r (work_still work (counted (w.seat i).post))
 
 none_phase : (w : World) (i : ℕ) (s : Bool) (r : ℕ) (phase : Phase) → First (λ post told. raised_along i told s r ≡ 0) phase (counted (w.seat i).post) (finds w i) → raised_along i (told_by (steps.phase_turn phase (counted (w.seat i).post) (w.seat i).desk (finds w i))) s r ≡ 0
 none_phase w i s r phase h = step_goes (λ post told. raised_along i told s r ≡ 0) (none_closed i s r) phase (counted (w.seat i).post) (w.seat i).desk (finds w i) h
@@ -201,7 +204,10 @@ turn_final w i s r interval (Scans later (ReadGuard number)) e k l =
 turn_final w i s r interval (Scans later (GiveBack place slot)) e k l =
     over i s r (steps.phase_turn (Scans later (GiveBack place slot)) (counted (w.seat i).post) (w.seat i).desk (finds w i)) l (none_phase w i s r (Scans later (GiveBack place slot)) (zero_of_test r (subst (λ (phase : Phase). phase_raised phase (w.seat i).post.steps r ≡ true) e k.right)))
 turn_final w i s r interval (Works work) e k l =
-    over i s r (steps.phase_turn (Works work) (counted (w.seat i).post) (w.seat i).desk (finds w i)) l (none_phase w i s r (Works work) (zero_of_test r (subst (λ (phase : Phase). phase_raised phase (w.seat i).post.steps r ≡ true) e k.right)))
+    over i s r (steps.phase_turn (Works work) (counted (w.seat i).post) (w.seat i).desk (finds w i)) l
+    (none_phase w i s r (Works work)
+    (ap (raised_along i (work_told work (counted (w.seat i).post)) s) (zero_of_test r (subst (λ (phase : Phase). phase_raised phase (w.seat i).post.steps r ≡ true) e k.right))
+    ∙ still_raises i (work_told work (counted (w.seat i).post)) s (work_still work (counted (w.seat i).post))))
 
 -- what seat i tells is told by it alone
 spanned_tells : (i : ℕ) (told : List Event) (p : Past) → spanned_of i (tells_of p i told) ≡ spanned_along i told (spanned_of i p)
@@ -326,7 +332,7 @@ begin_kept : (layout : Layout) (made : Made) (h : schedule.History) (i : ℕ) (c
 begin_kept layout made h i call a g = record { table = g.table; seats = λ k. begin_seats layout made h i k call (k == i) refl a g; law = (refl, g.law) }
 
 kept : (layout : Layout) → layout.config.scheme ≡ Ibr → Kept (Raises layout)
-kept layout n = record { begins = λ made h i call a b f g. begin_kept layout made h i call a g; steps = λ made h i a b y g. step_kept layout made h i n a g }
+kept layout n = record { begins = λ made h i call a b f m g. begin_kept layout made h i call a g; steps = λ made h i a b y g. step_kept layout made h i n a g }
 
 interval_of : (scheme : SchemeKind) → is_ibr scheme ≡ true → scheme ≡ Ibr
 interval_of He h = absurd (cc)

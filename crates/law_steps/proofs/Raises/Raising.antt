@@ -13,6 +13,9 @@ use Rattle.wfe_core.specs.declared.post.Post.{Post}
 use Rattle.wfe_core.specs.Allocate as allocates
 use Rattle.wfe_core.specs.Machine as machine
 use Rattle.wfe_core.specs.MoveClock as movers
+use Rattle.wfe_core.specs.Calls.{Work, Getting, Changing, Enqueuing, Dequeuing, Keeping, Loosens, LoadHeld, StoreHeld, Looks, Misses}
+use Rattle.wfe_core.specs.Posts.{stands}
+use Rattle.wfe_core.specs.words.Schemes.{has_one_interval}
 use Rattle.wfe_core.specs.Rounds.{scheme_of, clear_told, clear_post}
 use Rattle.wfe_core.specs.SlowPath as slow
 use Rattle.wfe_core.specs.WriteRow.{last_written}
@@ -24,12 +27,12 @@ use Rattle.wfe_core.specs.Phases.MoveAt.{LoadEra, CheckEra, AnswerAsked, LoadRes
 use Rattle.wfe_core.specs.Phases.Base.{Begin, Protect, Reload, Clear, Finish, Release, Allocate, Write, Retire, Move}
 use Rattle.wfe_core.specs.Phases.Ending.{Followed}
 use Rattle.wfe_core.proofs.Facts.{both, first_of, rest_of}
-use Rattle.law_turns.proofs.inv.history.Passes.{is_quiet, all_quiet, Closed}
+use Rattle.law_held.proofs.turns.inv.history.Passes.{is_quiet, all_quiet, Closed, copied_post, work_post, work_told}
 use Rattle.laws.specs.StateAt.{spanned_by, raised_by}
 use Rattle.laws.specs.StepLaw.{number_raised}
-use Rattle.law_turns.proofs.Counting.Runs.{is_calm}
-use Rattle.law_turns.proofs.inv.history.MayTell.{Tells, base_all, clear_all}
-use Rattle.law_turns.proofs.inv.history.AllOf.{all_of, of_weaker}
+use Rattle.law_held.proofs.turns.Counting.Runs.{is_calm}
+use Rattle.law_held.proofs.turns.inv.history.MayTell.{Tells, base_all, clear_all, work_all}
+use Rattle.law_held.proofs.turns.inv.history.AllOf.{all_of, of_weaker}
 
 -- along what a step tells
 abbrev pub spanned_along : (seat : ℕ) → List Event → Bool → Bool
@@ -208,5 +211,28 @@ calm_span (Protect aim index root steps at) post found h = absurd (cc)
 calm_span (Reload parent index slot era steps) post found h = absurd (cc)
 calm_span (Clear index) post found h = absurd (cc)
 calm_span Finish post found h = absurd (cc)
-calm_span Release post found h = absurd (cc)
+calm_span (Release index) post found h = absurd (cc)
 calm_span base post found h = refl
+
+-- a call's own step tells nothing of intervals, and leaves the interval as it is
+pub work_still : (work : Work) (post : Post) → all_still (work_told work post) ≡ true
+work_still work post = work_all is_still (λ index slot. refl) (λ from index slot. refl) (λ seat index era. refl) work post
+
+copied_span : (index : ℕ) (post : Post) (x : Option ℕ) → (copied_post index post x).span ≡ post.span
+copied_span index post None = refl
+copied_span index post (Some slot) = refl
+
+load_span : (index : ℕ) (post : Post) (x : Option ℕ) (one : Bool) → (if one then copied_post index post x else post).span ≡ post.span
+load_span index post x true = copied_span index post x
+load_span index post x false = refl
+
+pub work_span : (work : Work) (post : Post) → (work_post work post).span ≡ post.span
+work_span (Keeping (LoadHeld from index)) post = load_span index post (stands post from) (has_one_interval (scheme_of post))
+work_span (Keeping (StoreHeld from index era)) post = copied_span index post (stands post from)
+work_span (Keeping (Loosens let_go)) post = refl
+work_span (Keeping (Looks index key at)) post = refl
+work_span (Keeping (Misses index)) post = refl
+work_span (Getting key at) post = refl
+work_span (Changing kept at) post = refl
+work_span (Enqueuing kept at) post = refl
+work_span (Dequeuing at) post = refl

@@ -16,21 +16,21 @@ use Rattle.wfe_core.specs.Phases.ProtectAt.{LoadClock}
 use Rattle.wfe_core.specs.Phases.Base.{Protect}
 use Rattle.wfe_core.proofs.Facts.{first_of, rest_of}
 use Rattle.wfe_core.specs.words.Schemes.{is_ibr}
-use Rattle.law_turns.specs.inv.history.Record.{Past, tells_of}
-use Rattle.law_turns.specs.inv.history.Record.Past.{Then}
-use Rattle.law_turns.specs.inv.history.Turns as schedule
-use Rattle.law_turns.specs.inv.history.Turns.History.{Blank, Starts, Turns}
-use Rattle.law_turns.specs.inv.history.History.{Item, world_of, record_of}
+use Rattle.law_held.specs.turns.inv.history.Record.{Past, tells_of}
+use Rattle.law_held.specs.turns.inv.history.Record.Past.{Then}
+use Rattle.law_held.specs.turns.inv.history.Turns as schedule
+use Rattle.law_held.specs.turns.inv.history.Turns.History.{Blank, Starts, Turns}
+use Rattle.law_held.specs.turns.inv.history.History.{Item, world_of, record_of}
 use Rattle.laws.specs.StateAt.{same_guard, value_of, is_index_word, one_more, reserves_of}
-use Rattle.law_turns.specs.answers.Heard.{IsCounted}
-use Rattle.law_turns.specs.inv.history.Heard.{heard_of}
-use Rattle.law_turns.proofs.answers.Turns.Counted.{histories_count}
+use Rattle.law_held.specs.turns.answers.Heard.{IsCounted}
+use Rattle.law_held.specs.turns.inv.history.Heard.{heard_of}
+use Rattle.law_held.proofs.turns.answers.Turns.Counted.{histories_count}
 use Rattle.laws.specs.HistoryTurns.{turns_since, event_handed, events_handed, handed_right}
-use Rattle.law_turns.specs.inv.history.Turns.{EachTurn}
-use Rattle.law_turns.proofs.answers.OneStep.Along.{history_keeps}
-use Rattle.law_turns.proofs.Counting.Counting.{Keeps, first_kept, kept}
-use Rattle.law_turns.proofs.Counting.Fits.{own}
-use Rattle.law_turns.proofs.Handovers.{handovers_meet}
+use Rattle.law_held.specs.turns.inv.history.Turns.{EachTurn}
+use Rattle.law_held.proofs.turns.answers.OneStep.Along.{history_keeps}
+use Rattle.law_held.proofs.turns.Counting.Counting.{Keeps, first_kept, kept}
+use Rattle.law_held.proofs.turns.Counting.Fits.{own}
+use Rattle.law_held.proofs.turns.Handovers.{handovers_meet}
 use Rattle.laws.proofs.Along.{index_guard}
 
 -- an index word that publishes has been told to since its seat told nothing of it

@@ -14,39 +14,40 @@ use Rattle.wfe_core.specs.defs.declared.event.Root.{Root}
 use Rattle.wfe_core.specs.defs.declared.lifetime.Interval.{Interval}
 use Rattle.wfe_core.specs.declared.post.Post.{Post}
 use Rattle.wfe_core.specs.Calls.{Why, Phase, Idle, Runs, Scans, Works, ReadGuard, GiveBack}
-use Rattle.wfe_core.specs.Locals.{Local, after, begun}
+use Rattle.wfe_core.specs.Locals.{Local, after, begun, may_begin}
 use Rattle.wfe_core.specs.Phases.{Aim, Tries, ProtectAt, MoveAt, Base}
 use Rattle.wfe_core.specs.Phases.ProtectAt.{LoadClock, PublishEra, LoadAnswer, TakeAnswer, RaiseUpper}
 use Rattle.wfe_core.specs.Phases.MoveAt.{HandOver}
 use Rattle.wfe_core.specs.Phases.Base.{Begin, Protect, Move}
 use Rattle.wfe_core.specs.Posts.{counted}
 use Rattle.wfe_core.specs.World.{World, begin, step, finds, is_busy, told_in}
-use Rattle.law_turns.specs.inv.shapes.Eras.{PhaseEras}
-use Rattle.law_turns.proofs.inv.shapes.Frame.{after_seated, begun_seated, seat_stays, seat_steps, begin_stays, begin_begins}
-use Rattle.law_turns.proofs.inv.shapes.Kept.{begun_fits}
+use Rattle.law_held.specs.turns.inv.shapes.Eras.{PhaseEras}
+use Rattle.law_held.proofs.turns.inv.shapes.Frame.{after_seated, begun_seated, seat_stays, seat_steps, begin_stays, begin_begins}
+use Rattle.law_held.proofs.turns.inv.shapes.Kept.{begun_fits}
 use Rattle.wfe_core.specs.words.Schemes.{is_ibr}
-use Rattle.law_turns.specs.inv.shapes.Frame.{Seated}
-use Rattle.law_turns.specs.inv.shapes.Seats.{PostFits, PhaseFits}
-use Rattle.law_turns.specs.inv.requests.Roles.{shows}
-use Rattle.law_turns.specs.inv.requests.Views.{Role, View as Asked}
-use Rattle.law_turns.proofs.inv.requests.Kept.{requests_begin, requests_start}
-use Rattle.law_turns.specs.inv.rows.Agree.{first_rows, rows_after}
-use Rattle.law_turns.specs.inv.rows.Chain.{first_line, line_after}
-use Rattle.law_turns.specs.inv.rows.Queue.{Line}
-use Rattle.law_turns.specs.inv.rows.Rows.{View}
-use Rattle.law_turns.specs.inv.covers.Covers.{eras_shown}
-use Rattle.law_turns.proofs.inv.handover.Shown.{helper_shows}
-use Rattle.law_turns.specs.inv.links.Origins.{OriginsNeeds}
-use Rattle.law_turns.specs.inv.history.Record.{Past, Each, EachEntry}
-use Rattle.law_turns.proofs.inv.history.Entries.{entries_of_each}
-use Rattle.law_turns.specs.inv.history.History.{Item, Begins, Steps, Made, fits, done, done_if, did, made_from, first_made, record_of}
-use Rattle.law_turns.proofs.inv.history.Along.{begins_right, low_seat}
-use Rattle.law_turns.specs.inv.Known.{Known}
-use Rattle.law_turns.proofs.inv.Inv.Begun.{known_start, known_begin}
-use Rattle.law_turns.proofs.inv.Inv.Kept.{known_kept, asked_next}
-use Rattle.law_turns.proofs.inv.Inv.Shown.{shown_span}
-use Rattle.law_turns.proofs.inv.Inv.Whole.{origins_need, handover_need}
-use Rattle.law_turns.proofs.inv.history.Passes.{First, step_goes}
+use Rattle.law_held.specs.turns.inv.shapes.Frame.{Seated}
+use Rattle.law_held.specs.turns.inv.shapes.Seats.{PostFits, PhaseFits}
+use Rattle.law_held.specs.turns.inv.requests.Roles.{shows}
+use Rattle.law_held.specs.turns.inv.requests.Views.{Role, View as Asked}
+use Rattle.law_held.proofs.turns.inv.requests.Kept.{requests_begin, requests_start}
+use Rattle.law_held.specs.turns.inv.rows.Agree.{first_rows, rows_after}
+use Rattle.law_held.specs.turns.inv.rows.Chain.{first_line, line_after}
+use Rattle.law_held.specs.turns.inv.rows.Queue.{Line}
+use Rattle.law_held.specs.turns.inv.rows.Rows.{View}
+use Rattle.law_held.specs.turns.inv.covers.Covers.{eras_shown}
+use Rattle.law_held.proofs.turns.inv.handover.Shown.{helper_shows}
+use Rattle.law_held.specs.turns.inv.links.Origins.{OriginsNeeds}
+use Rattle.law_held.specs.turns.inv.history.Record.{Past, Each, EachEntry}
+use Rattle.law_held.proofs.turns.inv.history.Entries.{entries_of_each}
+use Rattle.law_held.specs.turns.inv.history.History.{Item, Begins, Steps, Made, fits, done, done_if, did, made_from, first_made, record_of}
+use Rattle.law_held.proofs.turns.inv.history.Along.{begins_right, begins_within, low_seat}
+use Rattle.law_held.specs.turns.inv.Known.{Known}
+use Rattle.law_held.proofs.turns.inv.Inv.Begun.{known_start, known_begin}
+use Rattle.law_held.proofs.turns.inv.Inv.Kept.{known_kept, asked_next}
+use Rattle.law_held.proofs.turns.inv.Inv.Shown.{shown_span}
+use Rattle.law_held.proofs.turns.inv.Inv.Whole.{origins_need, handover_need}
+use Rattle.law_held.proofs.turns.inv.history.Passes.{First, step_goes}
+use Rattle.law_held.specs.turns.inv.shapes.Slots.{PhaseIn, Slots}
 use Rattle.laws.specs.StateAt.{value_of}
 use Rattle.law_scans.proofs.reuse.Holding.Holds.{record_values}
 use Rattle.laws.specs.HistoryEras.{span_rises}
@@ -55,10 +56,10 @@ use Rattle.law_steps.specs.Records.{RecordsRaiseSpans, RecordsRaiseEras}
 use Rattle.law_steps.proofs.Rising.Free.{free_index}
 use Rattle.law_scans.proofs.eras.Current.Keeps.{OfItems, next_items}
 use Rattle.law_steps.proofs.Rising.Rises.{era_under, protect_risen, PhaseRisen, PhaseRaises, risen_grows, risen_owed}
-use Rattle.law_steps.proofs.Rising.RiseTells.{growth_ok, Leads, leads_each, leads_closed, protect_stands, move_shows, base_stands, base_leads}
+use Rattle.law_steps.proofs.Rising.RiseTells.{growth_ok, Leads, leads_each, leads_closed, work_leads, protect_stands, move_shows, base_stands, base_leads}
 use Rattle.law_steps.proofs.Rising.RiseSteps.{some_era, SeatRisen, other_phase, own_protect}
-use Rattle.law_turns.proofs.inv.requests.Known.{stands_as}
-use Rattle.law_turns.proofs.inv.steps_left.Rest.Falling.{tries_plain}
+use Rattle.law_held.proofs.turns.inv.requests.Known.{stands_as}
+use Rattle.law_held.proofs.turns.inv.steps_left.Rest.Falling.{tries_plain}
 
 -- what a history keeps
 record Growing (layout : Layout) (made : Made) : Type 0 where
@@ -154,17 +155,17 @@ risen_in value w i post index (TakeAnswer link era) e h = subst (λ (x : Option 
 risen_in value w i post index (RaiseUpper era) e h = h
 risen_in value w i post index at e h = tt
 
-phase_leads : (w : World) (i : ℕ) (z : Asked) (p : Past) (phase : Phase) → OriginsNeeds w i z → ((guard : Guard) → value_of guard p ≡ eras_shown w guard) → eras_shown w (Whole i) ≡ (w.seat i).post.span → (w.seat i).phase ≡ phase → SeatRisen w i → First (λ post told. Leads i (value_in p) told) phase (counted (w.seat i).post) (finds w i)
-phase_leads w i z p Idle n e s q h = tt
-phase_leads w i z p (Runs why base) n e s q h =
+phase_leads : (w : World) (i : ℕ) (z : Asked) (p : Past) (phase : Phase) → Slots w → OriginsNeeds w i z → ((guard : Guard) → value_of guard p ≡ eras_shown w guard) → eras_shown w (Whole i) ≡ (w.seat i).post.span → (w.seat i).phase ≡ phase → SeatRisen w i → First (λ post told. Leads i (value_in p) told) phase (counted (w.seat i).post) (finds w i)
+phase_leads w i z p Idle l n e s q h = tt
+phase_leads w i z p (Runs why base) l n e s q h =
     base_leads i (value_in p) base (counted (w.seat i).post) (finds w i) (record { seat = (n.seats.fits i).post.seat; span = e (Whole i) ∙ s }) (stands_of (value_in p) w i z why base (e (Helper i)) n q)
     (λ aim index root made at b. risen_in (value_in p) w i (w.seat i).post index at e (subst (PhaseRisen (λ (j : ℕ). eras_shown w (Index i j)) (eras_shown w (Helper i)) (w.seat i).post) (q ∙ ap (λ (x : Base). Runs why x) b) h))
-phase_leads w i z p (Scans later (ReadGuard number)) n e s q h = (refl, refl)
-phase_leads w i z p (Scans later (GiveBack place slot)) n e s q h = (refl, refl)
-phase_leads w i z p (Works work) n e s q h = tt
+phase_leads w i z p (Scans later (ReadGuard number)) l n e s q h = (refl, refl)
+phase_leads w i z p (Scans later (GiveBack place slot)) l n e s q h = (refl, refl)
+phase_leads w i z p (Works work) l n e s q h = work_leads w.layout.config i (value_in p) work (counted (w.seat i).post) (subst (PhaseIn w.layout (w.seat i).desk) q (l.seats i).phase)
 
-step_leads : (w : World) (i : ℕ) (z : Asked) (p : Past) → OriginsNeeds w i z → ((guard : Guard) → value_of guard p ≡ eras_shown w guard) → eras_shown w (Whole i) ≡ (w.seat i).post.span → SeatRisen w i → Leads i (value_in p) (told_in w i)
-step_leads w i z p n e s h = step_goes (λ post told. Leads i (value_in p) told) (leads_closed i (value_in p)) (w.seat i).phase (counted (w.seat i).post) (w.seat i).desk (finds w i) (phase_leads w i z p (w.seat i).phase n e s refl h)
+step_leads : (w : World) (i : ℕ) (z : Asked) (p : Past) → Slots w → OriginsNeeds w i z → ((guard : Guard) → value_of guard p ≡ eras_shown w guard) → eras_shown w (Whole i) ≡ (w.seat i).post.span → SeatRisen w i → Leads i (value_in p) (told_in w i)
+step_leads w i z p l n e s h = step_goes (λ post told. Leads i (value_in p) told) (leads_closed i (value_in p)) (w.seat i).phase (counted (w.seat i).post) (w.seat i).desk (finds w i) (phase_leads w i z p (w.seat i).phase l n e s refl h)
 
 step_growing : (layout : Layout) (made : Made) (i : ℕ) → is_valid layout ≡ true → fits made.world (Steps i) ≡ true → i < made.world.layout.config.seats → Growing layout made → Growing layout (done made (Steps i))
 step_growing layout made i d h b g =
@@ -178,7 +179,7 @@ step_growing layout made i d h b g =
       known = known_kept w i g.rows g.line g.asked q.0 b g.known q.1.facts q.1.deal;
       of = next_items layout made (Steps i) h g.of;
       seats = λ m. step_risen layout made i m (m == i) refl d b g;
-      law = leads_each i (told_in w i) made.past (step_leads w i g.asked made.past (origins_need w i g.rows g.line g.asked b g.known) (λ guard. values_of layout made guard d g.of) (shown_span w i g.known.valid g.known.eras) (g.seats i)) g.law;
+      law = leads_each i (told_in w i) made.past (step_leads w i g.asked made.past g.known.slots (origins_need w i g.rows g.line g.asked b g.known) (λ guard. values_of layout made guard d g.of) (shown_span w i g.known.valid g.known.eras) (g.seats i)) g.law;
     }
 
 -- a call begins
@@ -191,8 +192,8 @@ begin_risen w i m call true e v f g =
 begin_risen w i m call false e v f g =
     subst (λ (x : Local). PhaseRisen (λ (j : ℕ). eras_shown w (Index m j)) (eras_shown w (Helper m)) x.post x.phase) (sym (begin_stays w i m call e)) (g m)
 
-begin_growing : (layout : Layout) (made : Made) (i : ℕ) (call : Call) → fits made.world (Begins i call) ≡ true → is_busy made.world i ≡ false → Growing layout made → Growing layout (done made (Begins i call))
-begin_growing layout made i call h f g =
+begin_growing : (layout : Layout) (made : Made) (i : ℕ) (call : Call) → fits made.world (Begins i call) ≡ true → is_busy made.world i ≡ false → may_begin made.world.layout.config call ≡ true → Growing layout made → Growing layout (done made (Begins i call))
+begin_growing layout made i call h f may g =
     let w : World = made.world in
     let k = g.known in
     let q = requests_begin w i call g.asked k.valid f k.seats k.requests in
@@ -201,7 +202,7 @@ begin_growing layout made i call h f g =
       rows = g.rows;
       line = g.line;
       asked = q.0;
-      known = known_begin w i call g.rows g.line g.asked q.0 f k q.1.facts q.1.deal;
+      known = known_begin w i call g.rows g.line g.asked q.0 f may k q.1.facts q.1.deal;
       of = next_items layout made (Begins i call) h g.of;
       seats = λ m. begin_risen w i m call (m == i) refl k.valid (k.seats.fits i).post g.seats;
       law = (refl, g.law);
@@ -209,7 +210,7 @@ begin_growing layout made i call h f g =
 
 item_growing : (layout : Layout) (made : Made) (item : Item) (fit : Bool) → fits made.world item ≡ fit → is_valid layout ≡ true → Growing layout made → Growing layout (done_if made item fit)
 item_growing layout made item false f d g = g
-item_growing layout made (Begins i call) true f d g = begin_growing layout made i call f (begins_right i made.world.layout.config.seats (is_busy made.world i) f) g
+item_growing layout made (Begins i call) true f d g = begin_growing layout made i call f (begins_right i made.world.layout.config.seats (is_busy made.world i) (may_begin made.world.layout.config call) f) (begins_within i made.world.layout.config.seats (is_busy made.world i) (may_begin made.world.layout.config call) f) g
 item_growing layout made (Steps i) true f d g = step_growing layout made i d f (low_seat i made.world.layout.config.seats (is_busy made.world i) f) g
 
 items_growing : (layout : Layout) (items : List Item) (made : Made) → is_valid layout ≡ true → Growing layout made → Growing layout (made_from made items)

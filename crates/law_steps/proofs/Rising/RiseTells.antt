@@ -1,7 +1,7 @@
 -- What a step tells of guards grows: what its seat was about to publish is later than what is published.
-use Rattle.std.proofs.Common.{ℕ, ◌≡◌, ◌<◌, Bool, true, false, List, [], ◌∷◌, ◌++◌, Option, Some, None, refl, sym, ap, ◌∙◌, subst, arith}
+use Rattle.std.proofs.Common.{ℕ, ◌≡◌, ◌≤◌, ◌<◌, Bool, true, false, List, [], ◌∷◌, ◌++◌, Option, Some, None, refl, sym, ap, ◌∙◌, subst, arith}
 use Rattle.std.proofs.lemmas.Bool.Decides.{nat_tests}
-use Rattle.std.specs.Prelude.{◌==◌, ◌||◌, is_some, if◌then◌else◌, not}
+use Rattle.std.specs.Prelude.{◌==◌, ◌||◌, is_some, if◌then◌else◌, nat_lt, not}
 use Rattle.wfe_core.specs.words.Packed.{reservation_word}
 use Rattle.wfe_core.specs.defs.declared.event.Event.{Event}
 use Rattle.wfe_core.specs.defs.declared.event.Event.TheVariants as events
@@ -19,24 +19,28 @@ use Rattle.wfe_core.specs.Phases.BeginAt.{LoadLower, PublishSpan}
 use Rattle.wfe_core.specs.Phases.ProtectAt.{PublishEra, PublishHelper, TakeAnswer, WithdrawHelper, RaiseUpper}
 use Rattle.wfe_core.specs.Phases.MoveAt.{ShowEra, HandOver, HideEra, HideLate}
 use Rattle.wfe_core.specs.Phases.Base.{Begin, Protect, Clear, Finish, Release, Move}
-use Rattle.wfe_core.specs.Posts.{stands, cleared, lower, upper, reserves_helper}
+use Rattle.wfe_core.specs.Posts.{stands, cleared, lower, upper, reserves_helper, reserves_index}
+use Rattle.wfe_core.specs.Calls.{Work, Getting, Changing, Enqueuing, Dequeuing, Keeping, Loosens, LoadHeld, StoreHeld, Looks, Misses}
+use Rattle.wfe_core.specs.words.Schemes.{has_one_interval}
+use Rattle.wfe_core.specs.words.declared.config.Config.{Config}
+use Rattle.law_held.specs.turns.inv.shapes.Slots.{WorkIn}
 use Rattle.wfe_core.specs.Protect as protects
-use Rattle.wfe_core.specs.Rounds.{scheme_of, clear_told}
+use Rattle.wfe_core.specs.Rounds.{scheme_of, clear_told, let_index}
 use Rattle.wfe_core.proofs.Facts.{both, first_of, rest_of}
-use Rattle.law_turns.specs.inv.history.Record.{Past, Test, Each, tells_of}
-use Rattle.law_turns.specs.inv.history.Record.Past.{Then}
-use Rattle.law_turns.proofs.inv.history.Passes.{is_quiet, Closed}
+use Rattle.law_held.specs.turns.inv.history.Record.{Past, Test, Each, tells_of}
+use Rattle.law_held.specs.turns.inv.history.Record.Past.{Then}
+use Rattle.law_held.proofs.turns.inv.history.Passes.{is_quiet, Closed, copied_told, work_told}
 use Rattle.laws.specs.StateAt.{value_of}
-use Rattle.law_turns.proofs.inv.history.AllOf.{all_of, of_along, of_weaker}
+use Rattle.law_held.proofs.turns.inv.history.AllOf.{all_of, of_along, of_weaker}
 use Rattle.laws.specs.HistoryEras.{span_grows}
 use Rattle.laws.specs.StateAt.{era_grows}
 use Rattle.law_steps.proofs.Rising.Rises.{era_under, protect_risen}
-use Rattle.law_turns.proofs.inv.history.MayTell.{publishes, is_reserve, no_reserve, held_any, cleared_all, clear_all, concluded_told}
+use Rattle.law_held.proofs.turns.inv.history.MayTell.{publishes, is_reserve, no_reserve, held_any, cleared_all, clear_all, concluded_told}
 
 -- both laws in one, by what each guard publishes
 abbrev pub grows_right : (teller : ℕ) → (value : Guard → Option Interval) → Event → Bool
 grows_right i value (events.Reserve (Whole seat) span) = span_grows (value (Whole seat)) span
-grows_right i value (events.Reserve (Index seat index) span) = is_some (value (Helper i)) || era_grows (value (Index seat index)) span
+grows_right i value (events.Reserve (Index seat index) span) = nat_lt 2 index || is_some (value (Helper i)) || era_grows (value (Index seat index)) span
 grows_right i value event = true
 
 abbrev pub growth_ok : Test
@@ -45,6 +49,7 @@ growth_ok p i event = grows_right i (λ (guard : Guard). value_of guard p) event
 -- an event of which they say nothing
 abbrev pub is_flat : Event → Bool
 is_flat (events.Reserve (Helper seat) span) = true
+is_flat (events.Reserve (Index seat index) (Some span)) = nat_lt 2 index
 is_flat (events.Reserve guard None) = true
 is_flat (events.Reserve guard (Some span)) = false
 is_flat event = true
@@ -53,17 +58,28 @@ none_spans : (x : Option Interval) → span_grows x None ≡ true
 none_spans None = refl
 none_spans (Some span) = refl
 
-none_eras : (asked : Bool) (x : Option Interval) → (asked || era_grows x None) ≡ true
-none_eras true x = refl
-none_eras false None = refl
-none_eras false (Some span) = refl
+first_any : (a b c : Bool) → a ≡ true → (a || b || c) ≡ true
+first_any a b c h = rw h refl
+
+middle_any : (a b c : Bool) → b ≡ true → (a || b || c) ≡ true
+middle_any true b c h = refl
+middle_any false b c h = rw h refl
+
+last_any : (a b c : Bool) → c ≡ true → (a || b || c) ≡ true
+last_any true b c h = refl
+last_any false true c h = refl
+last_any false false c h = h
+
+none_grows : (x : Option Interval) → era_grows x None ≡ true
+none_grows None = refl
+none_grows (Some span) = refl
 
 flat_right : (i : ℕ) (value : Guard → Option Interval) (event : Event) → is_flat event ≡ true → grows_right i value event ≡ true
 flat_right i value (events.Reserve (Helper seat) span) h = refl
 flat_right i value (events.Reserve (Whole seat) None) h = none_spans (value (Whole seat))
 flat_right i value (events.Reserve (Whole seat) (Some span)) h = absurd (cc)
-flat_right i value (events.Reserve (Index seat index) None) h = none_eras (is_some (value (Helper i))) (value (Index seat index))
-flat_right i value (events.Reserve (Index seat index) (Some span)) h = absurd (cc)
+flat_right i value (events.Reserve (Index seat index) None) h = last_any (nat_lt 2 index) (is_some (value (Helper i))) (era_grows (value (Index seat index)) None) (none_grows (value (Index seat index)))
+flat_right i value (events.Reserve (Index seat index) (Some span)) h = first_any (nat_lt 2 index) (is_some (value (Helper i))) (era_grows (value (Index seat index)) (Some span)) h
 flat_right i value event h = refl
 
 -- what is told begins with an event that is allowed, and has no other of these
@@ -110,14 +126,10 @@ under_grows (Some span) era h = by (era == 0)
 
 own_grows : (seat i index era : ℕ) (value : Guard → Option Interval) → seat ≡ i → era_under (value (Index i index)) era ≡ true → grows_right i value (events.Reserve (Index seat index) (one_era era)) ≡ true
 own_grows seat i index era value e h =
-    any (is_some (value (Helper i))) (era_grows (value (Index seat index)) (one_era era)) (subst (λ (n : ℕ). era_grows (value (Index n index)) (one_era era) ≡ true) (sym e) (under_grows (value (Index i index)) era h))
-  where
-    any : (a b : Bool) → b ≡ true → (a || b) ≡ true
-    any true b h = refl
-    any false b h = h
+    last_any (nat_lt 2 index) (is_some (value (Helper i))) (era_grows (value (Index seat index)) (one_era era)) (subst (λ (n : ℕ). era_grows (value (Index n index)) (one_era era) ≡ true) (sym e) (under_grows (value (Index i index)) era h))
 
 asked_grows : (seat i index era : ℕ) (value : Guard → Option Interval) → is_some (value (Helper i)) ≡ true → grows_right i value (events.Reserve (Index seat index) (one_era era)) ≡ true
-asked_grows seat i index era value h = rw h refl
+asked_grows seat i index era value h = middle_any (nat_lt 2 index) (is_some (value (Helper i))) (era_grows (value (Index seat index)) (one_era era)) h
 
 -- an interval begins, or is raised
 begun_grows : (old : Option Interval) (era : ℕ) → old ≡ None → span_grows old (from_to era era) ≡ true
@@ -194,6 +206,42 @@ base_leads i value (Begin (PublishSpan era)) post found s k f = (begun_grows (va
 base_leads i value (Protect aim index root made at) post found s k f = protect_leads i value aim index root made at post found s k (f aim index root made at refl)
 base_leads i value (Clear index) post found s k f = cleared_leads i value index (stands post index) (Index post.seat index) refl
 base_leads i value Finish post found s k f = flat_leads i value (machine.after Finish post found).told refl
-base_leads i value Release post found s k f = cleared_leads i value 2 (stands post 2) (Whole post.seat) refl
+base_leads i value (Release index) post found s k f = cleared_leads i value index (stands post index) (Whole post.seat) refl
 base_leads i value (Move at) post found s k f = move_leads i value at post found k
 base_leads i value base post found s k f = bare_leads i value base post found refl
+
+-- a step on what is kept publishes an era for a copy alone, which goes to an index above 2
+era_flat : (seat index era : ℕ) → nat_lt 2 index ≡ true → is_flat (events.Reserve (Index seat index) (one_era era)) ≡ true
+era_flat seat index era h = by (era == 0)
+  where
+    by : (none : Bool) → is_flat (events.Reserve (Index seat index) (if none then None else from_to era era)) ≡ true
+    by true = refl
+    by false = h
+
+copied_flat : (from index : ℕ) (post : Post) (reserved : List Event) (x : Option ℕ) → all_of is_flat reserved ≡ true → all_of is_flat (copied_told from index post reserved x) ≡ true
+copied_flat from index post reserved None h = refl
+copied_flat from index post reserved (Some slot) h =
+    of_along is_flat (cleared index (stands post index) ++ reserved) (events.Copied from index slot ∷ [])
+    (of_along is_flat (cleared index (stands post index)) reserved (cleared_all is_flat index (stands post index) (λ index slot. refl)) h) refl
+
+load_flat : (from index : ℕ) (post : Post) (one : Bool) → all_of is_flat (if one then copied_told from index post [] (stands post from) else []) ≡ true
+load_flat from index post true = copied_flat from index post [] (stands post from) refl
+load_flat from index post false = refl
+
+work_flat : (config : Config) (work : Work) (post : Post) → WorkIn config work → all_of is_flat (work_told work post) ≡ true
+work_flat config (Getting key at) post k = refl
+work_flat config (Changing kept at) post k = refl
+work_flat config (Enqueuing kept at) post k = refl
+work_flat config (Dequeuing at) post k = refl
+work_flat config (Keeping (Loosens let_go)) post k = cleared_all is_flat (let_index let_go) (stands post (let_index let_go)) (λ index slot. refl)
+work_flat config (Keeping (LoadHeld from index)) post k = load_flat from index post (has_one_interval (scheme_of post))
+work_flat config (Keeping (StoreHeld from index era)) post k =
+    let low : 2 ≤ from = k.kept in
+    let up : from < index = k.rises in
+    let high : nat_lt 2 index ≡ true = grind (arith, nat_tests) in
+    copied_flat from index post (reserves_index post index era) (stands post from) (both (is_flat (events.Reserve (Index post.seat index) (one_era era))) true (era_flat post.seat index era high) refl)
+work_flat config (Keeping (Looks index key at)) post k = refl
+work_flat config (Keeping (Misses index)) post k = refl
+
+pub work_leads : (config : Config) (i : ℕ) (value : Guard → Option Interval) (work : Work) (post : Post) → WorkIn config work → Leads i value (work_told work post)
+work_leads config i value work post k = flat_leads i value (work_told work post) (work_flat config work post k)

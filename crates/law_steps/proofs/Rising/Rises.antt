@@ -25,16 +25,17 @@ use Rattle.wfe_core.specs.Phases.RetireAt.{LoadLife}
 use Rattle.wfe_core.specs.Phases.Base.{Begin, Protect, Reload, Allocate, Write, Retire, Move}
 use Rattle.wfe_core.specs.Posts.{counted, upper, reserves_helper}
 use Rattle.wfe_core.specs.Protect as protects
-use Rattle.wfe_core.specs.Rounds.{protect_at, release_base, scheme_of}
+use Rattle.wfe_core.specs.Rounds.{protect_at, scheme_of}
 use Rattle.wfe_core.specs.SlowPath.{own_request, answer_in, lost_turn}
 use Rattle.wfe_core.specs.WriteRow.{last_written}
-use Rattle.law_turns.specs.inv.shapes.Frame.{Grows, Moves, Onward, Owes}
-use Rattle.law_turns.specs.inv.shapes.Seats.{PhaseFits, PostFits}
-use Rattle.law_turns.proofs.inv.shapes.Frame.{moves_with}
-use Rattle.law_turns.proofs.inv.shapes.Inside.{shape_moves}
-use Rattle.law_turns.proofs.inv.shapes.Kept.{counted_fits, run_counted}
-use Rattle.law_turns.proofs.inv.shapes.Shapes.{shape_grows}
-use Rattle.law_turns.proofs.inv.links.Origins.Plain.{out_moves, moves_on}
+use Rattle.law_held.specs.turns.inv.shapes.Frame.{Grows, Moves, Onward, Owes}
+use Rattle.law_held.specs.turns.inv.shapes.Seats.{PhaseFits, PostFits}
+use Rattle.law_held.proofs.turns.inv.shapes.Frame.{moves_with}
+use Rattle.law_held.proofs.turns.inv.shapes.Inside.{shape_moves}
+use Rattle.law_held.proofs.turns.inv.shapes.Kept.{counted_fits, run_counted, work_counted}
+use Rattle.law_held.proofs.turns.inv.ends.Told.Births.{each_stores}
+use Rattle.law_held.proofs.turns.inv.shapes.Shapes.{shape_grows}
+use Rattle.law_held.proofs.turns.inv.links.Origins.Plain.{out_moves, moves_on}
 
 -- what an index word publishes ends before this era
 abbrev pub era_under : Option Interval → ℕ → Bool
@@ -147,15 +148,11 @@ opened_risen values helper post index He = tt
 opened_risen values helper post index Ibr = tt
 opened_risen values helper post index Wfe = tt
 
-released_risen : (values : ℕ → Option Interval) (helper : Option Interval) (post : Post) (scheme : SchemeKind) → base_risen values helper post (release_base scheme)
-released_risen values helper post He = tt
-released_risen values helper post Ibr = tt
-released_risen values helper post Wfe = tt
-
 pub risen_grows : (layout : Layout) (k : ℕ) (values : ℕ → Option Interval) (helper : Option Interval) → is_valid layout ≡ true → Grows (PostFits layout k) (PhaseRisen values helper)
 risen_grows layout k values helper v = let g = shape_grows layout k v in record {
   guarded = g.guarded;
   withdraws = g.withdraws;
+  copies = g.copies;
   idle = λ post q. tt;
   begins = λ post task s e q. tt;
   opens = λ post task s q. opened_risen values helper post _ (scheme_of post);
@@ -169,10 +166,11 @@ risen_grows layout k values helper v = let g = shape_grows layout k v in record 
   retires = λ post answer slot q. tt;
   tidies = λ post later q. tt;
   advances = λ post q. tt;
-  releases = λ post key q. released_risen values helper post (scheme_of post);
+  clears_kept = λ post let_go n q. tt;
+  releases = λ post let_go a b q. tt;
   scans = λ post later number b q. tt;
   gives_back = λ post later place slot q. tt;
-  works = λ post work s q. tt;
+  works = λ post work stores s q. tt;
 }
 
 onward_risen : (values : ℕ → Option Interval) (helper : Option Interval) (why : Why) (post : Post) (outcome : Outcome) → OutRisen values helper post outcome → Onward (PhaseRisen values helper) why post outcome
@@ -187,4 +185,4 @@ risen_owed layout k values helper v (Runs why base) post found q p f =
     let m : Moves (PostFits layout k) (PhaseFits layout) why t = shape_moves layout k v why base (counted post) found (counted_fits layout k post q) (run_counted layout why base post p) in
     moves_with why t m (record { post = m.post; phase = onward_risen values helper why t.post t.outcome (base_on values helper base (counted post) found f) })
 risen_owed layout k values helper v (Scans later at) post found q p f = counted_fits layout k post q
-risen_owed layout k values helper v (Works work) post found q p f = record { post = counted_fits layout k post q; span = p }
+risen_owed layout k values helper v (Works work) post found q p f = record { post = counted_fits layout k post q; fits = work_counted work post p; stores = each_stores (λ p phase. PhaseRisen values helper p phase) (λ p from index era. tt) (counted post) found work }

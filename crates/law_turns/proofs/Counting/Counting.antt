@@ -21,8 +21,9 @@ use Rattle.wfe_core.specs.Phases.{Aim, ProtectAt, MoveAt, Base}
 use Rattle.wfe_core.specs.Phases.ProtectAt.{PublishEra, TakeAnswer}
 use Rattle.wfe_core.specs.Phases.MoveAt.{HandOver}
 use Rattle.wfe_core.specs.Phases.Base.{Protect, Reload, Move}
-use Rattle.wfe_core.specs.Calls.{Why, Phase, Idle, Runs, Scans, Works, ReadGuard, GiveBack, CallTurn}
+use Rattle.wfe_core.specs.Calls.{Why, KeepAt, StoreHeld, Work, Keeping, Phase, Idle, Runs, Scans, Works, ReadGuard, GiveBack, CallTurn}
 use Rattle.wfe_core.proofs.Facts.{same_number, both, first_of, rest_of}
+use Rattle.wfe_core.proofs.Ranges.{bounds_of}
 use Rattle.law_answers.specs.inv.history.Turns as schedule
 use Rattle.law_answers.specs.inv.history.Turns.{record_of, turns_of, EachTurn}
 use Rattle.law_answers.specs.inv.history.Turns.History.{Blank, Starts, Turns}
@@ -31,6 +32,8 @@ use Rattle.law_answers.specs.inv.shapes.Eras.{EraIn}
 use Rattle.wfe_core.specs.words.Schemes.{is_ibr}
 use Rattle.law_answers.specs.inv.shapes.Frame.{phase_left}
 use Rattle.law_answers.specs.inv.shapes.Seats.{PostFits, PhaseFits}
+use Rattle.law_answers.specs.inv.shapes.Slots.{KeepIn, WorkIn, PhaseIn}
+use Rattle.law_answers.proofs.inv.shapes.Kept.{work_counted}
 use Rattle.law_answers.proofs.inv.shapes.Frame.{seat_stays, begin_stays, begin_begins}
 use Rattle.law_answers.specs.inv.requests.Deals.{answered_with, in_time}
 use Rattle.law_answers.specs.inv.requests.Standing.{Requests}
@@ -50,10 +53,10 @@ use Rattle.laws.specs.StateAt.{reserves_of}
 use Rattle.laws.specs.HistoryTurns.{turns_since, event_right, events_right, numbers_right}
 use Rattle.law_turns.specs.Records.{ProtectionsCount}
 use Rattle.law_answers.proofs.OneStep.Along.{Around, Kept, history_keeps}
-use Rattle.law_turns.proofs.Counting.Fits.{own, base_own, Clean, Fits, Left, first_fits}
+use Rattle.law_turns.proofs.Counting.Fits.{own, base_own, unused, Clean, Fits, Left, WorkRight, first_fits}
 use Rattle.law_turns.proofs.Counting.Passing.{SomeEra, Apart, turned, base_comes}
 use Rattle.law_turns.proofs.Counting.Runs.{phase_x, PhaseRight, Seat, turn_fits, turn_rights}
-use Rattle.law_turns.proofs.Counting.Told.{reserved_along, reserved_tells, reserved_stays, comes_closed, rights_closed}
+use Rattle.law_turns.proofs.Counting.Told.{work_comes, reserved_along, reserved_tells, reserved_stays, comes_closed, rights_closed}
 use Rattle.law_turns.proofs.Counting.Protects.{u_next}
 
 -- the same counts
@@ -71,7 +74,7 @@ own_same x u y v post (Works work) p q h = refl
 fits_same : (x u y v : ℕ → ℕ) (post : Post) (phase : Phase) → ((j : ℕ) → y j ≡ x j) → ((j : ℕ) → v j ≡ u j) → Fits x u post phase → Fits y v post phase
 fits_same x u y v post phase p q f =
     let c = f.clean in
-    record { clean = record { free = λ j e. p j ∙ c.free j e; two = λ e m. p 2 ∙ c.two e m; plain = c.plain }; own = own_same x u y v post phase p q f.own }
+    record { clean = record { free = λ j e. p j ∙ c.free j e; kept = λ j low e m. p j ∙ c.kept j low e m; plain = c.plain }; own = own_same x u y v post phase p q f.own }
 
 event_same : (x u y v : ℕ → ℕ) (call : ℕ) (event : Event) → ((j : ℕ) → y j ≡ x j) → ((j : ℕ) → v j ≡ u j) → event_right x u call event ≡ true → event_right y v call event ≡ true
 event_same x u y v call (events.Held index slot n) p q h = rw (p index) (rw (q index) h)
@@ -136,17 +139,28 @@ phase_comes w i j n a (Runs why base) b e =
     base_apart base e = tt
 phase_comes w i j n a (Scans later (ReadGuard number)) b e = refl
 phase_comes w i j n a (Scans later (GiveBack place slot)) b e = refl
-phase_comes w i j n a (Works work) b e = refl
+phase_comes w i j n a (Works work) b e =
+    let k = a.known in
+    let f = k.seats.fits i in
+    work_comes i j n work (counted (w.seat i).post) f.post.seat (work_counted work (w.seat i).post (subst (PhaseFits w.layout (w.seat i).post) e f.phase))
 
 -- what a step makes of what its seat has published
 told_comes : (w : World) (i j n : ℕ) (a : Inv w) → i < w.layout.config.seats → reserved_along i j (told_in w i) n ≡ phase_x (w.seat i).phase j n
 told_comes w i j n a b = step_goes (λ p told. reserved_along i j told n ≡ phase_x (w.seat i).phase j n) (comes_closed i j n (phase_x (w.seat i).phase j n)) (w.seat i).phase (counted (w.seat i).post) (w.seat i).desk (finds w i) (phase_comes w i j n a (w.seat i).phase b refl)
 
+keep_right : (layout : Layout) → is_valid layout ≡ true → (at : KeepAt) → KeepIn layout.config at → WorkRight (Keeping at)
+keep_right layout v (StoreHeld from index era) k = let b = bounds_of layout v in (omega (k.kept, k.rises, arith), omega (k.below, b.indexes.1, arith))
+keep_right layout v at k = tt
+
+work_right : (layout : Layout) → is_valid layout ≡ true → (work : Work) → WorkIn layout.config work → WorkRight work
+work_right layout v (Keeping at) k = keep_right layout v at k
+work_right layout v work k = tt
+
 phase_right : (w : World) (i : ℕ) (a : Inv w) (phase : Phase) → (w.seat i).phase ≡ phase → PhaseRight phase
 phase_right w i a Idle e = tt
-phase_right w i a (Runs why base) e = let k = a.known in let n = rests_need w i a.rows k.seats k.whole.both.rows in n.right why base e
+phase_right w i a (Runs why base) e = let k = a.known in let n = rests_need w i a.rows k.seats k.slots k.whole.both.rows in n.right why base e
 phase_right w i a (Scans later at) e = tt
-phase_right w i a (Works work) e = tt
+phase_right w i a (Works work) e = let k = a.known in let q = k.slots.seats i in work_right w.layout k.valid work (subst (PhaseIn w.layout (w.seat i).desk) e q.phase)
 
 -- what a history keeps of each seat
 abbrev pub published : schedule.History → ℕ → ℕ → ℕ
@@ -263,8 +277,8 @@ step_kept layout made h i n a b y g = record {
 }
 
 -- a call begins
-idle_clean : (x u : ℕ → ℕ) (post : Post) (phase : Phase) → busy_in phase ≡ false → Fits x u post phase → Clean x (begun_post post) spare false
-idle_clean x u post Idle b f = let c = f.clean in record { free = c.free; two = c.two; plain = c.plain }
+idle_clean : (x u : ℕ → ℕ) (post : Post) (phase : Phase) → busy_in phase ≡ false → Fits x u post phase → Clean x (begun_post post) spare unused
+idle_clean x u post Idle b f = let c = f.clean in record { free = c.free; kept = c.kept; plain = c.plain }
 idle_clean x u post (Runs why base) b f = absurd (cc)
 idle_clean x u post (Scans later at) b f = absurd (cc)
 idle_clean x u post (Works work) b f = absurd (cc)
@@ -304,12 +318,12 @@ begin_kept layout made h i call y g = record {
 }
 
 pub kept : (layout : Layout) → is_ibr layout.config.scheme ≡ false → Kept (Keeps layout)
-kept layout n = record { begins = λ made h i call a b f g. begin_kept layout made h i call f g; steps = λ made h i a b y g. step_kept layout made h i n a b y g }
+kept layout n = record { begins = λ made h i call a b f m g. begin_kept layout made h i call f g; steps = λ made h i a b y g. step_kept layout made h i n a b y g }
 
 pub first_kept : (layout : Layout) → is_ibr layout.config.scheme ≡ false → Keeps layout (first_made layout) Blank
 first_kept layout n = record {
   table = refl;
-  seats = λ k. record { clean = record { free = λ j e. refl; two = λ e m. refl; plain = n }; own = refl };
+  seats = λ k. record { clean = record { free = λ j e. refl; kept = λ j low e m. refl; plain = n }; own = refl };
   turns = λ k z. absurd (cc);
   law = tt;
 }

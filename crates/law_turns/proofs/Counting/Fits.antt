@@ -1,8 +1,8 @@
 -- What a seat has published where it stands, under Hazard Eras and Wait-Free Eras: nothing at the indexes that are free, and within
 -- a protection as many turns ago as the protection has made steps since. What comes after a machine keeps that.
-use Rattle.std.proofs.Common.{ℕ, ◌≡◌, ◌+◌, ◌-◌, Bool, true, false, List, [], ◌∷◌, ◌++◌, length, Option, Some, None, refl, arith}
+use Rattle.std.proofs.Common.{ℕ, ◌≡◌, ◌≢◌, ◌≤◌, ◌<◌, ◌+◌, ◌-◌, Bool, true, false, List, [], ◌∷◌, ◌++◌, length, Option, Some, None, refl, sym, ◌∙◌, subst, arith}
 use Rattle.std.proofs.lemmas.Bool.Decides.{nat_tests}
-use Rattle.std.specs.Prelude.{◌==◌, ◌&&◌, ◌||◌, ◌*◌, ◌%◌, not, nat_le, nat_lt, is_none, if◌then◌else◌}
+use Rattle.std.specs.Prelude.{◌==◌, ◌&&◌, ◌||◌, ◌*◌, ◌%◌, not, nat_le, nat_lt, is_none, is_some, if◌then◌else◌}
 use Rattle.wfe_core.specs.words.declared.config.SchemeKind.{SchemeKind}
 use Rattle.wfe_core.specs.words.declared.config.SchemeKind.TheVariants.{He, Ibr, Wfe}
 use Rattle.wfe_core.specs.defs.declared.call.Answer.{Answer}
@@ -25,18 +25,23 @@ use Rattle.wfe_core.specs.Dequeue as dequeues
 use Rattle.wfe_core.specs.Desks.{Desk, with_life}
 use Rattle.wfe_core.specs.Enqueue as enqueues
 use Rattle.wfe_core.specs.Get as gets
-use Rattle.wfe_core.specs.Guards.{guards, guard_at, eras_in, published}
-use Rattle.wfe_core.specs.Posts.{stands}
-use Rattle.wfe_core.specs.Rounds.{scheme_of, bucket_of, index_of, root_of, taken_of, begin_base, protect_base, release_base, clear_base, finish_base, opening, round_by, round, given_up, closed, finishing_by, finishing, clearing_by, clearing, clearing_next_by, clearing_next}
+use Rattle.wfe_core.specs.Guards.{guards, guard_at, eras_in, one_era, published}
+use Rattle.wfe_core.specs.Keep as keeps
+use Rattle.wfe_core.specs.Posts.{reserves_index, stands, with_row}
+use Rattle.laws.specs.StateAt.{one_more}
+use Rattle.wfe_core.specs.Rounds.{scheme_of, bucket_of, index_of, root_of, taken_of, begin_base, protect_base, let_index, letting, letting_by, release_base, clear_base, finish_base, opening, round_by, round, given_up, closed, finishing_by, finishing, clearing_by, clearing, clearing_next_by, clearing_next}
 use Rattle.wfe_core.specs.Scan as scan
 use Rattle.wfe_core.specs.Steps as steps
 use Rattle.wfe_core.specs.Phases.{Tries, Endless, Failed, ProtectAt, Base, Ending, Outcome, Goes, Ends}
 use Rattle.wfe_core.specs.Phases.ProtectAt.{LoadClock, PublishEra, LoadLink, CheckClock, PublishRequest, LoadOwnClock, PublishHelper, LoadOwnLink, CheckOwnClock, AnswerOwn, LoadAnswer, TakeAnswer, WithdrawRequest, WithdrawHelper, LoadWithin, CheckUpper, RaiseUpper}
 use Rattle.wfe_core.specs.Phases.Base.{Protect, Reload}
 use Rattle.wfe_core.specs.Phases.Ending.{Done, Protected, Followed, Allocated, Retired, Clocked}
-use Rattle.wfe_core.specs.Calls.{Task, Gets, Changes, Holds, Enqueues, Dequeues, Next, Again, MakeRoom, Answering, Retiring, AfterScan, Answered, Repeated, Counted, ChangeKept, EnqueueKept, GetAt, FindVersion, FindCount, FindKey, FindValue, ChangeAt, LoadVersion, LoadCount, LoadKey, LoadValue, ExchangeRoot, EnqueueAt, LoadNumber, LoadNext, PassTail, ExchangeNext, ExchangeTail, DequeueAt, LoadTail, SwingTail, TakeNumber, TakeValue, ExchangeHead, Work, Getting, Changing, Enqueuing, Dequeuing, ScanAt, ReadGuard, GiveBack, Why, Opens, FollowsHead, Fills, ClearsNext, Clears, Finishes, GivesUp, Retires, Tidies, Advances, Releases, Phase, Idle, Runs, Scans, Works, CallTurn}
-use Rattle.wfe_core.specs.words.Schemes.{is_ibr, is_he}
-use Rattle.law_answers.specs.inv.shapes.Frame.{phase_left}
+use Rattle.wfe_core.specs.Calls.{Task, Gets, Changes, Holds, Enqueues, Dequeues, Next, Again, MakeRoom, Answering, Retiring, AfterScan, Answered, Repeated, Counted, ChangeKept, EnqueueKept, GetAt, FindVersion, FindCount, FindKey, FindValue, ChangeAt, LoadVersion, LoadCount, LoadKey, LoadValue, ExchangeRoot, EnqueueAt, LoadNumber, LoadNext, PassTail, ExchangeNext, ExchangeTail, DequeueAt, LoadTail, SwingTail, TakeNumber, TakeValue, ExchangeHead, Work, Getting, Changing, Enqueuing, Dequeuing, Keeping, KeepAt, Loosens, LoadHeld, StoreHeld, Looks, Misses, LetGo, Released, Rehold, Dropped, ScanAt, ReadGuard, GiveBack, Why, Opens, FollowsHead, Fills, ClearsNext, Clears, Finishes, GivesUp, Retires, Tidies, Advances, Releases, Phase, Idle, Runs, Scans, Works, CallTurn}
+use Rattle.wfe_core.specs.words.Schemes.{has_one_interval, is_ibr, is_he}
+use Rattle.wfe_core.specs.defs.declared.fold.Change.TheVariants as changes
+use Rattle.wfe_core.proofs.Facts.{false_not_true}
+use Rattle.wfe_core.proofs.Standing.{stands-with_row_same, stands-with_row_other}
+use Rattle.law_answers.specs.inv.shapes.Frame.{KeepFits, phase_left}
 use Rattle.law_answers.specs.inv.covers.Rests.{spare, bare, beside, within, deep, vacant_later, vacant_work, vacant_released}
 use Rattle.law_answers.proofs.inv.covers.Resting.{bare_own}
 use Rattle.law_answers.proofs.inv.covers.Vacant.{beside_bare}
@@ -54,7 +59,7 @@ free_why (GivesUp answer) j = spare j
 free_why (Retires answer) j = spare j
 free_why (Tidies later) j = vacant_later later j
 free_why Advances j = spare j
-free_why (Releases key) j = spare j
+free_why (Releases let_go) j = spare j
 
 abbrev pub free : Phase → ℕ → Bool
 free Idle j = spare j
@@ -70,29 +75,37 @@ is_hold (Holds key) = true
 is_hold (Enqueues kept) = false
 is_hold Dequeues = false
 
-abbrev pub holds_why : Why → Bool
-holds_why (Opens task) = is_hold task
-holds_why (FollowsHead head tail) = false
-holds_why (Fills task) = false
-holds_why (ClearsNext next) = false
-holds_why (Clears task next) = is_hold task
-holds_why (Finishes task next) = false
-holds_why (GivesUp answer) = false
-holds_why (Retires answer) = false
-holds_why (Tidies later) = false
-holds_why Advances = false
-holds_why (Releases key) = true
+-- the index that is protected or cleared, of those from 2 on
+abbrev pub holds_task : Task → ℕ → Bool
+holds_task task j = is_hold task && j == 2
 
-abbrev pub holds : Phase → Bool
-holds Idle = false
-holds (Runs why base) = holds_why why
-holds (Scans later at) = false
-holds (Works work) = false
+abbrev pub holds_why : Why → ℕ → Bool
+holds_why (Opens task) j = holds_task task j
+holds_why (FollowsHead head tail) j = false
+holds_why (Fills task) j = false
+holds_why (ClearsNext next) j = false
+holds_why (Clears task next) j = holds_task task j
+holds_why (Finishes task next) j = false
+holds_why (GivesUp answer) j = false
+holds_why (Retires answer) j = false
+holds_why (Tidies later) j = false
+holds_why Advances j = false
+holds_why (Releases let_go) j = j == let_index let_go
 
--- nothing is published at these indexes; nor at index 2, where it is not in use and nothing stands there
-pub record Clean (x : ℕ → ℕ) (post : Post) (f : ℕ → Bool) (hold : Bool) : Type 0 where
+abbrev pub holds : Phase → ℕ → Bool
+holds Idle j = false
+holds (Runs why base) j = holds_why why j
+holds (Scans later at) j = false
+holds (Works work) j = false
+
+-- none
+abbrev pub unused : ℕ → Bool
+unused j = false
+
+-- nothing is published at these indexes; nor at one from 2 on that is not in use, where nothing stands there
+pub record Clean (x : ℕ → ℕ) (post : Post) (f held : ℕ → Bool) : Type 0 where
   pub free : (j : ℕ) → f j ≡ true → x j ≡ 0
-  pub two : hold ≡ false → stands post 2 ≡ None → x 2 ≡ 0
+  pub kept : (j : ℕ) → nat_lt j 2 ≡ false → held j ≡ false → stands post j ≡ None → x j ≡ 0
   pub plain : is_ibr (scheme_of post) ≡ false
 
 -- the tasks that fill a row
@@ -156,195 +169,258 @@ pub record Fits (x u : ℕ → ℕ) (post : Post) (phase : Phase) : Type 0 where
 abbrev pub Left : (x u : ℕ → ℕ) → CallTurn → Type 0
 Left x u t = Fits x u t.post (phase_left t.outcome)
 
-pub fewer : {x : ℕ → ℕ} {post : Post} {f g : ℕ → Bool} {hold : Bool} → Clean x post f hold → ((j : ℕ) → g j ≡ true → f j ≡ true) → Clean x post g hold
-fewer c w = record { free = λ j e. c.free j (w j e); two = c.two; plain = c.plain }
+pub fewer : {x : ℕ → ℕ} {post : Post} {f g held : ℕ → Bool} → Clean x post f held → ((j : ℕ) → g j ≡ true → f j ≡ true) → Clean x post g held
+fewer c w = record { free = λ j e. c.free j (w j e); kept = c.kept; plain = c.plain }
 
--- where index 2 is not in use, it may come into use
-pub used : {x : ℕ → ℕ} {post : Post} {f : ℕ → Bool} (hold : Bool) → Clean x post f false → Clean x post f hold
-used hold c = record { free = c.free; two = λ e n. c.two refl n; plain = c.plain }
+-- an index that is not in use may come into use
+pub used : {x : ℕ → ℕ} {post : Post} {f : ℕ → Bool} (held : ℕ → Bool) → Clean x post f unused → Clean x post f held
+used held c = record { free = c.free; kept = λ j low e n. c.kept j low refl n; plain = c.plain }
 
 -- a round begins
-opening_at : {x u : ℕ → ℕ} (task : Task) (root : Root) (post : Post) (scheme : SchemeKind) → is_ibr scheme ≡ false → Clean x post (bare task) false → Fits x u post (Runs (Opens task) (protect_base scheme (index_of task) root))
+opening_at : {x u : ℕ → ℕ} (task : Task) (root : Root) (post : Post) (scheme : SchemeKind) → is_ibr scheme ≡ false → Clean x post (bare task) unused → Fits x u post (Runs (Opens task) (protect_base scheme (index_of task) root))
 opening_at task root post He n c =
     let z = c.free (index_of task) (bare_own task (index_of task) (grind (arith, nat_tests))) in
-    record { clean = used (is_hold task) (fewer c (λ j e. beside_bare task j e)); own = rw z (grind (arith, nat_tests)) }
+    record { clean = used (holds_task task) (fewer c (λ j e. beside_bare task j e)); own = rw z (grind (arith, nat_tests)) }
 opening_at task root post Ibr n c = absurd (cc)
 opening_at task root post Wfe n c =
     let z = c.free (index_of task) (bare_own task (index_of task) (grind (arith, nat_tests))) in
-    record { clean = used (is_hold task) (fewer c (λ j e. beside_bare task j e)); own = rw z (grind (arith, nat_tests)) }
+    record { clean = used (holds_task task) (fewer c (λ j e. beside_bare task j e)); own = rw z (grind (arith, nat_tests)) }
 
-opening_fits : {x u : ℕ → ℕ} (task : Task) (post : Post) → Clean x post (bare task) false → Fits x u post (opening task post)
+opening_fits : {x u : ℕ → ℕ} (task : Task) (post : Post) → Clean x post (bare task) unused → Fits x u post (opening task post)
 opening_fits task post c = opening_at task (root_of task post) post (scheme_of post) c.plain c
 
-round_at : {x u : ℕ → ℕ} (task : Task) (post : Post) (scheme : SchemeKind) → is_ibr scheme ≡ false → Clean x post (bare task) false → Fits x u post (round_by task post (begin_base scheme post))
+round_at : {x u : ℕ → ℕ} (task : Task) (post : Post) (scheme : SchemeKind) → is_ibr scheme ≡ false → Clean x post (bare task) unused → Fits x u post (round_by task post (begin_base scheme post))
 round_at task post He n c = opening_fits task post c
 round_at task post Ibr n c = absurd (cc)
 round_at task post Wfe n c = opening_fits task post c
 
-pub round_fits : {x u : ℕ → ℕ} (task : Task) (post : Post) → Clean x post (bare task) false → Fits x u post (round task post)
+pub round_fits : {x u : ℕ → ℕ} (task : Task) (post : Post) → Clean x post (bare task) unused → Fits x u post (round task post)
 round_fits task post c = round_at task post (scheme_of post) c.plain c
 
-given_up_fits : {x u : ℕ → ℕ} (answer : Answer) (post : Post) (desk : Desk) (told : List Event) (o : Option ℕ) → Clean x post spare false → Left x u (given_up answer post desk told o)
+given_up_fits : {x u : ℕ → ℕ} (answer : Answer) (post : Post) (desk : Desk) (told : List Event) (o : Option ℕ) → Clean x post spare unused → Left x u (given_up answer post desk told o)
 given_up_fits answer post desk told None c = record { clean = c; own = refl }
 given_up_fits answer post desk told (Some slot) c = record { clean = c; own = refl }
 
-closed_fits : {x u : ℕ → ℕ} (task : Task) (next : Next) (post : Post) (desk : Desk) (told : List Event) → Clean x post (bare task) false → Left x u (closed task next post desk told)
+closed_fits : {x u : ℕ → ℕ} (task : Task) (next : Next) (post : Post) (desk : Desk) (told : List Event) → Clean x post (bare task) unused → Left x u (closed task next post desk told)
 closed_fits task Again post desk told c = round_fits task post c
 closed_fits task MakeRoom post desk told c = record { clean = c; own = refl }
 closed_fits task (Answering answer) post desk told c = given_up_fits answer post desk told (taken_of task) (fewer c (λ j e. spare_bare task j e))
 closed_fits task (Retiring slot answer) post desk told c = record { clean = fewer c (λ j e. spare_bare task j e); own = refl }
 
-finishing_at : {x u : ℕ → ℕ} (task : Task) (next : Next) (post : Post) (desk : Desk) (told : List Event) (scheme : SchemeKind) → is_ibr scheme ≡ false → Clean x post (bare task) false → Left x u (finishing_by task next post desk told (finish_base scheme post))
+finishing_at : {x u : ℕ → ℕ} (task : Task) (next : Next) (post : Post) (desk : Desk) (told : List Event) (scheme : SchemeKind) → is_ibr scheme ≡ false → Clean x post (bare task) unused → Left x u (finishing_by task next post desk told (finish_base scheme post))
 finishing_at task next post desk told He n c = closed_fits task next post desk told c
 finishing_at task next post desk told Ibr n c = absurd (cc)
 finishing_at task next post desk told Wfe n c = closed_fits task next post desk told c
 
-finishing_fits : {x u : ℕ → ℕ} (task : Task) (next : Next) (post : Post) (desk : Desk) (told : List Event) → Clean x post (bare task) false → Left x u (finishing task next post desk told)
+finishing_fits : {x u : ℕ → ℕ} (task : Task) (next : Next) (post : Post) (desk : Desk) (told : List Event) → Clean x post (bare task) unused → Left x u (finishing task next post desk told)
 finishing_fits task Again post desk told c = closed_fits task Again post desk told c
 finishing_fits task MakeRoom post desk told c = finishing_at task MakeRoom post desk told (scheme_of post) c.plain c
 finishing_fits task (Answering answer) post desk told c = finishing_at task (Answering answer) post desk told (scheme_of post) c.plain c
 finishing_fits task (Retiring slot answer) post desk told c = finishing_at task (Retiring slot answer) post desk told (scheme_of post) c.plain c
 
-clearing_at : {x u : ℕ → ℕ} (task : Task) (next : Next) (post : Post) (desk : Desk) (told : List Event) (scheme : SchemeKind) → is_ibr scheme ≡ false → Clean x post (beside task) (is_hold task) → Left x u (clearing_by task next post desk told (clear_base scheme (index_of task)))
+clearing_at : {x u : ℕ → ℕ} (task : Task) (next : Next) (post : Post) (desk : Desk) (told : List Event) (scheme : SchemeKind) → is_ibr scheme ≡ false → Clean x post (beside task) (holds_task task) → Left x u (clearing_by task next post desk told (clear_base scheme (index_of task)))
 clearing_at task next post desk told He n c = record { clean = c; own = refl }
 clearing_at task next post desk told Ibr n c = absurd (cc)
 clearing_at task next post desk told Wfe n c = record { clean = c; own = refl }
 
-clearing_fits : {x u : ℕ → ℕ} (task : Task) (next : Next) (post : Post) (desk : Desk) (told : List Event) → Clean x post (beside task) (is_hold task) → Left x u (clearing task next post desk told)
+clearing_fits : {x u : ℕ → ℕ} (task : Task) (next : Next) (post : Post) (desk : Desk) (told : List Event) → Clean x post (beside task) (holds_task task) → Left x u (clearing task next post desk told)
 clearing_fits task next post desk told c = clearing_at task next post desk told (scheme_of post) c.plain c
 
-clearing_next_at : {x u : ℕ → ℕ} (next : Next) (post : Post) (desk : Desk) (told : List Event) (scheme : SchemeKind) → is_ibr scheme ≡ false → Clean x post deep false → Left x u (clearing_next_by next post desk told (clear_base scheme 1))
+clearing_next_at : {x u : ℕ → ℕ} (next : Next) (post : Post) (desk : Desk) (told : List Event) (scheme : SchemeKind) → is_ibr scheme ≡ false → Clean x post deep unused → Left x u (clearing_next_by next post desk told (clear_base scheme 1))
 clearing_next_at next post desk told He n c = record { clean = c; own = refl }
 clearing_next_at next post desk told Ibr n c = absurd (cc)
 clearing_next_at next post desk told Wfe n c = record { clean = c; own = refl }
 
-clearing_next_fits : {x u : ℕ → ℕ} (next : Next) (post : Post) (desk : Desk) (told : List Event) → Clean x post deep false → Left x u (clearing_next next post desk told)
+clearing_next_fits : {x u : ℕ → ℕ} (next : Next) (post : Post) (desk : Desk) (told : List Event) → Clean x post deep unused → Left x u (clearing_next next post desk told)
 clearing_next_fits next post desk told c = clearing_next_at next post desk told (scheme_of post) c.plain c
 
 -- the steps of a call's own
-got_fits : {x u : ℕ → ℕ} (key version : ℕ) (value : Option ℕ) (post : Post) (desk : Desk) (told : List Event) → Clean x post within false → Left x u (gets.got key version value post desk told)
+got_fits : {x u : ℕ → ℕ} (key version : ℕ) (value : Option ℕ) (post : Post) (desk : Desk) (told : List Event) → Clean x post within unused → Left x u (gets.got key version value post desk told)
 got_fits key version value post desk told c = clearing_fits (Gets key) (Answering (the_answers.Got version value)) post desk (told ++ events.Got (bucket_of post key) version key value ∷ []) c
 
-finding_fits : {x u : ℕ → ℕ} (key slot version count : ℕ) (post : Post) (desk : Desk) (more : Bool) (pair : ℕ) → Clean x post within false → Left x u (gets.finding key slot version count post desk more pair)
+finding_fits : {x u : ℕ → ℕ} (key slot version count : ℕ) (post : Post) (desk : Desk) (more : Bool) (pair : ℕ) → Clean x post within unused → Left x u (gets.finding key slot version count post desk more pair)
 finding_fits key slot version count post desk true pair c = record { clean = c; own = refl }
 finding_fits key slot version count post desk false pair c = got_fits key version None post desk [] c
 
-found_key_fits : {x u : ℕ → ℕ} (key slot version count pair : ℕ) (post : Post) (desk : Desk) (same : Bool) → Clean x post within false → Left x u (gets.found_key key slot version count pair post desk same)
+found_key_fits : {x u : ℕ → ℕ} (key slot version count pair : ℕ) (post : Post) (desk : Desk) (same : Bool) → Clean x post within unused → Left x u (gets.found_key key slot version count pair post desk same)
 found_key_fits key slot version count pair post desk true c = record { clean = c; own = refl }
 found_key_fits key slot version count pair post desk false c = finding_fits key slot version count post desk (nat_lt (pair + 1) count) (pair + 1) c
 
-get_fits : {x u : ℕ → ℕ} (key : ℕ) (at : GetAt) (post : Post) (desk : Desk) (found : ℕ) → Clean x post within false → Left x u (gets.get_turn key at post desk found)
+get_fits : {x u : ℕ → ℕ} (key : ℕ) (at : GetAt) (post : Post) (desk : Desk) (found : ℕ) → Clean x post within unused → Left x u (gets.get_turn key at post desk found)
 get_fits key (FindVersion slot) post desk found c = record { clean = c; own = refl }
 get_fits key (FindCount slot version) post desk found c = finding_fits key slot version found post desk (nat_lt 0 found) 0 c
 get_fits key (FindKey slot version count pair) post desk found c = found_key_fits key slot version count pair post desk (found == key) c
 get_fits key (FindValue slot version pair) post desk found c = got_fits key version (Some found) post desk [] c
 
-filling_fits : {x u : ℕ → ℕ} (task : Task) (post : Post) (kept : ChangeKept) (slot : Option ℕ) → Clean x post within false → Fits x u post (Runs (Fills task) (alters.filling_by kept slot))
+filling_fits : {x u : ℕ → ℕ} (task : Task) (post : Post) (kept : ChangeKept) (slot : Option ℕ) → Clean x post within unused → Fits x u post (Runs (Fills task) (alters.filling_by kept slot))
 filling_fits task post kept None c = record { clean = c; own = refl }
 filling_fits task post kept (Some slot) c = record { clean = c; own = refl }
 
-deciding_by_fits : {x u : ℕ → ℕ} (kept : ChangeKept) (post : Post) (desk : Desk) (told : List Event) (o : Option Answer) → Clean x post within false → Left x u (alters.deciding_by kept post desk told o)
+deciding_by_fits : {x u : ℕ → ℕ} (kept : ChangeKept) (post : Post) (desk : Desk) (told : List Event) (o : Option Answer) → Clean x post within unused → Left x u (alters.deciding_by kept post desk told o)
 deciding_by_fits kept post desk told (Some answer) c = clearing_fits (Changes kept) (Answering answer) post desk told c
 deciding_by_fits kept post desk told None c = filling_fits (Changes (alters.with_change kept)) post (alters.with_change kept) kept.taken c
 
-deciding_fits : {x u : ℕ → ℕ} (kept : ChangeKept) (post : Post) (desk : Desk) (told : List Event) → Clean x post within false → Left x u (alters.deciding kept post desk told)
-deciding_fits kept post desk told c = deciding_by_fits kept post desk told (alters.refusal post.layout.config kept.version kept.pairs kept.change) c
+deciding_fits : {x u : ℕ → ℕ} (kept : ChangeKept) (post : Post) (desk : Desk) (told : List Event) → Clean x post within unused → Left x u (alters.deciding kept post desk told)
+deciding_fits kept post desk told c = deciding_by_fits kept post desk told (alters.refused post.layout.config kept) c
 
-reading_fits : {x u : ℕ → ℕ} (kept : ChangeKept) (slot count : ℕ) (post : Post) (desk : Desk) (more : Bool) → Clean x post within false → Left x u (alters.reading kept slot count post desk more)
+reading_fits : {x u : ℕ → ℕ} (kept : ChangeKept) (slot count : ℕ) (post : Post) (desk : Desk) (more : Bool) → Clean x post within unused → Left x u (alters.reading kept slot count post desk more)
 reading_fits kept slot count post desk true c = record { clean = c; own = refl }
 reading_fits kept slot count post desk false c = deciding_fits kept post desk [] c
 
-exchanged_fits : {x u : ℕ → ℕ} (kept : ChangeKept) (slot : ℕ) (post : Post) (desk : Desk) (same : Bool) → Clean x post within false → Left x u (alters.exchanged kept slot post desk same)
+exchanged_fits : {x u : ℕ → ℕ} (kept : ChangeKept) (slot : ℕ) (post : Post) (desk : Desk) (same : Bool) → Clean x post within unused → Left x u (alters.exchanged kept slot post desk same)
 exchanged_fits kept slot post desk true c = clearing_fits (Changes (record kept { taken = None })) (alters.answer_done (kept.version + 1) kept.link) post desk (alters.told_linked kept slot post) c
 exchanged_fits kept slot post desk false c = clearing_fits (Changes kept) Again post desk [] c
 
-change_fits : {x u : ℕ → ℕ} (kept : ChangeKept) (at : ChangeAt) (post : Post) (desk : Desk) (found : ℕ) → Clean x post within false → Left x u (alters.change_turn kept at post desk found)
+change_fits : {x u : ℕ → ℕ} (kept : ChangeKept) (at : ChangeAt) (post : Post) (desk : Desk) (found : ℕ) → Clean x post within unused → Left x u (alters.change_turn kept at post desk found)
 change_fits kept (LoadVersion slot) post desk found c = record { clean = c; own = refl }
 change_fits kept (LoadCount slot) post desk found c = reading_fits kept slot found post desk (nat_lt 0 found) c
 change_fits kept (LoadKey slot count) post desk found c = record { clean = c; own = refl }
 change_fits kept (LoadValue slot count key) post desk found c = reading_fits (alters.with_read kept key found) slot count post desk (nat_lt (length kept.pairs + 1) count) c
 change_fits kept (ExchangeRoot slot) post desk found c = exchanged_fits kept slot post desk (found == kept.link) c
 
-filling_item_fits : {x u : ℕ → ℕ} (task : Task) (post : Post) (kept : EnqueueKept) (slot : Option ℕ) → Clean x post within false → Fits x u post (Runs (Fills task) (enqueues.filling_by kept slot))
+filling_item_fits : {x u : ℕ → ℕ} (task : Task) (post : Post) (kept : EnqueueKept) (slot : Option ℕ) → Clean x post within unused → Fits x u post (Runs (Fills task) (enqueues.filling_by kept slot))
 filling_item_fits task post kept None c = record { clean = c; own = refl }
 filling_item_fits task post kept (Some slot) c = record { clean = c; own = refl }
 
-appending_fits : {x u : ℕ → ℕ} (kept : EnqueueKept) (post : Post) (desk : Desk) (spent : Bool) → Clean x post within false → Left x u (enqueues.appending kept post desk spent)
+appending_fits : {x u : ℕ → ℕ} (kept : EnqueueKept) (post : Post) (desk : Desk) (spent : Bool) → Clean x post within unused → Left x u (enqueues.appending kept post desk spent)
 appending_fits kept post desk true c = clearing_fits (Enqueues kept) (Answering (the_answers.Spent kept.number)) post desk [] c
 appending_fits kept post desk false c = filling_item_fits (Enqueues kept) post kept kept.taken c
 
-at_next_fits : {x u : ℕ → ℕ} (kept : EnqueueKept) (next : ℕ) (post : Post) (desk : Desk) (none : Bool) → Clean x post within false → Left x u (enqueues.at_next kept next post desk none)
+at_next_fits : {x u : ℕ → ℕ} (kept : EnqueueKept) (next : ℕ) (post : Post) (desk : Desk) (none : Bool) → Clean x post within unused → Left x u (enqueues.at_next kept next post desk none)
 at_next_fits kept next post desk true c = appending_fits kept post desk (kept.number == post.layout.config.last_version) c
 at_next_fits kept next post desk false c = record { clean = c; own = refl }
 
-appended_fits : {x u : ℕ → ℕ} (kept : EnqueueKept) (slot : ℕ) (post : Post) (desk : Desk) (same : Bool) → Clean x post within false → Left x u (enqueues.appended kept slot post desk same)
+appended_fits : {x u : ℕ → ℕ} (kept : EnqueueKept) (slot : ℕ) (post : Post) (desk : Desk) (same : Bool) → Clean x post within unused → Left x u (enqueues.appended kept slot post desk same)
 appended_fits kept slot post desk true c = record { clean = c; own = refl }
 appended_fits kept slot post desk false c = clearing_fits (Enqueues kept) Again post desk [] c
 
-enqueue_fits : {x u : ℕ → ℕ} (kept : EnqueueKept) (at : EnqueueAt) (post : Post) (desk : Desk) (found : ℕ) → Clean x post within false → Left x u (enqueues.enqueue_turn kept at post desk found)
+enqueue_fits : {x u : ℕ → ℕ} (kept : EnqueueKept) (at : EnqueueAt) (post : Post) (desk : Desk) (found : ℕ) → Clean x post within unused → Left x u (enqueues.enqueue_turn kept at post desk found)
 enqueue_fits kept LoadNumber post desk found c = record { clean = c; own = refl }
 enqueue_fits kept LoadNext post desk found c = at_next_fits kept found post desk (found == 0) c
 enqueue_fits kept (PassTail next) post desk found c = clearing_fits (Enqueues kept) Again post desk (enqueues.told_link roots.Tail (next - 1) (found == kept.tail + 1)) c
 enqueue_fits kept (ExchangeNext slot) post desk found c = appended_fits kept slot post desk (found == 0) c
 enqueue_fits kept (ExchangeTail slot) post desk found c = clearing_fits (Enqueues kept) (Answering (the_answers.Queued (kept.number + 1))) post desk (enqueues.told_link roots.Tail slot (found == kept.tail + 1)) c
 
-follow_at : {x u : ℕ → ℕ} (head tail : ℕ) (post : Post) (scheme : SchemeKind) → is_ibr scheme ≡ false → Clean x post within false → Fits x u post (Runs (FollowsHead head tail) (dequeues.follow_base scheme head))
+follow_at : {x u : ℕ → ℕ} (head tail : ℕ) (post : Post) (scheme : SchemeKind) → is_ibr scheme ≡ false → Clean x post within unused → Fits x u post (Runs (FollowsHead head tail) (dequeues.follow_base scheme head))
 follow_at head tail post He n c = let z = c.free 1 refl in record { clean = fewer c (λ j e. grind (arith, nat_tests)); own = rw z (grind (arith, nat_tests)) }
 follow_at head tail post Ibr n c = absurd (cc)
 follow_at head tail post Wfe n c = let z = c.free 1 refl in record { clean = fewer c (λ j e. grind (arith, nat_tests)); own = rw z (grind (arith, nat_tests)) }
 
-taken_fits : {x u : ℕ → ℕ} (head next number value : ℕ) (post : Post) (desk : Desk) (same : Bool) → Clean x post deep false → Left x u (dequeues.taken head next number value post desk same)
+taken_fits : {x u : ℕ → ℕ} (head next number value : ℕ) (post : Post) (desk : Desk) (same : Bool) → Clean x post deep unused → Left x u (dequeues.taken head next number value post desk same)
 taken_fits head next number value post desk true c = clearing_next_fits (Retiring head (the_answers.Taken number value moves.Still)) post desk (events.Link roots.Head next ∷ events.Cut head ∷ events.Taken number value ∷ []) c
 taken_fits head next number value post desk false c = clearing_next_fits Again post desk [] c
 
-dequeue_fits : {x u : ℕ → ℕ} (at : DequeueAt) (post : Post) (desk : Desk) (found : ℕ) → Clean x post (vacant_work (Dequeuing at)) false → Left x u (dequeues.dequeue_turn at post desk found)
+dequeue_fits : {x u : ℕ → ℕ} (at : DequeueAt) (post : Post) (desk : Desk) (found : ℕ) → Clean x post (vacant_work (Dequeuing at)) unused → Left x u (dequeues.dequeue_turn at post desk found)
 dequeue_fits (LoadTail head) post desk found c = follow_at head found post (scheme_of post) c.plain c
 dequeue_fits (SwingTail head next) post desk found c = clearing_next_fits Again post desk (enqueues.told_link roots.Tail next (found == head + 1)) c
 dequeue_fits (TakeNumber head next) post desk found c = record { clean = c; own = refl }
 dequeue_fits (TakeValue head next number) post desk found c = record { clean = c; own = refl }
 dequeue_fits (ExchangeHead head next number value) post desk found c = taken_fits head next number value post desk (found == head + 1) c
 
-pub work_fits : {x u : ℕ → ℕ} (work : Work) (post : Post) (desk : Desk) (found : ℕ) → Clean x post (vacant_work work) false → Left x u (steps.work_turn work post desk found)
-work_fits (Getting key at) post desk found c = get_fits key at post desk found c
-work_fits (Changing kept at) post desk found c = change_fits kept at post desk found c
-work_fits (Enqueuing kept at) post desk found c = enqueue_fits kept at post desk found c
-work_fits (Dequeuing at) post desk found c = dequeue_fits at post desk found c
+-- what a step of a call's own makes of what the seat has published at its index word j: a copy publishes an era
+abbrev pub work_x : Work → ℕ → ℕ → ℕ
+work_x (Keeping (StoreHeld from index era)) j n = if index == j then one_more (one_era era) n else n
+work_x work j n = n
+
+-- a copy goes to an index from 2 on, of the eight
+abbrev pub WorkRight : Work → Type 0
+WorkRight (Keeping (StoreHeld from index era)) = (2 ≤ index) × (index < 8)
+WorkRight work = Unit {0}
+
+looking_fits : {x u : ℕ → ℕ} (index key slot version count : ℕ) (post : Post) (desk : Desk) (more : Bool) (pair : ℕ) → Clean x post spare unused → Left x u (keeps.looking index key slot version count post desk more pair)
+looking_fits index key slot version count post desk true pair c = record { clean = c; own = refl }
+looking_fits index key slot version count post desk false pair c = record { clean = c; own = refl }
+
+looked_key_fits : {x u : ℕ → ℕ} (index key slot version count pair : ℕ) (post : Post) (desk : Desk) (same : Bool) → Clean x post spare unused → Left x u (keeps.looked_key index key slot version count pair post desk same)
+looked_key_fits index key slot version count pair post desk true c = record { clean = c; own = refl }
+looked_key_fits index key slot version count pair post desk false c = looking_fits index key slot version count post desk (nat_lt (pair + 1) count) (pair + 1) c
+
+look_fits : {x u : ℕ → ℕ} (index key : ℕ) (at : GetAt) (post : Post) (desk : Desk) (found : ℕ) → Clean x post spare unused → Left x u (keeps.look_turn index key at post desk found)
+look_fits index key (FindVersion slot) post desk found c = record { clean = c; own = refl }
+look_fits index key (FindCount slot version) post desk found c = looking_fits index key slot version found post desk (nat_lt 0 found) 0 c
+look_fits index key (FindKey slot version count pair) post desk found c = looked_key_fits index key slot version count pair post desk (found == key) c
+look_fits index key (FindValue slot version pair) post desk found c = record { clean = c; own = refl }
+
+-- what is copied stands at the other index from here on
+copied_clean : {x : ℕ → ℕ} (index slot era : ℕ) (post : Post) → 2 ≤ index → index < length post.standing → Clean x post spare unused → Clean (λ j. if index == j then one_more (one_era era) (x j) else x j) (with_row post index slot) spare unused
+copied_clean {x} index slot era post low room c = record {
+  free = λ j e. let n : (index == j) ≡ false = apart j e in rw n (c.free j e);
+  kept = λ j l e m. by j (index == j) refl l m;
+  plain = c.plain;
+}
+  where
+    apart : (j : ℕ) → spare j ≡ true → (index == j) ≡ false
+    apart j e = grind (arith, nat_tests)
+
+    by : (j : ℕ) (own : Bool) → (index == j) ≡ own → nat_lt j 2 ≡ false → stands (with_row post index slot) j ≡ None → (if own then one_more (one_era era) (x j) else x j) ≡ 0
+    by j true e l m =
+        let q : index ≡ j = grind (arith, nat_tests) in
+        let h : stands (with_row post index slot) index ≡ None = subst (λ (k : ℕ). stands (with_row post index slot) k ≡ None) (sym q) m in
+        absurd (let t = stands-with_row_same post index slot room in cc)
+    by j false e l m = let q : j ≢ index = grind (arith, nat_tests) in c.kept j l refl (sym (stands-with_row_other post index slot j q) ∙ m)
+
+store_fits : {x u : ℕ → ℕ} (from index era : ℕ) (post : Post) (desk : Desk) (reserved : List Event) (o : Option ℕ) → is_some o ≡ true → 2 ≤ index → index < length post.standing → Clean x post spare unused → Left (λ j. if index == j then one_more (one_era era) (x j) else x j) u (keeps.copied from index post desk reserved o)
+store_fits from index era post desk reserved None s low room c = absurd (cc)
+store_fits from index era post desk reserved (Some slot) s low room c = record { clean = copied_clean index slot era post low room c; own = refl }
+
+load_fits : {x u : ℕ → ℕ} (from index : ℕ) (post : Post) (desk : Desk) (found : ℕ) (one : Bool) → one ≡ false → Clean x post spare unused → Left x u (keeps.load_held from index post desk found one)
+load_fits from index post desk found true n c = absurd (cc)
+load_fits from index post desk found false n c = record { clean = c; own = refl }
+
+pub keep_fits : {x u : ℕ → ℕ} (at : KeepAt) (post : Post) (desk : Desk) (found : ℕ) → KeepFits post at → WorkRight (Keeping at) → length post.standing ≡ 8 → Clean x post spare unused → Left (λ j. work_x (Keeping at) j (x j)) u (keeps.keep_turn at post desk found)
+keep_fits (Loosens let_go) post desk found f r e c = absurd (false_not_true (is_ibr (scheme_of post)) c.plain f.interval)
+keep_fits (LoadHeld from index) post desk found f r e c = load_fits from index post desk found (has_one_interval (scheme_of post)) c.plain c
+keep_fits (StoreHeld from index era) post desk found f r e c = store_fits from index era post desk (reserves_index post index era) (stands post from) f.kept r.0 (rw e r.1) c
+keep_fits (Looks index key at) post desk found f r e c = look_fits index key at post desk found c
+keep_fits (Misses index) post desk found f r e c = record { clean = c; own = refl }
+
+-- the other steps publish nothing
+abbrev pub is_keeping : Work → Bool
+is_keeping (Keeping at) = true
+is_keeping work = false
+
+pub work_fits : {x u : ℕ → ℕ} (work : Work) (post : Post) (desk : Desk) (found : ℕ) → is_keeping work ≡ false → Clean x post (vacant_work work) unused → Left x u (steps.work_turn work post desk found)
+work_fits (Getting key at) post desk found k c = get_fits key at post desk found c
+work_fits (Changing kept at) post desk found k c = change_fits kept at post desk found c
+work_fits (Enqueuing kept at) post desk found k c = enqueue_fits kept at post desk found c
+work_fits (Dequeuing at) post desk found k c = dequeue_fits at post desk found c
+work_fits (Keeping at) post desk found k c = absurd (cc)
 
 -- a scan
-scanned_fits : {x u : ℕ → ℕ} (later : AfterScan) (post : Post) (desk : Desk) (told : List Event) → Clean x post (vacant_later later) false → Left x u (scan.scanned later post desk told)
+scanned_fits : {x u : ℕ → ℕ} (later : AfterScan) (post : Post) (desk : Desk) (told : List Event) → Clean x post (vacant_later later) unused → Left x u (scan.scanned later post desk told)
 scanned_fits (Answered answer) post desk told c = record { clean = c; own = refl }
 scanned_fits (Repeated task) post desk told c = round_fits task post c
 scanned_fits Counted post desk told c = record { clean = c; own = refl }
 
-giving_fits : {x u : ℕ → ℕ} (later : AfterScan) (post : Post) (desk : Desk) (told : List Event) (o : Option scan.Entry) → Clean x post (vacant_later later) false → Left x u (scan.giving_back later post desk told o)
+giving_fits : {x u : ℕ → ℕ} (later : AfterScan) (post : Post) (desk : Desk) (told : List Event) (o : Option scan.Entry) → Clean x post (vacant_later later) unused → Left x u (scan.giving_back later post desk told o)
 giving_fits later post desk told None c = scanned_fits later post (scan.with_kept desk) told c
 giving_fits later post desk told (Some entry) c = record { clean = c; own = refl }
 
-reading_on_fits : {x u : ℕ → ℕ} (later : AfterScan) (number : ℕ) (post : Post) (desk : Desk) (told : List Event) (more : Bool) → Clean x post (vacant_later later) false → Left x u (scan.reading later number post desk told more)
+reading_on_fits : {x u : ℕ → ℕ} (later : AfterScan) (number : ℕ) (post : Post) (desk : Desk) (told : List Event) (more : Bool) → Clean x post (vacant_later later) unused → Left x u (scan.reading later number post desk told more)
 reading_on_fits later number post desk told true c = record { clean = c; own = refl }
 reading_on_fits later number post desk told false c = giving_fits later post desk told (scan.unmet_from desk 0) c
 
-pub scan_fits : {x u : ℕ → ℕ} (later : AfterScan) (at : ScanAt) (post : Post) (desk : Desk) (found : ℕ) → Clean x post (vacant_later later) false → Left x u (scan.scan_turn later at post desk found)
+pub scan_fits : {x u : ℕ → ℕ} (later : AfterScan) (at : ScanAt) (post : Post) (desk : Desk) (found : ℕ) → Clean x post (vacant_later later) unused → Left x u (scan.scan_turn later at post desk found)
 scan_fits later (ReadGuard number) post desk found c =
     reading_on_fits later number post (scan.with_read desk number (guard_at post.layout.config number, published (guard_at post.layout.config number) found)) (events.Read (guard_at post.layout.config number) (eras_in (guard_at post.layout.config number) found) ∷ []) (nat_lt (number + 1) (guards post.layout.config)) c
 scan_fits later (GiveBack place slot) post desk found c = giving_fits later post (scan.with_back desk place) (events.Back slot ∷ []) (scan.unmet_from (scan.with_back desk place) place) c
 
 -- what comes after a machine
-opened_row_fits : {x u : ℕ → ℕ} (task : Task) (slot : ℕ) (post : Post) (desk : Desk) (told : List Event) → Clean x post (beside task) false → Left x u (steps.opened_row task slot post desk told)
+opened_row_fits : {x u : ℕ → ℕ} (task : Task) (slot : ℕ) (post : Post) (desk : Desk) (told : List Event) → Clean x post (beside task) unused → Left x u (steps.opened_row task slot post desk told)
 opened_row_fits (Gets key) slot post desk told c = record { clean = c; own = refl }
 opened_row_fits (Changes kept) slot post desk told c = record { clean = c; own = refl }
 opened_row_fits (Holds key) slot post desk told c = record { clean = fewer c (λ j e. grind (arith, nat_tests)); own = refl }
 opened_row_fits (Enqueues kept) slot post desk told c = record { clean = c; own = refl }
 opened_row_fits Dequeues slot post desk told c = record { clean = c; own = refl }
 
-opened_null_fits : {x u : ℕ → ℕ} (task : Task) (post : Post) (desk : Desk) (told : List Event) → Clean x post (beside task) (is_hold task) → Left x u (steps.opened_null task post desk told)
+opened_null_fits : {x u : ℕ → ℕ} (task : Task) (post : Post) (desk : Desk) (told : List Event) → Clean x post (beside task) (holds_task task) → Left x u (steps.opened_null task post desk told)
 opened_null_fits (Gets key) post desk told c = got_fits key 0 None post desk told c
 opened_null_fits (Changes kept) post desk told c = deciding_fits (alters.at_link kept 0) post desk told c
 opened_null_fits (Holds key) post desk told c = clearing_fits (Holds key) (Answering the_answers.Nothing) post desk told c
 opened_null_fits (Enqueues kept) post desk told c = clearing_fits (Enqueues kept) Again post desk told c
 opened_null_fits Dequeues post desk told c = clearing_fits Dequeues Again post desk told c
 
-filled_by_fits : {x u : ℕ → ℕ} (task : Task) (ending : AllocateEnd) (post : Post) (desk : Desk) (told : List Event) → fills_task task ≡ true → Clean x post within false → Left x u (steps.filled_by task ending post desk told)
+filled_by_fits : {x u : ℕ → ℕ} (task : Task) (ending : AllocateEnd) (post : Post) (desk : Desk) (told : List Event) → fills_task task ≡ true → Clean x post within unused → Left x u (steps.filled_by task ending post desk told)
 filled_by_fits (Changes kept) (allocate_ends.Given slot birth) post desk told f c = record { clean = c; own = refl }
 filled_by_fits (Changes kept) allocate_ends.Full post desk told f c = clearing_fits (Changes (alters.with_walked kept)) (alters.no_room kept.walked) post desk told c
 filled_by_fits (Enqueues kept) (allocate_ends.Given slot birth) post desk told f c = record { clean = c; own = refl }
@@ -353,14 +429,14 @@ filled_by_fits (Gets key) ending post desk told f c = absurd (cc)
 filled_by_fits (Holds key) ending post desk told f c = absurd (cc)
 filled_by_fits Dequeues ending post desk told f c = absurd (cc)
 
-written_fits : {x u : ℕ → ℕ} (task : Task) (post : Post) (desk : Desk) (told : List Event) → fills_task task ≡ true → Clean x post within false → Left x u (steps.written_row task post desk told)
+written_fits : {x u : ℕ → ℕ} (task : Task) (post : Post) (desk : Desk) (told : List Event) → fills_task task ≡ true → Clean x post within unused → Left x u (steps.written_row task post desk told)
 written_fits (Changes kept) post desk told f c = record { clean = c; own = refl }
 written_fits (Enqueues kept) post desk told f c = record { clean = c; own = refl }
 written_fits (Gets key) post desk told f c = absurd (cc)
 written_fits (Holds key) post desk told f c = absurd (cc)
 written_fits Dequeues post desk told f c = absurd (cc)
 
-filled_fits : {x u : ℕ → ℕ} (task : Task) (ending : Ending) (post : Post) (desk : Desk) (told : List Event) → fills_task task ≡ true → Clean x post within false → Left x u (steps.filled task ending post desk told)
+filled_fits : {x u : ℕ → ℕ} (task : Task) (ending : Ending) (post : Post) (desk : Desk) (told : List Event) → fills_task task ≡ true → Clean x post within unused → Left x u (steps.filled task ending post desk told)
 filled_fits task (Allocated ending) post desk told f c = filled_by_fits task ending post desk told f c
 filled_fits task Done post desk told f c = written_fits task post desk told f c
 filled_fits task (Protected end) post desk told f c = written_fits task post desk told f c
@@ -368,20 +444,20 @@ filled_fits task (Followed end) post desk told f c = written_fits task post desk
 filled_fits task (Retired life) post desk told f c = written_fits task post desk told f c
 filled_fits task (Clocked clock) post desk told f c = written_fits task post desk told f c
 
-followed_row_fits : {x u : ℕ → ℕ} (head next : ℕ) (post : Post) (desk : Desk) (told : List Event) (lags : Bool) → Clean x post deep false → Left x u (dequeues.followed_row head next post desk told lags)
+followed_row_fits : {x u : ℕ → ℕ} (head next : ℕ) (post : Post) (desk : Desk) (told : List Event) (lags : Bool) → Clean x post deep unused → Left x u (dequeues.followed_row head next post desk told lags)
 followed_row_fits head next post desk told true c = record { clean = c; own = refl }
 followed_row_fits head next post desk told false c = record { clean = c; own = refl }
 
-followed_fits : {x u : ℕ → ℕ} (head tail : ℕ) (ending : FollowEnd) (post : Post) (desk : Desk) (told : List Event) → Clean x post deep false → Left x u (dequeues.followed head tail ending post desk told)
+followed_fits : {x u : ℕ → ℕ} (head tail : ℕ) (ending : FollowEnd) (post : Post) (desk : Desk) (told : List Event) → Clean x post deep unused → Left x u (dequeues.followed head tail ending post desk told)
 followed_fits head tail (follow_ends.Followed slot) post desk told c = followed_row_fits head slot post desk told (tail == head + 1) c
 followed_fits head tail follow_ends.NoNext post desk told c = clearing_next_fits (Answering the_answers.Empty) post desk told c
 followed_fits head tail (follow_ends.RootMoved seen) post desk told c = clearing_next_fits Again post desk told c
 
-tidying_fits : {x u : ℕ → ℕ} (answer : Answer) (post : Post) (desk : Desk) (told : List Event) (due : Bool) → Clean x post spare false → Left x u (steps.tidying answer post desk told due)
+tidying_fits : {x u : ℕ → ℕ} (answer : Answer) (post : Post) (desk : Desk) (told : List Event) (due : Bool) → Clean x post spare unused → Left x u (steps.tidying answer post desk told due)
 tidying_fits answer post desk told true c = record { clean = c; own = refl }
 tidying_fits answer post desk told false c = record { clean = c; own = refl }
 
-retired_fits : {x u : ℕ → ℕ} (answer : Answer) (ending : Ending) (post : Post) (desk : Desk) (told : List Event) → Clean x post spare false → Left x u (steps.retired_by answer ending post desk told)
+retired_fits : {x u : ℕ → ℕ} (answer : Answer) (ending : Ending) (post : Post) (desk : Desk) (told : List Event) → Clean x post spare unused → Left x u (steps.retired_by answer ending post desk told)
 retired_fits answer (Retired life) post desk told c = tidying_fits answer post (with_life desk life) told (post.retired % post.layout.config.every == 0) c
 retired_fits answer Done post desk told c = record { clean = c; own = refl }
 retired_fits answer (Protected end) post desk told c = record { clean = c; own = refl }
@@ -389,7 +465,7 @@ retired_fits answer (Followed end) post desk told c = record { clean = c; own = 
 retired_fits answer (Allocated end) post desk told c = record { clean = c; own = refl }
 retired_fits answer (Clocked clock) post desk told c = record { clean = c; own = refl }
 
-tidied_fits : {x u : ℕ → ℕ} (later : AfterScan) (ending : Ending) (post : Post) (desk : Desk) (told : List Event) → Clean x post (vacant_later later) false → Left x u (steps.tidied later ending post desk told)
+tidied_fits : {x u : ℕ → ℕ} (later : AfterScan) (ending : Ending) (post : Post) (desk : Desk) (told : List Event) → Clean x post (vacant_later later) unused → Left x u (steps.tidied later ending post desk told)
 tidied_fits (Answered answer) (Clocked clock) post desk told c = record { clean = c; own = refl }
 tidied_fits (Repeated task) (Clocked clock) post desk told c = record { clean = c; own = refl }
 tidied_fits Counted (Clocked clock) post desk told c = record { clean = c; own = refl }
@@ -399,7 +475,7 @@ tidied_fits later (Followed end) post desk told c = record { clean = c; own = re
 tidied_fits later (Allocated end) post desk told c = record { clean = c; own = refl }
 tidied_fits later (Retired life) post desk told c = record { clean = c; own = refl }
 
-advanced_fits : {x u : ℕ → ℕ} (ending : Ending) (post : Post) (desk : Desk) (told : List Event) → Clean x post spare false → Left x u (steps.advanced ending post desk told)
+advanced_fits : {x u : ℕ → ℕ} (ending : Ending) (post : Post) (desk : Desk) (told : List Event) → Clean x post spare unused → Left x u (steps.advanced ending post desk told)
 advanced_fits (Clocked clock) post desk told c = record { clean = c; own = refl }
 advanced_fits Done post desk told c = record { clean = c; own = refl }
 advanced_fits (Protected end) post desk told c = record { clean = c; own = refl }
@@ -407,32 +483,33 @@ advanced_fits (Followed end) post desk told c = record { clean = c; own = refl }
 advanced_fits (Allocated end) post desk told c = record { clean = c; own = refl }
 advanced_fits (Retired life) post desk told c = record { clean = c; own = refl }
 
-released_fits : {x u : ℕ → ℕ} (key : Option ℕ) (post : Post) (desk : Desk) (told : List Event) → Clean x post (vacant_released key) false → Left x u (steps.released key post desk told)
-released_fits None post desk told c = record { clean = c; own = refl }
-released_fits (Some key) post desk told c = round_fits (Holds key) post c
+released_fits : {x u : ℕ → ℕ} (let_go : LetGo) (post : Post) (desk : Desk) (told : List Event) → Clean x post (vacant_released let_go) unused → Left x u (keeps.released let_go post desk told)
+released_fits Released post desk told c = record { clean = c; own = refl }
+released_fits (Rehold key) post desk told c = round_fits (Holds key) post c
+released_fits (Dropped index) post desk told c = record { clean = c; own = refl }
 
 -- what has to hold where a machine has ended
 abbrev pub Opened : (x : ℕ → ℕ) → Post → Task → Ending → Type 0
-Opened x post task (Protected (protect_ends.Held slot era)) = Clean x post (beside task) false
-Opened x post task (Protected protect_ends.Null) = Clean x post (beside task) (is_hold task)
+Opened x post task (Protected (protect_ends.Held slot era)) = Clean x post (beside task) unused
+Opened x post task (Protected protect_ends.Null) = Clean x post (beside task) (holds_task task)
 Opened x post task ending = ⊥
 
 abbrev pub FollowEnds : (x : ℕ → ℕ) → Post → Ending → Type 0
-FollowEnds x post (Followed ending) = Clean x post deep false
+FollowEnds x post (Followed ending) = Clean x post deep unused
 FollowEnds x post ending = ⊥
 
 abbrev pub Resumes : (x : ℕ → ℕ) → Post → Why → Ending → Type 0
 Resumes x post (Opens task) ending = Opened x post task ending
 Resumes x post (FollowsHead head tail) ending = FollowEnds x post ending
-Resumes x post (Fills task) ending = (fills_task task ≡ true) × Clean x post within false
-Resumes x post (ClearsNext next) ending = Clean x post within false
-Resumes x post (Clears task next) ending = Clean x post (bare task) false
+Resumes x post (Fills task) ending = (fills_task task ≡ true) × Clean x post within unused
+Resumes x post (ClearsNext next) ending = Clean x post within unused
+Resumes x post (Clears task next) ending = Clean x post (bare task) unused
 Resumes x post (Finishes task next) ending = ⊥
-Resumes x post (GivesUp answer) ending = Clean x post spare false
-Resumes x post (Retires answer) ending = Clean x post spare false
-Resumes x post (Tidies later) ending = Clean x post (vacant_later later) false
-Resumes x post Advances ending = Clean x post spare false
-Resumes x post (Releases key) ending = Clean x post (vacant_released key) false
+Resumes x post (GivesUp answer) ending = Clean x post spare unused
+Resumes x post (Retires answer) ending = Clean x post spare unused
+Resumes x post (Tidies later) ending = Clean x post (vacant_later later) unused
+Resumes x post Advances ending = Clean x post spare unused
+Resumes x post (Releases let_go) ending = Clean x post (vacant_released let_go) unused
 
 opened_fits : {x u : ℕ → ℕ} (task : Task) (ending : Ending) (post : Post) (desk : Desk) (told : List Event) → Opened x post task ending → Left x u (steps.opened task ending post desk told)
 opened_fits task (Protected (protect_ends.Held slot era)) post desk told c = opened_row_fits task slot post desk told c
@@ -462,7 +539,7 @@ resume_fits (GivesUp answer) ending post desk told c = record { clean = c; own =
 resume_fits (Retires answer) ending post desk told c = retired_fits answer ending post desk told c
 resume_fits (Tidies later) ending post desk told c = tidied_fits later ending post desk told c
 resume_fits Advances ending post desk told c = advanced_fits ending post desk told c
-resume_fits (Releases key) ending post desk told c = released_fits key post desk told c
+resume_fits (Releases let_go) ending post desk told c = released_fits let_go post desk told c
 
 -- where a machine goes on it stands at a step of its own
 abbrev pub Passes : (x u : ℕ → ℕ) → Why → Post → Outcome → Type 0
@@ -474,28 +551,43 @@ resumed_fits why desk post told (Goes base) c = c
 resumed_fits why desk post told (Ends ending) c = resume_fits why ending post desk told c
 
 -- a call begins
-release_fits : {x u : ℕ → ℕ} (key : Option ℕ) (post : Post) (scheme : SchemeKind) → Clean x post spare false → Fits x u post (Runs (Releases key) (release_base scheme))
-release_fits key post He c = record { clean = used true c; own = refl }
-release_fits key post Ibr c = record { clean = used true c; own = refl }
-release_fits key post Wfe c = record { clean = used true c; own = refl }
+letting_at : {x u : ℕ → ℕ} (let_go : LetGo) (post : Post) (scheme : SchemeKind) → is_ibr scheme ≡ false → Clean x post spare unused → Fits x u post (letting_by let_go (release_base scheme post (let_index let_go)))
+letting_at let_go post He n c = record { clean = used (holds_why (Releases let_go)) c; own = refl }
+letting_at let_go post Ibr n c = absurd (cc)
+letting_at let_go post Wfe n c = record { clean = used (holds_why (Releases let_go)) c; own = refl }
 
-all_free : {x : ℕ → ℕ} (post : Post) → Clean x post spare false → stands post 2 ≡ None → (j : ℕ) → x j ≡ 0
-all_free {x} post c n j = by_two (j == 2) refl where
+letting_fits : {x u : ℕ → ℕ} (let_go : LetGo) (post : Post) → Clean x post spare unused → Fits x u post (letting let_go post)
+letting_fits let_go post c = letting_at let_go post (scheme_of post) c.plain c
+
+three_free : {x : ℕ → ℕ} (post : Post) → Clean x post spare unused → stands post 2 ≡ None → (j : ℕ) → nat_lt j 3 ≡ true → x j ≡ 0
+three_free {x} post c n j low = by_two (j == 2) refl where
   by_two : (two : Bool) → (j == 2) ≡ two → x j ≡ 0
-  by_two true e = let q : j ≡ 2 = grind (arith, nat_tests) in rw q (c.two refl n)
-  by_two false e = c.free j (rw e refl)
+  by_two true e = let q : j ≡ 2 = grind (arith, nat_tests) in rw q (c.kept 2 refl refl n)
+  by_two false e = c.free j (grind (arith, nat_tests))
 
-holding_fits : {x u : ℕ → ℕ} (key : ℕ) (post : Post) (o : Option ℕ) → stands post 2 ≡ o → Clean x post spare false → Fits x u post (steps.holding key post o)
-holding_fits key post None n c = round_fits (Holds key) post (record { free = λ j e. all_free post c n j; two = c.two; plain = c.plain })
-holding_fits key post (Some slot) n c = release_fits (Some key) post (scheme_of post) c
+holding_fits : {x u : ℕ → ℕ} (key : ℕ) (post : Post) (o : Option ℕ) → stands post 2 ≡ o → Clean x post spare unused → Fits x u post (steps.holding key post o)
+holding_fits key post None n c = round_fits (Holds key) post (record { free = λ j e. three_free post c n j e; kept = c.kept; plain = c.plain })
+holding_fits key post (Some slot) n c = letting_fits (Rehold key) post c
 
-pub first_fits : {x u : ℕ → ℕ} (call : Call) (post : Post) → Clean x post spare false → Fits x u post (steps.first_phase call post)
+copying_fits : {x u : ℕ → ℕ} (from index : ℕ) (post : Post) (o : Option ℕ) → Clean x post spare unused → Fits x u post (steps.copying from index o)
+copying_fits from index post None c = record { clean = c; own = refl }
+copying_fits from index post (Some slot) c = record { clean = c; own = refl }
+
+looking_at_fits : {x u : ℕ → ℕ} (index key : ℕ) (post : Post) (o : Option ℕ) → Clean x post spare unused → Fits x u post (steps.looking_at index key o)
+looking_at_fits index key post None c = record { clean = c; own = refl }
+looking_at_fits index key post (Some slot) c = record { clean = c; own = refl }
+
+pub first_fits : {x u : ℕ → ℕ} (call : Call) (post : Post) → Clean x post spare unused → Fits x u post (steps.first_phase call post)
 first_fits (names.Get key) post c = round_fits (Gets key) post c
-first_fits (names.Put key value) post c = round_fits (Changes _) post c
-first_fits (names.Remove key) post c = round_fits (Changes _) post c
+first_fits (names.Put key value) post c = round_fits (steps.changing (changes.Put key value) None) post c
+first_fits (names.Remove key) post c = round_fits (steps.changing (changes.Removed key) None) post c
 first_fits (names.Enqueue value) post c = round_fits (Enqueues _) post c
 first_fits names.Dequeue post c = round_fits Dequeues post c
 first_fits (names.Hold key) post c = holding_fits key post (stands post 2) refl c
-first_fits names.Release post c = release_fits None post (scheme_of post) c
+first_fits names.Release post c = letting_fits Released post c
 first_fits names.Advance post c = record { clean = c; own = refl }
 first_fits names.Scan post c = record { clean = c; own = refl }
+first_fits (names.Copy from index) post c = copying_fits from index post (stands post from) c
+first_fits (names.DropIndex index) post c = letting_fits (Dropped index) post c
+first_fits (names.Look index key) post c = looking_at_fits index key post (stands post index) c
+first_fits (names.PutIf key value version) post c = round_fits (steps.changing (changes.Put key value) (Some version)) post c

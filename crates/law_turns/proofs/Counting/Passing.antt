@@ -1,7 +1,7 @@
 -- A step inside a machine keeps what a seat has published where it stands, and the numbers that it tells are right.
 use Rattle.std.proofs.Common.{ℕ, ◌≡◌, ◌≢◌, ◌≤◌, ◌-◌, ◌+◌, Bool, true, false, length, Option, Some, None, refl, sym, ap, ◌∙◌, arith}
 use Rattle.std.proofs.lemmas.Bool.Decides.{nat_tests}
-use Rattle.std.specs.Prelude.{◌==◌, ◌&&◌, ◌||◌, ◌*◌, nat_le, if◌then◌else◌, not}
+use Rattle.std.specs.Prelude.{◌==◌, ◌&&◌, ◌||◌, ◌*◌, nat_le, nat_lt, if◌then◌else◌, not}
 use Rattle.wfe_core.specs.words.declared.config.Config.{Config}
 use Rattle.wfe_core.specs.words.declared.config.SchemeKind.{SchemeKind}
 use Rattle.wfe_core.specs.words.declared.config.SchemeKind.TheVariants.{He, Ibr, Wfe}
@@ -31,7 +31,7 @@ use Rattle.wfe_core.specs.words.Schemes.{is_ibr, is_he}
 use Rattle.law_answers.specs.inv.shapes.Seats.{try_fits, index_by, root_by, kind_of, protects}
 use Rattle.laws.specs.StateAt.{reserves_by}
 use Rattle.laws.specs.HistoryTurns.{number_right}
-use Rattle.law_turns.proofs.Counting.Fits.{tried, free_why, holds_why, is_hold, Clean, since, paced, stands_taken, taken}
+use Rattle.law_turns.proofs.Counting.Fits.{tried, free_why, holds_why, holds_task, Clean, since, paced, stands_taken, taken}
 use Rattle.law_turns.proofs.Counting.Told.{reserved_along, dull_reserved, cleared_dull, index_more, index_none, index_other, held_reserved, reserved_both, unindexed_reserved}
 use Rattle.wfe_core.proofs.Standing.{stands-with_row_same, stands-with_row_other}
 
@@ -167,24 +167,16 @@ taken_answer (Some (requests.Pending tag i word)) index stood = refl
 taken_answer (Some requests.Idle) index stood = refl
 taken_answer None index stood = refl
 
--- what stands at index 2 after a protection
-pub held_other : (post : Post) (index : ℕ) (root : Root) (link : ℕ) → (index == 2) ≡ false → stands (held_post post index root link) 2 ≡ stands post 2
-held_other post index (roots.Next parent) link e = refl
-held_other post index (roots.Bucket bucket) link e = by (link == 0)
-  where
-    by : (none : Bool) → stands (if none then post else with_row post index (link - 1)) 2 ≡ stands post 2
-    by true = refl
-    by false = let q : 2 ≢ index = grind (arith, nat_tests) in stands-with_row_other post index (link - 1) 2 q
-held_other post index roots.Head link e = by (link == 0)
-  where
-    by : (none : Bool) → stands (if none then post else with_row post index (link - 1)) 2 ≡ stands post 2
-    by true = refl
-    by false = let q : 2 ≢ index = grind (arith, nat_tests) in stands-with_row_other post index (link - 1) 2 q
-held_other post index roots.Tail link e = by (link == 0)
-  where
-    by : (none : Bool) → stands (if none then post else with_row post index (link - 1)) 2 ≡ stands post 2
-    by true = refl
-    by false = let q : 2 ≢ index = grind (arith, nat_tests) in stands-with_row_other post index (link - 1) 2 q
+-- what stands at other indexes after a protection
+row_other : (post : Post) (index link j : ℕ) (none : Bool) → (index == j) ≡ false → stands (if none then post else with_row post index (link - 1)) j ≡ stands post j
+row_other post index link j true e = refl
+row_other post index link j false e = let q : j ≢ index = grind (arith, nat_tests) in stands-with_row_other post index (link - 1) j q
+
+pub held_other : (post : Post) (index : ℕ) (root : Root) (link j : ℕ) → (index == j) ≡ false → stands (held_post post index root link) j ≡ stands post j
+held_other post index (roots.Next parent) link j e = refl
+held_other post index (roots.Bucket bucket) link j e = row_other post index link j (link == 0) e
+held_other post index roots.Head link j e = row_other post index link j (link == 0) e
+held_other post index roots.Tail link j e = row_other post index link j (link == 0) e
 
 taken_other : (index link : ℕ) (stood : Option ℕ) → (index == 2) ≡ false → stands_taken index link stood ≡ true
 taken_other index link stood e = rw e refl
@@ -202,32 +194,32 @@ held_taken buckets (Opens Dequeues) index root link post p i r h = taken_other i
 held_taken buckets (FollowsHead head tail) index root link post p i r h = taken_other index link _ (rw i refl)
 held_taken buckets why index root link post p i r h = absurd (cc)
 
--- the index of a protection is not free, and it is 2 for a hold alone
+-- the index of a protection is not free, and from 2 on it is in use
 why_apart : (why : Why) (index j : ℕ) → protects (kind_of why) ≡ true → index ≡ index_by why → free_why why j ≡ true → (index == j) ≡ false
 why_apart (Opens task) index j p i e = rw i (grind (arith, nat_tests))
 why_apart (FollowsHead head tail) index j p i e = rw i (grind (arith, nat_tests))
 why_apart why index j p i e = absurd (cc)
 
-task_apart : (task : Task) → is_hold task ≡ false → (index_of task == 2) ≡ false
-task_apart (Gets key) e = refl
-task_apart (Changes kept) e = refl
-task_apart (Holds key) e = absurd (cc)
-task_apart (Enqueues kept) e = refl
-task_apart Dequeues e = refl
+task_apart : (task : Task) (j : ℕ) → nat_lt j 2 ≡ false → holds_task task j ≡ false → (index_of task == j) ≡ false
+task_apart (Gets key) j low e = grind (arith, nat_tests)
+task_apart (Changes kept) j low e = grind (arith, nat_tests)
+task_apart (Holds key) j low e = grind (arith, nat_tests)
+task_apart (Enqueues kept) j low e = grind (arith, nat_tests)
+task_apart Dequeues j low e = grind (arith, nat_tests)
 
-two_apart : (why : Why) (index : ℕ) → protects (kind_of why) ≡ true → index ≡ index_by why → holds_why why ≡ false → (index == 2) ≡ false
-two_apart (Opens task) index p i e = rw i (task_apart task e)
-two_apart (FollowsHead head tail) index p i e = rw i refl
-two_apart why index p i e = absurd (cc)
+held_apart : (why : Why) (index j : ℕ) → protects (kind_of why) ≡ true → index ≡ index_by why → nat_lt j 2 ≡ false → holds_why why j ≡ false → (index == j) ≡ false
+held_apart (Opens task) index j p i low e = rw i (task_apart task j low e)
+held_apart (FollowsHead head tail) index j p i low e = rw i (grind (arith, nat_tests))
+held_apart why index j p i low e = absurd (cc)
 
 x_apart : (index : ℕ) (at : ProtectAt) (j n : ℕ) → (index == j) ≡ false → protect_x index at j n ≡ n
 x_apart index (PublishEra era tries) j n e = rw e refl
 x_apart index (TakeAnswer link era) j n e = rw e refl
 x_apart index at j n e = refl
 
-pub protect_clean : {x : ℕ → ℕ} (why : Why) (index : ℕ) (at : ProtectAt) (post next : Post) → protects (kind_of why) ≡ true → index ≡ index_by why → is_ibr (scheme_of next) ≡ false → ((index == 2) ≡ false → stands next 2 ≡ stands post 2) → Clean x post (free_why why) (holds_why why) → Clean (λ j. protect_x index at j (x j)) next (free_why why) (holds_why why)
+pub protect_clean : {x : ℕ → ℕ} (why : Why) (index : ℕ) (at : ProtectAt) (post next : Post) → protects (kind_of why) ≡ true → index ≡ index_by why → is_ibr (scheme_of next) ≡ false → ((j : ℕ) → (index == j) ≡ false → stands next j ≡ stands post j) → Clean x post (free_why why) (holds_why why) → Clean (λ j. protect_x index at j (x j)) next (free_why why) (holds_why why)
 protect_clean {x} why index at post next p i n s c = record {
   free = λ j e. x_apart index at j (x j) (why_apart why index j p i e) ∙ c.free j e;
-  two = λ e m. let a = two_apart why index p i e in x_apart index at 2 (x 2) a ∙ c.two e (sym (s a) ∙ m);
+  kept = λ j low e m. let a = held_apart why index j p i low e in x_apart index at j (x j) a ∙ c.kept j low e (sym (s j a) ∙ m);
   plain = n;
 }

@@ -1,6 +1,6 @@
 -- The steps of a protection: what its seat has published, and the turns since, go on with its steps.
 use Rattle.std.proofs.Common.{ℕ, ◌≡◌, ◌-◌, ◌+◌, Bool, true, false, List, [], ◌++◌, length, Option, None, refl, subst, arith, sym, ap, ◌∙◌}
-use Rattle.std.specs.Prelude.{◌==◌, ◌&&◌, ◌||◌, ◌*◌, not, nat_le, if◌then◌else◌}
+use Rattle.std.specs.Prelude.{◌==◌, ◌&&◌, ◌||◌, ◌*◌, not, nat_le, nat_lt, if◌then◌else◌}
 use Rattle.wfe_core.specs.words.Packed.{read_request}
 use Rattle.wfe_core.specs.defs.declared.event.Event.{Event}
 use Rattle.wfe_core.specs.defs.declared.event.Root.{Root}
@@ -18,11 +18,11 @@ use Rattle.wfe_core.specs.Phases.ProtectAt.{LoadClock, PublishEra, LoadLink, Che
 use Rattle.wfe_core.specs.Phases.Base.{Protect, Reload}
 use Rattle.wfe_core.specs.Phases.Ending.{Protected, Followed}
 use Rattle.wfe_core.specs.Calls.{Task, Why, Opens, FollowsHead, Fills, ClearsNext, Clears, Finishes, GivesUp, Retires, Tidies, Advances, Releases}
-use Rattle.wfe_core.proofs.Facts.{both, first_of, rest_of, false_not_true, implies_or, three_more, le_one_more}
+use Rattle.wfe_core.proofs.Facts.{both, first_of, rest_of, number_is, false_not_true, implies_or, three_more, le_one_more}
 use Rattle.wfe_core.specs.words.Schemes.{is_ibr, is_he}
 use Rattle.law_answers.specs.inv.shapes.Seats.{protect_fits, aim_by, index_by, root_by, kind_of, protects}
 use Rattle.laws.specs.HistoryTurns.{events_right}
-use Rattle.law_turns.proofs.Counting.Fits.{tried, free_why, holds_why, is_hold, Clean, since, paced, stands_taken, taken, Passes, Opened}
+use Rattle.law_turns.proofs.Counting.Fits.{tried, free_why, holds_why, holds_task, is_hold, Clean, since, paced, stands_taken, taken, Passes, Opened}
 use Rattle.law_answers.proofs.inv.history.MayTell.{concluded_told}
 use Rattle.law_turns.proofs.Counting.Told.{held_right}
 use Rattle.law_turns.proofs.Counting.Passing.{tried_of, tried_with, tried_again, he_tried, he_first, he_publish, protect_x, turned, since_next, since_publish, publish_next, since_again, first_next, few_next, number_of, own_x, paced_trying, taken_trying, paced_lost, taken_lost, paced_answer, taken_answer, held_other, held_taken, protect_clean}
@@ -82,11 +82,14 @@ link_ends : (x u : ℕ → ℕ) (index : ℕ) (at : ProtectAt) (task : Task) (li
     → Clean (x_next x index at) next (free_why (Opens task)) (holds_why (Opens task)) → stands_taken index link (stands next 2) ≡ true
     → Opened (x_next x index at) next task (Protected (if none then protect_ends.Null else protect_ends.Held (link - 1) era))
 link_ends x u index at task link era next told true e i c t = c
-link_ends x u index at task link era next told false e i c t = record { free = c.free; two = λ h m. by (is_hold task) refl m; plain = c.plain }
+link_ends x u index at task link era next told false e i c t = record { free = c.free; kept = λ j low h m. by j (holds_task task j) refl low m; plain = c.plain }
   where
-    by : (hold : Bool) → is_hold task ≡ hold → stands next 2 ≡ None → x_next x index at 2 ≡ 0
-    by false h m = c.two h m
-    by true h m = absurd (held_two task index link h i e (subst (λ (o : Option ℕ). stands_taken index link o ≡ true) m t))
+    by : (j : ℕ) (hold : Bool) → holds_task task j ≡ hold → nat_lt j 2 ≡ false → stands next j ≡ None → x_next x index at j ≡ 0
+    by j false h low m = c.kept j low h m
+    by j true h low m =
+        let two : j ≡ 2 = number_is j 2 (rest_of (is_hold task) (j == 2) h) in
+        let none : stands next 2 ≡ None = subst (λ (n : ℕ). stands next n ≡ None) two m in
+        absurd (held_two task index link (first_of (is_hold task) (j == 2) h) i e (subst (λ (o : Option ℕ). stands_taken index link o ≡ true) none t))
 
 conclude : (x u : ℕ → ℕ) (buckets : ℕ) (why : Why) (aim : Aim) (index : ℕ) (root : Root) (n : ℕ) (at : ProtectAt) (link era : ℕ) (next : Post) (told : List Event)
     → protects (kind_of why) ≡ true
@@ -112,7 +115,7 @@ conclude x u buckets (GivesUp answer) aim index root n at link era next told p a
 conclude x u buckets (Retires answer) aim index root n at link era next told p a i c s f t h = absurd (cc)
 conclude x u buckets (Tidies later) aim index root n at link era next told p a i c s f t h = absurd (cc)
 conclude x u buckets Advances aim index root n at link era next told p a i c s f t h = absurd (cc)
-conclude x u buckets (Releases key) aim index root n at link era next told p a i c s f t h = absurd (cc)
+conclude x u buckets (Releases let_go) aim index root n at link era next told p a i c s f t h = absurd (cc)
 
 held_scheme : (post : Post) (index : ℕ) (root : Root) (link : ℕ) → scheme_of (held_post post index root link) ≡ scheme_of post
 held_scheme post index root link = grind arith
@@ -122,85 +125,85 @@ held_plain post index root link h = grind arith
 
 pub protect_passes : (x u : ℕ → ℕ) (buckets : ℕ) (why : Why) (aim : Aim) (index : ℕ) (root : Root) (steps n count : ℕ) (at : ProtectAt) (post : Post) (found : ℕ) → Site x u buckets why aim index root steps n count at post → Goal x u index at why (machine.protect_turn aim index root n at post found)
 protect_passes x u buckets why aim index root steps n count (LoadClock tries) post found s =
-    let c : Clean (x_next x index (LoadClock tries)) post (free_why why) (holds_why why) = protect_clean why index (LoadClock tries) post post s.protects s.place s.scheme (λ e. refl) s.clean in
+    let c : Clean (x_next x index (LoadClock tries)) post (free_why why) (holds_why why) = protect_clean why index (LoadClock tries) post post s.protects s.place s.scheme (λ j e. refl) s.clean in
     let f : nat_le n post.steps ≡ true = le_one_more n steps count post.steps s.next s.call s.few in
     on_fits x u index (LoadClock tries) why aim root n (PublishEra found tries) post [] c (both (if x index == 0 then n == 1 else n == turned (x index) (u index) + 1) (tried tries (n == 3 * x index + 1)) (rw (s.next) (first_next steps (x index) (u index) s.paced)) (tried_of tries (n == 3 * x index + 1) (rw (s.next) (he_first steps (x index) s.paced)))) f refl
 protect_passes x u buckets why aim index root steps n count (PublishEra era tries) post found s =
-    let c : Clean (x_next x index (PublishEra era tries)) post (free_why why) (holds_why why) = protect_clean why index (PublishEra era tries) post post s.protects s.place s.scheme (λ e. refl) s.clean in
+    let c : Clean (x_next x index (PublishEra era tries)) post (free_why why) (holds_why why) = protect_clean why index (PublishEra era tries) post post s.protects s.place s.scheme (λ j e. refl) s.clean in
     let f : nat_le n post.steps ≡ true = le_one_more n steps count post.steps s.next s.call s.few in
     let q : x_next x index (PublishEra era tries) index ≡ x index + 1 = own_x index (x index) in
     let p : since n (x_next x index (PublishEra era tries) index) (turned (x index) (u index)) ≡ true = rw q (rw (s.next) (publish_next steps (x index) (u index) (first_of (if x index == 0 then steps == 1 else steps == u index + 1) (tried tries (steps == 3 * x index + 1)) s.paced))) in
     on_fits x u index (PublishEra era tries) why aim root n (trying post.layout.config era tries) post (reserves_index post index era) c (paced_trying post.layout.config era tries n (x_next x index (PublishEra era tries) index) (u_next x u index) p (rw q (rw (s.next) (tried_with tries (steps == 3 * x index + 1) (steps + 1 + 1 == 3 * (x index + 1)) (λ h. he_publish steps (x index) h) (rest_of (if x index == 0 then steps == 1 else steps == u index + 1) (tried tries (steps == 3 * x index + 1)) s.paced))))) f (taken_trying post.layout.config era tries index (stands post 2))
 protect_passes x u buckets why aim index root steps n count (LoadLink era tries) post found s =
-    let c : Clean (x_next x index (LoadLink era tries)) post (free_why why) (holds_why why) = protect_clean why index (LoadLink era tries) post post s.protects s.place s.scheme (λ e. refl) s.clean in
+    let c : Clean (x_next x index (LoadLink era tries)) post (free_why why) (holds_why why) = protect_clean why index (LoadLink era tries) post post s.protects s.place s.scheme (λ j e. refl) s.clean in
     let f : nat_le n post.steps ≡ true = le_one_more n steps count post.steps s.next s.call s.few in
     let p : since n (x index) (turned (x index) (u index)) ≡ true = rw (s.next) (since_next steps (x index) (u index) (first_of (since steps (x index) (u index)) (tried tries (steps + 1 == 3 * x index)) s.paced)) in
     on_fits x u index (LoadLink era tries) why aim root n (CheckClock era tries found) post [] c (both (since n (x index) (turned (x index) (u index))) (tried tries (n == 3 * x index)) p (rw (s.next) (rest_of (since steps (x index) (u index)) (tried tries (steps + 1 == 3 * x index)) s.paced))) f refl
 protect_passes x u buckets why aim index root steps n count (CheckClock era tries link) post found s =
-    let c : Clean (x_next x index (CheckClock era tries link)) post (free_why why) (holds_why why) = protect_clean why index (CheckClock era tries link) post post s.protects s.place s.scheme (λ e. refl) s.clean in
+    let c : Clean (x_next x index (CheckClock era tries link)) post (free_why why) (holds_why why) = protect_clean why index (CheckClock era tries link) post post s.protects s.place s.scheme (λ j e. refl) s.clean in
     let f : nat_le n post.steps ≡ true = le_one_more n steps count post.steps s.next s.call s.few in
     let p : since n (x index) (turned (x index) (u index)) ≡ true = rw (s.next) (since_next steps (x index) (u index) (first_of (since steps (x index) (u index)) (tried tries (steps == 3 * x index)) s.paced)) in
     let z : tried tries (steps == 3 * x index) ≡ true = rest_of (since steps (x index) (u index)) (tried tries (steps == 3 * x index)) s.paced in
-    let h : Clean (x_next x index (CheckClock era tries link)) (held_post post index root link) (free_why why) (holds_why why) = protect_clean why index (CheckClock era tries link) post (held_post post index root link) s.protects s.place (held_plain post index root link s.scheme) (λ e. held_other post index root link e) s.clean in
+    let h : Clean (x_next x index (CheckClock era tries link)) (held_post post index root link) (free_why why) (holds_why why) = protect_clean why index (CheckClock era tries link) post (held_post post index root link) s.protects s.place (held_plain post index root link s.scheme) (λ j e. held_other post index root link j e) s.clean in
     let g : nat_le n (held_post post index root link).steps ≡ true = rw (held_same post index root link) f in
     pass_if x u index (CheckClock era tries link) why (found == era) (concluded aim index root n link era (held_post post index root link) (told_held index root link n)) _
     (conclude x u buckets why aim index root n (CheckClock era tries link) link era (held_post post index root link) (told_held index root link n) s.protects s.aimed s.place h p g (held_taken buckets why index root link post s.protects s.place s.of s.eight)
     (λ e. rw (s.next) (three_more steps (x index) (he_tried (scheme_of post) post.layout.config.tries tries (steps == 3 * x index) s.fits (sym (ap is_he (held_scheme post index root link)) ∙ e) z))))
     (on_fits x u index (CheckClock era tries link) why aim root n (PublishEra found (failed_once tries)) post [] c (both (if x index == 0 then n == 1 else n == turned (x index) (u index) + 1) (tried (failed_once tries) (n == 3 * x index + 1)) (since_again n (x index) (turned (x index) (u index)) p) (rw (s.next) (tried_again tries (steps == 3 * x index) (steps + 1 == 3 * x index + 1) (λ w. three_more steps (x index) w) z))) f refl)
 protect_passes x u buckets why aim index root steps n count PublishRequest post found s =
-    let c : Clean (x_next x index PublishRequest) post (free_why why) (holds_why why) = protect_clean why index PublishRequest post post s.protects s.place s.scheme (λ e. refl) s.clean in
+    let c : Clean (x_next x index PublishRequest) post (free_why why) (holds_why why) = protect_clean why index PublishRequest post post s.protects s.place s.scheme (λ j e. refl) s.clean in
     let f : nat_le n post.steps ≡ true = le_one_more n steps count post.steps s.next s.call s.few in
     let p : since n (x index) (turned (x index) (u index)) ≡ true = rw (s.next) (since_next steps (x index) (u index) s.paced) in
     on_fits x u index PublishRequest why aim root n LoadOwnClock post [] c p f refl
 protect_passes x u buckets why aim index root steps n count LoadOwnClock post found s =
-    let c : Clean (x_next x index LoadOwnClock) post (free_why why) (holds_why why) = protect_clean why index LoadOwnClock post post s.protects s.place s.scheme (λ e. refl) s.clean in
+    let c : Clean (x_next x index LoadOwnClock) post (free_why why) (holds_why why) = protect_clean why index LoadOwnClock post post s.protects s.place s.scheme (λ j e. refl) s.clean in
     let f : nat_le n post.steps ≡ true = le_one_more n steps count post.steps s.next s.call s.few in
     let p : since n (x index) (turned (x index) (u index)) ≡ true = rw (s.next) (since_next steps (x index) (u index) s.paced) in
     on_fits x u index LoadOwnClock why aim root n (PublishHelper found found false) post [] c p f refl
 protect_passes x u buckets why aim index root steps n count (PublishHelper first era last) post found s =
-    let c : Clean (x_next x index (PublishHelper first era last)) post (free_why why) (holds_why why) = protect_clean why index (PublishHelper first era last) post post s.protects s.place s.scheme (λ e. refl) s.clean in
+    let c : Clean (x_next x index (PublishHelper first era last)) post (free_why why) (holds_why why) = protect_clean why index (PublishHelper first era last) post post s.protects s.place s.scheme (λ j e. refl) s.clean in
     let f : nat_le n post.steps ≡ true = le_one_more n steps count post.steps s.next s.call s.few in
     let p : since n (x index) (turned (x index) (u index)) ≡ true = rw (s.next) (since_next steps (x index) (u index) s.paced) in
     on_fits x u index (PublishHelper first era last) why aim root n (LoadOwnLink first era last) post (reserves_helper post era) c p f refl
 protect_passes x u buckets why aim index root steps n count (LoadOwnLink first era last) post found s =
-    let c : Clean (x_next x index (LoadOwnLink first era last)) post (free_why why) (holds_why why) = protect_clean why index (LoadOwnLink first era last) post post s.protects s.place s.scheme (λ e. refl) s.clean in
+    let c : Clean (x_next x index (LoadOwnLink first era last)) post (free_why why) (holds_why why) = protect_clean why index (LoadOwnLink first era last) post post s.protects s.place s.scheme (λ j e. refl) s.clean in
     let f : nat_le n post.steps ≡ true = le_one_more n steps count post.steps s.next s.call s.few in
     let p : since n (x index) (turned (x index) (u index)) ≡ true = rw (s.next) (since_next steps (x index) (u index) s.paced) in
     on_fits x u index (LoadOwnLink first era last) why aim root n (CheckOwnClock first era last found) post [] c p f refl
 protect_passes x u buckets why aim index root steps n count (CheckOwnClock first era last link) post found s =
-    let c : Clean (x_next x index (CheckOwnClock first era last link)) post (free_why why) (holds_why why) = protect_clean why index (CheckOwnClock first era last link) post post s.protects s.place s.scheme (λ e. refl) s.clean in
+    let c : Clean (x_next x index (CheckOwnClock first era last link)) post (free_why why) (holds_why why) = protect_clean why index (CheckOwnClock first era last link) post post s.protects s.place s.scheme (λ j e. refl) s.clean in
     let f : nat_le n post.steps ≡ true = le_one_more n steps count post.steps s.next s.call s.few in
     let p : since n (x index) (turned (x index) (u index)) ≡ true = rw (s.next) (since_next steps (x index) (u index) s.paced) in
     pass_if x u index (CheckOwnClock first era last link) why (found == era) (goes post [] (Protect aim index root n (AnswerOwn first era link))) (goes post [] (Protect aim index root n (lost_turn first last found)))
     (on_fits x u index (CheckOwnClock first era last link) why aim root n (AnswerOwn first era link) post [] c p f refl)
     (on_fits x u index (CheckOwnClock first era last link) why aim root n (lost_turn first last found) post [] c (paced_lost first found last n (x index) (u_next x u index) p) f (taken_lost first found last index (stands post 2)))
 protect_passes x u buckets why aim index root steps n count (AnswerOwn first era link) post found s =
-    let c : Clean (x_next x index (AnswerOwn first era link)) post (free_why why) (holds_why why) = protect_clean why index (AnswerOwn first era link) post post s.protects s.place s.scheme (λ e. refl) s.clean in
+    let c : Clean (x_next x index (AnswerOwn first era link)) post (free_why why) (holds_why why) = protect_clean why index (AnswerOwn first era link) post post s.protects s.place s.scheme (λ j e. refl) s.clean in
     let f : nat_le n post.steps ≡ true = le_one_more n steps count post.steps s.next s.call s.few in
     let p : since n (x index) (turned (x index) (u index)) ≡ true = rw (s.next) (since_next steps (x index) (u index) s.paced) in
     pass_if x u index (AnswerOwn first era link) why (found == own_request post index root) (goes post [] (Protect aim index root n (TakeAnswer link era))) (goes post [] (Protect aim index root n (answer_in (read_request found))))
     (on_fits x u index (AnswerOwn first era link) why aim root n (TakeAnswer link era) post [] c p f refl)
     (on_fits x u index (AnswerOwn first era link) why aim root n (answer_in (read_request found)) post [] c (paced_answer (read_request found) n (x index) (u_next x u index) p) f (taken_answer (read_request found) index (stands post 2)))
 protect_passes x u buckets why aim index root steps n count (LoadAnswer first) post found s =
-    let c : Clean (x_next x index (LoadAnswer first)) post (free_why why) (holds_why why) = protect_clean why index (LoadAnswer first) post post s.protects s.place s.scheme (λ e. refl) s.clean in
+    let c : Clean (x_next x index (LoadAnswer first)) post (free_why why) (holds_why why) = protect_clean why index (LoadAnswer first) post post s.protects s.place s.scheme (λ j e. refl) s.clean in
     let f : nat_le n post.steps ≡ true = le_one_more n steps count post.steps s.next s.call s.few in
     let p : since n (x index) (turned (x index) (u index)) ≡ true = rw (s.next) (since_next steps (x index) (u index) s.paced) in
     on_fits x u index (LoadAnswer first) why aim root n (answer_in (read_request found)) post [] c (paced_answer (read_request found) n (x index) (u_next x u index) p) f (taken_answer (read_request found) index (stands post 2))
 protect_passes x u buckets why aim index root steps n count (TakeAnswer link era) post found s =
     let tagged : Post = with_tag post index (tag_of post index + 1) in
     let next : Post = held_post tagged index root link in
-    let c : Clean (x_next x index (TakeAnswer link era)) next (free_why why) (holds_why why) = protect_clean why index (TakeAnswer link era) post next s.protects s.place (held_plain tagged index root link s.scheme) (λ e. held_other tagged index root link e) s.clean in
+    let c : Clean (x_next x index (TakeAnswer link era)) next (free_why why) (holds_why why) = protect_clean why index (TakeAnswer link era) post next s.protects s.place (held_plain tagged index root link s.scheme) (λ j e. held_other tagged index root link j e) s.clean in
     let f : nat_le n next.steps ≡ true = rw (held_same tagged index root link) (le_one_more n steps count post.steps s.next s.call s.few) in
     let q : x_next x index (TakeAnswer link era) index ≡ x index + 1 = own_x index (x index) in
     let p : since n (x_next x index (TakeAnswer link era) index) (turned (x index) (u index)) ≡ true = rw q (rw (s.next) (since_publish steps (x index) (u index) s.paced)) in
     on_fits x u index (TakeAnswer link era) why aim root n (WithdrawRequest link era) next (reserves_index post index era ++ told_held index root link n) c p f (held_taken buckets why index root link tagged s.protects s.place s.of s.eight)
 protect_passes x u buckets why aim index root steps n count (WithdrawRequest link era) post found s =
-    let c : Clean (x_next x index (WithdrawRequest link era)) post (free_why why) (holds_why why) = protect_clean why index (WithdrawRequest link era) post post s.protects s.place s.scheme (λ e. refl) s.clean in
+    let c : Clean (x_next x index (WithdrawRequest link era)) post (free_why why) (holds_why why) = protect_clean why index (WithdrawRequest link era) post post s.protects s.place s.scheme (λ j e. refl) s.clean in
     let f : nat_le n post.steps ≡ true = le_one_more n steps count post.steps s.next s.call s.few in
     let p : since n (x index) (turned (x index) (u index)) ≡ true = rw (s.next) (since_next steps (x index) (u index) s.paced) in
     on_fits x u index (WithdrawRequest link era) why aim root n (WithdrawHelper link era) post [] c p f s.stood
 protect_passes x u buckets why aim index root steps n count (WithdrawHelper link era) post found s =
-    let c : Clean (x_next x index (WithdrawHelper link era)) post (free_why why) (holds_why why) = protect_clean why index (WithdrawHelper link era) post post s.protects s.place s.scheme (λ e. refl) s.clean in
+    let c : Clean (x_next x index (WithdrawHelper link era)) post (free_why why) (holds_why why) = protect_clean why index (WithdrawHelper link era) post post s.protects s.place s.scheme (λ j e. refl) s.clean in
     let f : nat_le n post.steps ≡ true = le_one_more n steps count post.steps s.next s.call s.few in
     let p : since n (x index) (turned (x index) (u index)) ≡ true = rw (s.next) (since_next steps (x index) (u index) s.paced) in
     conclude x u buckets why aim index root n (WithdrawHelper link era) link era post (reserves_helper post 0) s.protects s.aimed s.place c p f s.stood (λ e. absurd (wfe_not_he (scheme_of post) s.fits e))

@@ -13,7 +13,7 @@ use Rattle.wfe_core.specs.Machine as machine
 use Rattle.wfe_core.specs.Memory.{bump}
 use Rattle.wfe_core.specs.MoveClock as movers
 use Rattle.wfe_core.specs.Posts.{stands, with_row, withdrawn, counted}
-use Rattle.wfe_core.specs.Rounds.{scheme_of, index_of}
+use Rattle.wfe_core.specs.Rounds.{scheme_of, index_of, let_index}
 use Rattle.wfe_core.specs.SlowPath.{asking}
 use Rattle.wfe_core.specs.Steps as steps
 use Rattle.wfe_core.specs.WriteRow.{last_written}
@@ -25,19 +25,19 @@ use Rattle.wfe_core.specs.Phases.MoveAt.{LoadEra, CheckEra, AnswerAsked, LoadRes
 use Rattle.wfe_core.specs.Phases.Base.{Begin, Protect, Reload, Clear, Finish, Release, Allocate, Write, GiveUp, Retire, Move}
 use Rattle.wfe_core.specs.declared.ends.FollowEnd.TheVariants as follow_ends
 use Rattle.wfe_core.specs.Phases.Ending.{Followed}
-use Rattle.wfe_core.specs.Calls.{Task, Gets, Changes, Holds, Enqueues, Dequeues, Why, Opens, FollowsHead, Fills, ClearsNext, Clears, Finishes, GivesUp, Retires, Tidies, Advances, Releases, Next, ReadGuard, GiveBack, Phase, Idle, Runs, Scans, Works}
+use Rattle.wfe_core.specs.Calls.{Task, Gets, Changes, Holds, Enqueues, Dequeues, Why, Opens, FollowsHead, Fills, ClearsNext, Clears, Finishes, GivesUp, Retires, Tidies, Advances, Releases, LetGo, Released, Rehold, Dropped, Keeping, Next, ReadGuard, GiveBack, Phase, Idle, Runs, Scans, Works}
 use Rattle.wfe_core.proofs.Facts.{first_of, rest_of, false_not_true, and_true, le_of_test, no_truth}
 use Rattle.law_answers.specs.inv.rows.Hands.{runs_right, task_fills}
 use Rattle.wfe_core.specs.words.Schemes.{is_ibr, is_he}
 use Rattle.law_answers.specs.inv.shapes.Frame.{Moves, Passed}
 use Rattle.law_answers.specs.inv.shapes.Seats.{Kind, protect_fits, kind_of, suits, PostFits, PhaseFits, Run}
 use Rattle.law_answers.proofs.inv.shapes.Inside.{shape_moves}
-use Rattle.law_answers.proofs.inv.shapes.Kept.{counted_fits, run_counted}
+use Rattle.law_answers.proofs.inv.shapes.Kept.{counted_fits, run_counted, work_counted}
 use Rattle.law_answers.specs.inv.covers.Rests.{spare, bare, beside, within, deep, vacant_released}
 use Rattle.law_answers.proofs.inv.history.Passes.{First}
 use Rattle.laws.specs.HistoryTurns.{event_right, events_right}
-use Rattle.law_turns.proofs.Counting.Fits.{free_why, holds_why, is_hold, fills_task, Clean, since, paced, taken, base_own, Fits, Passes, Resumes, Left, work_fits, scan_fits, resumed_fits}
-use Rattle.law_turns.proofs.Counting.Told.{base_rights}
+use Rattle.law_turns.proofs.Counting.Fits.{free_why, holds_why, holds_task, unused, work_x, WorkRight, keep_fits, fills_task, Clean, since, paced, taken, base_own, Fits, Passes, Resumes, Left, work_fits, scan_fits, resumed_fits}
+use Rattle.law_turns.proofs.Counting.Told.{base_rights, work_rights}
 use Rattle.law_turns.proofs.Counting.Passing.{after_x, turned, since_next, few_next, number_of}
 use Rattle.law_turns.proofs.Counting.Protects.{Site, protect_passes, protect_rights, u_next, rights_if}
 use Rattle.wfe_core.proofs.Standing.{stands-withdrawn_other, stands-with_row_other}
@@ -83,61 +83,61 @@ calm_of (Reload parent index slot era count) Kind.ToFollow k h = absurd (cc)
 calm_of (Clear index) Kind.ToClear k h = absurd (cc)
 calm_of (Clear index) Kind.ToRelease k h = absurd (cc)
 calm_of Finish Kind.ToFinish k h = absurd (cc)
-calm_of Release Kind.ToRelease k h = absurd (cc)
+calm_of (Release index) Kind.ToRelease k h = absurd (cc)
 calm_of (Begin at) kind k h = absurd (cc)
 calm_of (Protect aim index root count at) kind k h = absurd (cc)
 calm_of (Reload parent index slot era count) kind k h = absurd (cc)
 calm_of (Clear index) kind k h = absurd (cc)
 calm_of Finish kind k h = absurd (cc)
-calm_of Release kind k h = absurd (cc)
+calm_of (Release index) kind k h = absurd (cc)
 
--- what stands at index 2 stays
-stays_if : (post : Post) (c : Bool) (t v : Turn) → stands t.post 2 ≡ stands post 2 → stands v.post 2 ≡ stands post 2 → stands (if c then t else v).post 2 ≡ stands post 2
-stays_if post true t v a b = a
-stays_if post false t v a b = b
+-- what stands at an index stays
+stays_if : (j : ℕ) (post : Post) (c : Bool) (t v : Turn) → stands t.post j ≡ stands post j → stands v.post j ≡ stands post j → stands (if c then t else v).post j ≡ stands post j
+stays_if j post true t v a b = a
+stays_if j post false t v a b = b
 
-walking_stays : (birth : ℕ) (post : Post) (o : Option Walk) → stands (allocates.walking birth post o).post 2 ≡ stands post 2
-walking_stays birth post None = refl
-walking_stays birth post (Some walk) = refl
+walking_stays : (j : ℕ) (birth : ℕ) (post : Post) (o : Option Walk) → stands (allocates.walking birth post o).post j ≡ stands post j
+walking_stays j birth post None = refl
+walking_stays j birth post (Some walk) = refl
 
-allocate_stays : (at : AllocateAt) (post : Post) (found : ℕ) → stands (machine.allocate_turn at post found).post 2 ≡ stands post 2
-allocate_stays LoadBirth post found = refl
-allocate_stays (ClaimSlot birth walk) post found = stays_if post (allocates.is_claimed found walk.slot) _ _ (walking_stays birth post (allocates.walk_past post.layout.config.slots walk found)) refl
-allocate_stays (StoreLife birth slot) post found = refl
+allocate_stays : (j : ℕ) (at : AllocateAt) (post : Post) (found : ℕ) → stands (machine.allocate_turn at post found).post j ≡ stands post j
+allocate_stays j LoadBirth post found = refl
+allocate_stays j (ClaimSlot birth walk) post found = stays_if j post (allocates.is_claimed found walk.slot) _ _ (walking_stays j birth post (allocates.walk_past post.layout.config.slots walk found)) refl
+allocate_stays j (StoreLife birth slot) post found = refl
 
-retire_stays : (at : RetireAt) (post : Post) (found : ℕ) → stands (machine.retire_turn at post found).post 2 ≡ stands post 2
-retire_stays (LoadLife slot) post found = refl
-retire_stays (LoadRetire slot birth) post found = refl
-retire_stays (StoreRetired slot birth retire) post found = refl
+retire_stays : (j : ℕ) (at : RetireAt) (post : Post) (found : ℕ) → stands (machine.retire_turn at post found).post j ≡ stands post j
+retire_stays j (LoadLife slot) post found = refl
+retire_stays j (LoadRetire slot birth) post found = refl
+retire_stays j (StoreRetired slot birth retire) post found = refl
 
-handed_stays : (era seat tag index old : ℕ) (post : Post) (same : Bool) → stands (movers.after_hand_over era seat tag index old post same).post 2 ≡ stands post 2
-handed_stays era seat tag index old post true = refl
-handed_stays era seat tag index old post false = refl
+handed_stays : (j : ℕ) (era seat tag index old : ℕ) (post : Post) (same : Bool) → stands (movers.after_hand_over era seat tag index old post same).post j ≡ stands post j
+handed_stays j era seat tag index old post true = refl
+handed_stays j era seat tag index old post false = refl
 
-move_stays : (at : MoveAt) (post : Post) (found : ℕ) → stands (machine.move_turn at post found).post 2 ≡ stands post 2
-move_stays (LoadEra helps) post found = stays_if post (found == post.layout.config.last_era) _ _ refl refl
-move_stays (CheckEra era seat tag index root link) post found = stays_if post (found == era) _ _ refl refl
-move_stays (AnswerAsked era seat tag index root link) post found = stays_if post (found == asking post.layout tag index root) _ _ refl refl
-move_stays (LoadReserved era seat tag index root link) post found = stays_if post ((read_reservation found).tag == tag) _ _ refl refl
-move_stays (HandOver era seat tag index root link old) post found = handed_stays era seat tag index old post (found == reservation_word (record { era = old; tag = tag }))
-move_stays (ExchangeClock era) post found = stays_if post (found == era) _ _ refl refl
-move_stays at post found = refl
+move_stays : (j : ℕ) (at : MoveAt) (post : Post) (found : ℕ) → stands (machine.move_turn at post found).post j ≡ stands post j
+move_stays j (LoadEra helps) post found = stays_if j post (found == post.layout.config.last_era) _ _ refl refl
+move_stays j (CheckEra era seat tag index root link) post found = stays_if j post (found == era) _ _ refl refl
+move_stays j (AnswerAsked era seat tag index root link) post found = stays_if j post (found == asking post.layout tag index root) _ _ refl refl
+move_stays j (LoadReserved era seat tag index root link) post found = stays_if j post ((read_reservation found).tag == tag) _ _ refl refl
+move_stays j (HandOver era seat tag index root link old) post found = handed_stays j era seat tag index old post (found == reservation_word (record { era = old; tag = tag }))
+move_stays j (ExchangeClock era) post found = stays_if j post (found == era) _ _ refl refl
+move_stays j at post found = refl
 
-calm_stays : (base : Base) (post : Post) (found : ℕ) → is_calm base ≡ true → stands (machine.after base post found).post 2 ≡ stands post 2
-calm_stays (Allocate at) post found h = allocate_stays at post found
-calm_stays (Write slot row place) post found h = stays_if post (place == last_written row) _ _ refl refl
-calm_stays (GiveUp slot) post found h = refl
-calm_stays (Retire at) post found h = retire_stays at post found
-calm_stays (Move at) post found h = move_stays at post found
-calm_stays base post found h = absurd (cc)
+calm_stays : (j : ℕ) (base : Base) (post : Post) (found : ℕ) → is_calm base ≡ true → stands (machine.after base post found).post j ≡ stands post j
+calm_stays j (Allocate at) post found h = allocate_stays j at post found
+calm_stays j (Write slot row place) post found h = stays_if j post (place == last_written row) _ _ refl refl
+calm_stays j (GiveUp slot) post found h = refl
+calm_stays j (Retire at) post found h = retire_stays j at post found
+calm_stays j (Move at) post found h = move_stays j at post found
+calm_stays j base post found h = absurd (cc)
 
 abbrev pub x_after : (ℕ → ℕ) → Base → ℕ → ℕ
 x_after x base j = after_x base j (x j)
 
-calm_clean : (x : ℕ → ℕ) (base : Base) (post : Post) (found : ℕ) (f : ℕ → Bool) (hold : Bool) → is_calm base ≡ true → is_ibr (scheme_of (machine.after base post found).post) ≡ false → Clean x post f hold → Clean (x_after x base) (machine.after base post found).post f hold
-calm_clean x base post found f hold h n c = record {
+calm_clean : (x : ℕ → ℕ) (base : Base) (post : Post) (found : ℕ) (f held : ℕ → Bool) → is_calm base ≡ true → is_ibr (scheme_of (machine.after base post found).post) ≡ false → Clean x post f held → Clean (x_after x base) (machine.after base post found).post f held
+calm_clean x base post found f held h n c = record {
   free = λ j e. calm_x base j (x j) h ∙ c.free j e;
-  two = λ e m. calm_x base 2 (x 2) h ∙ c.two e (sym (calm_stays base post found h) ∙ m);
+  kept = λ j low e m. calm_x base j (x j) h ∙ c.kept j low e (sym (calm_stays j base post found h) ∙ m);
   plain = n;
 }
 
@@ -149,19 +149,19 @@ calm_reached x u layout why next (Goes base) k p c r = record { clean = c; own =
 calm_reached x u layout why next (Ends ending) k p c r = r ending
 
 -- an index word is cleared
-clear_clean : (x : ℕ → ℕ) (index : ℕ) (post : Post) (f g : ℕ → Bool) (hold : Bool) → ((j : ℕ) → (index == j) ≡ false → g j ≡ true → f j ≡ true) → (hold ≡ true → (index == 2) ≡ true) → Clean x post f hold → Clean (λ j. if index == j then 0 else x j) (withdrawn post index) g false
-clear_clean x index post f g hold w t c = record { free = λ j e. own_or (index == j) (λ n. c.free j (w j n e)); two = λ e m. own_or (index == 2) (λ n. c.two (no_hold hold t n) (sym (other n) ∙ m)); plain = c.plain }
+clear_clean : (x : ℕ → ℕ) (index : ℕ) (post : Post) (f g held : ℕ → Bool) → ((j : ℕ) → (index == j) ≡ false → g j ≡ true → f j ≡ true) → ((j : ℕ) → held j ≡ true → (index == j) ≡ true) → Clean x post f held → Clean (λ j. if index == j then 0 else x j) (withdrawn post index) g unused
+clear_clean x index post f g held w t c = record { free = λ j e. own_or (index == j) (λ n. c.free j (w j n e)); kept = λ j low e m. own_or (index == j) (λ n. c.kept j low (no_hold (held j) (t j) n) (sym (other j n) ∙ m)); plain = c.plain }
   where
     own_or : {v : ℕ} (b : Bool) → (b ≡ false → v ≡ 0) → (if b then 0 else v) ≡ 0
     own_or true h = refl
     own_or false h = h refl
 
-    no_hold : (h : Bool) → (h ≡ true → (index == 2) ≡ true) → (index == 2) ≡ false → h ≡ false
+    no_hold : {b : Bool} (h : Bool) → (h ≡ true → b ≡ true) → b ≡ false → h ≡ false
     no_hold true k n = let q = k refl in absurd (cc)
     no_hold false k n = refl
 
-    other : (index == 2) ≡ false → stands (withdrawn post index) 2 ≡ stands post 2
-    other n = let q : 2 ≢ index = grind (arith, nat_tests) in stands-withdrawn_other post index 2 q
+    other : (j : ℕ) → (index == j) ≡ false → stands (withdrawn post index) j ≡ stands post j
+    other j n = let q : j ≢ index = grind (arith, nat_tests) in stands-withdrawn_other post index j q
 
 -- what is known of a machine that makes a step
 pub record Stage (x u : ℕ → ℕ) (layout : Layout) (why : Why) (base : Base) (post : Post) (found count : ℕ) : Type 0 where
@@ -211,8 +211,8 @@ site_of {x} {u} layout why aim index root made at post found count s =
       stood = rest_of (nat_le made count) (taken index at (stands post 2)) few;
     }
 
-row_two : (index slot : ℕ) (post : Post) → index ≡ 1 → stands (with_row post index slot) 2 ≡ stands post 2
-row_two index slot post e = let q : 2 ≢ index = omega (e, arith) in stands-with_row_other post index slot 2 q
+row_above : (index slot j : ℕ) (post : Post) → index ≡ 1 → nat_lt j 2 ≡ false → stands (with_row post index slot) j ≡ stands post j
+row_above index slot j post e low = let q : j ≢ index = grind (arith, nat_tests) in stands-with_row_other post index slot j q
 
 end_if : (x u : ℕ → ℕ) (why : Why) (c : Bool) (t v : Turn) → Passes x u why t.post t.outcome → Passes x u why v.post v.outcome → Passes x u why (if c then t else v).post (if c then t else v).outcome
 end_if x u why true t v a b = a
@@ -224,35 +224,40 @@ reload_reached x u layout head tail parent index slot era made post found count 
     let a = r.shape in
     let c = s.clean in
     end_if x (u_next x u) (FollowsHead head tail) (found == parent + 1) (ends (with_row post index slot) (events.Held index slot (bump made) ∷ []) (Followed (follow_ends.Followed slot))) (ends post [] (Followed (follow_ends.RootMoved found)))
-    (record { free = c.free; two = λ e m. c.two refl (sym (row_two index slot post a.at) ∙ m); plain = c.plain }) c
+    (record { free = c.free; kept = λ j low e m. c.kept j low refl (sym (row_above index slot j post a.at low) ∙ m); plain = c.plain }) c
 
-clears_next_reached : (x u : ℕ → ℕ) (next : Next) (index : ℕ) (post : Post) (found : ℕ) → index ≡ 1 → Clean x post deep false → Reached x u (ClearsNext next) (Clear index) post found
+clears_next_reached : (x u : ℕ → ℕ) (next : Next) (index : ℕ) (post : Post) (found : ℕ) → index ≡ 1 → Clean x post deep unused → Reached x u (ClearsNext next) (Clear index) post found
 clears_next_reached x u next index post found e c =
-    clear_clean x index post deep within false (λ j n w. by_one index j e n w) (λ h. absurd (cc)) c
+    clear_clean x index post deep within unused (λ j n w. by_one index j e n w) (λ j h. absurd (cc)) c
   where
     by_one : (index j : ℕ) → index ≡ 1 → (index == j) ≡ false → within j ≡ true → deep j ≡ true
     by_one index j e n w = grind (arith, nat_tests)
 
-clears_reached : (x u : ℕ → ℕ) (task : Task) (next : Next) (index : ℕ) (post : Post) (found : ℕ) → index ≡ index_of task → Clean x post (beside task) (is_hold task) → Reached x u (Clears task next) (Clear index) post found
+clears_reached : (x u : ℕ → ℕ) (task : Task) (next : Next) (index : ℕ) (post : Post) (found : ℕ) → index ≡ index_of task → Clean x post (beside task) (holds_task task) → Reached x u (Clears task next) (Clear index) post found
 clears_reached x u task next index post found e c =
-    clear_clean x index post (beside task) (bare task) (is_hold task) (λ j n w. by_own index j e n w) (λ h. rw e (hold_two task h)) c
+    clear_clean x index post (beside task) (bare task) (holds_task task) (λ j n w. by_own index j e n w) (λ j h. rw e (hold_two task j h)) c
   where
     by_own : (index j : ℕ) → index ≡ index_of task → (index == j) ≡ false → bare task j ≡ true → beside task j ≡ true
     by_own index j e n w = grind (arith, nat_tests)
 
-    hold_two : (task : Task) → is_hold task ≡ true → (index_of task == 2) ≡ true
-    hold_two (Gets key) h = absurd (cc)
-    hold_two (Changes kept) h = absurd (cc)
-    hold_two (Holds key) h = refl
-    hold_two (Enqueues kept) h = absurd (cc)
-    hold_two Dequeues h = absurd (cc)
+    hold_two : (task : Task) (j : ℕ) → holds_task task j ≡ true → (index_of task == j) ≡ true
+    hold_two (Gets key) j h = absurd (cc)
+    hold_two (Changes kept) j h = absurd (cc)
+    hold_two (Holds key) j h = grind (arith, nat_tests)
+    hold_two (Enqueues kept) j h = absurd (cc)
+    hold_two Dequeues j h = absurd (cc)
 
-releases_reached : (x u : ℕ → ℕ) (key : Option ℕ) (index : ℕ) (post : Post) (found : ℕ) → index ≡ 2 → Clean x post spare true → Reached x u (Releases key) (Clear index) post found
-releases_reached x u key index post found e c =
-    clear_clean x index post spare (vacant_released key) true (λ j n w. by_two index j e n) (λ h. rw e refl) c
+releases_reached : (x u : ℕ → ℕ) (let_go : LetGo) (index : ℕ) (post : Post) (found : ℕ) → index ≡ let_index let_go → Clean x post spare (holds_why (Releases let_go)) → Reached x u (Releases let_go) (Clear index) post found
+releases_reached x u let_go index post found e c =
+    clear_clean x index post spare (vacant_released let_go) (holds_why (Releases let_go)) (λ j n w. by_index let_go index j e n w) (λ j h. own j h) c
   where
-    by_two : (index j : ℕ) → index ≡ 2 → (index == j) ≡ false → spare j ≡ true
-    by_two index j e n = grind (arith, nat_tests)
+    by_index : (let_go : LetGo) (index j : ℕ) → index ≡ let_index let_go → (index == j) ≡ false → vacant_released let_go j ≡ true → spare j ≡ true
+    by_index Released index j e n w = w
+    by_index (Rehold key) index j e n w = grind (arith, nat_tests)
+    by_index (Dropped other) index j e n w = w
+
+    own : (j : ℕ) → (j == let_index let_go) ≡ true → (index == j) ≡ true
+    own j h = grind (arith, nat_tests)
 
 task_right : (task : Task) (base : Base) → task_fills task base ≡ true → fills_task task ≡ true
 task_right (Gets key) base h = absurd (cc)
@@ -276,8 +281,8 @@ run_reached x u layout (Opens task) (Begin at) post found count s = absurd (fals
 run_reached x u layout (Fills task) base post found count s = calm_case x u layout (Fills task) base post found count refl s (λ next c ending. (task_right task base s.right, c))
 run_reached x u layout (ClearsNext next) (Clear index) post found count s = clears_next_reached x u next index post found s.run.shape s.clean
 run_reached x u layout (Clears task next) (Clear index) post found count s = clears_reached x u task next index post found s.run.shape s.clean
-run_reached x u layout (Releases key) (Clear index) post found count s = releases_reached x u key index post found s.run.shape s.clean
-run_reached x u layout (Releases key) Release post found count s = absurd (false_not_true (is_ibr layout.config.scheme) s.scheme s.run.fits)
+run_reached x u layout (Releases let_go) (Clear index) post found count s = releases_reached x u let_go index post found s.run.shape s.clean
+run_reached x u layout (Releases let_go) (Release index) post found count s = absurd (false_not_true (is_ibr layout.config.scheme) s.scheme s.run.fits)
 run_reached x u layout (Finishes task next) Finish post found count s = absurd (false_not_true (is_ibr layout.config.scheme) s.scheme s.run.fits)
 run_reached x u layout (GivesUp answer) base post found count s = calm_case x u layout (GivesUp answer) base post found count refl s (λ next c ending. c)
 run_reached x u layout (Retires answer) base post found count s = calm_case x u layout (Retires answer) base post found count refl s (λ next c ending. c)
@@ -287,7 +292,7 @@ run_reached x u layout (Opens task) base post found count s = absurd (no_truth s
 run_reached x u layout (FollowsHead head tail) base post found count s = absurd (no_truth s.run.suited)
 run_reached x u layout (ClearsNext next) base post found count s = absurd (no_truth s.run.suited)
 run_reached x u layout (Clears task next) base post found count s = absurd (no_truth s.run.suited)
-run_reached x u layout (Releases key) base post found count s = absurd (no_truth s.run.suited)
+run_reached x u layout (Releases let_go) base post found count s = absurd (no_truth s.run.suited)
 run_reached x u layout (Finishes task next) base post found count s = absurd (no_truth s.run.suited)
 
 run_rights : (x u : ℕ → ℕ) (layout : Layout) (why : Why) (base : Base) (post : Post) (found count : ℕ) → Stage x u layout why base post found count → events_right (x_after x base) (u_next x u) (count + 1) (machine.after base post found).told ≡ true
@@ -299,16 +304,18 @@ run_rights x u layout why (Reload parent index slot era made) post found count s
     let e : bump made ≡ made + 1 = bump_low made count (le_of_test made count f) s.low in
     rights_if x (u_next x u) (count + 1) (found == parent + 1) (ends (with_row post index slot) (events.Held index slot (bump made) ∷ []) (Followed (follow_ends.Followed slot))) (ends post [] (Followed (follow_ends.RootMoved found)))
     (and_true (event_right x (u_next x u) (count + 1) (events.Held index slot (bump made))) (rw e (number_of (made + 1) (x index) (turned (x index) (u index)) (count + 1) (since_next made (x index) (u index) h) (few_next made count f)))) refl
-run_rights x u layout why Release post found count s = absurd (false_not_true (is_ibr layout.config.scheme) s.scheme s.run.fits)
+run_rights x u layout why (Release index) post found count s = absurd (false_not_true (is_ibr layout.config.scheme) s.scheme s.run.fits)
 run_rights x u layout why base post found count s = base_rights (x_after x base) (u_next x u) (count + 1) base post found refl
 
 -- of any phase
 abbrev pub phase_x : Phase → ℕ → ℕ → ℕ
 phase_x (Runs why base) j n = after_x base j n
+phase_x (Works work) j n = work_x work j n
 phase_x phase j n = n
 
 abbrev pub PhaseRight : Phase → Type 0
 PhaseRight (Runs why base) = runs_right why base ≡ true
+PhaseRight (Works work) = WorkRight work
 PhaseRight phase = Unit {0}
 
 pub record Seat (x u : ℕ → ℕ) (layout : Layout) (i : ℕ) (phase : Phase) (post : Post) : Type 0 where
@@ -320,8 +327,8 @@ pub record Seat (x u : ℕ → ℕ) (layout : Layout) (i : ℕ) (phase : Phase) 
   pub low : post.steps < 2 ^ 62
   pub fits : Fits x u post phase
 
-recount : {x : ℕ → ℕ} {post : Post} {f : ℕ → Bool} {hold : Bool} → Clean x post f hold → Clean x (counted post) f hold
-recount c = record { free = c.free; two = c.two; plain = c.plain }
+recount : {x : ℕ → ℕ} {post : Post} {f held : ℕ → Bool} → Clean x post f held → Clean x (counted post) f held
+recount c = record { free = c.free; kept = c.kept; plain = c.plain }
 
 pub stage_of : (x u : ℕ → ℕ) (layout : Layout) (i : ℕ) (why : Why) (base : Base) (post : Post) (found : ℕ) → Seat x u layout i (Runs why base) post → Stage x u layout why base (counted post) found post.steps
 stage_of x u layout i why base post found s =
@@ -351,11 +358,12 @@ turn_fits x u layout i (Runs why base) post desk found s =
     let t : Turn = machine.after base (counted post) found in
     resumed_fits why desk t.post t.told t.outcome (run_reached x u layout why base (counted post) found post.steps (stage_of x u layout i why base post found s))
 turn_fits x u layout i (Scans later at) post desk found s = let f = s.fits in scan_fits later at (counted post) desk found (recount f.clean)
-turn_fits x u layout i (Works work) post desk found s = let f = s.fits in work_fits work (counted post) desk found (recount f.clean)
+turn_fits x u layout i (Works (Keeping at)) post desk found s = let f = s.fits in let p = s.owned in keep_fits at (counted post) desk found (work_counted (Keeping at) post s.shaped) s.right p.standing (recount f.clean)
+turn_fits x u layout i (Works work) post desk found s = let f = s.fits in work_fits work (counted post) desk found refl (recount f.clean)
 
 pub turn_rights : (x u : ℕ → ℕ) (layout : Layout) (i : ℕ) (phase : Phase) (post : Post) (found : ℕ) → Seat x u layout i phase post → First (λ p told. events_right (λ j. phase_x phase j (x j)) (u_next x u) (post.steps + 1) told ≡ true) phase (counted post) found
 turn_rights x u layout i Idle post found s = refl
 turn_rights x u layout i (Runs why base) post found s = run_rights x u layout why base (counted post) found post.steps (stage_of x u layout i why base post found s)
 turn_rights x u layout i (Scans later (ReadGuard number)) post found s = refl
 turn_rights x u layout i (Scans later (GiveBack place slot)) post found s = refl
-turn_rights x u layout i (Works work) post found s = refl
+turn_rights x u layout i (Works work) post found s = work_rights (λ j. work_x work j (x j)) (u_next x u) (post.steps + 1) work (counted post)

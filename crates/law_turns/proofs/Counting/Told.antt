@@ -1,7 +1,7 @@
 -- What the events of a step make of what its seat has published at its index words, and that only protections tell numbers.
 use Rattle.std.proofs.Common.{ℕ, ◌≡◌, ◌≤◌, ◌+◌, Bool, true, false, List, [], ◌∷◌, ◌++◌, Option, Some, None, refl, ap, ◌∙◌, arith}
 use Rattle.std.proofs.lemmas.Bool.Decides.{nat_tests}
-use Rattle.std.specs.Prelude.{◌==◌, ◌&&◌, if◌then◌else◌, not}
+use Rattle.std.specs.Prelude.{◌==◌, ◌&&◌, if◌then◌else◌, not, is_some}
 use Rattle.wfe_core.specs.words.declared.config.SchemeKind.{SchemeKind}
 use Rattle.wfe_core.specs.defs.declared.event.Event.{Event}
 use Rattle.wfe_core.specs.defs.declared.event.Event.TheVariants as events
@@ -11,18 +11,22 @@ use Rattle.wfe_core.specs.defs.declared.lifetime.Interval.{Interval}
 use Rattle.wfe_core.specs.declared.post.Post.{Post}
 use Rattle.wfe_core.specs.Guards.{one_era}
 use Rattle.wfe_core.specs.Machine as machine
-use Rattle.wfe_core.specs.Posts.{cleared}
+use Rattle.wfe_core.specs.Posts.{cleared, reserves_index, stands}
 use Rattle.wfe_core.specs.Protect as protects
-use Rattle.wfe_core.specs.Rounds.{scheme_of, clear_told}
+use Rattle.wfe_core.specs.Rounds.{scheme_of, clear_told, let_index}
+use Rattle.wfe_core.specs.words.Schemes.{has_one_interval}
+use Rattle.wfe_core.specs.Calls.{KeepAt, Loosens, LoadHeld, StoreHeld, Looks, Misses, Work, Keeping}
 use Rattle.wfe_core.specs.Phases.{Base}
 use Rattle.wfe_core.proofs.Facts.{same_number, both, first_of, rest_of, and_true}
 use Rattle.law_answers.specs.inv.history.Record.{Past, tells_of}
 use Rattle.law_answers.specs.inv.history.Record.Past.{Then}
-use Rattle.law_answers.proofs.inv.history.Passes.{is_quiet, all_quiet, Closed}
+use Rattle.law_answers.proofs.inv.history.Passes.{is_quiet, all_quiet, Closed, copied_told, keep_told, work_told}
 use Rattle.laws.specs.StateAt.{one_more, reserves_by, reserves_of}
 use Rattle.laws.specs.HistoryTurns.{event_right, events_right}
-use Rattle.law_answers.proofs.inv.history.MayTell.{held_any, cleared_all, clear_all, is_find, is_index, finds, stores_index, no_find, no_index}
-use Rattle.law_answers.proofs.inv.history.AllOf.{all_of, of_weaker, of_both}
+use Rattle.law_answers.proofs.inv.history.MayTell.{Tells, base_all, held_any, cleared_all, clear_all, is_find, is_index, finds, stores_index, no_find, no_index, work_all}
+use Rattle.law_answers.proofs.inv.history.AllOf.{all_of, of_along, of_weaker, of_both}
+use Rattle.law_answers.specs.inv.shapes.Frame.{KeepFits, WorkFits}
+use Rattle.law_turns.proofs.Counting.Fits.{work_x}
 
 -- along what a step tells
 abbrev pub reserved_along : (seat index : ℕ) → List Event → ℕ → ℕ
@@ -45,13 +49,14 @@ pub reserved_both : (i j : ℕ) (xs ys : List Event) (n : ℕ) → reserved_alon
 reserved_both i j [] ys n = refl
 reserved_both i j (x ∷ xs) ys n = reserved_both i j xs ys (reserves_by i j x n)
 
--- events that tell nothing of index words, and no numbers
+-- events that tell nothing of index words, no numbers and no copies
 abbrev pub is_dull : Event → Bool
 is_dull (events.Reserve (Helper seat) span) = true
 is_dull (events.Reserve (Index seat index) span) = false
 is_dull (events.Reserve (Whole seat) span) = true
 is_dull (events.Held index slot steps) = false
 is_dull (events.Null index steps) = false
+is_dull (events.Copied from index slot) = false
 is_dull event = true
 
 abbrev pub all_dull : List Event → Bool
@@ -84,7 +89,7 @@ unfound_right x u call (events.Held index slot steps) h = absurd (cc)
 unfound_right x u call (events.Null index steps) h = absurd (cc)
 unfound_right x u call event h = refl
 
-unfound_rights : (x u : ℕ → ℕ) (call : ℕ) (told : List Event) → all_of (λ event. not (is_find event)) told ≡ true → events_right x u call told ≡ true
+pub unfound_rights : (x u : ℕ → ℕ) (call : ℕ) (told : List Event) → all_of (λ event. not (is_find event)) told ≡ true → events_right x u call told ≡ true
 unfound_rights x u call [] h = refl
 unfound_rights x u call (event ∷ told) h =
     both (event_right x u call event) (events_right x u call told) (unfound_right x u call event (first_of (not (is_find event)) (all_of (λ other. not (is_find other)) told) h)) (unfound_rights x u call told (rest_of (not (is_find event)) (all_of (λ other. not (is_find other)) told) h))
@@ -109,6 +114,7 @@ quiet_one : (event : Event) → is_quiet event ≡ true → is_dull event ≡ tr
 quiet_one (events.Reserve guard span) h = absurd (cc)
 quiet_one (events.Held index slot steps) h = absurd (cc)
 quiet_one (events.Null index steps) h = absurd (cc)
+quiet_one (events.Copied from index slot) h = absurd (cc)
 quiet_one event h = refl
 
 pub quiet_dull : (told : List Event) → all_quiet told ≡ true → all_dull told ≡ true
@@ -119,6 +125,10 @@ cleared_dull index o = cleared_all is_dull index o (λ index slot. refl)
 
 pub clear_dull : (scheme : SchemeKind) (post : Post) (index : ℕ) → all_dull (clear_told scheme post index) ≡ true
 clear_dull scheme post index = clear_all is_dull scheme post index (λ index slot. refl)
+
+-- nor does a call on what is kept tell a number
+pub work_rights : (x u : ℕ → ℕ) (call : ℕ) (work : Work) (post : Post) → events_right x u call (work_told work post) ≡ true
+work_rights x u call work post = unfound_rights x u call (work_told work post) (work_all (λ event. not (is_find event)) (λ index slot. refl) (λ from index slot. refl) (λ seat index era. refl) work post)
 
 -- what comes after a machine changes neither
 abbrev pub Comes : (i j n m : ℕ) → Post → List Event → Type 0
@@ -140,16 +150,28 @@ rights_closed x u call = record {
 }
 
 -- the machines that tell neither
-one_dull : (event : Event) → not (is_find event) ≡ true → not (is_index event) ≡ true → is_dull event ≡ true
-one_dull (events.Reserve (Helper seat) span) f k = refl
-one_dull (events.Reserve (Index seat index) span) f k = absurd (cc)
-one_dull (events.Reserve (Whole seat) span) f k = refl
-one_dull (events.Held index slot steps) f k = absurd (cc)
-one_dull (events.Null index steps) f k = absurd (cc)
-one_dull event f k = refl
+abbrev is_copied : Event → Bool
+is_copied (events.Copied from index slot) = true
+is_copied event = false
+
+no_copy : (base : Base) (post : Post) (found : ℕ) (event : Event) → Tells base post found event → not (is_copied event) ≡ true
+no_copy base post found (events.Copied from index slot) t = absurd (cc)
+no_copy base post found event t = refl
+
+one_dull : (event : Event) → not (is_copied event) ≡ true → (not (is_find event) && not (is_index event)) ≡ true → is_dull event ≡ true
+one_dull (events.Reserve (Helper seat) span) c f = refl
+one_dull (events.Reserve (Index seat index) span) c f = absurd (cc)
+one_dull (events.Reserve (Whole seat) span) c f = refl
+one_dull (events.Held index slot steps) c f = absurd (cc)
+one_dull (events.Null index steps) c f = absurd (cc)
+one_dull (events.Copied from index slot) c f = absurd (cc)
+one_dull event c f = refl
 
 pub base_dull : (base : Base) (post : Post) (found : ℕ) → finds base ≡ false → stores_index base ≡ false → all_dull (machine.after base post found).told ≡ true
-base_dull base post found f k = of_both (λ event. not (is_find event)) (λ event. not (is_index event)) is_dull (machine.after base post found).told one_dull (no_find base post found f) (no_index base post found k)
+base_dull base post found f k =
+    let told : List Event = (machine.after base post found).told in
+    of_both (λ event. not (is_copied event)) (λ event. not (is_find event) && not (is_index event)) is_dull told one_dull (base_all (λ event. not (is_copied event)) base post found (no_copy base post found))
+    (of_both (λ event. not (is_find event)) (λ event. not (is_index event)) (λ event. not (is_find event) && not (is_index event)) told (λ event a b. both (not (is_find event)) (not (is_index event)) a b) (no_find base post found f) (no_index base post found k))
 
 -- an index word of the seat
 pub era_more : (era n : ℕ) → 1 ≤ era → one_more (one_era era) n ≡ n + 1
@@ -164,6 +186,15 @@ index_more i j seat index era n s h = by (seat == i) (index == j) (grind (arith,
   where
     by : (a b : Bool) → a ≡ true → (if a && b then one_more (one_era era) n else n) ≡ (if b then n + 1 else n)
     by true true e = era_more era n h
+    by true false e = refl
+    by false b e = absurd (cc)
+
+-- whatever is published there
+pub index_any : (i j seat index n : ℕ) (span : Option Interval) → seat ≡ i → reserves_by i j (events.Reserve (Index seat index) span) n ≡ (if index == j then one_more span n else n)
+index_any i j seat index n span s = by (seat == i) (index == j) (grind (arith, nat_tests))
+  where
+    by : (a b : Bool) → a ≡ true → (if a && b then one_more span n else n) ≡ (if b then one_more span n else n)
+    by true true e = refl
     by true false e = refl
     by false b e = absurd (cc)
 
@@ -184,3 +215,33 @@ held_reserved i j index root link m n = held_any (λ told. reserved_along i j to
 
 pub held_right : (x u : ℕ → ℕ) (call index : ℕ) (root : Root) (link m : ℕ) → event_right x u call (events.Null index m) ≡ true → events_right x u call (protects.told_held index root link m) ≡ true
 held_right x u call index root link m h = let e = and_true (event_right x u call (events.Null index m)) h in held_any (λ told. events_right x u call told ≡ true) index root link m refl e (λ slot. e)
+
+-- a call on what is kept publishes at the index to which it copies
+copied_unindexed : (from index : ℕ) (post : Post) (o : Option ℕ) → all_of (λ event. not (is_index event)) (copied_told from index post [] o) ≡ true
+copied_unindexed from index post None = refl
+copied_unindexed from index post (Some slot) =
+    let plain : Event → Bool = λ event. not (is_index event) in
+    of_along plain (cleared index (stands post index) ++ []) (events.Copied from index slot ∷ []) (of_along plain (cleared index (stands post index)) [] (cleared_all plain index (stands post index) (λ index slot. refl)) refl) refl
+
+store_comes : (i j n from index era : ℕ) (post : Post) (o : Option ℕ) → post.seat ≡ i → is_some o ≡ true → reserved_along i j (copied_told from index post (reserves_index post index era) o) n ≡ (if index == j then one_more (one_era era) n else n)
+store_comes i j n from index era post None s h = absurd (cc)
+store_comes i j n from index era post (Some slot) s h =
+    reserved_both i j (cleared index (stands post index) ++ reserves_index post index era) (events.Copied from index slot ∷ []) n
+    ∙ reserved_both i j (cleared index (stands post index)) (reserves_index post index era) n
+    ∙ ap (reserved_along i j (reserves_index post index era)) (dull_reserved i j (cleared index (stands post index)) n (cleared_dull index (stands post index)))
+    ∙ index_any i j post.seat index n (one_era era) s
+
+keep_comes : (i j n : ℕ) (at : KeepAt) (post : Post) → post.seat ≡ i → KeepFits post at → reserved_along i j (keep_told at post) n ≡ work_x (Keeping at) j n
+keep_comes i j n (Loosens let_go) post s f = dull_reserved i j (cleared (let_index let_go) (stands post (let_index let_go))) n (cleared_dull (let_index let_go) (stands post (let_index let_go)))
+keep_comes i j n (LoadHeld from index) post s f = by (has_one_interval (scheme_of post))
+  where
+    by : (one : Bool) → reserved_along i j (if one then copied_told from index post [] (stands post from) else []) n ≡ n
+    by true = unindexed_along i j (copied_told from index post [] (stands post from)) n (copied_unindexed from index post (stands post from))
+    by false = refl
+keep_comes i j n (StoreHeld from index era) post s f = store_comes i j n from index era post (stands post from) s f.kept
+keep_comes i j n (Looks index key at) post s f = refl
+keep_comes i j n (Misses index) post s f = refl
+
+pub work_comes : (i j n : ℕ) (work : Work) (post : Post) → post.seat ≡ i → WorkFits post work → reserved_along i j (work_told work post) n ≡ work_x work j n
+work_comes i j n (Keeping at) post s f = keep_comes i j n at post s f
+work_comes i j n work post s f = refl

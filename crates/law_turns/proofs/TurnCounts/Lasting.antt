@@ -29,7 +29,7 @@ use Rattle.law_answers.specs.inv.history.Record.Past.{Then}
 use Rattle.law_answers.proofs.inv.requests.Paced.{in_time}
 use Rattle.law_answers.specs.inv.Inv.{Inv}
 use Rattle.law_answers.proofs.inv.Inv.Shapes.{eras_of}
-use Rattle.law_answers.proofs.inv.history.Passes.{First, step_goes}
+use Rattle.law_answers.proofs.inv.history.Passes.{First, step_goes, work_told}
 use Rattle.laws.specs.StateAt.{tried_by, tried_of, last_by, last_of}
 use Rattle.law_turns.proofs.Counting.Fits.{own, base_own, paced, taken, since}
 use Rattle.law_turns.proofs.Counting.Passing.{Apart, turned}
@@ -41,9 +41,10 @@ use Rattle.law_turns.proofs.TurnCounts.Machines.{TriedEra}
 use Rattle.law_turns.proofs.TurnCounts.Tried.{is_other, other_tried, why_tried, phase_tried, is_follow, reload_one}
 use Rattle.law_turns.proofs.Counting.Counting.{hands_apart}
 
--- what a machine or a scan tells itself
+-- what a machine or a call on what is kept tells itself
 abbrev pub own_told : Phase → Post → ℕ → List Event
 own_told (Runs why base) post found = (machine.after base post found).told
+own_told (Works work) post found = work_told work post
 own_told phase post found = []
 
 first_comes : (i j n last : ℕ) (phase : Phase) (post : Post) (found : ℕ) → First (λ p told. Comes i j n last (tried_along i j (own_told phase post found) n) (last_along (own_told phase post found) last) told) phase post found

@@ -1,6 +1,6 @@
 -- How often a protection under way has published, by where its seat stands, over each step of a machine.
 use Rattle.law_turns.proofs.Withdrawals.Leaving.{tries_none}
-use Rattle.std.proofs.Common.{ℕ, ◌≡◌, ◌-◌, ◌+◌, Bool, true, false, List, [], ◌∷◌, ◌++◌, refl, ap, ◌∙◌, arith}
+use Rattle.std.proofs.Common.{ℕ, ◌≡◌, ◌-◌, ◌+◌, Bool, true, false, List, [], ◌∷◌, ◌++◌, Option, Some, None, refl, ap, ◌∙◌, arith}
 use Rattle.std.proofs.lemmas.Bool.Decides.{nat_tests}
 use Rattle.std.specs.Prelude.{◌==◌, ◌&&◌, ◌||◌, not, nat_le, if◌then◌else◌}
 use Rattle.wfe_core.specs.words.declared.config.Config.{Config}
@@ -12,15 +12,19 @@ use Rattle.wfe_core.specs.defs.declared.event.Root.TheVariants as roots
 use Rattle.wfe_core.specs.declared.ends.FollowEnd.TheVariants as follow_ends
 use Rattle.wfe_core.specs.declared.post.Post.{Post}
 use Rattle.wfe_core.specs.Protect as protects
-use Rattle.wfe_core.specs.Rounds.{scheme_of, clear_told}
+use Rattle.wfe_core.specs.Guards.{one_era}
+use Rattle.wfe_core.specs.Posts.{cleared, reserves_index, stands}
+use Rattle.wfe_core.specs.words.Schemes.{has_one_interval}
+use Rattle.wfe_core.specs.Calls.{KeepAt, Loosens, LoadHeld, StoreHeld, Looks, Misses, Work, Keeping}
+use Rattle.wfe_core.specs.Rounds.{scheme_of, clear_told, let_index}
 use Rattle.wfe_core.specs.Phases.{Aim, Alone, Follows, Tries, Endless, Failed, ProtectAt, Base, Turn, Outcome, Goes, Ends}
 use Rattle.wfe_core.specs.Phases.ProtectAt.{LoadClock, PublishEra, LoadLink, CheckClock, WithdrawRequest, WithdrawHelper, LoadWithin, CheckUpper, RaiseUpper}
 use Rattle.wfe_core.specs.Phases.Base.{Protect, Reload}
 use Rattle.wfe_core.specs.Phases.Ending.{Followed}
 use Rattle.wfe_core.proofs.Facts.{first_of, rest_of}
-use Rattle.law_answers.proofs.inv.history.Passes.{Closed}
-use Rattle.law_turns.proofs.Counting.Told.{is_dull, all_dull}
-use Rattle.laws.specs.StateAt.{tried_by, last_by}
+use Rattle.law_answers.proofs.inv.history.Passes.{Closed, copied_told, keep_told, work_told}
+use Rattle.law_turns.proofs.Counting.Told.{is_dull, all_dull, cleared_dull}
+use Rattle.laws.specs.StateAt.{one_more, tried_by, last_by}
 use Rattle.law_turns.proofs.Withdrawals.Withdrawing.{is_mute, all_mute, quiet_mute, clear_mute, tells_link}
 use Rattle.law_answers.proofs.inv.history.AllOf.{of_weaker}
 
@@ -48,6 +52,7 @@ dull_one i j (events.Reserve (Index seat index) span) n h = absurd (cc)
 dull_one i j (events.Reserve (Whole seat) span) n h = refl
 dull_one i j (events.Held index slot steps) n h = absurd (cc)
 dull_one i j (events.Null index steps) n h = absurd (cc)
+dull_one i j (events.Copied from index slot) n h = absurd (cc)
 dull_one i j event n h = refl
 
 pub dull_tried : (i j : ℕ) (told : List Event) (n : ℕ) → all_dull told ≡ true → tried_along i j told n ≡ n
@@ -67,10 +72,46 @@ mute_dull_one : (event : Event) → is_mute event ≡ true → is_dull event ≡
 mute_dull_one (events.Reserve guard span) h = absurd (cc)
 mute_dull_one (events.Held index slot steps) h = absurd (cc)
 mute_dull_one (events.Null index steps) h = absurd (cc)
+mute_dull_one (events.Copied from index slot) h = absurd (cc)
 mute_dull_one event h = refl
 
 mute_dull : (told : List Event) → all_mute told ≡ true → all_dull told ≡ true
 mute_dull told h = of_weaker is_mute is_dull told mute_dull_one h
+
+-- a call on what is kept is no protection
+apart_word : (i j seat index era n : ℕ) → (index == j) ≡ false → tried_by i j (events.Reserve (Index seat index) (one_era era)) n ≡ n
+apart_word i j seat index era n o = by (seat == i)
+  where
+    by : (own : Bool) → (if own && index == j then one_more (one_era era) n else n) ≡ n
+    by true = rw o refl
+    by false = refl
+
+copied_zero : (i j from index : ℕ) (post : Post) (reserved : List Event) (o : Option ℕ) (n : ℕ) → ((index == j) ≡ false → tried_along i j reserved n ≡ n) → n ≡ 0 → tried_along i j (copied_told from index post reserved o) n ≡ 0
+copied_zero i j from index post reserved None n r z = z
+copied_zero i j from index post reserved (Some slot) n r z = tried_both i j (cleared index (stands post index) ++ reserved) (events.Copied from index slot ∷ []) n ∙ by (index == j) refl
+  where
+    by : (own : Bool) → (index == j) ≡ own → (if own then 0 else tried_along i j (cleared index (stands post index) ++ reserved) n) ≡ 0
+    by true o = refl
+    by false o =
+        tried_both i j (cleared index (stands post index)) reserved n
+        ∙ ap (tried_along i j reserved) (dull_tried i j (cleared index (stands post index)) n (cleared_dull index (stands post index)))
+        ∙ r o
+        ∙ z
+
+keep_zero : (i j : ℕ) (at : KeepAt) (post : Post) (n : ℕ) → n ≡ 0 → tried_along i j (keep_told at post) n ≡ 0
+keep_zero i j (Loosens let_go) post n z = dull_tried i j (cleared (let_index let_go) (stands post (let_index let_go))) n (cleared_dull (let_index let_go) (stands post (let_index let_go))) ∙ z
+keep_zero i j (LoadHeld from index) post n z = by (has_one_interval (scheme_of post))
+  where
+    by : (one : Bool) → tried_along i j (if one then copied_told from index post [] (stands post from) else []) n ≡ 0
+    by true = copied_zero i j from index post [] (stands post from) n (λ o. refl) z
+    by false = z
+keep_zero i j (StoreHeld from index era) post n z = copied_zero i j from index post (reserves_index post index era) (stands post from) n (λ o. apart_word i j post.seat index era n o) z
+keep_zero i j (Looks index key at) post n z = z
+keep_zero i j (Misses index) post n z = z
+
+pub work_zero : (i j : ℕ) (work : Work) (post : Post) (n : ℕ) → n ≡ 0 → tried_along i j (work_told work post) n ≡ 0
+work_zero i j (Keeping at) post n z = keep_zero i j at post n z
+work_zero i j work post n z = z
 
 -- what a step tells comes to these two
 pub record Comes (i j n last y m : ℕ) (told : List Event) : Type 0 where

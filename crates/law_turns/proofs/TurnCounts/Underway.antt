@@ -38,7 +38,7 @@ use Rattle.laws.specs.StateAt.{tried_of, last_of}
 use Rattle.law_turns.specs.Records.{ProtectionsLast}
 use Rattle.law_turns.proofs.Withdrawals.Due as due
 use Rattle.law_turns.proofs.Withdrawals.Leaving.{Left, stepped_leads, first_new}
-use Rattle.law_turns.proofs.TurnCounts.Trying.{tried_along, last_along}
+use Rattle.law_turns.proofs.TurnCounts.Trying.{tried_along, last_along, work_zero}
 use Rattle.law_turns.proofs.TurnCounts.Tried.{why_tried, phase_tried, Stage, is_follow, run_made}
 use Rattle.law_turns.proofs.TurnCounts.Lasting.{own_told, told_comes, tried_tells, last_tells, tried_stays, last_stays, base_apart, base_era, protect_turns, reload_turns, InBound, bound, phase_turns, new_tried, out_tried}
 use Rattle.law_answers.proofs.inv.steps_left.Rest.Falling.{wfe_plain}
@@ -73,7 +73,7 @@ follow_path (GivesUp answer) base f h = absurd (cc)
 follow_path (Retires answer) base f h = absurd (cc)
 follow_path (Tidies later) base f h = absurd (cc)
 follow_path Advances base f h = absurd (cc)
-follow_path (Releases key) base f h = absurd (cc)
+follow_path (Releases let_go) base f h = absurd (cc)
 
 follow_turns : (w : World) (i j : ℕ) (x u : ℕ → ℕ) (why : Why) (base : Base) → Inv w → is_wfe w.layout.config.scheme ≡ true → is_ibr w.layout.config.scheme ≡ false → (w.seat i).phase ≡ Runs why base → base_own x u (w.seat i).post base ≡ true → Run w.layout why base (w.seat i).post → is_path base ≡ true → is_follow why ≡ true → j ≡ 1 → turned (x j) (u j) + 1 ≤ 3 * w.layout.config.tries + 15
 follow_turns w i j x u why (Protect aim index root made at) a f n e o r p g one =
@@ -118,7 +118,7 @@ phase_next w i j times last x u a (Runs why base) next b f n e o t l =
     out_tried w.layout.config w.layout (turned (x j) (u j)) why m.post m.outcome next j (tried_along i j m.told times) (last_along m.told last) (run_made w.layout.config i j times last (u j) w.layout why base (counted (w.seat i).post) (finds w i) s) l q.phase
     (λ g one. follow_turns w i j x u why base a f n e o r (follow_path why base g r.suited) g one)
 phase_next w i j times last x u a (Scans later at) next b f n e o t l = new_tried w.layout.config (turned (x j) (u j)) next j times last l (zero_of_test times t)
-phase_next w i j times last x u a (Works work) next b f n e o t l = new_tried w.layout.config (turned (x j) (u j)) next j times last l (zero_of_test times t)
+phase_next w i j times last x u a (Works work) next b f n e o t l = new_tried w.layout.config (turned (x j) (u j)) next j _ _ l (work_zero i j work (counted (w.seat i).post) times (zero_of_test times t))
 
 turns_there : (k i j : ℕ) (h : schedule.History) (told : List Event) → (k == i) ≡ false → turns_since k j (Turns h i told) ≡ turns_since k j h
 turns_there k i j h told e = rw e refl
@@ -235,7 +235,7 @@ pub first_kept : (layout : Layout) → is_wfe layout.config.scheme ≡ true → 
 first_kept layout f = record { counts = counting.first_kept layout (wfe_plain layout.config.scheme f); owes = due.first_kept layout; tried = λ k j. refl; law = λ j. tt }
 
 kept : (layout : Layout) → is_wfe layout.config.scheme ≡ true → Kept (Lasts layout)
-kept layout f = record { begins = λ made h i call a b y g. begin_kept layout made h i call a y g; steps = λ made h i a b y g. step_kept layout made h i f a b y g }
+kept layout f = record { begins = λ made h i call a b y m g. begin_kept layout made h i call a y g; steps = λ made h i a b y g. step_kept layout made h i f a b y g }
 
 pub protections_last : ProtectionsLast
 protections_last layout items j d f = let g = history_keeps layout (Lasts layout) (kept layout f) d items (first_kept layout f) in g.law j

@@ -348,7 +348,7 @@ pub begin_kept : (made : Made) (h : schedule.History) (i : ℕ) (call : Call) �
 begin_kept made h i call a y g = record { seats = λ k. begin_seats made.world h i k call (k == i) refl a.known y g.seats; law = g.law }
 
 kept : Kept Keeps
-kept = record { begins = λ made h i call a b f g. begin_kept made h i call a f g; steps = λ made h i a b y g. step_kept made h i a g }
+kept = record { begins = λ made h i call a b f m g. begin_kept made h i call a f g; steps = λ made h i a b y g. step_kept made h i a g }
 
 pub first_kept : (layout : Layout) → Keeps (first_made layout) Blank
 first_kept layout = record { seats = λ k. record { shown = refl; due = refl }; law = tt }

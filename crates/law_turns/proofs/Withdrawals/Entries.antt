@@ -35,7 +35,7 @@ use Rattle.law_answers.specs.inv.history.Turns.{record_of}
 use Rattle.law_answers.specs.inv.history.Turns.History.{Starts, Turns}
 use Rattle.law_answers.proofs.inv.history.AllOf.{all_of}
 use Rattle.law_answers.proofs.inv.history.Entries.{entries_of_each}
-use Rattle.law_answers.proofs.inv.history.MayTell.{Passes, Tells, base_all, base_helper, base_shows, same_span, step_all}
+use Rattle.law_answers.proofs.inv.history.MayTell.{Passes, Tells, base_all, base_helper, base_shows, same_span, step_all, work_all}
 use Rattle.law_answers.proofs.inv.history.Passes.{First, is_quiet}
 use Rattle.law_answers.proofs.OneStep.Along.{Around, Kept, history_keeps}
 use Rattle.law_answers.proofs.Turns.Counted.{histories_count}
@@ -185,7 +185,7 @@ phase_helper i Idle post there s = refl
 phase_helper i (Runs why base) post there s = base_all (own_helper i) base post there (λ event. helper_told i base post there event s)
 phase_helper i (Scans later (ReadGuard number)) post there s = refl
 phase_helper i (Scans later (GiveBack place slot)) post there s = refl
-phase_helper i (Works work) post there s = refl
+phase_helper i (Works work) post there s = work_all (own_helper i) (λ index slot. refl) (λ from index slot. refl) (λ seat index era. refl) work post
 
 step_helper : (w : World) (i : ℕ) → (w.seat i).post.seat ≡ i → all_of (own_helper i) (told_in w i) ≡ true
 step_helper w i s = step_all (own_helper i) (helper_passes i) (w.seat i).phase (counted (w.seat i).post) (w.seat i).desk (finds w i) (phase_helper i (w.seat i).phase (counted (w.seat i).post) (finds w i) s)
@@ -306,7 +306,7 @@ begin_withdraws made h i call a y g =
     begun k false e n = g.due k
 
 kept : Kept Withdraws
-kept = record { begins = λ made h i call a b f g. begin_withdraws made h i call a f g; steps = λ made h i a b y g. step_withdraws made h i a g }
+kept = record { begins = λ made h i call a b f m g. begin_withdraws made h i call a f g; steps = λ made h i a b y g. step_withdraws made h i a g }
 
 pub records_withdraw_next : RecordsWithdrawNext
 records_withdraw_next layout items d =

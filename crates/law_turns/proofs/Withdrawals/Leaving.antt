@@ -20,15 +20,15 @@ use Rattle.wfe_core.specs.Phases.RetireAt.{LoadLife}
 use Rattle.wfe_core.specs.Phases.MoveAt.{LoadEra}
 use Rattle.wfe_core.specs.Phases.Base.{Begin, Protect, Reload, Clear, Finish, Release, Allocate, Write, GiveUp, Retire, Move}
 use Rattle.wfe_core.specs.Posts.{counted}
-use Rattle.wfe_core.specs.Rounds.{scheme_of, protect_at, release_base, clear_base, clearing_next_by}
+use Rattle.wfe_core.specs.Rounds.{scheme_of, protect_at, clear_base, clearing_next_by}
 use Rattle.wfe_core.specs.Steps as steps
 use Rattle.wfe_core.specs.World.{World, step, finds}
-use Rattle.wfe_core.specs.Calls.{Why, Phase, Idle, Runs, Scans, Works, FollowsHead, ClearsNext, Again}
-use Rattle.law_answers.specs.inv.shapes.Frame.{Grows, Passed, phase_left}
+use Rattle.wfe_core.specs.Calls.{Why, LoadHeld, Work, Keeping, Phase, Idle, Runs, Scans, Works, FollowsHead, ClearsNext, Again}
+use Rattle.law_answers.specs.inv.shapes.Frame.{Grows, Passed, Stores, phase_left}
 use Rattle.wfe_core.specs.words.Schemes.{is_ibr}
 use Rattle.law_answers.specs.inv.shapes.Seats.{PostFits, PhaseFits, Seats}
 use Rattle.law_answers.proofs.inv.shapes.Inside.{shape_moves}
-use Rattle.law_answers.proofs.inv.shapes.Kept.{counted_fits, run_counted}
+use Rattle.law_answers.proofs.inv.shapes.Kept.{counted_fits, run_counted, work_counted}
 use Rattle.law_answers.proofs.inv.shapes.Shapes.{shape_grows}
 use Rattle.law_answers.proofs.inv.shapes.Works.{resume_left, work_left, scan_left, first_grows}
 use Rattle.law_answers.proofs.inv.covers.Held.{stepped_phase}
@@ -65,7 +65,7 @@ is_first (Protect aim index root steps at) = protects_at at && steps == 0
 is_first (Reload parent index slot era steps) = false
 is_first (Clear index) = true
 is_first Finish = true
-is_first Release = true
+is_first (Release index) = true
 is_first (Allocate at) = allocates_at at
 is_first (Write slot row place) = true
 is_first (GiveUp slot) = true
@@ -87,17 +87,13 @@ protect_new He = refl
 protect_new Ibr = refl
 protect_new Wfe = refl
 
-release_new : (scheme : SchemeKind) → is_first (release_base scheme) ≡ true
-release_new He = refl
-release_new Ibr = refl
-release_new Wfe = refl
-
 new_grows : (layout : Layout) (k : ℕ) → is_valid layout ≡ true → Grows (PostFits layout k) New
 new_grows layout k v =
     let g = shape_grows layout k v in
     record {
       guarded = g.guarded;
       withdraws = g.withdraws;
+      copies = g.copies;
       idle = λ post q. refl;
       begins = λ post task ibr none q. refl;
       opens = λ post task s q. protect_new (scheme_of post);
@@ -111,11 +107,16 @@ new_grows layout k v =
       retires = λ post answer slot q. refl;
       tidies = λ post later q. refl;
       advances = λ post q. refl;
-      releases = λ post key q. release_new (scheme_of post);
+      clears_kept = λ post let_go n q. refl;
+      releases = λ post let_go i n q. refl;
       scans = λ post later number b q. refl;
       gives_back = λ post later place slot q. refl;
-      works = λ post work s q. refl;
+      works = λ post work n s q. refl;
     }
+
+stores_new : (work : Work) (post : Post) (found : ℕ) → Stores New post found work
+stores_new (Keeping (LoadHeld from index)) post found = λ n. refl
+stores_new work post found = tt
 
 -- where the head has moved, index 1 is cleared
 abbrev pub Moved : (interval : Bool) → Why → Ending → Phase → Type 0
@@ -154,7 +155,7 @@ turn_leads layout k v (Runs why base) post desk found q f =
     let m = shape_moves layout k v why base (counted post) found (counted_fits layout k post q) (run_counted layout why base post f) in
     resumed_leads layout k v why desk t.post t.told t.outcome m.post m.phase
 turn_leads layout k v (Scans later at) post desk found q f = let l = scan_left (new_grows layout k v) later at (counted post) desk found (counted_fits layout k post q) in l.phase
-turn_leads layout k v (Works work) post desk found q f = let l = work_left (new_grows layout k v) work (counted post) desk found f (counted_fits layout k post q) in l.phase
+turn_leads layout k v (Works work) post desk found q f = let l = work_left (new_grows layout k v) work (counted post) desk found (work_counted work post f) (stores_new work (counted post) found) (counted_fits layout k post q) in l.phase
 
 -- a step of a seat
 pub stepped_leads : (w : World) (i : ℕ) → is_valid w.layout ≡ true → Seats w → Left (is_ibr w.layout.config.scheme) (w.seat i).phase (counted (w.seat i).post) (finds w i) ((step w i).seat i).phase

@@ -24,7 +24,7 @@ use Rattle.wfe_core.specs.Phases.MoveAt.{LoadEra, LoadRequest, ShowEra, LoadAske
 use Rattle.wfe_core.specs.Phases.Base.{Protect, Move}
 use Rattle.wfe_core.specs.Calls.{ReadGuard, GiveBack, Phase, Idle, Runs, Scans, Works}
 use Rattle.wfe_core.proofs.Facts.{first_of, rest_of, and_false, or_false, false_not_true}
-use Rattle.law_answers.proofs.inv.history.Passes.{is_quiet, all_quiet, Closed, First}
+use Rattle.law_answers.proofs.inv.history.Passes.{is_quiet, all_quiet, Closed, First, work_told}
 use Rattle.laws.specs.StateAt.{shown_by}
 use Rattle.laws.specs.HistorySteps.{found_shown}
 use Rattle.laws.specs.StateAt.{is_found}
@@ -124,11 +124,12 @@ found_both : (i : ℕ) (xs ys : List Event) (b : Bool) → found_shown i (xs ++ 
 found_both i [] ys b = refl
 found_both i (x ∷ xs) ys b = or_along (is_found x && b) _ _ _ (found_both i xs ys (shown_by i x b))
 
--- events that tell nothing of guards, and hold nothing
+-- events that tell nothing of guards, and hold and copy nothing
 abbrev pub is_mute : Event → Bool
 is_mute (events.Reserve guard span) = false
 is_mute (events.Held index slot steps) = false
 is_mute (events.Null index steps) = false
+is_mute (events.Copied from index slot) = false
 is_mute event = true
 
 abbrev pub all_mute : List Event → Bool
@@ -155,6 +156,7 @@ quiet_one : (event : Event) → is_quiet event ≡ true → is_mute event ≡ tr
 quiet_one (events.Reserve guard span) h = absurd (cc)
 quiet_one (events.Held index slot steps) h = absurd (cc)
 quiet_one (events.Null index steps) h = absurd (cc)
+quiet_one (events.Copied from index slot) h = absurd (cc)
 quiet_one event h = refl
 
 pub quiet_mute : (told : List Event) → all_quiet told ≡ true → all_mute told ≡ true
@@ -242,6 +244,7 @@ one_mute : (base : Base) (post : Post) (found : ℕ) (event : Event) → publish
 one_mute base post found (events.Reserve guard span) p f t = absurd (false_not_true (may_publish base post found guard span) (bare base post found guard span p) t)
 one_mute base post found (events.Held index slot steps) p f t = absurd (cc)
 one_mute base post found (events.Null index steps) p f t = absurd (cc)
+one_mute base post found (events.Copied from index slot) p f t = absurd (cc)
 one_mute base post found event p f t = refl
 
 base_mute : (base : Base) (post : Post) (found : ℕ) → publishes base ≡ false → finds base ≡ false → all_mute (machine.after base post found).told ≡ true
@@ -333,4 +336,4 @@ first_shown i Idle post found s e = nothing i false
 first_shown i (Runs why base) post found s e = base_shown i base post found s e
 first_shown i (Scans later (ReadGuard number)) post found s e = record { left = refl; found = refl }
 first_shown i (Scans later (GiveBack place slot)) post found s e = record { left = refl; found = refl }
-first_shown i (Works work) post found s e = nothing i false
+first_shown i (Works work) post found s e = plain_shows i (work_told work post) (may.work_all is_plain (λ index slot. refl) (λ from index slot. refl) (λ seat index era. refl) work post)

@@ -22,5 +22,5 @@ loop-seat-preserved c =
     let pushed : c.push.new.self.items ≡ c.loop-seat.workers.items ++ c.new-in-Some.result ∷ [] = search rules in
     record {
       left = popped.0;
-      works = All-same (λ worker. WorksOn worker shared) c.push.new.self.items _ pushed (All-push (λ worker. WorksOn worker shared) c.loop-seat.workers.items c.new-in-Some.result i.works (of, slots));
+      works = All-same (λ worker. WorksOn worker shared) c.push.new.self.items _ pushed (All-push (λ worker. WorksOn worker shared) c.loop-seat.workers.items c.new-in-Some.result i.works (of, slots, c.requires.indexes));
     }

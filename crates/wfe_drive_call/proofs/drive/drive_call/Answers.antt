@@ -7,8 +7,29 @@ use Rattle.wfe_core.specs.DeskHeld.{desk_of}
 use Rattle.wfe_core.specs.Desks.{Desk, Notes, no_notes}
 use Rattle.wfe_core.specs.declared.desk.Desk.{Desk as HeldDesk}
 use Rattle.wfe_drive_change.specs.drive_words.Called.{at_phase}
-use Rattle.wfe_drive_change.proofs.drive_words.Makes.{Over, called_by, over_by}
+use Rattle.wfe_drive_change.proofs.drive_words.Makes.{Over, called_by, here_begun, over_by, starts_at}
 use Rattle.wfe_drive_call.proofs.drive.drive_call.Goals as goal
+
+pub start-requires-clause-idle : goal.start-requires-clause-idle
+start-requires-clause-idle g c = starts_at (g.W.Words.at c.args.words.now) c.args.post.now c.args.desk.now c.args.call c.requires.here c.requires.may
+
+pub drive_he-requires-clause-here : goal.drive_he-requires-clause-here
+drive_he-requires-clause-here g c =
+    let desk : HeldDesk = record c.args.desk.now { notes = c.clear.new.self } in
+    let cleared : desk_of desk ≡ record (desk_of c.args.desk.now) { notes = no_notes } = ap (λ (notes : Notes). let held : Desk = record (desk_of c.args.desk.now) { notes = notes } in held) c.clear.ensures.empty in
+    here_begun (g.W.Words.at c.args.words.now) (g.W.Words.at c.start.new.self) c.args.call c.args.post.now c.args.desk.now desk _ c.requires.here c.start.ensures.at c.requires.may refl cleared
+
+pub drive_ibr-requires-clause-here : goal.drive_ibr-requires-clause-here
+drive_ibr-requires-clause-here g c =
+    let desk : HeldDesk = record c.args.desk.now { notes = c.clear.new.self } in
+    let cleared : desk_of desk ≡ record (desk_of c.args.desk.now) { notes = no_notes } = ap (λ (notes : Notes). let held : Desk = record (desk_of c.args.desk.now) { notes = notes } in held) c.clear.ensures.empty in
+    here_begun (g.W.Words.at c.args.words.now) (g.W.Words.at c.start.new.self) c.args.call c.args.post.now c.args.desk.now desk _ c.requires.here c.start.ensures.at c.requires.may refl cleared
+
+pub drive_wfe-requires-clause-here : goal.drive_wfe-requires-clause-here
+drive_wfe-requires-clause-here g c =
+    let desk : HeldDesk = record c.args.desk.now { notes = c.clear.new.self } in
+    let cleared : desk_of desk ≡ record (desk_of c.args.desk.now) { notes = no_notes } = ap (λ (notes : Notes). let held : Desk = record (desk_of c.args.desk.now) { notes = notes } in held) c.clear.ensures.empty in
+    here_begun (g.W.Words.at c.args.words.now) (g.W.Words.at c.start.new.self) c.args.call c.args.post.now c.args.desk.now desk _ c.requires.here c.start.ensures.at c.requires.may refl cleared
 
 pub returns-in-He : goal.returns-in-He
 returns-in-He g c =
@@ -18,7 +39,7 @@ returns-in-He g c =
     let cleared : desk_of desk ≡ record (desk_of c.args.desk.now) { notes = no_notes } = ap (λ (notes : Notes). let held : Desk = record (desk_of c.args.desk.now) { notes = notes } in held) c.clear.ensures.empty in
     let called =
     called_by (words.at c.args.words.now) (words.at c.start.new.self) (words.at c.drive_he.new.words) (words.stands c.args.words.now) (words.stands c.start.new.self) (words.stands c.drive_he.new.words) c.args.call c.drive_he.result c.args.post.now c.args.desk.now desk _
-    (at_phase Idle c.drive_he.new.post c.drive_he.new.desk) c.start.ensures.at c.start.ensures.stands refl cleared c.drive_he.ensures.made in
+    (at_phase Idle c.drive_he.new.post c.drive_he.new.desk) c.start.ensures.at c.requires.may c.start.ensures.stands refl cleared c.drive_he.ensures.made in
     let over : Over (words.at c.drive_he.new.words) c.args.call c.drive_he.result c.args.post.now c.drive_he.new.post c.drive_he.new.desk =
     over_by (words.at c.args.words.now) (words.at c.drive_he.new.words) (words.stands c.args.words.now) (words.stands c.drive_he.new.words) c.args.call c.drive_he.result c.args.post.now c.args.desk.now c.drive_he.new.post c.drive_he.new.desk c.requires.here called in
     record {
@@ -39,7 +60,7 @@ returns-in-Ibr g c =
     let cleared : desk_of desk ≡ record (desk_of c.args.desk.now) { notes = no_notes } = ap (λ (notes : Notes). let held : Desk = record (desk_of c.args.desk.now) { notes = notes } in held) c.clear.ensures.empty in
     let called =
     called_by (words.at c.args.words.now) (words.at c.start.new.self) (words.at c.drive_ibr.new.words) (words.stands c.args.words.now) (words.stands c.start.new.self) (words.stands c.drive_ibr.new.words) c.args.call c.drive_ibr.result c.args.post.now c.args.desk.now desk _
-    (at_phase Idle c.drive_ibr.new.post c.drive_ibr.new.desk) c.start.ensures.at c.start.ensures.stands refl cleared c.drive_ibr.ensures.made in
+    (at_phase Idle c.drive_ibr.new.post c.drive_ibr.new.desk) c.start.ensures.at c.requires.may c.start.ensures.stands refl cleared c.drive_ibr.ensures.made in
     let over : Over (words.at c.drive_ibr.new.words) c.args.call c.drive_ibr.result c.args.post.now c.drive_ibr.new.post c.drive_ibr.new.desk =
     over_by (words.at c.args.words.now) (words.at c.drive_ibr.new.words) (words.stands c.args.words.now) (words.stands c.drive_ibr.new.words) c.args.call c.drive_ibr.result c.args.post.now c.args.desk.now c.drive_ibr.new.post c.drive_ibr.new.desk c.requires.here called in
     record {
@@ -60,7 +81,7 @@ returns-in-Wfe g c =
     let cleared : desk_of desk ≡ record (desk_of c.args.desk.now) { notes = no_notes } = ap (λ (notes : Notes). let held : Desk = record (desk_of c.args.desk.now) { notes = notes } in held) c.clear.ensures.empty in
     let called =
     called_by (words.at c.args.words.now) (words.at c.start.new.self) (words.at c.drive_wfe.new.words) (words.stands c.args.words.now) (words.stands c.start.new.self) (words.stands c.drive_wfe.new.words) c.args.call c.drive_wfe.result c.args.post.now c.args.desk.now desk _
-    (at_phase Idle c.drive_wfe.new.post c.drive_wfe.new.desk) c.start.ensures.at c.start.ensures.stands refl cleared c.drive_wfe.ensures.made in
+    (at_phase Idle c.drive_wfe.new.post c.drive_wfe.new.desk) c.start.ensures.at c.requires.may c.start.ensures.stands refl cleared c.drive_wfe.ensures.made in
     let over : Over (words.at c.drive_wfe.new.words) c.args.call c.drive_wfe.result c.args.post.now c.drive_wfe.new.post c.drive_wfe.new.desk =
     over_by (words.at c.args.words.now) (words.at c.drive_wfe.new.words) (words.stands c.args.words.now) (words.stands c.drive_wfe.new.words) c.args.call c.drive_wfe.result c.args.post.now c.args.desk.now c.drive_wfe.new.post c.drive_wfe.new.desk c.requires.here called in
     record {

@@ -1,7 +1,5 @@
 -- What the round has made, and what its end makes.
-use Rattle.std.proofs.Common.{ap, sym, ◌∙◌}
-use Rattle.wfe_core.specs.words.Schemes.{has_one_interval}
-use Rattle.wfe_core.specs.words.declared.layout.Layout.{Layout}
+use Rattle.std.proofs.Common.{ap, sym}
 use Rattle.wfe_core.specs.Calls.{ChangeKept, Changes}
 use Rattle.wfe_core.specs.Rounds.{round}
 use Rattle.wfe_drive_queue.specs.drive_words.Called.{at_phase}
@@ -12,16 +10,13 @@ pub loop-answer-init : goal.loop-answer-init
 loop-answer-init g c = record {
   valid = c.requires.valid;
   same = g.W.Words.same_self c.args.words.now;
-  clears = c.requires.clears;
+  free = c.requires.free;
   room = c.requires.room;
   leads = leads_as _ _ (ap (λ (kept : ChangeKept). at_phase (round (Changes kept) c.args.post.now) c.args.post.now c.args.desk.now) (sym c.new-kept.ensures)) (leads_none (g.W.Words.at c.args.words.now) (g.W.Words.stands c.args.words.now) _);
 }
 
 pub make_round-ending-requires-clause-here : goal.make_round-ending-requires-clause-here
 make_round-ending-requires-clause-here g c = here_on c.requires.here c.loop-answer.invariant.leads
-
-pub end_round-requires-clause-clears : goal.end_round-requires-clause-clears
-end_round-requires-clause-clears g c = ap (λ (layout : Layout). has_one_interval layout.config.scheme) c.make_round-ending.ensures.layout ∙ c.loop-answer.invariant.clears
 
 pub end_round-requires-clause-here : goal.end_round-requires-clause-here
 end_round-requires-clause-here g c = here_on (here_on c.requires.here c.loop-answer.invariant.leads) c.make_round-ending.ensures.leads
@@ -36,7 +31,7 @@ pub loop-answer-preserved : goal.loop-answer-preserved
 loop-answer-preserved g c = record {
   valid = c.end_round.ensures.valid;
   same = g.W.Words.same_on _ _ _ (g.W.Words.same_on _ _ _ c.loop-answer.invariant.same c.make_round-ending.ensures.same) c.end_round.ensures.same;
-  clears = ap (λ (layout : Layout). has_one_interval layout.config.scheme) (c.in-None.ensures.ends.1 ∙ c.make_round-ending.ensures.layout) ∙ c.loop-answer.invariant.clears;
+  free = c.in-None.ensures.ends.2;
   room = c.end_round.ensures.room;
-  leads = then_leads (then_leads c.loop-answer.invariant.leads c.make_round-ending.ensures.leads) c.in-None.ensures.ends.2;
+  leads = then_leads (then_leads c.loop-answer.invariant.leads c.make_round-ending.ensures.leads) c.in-None.ensures.ends.3;
 }

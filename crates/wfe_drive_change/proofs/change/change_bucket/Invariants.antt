@@ -1,11 +1,10 @@
 -- So many rounds were made.
-use Rattle.std.proofs.Common.{false, ◌≡◌}
-use Rattle.wfe_core.specs.words.Schemes.{has_one_interval}
 use Rattle.wfe_core.specs.Calls.{Changes}
 use Rattle.wfe_core.specs.DeskHeld.{HasRoom}
 use Rattle.wfe_core.specs.Rounds.{round}
 use Rattle.wfe_drive_queue.specs.drive_words.Called.{at_phase}
 use Rattle.wfe_drive_queue.specs.drive_words.Path.{Leads}
+use Rattle.wfe_drive_queue.specs.drive_runs.Pieces.{IsFree}
 use Rattle.wfe_drive_change.specs.Changing.{first_kept, kept_of}
 use Rattle.wfe_drive_change.proofs.change.change_bucket.Given as goal
 
@@ -15,10 +14,10 @@ invariant-loop-answer g l =
     record {
       valid : words.valid l.words;
       same : words.same l.fn.words l.words;
-      clears : has_one_interval l.post.layout.config.scheme ≡ false;
+      free : IsFree l.post;
       room : HasRoom l.desk l.post.layout;
       leads : Leads (words.at l.fn.words) (words.at l.words) (words.stands l.fn.words) (words.stands l.words)
-          (at_phase (round (Changes (first_kept l.fn.change)) l.fn.post) l.fn.post l.fn.desk) (at_phase (round (Changes (kept_of l.kept)) l.post) l.post l.desk);
+          (at_phase (round (Changes (first_kept l.fn.change l.fn.wanted)) l.fn.post) l.fn.post l.fn.desk) (at_phase (round (Changes (kept_of l.kept)) l.post) l.post l.desk);
     }
 
 abbrev pub decreases-loop-answer : goal.decreases-loop-answer

@@ -2,8 +2,10 @@
 use Rattle.std.proofs.Common.{Option, ap, ℕ}
 use Rattle.wfe_core.specs.Calls.{ExchangeRoot}
 use Rattle.wfe_core.specs.DeskHeld.{desk_of}
+use Rattle.wfe_core.specs.declared.post.Post.{Post}
 use Rattle.wfe_core.specs.Steps.{slot_in}
 use Rattle.wfe_drive_queue.proofs.drive_words.Leading.{here_as, here_on, leads_as, then_leads}
+use Rattle.wfe_drive_queue.proofs.drive_runs.Spanning.{free_stays}
 use Rattle.wfe_drive_change.specs.Changing.{kept_of, step_post, works_at}
 use Rattle.wfe_drive_change.proofs.Standing.{ready_here, valid_steps}
 use Rattle.wfe_drive_change.proofs.fill.link_row.Goals as goal
@@ -38,3 +40,6 @@ returns-clause-leads g c =
 
 pub returns-clause-same : goal.returns-clause-same
 returns-clause-same g c = g.W.Words.same_on _ _ _ c.write_row-steps.ensures.same c.exchange.ensures.same
+
+pub returns-clause-free : goal.returns-clause-free
+returns-clause-free g c = free_stays c.args.post.now c.exchange.new.post (ap (λ (post : Post). post.layout) c.exchange.ensures.post) (ap (λ (post : Post). post.standing) c.exchange.ensures.post) c.requires.free

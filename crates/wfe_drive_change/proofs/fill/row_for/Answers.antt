@@ -5,7 +5,8 @@ use Rattle.wfe_core.specs.Change.{no_room, with_taken, with_walked, new_row}
 use Rattle.wfe_core.specs.DeskHeld.{desk_of}
 use Rattle.wfe_core.specs.WriteRow.{writing}
 use Rattle.wfe_drive_queue.proofs.drive_words.Leading.{here_as, leads_as, leads_from, leads_none}
-use Rattle.wfe_drive_queue.proofs.drive_words.Turning.{went_on}
+use Rattle.wfe_drive_queue.proofs.drive_runs.Spanning.{free_stays}
+use Rattle.wfe_drive_queue.proofs.drive_runs.Turning.{went_on}
 use Rattle.wfe_drive_change.specs.Changing.{kept_of}
 use Rattle.wfe_drive_change.proofs.RowFilling.{clears_noted, fills_taken, fills_walk}
 use Rattle.wfe_drive_change.proofs.fill.row_for.Goals as goal
@@ -33,3 +34,9 @@ returns-in-Full-clause-taken g c =
     let walks = fills_walk kept c.args.post.now (desk_of c.args.desk.now) c.in-None.is in
     let ended = c.in-Full.ensures.ends (Fills (Changes kept)) (here_as _ _ walks c.requires.here) in
     leads_from _ _ (sym walks) (leads_as _ _ (clears_noted (with_walked kept) (no_room kept.walked) c.take_row.new.post ended.before ended.told c.take_row.new.desk ended.noted) ended.turns.leads)
+
+pub returns-in-Given-clause-free : goal.returns-in-Given-clause-free
+returns-in-Given-clause-free g c = free_stays c.args.post.now c.take_row.new.post c.in-Given.ensures.layout c.in-Given.ensures.standing c.requires.free
+
+pub returns-in-Full-clause-free : goal.returns-in-Full-clause-free
+returns-in-Full-clause-free g c = free_stays c.args.post.now c.take_row.new.post c.in-Full.ensures.layout c.in-Full.ensures.standing c.requires.free

@@ -4,7 +4,7 @@ use Rattle.wfe_core.specs.Calls.{ChangeKept, LoadVersion}
 use Rattle.wfe_core.specs.DeskHeld.{desk_of}
 use Rattle.wfe_drive_queue.proofs.drive_words.Leading.{here_as, leads_from}
 use Rattle.wfe_drive_change.specs.Changing.{works_at}
-use Rattle.wfe_drive_change.proofs.Standing.{ready_here, valid_steps}
+use Rattle.wfe_drive_change.proofs.Standing.{ready_here}
 use Rattle.wfe_drive_change.proofs.opening.read_held.Goals as goal
 
 pub overflow_add-slot : goal.overflow_add-slot
@@ -21,9 +21,6 @@ read_row-steps-requires-clause-none g c = ap (λ (kept : ChangeKept). kept.pairs
 pub read_row-steps-requires-clause-here : goal.read_row-steps-requires-clause-here
 read_row-steps-requires-clause-here g c =
     here_as _ _ (ap (λ (kept : ChangeKept). works_at kept (LoadVersion c.args.slot) c.args.post.now (desk_of c.args._desk.now)) (sym c.protected.ensures)) c.requires.here
-
-pub returns-clause-own : goal.returns-clause-own
-returns-clause-own g c = valid_steps c.args.post.now c.read_row-steps.result (ready_here (g.W.Words.comes c.args.words.now) c.requires.valid c.requires.here).valid
 
 pub returns-clause-leads : goal.returns-clause-leads
 returns-clause-leads g c =

@@ -5,10 +5,10 @@ use Rattle.wfe_core.specs.declared.post.Post.{Post}
 use Rattle.wfe_core.specs.defs.declared.call.Answer.TheVariants as answers
 use Rattle.wfe_drive_queue.specs.Items.{kept_of}
 use Rattle.wfe_drive_queue.specs.drive_words.Path.{stepped}
-use Rattle.wfe_drive_queue.specs.drive_words.Pieces.{clearing_at, seat_of}
+use Rattle.wfe_drive_queue.specs.drive_runs.Pieces.{clearing_at, seat_of}
 use Rattle.wfe_drive_queue.proofs.Appending.{at_steps, is_linked, is_lost, queued, two}
-use Rattle.wfe_drive_words.proofs.Leading.{few_here, here_on, leads_as, then_leads}
-use Rattle.wfe_drive_words.proofs.Turning.{asks_seat, may_here}
+use Rattle.wfe_drive_runs.proofs.drive_words.Leading.{few_here, here_on, leads_as, then_leads}
+use Rattle.wfe_drive_runs.proofs.Turning.{asks_seat, may_here}
 use Rattle.wfe_drive_queue.proofs.append.append.Goals as goal
 
 pub link_next-requires-clause-valid : goal.link_next-requires-clause-valid

@@ -3,10 +3,10 @@ use Rattle.std.proofs.Common.{arith, refl, ◌+◌, ◌-◌, ◌<◌, ◌==◌, 
 use Rattle.wfe_core.specs.Calls.{Enqueuing, PassTail, Works}
 use Rattle.wfe_drive_queue.specs.Items.{kept_of}
 use Rattle.wfe_drive_queue.specs.drive_words.Path.{stepped}
-use Rattle.wfe_drive_queue.specs.drive_words.Pieces.{seat_of}
+use Rattle.wfe_drive_queue.specs.drive_runs.Pieces.{seat_of}
 use Rattle.wfe_drive_queue.proofs.Appending.{passed}
-use Rattle.wfe_drive_words.proofs.Leading.{few_here, leads_as}
-use Rattle.wfe_drive_words.proofs.Turning.{asks_seat, may_here}
+use Rattle.wfe_drive_runs.proofs.drive_words.Leading.{few_here, leads_as}
+use Rattle.wfe_drive_runs.proofs.Turning.{asks_seat, may_here}
 use Rattle.wfe_drive_queue.proofs.append.pass_tail.Goals as goal
 
 pub move_tail-requires-clause-valid : goal.move_tail-requires-clause-valid

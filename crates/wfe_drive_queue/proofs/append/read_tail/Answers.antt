@@ -7,10 +7,10 @@ use Rattle.wfe_core.specs.declared.post.Post.{Post}
 use Rattle.wfe_drive_queue.specs.Items.{kept_of}
 use Rattle.wfe_drive_queue.specs.drive_words.drive_cells.Unit.{seat_after}
 use Rattle.wfe_drive_queue.specs.drive_words.Path.{stepped}
-use Rattle.wfe_drive_queue.specs.drive_words.Pieces.{seat_of}
+use Rattle.wfe_drive_queue.specs.drive_runs.Pieces.{seat_of}
 use Rattle.wfe_drive_queue.proofs.Appending.{at_steps, two}
-use Rattle.wfe_drive_words.proofs.Leading.{few_here, here_on, leads_as, then_leads}
-use Rattle.wfe_drive_words.proofs.Turning.{asks_seat, may_here}
+use Rattle.wfe_drive_runs.proofs.drive_words.Leading.{few_here, here_on, leads_as, then_leads}
+use Rattle.wfe_drive_runs.proofs.Turning.{asks_seat, may_here}
 use Rattle.wfe_drive_queue.proofs.append.read_tail.Goals as goal
 
 pub step-number-requires-clause-asks : goal.step-number-requires-clause-asks

@@ -1,6 +1,6 @@
 -- The row is filled and then linked.
 use Rattle.wfe_core.specs.DeskHeld.{desk_of}
-use Rattle.wfe_drive_words.proofs.Leading.{here_on, then_leads}
+use Rattle.wfe_drive_runs.proofs.drive_words.Leading.{here_on, then_leads}
 use Rattle.wfe_drive_queue.proofs.enqueue.link_filled.Goals as goal
 
 pub append-requires-clause-here : goal.append-requires-clause-here

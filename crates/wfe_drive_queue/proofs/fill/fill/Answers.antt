@@ -4,8 +4,8 @@ use Rattle.wfe_core.specs.Calls.{Enqueues, Fills, Runs}
 use Rattle.wfe_core.specs.Enqueue.{filling_by}
 use Rattle.wfe_drive_queue.specs.Items.{kept_of}
 use Rattle.wfe_drive_queue.specs.drive_words.Called.{at_phase}
-use Rattle.wfe_drive_words.proofs.Leading.{here_as, leads_from, then_leads}
-use Rattle.wfe_drive_words.proofs.Turning.{leads_so}
+use Rattle.wfe_drive_runs.proofs.drive_words.Leading.{here_as, leads_from, then_leads}
+use Rattle.wfe_drive_runs.proofs.Turning.{leads_so}
 use Rattle.wfe_drive_queue.proofs.Appending.{none_free, row_given}
 use Rattle.wfe_drive_queue.proofs.fill.fill.Goals as goal
 

@@ -5,8 +5,8 @@ use Rattle.wfe_core.specs.DeskHeld.{desk_of}
 use Rattle.wfe_core.specs.Steps.{slot_in}
 use Rattle.wfe_drive_queue.specs.Items.{kept_of}
 use Rattle.wfe_drive_queue.specs.drive_words.Called.{at_phase}
-use Rattle.wfe_drive_words.proofs.Leading.{leads_as}
-use Rattle.wfe_drive_words.proofs.Turning.{may_here}
+use Rattle.wfe_drive_runs.proofs.drive_words.Leading.{leads_as}
+use Rattle.wfe_drive_runs.proofs.Turning.{may_here}
 use Rattle.wfe_drive_queue.proofs.fill.write.Goals as goal
 
 pub overflow_add-item : goal.overflow_add-item

@@ -1,9 +1,9 @@
 -- The protection of the next link comes after it.
 use Rattle.std.proofs.Common.{arith, refl, ◌<◌, ◌^◌}
 use Rattle.wfe_core.specs.Calls.{Dequeuing, LoadTail, Works}
-use Rattle.wfe_drive_queue.specs.drive_words.Pieces.{seat_of}
-use Rattle.wfe_drive_words.proofs.Leading.{few_here}
-use Rattle.wfe_drive_words.proofs.Turning.{asks_seat, may_here}
+use Rattle.wfe_drive_queue.specs.drive_runs.Pieces.{seat_of}
+use Rattle.wfe_drive_runs.proofs.drive_words.Leading.{few_here}
+use Rattle.wfe_drive_runs.proofs.Turning.{asks_seat, may_here}
 use Rattle.wfe_drive_queue.proofs.take.read_end.Goals as goal
 
 pub load_end-requires : goal.load_end-requires

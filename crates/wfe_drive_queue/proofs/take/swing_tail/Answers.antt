@@ -2,10 +2,10 @@
 use Rattle.std.proofs.Common.{arith, refl, ◌+◌, ◌<◌, ◌==◌, ◌^◌}
 use Rattle.wfe_core.specs.Calls.{Dequeuing, SwingTail, Works}
 use Rattle.wfe_drive_queue.specs.drive_words.Path.{stepped}
-use Rattle.wfe_drive_queue.specs.drive_words.Pieces.{seat_of}
+use Rattle.wfe_drive_queue.specs.drive_runs.Pieces.{seat_of}
 use Rattle.wfe_drive_queue.proofs.Taking.{swung}
-use Rattle.wfe_drive_words.proofs.Leading.{few_here, leads_as}
-use Rattle.wfe_drive_words.proofs.Turning.{asks_seat, may_here}
+use Rattle.wfe_drive_runs.proofs.drive_words.Leading.{few_here, leads_as}
+use Rattle.wfe_drive_runs.proofs.Turning.{asks_seat, may_here}
 use Rattle.wfe_drive_queue.proofs.take.swing_tail.Goals as goal
 
 pub move_end-requires-clause-valid : goal.move_end-requires-clause-valid

@@ -13,8 +13,8 @@ invariant-loop-link g l =
       valid : words.valid l.words;
       same : words.same l.fn.words l.words;
       rest : words.rest l.words ≤ words.rest l.fn.words;
-      leads : (t : Trial) (index : ℕ) → Here (words.at l.fn.words) (protecting t index l.root LoadWithin (spanned l.post l.first l.first)) → (n : ℕ)
-          × Leads (words.at l.fn.words) (words.at l.words) (words.stands l.fn.words) (words.stands l.words) (protecting t index l.root LoadWithin (spanned l.post l.first l.first)) (protecting (looking t n l.steps) index l.root LoadWithin (spanned l.post l.first l.era));
+      leads : (t : Trial) (index : ℕ) → Here (words.at l.fn.words) (protecting t index l.root LoadWithin (spanned l.post l.lo l.hi)) → (n : ℕ)
+          × Leads (words.at l.fn.words) (words.at l.words) (words.stands l.fn.words) (words.stands l.words) (protecting t index l.root LoadWithin (spanned l.post l.lo l.hi)) (protecting (looking t n l.steps) index l.root LoadWithin (spanned l.post l.lo l.era));
     }
 
 abbrev pub decreases-loop-link : goal.decreases-loop-link

@@ -1,7 +1,11 @@
-use Rattle.std.proofs.Common.{ap, length, sym, ◌∙◌}
+use Rattle.std.proofs.Common.{List, ap, length, subst, sym, ◌∙◌}
 use Rattle.std.proofs.lemmas.List.{length-map}
+use Rattle.std.specs.declared.alloc.Global.{Global}
+use Rattle.std.specs.declared.vec.Vec.{Vec}
+use Rattle.wfe_core.specs.defs.declared.call.Call.{Call}
 use Rattle.wfe_core.specs.words.declared.layout.Layout.{Layout}
 use Rattle.wfe_server_run.specs.Comes.{lists_in}
+use Rattle.wfe_server_run.specs.Fitting.{AllBegin}
 use Rattle.wfe_server_run.proofs.Coming.{count_of_all, each_of, layout_made, run_comes, run_fits, run_of}
 use Rattle.wfe_server_run.proofs.Parting.{all_ready}
 use Rattle.wfe_server_run.proofs.threads.run_threads.Goals as goal
@@ -14,7 +18,10 @@ work_all-requires-clause-scripts g c κs within =
 pub work_all-requires-clause-ready : goal.work_all-requires-clause-ready
 work_all-requires-clause-ready g c κs within =
     let made = layout_made c.args.config c.in-Ok.shared.layout c.requires.config c.in-Ok.ensures.made.0 in
-    all_ready c.in-Ok.shared c.in-Ok.seats.items (length c.deref.result.now) c.in-Ok.ensures.made.1 (ap length c.deref.ensures.value ∙ c.requires.scripts ∙ sym (ap (λ (l : Layout). l.config.seats) made))
+    let fits =
+    subst (λ (vectors : List (Vec Call Global)). AllBegin c.in-Ok.shared.layout.config (lists_in vectors)) (sym c.deref.ensures.value)
+    (subst (λ (l : Layout). AllBegin l.config (lists_in c.args.scripts.items)) (sym made) c.requires.fits) in
+    all_ready c.in-Ok.shared c.in-Ok.seats.items c.deref.result.now c.in-Ok.ensures.made.1 (ap length c.deref.ensures.value ∙ c.requires.scripts ∙ sym (ap (λ (l : Layout). l.config.seats) made)) fits
 
 pub close-requires : goal.close-requires
 close-requires g c =

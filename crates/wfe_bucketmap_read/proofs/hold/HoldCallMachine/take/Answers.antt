@@ -7,7 +7,7 @@ use Rattle.wfe_call_rounds.specs.iface.Schemes.{round_phases}
 use Rattle.wfe_call_rounds.specs.Steps.{Steps}
 use Rattle.wfe_call_rounds.proofs.Taken.{took_from, steps_along}
 use Rattle.wfe_bucketmap_read.specs.Holds.{hold_phase}
-use Rattle.wfe_bucketmap_read.proofs.Holding.{hold_phase_counted, hold_ready}
+use Rattle.wfe_bucketmap_read.proofs.Holding.{hold_phase_counted, hold_plausible, hold_ready}
 use Rattle.wfe_bucketmap_read.proofs.hold.HoldCallMachine.take.Goals as goal
 use Rattle.wfe_call_rounds.proofs.iface.Followed.{bumped}
 
@@ -30,3 +30,7 @@ returns-clause-took g c =
     hold_phase_counted phases g.S.Release.Machine.phase c.args.self.now.key c.args.self.now.at post
     ) steps
     ) c.settle.ensures.told c.settle.ensures.desk
+
+pub step-answer-requires-clause-plausible : goal.step-answer-requires-clause-plausible
+step-answer-requires-clause-plausible g c =
+    hold_plausible (round_phases g.S.Begin.Machine.phase g.S.Protect.Machine.phase g.S.Clear.Machine.phase g.S.Finish.Machine.phase) g.S.Release.Machine.phase c.args.self.now.key c.args.self.now.at c.args.post.now c.saturating_add-post.result c.args.found c.requires.plausible

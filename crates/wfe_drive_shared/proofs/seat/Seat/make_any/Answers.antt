@@ -1,6 +1,7 @@
 -- The seat after its call, whose handle, post and desk went through it together.
-use Rattle.std.proofs.Common.{ap, subst, sym, ◌∙◌, ◌≡◌}
+use Rattle.std.proofs.Common.{ap, subst, sym, true, ◌∙◌, ◌≡◌}
 use Rattle.wfe_core.specs.Calls.{Idle}
+use Rattle.wfe_core.specs.Locals.{may_begin}
 use Rattle.wfe_core.specs.words.declared.layout.Layout.{Layout}
 use Rattle.wfe_drive_call.specs.drive_words.Called.{at_phase}
 use Rattle.wfe_drive_rule.specs.drive_cells.Unit.{SeatView}
@@ -12,6 +13,11 @@ use Rattle.wfe_drive_shared.specs.Public.{SeatNow}
 use Rattle.wfe_drive_shared.specs.Sound.{IsMet}
 use Rattle.wfe_drive_shared.proofs.Made.{made_by, met_more, over, seated_as}
 use Rattle.wfe_drive_shared.proofs.seat.Seat.make_any.Goals as goal
+
+pub drive_call-answer-requires-clause-may : goal.drive_call-answer-requires-clause-may
+drive_call-answer-requires-clause-may c =
+    let key : c.self.inside.post.layout ≡ c.args.ledger.now.key = sym (ap (λ (v : SeatView). v.post.layout) c.self.invariant.here) ∙ ap (λ (s : SeatNow). s.track.local.post.layout) c.self.view_is ∙ c.requires.layout in
+    subst (λ (d : Layout). may_begin d.config c.args.call ≡ true) (sym key) c.requires.may
 
 pub invariant_of-self : goal.invariant_of-self
 invariant_of-self c =

@@ -1,5 +1,5 @@
 use Rattle.std.proofs.Common.{◌∙◌}
-use Rattle.wfe_drive_shared.proofs.TableWords.{comes_standing}
+use Rattle.wfe_drive_shared.proofs.TableWords.{comes_standing, may_standing}
 use Rattle.wfe_drive_shared.proofs.words.TableWordsWords.start.Goals as goal
 
 pub returns-clause-valid : goal.returns-clause-valid
@@ -10,3 +10,6 @@ returns-clause-valid c = record {
   comes = comes_standing _ _ _ c.begin.ensures.seated;
   later = λ e. absurd (cc e);
 }
+
+pub begin-requires-clause-may : goal.begin-requires-clause-may
+begin-requires-clause-may c = may_standing _ _ _ c.requires.idle.0 c.args.call c.requires.valid.seated c.requires.idle.1 c.requires.idle.3

@@ -1,11 +1,15 @@
 use Rattle.std.proofs.Common.{◌∙◌}
 use Rattle.wfe_server_out.proofs.Texts.{on_err}
+use Rattle.wfe_server.proofs.Calls.{turn_may}
 use Rattle.wfe_server.proofs.Turning.{began, began_layout, ran_layout, seat_within, turn_err, turn_first, turn_is, turn_made, turn_ok, turn_second}
 use Rattle.wfe_server.proofs.table.Table.turn.Goals as goal
 
 pub start-requires-clause-seat : goal.start-requires-clause-seat
 start-requires-clause-seat g c =
     seat_within c.of-turn.result c.args.a c.args.b c.args.self.now.played.table.layout c.run.new.self.played.table.layout c.of-turn.ensures c.requires (ran_layout c.of-turn.result.seat c.args.self.now.played c.run.new.self.played c.in_ok-run.ensures.after)
+
+pub start-requires-clause-may : goal.start-requires-clause-may
+start-requires-clause-may g c = turn_may c.of-turn.result c.args.a c.args.b c.run.new.self.played.table.layout.config c.of-turn.ensures
 
 pub step-requires : goal.step-requires
 step-requires g c =

@@ -1,0 +1,59 @@
+-- What is ready, or may be found, at one count of steps is so at another.
+use Rattle.std.proofs.Common.{rules, ℕ, Option, Some, None}
+use Rattle.wfe_core.specs.declared.post.Post.{Post}
+use Rattle.wfe_core.specs.CallReady.{IsCallPlausible, IsCallReady, get_ready}
+use Rattle.wfe_core.specs.Calls.{LetGo, GetAt, FindVersion, FindCount, FindKey, FindValue}
+use Rattle.wfe_core.specs.Desks.{Desk}
+use Rattle.wfe_core.specs.Phases.{Base}
+use Rattle.wfe_core.specs.Posts.{stands}
+use Rattle.wfe_core.specs.Ready.{IsReady, Plausible}
+use Rattle.wfe_core.specs.Rounds.{scheme_of, let_index, letting_by, release_base}
+use Rattle.wfe_core.specs.Steps.{copying, looking_at}
+use Rattle.wfe_bucketmap_read.specs.declared.copy.CopyAt.{CopyAt}
+use Rattle.wfe_bucketmap_read.specs.declared.copy.CopyAt.TheVariants.{Loads, Stores}
+use Rattle.wfe_bucketmap_read.specs.declared.look.LookAt.{LookAt}
+use Rattle.wfe_bucketmap_read.specs.declared.look.LookAt.TheVariants.{Starts, Finds}
+use Rattle.wfe_bucketmap_read.specs.Copies.{copy_phase}
+use Rattle.wfe_bucketmap_read.specs.Finds.{find_of}
+use Rattle.wfe_bucketmap_read.specs.Lettings.{let_phase}
+use Rattle.wfe_bucketmap_read.specs.Looks.{look_phase}
+
+pub base_ready : (post : Post) (steps : ℕ) (base : Base) → IsReady base post → IsReady base (record post { steps = steps })
+base_ready post steps base h = search rules
+
+pub base_plausible : (post : Post) (steps found : ℕ) (base : Base) → Plausible base post found → Plausible base (record post { steps = steps }) found
+base_plausible post steps found base h = search rules
+
+pub letting_by_plausible : (let_go : LetGo) (post : Post) (steps found : ℕ) (base : Option Base) → IsCallPlausible (letting_by let_go base) post found → IsCallPlausible (letting_by let_go base) (record post { steps = steps }) found
+letting_by_plausible let_go post steps found None h = h
+letting_by_plausible let_go post steps found (Some base) h = base_plausible post steps found base h
+
+pub letting_by_ready : (let_go : LetGo) (post : Post) (desk : Desk) (steps : ℕ) (base : Option Base) → IsCallReady (letting_by let_go base) post desk → IsCallReady (letting_by let_go base) (record post { steps = steps }) desk
+letting_by_ready let_go post desk steps None h = h
+letting_by_ready let_go post desk steps (Some base) h = (base_ready post steps base h.0, h.1)
+
+pub let_ready : {R : Type 0} (release : R → Base) (let_go : LetGo) (at : Option R) (post : Post) (desk : Desk) (steps : ℕ) → IsCallReady (let_phase release let_go at post) post desk → IsCallReady (let_phase release let_go at (record post { steps = steps })) (record post { steps = steps }) desk
+let_ready release let_go None post desk steps h = letting_by_ready let_go post desk steps (release_base (scheme_of post) post (let_index let_go)) h
+let_ready release let_go (Some machine) post desk steps h = (base_ready post steps (release machine) h.0, h.1)
+
+copying_ready : (from index : ℕ) (post : Post) (desk : Desk) (steps : ℕ) (held : Option ℕ) → IsCallReady (copying from index held) post desk → IsCallReady (copying from index held) (record post { steps = steps }) desk
+copying_ready from index post desk steps None h = h
+copying_ready from index post desk steps (Some slot) h = h
+
+pub copy_ready : (from index : ℕ) (at : CopyAt) (post : Post) (desk : Desk) (steps : ℕ) → IsCallReady (copy_phase from index at post) post desk → IsCallReady (copy_phase from index at (record post { steps = steps })) (record post { steps = steps }) desk
+copy_ready from index Loads post desk steps h = copying_ready from index post desk steps (stands post from) h
+copy_ready from index (Stores era) post desk steps h = h
+
+get_ready_at : (at : GetAt) (post : Post) (steps : ℕ) → get_ready at post → get_ready at (record post { steps = steps })
+get_ready_at (FindVersion slot) post steps h = h
+get_ready_at (FindCount slot version) post steps h = h
+get_ready_at (FindKey slot version count pair) post steps h = h
+get_ready_at (FindValue slot version pair) post steps h = h
+
+looking_ready : (index key : ℕ) (post : Post) (desk : Desk) (steps : ℕ) (held : Option ℕ) → IsCallReady (looking_at index key held) post desk → IsCallReady (looking_at index key held) (record post { steps = steps }) desk
+looking_ready index key post desk steps None h = h
+looking_ready index key post desk steps (Some slot) h = h
+
+pub look_ready : (index key : ℕ) (at : LookAt) (post : Post) (desk : Desk) (steps : ℕ) → IsCallReady (look_phase index key at post) post desk → IsCallReady (look_phase index key at (record post { steps = steps })) (record post { steps = steps }) desk
+look_ready index key Starts post desk steps h = looking_ready index key post desk steps (stands post index) h
+look_ready index key (Finds find) post desk steps h = get_ready_at (find_of find) post steps h

@@ -1,0 +1,32 @@
+use Rattle.std.proofs.Common.{◌≡◌, ◌++◌, [], arith}
+use Rattle.wfe_core.specs.DeskHeld.{desk_of, told_answer}
+use Rattle.wfe_core.specs.Memory.{bump}
+use Rattle.wfe_core.specs.Posts.{counted}
+use Rattle.wfe_core.specs.Steps.{phase_turn}
+use Rattle.wfe_call_rounds.specs.Steps.{Steps}
+use Rattle.wfe_call_rounds.proofs.Taken.{took_from, steps_along}
+use Rattle.wfe_call_rounds.proofs.iface.Followed.{bumped}
+use Rattle.wfe_bucketmap_read.specs.Looks.{look_phase}
+use Rattle.wfe_bucketmap_read.proofs.Counting.{look_ready}
+use Rattle.wfe_bucketmap_read.proofs.Looking.{look_phase_counted}
+use Rattle.wfe_bucketmap_read.proofs.look.LookCallMachine.take.Goals as goal
+
+pub step-answer-requires-clause-ready : goal.step-answer-requires-clause-ready
+step-answer-requires-clause-ready g c =
+    look_ready c.args.self.now.index c.args.self.now.key c.args.self.now.at c.args.post.now (desk_of c.args.desk.now) c.saturating_add-post.result c.requires.ready
+
+pub returns-clause-took : goal.returns-clause-took
+returns-clause-took g c =
+    let post = c.args.post.now in
+    let desk = desk_of c.args.desk.now in
+    let more : c.saturating_add-post.result ≡ bump post.steps = bumped c.saturating_add-post.result post.steps (omega arith) c.saturating_add-post.ensures in
+    let before = look_phase c.args.self.now.index c.args.self.now.key c.args.self.now.at post in
+    let along = look_phase c.args.self.now.index c.args.self.now.key c.args.self.now.at (counted post) in
+    let next = look_phase c.step-answer.new.self.index c.step-answer.new.self.key c.step-answer.new.self.at (counted post) in
+    let steps : Steps (phase_turn along (counted post) desk c.args.found) (counted post) desk [] c.step-answer.result next = rw more at c.step-answer.ensures in
+    let told : c.settle.new.told ≡ [] ++ told_answer (counted post) c.step-answer.result = rw (← more) (rw c.requires.empty at c.settle.ensures.told) in
+    rw more (
+    took_from (phase_turn before (counted post) desk c.args.found) (counted post) desk [] c.settle.new.told c.step-answer.result next c.settle.new.self (
+    steps_along before along (counted post) (counted post) desk [] c.args.found c.step-answer.result next (look_phase_counted c.args.self.now.index c.args.self.now.key c.args.self.now.at post) steps
+    ) told c.settle.ensures.desk
+    )

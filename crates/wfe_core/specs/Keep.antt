@@ -1,0 +1,74 @@
+-- Calls that work on what stands at indexes from 2 on: a copy, a look, and under 2GE a release while another row is kept.
+use Rattle.std.specs.Prelude.{ℕ, ◌==◌, ◌+◌, Bool, true, false, nat_lt, List, [], ◌∷◌, ◌++◌, Option, Some, None}
+use Rattle.wfe_words.specs.Packed.{read_reservation}
+use Rattle.wfe_words.specs.Place.{Place}
+use Rattle.wfe_words.specs.Place.Place.{Index, Interval}
+use Rattle.wfe_words.specs.Schemes.{has_one_interval}
+use Rattle.wfe_defs.specs.declared.call.Answer.TheVariants as answers
+use Rattle.wfe_defs.specs.declared.event.Event.{Event}
+use Rattle.wfe_defs.specs.declared.event.Event.TheVariants as events
+use Rattle.wfe_core.specs.declared.post.Post.{Post}
+use Rattle.wfe_core.specs.Calls.{Holds, LetGo, Released, Rehold, Dropped, KeepAt, Loosens, LoadHeld, StoreHeld, Looks, Misses, GetAt, FindVersion, FindCount, FindKey, FindValue, Works, Keeping, CallTurn, goes_on}
+use Rattle.wfe_core.specs.Calls as calls
+use Rattle.wfe_core.specs.Desks.{Desk}
+use Rattle.wfe_core.specs.Get.{get_move}
+use Rattle.wfe_core.specs.Guards.{guard_place, own_guard}
+use Rattle.wfe_core.specs.Memory.{Move, Load, Store}
+use Rattle.wfe_core.specs.Posts.{cleared, index_word, reserves_index, stands, with_row, withdrawn}
+use Rattle.wfe_core.specs.Rounds.{let_index, round, scheme_of}
+
+-- the word of the guard of an index of the seat
+abbrev pub own_place : Post → ℕ → Place
+own_place post index = guard_place (own_guard (scheme_of post) post.seat index)
+
+abbrev pub keep_move : KeepAt → Post → Move
+keep_move (Loosens let_go) post = Load (Interval post.seat)
+keep_move (LoadHeld from index) post = Load (own_place post from)
+keep_move (StoreHeld from index era) post = Store (Index post.seat index) (index_word post index era)
+keep_move (Looks index key at) post = get_move at
+keep_move (Misses index) post = Load (own_place post index)
+
+-- what comes once something was let go
+abbrev pub released : LetGo → Post → Desk → List Event → CallTurn
+released Released post desk told = calls.answers post desk told answers.Released
+released (Rehold key) post desk told = goes_on post desk told (round (Holds key) post)
+released (Dropped index) post desk told = calls.answers post desk told answers.Dropped
+
+-- what stands at an index stands at another from here on; what stood there stands there no more
+abbrev pub copied : (from index : ℕ) → Post → Desk → (reserved : List Event) → Option ℕ → CallTurn
+copied from index post desk reserved (Some slot) =
+    calls.answers
+    (with_row post index slot)
+    desk
+    (cleared index (stands post index) ++ reserved ++ events.Copied from index slot ∷ [])
+    (answers.Copied slot)
+copied from index post desk reserved None = calls.answers post desk [] answers.Nothing
+
+-- under 2GE the interval keeps both; else the era is published at the other index too
+abbrev pub load_held : (from index : ℕ) → Post → Desk → ℕ → (one : Bool) → CallTurn
+load_held from index post desk found true = copied from index post desk [] (stands post from)
+load_held from index post desk found false = goes_on post desk [] (Works (Keeping (StoreHeld from index (read_reservation found).era)))
+
+-- the pair of this number, if there is one
+abbrev pub looking : (index key slot version count : ℕ) → Post → Desk → (more : Bool) → ℕ → CallTurn
+looking index key slot version count post desk true pair = goes_on post desk [] (Works (Keeping (Looks index key (FindKey slot version count pair))))
+looking index key slot version count post desk false pair = calls.answers post desk [] (answers.Looked slot version None)
+
+-- a key was read: the own one, or another
+abbrev pub looked_key : (index key slot version count pair : ℕ) → Post → Desk → (own : Bool) → CallTurn
+looked_key index key slot version count pair post desk true = goes_on post desk [] (Works (Keeping (Looks index key (FindValue slot version pair))))
+looked_key index key slot version count pair post desk false = looking index key slot version count post desk (nat_lt (pair + 1) count) (pair + 1)
+
+-- one step of a look: it reads as a get does
+abbrev pub look_turn : (index key : ℕ) → GetAt → Post → Desk → ℕ → CallTurn
+look_turn index key (FindVersion slot) post desk found = goes_on post desk [] (Works (Keeping (Looks index key (FindCount slot found))))
+look_turn index key (FindCount slot version) post desk found = looking index key slot version found post desk (nat_lt 0 found) 0
+look_turn index key (FindKey slot version count pair) post desk found = looked_key index key slot version count pair post desk (found == key)
+look_turn index key (FindValue slot version pair) post desk found = calls.answers post desk [] (answers.Looked slot version (Some found))
+
+abbrev pub keep_turn : KeepAt → Post → Desk → ℕ → CallTurn
+keep_turn (Loosens let_go) post desk found = released let_go (withdrawn post (let_index let_go)) desk (cleared (let_index let_go) (stands post (let_index let_go)))
+keep_turn (LoadHeld from index) post desk found = load_held from index post desk found (has_one_interval (scheme_of post))
+keep_turn (StoreHeld from index era) post desk found = copied from index post desk (reserves_index post index era) (stands post from)
+keep_turn (Looks index key at) post desk found = look_turn index key at post desk found
+keep_turn (Misses index) post desk found = calls.answers post desk [] answers.Nothing

@@ -1,0 +1,62 @@
+-- A call that begins is under way; and where under 2GE no row is kept.
+use Rattle.std.proofs.Common.{None, Option, Some, false, refl, true, ℕ, ◌≡◌}
+use Rattle.wfe_core.specs.words.declared.config.SchemeKind.TheVariants.{Ibr}
+use Rattle.wfe_core.specs.defs.declared.call.Call.{Call}
+use Rattle.wfe_core.specs.defs.declared.call.Call.TheVariants as names
+use Rattle.wfe_core.specs.defs.declared.fold.Change.TheVariants as changes
+use Rattle.wfe_core.specs.Calls.{Dequeues, Dropped, Enqueues, Gets, Holds, LetGo, Rehold, Released, Task}
+use Rattle.wfe_core.specs.Locals.{busy_in}
+use Rattle.wfe_core.specs.Phases.{Base}
+use Rattle.wfe_core.specs.Posts.{stands}
+use Rattle.wfe_core.specs.Rounds.{begin_base, finish_base, finish_span, kept_row, let_index, letting, letting_by, release_base, round, round_by, scheme_of}
+use Rattle.wfe_core.specs.Steps.{changing, copying, first_phase, holding, looking_at}
+use Rattle.wfe_core.specs.declared.post.Post.{Post}
+
+by_base : (task : Task) (post : Post) (base : Option Base) → busy_in (round_by task post base) ≡ true
+by_base task post None = refl
+by_base task post (Some base) = refl
+
+round_busy : (task : Task) (post : Post) → busy_in (round task post) ≡ true
+round_busy task post = by_base task post (begin_base (scheme_of post) post)
+
+by_release : (let_go : LetGo) (base : Option Base) → busy_in (letting_by let_go base) ≡ true
+by_release let_go None = refl
+by_release let_go (Some base) = refl
+
+letting_busy : (let_go : LetGo) (post : Post) → busy_in (letting let_go post) ≡ true
+letting_busy let_go post = by_release let_go (release_base (scheme_of post) post (let_index let_go))
+
+holding_busy : (key : ℕ) (post : Post) (held : Option ℕ) → busy_in (holding key post held) ≡ true
+holding_busy key post None = round_busy (Holds key) post
+holding_busy key post (Some slot) = letting_busy (Rehold key) post
+
+copying_busy : (from index : ℕ) (held : Option ℕ) → busy_in (copying from index held) ≡ true
+copying_busy from index None = refl
+copying_busy from index (Some slot) = refl
+
+looking_busy : (index key : ℕ) (held : Option ℕ) → busy_in (looking_at index key held) ≡ true
+looking_busy index key None = refl
+looking_busy index key (Some slot) = refl
+
+pub first_busy : (call : Call) (post : Post) → busy_in (first_phase call post) ≡ true
+first_busy (names.Get key) post = round_busy (Gets key) post
+first_busy (names.Put key value) post = round_busy (changing (changes.Put key value) None) post
+first_busy (names.Remove key) post = round_busy (changing (changes.Removed key) None) post
+first_busy (names.Enqueue value) post = round_busy (Enqueues (record { value = value; taken = None; walked = false; tail = 0; number = 0 })) post
+first_busy names.Dequeue post = round_busy Dequeues post
+first_busy (names.Hold key) post = holding_busy key post (stands post 2)
+first_busy names.Release post = letting_busy Released post
+first_busy names.Advance post = refl
+first_busy names.Scan post = refl
+first_busy (names.Copy from index) post = copying_busy from index (stands post from)
+first_busy (names.DropIndex index) post = letting_busy (Dropped index) post
+first_busy (names.Look index key) post = looking_busy index key (stands post index)
+first_busy (names.PutIf key value version) post = round_busy (changing (changes.Put key value) (Some version)) post
+
+-- where an interval would end now no row is kept
+span_ends : (row : Option ℕ) (base : Base) → finish_span row ≡ Some base → row ≡ None
+span_ends None base e = refl
+span_ends (Some slot) base e = absurd (cc)
+
+pub ends_free : (post : Post) (base : Base) → finish_base Ibr post ≡ Some base → kept_row post ≡ None
+ends_free post base e = span_ends (kept_row post) base e

@@ -1,0 +1,10 @@
+pub use Rattle.wfe_drive_words.proofs as drive_words
+pub mod Closing
+pub mod Followings
+pub mod Holds
+pub mod Readying
+pub mod Rounding
+pub mod Spanning
+pub mod Still
+pub mod Tidying
+pub mod Turning

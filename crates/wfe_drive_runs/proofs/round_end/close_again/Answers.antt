@@ -1,0 +1,62 @@
+-- Under 2GE nothing is to be done on the words; else the index is cleared.
+use Rattle.std.proofs.Common.{None, ap, arith, refl, sym, ◌∙◌}
+use Rattle.std.proofs.lemmas.List.{length-set}
+use Rattle.wfe_core.specs.Calls.{Again}
+use Rattle.wfe_core.specs.words.Schemes.{has_one_interval}
+use Rattle.wfe_core.specs.words.declared.config.Config.{Config}
+use Rattle.wfe_core.specs.Posts.{withdrawn}
+use Rattle.wfe_core.specs.declared.post.Post.{Post}
+use Rattle.wfe_drive_words.proofs.Leading.{here_as, leads_as, leads_none}
+use Rattle.wfe_drive_runs.proofs.Spanning.{again_is, free_without, kept_cleared}
+use Rattle.wfe_drive_runs.proofs.Turning.{may_here}
+use Rattle.wfe_drive_runs.proofs.round_end.close_again.Goals as goal
+
+pub bounds-post-0 : goal.bounds-post-0
+bounds-post-0 g c =
+    let (task, desk, i, first) = c.requires.here in
+    let h = here_as _ _ (again_is task c.args.post.now desk i (ap (λ (config : Config). config.scheme) (sym c.config.ensures) ∙ c.in-Ibr.is)) first in
+    let may = may_here (g.W.Words.comes c.args.words.now) c.requires.valid h in
+    omega (arith, may.valid.all_standing, length-set c.args.post.now.standing 0 None)
+
+pub returns-in-Ibr-clause-free : goal.returns-in-Ibr-clause-free
+returns-in-Ibr-clause-free g c = λ one. kept_cleared c.args.post.now (withdrawn c.args.post.now 0) refl ∙ c.requires.free one
+
+pub returns-in-Ibr-clause-leads : goal.returns-in-Ibr-clause-leads
+returns-in-Ibr-clause-leads g c = λ task desk i h.
+    leads_as _ _ (again_is task c.args.post.now desk i (ap (λ (config : Config). config.scheme) (sym c.config.ensures) ∙ c.in-Ibr.is)) (leads_none (g.W.Words.at c.args.words.now) (g.W.Words.stands c.args.words.now) _)
+
+pub close-requires-clause-clears : goal.close-requires-clause-clears
+close-requires-clause-clears g c = ap has_one_interval (ap (λ (config : Config). config.scheme) (sym c.config.ensures) ∙ c.in-He.is)
+
+pub close-requires-clause-here : goal.close-requires-clause-here
+close-requires-clause-here g c =
+    let (task, desk, i, h) = c.requires.here in
+    (task, Again, desk, i, h)
+
+pub returns-in-He-clause-layout : goal.returns-in-He-clause-layout
+returns-in-He-clause-layout g c = ap (λ (post : Post). post.layout) c.close.ensures.post
+
+pub returns-in-He-clause-free : goal.returns-in-He-clause-free
+returns-in-He-clause-free g c =
+    free_without c.args.post.now c.close.new.post (ap (λ (post : Post). post.layout) c.close.ensures.post) (ap has_one_interval (ap (λ (config : Config). config.scheme) (sym c.config.ensures) ∙ c.in-He.is))
+
+pub returns-in-He-clause-leads : goal.returns-in-He-clause-leads
+returns-in-He-clause-leads g c = λ task desk i h. (c.close.ensures.turns task Again desk i h).leads
+
+pub close-requires-in-Wfe-clause-clears : goal.close-requires-in-Wfe-clause-clears
+close-requires-in-Wfe-clause-clears g c = ap has_one_interval (ap (λ (config : Config). config.scheme) (sym c.config.ensures) ∙ c.in-Wfe.is)
+
+pub close-requires-in-Wfe-clause-here : goal.close-requires-in-Wfe-clause-here
+close-requires-in-Wfe-clause-here g c =
+    let (task, desk, i, h) = c.requires.here in
+    (task, Again, desk, i, h)
+
+pub returns-in-Wfe-clause-layout : goal.returns-in-Wfe-clause-layout
+returns-in-Wfe-clause-layout g c = ap (λ (post : Post). post.layout) c.close-in-Wfe.ensures.post
+
+pub returns-in-Wfe-clause-free : goal.returns-in-Wfe-clause-free
+returns-in-Wfe-clause-free g c =
+    free_without c.args.post.now c.close-in-Wfe.new.post (ap (λ (post : Post). post.layout) c.close-in-Wfe.ensures.post) (ap has_one_interval (ap (λ (config : Config). config.scheme) (sym c.config.ensures) ∙ c.in-Wfe.is))
+
+pub returns-in-Wfe-clause-leads : goal.returns-in-Wfe-clause-leads
+returns-in-Wfe-clause-leads g c = λ task desk i h. (c.close-in-Wfe.ensures.turns task Again desk i h).leads

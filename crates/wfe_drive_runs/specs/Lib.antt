@@ -1,0 +1,3 @@
+pub use Rattle.wfe_drive_words.specs as drive_words
+pub mod Following
+pub mod Pieces

@@ -1,0 +1,188 @@
+// A protection of the next link of the queue's head row, by which the seat is as the model's, under the
+// schemes that clear an index by a step.
+ghost use Rattle.std.specs.Prelude.{◌≡◌, ◌<◌, ◌≤◌, ◌+◌, ◌^◌, ℕ, false};
+ghost use Rattle.wfe_core.specs.Calls.{Runs, Why};
+ghost use Rattle.wfe_core.specs.Dequeue.{follow_base};
+ghost use Rattle.wfe_core.specs.DeskHeld.{HasRoom, desk_of};
+ghost use Rattle.wfe_core.specs.Memory.{Load as Loads, numbered};
+ghost use Rattle.wfe_core.specs.Phases.Base.{Reload};
+ghost use Rattle.wfe_core.specs.Phases.Ending.{Followed as FollowedEnd};
+ghost use Rattle.wfe_core.specs.Phases.ProtectAt.{PublishRequest};
+ghost use Rattle.wfe_core.specs.Ready.{LinkFits, follow_within};
+ghost use Rattle.wfe_core.specs.Valid.{IsValid};
+ghost use Rattle.wfe_core.specs.defs.declared.event.Root.TheVariants.{Next as NextOf};
+ghost use Rattle.wfe_core.specs.words.Place.Place.{Head};
+ghost use Rattle.wfe_core.specs.words.Schemes.{has_one_interval};
+ghost use Rattle.wfe_core.specs.words.declared.config.SchemeKind.TheVariants.{He as HeKind, Wfe as WfeKind};
+ghost use Rattle.wfe_drive_words.specs.Called.{Here, at_phase};
+ghost use Rattle.wfe_drive_runs.specs.Following.{followed_trial};
+ghost use Rattle.wfe_drive_words.specs.Path.{held_at, protecting};
+ghost use Rattle.wfe_drive_runs.specs.Pieces.{LeadsSo};
+
+use crate::followed_run::run_followed;
+use wfe_core::{Desk, FollowEnd, Op, Post, ProtectEnd, Root, SchemeKind};
+use wfe_drive_words::{Bounded, Guarded, WfeProtect, Words, protect_he, protect_wfe, step};
+
+/// Protects the next link of the head's row at index 1, under a scheme that clears an index by a step, and
+/// holds the row to which it leads where the head is still that row's.
+#[inline(always)]
+pub fn follow_next<W: Words>(
+    words: &mut W,
+    post: &mut Post,
+    desk: &mut Desk,
+    parent: u32,
+) -> FollowEnd
+    requires valid { W.valid words.old }
+    requires clears { has_one_interval post.old.layout.config.scheme ≡ false }
+    requires here { (why : Why) × Here (W.at words.old) (at_phase (Runs why (follow_base post.old.layout.config.scheme parent)) post.old desk.old) }
+    requires room { HasRoom desk.old post.old.layout }
+    ensures valid { W.valid words.new }
+    ensures same { W.same words.old words.new }
+    ensures rest { W.rest words.new < W.rest words.old }
+    ensures room { HasRoom desk.new post.new.layout }
+    ensures layout { post.new.layout ≡ post.old.layout }
+    ensures within { follow_within result post.new }
+    ensures leads { (why : Why) → Here (W.at words.old) (at_phase (Runs why (follow_base post.old.layout.config.scheme parent)) post.old desk.old)
+        → LeadsSo (W.at words.old) (W.at words.new) (W.stands words.old) (W.stands words.new) (at_phase (Runs why (follow_base post.old.layout.config.scheme parent)) post.old desk.old) why (FollowedEnd result) post.new desk.new }
+{
+    match post.layout.config().scheme {
+        SchemeKind::Wfe => follow_wfe(words, post, desk, parent),
+        SchemeKind::He => follow_he(words, post, desk, parent),
+        SchemeKind::Ibr => follow_he(words, post, desk, parent),
+    }
+}
+
+// Under Hazard Eras.
+#[inline(always)]
+fn follow_he<W: Words>(words: &mut W, post: &mut Post, _desk: &Desk, parent: u32) -> FollowEnd
+    requires valid { W.valid words.old }
+    requires scheme { post.old.layout.config.scheme ≡ HeKind }
+    requires here { (why : Why) × Here (W.at words.old) (at_phase (Runs why (follow_base HeKind parent)) post.old _desk.now) }
+    ensures valid { W.valid words.new }
+    ensures same { W.same words.old words.new }
+    ensures rest { W.rest words.new < W.rest words.old }
+    ensures layout { post.new.layout ≡ post.old.layout }
+    ensures within { follow_within result post.new }
+    ensures leads { (why : Why) → Here (W.at words.old) (at_phase (Runs why (follow_base HeKind parent)) post.old _desk.now)
+        → LeadsSo (W.at words.old) (W.at words.new) (W.stands words.old) (W.stands words.new) (at_phase (Runs why (follow_base HeKind parent)) post.old _desk.now) why (FollowedEnd result) post.new _desk.now }
+{
+    let guarded = protect_he(words, post, 1, Root::Next(parent));
+    follow_link(words, post, _desk, parent, guarded)
+}
+
+// Under Wait-Free Eras. Where the tries are used up it asks for help.
+#[inline(always)]
+fn follow_wfe<W: Words>(words: &mut W, post: &mut Post, desk: &mut Desk, parent: u32) -> FollowEnd
+    requires valid { W.valid words.old }
+    requires scheme { post.old.layout.config.scheme ≡ WfeKind }
+    requires here { (why : Why) × Here (W.at words.old) (at_phase (Runs why (follow_base WfeKind parent)) post.old desk.old) }
+    requires room { HasRoom desk.old post.old.layout }
+    ensures valid { W.valid words.new }
+    ensures same { W.same words.old words.new }
+    ensures rest { W.rest words.new < W.rest words.old }
+    ensures room { HasRoom desk.new post.new.layout }
+    ensures layout { post.new.layout ≡ post.old.layout }
+    ensures within { follow_within result post.new }
+    ensures leads { (why : Why) → Here (W.at words.old) (at_phase (Runs why (follow_base WfeKind parent)) post.old desk.old)
+        → LeadsSo (W.at words.old) (W.at words.new) (W.stands words.old) (W.stands words.new) (at_phase (Runs why (follow_base WfeKind parent)) post.old desk.old) why (FollowedEnd result) post.new desk.new }
+{
+    match protect_wfe(words, post, 1, Root::Next(parent)) {
+        Bounded::Within(guarded) => follow_link(words, post, desk, parent, guarded),
+        Bounded::Used { steps } => ask(words, post, desk, parent, steps),
+    }
+}
+
+// The next link was protected: where it leads to a row the head is loaded again.
+#[inline(always)]
+fn follow_link<W: Words>(
+    words: &mut W,
+    post: &mut Post,
+    _desk: &Desk,
+    parent: u32,
+    guarded: Guarded,
+) -> FollowEnd
+    requires valid { W.valid words.old }
+    requires few { post.old.steps < 2 ^ 62 }
+    requires some { guarded.steps < 2 ^ 62 + 4 }
+    requires here { (why : Why) × (n : ℕ) × Here (W.at words.old) (held_at (followed_trial why (desk_of _desk.now) 0 post.old.steps) 1 (NextOf parent) n guarded.link guarded.era (post.old.steps + guarded.steps) post.old) }
+    ensures valid { W.valid words.new }
+    ensures same { W.same words.old words.new }
+    ensures rest { W.rest words.new ≤ W.rest words.old }
+    ensures layout { post.new.layout ≡ post.old.layout }
+    ensures within { follow_within result post.new }
+    ensures leads { (why : Why) (n : ℕ) → Here (W.at words.old) (held_at (followed_trial why (desk_of _desk.now) 0 post.old.steps) 1 (NextOf parent) n guarded.link guarded.era (post.old.steps + guarded.steps) post.old)
+        → LeadsSo (W.at words.old) (W.at words.new) (W.stands words.old) (W.stands words.new) (held_at (followed_trial why (desk_of _desk.now) 0 post.old.steps) 1 (NextOf parent) n guarded.link guarded.era (post.old.steps + guarded.steps) post.old) why (FollowedEnd result) post.new _desk.now }
+{
+    post.steps += guarded.steps;
+    if guarded.link == 0 {
+        return FollowEnd::NoNext;
+    }
+    reload(words, post, _desk, parent, guarded.link - 1)
+}
+
+// The tries are used up after so many steps.
+fn ask<W: Words>(
+    words: &mut W,
+    post: &mut Post,
+    desk: &mut Desk,
+    parent: u32,
+    steps: u64,
+) -> FollowEnd
+    requires valid { W.valid words.old }
+    requires here { (why : Why) × Here (W.at words.old) (protecting (followed_trial why (desk_of desk.old) steps (post.old.steps + steps)) 1 (NextOf parent) PublishRequest post.old) }
+    requires room { HasRoom desk.old post.old.layout }
+    ensures valid { W.valid words.new }
+    ensures same { W.same words.old words.new }
+    ensures rest { W.rest words.new < W.rest words.old }
+    ensures room { HasRoom desk.new post.new.layout }
+    ensures layout { post.new.layout ≡ post.old.layout }
+    ensures within { follow_within result post.new }
+    ensures leads { (why : Why) → Here (W.at words.old) (protecting (followed_trial why (desk_of desk.old) steps (post.old.steps + steps)) 1 (NextOf parent) PublishRequest post.old)
+        → LeadsSo (W.at words.old) (W.at words.new) (W.stands words.old) (W.stands words.new) (protecting (followed_trial why (desk_of desk.old) steps (post.old.steps + steps)) 1 (NextOf parent) PublishRequest post.old) why (FollowedEnd result) post.new desk.new }
+{
+    post.steps += steps;
+    let machine = WfeProtect::asking(1, Root::Next(parent), steps);
+    match run_followed(words, machine, post, desk, parent) {
+        ProtectEnd::Held { slot, .. } => reload(words, post, desk, parent, slot),
+        ProtectEnd::Null => FollowEnd::NoNext,
+    }
+}
+
+// The head is loaded again: where it is still the parent's link, the row is held from here on.
+#[inline(always)]
+fn reload<W: Words>(
+    words: &mut W,
+    post: &mut Post,
+    _desk: &Desk,
+    parent: u32,
+    slot: u32,
+) -> FollowEnd
+    requires valid { W.valid words.old }
+    requires here { (why : Why) × (era : ℕ) × (n : ℕ) × Here (W.at words.old) (at_phase (Runs why (Reload parent 1 slot era n)) post.old _desk.now) }
+    ensures valid { W.valid words.new }
+    ensures same { W.same words.old words.new }
+    ensures rest { W.rest words.new < W.rest words.old }
+    ensures layout { post.new.layout ≡ post.old.layout }
+    ensures within { follow_within result post.new }
+    ensures leads { (why : Why) (era n : ℕ) → Here (W.at words.old) (at_phase (Runs why (Reload parent 1 slot era n)) post.old _desk.now)
+        → LeadsSo (W.at words.old) (W.at words.new) (W.stands words.old) (W.stands words.new) (at_phase (Runs why (Reload parent 1 slot era n)) post.old _desk.now) why (FollowedEnd result) post.new _desk.now }
+{
+    let seen = step(words, load_head(post));
+    post.steps += 1;
+    if seen != parent as u64 + 1 {
+        return FollowEnd::RootMoved { seen };
+    }
+    post.standing[1] = Some(slot);
+    FollowEnd::Followed { slot }
+}
+
+// A load of the queue's head.
+#[inline(always)]
+fn load_head(post: &Post) -> Op
+    requires { IsValid post.now }
+    ensures { result ≡ numbered post.now.layout (Loads Head) }
+{
+    Op::Load {
+        word: post.layout.head(),
+    }
+}

@@ -1,0 +1,136 @@
+// The retirement of a row that a call cut, and what follows it.
+ghost use Rattle.std.specs.Prelude.{◌≡◌, ◌<◌, ◌==◌, ◌%◌, Some};
+ghost use Rattle.wfe_core.specs.defs.declared.call.Answer.{Answer as ModelAnswer};
+ghost use Rattle.wfe_core.specs.defs.declared.call.ClockMove.TheVariants.{Still as StillMove};
+ghost use Rattle.wfe_core.specs.Calls.{Idle, Retires, Runs};
+ghost use Rattle.wfe_core.specs.DeskHeld.{HasRoom, desk_of};
+ghost use Rattle.wfe_core.specs.Desks.{noting, with_life};
+ghost use Rattle.wfe_core.specs.Memory.{Load as Loads, Store as Stores, numbered};
+ghost use Rattle.wfe_core.specs.Phases.Base.{Retire as Retiring};
+ghost use Rattle.wfe_core.specs.Phases.RetireAt.{LoadLife};
+ghost use Rattle.wfe_core.specs.Ready.{SlotFits};
+ghost use Rattle.wfe_core.specs.Retire.{birth_in};
+ghost use Rattle.wfe_core.specs.Rounds.{helps as do_help, with_clock};
+ghost use Rattle.wfe_core.specs.Steps.{tidying};
+ghost use Rattle.wfe_core.specs.Valid.{IsValid};
+ghost use Rattle.wfe_core.specs.words.Packed.{life_word as word_of, read_life as life_in};
+ghost use Rattle.wfe_core.specs.words.Place.Place.{Life as LifeWord};
+ghost use Rattle.wfe_drive_words.specs.Called.{Here, at_phase};
+ghost use Rattle.wfe_drive_words.specs.Path.{Closes};
+ghost use Rattle.wfe_drive_runs.specs.Pieces.{TurnsTo, retire_told};
+
+use crate::tidy_run::tidy;
+use wfe_core::{ClockMove, Desk, Life, Lifetime, Op, Post, SchemeKind, life_word, read_life};
+use wfe_drive_words::{Words, load_clock, note_steps, step};
+
+/// Retires the row, and then tidies where that is due. It answers the outcome of the move.
+pub fn retire<W: Words>(words: &mut W, post: &mut Post, desk: &mut Desk, slot: u32) -> ClockMove
+    requires valid { W.valid words.old }
+    requires here { (answer : ModelAnswer) × Here (W.at words.old) (at_phase (Runs (Retires answer) (Retiring (LoadLife slot))) post.old desk.old) }
+    requires room { HasRoom desk.old post.old.layout }
+    ensures valid { W.valid words.new }
+    ensures same { W.same words.old words.new }
+    ensures room { HasRoom desk.new post.new.layout }
+    ensures closes { (answer : ModelAnswer) → with_clock answer StillMove ≡ answer → Here (W.at words.old) (at_phase (Runs (Retires answer) (Retiring (LoadLife slot))) post.old desk.old)
+        → Closes (with_clock answer result) (W.at words.old) (W.at words.new) (W.stands words.old) (W.stands words.new)
+        (at_phase (Runs (Retires answer) (Retiring (LoadLife slot))) post.old desk.old) (at_phase Idle post.new desk.new) }
+{
+    store_life(words, post, desk, slot);
+    let config = post.layout.config();
+    if post.retired % config.every as u64 != 0 {
+        note_steps(desk, post.steps);
+        return ClockMove::Still;
+    }
+    let clock = tidy(words, helps(config.scheme), post, desk);
+    note_steps(desk, post.steps);
+    clock
+}
+
+/// Whether those that move the clock answer pending requests first.
+#[inline(always)]
+pub fn helps(kind: SchemeKind) -> bool
+    ensures { result ≡ do_help kind }
+{
+    match kind {
+        SchemeKind::Wfe => true,
+        SchemeKind::He | SchemeKind::Ibr => false,
+    }
+}
+
+// Stores the row's retire era, a clock value loaded now, and puts its life on the list.
+#[inline(always)]
+fn store_life<W: Words>(words: &mut W, post: &mut Post, desk: &mut Desk, slot: u32) -> Lifetime
+    requires valid { W.valid words.old }
+    requires own { IsValid post.old }
+    requires slot { SlotFits post.old slot }
+    requires here { (answer : ModelAnswer) × Here (W.at words.old) (at_phase (Runs (Retires answer) (Retiring (LoadLife slot))) post.old desk.old) }
+    requires room { HasRoom desk.old post.old.layout }
+    ensures valid { W.valid words.new }
+    ensures same { W.same words.old words.new }
+    ensures room { HasRoom desk.new post.new.layout }
+    ensures layout { post.new.layout ≡ post.old.layout }
+    ensures noted { desk_of desk.new ≡ noting (with_life (desk_of desk.old) result) (retire_told result) }
+    ensures turns { (answer : ModelAnswer) → Here (W.at words.old) (at_phase (Runs (Retires answer) (Retiring (LoadLife slot))) post.old desk.old)
+        → TurnsTo (W.at words.old) (W.at words.new) (W.stands words.old) (W.stands words.new)
+        (at_phase (Runs (Retires answer) (Retiring (LoadLife slot))) post.old desk.old)
+        (tidying answer post.new (with_life (desk_of desk.old) result) (retire_told result) (post.new.retired % post.new.layout.config.every == 0)) }
+{
+    let word = step(words, load_life(post, slot));
+    let birth = birth_of(word);
+    let retire = step(words, load_clock(post)) as u32;
+    step(words, store_lifetime(post, slot, birth, retire));
+    let life = Lifetime {
+        slot,
+        birth,
+        retire,
+    };
+    post.steps += 3;
+    post.retired = post.retired.saturating_add(1);
+    desk.list.add(life);
+    note_retired(desk, life);
+    life
+}
+
+// Notes the life of the row that the call has retired, and changes nothing else.
+#[inline(always)]
+fn note_retired(desk: &mut Desk, life: Lifetime)
+    ensures { desk.new ≡ record desk.old { notes = record desk.old.notes { retired = Some life } } }
+{
+    desk.notes.retired = Some(life);
+}
+
+// A load of a row's lifetime word.
+#[inline(always)]
+fn load_life(post: &Post, slot: u32) -> Op
+    requires valid { IsValid post.now }
+    requires slot { SlotFits post.now slot }
+    ensures { result ≡ numbered post.now.layout (Loads (LifeWord slot)) }
+{
+    Op::Load {
+        word: post.layout.life(slot),
+    }
+}
+
+// A store of both eras into it.
+#[inline(always)]
+fn store_lifetime(post: &Post, slot: u32, birth: u32, retire: u32) -> Op
+    requires valid { IsValid post.now }
+    requires slot { SlotFits post.now slot }
+    ensures { result ≡ numbered post.now.layout (Stores (LifeWord slot) (word_of (record { birth = birth; retire = retire }))) }
+{
+    Op::Store {
+        word: post.layout.life(slot),
+        value: life_word(Life { birth, retire }),
+    }
+}
+
+// The birth era in a lifetime word.
+#[inline(always)]
+fn birth_of(word: u64) -> u32
+    ensures { result ≡ birth_in (life_in word) }
+{
+    match read_life(word) {
+        Some(life) => life.birth,
+        None => 0,
+    }
+}
