@@ -1,21 +1,21 @@
 -- A law that looks at events alone holds of the record of each history, where it holds of all that a step tells.
 use Rattle.std.proofs.Common.{ℕ, ◌≡◌, ◌<◌, Bool, true, List, [], ◌∷◌, refl}
-use Rattle.wfe_core.specs.words.Place.{is_valid}
-use Rattle.wfe_core.specs.words.declared.layout.Layout.{Layout}
-use Rattle.wfe_core.specs.defs.declared.call.Call.{Call}
-use Rattle.wfe_core.specs.defs.declared.event.Event.{Event}
-use Rattle.wfe_core.specs.defs.declared.event.Event.TheVariants as events
-use Rattle.wfe_core.specs.World.{World, told_in}
-use Rattle.wfe_core.proofs.Facts.{first_of, rest_of}
-use Rattle.model_history.specs.Record.{Past, Test, Each, EachEntry, tells_of}
-use Rattle.model_history.specs.Record.Past.{Then}
-use Rattle.model_history.proofs.Entries.{entries_of_each}
-use Rattle.model_history.specs.History.{Item, Made, first_made, record_of}
-use Rattle.model_history.proofs.Along.{Steady, items_keep}
+use Rattle.inv_ends.specs.model.words.Place.{is_valid}
+use Rattle.inv_ends.specs.model.words.declared.layout.Layout.{Layout}
+use Rattle.inv_ends.specs.model.defs.declared.call.Call.{Call}
+use Rattle.inv_ends.specs.model.defs.declared.event.Event.{Event}
+use Rattle.inv_ends.specs.model.defs.declared.event.Event.TheVariants as events
+use Rattle.inv_ends.specs.model.World.{World, told_in}
+use Rattle.inv_ends.proofs.model.Facts.{first_of, rest_of}
+use Rattle.inv_ends.specs.history.Record.{Past, Test, Each, EachEntry, tells_of}
+use Rattle.inv_ends.specs.history.Record.Past.{Then}
+use Rattle.inv_ends.proofs.history.Entries.{entries_of_each}
+use Rattle.inv_ends.specs.history.History.{Item, Made, first_made, record_of}
+use Rattle.inv_ends.proofs.history.Along.{Steady, items_keep}
 use Rattle.inv_all.specs.Inv.{Inv}
 use Rattle.inv_all.proofs.Inv.Begun.{inv_start, inv_begin}
 use Rattle.inv_all.proofs.Inv.Kept.{inv_kept}
-use Rattle.model_history.proofs.AllOf.{all_of}
+use Rattle.inv_ends.proofs.history.AllOf.{all_of}
 
 abbrev pub of_event : (Event → Bool) → Test
 of_event ok p i event = ok event

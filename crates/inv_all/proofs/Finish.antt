@@ -2,23 +2,23 @@
 use Rattle.std.proofs.Common.{ℕ, ◌≡◌, ◌≤◌, ◌<◌, ◌+◌, ◌^◌, Bool, true, false, List, [], ◌∷◌, ◌++◌, refl, sym, ap, subst, arith}
 use Rattle.std.proofs.lemmas.Bool.Decides.{nat_tests}
 use Rattle.std.specs.Prelude.{◌==◌, ◌&&◌, nat_lt, if◌then◌else◌}
-use Rattle.wfe_core.specs.words.Place.{is_valid}
-use Rattle.wfe_core.specs.words.Place.Place.{Clock}
-use Rattle.wfe_core.specs.words.declared.layout.Layout.{Layout}
-use Rattle.wfe_core.specs.defs.declared.call.Call.{Call}
-use Rattle.wfe_core.specs.Locals.{Local, may_begin}
-use Rattle.wfe_core.specs.Rest.{rest, rest_of}
-use Rattle.wfe_core.specs.World.{World, begin, step, is_busy}
+use Rattle.inv_ends.specs.model.words.Place.{is_valid}
+use Rattle.inv_ends.specs.model.words.Place.Place.{Clock}
+use Rattle.inv_ends.specs.model.words.declared.layout.Layout.{Layout}
+use Rattle.inv_ends.specs.model.defs.declared.call.Call.{Call}
+use Rattle.inv_ends.specs.model.Locals.{Local, may_begin}
+use Rattle.inv_ends.specs.model.Rest.{rest, rest_of}
+use Rattle.inv_ends.specs.model.World.{World, begin, step, is_busy}
 use Rattle.inv_ends.proofs.shapes.Frame.{begin_stays}
-use Rattle.model_history.specs.History.{Item, Begins, Steps, Made, fits, done_if, did, made_from, first_made, made_of}
-use Rattle.model_history.proofs.Along.{Steady, item_keeps, items_keep, begins_right, low_seat}
+use Rattle.inv_ends.specs.history.History.{Item, Begins, Steps, Made, fits, done_if, did, made_from, first_made, made_of}
+use Rattle.inv_ends.proofs.history.Along.{Steady, item_keeps, items_keep, begins_right, low_seat}
 use Rattle.inv_all.specs.Ends.{CallsEnd}
 use Rattle.inv_all.specs.Inv.{Inv}
 use Rattle.inv_all.proofs.Inv.Begun.{inv_start, inv_begin}
 use Rattle.inv_all.proofs.Inv.Ends.{inv_ends}
 use Rattle.inv_all.proofs.Inv.Kept.{inv_kept}
 use Rattle.inv_all.specs.Finish.{is_own, steps_in, CallsFinish}
-use Rattle.wfe_core.proofs.Facts.{true_not_false, below_none}
+use Rattle.inv_ends.proofs.model.Facts.{true_not_false, below_none}
 
 -- each World of a history
 pub record Goes (layout : Layout) (w : World) : Type 0 where

@@ -1,3 +1,4 @@
+pub use Rattle.inv_ends.proofs.model as model
 pub use Rattle.inv_steps_left.proofs.contents as contents
 pub use Rattle.inv_ends.proofs.covers as covers
 pub use Rattle.inv_ends.proofs as ends
@@ -7,7 +8,7 @@ pub use Rattle.inv_ends.proofs.requests as requests
 pub use Rattle.inv_steps_left.proofs.rows as rows
 pub use Rattle.inv_ends.proofs.shapes as shapes
 pub use Rattle.inv_steps_left.proofs as steps_left
-pub use Rattle.model_history.proofs as history
+pub use Rattle.inv_ends.proofs.history as history
 pub mod Each
 pub mod Finish
 pub mod Inv

@@ -2,27 +2,27 @@
 -- of a call.
 use Rattle.std.proofs.Common.{ℕ, ◌≡◌, ◌-◌, ◌+◌, Bool, true, false, List, [], ◌∷◌, ◌++◌, refl}
 use Rattle.std.specs.Prelude.{◌==◌, if◌then◌else◌}
-use Rattle.wfe_core.specs.words.declared.config.SchemeKind.{SchemeKind}
-use Rattle.wfe_core.specs.defs.declared.event.Event.{Event}
-use Rattle.wfe_core.specs.defs.declared.event.Event.TheVariants as events
-use Rattle.wfe_core.specs.defs.declared.event.Root.{Root}
-use Rattle.wfe_core.specs.declared.post.Post.{Post}
-use Rattle.wfe_core.specs.Change as alters
-use Rattle.wfe_core.specs.Desks.{Desk}
-use Rattle.wfe_core.specs.Enqueue as enqueues
-use Rattle.wfe_core.specs.Locals.{told_by, told_end}
-use Rattle.wfe_core.specs.Machine as machine
-use Rattle.wfe_core.specs.Rounds.{scheme_of, clear_told, bucket_of}
-use Rattle.wfe_core.specs.Steps as steps
-use Rattle.wfe_core.specs.Phases.{Base}
-use Rattle.wfe_core.specs.Calls.{ScanAt, ReadGuard, GiveBack, Phase, Idle, Runs, Scans, Works, CallOutcome, GoesOn, Answers}
-use Rattle.wfe_core.proofs.Facts.{first_of, rest_of, if_implies}
-use Rattle.model_history.proofs.Passes.{is_quiet, Closing, Any, First, phase_any, scan_told, step_closes}
-use Rattle.model_history.proofs.AllOf.{all_of, of_along, of_weaker}
-use Rattle.model_history.proofs.MayTell.{Tells, base_all, clear_all, step_all, work_all}
-use Rattle.wfe_core.specs.World.{World, told_in, finds}
-use Rattle.wfe_core.specs.Posts.{counted}
-use Rattle.model_history.specs.Record.{Past, begins}
+use Rattle.inv_ends.specs.model.words.declared.config.SchemeKind.{SchemeKind}
+use Rattle.inv_ends.specs.model.defs.declared.event.Event.{Event}
+use Rattle.inv_ends.specs.model.defs.declared.event.Event.TheVariants as events
+use Rattle.inv_ends.specs.model.defs.declared.event.Root.{Root}
+use Rattle.inv_ends.specs.model.declared.post.Post.{Post}
+use Rattle.inv_ends.specs.model.Change as alters
+use Rattle.inv_ends.specs.model.Desks.{Desk}
+use Rattle.inv_ends.specs.model.Enqueue as enqueues
+use Rattle.inv_ends.specs.model.Locals.{told_by, told_end}
+use Rattle.inv_ends.specs.model.Machine as machine
+use Rattle.inv_ends.specs.model.Rounds.{scheme_of, clear_told, bucket_of}
+use Rattle.inv_ends.specs.model.Steps as steps
+use Rattle.inv_ends.specs.model.Phases.{Base}
+use Rattle.inv_ends.specs.model.Calls.{ScanAt, ReadGuard, GiveBack, Phase, Idle, Runs, Scans, Works, CallOutcome, GoesOn, Answers}
+use Rattle.inv_ends.proofs.model.Facts.{first_of, rest_of, if_implies}
+use Rattle.inv_ends.proofs.history.Passes.{is_quiet, Closing, Any, First, phase_any, scan_told, step_closes}
+use Rattle.inv_ends.proofs.history.AllOf.{all_of, of_along, of_weaker}
+use Rattle.inv_ends.proofs.history.MayTell.{Tells, base_all, clear_all, step_all, work_all}
+use Rattle.inv_ends.specs.model.World.{World, told_in, finds}
+use Rattle.inv_ends.specs.model.Posts.{counted}
+use Rattle.inv_ends.specs.history.Record.{Past, begins}
 
 -- an event of a machine or of a scan
 abbrev pub is_machine : Event → Bool

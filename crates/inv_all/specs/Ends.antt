@@ -1,7 +1,7 @@
 -- That each call ends, whatever other seats do: its steps left fall at each step of its own, and rise at no step of another.
 use Rattle.std.specs.Prelude.{ℕ, ◌≡◌, ◌≤◌, ◌<◌, ◌+◌, ◌^◌, ◌==◌, true, false}
-use Rattle.wfe_core.specs.Rest.{rest}
-use Rattle.wfe_core.specs.World.{World, step, is_busy}
+use Rattle.inv_ends.specs.model.Rest.{rest}
+use Rattle.inv_ends.specs.model.World.{World, step, is_busy}
 use Rattle.inv_all.specs.Inv.{Inv}
 
 pub record CallsEnd (w : World) (i : ℕ) : Type 0 where

@@ -1,10 +1,10 @@
 -- Each call ends within the steps of its own that it has left, in each history.
 use Rattle.std.specs.Prelude.{ℕ, ◌≡◌, ◌<◌, ◌+◌, ◌^◌, ◌==◌, true, false, if◌then◌else◌, List, [], ◌∷◌, ◌++◌}
-use Rattle.wfe_core.specs.words.Place.{is_valid}
-use Rattle.wfe_core.specs.words.declared.layout.Layout.{Layout}
-use Rattle.wfe_core.specs.Rest.{rest}
-use Rattle.wfe_core.specs.World.{is_busy}
-use Rattle.model_history.specs.History.{Item, Begins, Steps, world_of}
+use Rattle.inv_ends.specs.model.words.Place.{is_valid}
+use Rattle.inv_ends.specs.model.words.declared.layout.Layout.{Layout}
+use Rattle.inv_ends.specs.model.Rest.{rest}
+use Rattle.inv_ends.specs.model.World.{is_busy}
+use Rattle.inv_ends.specs.history.History.{Item, Begins, Steps, world_of}
 
 -- how many of these items are steps of a seat
 abbrev pub is_own : ℕ → Item → ℕ

@@ -1,9 +1,9 @@
 -- Each World that a history comes to has the invariant.
 use Rattle.std.specs.Prelude.{ℕ, ◌≡◌, ◌<◌, true, List}
-use Rattle.wfe_core.specs.words.Place.{is_valid}
-use Rattle.wfe_core.specs.words.declared.layout.Layout.{Layout}
-use Rattle.wfe_core.specs.MayStep.{MayStep}
-use Rattle.model_history.specs.History.{Item, world_of}
+use Rattle.inv_ends.specs.model.words.Place.{is_valid}
+use Rattle.inv_ends.specs.model.words.declared.layout.Layout.{Layout}
+use Rattle.inv_ends.specs.model.MayStep.{MayStep}
+use Rattle.inv_ends.specs.history.History.{Item, world_of}
 use Rattle.inv_all.specs.Inv.{Inv}
 
 -- whatever calls begin and whichever seats make their steps

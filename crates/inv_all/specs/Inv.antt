@@ -1,21 +1,21 @@
 -- The invariant, and that it holds at the start, when a call begins, and over each step.
 use Rattle.std.specs.Prelude.{ℕ, ◌≡◌, ◌<◌, true, false, Option, Some, is_some}
-use Rattle.wfe_core.specs.words.Place.{is_valid}
-use Rattle.wfe_core.specs.words.declared.layout.Layout.{Layout}
-use Rattle.wfe_core.specs.defs.declared.call.Answer.TheVariants as answers
-use Rattle.wfe_core.specs.defs.declared.call.Call.{Call}
-use Rattle.wfe_core.specs.defs.declared.event.Guard.TheVariants.{Index}
-use Rattle.wfe_core.specs.Calls.{Answers, GetAt, StoreHeld, Looks, Keeping, Works}
-use Rattle.wfe_core.specs.Locals.{may_begin, turn}
-use Rattle.wfe_core.specs.MayStep.{MayStep}
-use Rattle.wfe_core.specs.Posts.{stands}
-use Rattle.wfe_core.specs.World.{World, start, begin, step, is_busy, finds, told_in}
+use Rattle.inv_ends.specs.model.words.Place.{is_valid}
+use Rattle.inv_ends.specs.model.words.declared.layout.Layout.{Layout}
+use Rattle.inv_ends.specs.model.defs.declared.call.Answer.TheVariants as answers
+use Rattle.inv_ends.specs.model.defs.declared.call.Call.{Call}
+use Rattle.inv_ends.specs.model.defs.declared.event.Guard.TheVariants.{Index}
+use Rattle.inv_ends.specs.model.Calls.{Answers, GetAt, StoreHeld, Looks, Keeping, Works}
+use Rattle.inv_ends.specs.model.Locals.{may_begin, turn}
+use Rattle.inv_ends.specs.model.MayStep.{MayStep}
+use Rattle.inv_ends.specs.model.Posts.{stands}
+use Rattle.inv_ends.specs.model.World.{World, start, begin, step, is_busy, finds, told_in}
 use Rattle.inv_ends.specs.requests.Views.{View as Asked}
 use Rattle.inv_steps_left.specs.rows.Hands.{row_move}
 use Rattle.inv_steps_left.specs.rows.Queue.{Line}
 use Rattle.inv_steps_left.specs.rows.Rows.{View}
 use Rattle.inv_ends.specs.covers.Covers.{eras_shown, takes_or_frees}
-use Rattle.wfe_core.specs.Guards.{one_era, own_guard}
+use Rattle.inv_ends.specs.model.Guards.{one_era, own_guard}
 use Rattle.inv_ends.specs.covers.Held.{Holds}
 use Rattle.inv_steps_left.specs.contents.Told.{AllRight, LookRight}
 use Rattle.inv_steps_left.specs.contents.Gives.{AllQueueRight}

@@ -1,10 +1,10 @@
 -- All that is known of a World between two steps: the parts of the invariant, each over the view that it needs.
 use Rattle.std.specs.Prelude.{◌≡◌, true}
-use Rattle.wfe_core.specs.words.Place.{is_valid}
-use Rattle.wfe_core.specs.World.{World}
+use Rattle.inv_ends.specs.model.words.Place.{is_valid}
+use Rattle.inv_ends.specs.model.World.{World}
 use Rattle.inv_ends.specs.shapes.Eras.{Eras}
 use Rattle.inv_ends.specs.shapes.Noted.{Noted}
-use Rattle.wfe_core.specs.words.Schemes.{helps}
+use Rattle.inv_ends.specs.model.words.Schemes.{helps}
 use Rattle.inv_ends.specs.shapes.Seats.{Seats}
 use Rattle.inv_ends.specs.shapes.Slots.{Slots}
 use Rattle.inv_ends.specs.requests.Paces.{Paces}

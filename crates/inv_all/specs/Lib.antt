@@ -1,3 +1,4 @@
+pub use Rattle.inv_ends.specs.model as model
 pub use Rattle.inv_steps_left.specs.contents as contents
 pub use Rattle.inv_ends.specs.covers as covers
 pub use Rattle.inv_ends.specs as ends
@@ -7,7 +8,7 @@ pub use Rattle.inv_ends.specs.requests as requests
 pub use Rattle.inv_steps_left.specs.rows as rows
 pub use Rattle.inv_ends.specs.shapes as shapes
 pub use Rattle.inv_steps_left.specs as steps_left
-pub use Rattle.model_history.specs as history
+pub use Rattle.inv_ends.specs.history as history
 pub mod Ends
 pub mod Finish
 pub mod Histories

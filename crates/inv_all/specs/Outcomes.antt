@@ -1,28 +1,28 @@
 -- How machines end, in each World that a history comes to: with what they have seen, hold or answered.
 use Rattle.std.specs.Prelude.{ℕ, ◌≡◌, ◌≤◌, ◌<◌, true, false, List}
 use Rattle.std.specs.List.{list_any}
-use Rattle.wfe_core.specs.words.Place.{is_valid}
-use Rattle.wfe_core.specs.words.Place.Place.{Clock}
-use Rattle.wfe_core.specs.words.declared.layout.Layout.{Layout}
-use Rattle.wfe_core.specs.declared.ends.AllocateEnd.TheVariants as allocate_ends
-use Rattle.wfe_core.specs.Machine.{after}
-use Rattle.wfe_core.specs.Posts.{counted}
-use Rattle.wfe_core.specs.Phases.{Walk, Ends}
-use Rattle.wfe_core.specs.Phases.AllocateAt.{ClaimSlot}
-use Rattle.wfe_core.specs.Phases.MoveAt.{ExchangeClock}
-use Rattle.wfe_core.specs.Phases.Base.{Allocate, Move}
-use Rattle.wfe_core.specs.Phases.Ending.{Allocated}
-use Rattle.wfe_core.specs.Calls.{Why, Runs}
-use Rattle.wfe_core.specs.World.{World, step, finds, told_in}
+use Rattle.inv_ends.specs.model.words.Place.{is_valid}
+use Rattle.inv_ends.specs.model.words.Place.Place.{Clock}
+use Rattle.inv_ends.specs.model.words.declared.layout.Layout.{Layout}
+use Rattle.inv_ends.specs.model.declared.ends.AllocateEnd.TheVariants as allocate_ends
+use Rattle.inv_ends.specs.model.Machine.{after}
+use Rattle.inv_ends.specs.model.Posts.{counted}
+use Rattle.inv_ends.specs.model.Phases.{Walk, Ends}
+use Rattle.inv_ends.specs.model.Phases.AllocateAt.{ClaimSlot}
+use Rattle.inv_ends.specs.model.Phases.MoveAt.{ExchangeClock}
+use Rattle.inv_ends.specs.model.Phases.Base.{Allocate, Move}
+use Rattle.inv_ends.specs.model.Phases.Ending.{Allocated}
+use Rattle.inv_ends.specs.model.Calls.{Why, Runs}
+use Rattle.inv_ends.specs.model.World.{World, step, finds, told_in}
 use Rattle.inv_ends.specs.requests.Views.{View as Asked}
 use Rattle.inv_steps_left.specs.rows.Agree.{Agree, rows_after}
 use Rattle.inv_steps_left.specs.rows.Rows.{View, is_taken}
 use Rattle.inv_steps_left.specs.rows.Rows.RowMove.{Lists}
-use Rattle.wfe_core.specs.Guards.{own_guard}
+use Rattle.inv_ends.specs.model.Guards.{own_guard}
 use Rattle.inv_ends.specs.covers.Held.{Holds}
-use Rattle.model_history.specs.History.{Item, world_of}
+use Rattle.inv_ends.specs.history.History.{Item, world_of}
 use Rattle.inv_all.specs.Inv.{Inv}
-use Rattle.wfe_core.specs.defs.Events.{is_held}
+use Rattle.inv_ends.specs.model.defs.Events.{is_held}
 use Rattle.inv_ends.specs.Told.{RowWas, move_of}
 use Rattle.inv_ends.specs.Moves.{met_after, open_at}
 use Rattle.inv_ends.specs.Stands.{is_copied}

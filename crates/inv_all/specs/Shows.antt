@@ -1,8 +1,8 @@
 -- What else the invariant says of a World: how long protections and moves of the clock take, that the clock waits for pending
 -- requests, and what the words show of the map and of the queue.
 use Rattle.std.specs.Prelude.{ℕ, ◌≡◌, ◌<◌, ◌+◌, length}
-use Rattle.wfe_core.specs.words.Place.Place.{Head, Row}
-use Rattle.wfe_core.specs.World.{World}
+use Rattle.inv_ends.specs.model.words.Place.Place.{Head, Row}
+use Rattle.inv_ends.specs.model.World.{World}
 use Rattle.inv_ends.specs.requests.Paces.{InTime, MovesOn}
 use Rattle.inv_ends.specs.requests.Pending.{Pending}
 use Rattle.inv_steps_left.specs.contents.Buckets.{BucketShows}

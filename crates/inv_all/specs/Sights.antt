@@ -1,9 +1,9 @@
 -- What walks for a free row have seen taken, what movers of the clock have seen pending, and what birth eras were told, along
 -- a history.
 use Rattle.std.specs.Prelude.{ℕ, Bool, true, false, List, [], ◌∷◌}
-use Rattle.wfe_core.specs.words.declared.layout.Layout.{Layout}
-use Rattle.wfe_core.specs.World.{World}
-use Rattle.model_history.specs.History.{Item, Begins, Steps, Made, fits, did, first_made}
+use Rattle.inv_ends.specs.model.words.declared.layout.Layout.{Layout}
+use Rattle.inv_ends.specs.model.World.{World}
+use Rattle.inv_ends.specs.history.History.{Item, Begins, Steps, Made, fits, did, first_made}
 use Rattle.inv_ends.specs.Births.{given_after}
 use Rattle.inv_ends.specs.Moves.{met_after}
 use Rattle.inv_ends.specs.Walks.{seen_after}

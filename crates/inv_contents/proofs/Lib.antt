@@ -1,5 +1,5 @@
-pub use Rattle.inv_rows.proofs as rows
-pub use Rattle.inv_rows.proofs.model as model
+pub use Rattle.inv_covers.proofs.rows as rows
+pub use Rattle.inv_covers.proofs.model as model
 pub mod Contents
 pub mod Items
 pub mod QueueReads

@@ -1,13 +1,13 @@
 -- No bucket has more versions than the setting allows, nor had at any version more pairs.
 use Rattle.std.specs.Prelude.{ℕ, ◌≤◌, length, take}
-use Rattle.inv_rows.specs.words.declared.layout.Layout.{Layout}
-use Rattle.inv_rows.specs.defs.Pairs.{pairs_after}
-use Rattle.inv_rows.specs.defs.declared.call.Call.{Call}
-use Rattle.inv_rows.specs.model.World.{World, start, begin, step}
+use Rattle.inv_covers.specs.words.declared.layout.Layout.{Layout}
+use Rattle.inv_covers.specs.defs.Pairs.{pairs_after}
+use Rattle.inv_covers.specs.defs.declared.call.Call.{Call}
+use Rattle.inv_covers.specs.model.World.{World, start, begin, step}
 use Rattle.inv_requests.specs.shapes.Slots.{Slots}
-use Rattle.inv_rows.specs.Rows.{View}
-use Rattle.inv_rows.specs.Queue.{Line}
-use Rattle.inv_rows.specs.Chain.{Both}
+use Rattle.inv_covers.specs.rows.Rows.{View}
+use Rattle.inv_covers.specs.rows.Queue.{Line}
+use Rattle.inv_covers.specs.rows.Chain.{Both}
 use Rattle.inv_contents.specs.Contents.{Contents}
 use Rattle.inv_contents.specs.Items.{Items}
 

@@ -1,12 +1,12 @@
 -- What the words show of each bucket, and what a change knows that finds its link still in the root.
 use Rattle.std.specs.Prelude.{ℕ, ◌≡◌, ◌<◌, ◌+◌, ◌==◌, length}
-use Rattle.inv_rows.specs.words.Place.Place.{Bucket, Row}
-use Rattle.inv_rows.specs.defs.Pairs.{changed, pairs_after}
-use Rattle.inv_rows.specs.model.Get.{key_place, value_place}
-use Rattle.inv_rows.specs.model.Calls.{ChangeKept}
-use Rattle.inv_rows.specs.model.World.{World}
-use Rattle.inv_rows.specs.Rows.{View}
-use Rattle.inv_rows.specs.Agree.{Agree}
+use Rattle.inv_covers.specs.words.Place.Place.{Bucket, Row}
+use Rattle.inv_covers.specs.defs.Pairs.{changed, pairs_after}
+use Rattle.inv_covers.specs.model.Get.{key_place, value_place}
+use Rattle.inv_covers.specs.model.Calls.{ChangeKept}
+use Rattle.inv_covers.specs.model.World.{World}
+use Rattle.inv_covers.specs.rows.Rows.{View}
+use Rattle.inv_covers.specs.rows.Agree.{Agree}
 use Rattle.inv_contents.specs.Knows.{pair_at, Decided}
 use Rattle.inv_contents.specs.Contents.{Contents, ground_of}
 

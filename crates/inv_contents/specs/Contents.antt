@@ -1,25 +1,25 @@
 -- What rows of the map and of the queue show in a World, what a step owes to the other parts of the invariant for it, and that steps keep it.
 use Rattle.std.specs.Prelude.{ℕ, ◌≡◌, ◌≤◌, ◌<◌, ◌-◌, ◌==◌, ◌%◌, true, length, Some}
-use Rattle.inv_rows.specs.words.Place.{is_valid}
-use Rattle.inv_rows.specs.words.declared.layout.Layout.{Layout}
-use Rattle.inv_rows.specs.words.Place.Place.{Row}
-use Rattle.inv_rows.specs.defs.declared.call.Call.{Call}
-use Rattle.inv_rows.specs.defs.declared.event.Root.{Root}
-use Rattle.inv_rows.specs.defs.declared.event.Root.TheVariants as roots
-use Rattle.inv_rows.specs.model.declared.ends.ProtectEnd.TheVariants as protect_ends
-use Rattle.inv_rows.specs.model.declared.post.Post.{Post}
-use Rattle.inv_rows.specs.model.Locals.{may_begin}
-use Rattle.inv_rows.specs.model.Phases.{QueueRow, Aim, ProtectAt, Base, Ends, Protected}
-use Rattle.inv_rows.specs.model.Phases.Base.{Protect}
-use Rattle.inv_rows.specs.model.Posts.{counted, stands}
-use Rattle.inv_rows.specs.model.Machine.{after}
-use Rattle.inv_rows.specs.model.Rounds.{key_of}
-use Rattle.inv_rows.specs.model.Calls.{EnqueueKept, ExchangeNext, Works, Enqueuing, ChangeKept, Gets, Changes, Holds, Opens, Runs}
-use Rattle.inv_rows.specs.model.Book.{Book}
-use Rattle.inv_rows.specs.model.World.{World, start, step, begin, finds}
-use Rattle.inv_rows.specs.Rows.{View, is_settled}
-use Rattle.inv_rows.specs.Rows.Status.{Linked}
-use Rattle.inv_rows.specs.Agree.{Agree, RowsNeeds, rows_after, first_rows}
+use Rattle.inv_covers.specs.words.Place.{is_valid}
+use Rattle.inv_covers.specs.words.declared.layout.Layout.{Layout}
+use Rattle.inv_covers.specs.words.Place.Place.{Row}
+use Rattle.inv_covers.specs.defs.declared.call.Call.{Call}
+use Rattle.inv_covers.specs.defs.declared.event.Root.{Root}
+use Rattle.inv_covers.specs.defs.declared.event.Root.TheVariants as roots
+use Rattle.inv_covers.specs.model.declared.ends.ProtectEnd.TheVariants as protect_ends
+use Rattle.inv_covers.specs.model.declared.post.Post.{Post}
+use Rattle.inv_covers.specs.model.Locals.{may_begin}
+use Rattle.inv_covers.specs.model.Phases.{QueueRow, Aim, ProtectAt, Base, Ends, Protected}
+use Rattle.inv_covers.specs.model.Phases.Base.{Protect}
+use Rattle.inv_covers.specs.model.Posts.{counted, stands}
+use Rattle.inv_covers.specs.model.Machine.{after}
+use Rattle.inv_covers.specs.model.Rounds.{key_of}
+use Rattle.inv_covers.specs.model.Calls.{EnqueueKept, ExchangeNext, Works, Enqueuing, ChangeKept, Gets, Changes, Holds, Opens, Runs}
+use Rattle.inv_covers.specs.model.Book.{Book}
+use Rattle.inv_covers.specs.model.World.{World, start, step, begin, finds}
+use Rattle.inv_covers.specs.rows.Rows.{View, is_settled}
+use Rattle.inv_covers.specs.rows.Rows.Status.{Linked}
+use Rattle.inv_covers.specs.rows.Agree.{Agree, RowsNeeds, rows_after, first_rows}
 use Rattle.inv_requests.specs.Parents.{rises_at}
 use Rattle.inv_requests.specs.shapes.Seats.{Seats}
 use Rattle.inv_requests.specs.shapes.Slots.{Slots}

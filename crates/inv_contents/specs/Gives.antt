@@ -1,15 +1,15 @@
 -- What other parts take of the queue's contents, and that what steps tell of the queue is right by the book.
 use Rattle.std.specs.Prelude.{ℕ, ◌≡◌, ◌≤◌, ◌+◌, true, List, [], ◌∷◌, length}
-use Rattle.inv_rows.specs.words.Place.Place.{Head, Row}
-use Rattle.inv_rows.specs.defs.declared.event.Event.{Event}
-use Rattle.inv_rows.specs.defs.declared.event.Event.TheVariants as events
-use Rattle.inv_rows.specs.model.Book.{Book}
-use Rattle.inv_rows.specs.model.Calls.{EnqueueKept, ExchangeNext, Work, Enqueuing, Works}
-use Rattle.inv_rows.specs.model.World.{World, finds, told_in}
+use Rattle.inv_covers.specs.words.Place.Place.{Head, Row}
+use Rattle.inv_covers.specs.defs.declared.event.Event.{Event}
+use Rattle.inv_covers.specs.defs.declared.event.Event.TheVariants as events
+use Rattle.inv_covers.specs.model.Book.{Book}
+use Rattle.inv_covers.specs.model.Calls.{EnqueueKept, ExchangeNext, Work, Enqueuing, Works}
+use Rattle.inv_covers.specs.model.World.{World, finds, told_in}
 use Rattle.inv_requests.specs.shapes.Slots.{work_finds}
-use Rattle.inv_rows.specs.Rows.{View, is_settled}
-use Rattle.inv_rows.specs.Queue.{Line}
-use Rattle.inv_rows.specs.Chain.{Both}
+use Rattle.inv_covers.specs.rows.Rows.{View, is_settled}
+use Rattle.inv_covers.specs.rows.Queue.{Line}
+use Rattle.inv_covers.specs.rows.Chain.{Both}
 use Rattle.inv_contents.specs.Contents.{Contents}
 use Rattle.inv_contents.specs.Knows.{reads_in}
 use Rattle.inv_contents.specs.Reads.{value_under}

@@ -1,17 +1,17 @@
 -- The contents of the queue in a World: what its rows show, how many values were queued and taken, and what seats have read.
 use Rattle.std.specs.Prelude.{ℕ, ◌≡◌, ◌≤◌, ◌<◌, ◌+◌, true, false, length}
-use Rattle.inv_rows.specs.words.Place.{Place, is_valid}
-use Rattle.inv_rows.specs.words.Place.Place.{Row}
-use Rattle.inv_rows.specs.words.declared.layout.Layout.{Layout}
-use Rattle.inv_rows.specs.defs.declared.call.Call.{Call}
-use Rattle.inv_rows.specs.model.Book.{Book}
-use Rattle.inv_rows.specs.model.Calls.{AfterScan, GiveBack, Scans}
-use Rattle.inv_rows.specs.model.World.{World, start, begin, step}
+use Rattle.inv_covers.specs.words.Place.{Place, is_valid}
+use Rattle.inv_covers.specs.words.Place.Place.{Row}
+use Rattle.inv_covers.specs.words.declared.layout.Layout.{Layout}
+use Rattle.inv_covers.specs.defs.declared.call.Call.{Call}
+use Rattle.inv_covers.specs.model.Book.{Book}
+use Rattle.inv_covers.specs.model.Calls.{AfterScan, GiveBack, Scans}
+use Rattle.inv_covers.specs.model.World.{World, start, begin, step}
 use Rattle.inv_requests.specs.shapes.Slots.{Slots}
-use Rattle.inv_rows.specs.Rows.{View}
-use Rattle.inv_rows.specs.Agree.{rows_after, first_rows}
-use Rattle.inv_rows.specs.Queue.{Line}
-use Rattle.inv_rows.specs.Chain.{Both, QueueNeeds, queue_of, line_after, first_line}
+use Rattle.inv_covers.specs.rows.Rows.{View}
+use Rattle.inv_covers.specs.rows.Agree.{rows_after, first_rows}
+use Rattle.inv_covers.specs.rows.Queue.{Line}
+use Rattle.inv_covers.specs.rows.Chain.{Both, QueueNeeds, queue_of, line_after, first_line}
 use Rattle.inv_contents.specs.Contents.{Contents}
 use Rattle.inv_contents.specs.Stands.{nexts_in}
 use Rattle.inv_contents.specs.Reads.{value_under, Reads}

@@ -1,14 +1,14 @@
 -- What a seat's phase knows of rows: what it has read of a row that stands, and what it has written of its own.
 use Rattle.std.specs.Prelude.{ℕ, ◌≡◌, ◌<◌, ◌+◌, ◌*◌, ◌%◌, ◌==◌, Bool, true, false, List, [], length, take, drop, slice_index_or, Some}
-use Rattle.inv_rows.specs.words.Place.{Place}
-use Rattle.inv_rows.specs.defs.Pairs.{Pair, changed, value_in}
-use Rattle.inv_rows.specs.defs.declared.event.Root.TheVariants as roots
-use Rattle.inv_rows.specs.model.Phases.{RowOf, Base}
-use Rattle.inv_rows.specs.model.Phases.Base.{Begin, Protect, Reload, Clear, Finish, Release, Allocate, Write, GiveUp, Retire, Move}
-use Rattle.inv_rows.specs.model.Rounds.{key_of}
-use Rattle.inv_rows.specs.model.Change.{new_row}
-use Rattle.inv_rows.specs.model.Enqueue.{new_item}
-use Rattle.inv_rows.specs.model.Calls.{EnqueueKept, EnqueueAt, LoadNumber, LoadNext, PassTail, ExchangeNext, ExchangeTail, ChangeKept, Task, Gets, Changes, Holds, Enqueues, Dequeues, Why, Opens, FollowsHead, Fills, GetAt, FindVersion, FindCount, FindKey, FindValue, ChangeAt, LoadVersion, LoadCount, LoadKey, LoadValue, ExchangeRoot, KeepAt, Looks, Work, Getting, Changing, Enqueuing, Dequeuing, Keeping, Phase, Idle, Runs, Scans, Works}
+use Rattle.inv_covers.specs.words.Place.{Place}
+use Rattle.inv_covers.specs.defs.Pairs.{Pair, changed, value_in}
+use Rattle.inv_covers.specs.defs.declared.event.Root.TheVariants as roots
+use Rattle.inv_covers.specs.model.Phases.{RowOf, Base}
+use Rattle.inv_covers.specs.model.Phases.Base.{Begin, Protect, Reload, Clear, Finish, Release, Allocate, Write, GiveUp, Retire, Move}
+use Rattle.inv_covers.specs.model.Rounds.{key_of}
+use Rattle.inv_covers.specs.model.Change.{new_row}
+use Rattle.inv_covers.specs.model.Enqueue.{new_item}
+use Rattle.inv_covers.specs.model.Calls.{EnqueueKept, EnqueueAt, LoadNumber, LoadNext, PassTail, ExchangeNext, ExchangeTail, ChangeKept, Task, Gets, Changes, Holds, Enqueues, Dequeues, Why, Opens, FollowsHead, Fills, GetAt, FindVersion, FindCount, FindKey, FindValue, ChangeAt, LoadVersion, LoadCount, LoadKey, LoadValue, ExchangeRoot, KeepAt, Looks, Work, Getting, Changing, Enqueuing, Dequeuing, Keeping, Phase, Idle, Runs, Scans, Works}
 use Rattle.inv_contents.specs.Shelf.{Shelf, Filled}
 
 -- what a seat's knowledge is of: the number of buckets, what rows show by the book, and the words

@@ -1,7 +1,7 @@
-pub use Rattle.inv_rows.specs as rows
-pub use Rattle.inv_rows.specs.model as model
-pub use Rattle.inv_rows.specs.defs as defs
-pub use Rattle.inv_rows.specs.words as words
+pub use Rattle.inv_covers.specs.rows as rows
+pub use Rattle.inv_covers.specs.model as model
+pub use Rattle.inv_covers.specs.defs as defs
+pub use Rattle.inv_covers.specs.words as words
 pub mod Bounded
 pub mod Buckets
 pub mod Contents

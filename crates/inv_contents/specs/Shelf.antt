@@ -1,14 +1,14 @@
 -- What the book says that each row of the map shows, and when the words of a row show it.
 use Rattle.std.specs.Prelude.{ℕ, ◌≡◌, ◌≤◌, ◌<◌, ◌+◌, ◌-◌, ◌*◌, List, [], length, take, slice_index_or}
-use Rattle.inv_rows.specs.words.Place.{Place}
-use Rattle.inv_rows.specs.words.Place.Place.{Row}
-use Rattle.inv_rows.specs.defs.Pairs.{Pair, pairs_after}
-use Rattle.inv_rows.specs.defs.declared.event.Root.{Root}
-use Rattle.inv_rows.specs.defs.declared.event.Root.TheVariants as roots
-use Rattle.inv_rows.specs.defs.declared.fold.Change.{Change}
-use Rattle.inv_rows.specs.model.Book.{Book}
-use Rattle.inv_rows.specs.model.Phases.{RowOf, MapRow}
-use Rattle.inv_rows.specs.model.WriteRow.{row_word}
+use Rattle.inv_covers.specs.words.Place.{Place}
+use Rattle.inv_covers.specs.words.Place.Place.{Row}
+use Rattle.inv_covers.specs.defs.Pairs.{Pair, pairs_after}
+use Rattle.inv_covers.specs.defs.declared.event.Root.{Root}
+use Rattle.inv_covers.specs.defs.declared.event.Root.TheVariants as roots
+use Rattle.inv_covers.specs.defs.declared.fold.Change.{Change}
+use Rattle.inv_covers.specs.model.Book.{Book}
+use Rattle.inv_covers.specs.model.Phases.{RowOf, MapRow}
+use Rattle.inv_covers.specs.model.WriteRow.{row_word}
 
 -- by slot: the root and the version under which the row was linked last, and the pairs of the bucket at that version; by
 -- bucket how often it was changed; and by slot the value that was queued under the row's number

@@ -1,15 +1,15 @@
 -- Each row that a call works on stands at an index of its seat: what it has protected and reads on at index 0, the row after
 -- the head that a dequeue has followed at index 1, and what a look reads at the index that it looks at.
 use Rattle.std.specs.Prelude.{ℕ, ◌≡◌, ◌==◌, Bool, true, false, Some}
-use Rattle.inv_rows.specs.words.declared.layout.Layout.{Layout}
-use Rattle.inv_rows.specs.defs.declared.call.Call.{Call}
-use Rattle.inv_rows.specs.model.declared.post.Post.{Post}
-use Rattle.inv_rows.specs.model.Posts.{stands}
-use Rattle.inv_rows.specs.model.Calls.{DequeueAt, LoadTail, SwingTail, TakeNumber, TakeValue, ExchangeHead, Looks, Work, Getting, Changing, Enqueuing, Dequeuing, Keeping, Phase, Idle, Runs, Scans, Works}
-use Rattle.inv_rows.specs.model.World.{World, start, begin, step}
+use Rattle.inv_covers.specs.words.declared.layout.Layout.{Layout}
+use Rattle.inv_covers.specs.defs.declared.call.Call.{Call}
+use Rattle.inv_covers.specs.model.declared.post.Post.{Post}
+use Rattle.inv_covers.specs.model.Posts.{stands}
+use Rattle.inv_covers.specs.model.Calls.{DequeueAt, LoadTail, SwingTail, TakeNumber, TakeValue, ExchangeHead, Looks, Work, Getting, Changing, Enqueuing, Dequeuing, Keeping, Phase, Idle, Runs, Scans, Works}
+use Rattle.inv_covers.specs.model.World.{World, start, begin, step}
 use Rattle.inv_requests.specs.shapes.Seats.{Seats}
 use Rattle.inv_requests.specs.Parents.{Parents}
-use Rattle.inv_rows.specs.Queue.{stands_on}
+use Rattle.inv_covers.specs.rows.Queue.{stands_on}
 use Rattle.inv_contents.specs.Knows.{reads_in}
 
 abbrev pub dequeue_nexts : DequeueAt → ℕ → Bool

@@ -1,16 +1,16 @@
 -- What a step tells of the map and of the queue is what the changes of the bucket say that were told before it.
 use Rattle.std.specs.Prelude.{ℕ, ◌≡◌, ◌≤◌, ◌+◌, ◌%◌, List, [], ◌∷◌, length, take, Option}
-use Rattle.inv_rows.specs.defs.Pairs.{pairs_after, value_in}
-use Rattle.inv_rows.specs.defs.declared.event.Event.{Event}
-use Rattle.inv_rows.specs.defs.declared.call.Answer.TheVariants as answers
-use Rattle.inv_rows.specs.defs.declared.event.Event.TheVariants as events
-use Rattle.inv_rows.specs.defs.declared.event.Root.TheVariants as roots
-use Rattle.inv_rows.specs.model.Book.{Book}
-use Rattle.inv_rows.specs.model.Calls.{Answers, GetAt, Looks, Keeping, Works}
-use Rattle.inv_rows.specs.model.Locals.{turn}
-use Rattle.inv_rows.specs.model.World.{World, finds, told_in}
-use Rattle.inv_rows.specs.Rows.{View}
-use Rattle.inv_rows.specs.Agree.{Agree, RowsNeeds}
+use Rattle.inv_covers.specs.defs.Pairs.{pairs_after, value_in}
+use Rattle.inv_covers.specs.defs.declared.event.Event.{Event}
+use Rattle.inv_covers.specs.defs.declared.call.Answer.TheVariants as answers
+use Rattle.inv_covers.specs.defs.declared.event.Event.TheVariants as events
+use Rattle.inv_covers.specs.defs.declared.event.Root.TheVariants as roots
+use Rattle.inv_covers.specs.model.Book.{Book}
+use Rattle.inv_covers.specs.model.Calls.{Answers, GetAt, Looks, Keeping, Works}
+use Rattle.inv_covers.specs.model.Locals.{turn}
+use Rattle.inv_covers.specs.model.World.{World, finds, told_in}
+use Rattle.inv_covers.specs.rows.Rows.{View}
+use Rattle.inv_covers.specs.rows.Agree.{Agree, RowsNeeds}
 use Rattle.inv_contents.specs.Contents.{Contents, ContentsNeeds}
 
 -- a get tells a version that there was, and the key's value among the pairs at that version

@@ -1,20 +1,20 @@
 -- What a step tells and finds of the queue, where it neither adds to it nor takes from it nor changes a bucket.
 use Rattle.std.specs.Prelude.{ℕ, ◌≡◌, ◌<◌, ◌+◌, ◌==◌, ◌&&◌, Bool, true, false, List, [], ◌∷◌}
-use Rattle.inv_rows.specs.defs.declared.call.Call.{Call}
-use Rattle.inv_rows.specs.defs.declared.event.Event.{Event}
-use Rattle.inv_rows.specs.defs.declared.event.Event.TheVariants as events
-use Rattle.inv_rows.specs.model.declared.ends.FollowEnd.{FollowEnd}
-use Rattle.inv_rows.specs.model.declared.ends.FollowEnd.TheVariants as follow_ends
-use Rattle.inv_rows.specs.model.declared.post.Post.{Post}
-use Rattle.inv_rows.specs.model.Book.{Book, booked_all}
-use Rattle.inv_rows.specs.model.Desks.{Desk}
-use Rattle.inv_rows.specs.model.Machine as machine
-use Rattle.inv_rows.specs.model.Phases.{Ending, Outcome, Goes, Ends}
-use Rattle.inv_rows.specs.model.Phases.Ending.{Done, Protected, Followed, Allocated, Retired, Clocked}
-use Rattle.inv_rows.specs.model.Calls.{ChangeKept, EnqueueKept, Why, Opens, FollowsHead, ChangeAt, LoadVersion, LoadCount, LoadKey, LoadValue, ExchangeRoot, EnqueueAt, LoadNumber, LoadNext, PassTail, ExchangeNext, ExchangeTail, DequeueAt, LoadTail, SwingTail, TakeNumber, TakeValue, ExchangeHead, Work, Getting, Changing, Enqueuing, Dequeuing, Keeping, Phase, Idle, Runs, Scans, Works, CallTurn}
-use Rattle.inv_rows.specs.model.Steps.{phase_turn, first_phase}
+use Rattle.inv_covers.specs.defs.declared.call.Call.{Call}
+use Rattle.inv_covers.specs.defs.declared.event.Event.{Event}
+use Rattle.inv_covers.specs.defs.declared.event.Event.TheVariants as events
+use Rattle.inv_covers.specs.model.declared.ends.FollowEnd.{FollowEnd}
+use Rattle.inv_covers.specs.model.declared.ends.FollowEnd.TheVariants as follow_ends
+use Rattle.inv_covers.specs.model.declared.post.Post.{Post}
+use Rattle.inv_covers.specs.model.Book.{Book, booked_all}
+use Rattle.inv_covers.specs.model.Desks.{Desk}
+use Rattle.inv_covers.specs.model.Machine as machine
+use Rattle.inv_covers.specs.model.Phases.{Ending, Outcome, Goes, Ends}
+use Rattle.inv_covers.specs.model.Phases.Ending.{Done, Protected, Followed, Allocated, Retired, Clocked}
+use Rattle.inv_covers.specs.model.Calls.{ChangeKept, EnqueueKept, Why, Opens, FollowsHead, ChangeAt, LoadVersion, LoadCount, LoadKey, LoadValue, ExchangeRoot, EnqueueAt, LoadNumber, LoadNext, PassTail, ExchangeNext, ExchangeTail, DequeueAt, LoadTail, SwingTail, TakeNumber, TakeValue, ExchangeHead, Work, Getting, Changing, Enqueuing, Dequeuing, Keeping, Phase, Idle, Runs, Scans, Works, CallTurn}
+use Rattle.inv_covers.specs.model.Steps.{phase_turn, first_phase}
 use Rattle.inv_requests.specs.shapes.Frame.{phase_left}
-use Rattle.inv_rows.specs.Queue.{Line}
+use Rattle.inv_covers.specs.rows.Queue.{Line}
 use Rattle.inv_contents.specs.Reads.{value_under, Reads}
 
 -- the event leaves what the book says of the queue and of the changes of buckets

@@ -1,6 +1,6 @@
-pub use Rattle.law_steps.proofs.held as held
-pub use Rattle.law_steps.proofs.inv as inv
-pub use Rattle.law_letter.proofs as letter
-pub use Rattle.law_reasons.proofs as reasons
-pub use Rattle.law_steps.proofs as steps
+pub use Rattle.law_logs.proofs.laws as laws
+pub use Rattle.law_logs.proofs as logs
+pub use Rattle.law_logs.proofs.held as held
+pub use Rattle.law_logs.proofs.inv as inv
+pub mod Runs
 pub mod Whole

@@ -1,65 +1,65 @@
 -- Each law is proved in its crate; here they are joined.
-use Rattle.law_steps.proofs.held.reuse.Reuse.Keeps as reuse
-use Rattle.law_steps.proofs.answers.Lawful.Counts as steps
-use Rattle.law_steps.proofs.answers.Lawful.Maps as maps
-use Rattle.law_steps.proofs.answers.Lawful.Queues as queues
-use Rattle.law_steps.proofs.held.reuse.Once.Births as births
-use Rattle.law_steps.proofs.held.reuse.Once.Keeps as once
-use Rattle.law_steps.proofs.held.reuse.Blocks.Counts as counts
-use Rattle.law_steps.proofs.held.reuse.Blocks.Keeps as scans
-use Rattle.law_steps.proofs.held.reuse.Blocks.Shown as reads
-use Rattle.law_steps.proofs.eras.EraLaw.Keeps as eras
-use Rattle.law_steps.proofs.answers.AnswersTold.Answering as answers
-use Rattle.law_steps.proofs.held.places.Placing.Keeps as placing
-use Rattle.law_steps.proofs.held.places.Ordering.Linked as nexts
-use Rattle.law_steps.proofs.held.places.Ordering.Ordered as order
-use Rattle.law_steps.proofs.held.places.BareEnds as bare
-use Rattle.law_reasons.proofs.Reasons.Keeps as reasons
-use Rattle.law_steps.proofs.answers.Turns.Counted as turns
-use Rattle.law_steps.proofs.turns.Counting.Bounded as bounded
-use Rattle.law_steps.proofs.turns.Counting.Counting as numbers
-use Rattle.law_steps.proofs.turns.Handovers as handed
-use Rattle.law_steps.proofs.answers.OneStep.OneStep as one_step
-use Rattle.law_steps.proofs.turns.TryCounts as tries
-use Rattle.law_steps.proofs.scans.ClockTimes.Timely as times
-use Rattle.law_steps.proofs.held.Indexes.Clears as clears
-use Rattle.law_steps.proofs.held.Roots.Finding as finds
-use Rattle.law_steps.proofs.held.Indexes.Indexing as indexes
-use Rattle.law_steps.proofs.held.Roots.Following as follows
-use Rattle.law_steps.proofs.held.Roots.Linking as links
-use Rattle.law_steps.proofs.held.Roots.Sources as sources
-use Rattle.law_steps.proofs.inv.Finish as finishes
-use Rattle.law_steps.proofs.eras.Current.Keeps as current
-use Rattle.law_steps.proofs.Rising.RiseKeeps as rising
-use Rattle.law_steps.proofs.held.NextRows.Following as behind
-use Rattle.law_steps.proofs.held.GotRows.Gots as gots
-use Rattle.law_steps.proofs.held.Resting.Resting as rests
-use Rattle.law_steps.proofs.held.Held.Throughout as throughout
-use Rattle.law_reasons.proofs.Full.Keeps as rooms
-use Rattle.law_reasons.proofs.Repeats.Keeps as repeating
-use Rattle.law_steps.proofs.turns.Withdrawals.Due as due_words
-use Rattle.law_steps.proofs.Asking.Helping as helping
-use Rattle.law_steps.proofs.Raises.Raised as raised
-use Rattle.law_steps.proofs.turns.TurnCounts.Underway as underway
-use Rattle.law_steps.proofs.Asking.Kept as asking
-use Rattle.law_steps.proofs.CallCounts.Ends as call_counts
-use Rattle.law_steps.proofs.answers.OpenCalls as open_calls
-use Rattle.law_steps.proofs.scans.FewRetired.Few as few
-use Rattle.law_steps.proofs.scans.FewRetired.Plain as plain
-use Rattle.law_steps.proofs.held.Indexes.Alone as alone
-use Rattle.law_steps.proofs.eras.EraLaw.Guards as named
-use Rattle.law_reasons.proofs.Ranges.Records as ranges
-use Rattle.law_steps.proofs.turns.Withdrawals.Entries as next_withdrawals
-use Rattle.law_steps.proofs.Tried as tried
-use Rattle.law_steps.proofs.Asking.Owning as asked
-use Rattle.law_steps.proofs.answers.shapes.Shapes.{guards_some}
-use Rattle.law_letter.proofs.Letters.{laws_follow}
-use Rattle.law_letter.specs.Letters.{Kept}
+use Rattle.law_logs.proofs.held.reuse.Reuse.Keeps as reuse
+use Rattle.law_logs.proofs.steps.answers.Lawful.Counts as steps
+use Rattle.law_logs.proofs.steps.answers.Lawful.Maps as maps
+use Rattle.law_logs.proofs.steps.answers.Lawful.Queues as queues
+use Rattle.law_logs.proofs.held.reuse.Once.Births as births
+use Rattle.law_logs.proofs.held.reuse.Once.Keeps as once
+use Rattle.law_logs.proofs.held.reuse.Blocks.Counts as counts
+use Rattle.law_logs.proofs.held.reuse.Blocks.Keeps as scans
+use Rattle.law_logs.proofs.held.reuse.Blocks.Shown as reads
+use Rattle.law_logs.proofs.steps.eras.EraLaw.Keeps as eras
+use Rattle.law_logs.proofs.steps.answers.AnswersTold.Answering as answers
+use Rattle.law_logs.proofs.held.places.Placing.Keeps as placing
+use Rattle.law_logs.proofs.held.places.Ordering.Linked as nexts
+use Rattle.law_logs.proofs.held.places.Ordering.Ordered as order
+use Rattle.law_logs.proofs.held.places.BareEnds as bare
+use Rattle.law_logs.proofs.reasons.Reasons.Keeps as reasons
+use Rattle.law_logs.proofs.steps.answers.Turns.Counted as turns
+use Rattle.law_logs.proofs.steps.turns.Counting.Bounded as bounded
+use Rattle.law_logs.proofs.steps.turns.Counting.Counting as numbers
+use Rattle.law_logs.proofs.steps.turns.Handovers as handed
+use Rattle.law_logs.proofs.steps.answers.OneStep.OneStep as one_step
+use Rattle.law_logs.proofs.steps.turns.TryCounts as tries
+use Rattle.law_logs.proofs.steps.scans.ClockTimes.Timely as times
+use Rattle.law_logs.proofs.held.Indexes.Clears as clears
+use Rattle.law_logs.proofs.held.Roots.Finding as finds
+use Rattle.law_logs.proofs.held.Indexes.Indexing as indexes
+use Rattle.law_logs.proofs.held.Roots.Following as follows
+use Rattle.law_logs.proofs.held.Roots.Linking as links
+use Rattle.law_logs.proofs.held.Roots.Sources as sources
+use Rattle.law_logs.proofs.inv.Finish as finishes
+use Rattle.law_logs.proofs.steps.eras.Current.Keeps as current
+use Rattle.law_logs.proofs.steps.Rising.RiseKeeps as rising
+use Rattle.law_logs.proofs.held.NextRows.Following as behind
+use Rattle.law_logs.proofs.held.GotRows.Gots as gots
+use Rattle.law_logs.proofs.held.Resting.Resting as rests
+use Rattle.law_logs.proofs.held.Held.Throughout as throughout
+use Rattle.law_logs.proofs.reasons.Full.Keeps as rooms
+use Rattle.law_logs.proofs.reasons.Repeats.Keeps as repeating
+use Rattle.law_logs.proofs.steps.turns.Withdrawals.Due as due_words
+use Rattle.law_logs.proofs.steps.Asking.Helping as helping
+use Rattle.law_logs.proofs.steps.Raises.Raised as raised
+use Rattle.law_logs.proofs.steps.turns.TurnCounts.Underway as underway
+use Rattle.law_logs.proofs.steps.Asking.Kept as asking
+use Rattle.law_logs.proofs.steps.CallCounts.Ends as call_counts
+use Rattle.law_logs.proofs.steps.answers.OpenCalls as open_calls
+use Rattle.law_logs.proofs.steps.scans.FewRetired.Few as few
+use Rattle.law_logs.proofs.steps.scans.FewRetired.Plain as plain
+use Rattle.law_logs.proofs.held.Indexes.Alone as alone
+use Rattle.law_logs.proofs.steps.eras.EraLaw.Guards as named
+use Rattle.law_logs.proofs.reasons.Ranges.Records as ranges
+use Rattle.law_logs.proofs.steps.turns.Withdrawals.Entries as next_withdrawals
+use Rattle.law_logs.proofs.steps.Tried as tried
+use Rattle.law_logs.proofs.steps.Asking.Owning as asked
+use Rattle.law_logs.proofs.steps.answers.shapes.Shapes.{guards_some}
+use Rattle.law_logs.proofs.letter.Letters.{laws_follow}
+use Rattle.law_logs.specs.letter.Letters.{Kept}
 use Rattle.std.specs.Prelude.{◌≡◌, true, List}
-use Rattle.wfe_core.specs.words.Place.{is_valid}
-use Rattle.wfe_core.specs.words.declared.layout.Layout.{Layout}
-use Rattle.law_steps.specs.inv.history.Heard.{heard_of}
-use Rattle.law_steps.specs.inv.history.History.{Item, record_of}
+use Rattle.law_logs.specs.inv.model.words.Place.{is_valid}
+use Rattle.law_logs.specs.inv.model.words.declared.layout.Layout.{Layout}
+use Rattle.law_logs.specs.inv.history.Heard.{heard_of}
+use Rattle.law_logs.specs.inv.history.History.{Item, record_of}
 use Rattle.law_all.specs.Whole.{HistoriesLawful}
 
 -- what is proved of each history's record and turns

@@ -1,7 +1,8 @@
-pub use Rattle.law_steps.specs.held as held
-pub use Rattle.law_steps.specs.inv as inv
-pub use Rattle.law_letter.specs as letter
-pub use Rattle.law_reasons.specs as reasons
-pub use Rattle.law_steps.specs as steps
+pub use Rattle.law_logs.specs.laws as laws
+pub use Rattle.law_logs.specs as logs
+pub use Rattle.law_logs.specs.inv as inv
+pub mod Kept
+pub mod RunLaw
+pub mod Runs
 pub mod Schedule
 pub mod Whole

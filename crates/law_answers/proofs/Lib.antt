@@ -1,3 +1,4 @@
+pub use Rattle.laws.proofs as laws
 pub use Rattle.inv_all.proofs as inv
 pub use Rattle.inv_all.proofs.shapes as shapes
 pub use Rattle.inv_all.proofs.history as history

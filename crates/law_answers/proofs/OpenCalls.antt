@@ -2,9 +2,9 @@
 use Rattle.std.proofs.Common.{ℕ, ◌≡◌, ◌+◌, Bool, true, false, List, [], ◌∷◌, refl, sym, ap, ◌∙◌, subst, arith}
 use Rattle.std.proofs.lemmas.Bool.Decides.{nat_tests}
 use Rattle.std.specs.Prelude.{◌==◌, ◌&&◌, not, if◌then◌else◌}
-use Rattle.wfe_core.specs.defs.declared.event.Event.{Event}
-use Rattle.wfe_core.specs.defs.declared.event.Event.TheVariants as events
-use Rattle.wfe_core.proofs.Facts.{first_of, rest_of}
+use Rattle.inv_all.specs.model.defs.declared.event.Event.{Event}
+use Rattle.inv_all.specs.model.defs.declared.event.Event.TheVariants as events
+use Rattle.inv_all.proofs.model.Facts.{first_of, rest_of}
 use Rattle.inv_all.specs.history.Record.{Past, Each, tells_of}
 use Rattle.inv_all.specs.history.Record.Past.{Then}
 use Rattle.inv_all.specs.history.Turns as schedule

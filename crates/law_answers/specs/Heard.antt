@@ -1,16 +1,16 @@
 -- What a history of the machines is as starts of calls and turns, with what each turn told.
-use Rattle.wfe_core.specs.Calls.{GoesOn, Phase}
+use Rattle.inv_all.specs.model.Calls.{GoesOn, Phase}
 use Rattle.inv_all.specs.history.History.{Item, world_of}
-use Rattle.wfe_core.specs.words.declared.layout.Layout.{Layout}
+use Rattle.inv_all.specs.model.words.declared.layout.Layout.{Layout}
 use Rattle.std.specs.Prelude.{List, true, ℕ, ◌≡◌, ◌<◌, ◌+◌, ◌^◌}
-use Rattle.wfe_core.specs.Locals.{busy_in, turn}
-use Rattle.wfe_core.specs.World.{finds, step}
+use Rattle.inv_all.specs.model.Locals.{busy_in, turn}
+use Rattle.inv_all.specs.model.World.{finds, step}
 use Rattle.inv_all.specs.history.History as histories
-use Rattle.wfe_core.specs.Rest.{rest}
+use Rattle.inv_all.specs.model.Rest.{rest}
 use Rattle.inv_all.specs.history.Turns as schedule
-use Rattle.wfe_core.specs.World as worlds
+use Rattle.inv_all.specs.model.World as worlds
 use Rattle.inv_all.specs.history.Heard.{heard_of}
-use Rattle.wfe_core.specs.words.Place.{is_valid}
+use Rattle.inv_all.specs.model.words.Place.{is_valid}
 
 pub record IsCounted (layout : Layout) (items : List Item) : Type 0 where
   pub counts : schedule.CountsTurns (heard_of layout items)

@@ -1,7 +1,7 @@
 -- The law of the map, over records.
 use Rattle.std.specs.Prelude.{◌≡◌, true, List}
-use Rattle.wfe_core.specs.words.Place.{is_valid}
-use Rattle.wfe_core.specs.words.declared.layout.Layout.{Layout}
+use Rattle.inv_all.specs.model.words.Place.{is_valid}
+use Rattle.inv_all.specs.model.words.declared.layout.Layout.{Layout}
 use Rattle.laws.specs.MapLaw.{MapLaw}
 use Rattle.inv_all.specs.history.History.{Item, record_of}
 

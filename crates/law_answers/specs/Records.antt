@@ -1,9 +1,9 @@
 -- What the record and the turns of each history keep, whatever calls begin and whichever seats make their steps.
 use Rattle.std.specs.Prelude.{List, true, ℕ, ◌≡◌}
-use Rattle.wfe_core.specs.World.{World}
-use Rattle.wfe_core.specs.words.Place.{is_valid}
-use Rattle.wfe_core.specs.words.Schemes.{is_wfe}
-use Rattle.wfe_core.specs.words.declared.layout.Layout.{Layout}
+use Rattle.inv_all.specs.model.World.{World}
+use Rattle.inv_all.specs.model.words.Place.{is_valid}
+use Rattle.inv_all.specs.model.words.Schemes.{is_wfe}
+use Rattle.inv_all.specs.model.words.declared.layout.Layout.{Layout}
 use Rattle.inv_all.specs.history.Heard.{heard_of}
 use Rattle.inv_all.specs.history.History.{Item, record_of, world_of}
 use Rattle.inv_all.specs.history.Record.{EachEntry, Past}

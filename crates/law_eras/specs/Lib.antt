@@ -1,4 +1,6 @@
-pub use Rattle.law_answers.specs as answers
+pub use Rattle.law_reuse.specs.inv as inv
+pub use Rattle.law_reuse.specs.laws as laws
+pub use Rattle.law_reuse.specs.answers as answers
 pub use Rattle.law_reuse.specs as reuse
 pub mod Current
 pub mod Records

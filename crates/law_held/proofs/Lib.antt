@@ -1,3 +1,5 @@
+pub use Rattle.law_turns.proofs.inv as inv
+pub use Rattle.law_turns.proofs.laws as laws
 pub use Rattle.law_places.proofs as places
 pub use Rattle.law_places.proofs.reuse as reuse
 pub use Rattle.law_turns.proofs as turns

@@ -2,45 +2,45 @@
 use Rattle.std.proofs.Common.{ℕ, ◌≡◌, ◌<◌, ◌+◌, ◌-◌, Bool, true, false, List, [], ◌∷◌, ◌++◌, Option, Some, None, refl, sym, ap, ◌∙◌, subst, arith}
 use Rattle.std.proofs.lemmas.Bool.Decides.{nat_tests}
 use Rattle.std.specs.Prelude.{◌==◌, if◌then◌else◌, not}
-use Rattle.wfe_core.proofs.Facts.{both, first_of, rest_of, same_number}
-use Rattle.wfe_core.specs.Calls.{Gets, Changes, Holds, Enqueues, Dequeues, Why, Opens, FollowsHead, Keeping, Loosens, LoadHeld, StoreHeld, Looks, Misses, Getting, Changing, Enqueuing, Dequeuing, ReadGuard, GiveBack, Work, Phase, Idle, Runs, Scans, Works, CallTurn, CallOutcome, GoesOn, Answers}
-use Rattle.wfe_core.specs.Locals.{told_end, turn}
-use Rattle.wfe_core.specs.Machine as machine
-use Rattle.wfe_core.specs.Memory.{bump}
-use Rattle.wfe_core.specs.Phases.{Aim, ProtectAt, Base, Turn}
-use Rattle.wfe_core.specs.Phases.Base.{Protect, Reload}
-use Rattle.wfe_core.specs.Phases.ProtectAt.{CheckClock, TakeAnswer, CheckUpper}
-use Rattle.wfe_core.specs.Rounds.{let_index, scheme_of}
-use Rattle.wfe_core.specs.words.Schemes.{has_one_interval}
-use Rattle.wfe_core.specs.defs.declared.fold.Change.TheVariants as changes
-use Rattle.wfe_core.specs.defs.declared.fold.Change.{Change}
-use Rattle.wfe_core.specs.Posts.{cleared, counted, reserves_index, stands, upper}
-use Rattle.wfe_core.specs.Protect as protects
-use Rattle.wfe_core.specs.World.{World, finds, told_in}
-use Rattle.wfe_core.specs.declared.post.Post.{Post}
-use Rattle.wfe_core.specs.defs.declared.call.Call.TheVariants as calls
-use Rattle.wfe_core.specs.defs.declared.call.Call.{Call}
-use Rattle.wfe_core.specs.defs.declared.event.Event.TheVariants as events
-use Rattle.wfe_core.specs.defs.declared.event.Event.{Event}
-use Rattle.wfe_core.specs.defs.declared.event.Root.TheVariants as roots
-use Rattle.wfe_core.specs.defs.declared.event.Root.{Root}
-use Rattle.wfe_core.specs.words.declared.layout.Layout.{Layout}
-use Rattle.laws.specs.StateAt.{RowShows, began_of, bucket_of, shows_of}
-use Rattle.law_all.specs.inv.Inv.{Inv}
-use Rattle.law_all.specs.inv.requests.Parents.{rises_at}
-use Rattle.law_all.specs.inv.shapes.Seats.{kind_of, suits}
-use Rattle.law_all.specs.inv.history.Record.Past.{Then}
-use Rattle.law_all.specs.inv.history.Record.{Each, Past, tells_of}
-use Rattle.law_all.proofs.inv.Inv.Whole.{contents_need}
-use Rattle.law_all.proofs.inv.contents.Contents.Keeps.{rises_counted}
-use Rattle.law_all.proofs.inv.handover.Asks.{run_of}
-use Rattle.law_all.proofs.inv.history.AllOf.{all_of, of_along, of_weaker}
-use Rattle.law_all.proofs.inv.history.MayTell as mays
-use Rattle.law_all.proofs.inv.history.MayTell.{concluded_told, is_find, no_find, clear_any}
-use Rattle.law_all.proofs.inv.history.Passes.{Closed, First, is_quiet, step_goes, work_told, copied_told}
-use Rattle.law_all.proofs.held.places.answers.AnswersTold.Owed.{Serves, WhyServes, call_for}
-use Rattle.law_all.proofs.held.places.Placing.Marks.{InOrder, is_common, ordered, step_order}
-use Rattle.law_all.proofs.reasons.Reasons.Shows.{Shows}
+use Rattle.law_steps.proofs.inv.model.Facts.{both, first_of, rest_of, same_number}
+use Rattle.law_steps.specs.inv.model.Calls.{Gets, Changes, Holds, Enqueues, Dequeues, Why, Opens, FollowsHead, Keeping, Loosens, LoadHeld, StoreHeld, Looks, Misses, Getting, Changing, Enqueuing, Dequeuing, ReadGuard, GiveBack, Work, Phase, Idle, Runs, Scans, Works, CallTurn, CallOutcome, GoesOn, Answers}
+use Rattle.law_steps.specs.inv.model.Locals.{told_end, turn}
+use Rattle.law_steps.specs.inv.model.Machine as machine
+use Rattle.law_steps.specs.inv.model.Memory.{bump}
+use Rattle.law_steps.specs.inv.model.Phases.{Aim, ProtectAt, Base, Turn}
+use Rattle.law_steps.specs.inv.model.Phases.Base.{Protect, Reload}
+use Rattle.law_steps.specs.inv.model.Phases.ProtectAt.{CheckClock, TakeAnswer, CheckUpper}
+use Rattle.law_steps.specs.inv.model.Rounds.{let_index, scheme_of}
+use Rattle.law_steps.specs.inv.model.words.Schemes.{has_one_interval}
+use Rattle.law_steps.specs.inv.model.defs.declared.fold.Change.TheVariants as changes
+use Rattle.law_steps.specs.inv.model.defs.declared.fold.Change.{Change}
+use Rattle.law_steps.specs.inv.model.Posts.{cleared, counted, reserves_index, stands, upper}
+use Rattle.law_steps.specs.inv.model.Protect as protects
+use Rattle.law_steps.specs.inv.model.World.{World, finds, told_in}
+use Rattle.law_steps.specs.inv.model.declared.post.Post.{Post}
+use Rattle.law_steps.specs.inv.model.defs.declared.call.Call.TheVariants as calls
+use Rattle.law_steps.specs.inv.model.defs.declared.call.Call.{Call}
+use Rattle.law_steps.specs.inv.model.defs.declared.event.Event.TheVariants as events
+use Rattle.law_steps.specs.inv.model.defs.declared.event.Event.{Event}
+use Rattle.law_steps.specs.inv.model.defs.declared.event.Root.TheVariants as roots
+use Rattle.law_steps.specs.inv.model.defs.declared.event.Root.{Root}
+use Rattle.law_steps.specs.inv.model.words.declared.layout.Layout.{Layout}
+use Rattle.law_steps.specs.laws.StateAt.{RowShows, began_of, bucket_of, shows_of}
+use Rattle.law_steps.specs.inv.Inv.{Inv}
+use Rattle.law_steps.specs.inv.requests.Parents.{rises_at}
+use Rattle.law_steps.specs.inv.shapes.Seats.{kind_of, suits}
+use Rattle.law_steps.specs.inv.history.Record.Past.{Then}
+use Rattle.law_steps.specs.inv.history.Record.{Each, Past, tells_of}
+use Rattle.law_steps.proofs.inv.Inv.Whole.{contents_need}
+use Rattle.law_steps.proofs.inv.contents.Contents.Keeps.{rises_counted}
+use Rattle.law_steps.proofs.inv.handover.Asks.{run_of}
+use Rattle.law_steps.proofs.inv.history.AllOf.{all_of, of_along, of_weaker}
+use Rattle.law_steps.proofs.inv.history.MayTell as mays
+use Rattle.law_steps.proofs.inv.history.MayTell.{concluded_told, is_find, no_find, clear_any}
+use Rattle.law_steps.proofs.inv.history.Passes.{Closed, First, is_quiet, step_goes, work_told, copied_told}
+use Rattle.law_steps.proofs.held.places.answers.AnswersTold.Owed.{Serves, WhyServes, call_for}
+use Rattle.law_steps.proofs.held.places.Placing.Marks.{InOrder, is_common, ordered, step_order}
+use Rattle.law_reasons.proofs.Reasons.Shows.{Shows}
 use Rattle.law_logs.specs.Shown.{shows_bucket, shows_for, shows_ok}
 
 -- each row that is told as held is one of these

@@ -1,5 +1,9 @@
-pub use Rattle.law_all.proofs as all
-pub use Rattle.law_all.proofs.held as held
+pub use Rattle.law_steps.proofs.laws as laws
+pub use Rattle.law_steps.proofs.held as held
+pub use Rattle.law_steps.proofs.inv as inv
+pub use Rattle.law_letter.proofs as letter
+pub use Rattle.law_reasons.proofs as reasons
+pub use Rattle.law_steps.proofs as steps
 pub mod Along
 pub mod Answered
 pub mod Begins
@@ -18,7 +22,6 @@ pub mod Meets
 pub mod Notes
 pub mod Records
 pub mod Roots
-pub mod Runs
 pub mod Says
 pub mod Shown
 pub mod Shows

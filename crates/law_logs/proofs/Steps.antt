@@ -2,37 +2,37 @@
 -- back.
 use Rattle.std.proofs.Common.{ℕ, ◌≡◌, Bool, true, false, List, [], ◌∷◌, length, Option, Some, refl, sym, ap, ◌∙◌, subst, length-append}
 use Rattle.std.specs.Prelude.{◌==◌, if◌then◌else◌}
-use Rattle.wfe_core.proofs.Facts.{number_is, rest_of}
-use Rattle.wfe_core.specs.Desks.{Notes}
-use Rattle.wfe_core.specs.Locals.{Group}
-use Rattle.wfe_core.specs.defs.declared.call.Answer.{Answer}
-use Rattle.wfe_core.specs.defs.declared.call.Answer.TheVariants as answers
-use Rattle.wfe_core.specs.defs.declared.call.Call.{Call}
-use Rattle.wfe_core.specs.defs.declared.call.Call.TheVariants as calls
-use Rattle.wfe_core.specs.defs.declared.event.Event.{Event}
-use Rattle.wfe_core.specs.defs.declared.event.Event.TheVariants as events
-use Rattle.wfe_core.specs.words.declared.config.Config.{Config}
-use Rattle.laws.specs.AnswerLaw as letter
-use Rattle.laws.specs.HistoryAnswers as reasons
-use Rattle.laws.specs.HistoryHolds.{clears_ok, lone_ok}
-use Rattle.laws.specs.HistoryScans.{count_ok}
-use Rattle.laws.specs.HistorySteps as strong
-use Rattle.laws.specs.Standing.{open_ok}
-use Rattle.laws.specs.StateAt.{backs_by, backs_of, began_of, is_back, list_of, seen, times}
-use Rattle.laws.specs.StepLaw.{began_steps, end_ok, steps_right}
-use Rattle.law_all.proofs.letter.Answers.{reasons_kept}
-use Rattle.law_all.proofs.letter.Each.{counted_by, times_seen}
-use Rattle.law_all.proofs.letter.Steps.{ends_kept}
-use Rattle.law_all.proofs.held.Indexes.Alone.{records_hold_alone}
-use Rattle.law_all.proofs.held.Indexes.Clears.{records_clear_rows}
-use Rattle.law_all.proofs.held.places.answers.OpenCalls.{records_open_calls}
-use Rattle.law_all.proofs.held.reuse.Blocks.Counts.{records_count_scans}
-use Rattle.law_all.proofs.reasons.Reasons.Keeps.{records_keep_reasons}
-use Rattle.law_all.proofs.steps.CallCounts.Ends.{records_keep_ends}
-use Rattle.law_all.proofs.inv.history.Entries.{each_of_entries, entries_of_each}
-use Rattle.law_all.specs.inv.history.History.{record_of}
-use Rattle.law_all.specs.inv.history.Record.{EachEntry, Past}
-use Rattle.law_all.specs.inv.history.Record.Past.{Start, Then}
+use Rattle.law_steps.proofs.inv.model.Facts.{number_is, rest_of}
+use Rattle.law_steps.specs.inv.model.Desks.{Notes}
+use Rattle.law_steps.specs.inv.model.Locals.{Group}
+use Rattle.law_steps.specs.inv.model.defs.declared.call.Answer.{Answer}
+use Rattle.law_steps.specs.inv.model.defs.declared.call.Answer.TheVariants as answers
+use Rattle.law_steps.specs.inv.model.defs.declared.call.Call.{Call}
+use Rattle.law_steps.specs.inv.model.defs.declared.call.Call.TheVariants as calls
+use Rattle.law_steps.specs.inv.model.defs.declared.event.Event.{Event}
+use Rattle.law_steps.specs.inv.model.defs.declared.event.Event.TheVariants as events
+use Rattle.law_steps.specs.inv.model.words.declared.config.Config.{Config}
+use Rattle.law_steps.specs.laws.AnswerLaw as letter
+use Rattle.law_steps.specs.laws.HistoryAnswers as reasons
+use Rattle.law_steps.specs.laws.HistoryHolds.{clears_ok, lone_ok}
+use Rattle.law_steps.specs.laws.HistoryScans.{count_ok}
+use Rattle.law_steps.specs.laws.HistorySteps as strong
+use Rattle.law_steps.specs.laws.Standing.{open_ok}
+use Rattle.law_steps.specs.laws.StateAt.{backs_by, backs_of, began_of, is_back, list_of, seen, times}
+use Rattle.law_steps.specs.laws.StepLaw.{began_steps, end_ok, steps_right}
+use Rattle.law_letter.proofs.Answers.{reasons_kept}
+use Rattle.law_letter.proofs.Each.{counted_by, times_seen}
+use Rattle.law_letter.proofs.Steps.{ends_kept}
+use Rattle.law_steps.proofs.held.Indexes.Alone.{records_hold_alone}
+use Rattle.law_steps.proofs.held.Indexes.Clears.{records_clear_rows}
+use Rattle.law_steps.proofs.held.places.answers.OpenCalls.{records_open_calls}
+use Rattle.law_steps.proofs.held.reuse.Blocks.Counts.{records_count_scans}
+use Rattle.law_reasons.proofs.Reasons.Keeps.{records_keep_reasons}
+use Rattle.law_steps.proofs.CallCounts.Ends.{records_keep_ends}
+use Rattle.law_steps.proofs.inv.history.Entries.{each_of_entries, entries_of_each}
+use Rattle.law_steps.specs.inv.history.History.{record_of}
+use Rattle.law_steps.specs.inv.history.Record.{EachEntry, Past}
+use Rattle.law_steps.specs.inv.history.Record.Past.{Start, Then}
 use Rattle.law_logs.specs.Ledgers.{Ledger, ledger_by, ledger_of, notes_of}
 use Rattle.law_logs.specs.Records.{IsEnded, LogsTakeFewSteps, ScansTellBacks}
 use Rattle.law_logs.proofs.Cuts.{logs_are_cut}

@@ -1,20 +1,20 @@
 -- What a call's answer says of the map and of the queue, by the counts where the call began and a record that has its end; and what it
 -- says of rows, at its end.
 use Rattle.std.specs.Prelude.{ℕ, ◌≡◌, ◌≤◌, ◌<◌, ◌+◌, ◌-◌, ◌==◌, List, length, slice_index_or, Option, None, Some, true, false}
-use Rattle.wfe_core.specs.defs.Entry.{Entry}
-use Rattle.wfe_core.specs.defs.Events.{is_held}
-use Rattle.wfe_core.specs.defs.Pairs.{changed}
-use Rattle.wfe_core.specs.defs.declared.call.Answer.{Answer}
-use Rattle.wfe_core.specs.defs.declared.call.Answer.TheVariants as answers
-use Rattle.wfe_core.specs.defs.declared.call.Call.{Call}
-use Rattle.wfe_core.specs.defs.declared.call.Call.TheVariants as calls
-use Rattle.wfe_core.specs.defs.declared.fold.Change.{Change}
-use Rattle.wfe_core.specs.defs.declared.fold.Change.TheVariants as changes
-use Rattle.wfe_core.specs.words.declared.config.Config.{Config}
-use Rattle.laws.specs.ScanLaw.{guards}
-use Rattle.laws.specs.StateAt.{bucket_of, count_of, has_told, is_give, is_read, is_there, pairs_at, queued_of, row_at, shows_of, stood_at, taken_of, taken_since, times, value_at}
-use Rattle.laws.specs.StateAt.RowShows.{ShowsVersion}
-use Rattle.law_all.specs.inv.history.Record.{Past, tells}
+use Rattle.law_steps.specs.inv.model.defs.Entry.{Entry}
+use Rattle.law_steps.specs.inv.model.defs.Events.{is_held}
+use Rattle.law_steps.specs.inv.model.defs.Pairs.{changed}
+use Rattle.law_steps.specs.inv.model.defs.declared.call.Answer.{Answer}
+use Rattle.law_steps.specs.inv.model.defs.declared.call.Answer.TheVariants as answers
+use Rattle.law_steps.specs.inv.model.defs.declared.call.Call.{Call}
+use Rattle.law_steps.specs.inv.model.defs.declared.call.Call.TheVariants as calls
+use Rattle.law_steps.specs.inv.model.defs.declared.fold.Change.{Change}
+use Rattle.law_steps.specs.inv.model.defs.declared.fold.Change.TheVariants as changes
+use Rattle.law_steps.specs.inv.model.words.declared.config.Config.{Config}
+use Rattle.law_steps.specs.laws.ScanLaw.{guards}
+use Rattle.law_steps.specs.laws.StateAt.{bucket_of, count_of, has_told, is_give, is_read, is_there, pairs_at, queued_of, row_at, shows_of, stood_at, taken_of, taken_since, times, value_at}
+use Rattle.law_steps.specs.laws.StateAt.RowShows.{ShowsVersion}
+use Rattle.law_steps.specs.inv.history.Record.{Past, tells}
 use Rattle.law_logs.specs.Versions.{AtMost, Counts, counts_of}
 
 -- a version that bucket b had at a position from the beginning on

@@ -1,13 +1,13 @@
 -- The calls that a seat has ended, and the notes of its last call, as the seat's entries tell them.
 use Rattle.std.specs.Prelude.{ℕ, List, [], ◌∷◌, ◌++◌, Option, None, Some}
-use Rattle.wfe_core.specs.Desks.{Notes, no_notes, noted}
-use Rattle.wfe_core.specs.Locals.{Group}
-use Rattle.wfe_core.specs.defs.declared.call.Answer.{Answer}
-use Rattle.wfe_core.specs.defs.declared.call.Call.{Call}
-use Rattle.wfe_core.specs.defs.declared.event.Event.{Event}
-use Rattle.wfe_core.specs.defs.declared.event.Event.TheVariants as events
-use Rattle.laws.specs.StateAt.{seen}
-use Rattle.law_all.specs.inv.history.Record.{Past}
+use Rattle.law_steps.specs.inv.model.Desks.{Notes, no_notes, noted}
+use Rattle.law_steps.specs.inv.model.Locals.{Group}
+use Rattle.law_steps.specs.inv.model.defs.declared.call.Answer.{Answer}
+use Rattle.law_steps.specs.inv.model.defs.declared.call.Call.{Call}
+use Rattle.law_steps.specs.inv.model.defs.declared.event.Event.{Event}
+use Rattle.law_steps.specs.inv.model.defs.declared.event.Event.TheVariants as events
+use Rattle.law_steps.specs.laws.StateAt.{seen}
+use Rattle.law_steps.specs.inv.history.Record.{Past}
 
 -- what a seat's entries come to: the call that it began last, the notes of that call, and the calls that it has ended, in order
 pub record Ledger : Type 0 where

@@ -1,9 +1,7 @@
 //! What a seat's log is, by the record of its history, and what the answers in it say of the map and of the queue: which
-//! versions and numbers a seat has met. And the law of runs: what the logs of all seats, and the table that they leave, say
-//! together. Each function here does nothing, and carries a theorem.
+//! versions and numbers a seat has met. Each function here does nothing, and carries a theorem.
 #![tactic(auto)]
 
-ghost use Rattle.law_logs.specs.Runs.{RunsAddUp, RunsAgree, RunsAreLawful, RunsKeep, RunsList, RunsTick};
 ghost use Rattle.law_logs.specs.Records.{CallsAnswer, ChangesAreRead, GetsAgree, HoldsSeeNothing, LogsAnswer, LogsAreCut, LogsExtend, LogsGrow, LogsMeet, LogsRise, LogsTakeFewSteps, RecordReads, RecordsGrow, RecordsKeepLogs, ScansTellBacks, TurnsLeaveNotes};
 
 /// A turn of a seat leaves the notes of its call as they were. What the turn tells is noted where the
@@ -104,37 +102,4 @@ pub fn logs_meet()
 /// They never fall.
 pub fn logs_rise()
     ensures { LogsRise }
-{}
-
-/// What calls of all seats tell of the map, of the queue, of rows and of eras adds up to what the
-/// record has.
-pub fn runs_add_up()
-    ensures { RunsAddUp }
-{}
-
-/// What answers say of the map and of the queue is so by the record, and within a seat it rises.
-pub fn runs_agree()
-    ensures { RunsAgree }
-{}
-
-/// What a copy and a look answer is right by what their seat keeps: a look shows the row that a hold
-/// found, by way of copies or not, at a version no earlier than those that the seat told of the bucket
-/// before that hold, and each look at that row shows the same version.
-pub fn runs_keep()
-    ensures { RunsKeep }
-{}
-
-/// What answers say of the clock is so by the record, and within a seat eras rise.
-pub fn runs_tick()
-    ensures { RunsTick }
-{}
-
-/// What goes back is on the list of the seat that gives it back, in the list's order.
-pub fn runs_list()
-    ensures { RunsList }
-{}
-
-/// The logs of seats that are all between calls, and what the record has there, meet the law of runs.
-pub fn runs_are_lawful()
-    ensures { RunsAreLawful }
 {}

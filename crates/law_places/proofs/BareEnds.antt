@@ -1,36 +1,36 @@
 -- Where a call ends its seat is idle, and so nothing stands at its indexes below 2.
 use Rattle.std.proofs.Common.{ℕ, ◌≡◌, ◌<◌, Bool, true, false, List, [], ◌∷◌, ◌++◌, Option, Some, None, refl, sym, ap, ◌∙◌, subst, arith}
 use Rattle.std.specs.Prelude.{◌==◌, ◌||◌, nat_le, nat_lt, is_none, if◌then◌else◌}
-use Rattle.wfe_core.specs.words.Place.{is_valid}
-use Rattle.wfe_core.specs.words.declared.layout.Layout.{Layout}
-use Rattle.wfe_core.specs.defs.declared.call.Answer.{Answer}
-use Rattle.wfe_core.specs.defs.declared.event.Event.{Event}
-use Rattle.wfe_core.specs.defs.declared.event.Event.TheVariants as events
-use Rattle.wfe_core.specs.declared.post.Post.{Post}
-use Rattle.wfe_core.specs.Calls.{Phase, CallTurn, CallOutcome, GoesOn, Answers}
-use Rattle.wfe_core.specs.Locals.{may_begin, told_by, told_end, turn}
+use Rattle.law_reuse.specs.inv.model.words.Place.{is_valid}
+use Rattle.law_reuse.specs.inv.model.words.declared.layout.Layout.{Layout}
+use Rattle.law_reuse.specs.inv.model.defs.declared.call.Answer.{Answer}
+use Rattle.law_reuse.specs.inv.model.defs.declared.event.Event.{Event}
+use Rattle.law_reuse.specs.inv.model.defs.declared.event.Event.TheVariants as events
+use Rattle.law_reuse.specs.inv.model.declared.post.Post.{Post}
+use Rattle.law_reuse.specs.inv.model.Calls.{Phase, CallTurn, CallOutcome, GoesOn, Answers}
+use Rattle.law_reuse.specs.inv.model.Locals.{may_begin, told_by, told_end, turn}
 use Rattle.std.proofs.lemmas.Bool.Decides.{nat_tests}
-use Rattle.wfe_core.specs.Posts.{stands}
-use Rattle.wfe_core.specs.World.{World, finds, is_busy, step}
-use Rattle.wfe_core.proofs.Facts.{first_of, rest_of}
-use Rattle.law_answers.specs.inv.covers.Rests.{Vacant, spare, vacant}
-use Rattle.law_answers.proofs.inv.covers.Held.{stepped_phase}
-use Rattle.law_answers.specs.inv.shapes.Frame.{phase_left}
-use Rattle.law_answers.specs.inv.Inv.{Inv}
-use Rattle.law_answers.specs.inv.history.Record.{Past, Each, tells_of}
-use Rattle.law_answers.specs.inv.history.Record.Past.{Then}
-use Rattle.law_answers.proofs.inv.history.Entries.{entries_of_each}
-use Rattle.law_answers.specs.inv.history.History.{Item, Begins, Steps, Made, fits, done, done_if, made_of, first_made, record_of, world_of}
-use Rattle.law_answers.proofs.inv.history.Along.{begins_right, begins_within, low_seat, made_snoc, paths_keep}
-use Rattle.laws.specs.StateAt.{stood_at}
+use Rattle.law_reuse.specs.inv.model.Posts.{stands}
+use Rattle.law_reuse.specs.inv.model.World.{World, finds, is_busy, step}
+use Rattle.law_reuse.proofs.inv.model.Facts.{first_of, rest_of}
+use Rattle.law_reuse.specs.inv.covers.Rests.{Vacant, spare, vacant}
+use Rattle.law_reuse.proofs.inv.covers.Held.{stepped_phase}
+use Rattle.law_reuse.specs.inv.shapes.Frame.{phase_left}
+use Rattle.law_reuse.specs.inv.Inv.{Inv}
+use Rattle.law_reuse.specs.inv.history.Record.{Past, Each, tells_of}
+use Rattle.law_reuse.specs.inv.history.Record.Past.{Then}
+use Rattle.law_reuse.proofs.inv.history.Entries.{entries_of_each}
+use Rattle.law_reuse.specs.inv.history.History.{Item, Begins, Steps, Made, fits, done, done_if, made_of, first_made, record_of, world_of}
+use Rattle.law_reuse.proofs.inv.history.Along.{begins_right, begins_within, low_seat, made_snoc, paths_keep}
+use Rattle.law_reuse.specs.laws.StateAt.{stood_at}
 use Rattle.law_reuse.proofs.Reuse.Keeps.{record_stands}
-use Rattle.law_answers.proofs.inv.history.AllOf.{all_of}
-use Rattle.law_answers.proofs.AnswersTold.Owed.{is_open, Owes, owed}
-use Rattle.law_answers.proofs.AnswersTold.Answering.{owes_of}
-use Rattle.law_answers.proofs.AnswersTold.Answering as answering
-use Rattle.laws.specs.HistoryHolds.{bare_ok}
+use Rattle.law_reuse.proofs.inv.history.AllOf.{all_of}
+use Rattle.law_reuse.proofs.answers.AnswersTold.Owed.{is_open, Owes, owed}
+use Rattle.law_reuse.proofs.answers.AnswersTold.Answering.{owes_of}
+use Rattle.law_reuse.proofs.answers.AnswersTold.Answering as answering
+use Rattle.law_reuse.specs.laws.HistoryHolds.{bare_ok}
 use Rattle.law_places.specs.Records.{RecordsEndBare}
-use Rattle.laws.proofs.Tells.{tells_both}
+use Rattle.law_reuse.proofs.laws.Tells.{tells_both}
 
 -- what stands by the record of a history stands in the post
 abbrev Stood : Made → Type 0

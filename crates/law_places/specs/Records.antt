@@ -1,11 +1,11 @@
 -- What the record and the turns of each history keep, whatever calls begin and whichever seats make their steps.
 use Rattle.std.specs.Prelude.{List, true, ◌≡◌}
-use Rattle.wfe_core.specs.words.Place.{is_valid}
-use Rattle.wfe_core.specs.words.declared.layout.Layout.{Layout}
-use Rattle.law_answers.specs.inv.history.History.{Item, record_of}
-use Rattle.laws.specs.HistoryAnswers.{RetireCounts, RefusalLaw}
-use Rattle.laws.specs.HistoryHolds.{BareLaw}
-use Rattle.laws.specs.HistoryRows.{PlacingLaw, OrderLaw, NextsLaw, RetireLaw, SingleLaw}
+use Rattle.law_reuse.specs.inv.model.words.Place.{is_valid}
+use Rattle.law_reuse.specs.inv.model.words.declared.layout.Layout.{Layout}
+use Rattle.law_reuse.specs.inv.history.History.{Item, record_of}
+use Rattle.law_reuse.specs.laws.HistoryAnswers.{RetireCounts, RefusalLaw}
+use Rattle.law_reuse.specs.laws.HistoryHolds.{BareLaw}
+use Rattle.law_reuse.specs.laws.HistoryRows.{PlacingLaw, OrderLaw, NextsLaw, RetireLaw, SingleLaw}
 
 -- each history's record keeps it, whatever calls begin and whichever seats make their steps
 abbrev pub RecordsPlaceRows : Type 0

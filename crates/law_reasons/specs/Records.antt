@@ -1,11 +1,11 @@
 -- What the record and the turns of each history keep, whatever calls begin and whichever seats make their steps.
 use Rattle.std.specs.Prelude.{List, true, ◌≡◌}
-use Rattle.wfe_core.specs.words.Place.{is_valid}
-use Rattle.wfe_core.specs.words.declared.layout.Layout.{Layout}
+use Rattle.law_scans.specs.inv.model.words.Place.{is_valid}
+use Rattle.law_scans.specs.inv.model.words.declared.layout.Layout.{Layout}
 use Rattle.law_scans.specs.inv.history.History.{Item, record_of}
-use Rattle.laws.specs.HistoryAnswers.{ReasonLaw, FullLaw, LackLaw, RepeatLaw}
-use Rattle.laws.specs.HistoryScans.{RoomScans}
-use Rattle.laws.specs.HistoryTable.{RangeLaw}
+use Rattle.law_scans.specs.laws.HistoryAnswers.{ReasonLaw, FullLaw, LackLaw, RepeatLaw}
+use Rattle.law_scans.specs.laws.HistoryScans.{RoomScans}
+use Rattle.law_scans.specs.laws.HistoryTable.{RangeLaw}
 
 -- each history's record keeps it, whatever calls begin and whichever seats make their steps
 abbrev pub RecordsScanForRoom : Type 0

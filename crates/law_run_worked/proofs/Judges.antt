@@ -4,16 +4,16 @@ use Rattle.std.proofs.lemmas.Bool.Decides.{Decides-and, Decides-eqb}
 use Rattle.std.specs.Bool.{Decides}
 use Rattle.std.specs.List.{list_all, range_with_len, slice_get}
 use Rattle.std.specs.Prelude.{filter, if◌then◌else◌, nat_le, nat_lt, ◌&&◌}
-use Rattle.wfe_core.proofs.Facts.{both}
-use Rattle.wfe_core.specs.Locals.{Group}
-use Rattle.wfe_core.specs.defs.Pairs.{pairs_after}
-use Rattle.wfe_core.specs.defs.declared.call.Answer.TheVariants as answers
-use Rattle.wfe_core.specs.defs.declared.call.ClockMove.{ClockMove}
-use Rattle.wfe_core.specs.defs.declared.fold.Change.{Change}
-use Rattle.laws.specs.AnswerLaw.{retires_for, suits}
-use Rattle.laws.specs.StateAt.{bucket_of, is_among, numbered_from, one}
-use Rattle.law_logs.specs.Versions.{version_told}
-use Rattle.law_logs.specs.RunLaw as law
+use Rattle.law_all.proofs.inv.model.Facts.{both}
+use Rattle.law_all.specs.inv.model.Locals.{Group}
+use Rattle.law_all.specs.inv.model.defs.Pairs.{pairs_after}
+use Rattle.law_all.specs.inv.model.defs.declared.call.Answer.TheVariants as answers
+use Rattle.law_all.specs.inv.model.defs.declared.call.ClockMove.{ClockMove}
+use Rattle.law_all.specs.inv.model.defs.declared.fold.Change.{Change}
+use Rattle.law_all.specs.laws.AnswerLaw.{retires_for, suits}
+use Rattle.law_all.specs.laws.StateAt.{bucket_of, is_among, numbered_from, one}
+use Rattle.law_all.specs.logs.Versions.{version_told}
+use Rattle.law_all.specs.RunLaw as law
 use Rattle.law_run_worked.specs.Readers.{Bullet, Holds, ReadersJudge, Sentence, back_ok, bare_ok, bullets, change_in, changes_rise_ok, clock_ok, each_below, each_call, each_pair, empty_ok, final_ok, full_ok, if_some_ok, keeps_ok, kept_ok, later_ok, made_in, moved_by, never_fall_ok, once_ok, plain_ok, queued_by, queued_in, queues_ok, reads, reads_ok, rises_ok, same_ok, same_pairs, sentences_of, spent_ok, taken_by, taken_in, takes, tellers, versions_ok}
 use Rattle.law_run_worked.specs.Runs.{Run}
 use Rattle.law_run_worked.proofs.Keeps.{Later, Same, decides_keeps, decides_later, decides_same}

@@ -3,19 +3,19 @@ use Rattle.std.proofs.Common.{Bool, List, None, Option, Some, [], ap, ap₂, app
 use Rattle.std.proofs.lemmas.Bool.Decides.{Decides-and, Decides-eqb}
 use Rattle.std.specs.Bool.{Decides}
 use Rattle.std.specs.Prelude.{if◌then◌else◌, is_some, nat_le, not, ◌&&◌, ◌==◌}
-use Rattle.wfe_core.proofs.Facts.{both, by_cases, first_of, number_is, rest_of}
-use Rattle.wfe_core.specs.Locals.{Group}
-use Rattle.wfe_core.specs.defs.Pairs.{value_in}
-use Rattle.wfe_core.specs.defs.declared.call.Answer.{Answer}
-use Rattle.wfe_core.specs.defs.declared.call.Answer.TheVariants as answers
-use Rattle.wfe_core.specs.defs.declared.call.Call.{Call}
-use Rattle.wfe_core.specs.defs.declared.call.Call.TheVariants as calls
-use Rattle.wfe_core.specs.defs.declared.fold.Change.{Change}
-use Rattle.wfe_core.specs.words.declared.config.Config.{Config}
-use Rattle.laws.specs.StateAt.{bucket_of, same_value}
-use Rattle.law_logs.specs.Kept.{Keeping, kept_by, kept_from, kept_in, looked_in}
-use Rattle.law_logs.specs.RunLaw.{IsKept, IsLook, KeptRight, bucket_kept, is_version, pairs_by}
-use Rattle.law_logs.specs.Versions.{seen_in}
+use Rattle.law_all.proofs.inv.model.Facts.{both, by_cases, first_of, number_is, rest_of}
+use Rattle.law_all.specs.inv.model.Locals.{Group}
+use Rattle.law_all.specs.inv.model.defs.Pairs.{value_in}
+use Rattle.law_all.specs.inv.model.defs.declared.call.Answer.{Answer}
+use Rattle.law_all.specs.inv.model.defs.declared.call.Answer.TheVariants as answers
+use Rattle.law_all.specs.inv.model.defs.declared.call.Call.{Call}
+use Rattle.law_all.specs.inv.model.defs.declared.call.Call.TheVariants as calls
+use Rattle.law_all.specs.inv.model.defs.declared.fold.Change.{Change}
+use Rattle.law_all.specs.inv.model.words.declared.config.Config.{Config}
+use Rattle.law_all.specs.laws.StateAt.{bucket_of, same_value}
+use Rattle.law_all.specs.Kept.{Keeping, kept_by, kept_from, kept_in, looked_in}
+use Rattle.law_all.specs.RunLaw.{IsKept, IsLook, KeptRight, bucket_kept, is_version, pairs_by}
+use Rattle.law_all.specs.logs.Versions.{seen_in}
 use Rattle.law_run_worked.specs.Readers.{keeps_ok, later_ok, look_ok, one_hold, row_ok, same_ok, shows_ok}
 use Rattle.law_run_worked.proofs.Tests.{decides_most, decides_value}
 

@@ -4,19 +4,19 @@ use Rattle.std.proofs.Common.{Bool, List, None, Option, Some, [], ap, ap₂, ari
 use Rattle.std.proofs.lemmas.Bool.Decides.{nat_tests}
 use Rattle.std.specs.List.{cons_option, count_by, find, slice_get}
 use Rattle.std.specs.Prelude.{if◌then◌else◌, is_some, nat_le, ◌&&◌, ◌==◌}
-use Rattle.wfe_core.proofs.Facts.{by_cases, first_of, number_is, rest_of}
-use Rattle.wfe_core.specs.Locals.{Group}
-use Rattle.wfe_core.specs.defs.Pairs.{value_in}
-use Rattle.wfe_core.specs.defs.declared.call.Answer.{Answer}
-use Rattle.wfe_core.specs.defs.declared.call.Answer.TheVariants as answers
-use Rattle.wfe_core.specs.defs.declared.call.Call.{Call}
-use Rattle.wfe_core.specs.defs.declared.call.Call.TheVariants as calls
-use Rattle.wfe_core.specs.defs.declared.fold.Change.{Change}
-use Rattle.wfe_core.specs.defs.declared.fold.Change.TheVariants as changes
-use Rattle.wfe_core.specs.words.declared.config.Config.{Config}
-use Rattle.laws.specs.StateAt.{bucket_of}
-use Rattle.law_logs.specs.Versions.{number_queued, version_told}
-use Rattle.law_logs.specs.RunLaw.{AtClose, IsAway, IsCall, IsLook, IsMade, IsThere, KeepsLaw, KeptRight, QueueLaw, QueuesRight, ReadsRight, VersionsLaw, bucket_kept, change_made, could_put, has_number, is_change_of, is_queued_as, is_version, pairs_by, total_of}
+use Rattle.law_all.proofs.inv.model.Facts.{by_cases, first_of, number_is, rest_of}
+use Rattle.law_all.specs.inv.model.Locals.{Group}
+use Rattle.law_all.specs.inv.model.defs.Pairs.{value_in}
+use Rattle.law_all.specs.inv.model.defs.declared.call.Answer.{Answer}
+use Rattle.law_all.specs.inv.model.defs.declared.call.Answer.TheVariants as answers
+use Rattle.law_all.specs.inv.model.defs.declared.call.Call.{Call}
+use Rattle.law_all.specs.inv.model.defs.declared.call.Call.TheVariants as calls
+use Rattle.law_all.specs.inv.model.defs.declared.fold.Change.{Change}
+use Rattle.law_all.specs.inv.model.defs.declared.fold.Change.TheVariants as changes
+use Rattle.law_all.specs.inv.model.words.declared.config.Config.{Config}
+use Rattle.law_all.specs.laws.StateAt.{bucket_of}
+use Rattle.law_all.specs.logs.Versions.{number_queued, version_told}
+use Rattle.law_all.specs.RunLaw.{AtClose, IsAway, IsCall, IsLook, IsMade, IsThere, KeepsLaw, KeptRight, QueueLaw, QueuesRight, ReadsRight, VersionsLaw, bucket_kept, change_made, could_put, has_number, is_change_of, is_queued_as, is_version, pairs_by, total_of}
 use Rattle.law_run_worked.specs.Readers.{change_by, change_in, find_call, greatest, listed, made_in, queued_by, queued_in, taken_by, taken_in, tellers, value_by, value_of_call, version_in}
 use Rattle.law_run_worked.specs.Readers as readers
 use Rattle.law_run_worked.proofs.Numbers.{count_more, greatest_is, once_within, total_more}

@@ -4,9 +4,9 @@ use Rattle.std.proofs.lemmas.Bool.Decides.{Decides-eqb, nat_tests}
 use Rattle.std.proofs.lemmas.List.Sums.{sum_by-cons}
 use Rattle.std.specs.Bool.{Decides}
 use Rattle.std.specs.Prelude.{count_by, if◌then◌else◌, nat_le, nat_lt}
-use Rattle.wfe_core.proofs.Facts.{by_cases}
-use Rattle.wfe_core.specs.Locals.{Group}
-use Rattle.law_logs.specs.RunLaw.{has_number, once_up_to, total_of}
+use Rattle.law_all.proofs.inv.model.Facts.{by_cases}
+use Rattle.law_all.specs.inv.model.Locals.{Group}
+use Rattle.law_all.specs.RunLaw.{has_number, once_up_to, total_of}
 use Rattle.law_run_worked.specs.Readers.{greatest, greatest_in, number_or_none, once_ok, single_ok, tellers}
 use Rattle.law_run_worked.proofs.Splits.{decides_below}
 

@@ -3,9 +3,9 @@ use Rattle.std.proofs.Common.{Bool, List, Some, [], ap, append-nil, append_assoc
 use Rattle.std.proofs.lemmas.Bool.Decides.{Decides-below_and}
 use Rattle.std.specs.Bool.{Decides}
 use Rattle.std.specs.List.{list_all, slice_get}
-use Rattle.wfe_core.proofs.Facts.{both, first_of, rest_of}
-use Rattle.wfe_core.specs.Locals.{Group}
-use Rattle.law_logs.specs.RunLaw.{InOrder, IsCall}
+use Rattle.law_all.proofs.inv.model.Facts.{both, first_of, rest_of}
+use Rattle.law_all.specs.inv.model.Locals.{Group}
+use Rattle.law_all.specs.RunLaw.{InOrder, IsCall}
 use Rattle.law_run_worked.specs.Readers.{each_below, each_call, each_in, each_pair, each_two}
 
 -- of each call of a log

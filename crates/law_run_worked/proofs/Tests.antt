@@ -3,18 +3,18 @@ use Rattle.std.proofs.Common.{Bool, List, None, Option, Some, [], ap, ap₂, ari
 use Rattle.std.proofs.lemmas.Bool.Decides.{Decides-and, Decides-eqb, Decides-like, nat_tests}
 use Rattle.std.specs.Bool.{Decides}
 use Rattle.std.specs.Prelude.{if◌then◌else◌, is_some, nat_le, nat_lt, not, slice_get, ◌&&◌, ◌==◌}
-use Rattle.wfe_core.proofs.Facts.{both, by_cases, false_of_not, first_of, not_of_false, number_is, rest_of}
-use Rattle.wfe_core.specs.defs.Pairs.{value_in}
-use Rattle.wfe_core.specs.defs.declared.call.Answer.{Answer}
-use Rattle.wfe_core.specs.defs.declared.call.Answer.TheVariants as answers
-use Rattle.wfe_core.specs.defs.declared.call.Call.{Call}
-use Rattle.wfe_core.specs.defs.declared.call.Call.TheVariants as calls
-use Rattle.wfe_core.specs.defs.declared.call.ClockMove.{ClockMove}
-use Rattle.wfe_core.specs.defs.declared.fold.Change.{Change}
-use Rattle.wfe_core.specs.defs.declared.fold.Change.TheVariants as changes
-use Rattle.wfe_core.specs.words.declared.config.Config.{Config}
-use Rattle.laws.specs.StateAt.{bucket_of, same_value}
-use Rattle.law_logs.specs.RunLaw.{IsAway, IsMade, IsThere, QueuesRight, ReadsRight, could_put, has_number, is_still, is_version, pairs_by}
+use Rattle.law_all.proofs.inv.model.Facts.{both, by_cases, false_of_not, first_of, not_of_false, number_is, rest_of}
+use Rattle.law_all.specs.inv.model.defs.Pairs.{value_in}
+use Rattle.law_all.specs.inv.model.defs.declared.call.Answer.{Answer}
+use Rattle.law_all.specs.inv.model.defs.declared.call.Answer.TheVariants as answers
+use Rattle.law_all.specs.inv.model.defs.declared.call.Call.{Call}
+use Rattle.law_all.specs.inv.model.defs.declared.call.Call.TheVariants as calls
+use Rattle.law_all.specs.inv.model.defs.declared.call.ClockMove.{ClockMove}
+use Rattle.law_all.specs.inv.model.defs.declared.fold.Change.{Change}
+use Rattle.law_all.specs.inv.model.defs.declared.fold.Change.TheVariants as changes
+use Rattle.law_all.specs.inv.model.words.declared.config.Config.{Config}
+use Rattle.law_all.specs.laws.StateAt.{bucket_of, same_value}
+use Rattle.law_all.specs.RunLaw.{IsAway, IsMade, IsThere, QueuesRight, ReadsRight, could_put, has_number, is_still, is_version, pairs_by}
 use Rattle.law_run_worked.specs.Readers.{away_ok, back_ok, bare_ok, clock_ok, empty_ok, final_ok, full_ok, if_some_ok, is_this, kept_ok, made_ok, plain_ok, queues_ok, reads_ok, rises_ok, same_numbers, same_pairs, versions_ok}
 
 -- of numbers and values

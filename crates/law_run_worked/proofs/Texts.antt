@@ -3,19 +3,19 @@ use Rattle.std.proofs.Common.{Bool, List, None, Option, Some, [], ap, arith, fal
 use Rattle.std.specs.List.{AllByRecursion, list_all}
 use Rattle.std.specs.Prelude.{if◌then◌else◌, map, nat_le, not, ◌%◌, ◌&&◌, ◌==◌, ◌||◌}
 use Rattle.std.proofs.lemmas.Bool.Decides.{nat_tests}
-use Rattle.wfe_core.proofs.Facts.{both, by_cases, false_of_not, first_of, rest_of, same_number}
-use Rattle.wfe_core.specs.Desks.{Notes}
-use Rattle.wfe_core.specs.Locals.{Group}
-use Rattle.wfe_core.specs.defs.declared.call.Answer.{Answer}
-use Rattle.wfe_core.specs.defs.declared.call.Answer.TheVariants as answers
-use Rattle.wfe_core.specs.defs.declared.call.Call.{Call}
-use Rattle.wfe_core.specs.defs.declared.call.Call.TheVariants as calls
-use Rattle.wfe_core.specs.defs.declared.event.Event.{Event}
-use Rattle.wfe_core.specs.defs.declared.event.Event.TheVariants as events
-use Rattle.wfe_core.specs.defs.declared.lifetime.Lifetime.{Lifetime}
-use Rattle.wfe_core.specs.words.declared.config.Config.{Config}
-use Rattle.laws.specs.StateAt.{same_value}
-use Rattle.law_logs.specs.RunLaw.{AtClose, IsRun, backs, call_made, change_told, early_backs, events_of, events_of_all, give_told, late_backs, one_told, retire_told, unused_told}
+use Rattle.law_all.proofs.inv.model.Facts.{both, by_cases, false_of_not, first_of, rest_of, same_number}
+use Rattle.law_all.specs.inv.model.Desks.{Notes}
+use Rattle.law_all.specs.inv.model.Locals.{Group}
+use Rattle.law_all.specs.inv.model.defs.declared.call.Answer.{Answer}
+use Rattle.law_all.specs.inv.model.defs.declared.call.Answer.TheVariants as answers
+use Rattle.law_all.specs.inv.model.defs.declared.call.Call.{Call}
+use Rattle.law_all.specs.inv.model.defs.declared.call.Call.TheVariants as calls
+use Rattle.law_all.specs.inv.model.defs.declared.event.Event.{Event}
+use Rattle.law_all.specs.inv.model.defs.declared.event.Event.TheVariants as events
+use Rattle.law_all.specs.inv.model.defs.declared.lifetime.Lifetime.{Lifetime}
+use Rattle.law_all.specs.inv.model.words.declared.config.Config.{Config}
+use Rattle.law_all.specs.laws.StateAt.{same_value}
+use Rattle.law_all.specs.RunLaw.{AtClose, IsRun, backs, call_made, change_told, early_backs, events_of, events_of_all, give_told, late_backs, one_told, retire_told, unused_told}
 use Rattle.law_run_worked.specs.WrongTexts.{IsNoRun, Text, WrongTextsRefused, wrong_texts}
 use Rattle.law_run_worked.specs.Texts.{Stand, after_lines, between, is_done, lines_ok, lost, next, same_call, same_told, stand, told_next}
 

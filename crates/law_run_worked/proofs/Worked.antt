@@ -2,7 +2,7 @@
 use Rattle.std.proofs.Common.{Bool, List, [], arith, refl, true, ◌∷◌, ◌≡◌, ◌≤◌}
 use Rattle.std.specs.List.{AllByRecursion, list_all}
 use Rattle.std.specs.Prelude.{nat_le, ◌&&◌}
-use Rattle.wfe_core.proofs.Facts.{first_of, rest_of}
+use Rattle.law_all.proofs.inv.model.Facts.{first_of, rest_of}
 use Rattle.law_run_worked.specs.Crowded.{CrowdedWorked, crowded}
 use Rattle.law_run_worked.specs.Kept.{KeptWorked, kept}
 use Rattle.law_run_worked.specs.Loose.{LooseTaken, loose}
@@ -10,9 +10,9 @@ use Rattle.law_run_worked.specs.Readers.{bullets, takes}
 use Rattle.law_run_worked.specs.Runs.{Run}
 use Rattle.law_run_worked.specs.Shared.{SharedWorked, shared}
 use Rattle.law_run_worked.specs.Spent.{SpentWorked, spent}
-use Rattle.wfe_core.specs.words.Packed.{halves, pending_word, answered_word, read_request, read_reservation, read_span, read_life}
-use Rattle.wfe_core.specs.words.Place.{claim_mask, claim_others, claim_start, number, place_at}
-use Rattle.law_logs.specs.RunLaw.{RunLaw}
+use Rattle.law_all.specs.inv.model.words.Packed.{halves, pending_word, answered_word, read_request, read_reservation, read_span, read_life}
+use Rattle.law_all.specs.inv.model.words.Place.{claim_mask, claim_others, claim_start, number, place_at}
+use Rattle.law_all.specs.RunLaw.{RunLaw}
 use Rattle.law_run_worked.proofs.Judges.{readers_judge}
 use Rattle.law_run_worked.proofs.Tests.{decides_most}
 

@@ -3,7 +3,7 @@ use Rattle.std.proofs.Common.{Bool, List, Some, [], ap, false, refl, sym, true, 
 use Rattle.std.proofs.lemmas.Bool.Decides.{Decides-eqb}
 use Rattle.std.specs.List.{AllByRecursion, list_all, slice_get}
 use Rattle.std.specs.Prelude.{if◌then◌else◌, nat_le, not}
-use Rattle.wfe_core.proofs.Facts.{false_by, false_of_not, first_of, number_is, rest_of}
+use Rattle.law_all.proofs.inv.model.Facts.{false_by, false_of_not, first_of, number_is, rest_of}
 use Rattle.law_run_worked.specs.Readers.{Bullet, bullets, takes}
 use Rattle.law_run_worked.specs.Refusals.{IsRefused, Wrong, code, judged, judged_by}
 use Rattle.law_run_worked.specs.WrongAnswers.{WrongAnswersRefused, wrong_answers}

@@ -1,12 +1,12 @@
 -- Runs that no history leaves, and that the law of runs takes: what it does not say.
 use Rattle.std.specs.List.{AllByRecursion}
 use Rattle.std.specs.Prelude.{List, None, Some, [], false, true, ◌∷◌}
-use Rattle.wfe_core.specs.Desks.{no_notes}
-use Rattle.wfe_core.specs.Locals.{Group}
-use Rattle.wfe_core.specs.defs.declared.call.Answer.TheVariants as answers
-use Rattle.wfe_core.specs.defs.declared.call.Call.TheVariants as calls
-use Rattle.wfe_core.specs.defs.declared.call.ClockMove.TheVariants as moves
-use Rattle.law_logs.specs.RunLaw.{RunLaw, no_bucket}
+use Rattle.law_all.specs.inv.model.Desks.{no_notes}
+use Rattle.law_all.specs.inv.model.Locals.{Group}
+use Rattle.law_all.specs.inv.model.defs.declared.call.Answer.TheVariants as answers
+use Rattle.law_all.specs.inv.model.defs.declared.call.Call.TheVariants as calls
+use Rattle.law_all.specs.inv.model.defs.declared.call.ClockMove.TheVariants as moves
+use Rattle.law_all.specs.RunLaw.{RunLaw, no_bucket}
 use Rattle.law_run_worked.specs.Runs.{Run, closing, group, life, notes, noting, setting, then_call}
 use Rattle.law_run_worked.specs.Shared.{shared}
 

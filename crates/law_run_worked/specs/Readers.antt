@@ -2,21 +2,21 @@
 use Rattle.std.specs.Prelude.{Bool, List, None, Option, Some, [], drop, false, filter, if◌then◌else◌, is_some, length, max, nat_le, nat_lt, not, suc, true, zero, ℕ, ◌&&◌, ◌++◌, ◌+◌, ◌-◌, ◌<◌, ◌==◌, ◌∷◌, ◌≡◌, ◌≤◌}
 use Rattle.std.specs.Bool.{Decides}
 use Rattle.std.specs.List.{cons_option, find, list_all, range_with_len, slice_get}
-use Rattle.wfe_core.specs.Locals.{Group}
-use Rattle.wfe_core.specs.defs.Pairs.{pairs_after, value_in}
-use Rattle.wfe_core.specs.defs.declared.call.Answer.{Answer}
-use Rattle.wfe_core.specs.defs.declared.call.Answer.TheVariants as answers
-use Rattle.wfe_core.specs.defs.declared.call.Call.{Call}
-use Rattle.wfe_core.specs.defs.declared.call.Call.TheVariants as calls
-use Rattle.wfe_core.specs.defs.declared.call.ClockMove.{ClockMove}
-use Rattle.wfe_core.specs.defs.declared.fold.Change.{Change}
-use Rattle.wfe_core.specs.defs.declared.fold.Change.TheVariants as changes
-use Rattle.wfe_core.specs.words.declared.config.Config.{Config}
-use Rattle.laws.specs.AnswerLaw.{retires_for, suits}
-use Rattle.laws.specs.StateAt.{bucket_of, is_among, numbered_from, one, same_value}
-use Rattle.law_logs.specs.Kept.{Keeping, kept_in, looked_in}
-use Rattle.law_logs.specs.Versions.{number_queued, number_taken, seen_in, version_told}
-use Rattle.law_logs.specs.RunLaw as law
+use Rattle.law_all.specs.inv.model.Locals.{Group}
+use Rattle.law_all.specs.inv.model.defs.Pairs.{pairs_after, value_in}
+use Rattle.law_all.specs.inv.model.defs.declared.call.Answer.{Answer}
+use Rattle.law_all.specs.inv.model.defs.declared.call.Answer.TheVariants as answers
+use Rattle.law_all.specs.inv.model.defs.declared.call.Call.{Call}
+use Rattle.law_all.specs.inv.model.defs.declared.call.Call.TheVariants as calls
+use Rattle.law_all.specs.inv.model.defs.declared.call.ClockMove.{ClockMove}
+use Rattle.law_all.specs.inv.model.defs.declared.fold.Change.{Change}
+use Rattle.law_all.specs.inv.model.defs.declared.fold.Change.TheVariants as changes
+use Rattle.law_all.specs.inv.model.words.declared.config.Config.{Config}
+use Rattle.law_all.specs.laws.AnswerLaw.{retires_for, suits}
+use Rattle.law_all.specs.laws.StateAt.{bucket_of, is_among, numbered_from, one, same_value}
+use Rattle.law_all.specs.Kept.{Keeping, kept_in, looked_in}
+use Rattle.law_all.specs.logs.Versions.{number_queued, number_taken, seen_in, version_told}
+use Rattle.law_all.specs.RunLaw as law
 use Rattle.law_run_worked.specs.Runs.{Run}
 
 -- What is so of each call, of each two calls of one seat, and of each number.

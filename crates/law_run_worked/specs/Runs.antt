@@ -1,20 +1,20 @@
 -- Runs: the calls of each seat and the table that they left; and what is other in a changed one.
 use Rattle.std.specs.Prelude.{Bool, List, Option, Some, [], false, map, suc, zero, ℕ, ◌++◌, ◌∷◌, ◌≡◌}
 use Rattle.std.specs.List.{range_with_len}
-use Rattle.wfe_core.specs.Desks.{Notes}
-use Rattle.wfe_core.specs.Locals.{Group}
-use Rattle.wfe_core.specs.World.{is_busy}
-use Rattle.wfe_core.specs.defs.Pairs.{Pair}
-use Rattle.wfe_core.specs.defs.declared.call.Answer.{Answer}
-use Rattle.wfe_core.specs.defs.declared.call.Call.{Call}
-use Rattle.wfe_core.specs.defs.declared.event.Event.{Event}
-use Rattle.wfe_core.specs.defs.declared.lifetime.Lifetime.{Lifetime}
-use Rattle.wfe_core.specs.words.declared.config.Config.{Config}
-use Rattle.wfe_core.specs.words.declared.config.SchemeKind.TheVariants.{He}
-use Rattle.wfe_core.specs.words.declared.layout.Layout.{Layout}
-use Rattle.law_logs.specs.inv.history.History.{Item, record_of, world_of}
-use Rattle.law_logs.specs.RunLaw.{AtClose, IsRun, RunLaw}
-use Rattle.law_logs.specs.Runs.{at_close, logs_of}
+use Rattle.law_all.specs.inv.model.Desks.{Notes}
+use Rattle.law_all.specs.inv.model.Locals.{Group}
+use Rattle.law_all.specs.inv.model.World.{is_busy}
+use Rattle.law_all.specs.inv.model.defs.Pairs.{Pair}
+use Rattle.law_all.specs.inv.model.defs.declared.call.Answer.{Answer}
+use Rattle.law_all.specs.inv.model.defs.declared.call.Call.{Call}
+use Rattle.law_all.specs.inv.model.defs.declared.event.Event.{Event}
+use Rattle.law_all.specs.inv.model.defs.declared.lifetime.Lifetime.{Lifetime}
+use Rattle.law_all.specs.inv.model.words.declared.config.Config.{Config}
+use Rattle.law_all.specs.inv.model.words.declared.config.SchemeKind.TheVariants.{He}
+use Rattle.law_all.specs.inv.model.words.declared.layout.Layout.{Layout}
+use Rattle.law_all.specs.inv.history.History.{Item, record_of, world_of}
+use Rattle.law_all.specs.RunLaw.{AtClose, IsRun, RunLaw}
+use Rattle.law_all.specs.Runs.{at_close, logs_of}
 
 pub record Run : Type 0 where
   pub config : Config

@@ -1,16 +1,16 @@
 -- Two seats come to the last version of a bucket, to the last number of the queue, and to the last era.
 use Rattle.std.specs.Prelude.{List, None, Some, [], false, true, ◌++◌, ◌∷◌}
-use Rattle.wfe_core.specs.Locals.{Group}
-use Rattle.wfe_core.specs.defs.declared.call.Answer.TheVariants as answers
-use Rattle.wfe_core.specs.defs.declared.call.Call.{Call}
-use Rattle.wfe_core.specs.defs.declared.call.Call.TheVariants as calls
-use Rattle.wfe_core.specs.defs.declared.call.ClockMove.TheVariants as moves
-use Rattle.wfe_core.specs.defs.declared.event.Event.{Event}
-use Rattle.wfe_core.specs.defs.declared.event.Event.TheVariants as events
-use Rattle.wfe_core.specs.words.declared.config.Config.{Config}
-use Rattle.law_logs.specs.inv.history.Among.{call}
-use Rattle.law_logs.specs.inv.history.History.{Item, times}
-use Rattle.law_logs.specs.RunLaw.{AtClose}
+use Rattle.law_all.specs.inv.model.Locals.{Group}
+use Rattle.law_all.specs.inv.model.defs.declared.call.Answer.TheVariants as answers
+use Rattle.law_all.specs.inv.model.defs.declared.call.Call.{Call}
+use Rattle.law_all.specs.inv.model.defs.declared.call.Call.TheVariants as calls
+use Rattle.law_all.specs.inv.model.defs.declared.call.ClockMove.TheVariants as moves
+use Rattle.law_all.specs.inv.model.defs.declared.event.Event.{Event}
+use Rattle.law_all.specs.inv.model.defs.declared.event.Event.TheVariants as events
+use Rattle.law_all.specs.inv.model.words.declared.config.Config.{Config}
+use Rattle.law_all.specs.inv.history.Among.{call}
+use Rattle.law_all.specs.inv.history.History.{Item, times}
+use Rattle.law_all.specs.RunLaw.{AtClose}
 use Rattle.law_run_worked.specs.Runs.{IsWorked, Run, group, life, notes, setting}
 
 abbrev pub spent_setting : Config

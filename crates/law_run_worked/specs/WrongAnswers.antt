@@ -1,10 +1,10 @@
 -- Runs that the law of answers alone refuses.
 use Rattle.std.specs.Prelude.{List, None, Some, [], false, true, ◌∷◌}
-use Rattle.wfe_core.specs.Desks.{no_notes}
-use Rattle.wfe_core.specs.defs.declared.call.Answer.TheVariants as answers
-use Rattle.wfe_core.specs.defs.declared.call.Call.TheVariants as calls
-use Rattle.wfe_core.specs.defs.declared.call.ClockMove.TheVariants as moves
-use Rattle.law_logs.specs.RunLaw.{no_bucket}
+use Rattle.law_all.specs.inv.model.Desks.{no_notes}
+use Rattle.law_all.specs.inv.model.defs.declared.call.Answer.TheVariants as answers
+use Rattle.law_all.specs.inv.model.defs.declared.call.Call.TheVariants as calls
+use Rattle.law_all.specs.inv.model.defs.declared.call.ClockMove.TheVariants as moves
+use Rattle.law_all.specs.RunLaw.{no_bucket}
 use Rattle.law_run_worked.specs.Crowded.{crowded}
 use Rattle.law_run_worked.specs.Kept.{kept}
 use Rattle.law_run_worked.specs.Readers.{Bullet, Sentence}

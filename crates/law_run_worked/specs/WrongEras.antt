@@ -1,7 +1,7 @@
 -- Runs that the law of eras alone refuses.
 use Rattle.std.specs.Prelude.{List, [], ◌∷◌}
-use Rattle.wfe_core.specs.defs.declared.call.Answer.TheVariants as answers
-use Rattle.wfe_core.specs.defs.declared.call.ClockMove.TheVariants as moves
+use Rattle.law_all.specs.inv.model.defs.declared.call.Answer.TheVariants as answers
+use Rattle.law_all.specs.inv.model.defs.declared.call.ClockMove.TheVariants as moves
 use Rattle.law_run_worked.specs.Crowded.{crowded}
 use Rattle.law_run_worked.specs.Readers.{Bullet, Sentence}
 use Rattle.law_run_worked.specs.Refusals.{AreRefused, Wrong, wrong}

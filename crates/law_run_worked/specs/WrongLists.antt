@@ -1,8 +1,8 @@
 -- Runs that the law of retire lists alone refuses.
 use Rattle.std.specs.Prelude.{List, None, Some, [], false, ◌∷◌}
-use Rattle.wfe_core.specs.defs.declared.call.Answer.TheVariants as answers
-use Rattle.wfe_core.specs.defs.declared.call.Call.TheVariants as calls
-use Rattle.wfe_core.specs.defs.declared.call.ClockMove.TheVariants as moves
+use Rattle.law_all.specs.inv.model.defs.declared.call.Answer.TheVariants as answers
+use Rattle.law_all.specs.inv.model.defs.declared.call.Call.TheVariants as calls
+use Rattle.law_all.specs.inv.model.defs.declared.call.ClockMove.TheVariants as moves
 use Rattle.law_run_worked.specs.Readers.{Bullet, Sentence}
 use Rattle.law_run_worked.specs.Refusals.{AreRefused, Wrong, wrong}
 use Rattle.law_run_worked.specs.Runs.{Run, answering, group, life, noting, notes, setting}

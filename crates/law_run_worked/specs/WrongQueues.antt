@@ -2,10 +2,10 @@
 -- tell: that not more are taken than were queued, which follows where each number is taken once with the value that was queued under it; and
 -- that a value is queued under its number, which follows where each number is told once.
 use Rattle.std.specs.Prelude.{List, None, [], false, ◌∷◌}
-use Rattle.wfe_core.specs.Desks.{no_notes}
-use Rattle.wfe_core.specs.defs.declared.call.Answer.TheVariants as answers
-use Rattle.wfe_core.specs.defs.declared.call.Call.TheVariants as calls
-use Rattle.wfe_core.specs.defs.declared.call.ClockMove.TheVariants as moves
+use Rattle.law_all.specs.inv.model.Desks.{no_notes}
+use Rattle.law_all.specs.inv.model.defs.declared.call.Answer.TheVariants as answers
+use Rattle.law_all.specs.inv.model.defs.declared.call.Call.TheVariants as calls
+use Rattle.law_all.specs.inv.model.defs.declared.call.ClockMove.TheVariants as moves
 use Rattle.law_run_worked.specs.Readers.{Bullet, Sentence}
 use Rattle.law_run_worked.specs.Refusals.{AreRefused, Wrong, wrong}
 use Rattle.law_run_worked.specs.Runs.{answering, before_call, closing, group, life, notes, then_call}

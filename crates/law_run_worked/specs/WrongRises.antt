@@ -1,8 +1,8 @@
 -- Runs that the law of what rises within a seat alone refuses.
 use Rattle.std.specs.Prelude.{List, None, Some, [], ◌∷◌}
-use Rattle.wfe_core.specs.Desks.{no_notes}
-use Rattle.wfe_core.specs.defs.declared.call.Answer.TheVariants as answers
-use Rattle.wfe_core.specs.defs.declared.call.Call.TheVariants as calls
+use Rattle.law_all.specs.inv.model.Desks.{no_notes}
+use Rattle.law_all.specs.inv.model.defs.declared.call.Answer.TheVariants as answers
+use Rattle.law_all.specs.inv.model.defs.declared.call.Call.TheVariants as calls
 use Rattle.law_run_worked.specs.Crowded.{crowded}
 use Rattle.law_run_worked.specs.Kept.{kept}
 use Rattle.law_run_worked.specs.Readers.{Bullet, Sentence}

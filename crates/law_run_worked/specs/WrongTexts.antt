@@ -2,14 +2,14 @@
 -- those of the scripts.
 use Rattle.std.specs.List.{AllByRecursion}
 use Rattle.std.specs.Prelude.{List, None, Some, [], drop, take, ℕ, ◌++◌, ◌∷◌}
-use Rattle.wfe_core.specs.defs.declared.call.Answer.TheVariants as answers
-use Rattle.wfe_core.specs.defs.declared.call.Call.{Call}
-use Rattle.wfe_core.specs.defs.declared.call.Call.TheVariants as calls
-use Rattle.wfe_core.specs.defs.declared.call.ClockMove.TheVariants as moves
-use Rattle.wfe_core.specs.defs.declared.event.Event.{Event}
-use Rattle.wfe_core.specs.defs.declared.event.Event.TheVariants as events
-use Rattle.wfe_core.specs.words.declared.config.Config.{Config}
-use Rattle.law_logs.specs.RunLaw.{AtClose, IsRun}
+use Rattle.law_all.specs.inv.model.defs.declared.call.Answer.TheVariants as answers
+use Rattle.law_all.specs.inv.model.defs.declared.call.Call.{Call}
+use Rattle.law_all.specs.inv.model.defs.declared.call.Call.TheVariants as calls
+use Rattle.law_all.specs.inv.model.defs.declared.call.ClockMove.TheVariants as moves
+use Rattle.law_all.specs.inv.model.defs.declared.event.Event.{Event}
+use Rattle.law_all.specs.inv.model.defs.declared.event.Event.TheVariants as events
+use Rattle.law_all.specs.inv.model.words.declared.config.Config.{Config}
+use Rattle.law_all.specs.RunLaw.{AtClose, IsRun}
 use Rattle.law_run_worked.specs.Kept.{kept_lines_0, kept_lines_1, kept_scripts, kept_setting}
 use Rattle.law_run_worked.specs.Runs.{at_place}
 use Rattle.law_run_worked.specs.Shared.{shared_lines_0, shared_lines_1, shared_scripts, shared_setting}

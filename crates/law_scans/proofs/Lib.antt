@@ -1,3 +1,4 @@
+pub use Rattle.law_places.proofs.laws as laws
 pub use Rattle.law_eras.proofs as eras
 pub use Rattle.law_places.proofs as places
 pub use Rattle.law_places.proofs.answers as answers

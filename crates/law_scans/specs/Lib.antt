@@ -1,3 +1,4 @@
+pub use Rattle.law_places.specs.laws as laws
 pub use Rattle.law_places.specs.inv as inv
 pub mod Outcomes
 pub mod Plain

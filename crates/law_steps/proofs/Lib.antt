@@ -1,3 +1,4 @@
+pub use Rattle.law_scans.proofs.laws as laws
 pub use Rattle.law_held.proofs.turns.inv as inv
 pub use Rattle.law_held.proofs.turns.answers as answers
 pub use Rattle.law_scans.proofs.eras as eras

@@ -2,32 +2,32 @@
 use Rattle.std.proofs.Common.{ℕ, ◌≡◌, ◌<◌, arith, Bool, true, false, Option, Some, None, refl, ap, ◌∙◌, subst}
 use Rattle.std.proofs.lemmas.Bool.Decides.{nat_tests}
 use Rattle.std.specs.Prelude.{◌==◌, ◌&&◌, ◌||◌, is_some, nat_lt, if◌then◌else◌}
-use Rattle.wfe_core.specs.words.Schemes.{is_he, is_wfe}
-use Rattle.wfe_core.specs.words.declared.config.Config.{Config}
-use Rattle.wfe_core.specs.words.declared.config.SchemeKind.{SchemeKind}
-use Rattle.wfe_core.specs.words.declared.config.SchemeKind.TheVariants.{He, Ibr, Wfe}
-use Rattle.wfe_core.specs.defs.Entry.{Entry}
-use Rattle.wfe_core.specs.defs.declared.event.Event.{Event}
-use Rattle.wfe_core.specs.defs.declared.event.Event.TheVariants as events
-use Rattle.wfe_core.specs.defs.declared.event.Guard.TheVariants.{Helper, Index, Whole}
-use Rattle.wfe_core.specs.defs.declared.lifetime.Interval.{Interval}
-use Rattle.wfe_core.proofs.Facts.{both, first_of, number_is, rest_of}
+use Rattle.law_scans.specs.inv.model.words.Schemes.{is_he, is_wfe}
+use Rattle.law_scans.specs.inv.model.words.declared.config.Config.{Config}
+use Rattle.law_scans.specs.inv.model.words.declared.config.SchemeKind.{SchemeKind}
+use Rattle.law_scans.specs.inv.model.words.declared.config.SchemeKind.TheVariants.{He, Ibr, Wfe}
+use Rattle.law_scans.specs.inv.model.defs.Entry.{Entry}
+use Rattle.law_scans.specs.inv.model.defs.declared.event.Event.{Event}
+use Rattle.law_scans.specs.inv.model.defs.declared.event.Event.TheVariants as events
+use Rattle.law_scans.specs.inv.model.defs.declared.event.Guard.TheVariants.{Helper, Index, Whole}
+use Rattle.law_scans.specs.inv.model.defs.declared.lifetime.Interval.{Interval}
+use Rattle.law_scans.proofs.inv.model.Facts.{both, first_of, number_is, rest_of}
 use Rattle.law_held.proofs.turns.inv.history.Entries.{each_before, each_of_entries}
 use Rattle.law_held.specs.turns.inv.history.History.{record_of}
 use Rattle.law_held.specs.turns.inv.history.Record.{Past, Each}
 use Rattle.law_held.specs.turns.inv.history.Record.Past.{Start, Then}
 use Rattle.law_scans.proofs.eras.EraLaw.Guards.{records_name_guards}
 use Rattle.law_held.proofs.turns.TryEntries.{entries_tried}
-use Rattle.laws.specs.StateAt.{began_of, is_index_word, reserves_of, value_of}
-use Rattle.laws.specs.HistoryHolds.{indexes_ok}
+use Rattle.law_scans.specs.laws.StateAt.{began_of, is_index_word, reserves_of, value_of}
+use Rattle.law_scans.specs.laws.HistoryHolds.{indexes_ok}
 use Rattle.law_held.proofs.Indexes.Indexing.{protects_below, records_use_indexes}
-use Rattle.laws.specs.HistorySteps.{era_rises}
-use Rattle.laws.specs.StateAt.{era_grows}
-use Rattle.laws.specs.StepLaw.{event_tried}
-use Rattle.laws.specs.HistoryTable.{guards_ok}
-use Rattle.laws.specs.HistorySteps.{try_rises}
-use Rattle.laws.specs.StateAt.{rises_on, rising_of}
-use Rattle.laws.specs.StepLaw.{found_rising}
+use Rattle.law_scans.specs.laws.HistorySteps.{era_rises}
+use Rattle.law_scans.specs.laws.StateAt.{era_grows}
+use Rattle.law_scans.specs.laws.StepLaw.{event_tried}
+use Rattle.law_scans.specs.laws.HistoryTable.{guards_ok}
+use Rattle.law_scans.specs.laws.HistorySteps.{try_rises}
+use Rattle.law_scans.specs.laws.StateAt.{rises_on, rising_of}
+use Rattle.law_scans.specs.laws.StepLaw.{found_rising}
 use Rattle.law_steps.specs.Records.{RecordsCountTries, RecordsRaiseTries}
 use Rattle.law_steps.proofs.Rising.RiseKeeps.{records_raise_eras}
 

@@ -1,14 +1,14 @@
 -- What the record and the turns of each history keep, whatever calls begin and whichever seats make their steps.
 use Rattle.std.specs.Prelude.{List, true, ◌≡◌}
-use Rattle.wfe_core.specs.words.Place.{is_valid}
-use Rattle.wfe_core.specs.words.Schemes.{is_wfe, is_he, is_ibr}
-use Rattle.wfe_core.specs.words.declared.layout.Layout.{Layout}
+use Rattle.law_scans.specs.inv.model.words.Place.{is_valid}
+use Rattle.law_scans.specs.inv.model.words.Schemes.{is_wfe, is_he, is_ibr}
+use Rattle.law_scans.specs.inv.model.words.declared.layout.Layout.{Layout}
 use Rattle.law_held.specs.turns.inv.history.History.{Item, record_of}
-use Rattle.laws.specs.HistorySteps.{AskLaw}
-use Rattle.laws.specs.HistoryEras.{SpansRise}
-use Rattle.laws.specs.HistorySteps.{ErasRise, HelperLaw, ShowLaw, TakeLaw, RaiseLaw, EndLaw}
-use Rattle.laws.specs.HistorySteps.{TriesRise}
-use Rattle.laws.specs.StepLaw.{TryLaw}
+use Rattle.law_scans.specs.laws.HistorySteps.{AskLaw}
+use Rattle.law_scans.specs.laws.HistoryEras.{SpansRise}
+use Rattle.law_scans.specs.laws.HistorySteps.{ErasRise, HelperLaw, ShowLaw, TakeLaw, RaiseLaw, EndLaw}
+use Rattle.law_scans.specs.laws.HistorySteps.{TriesRise}
+use Rattle.law_scans.specs.laws.StepLaw.{TryLaw}
 
 -- each history's record keeps them, whatever calls begin and whichever seats make their steps
 abbrev pub RecordsRaiseSpans : Type 0

@@ -2,19 +2,19 @@
 use Rattle.std.proofs.Common.{ℕ, ◌≡◌, ◌<◌, ◌+◌, Bool, true, false, List, [], ◌∷◌, ◌++◌, Option, Some, None, refl, arith, subst}
 use Rattle.std.proofs.lemmas.Bool.Decides.{nat_tests}
 use Rattle.std.specs.Prelude.{◌==◌, ◌&&◌, ◌||◌, nat_le, if◌then◌else◌, nat_lt}
-use Rattle.wfe_core.specs.words.Packed.{reservation_word}
-use Rattle.wfe_core.specs.words.declared.layout.Layout.{Layout}
-use Rattle.wfe_core.specs.defs.declared.event.Event.{Event}
-use Rattle.wfe_core.specs.declared.post.Post.{Post}
-use Rattle.wfe_core.specs.Posts.{cleared, reserves_index, stands, counted}
-use Rattle.wfe_core.specs.Rounds.{scheme_of, clear_told, let_index}
-use Rattle.wfe_core.specs.World.{World, finds, told_in}
-use Rattle.wfe_core.specs.Phases.{ProtectAt, Base}
-use Rattle.wfe_core.specs.Phases.ProtectAt.{LoadOwnClock, PublishHelper, LoadOwnLink, CheckOwnClock, AnswerOwn, LoadAnswer, TakeAnswer}
-use Rattle.wfe_core.specs.Phases.MoveAt.{HandOver}
-use Rattle.wfe_core.specs.Phases.Base.{Protect, Move}
-use Rattle.wfe_core.specs.Calls.{Why, ReadGuard, GiveBack, KeepAt, Loosens, LoadHeld, StoreHeld, Looks, Misses, Work, Keeping, Phase, Idle, Runs, Scans, Works}
-use Rattle.wfe_core.specs.words.Schemes.{has_one_interval, is_ibr}
+use Rattle.law_answers.specs.inv.model.words.Packed.{reservation_word}
+use Rattle.law_answers.specs.inv.model.words.declared.layout.Layout.{Layout}
+use Rattle.law_answers.specs.inv.model.defs.declared.event.Event.{Event}
+use Rattle.law_answers.specs.inv.model.declared.post.Post.{Post}
+use Rattle.law_answers.specs.inv.model.Posts.{cleared, reserves_index, stands, counted}
+use Rattle.law_answers.specs.inv.model.Rounds.{scheme_of, clear_told, let_index}
+use Rattle.law_answers.specs.inv.model.World.{World, finds, told_in}
+use Rattle.law_answers.specs.inv.model.Phases.{ProtectAt, Base}
+use Rattle.law_answers.specs.inv.model.Phases.ProtectAt.{LoadOwnClock, PublishHelper, LoadOwnLink, CheckOwnClock, AnswerOwn, LoadAnswer, TakeAnswer}
+use Rattle.law_answers.specs.inv.model.Phases.MoveAt.{HandOver}
+use Rattle.law_answers.specs.inv.model.Phases.Base.{Protect, Move}
+use Rattle.law_answers.specs.inv.model.Calls.{Why, ReadGuard, GiveBack, KeepAt, Loosens, LoadHeld, StoreHeld, Looks, Misses, Work, Keeping, Phase, Idle, Runs, Scans, Works}
+use Rattle.law_answers.specs.inv.model.words.Schemes.{has_one_interval, is_ibr}
 use Rattle.law_answers.proofs.inv.history.Passes.{Closed, First, copied_told, keep_told, work_told, step_goes, scan_told}
 use Rattle.law_answers.specs.inv.history.History.{Made}
 use Rattle.law_answers.specs.inv.history.Turns.{EachTurn}
@@ -23,21 +23,21 @@ use Rattle.law_turns.proofs.Counting.Counting.{Keeps, published, since_of, begin
 use Rattle.law_turns.proofs.Counting.Fits.{Fits, own, base_own, paced, taken}
 use Rattle.law_answers.proofs.inv.history.MayTell.{Tells, may_store, base_index, hands, same_span, base_shows, base_all}
 use Rattle.law_turns.proofs.Counting.Told.{is_dull, all_dull, quiet_dull, clear_dull, cleared_dull}
-use Rattle.wfe_core.specs.defs.declared.event.Guard.TheVariants.{Helper, Index, Whole}
-use Rattle.wfe_core.specs.Links.{link_number}
+use Rattle.law_answers.specs.inv.model.defs.declared.event.Guard.TheVariants.{Helper, Index, Whole}
+use Rattle.law_answers.specs.inv.model.Links.{link_number}
 use Rattle.law_answers.specs.inv.Inv.{Inv}
 use Rattle.law_answers.proofs.inv.Inv.Whole.{handover_need}
 use Rattle.law_answers.proofs.inv.covers.Held.{finds_at}
 use Rattle.law_answers.proofs.inv.handover.Asks.{Asker, asker, in_slow}
 use Rattle.law_answers.proofs.inv.handover.Deals.{handed_deal}
 use Rattle.law_answers.proofs.inv.handover.Words.{Handed}
-use Rattle.laws.specs.HistoryTurns.{event_handed, events_handed, handed_right}
+use Rattle.law_answers.specs.laws.HistoryTurns.{event_handed, events_handed, handed_right}
 use Rattle.law_turns.specs.Records.{HandoversMeet}
-use Rattle.wfe_core.specs.defs.declared.event.Event.TheVariants as events
-use Rattle.wfe_core.specs.Machine as machine
-use Rattle.wfe_core.proofs.Facts.{both, first_of, rest_of, number_is, or_more}
+use Rattle.law_answers.specs.inv.model.defs.declared.event.Event.TheVariants as events
+use Rattle.law_answers.specs.inv.model.Machine as machine
+use Rattle.law_answers.proofs.inv.model.Facts.{both, first_of, rest_of, number_is, or_more}
 use Rattle.law_answers.specs.inv.history.Turns as schedule
-use Rattle.wfe_core.specs.words.Place.{Place as places}
+use Rattle.law_answers.specs.inv.model.words.Place.{Place as places}
 use Rattle.law_answers.proofs.inv.history.AllOf.{all_of, of_weaker}
 
 handed_all : (i : ℕ) (x : ℕ → ℕ → ℕ) (told : List Event) → all_of (event_handed i x) told ≡ true → events_handed i x told ≡ true

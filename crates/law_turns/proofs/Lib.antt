@@ -1,3 +1,4 @@
+pub use Rattle.law_answers.proofs.laws as laws
 pub use Rattle.law_answers.proofs.inv as inv
 pub use Rattle.law_answers.proofs as answers
 pub mod Counting

@@ -1,23 +1,23 @@
 -- Under Hazard Eras the number of a protection is that of its tries at the very entry that tells it.
 use Rattle.std.proofs.Common.{ℕ, ◌≡◌, Bool, true, false, List, [], ◌∷◌, refl, sym, ap, ◌∙◌, subst}
 use Rattle.std.specs.Prelude.{not}
-use Rattle.wfe_core.specs.words.Place.{is_valid}
-use Rattle.wfe_core.specs.words.Schemes.{helps, is_he}
-use Rattle.wfe_core.specs.words.declared.config.Config.{Config}
-use Rattle.wfe_core.specs.words.declared.config.SchemeKind.{SchemeKind}
-use Rattle.wfe_core.specs.words.declared.config.SchemeKind.TheVariants.{He, Ibr, Wfe}
-use Rattle.wfe_core.specs.words.declared.layout.Layout.{Layout}
-use Rattle.wfe_core.specs.defs.declared.event.Event.{Event}
-use Rattle.wfe_core.specs.defs.declared.event.Event.TheVariants as events
-use Rattle.wfe_core.specs.defs.declared.event.Guard.TheVariants.{Helper, Index, Whole}
-use Rattle.wfe_core.specs.declared.post.Post.{Post}
-use Rattle.wfe_core.specs.Calls.{ReadGuard, GiveBack, Phase, Idle, Runs, Scans, Works}
-use Rattle.wfe_core.specs.Phases.{Base}
-use Rattle.wfe_core.specs.Phases.ProtectAt.{CheckClock, CheckUpper, TakeAnswer}
-use Rattle.wfe_core.specs.Phases.Base.{Protect, Reload}
-use Rattle.wfe_core.specs.Posts.{counted}
-use Rattle.wfe_core.specs.World.{World, finds, told_in}
-use Rattle.wfe_core.proofs.Facts.{first_of, rest_of, same_number}
+use Rattle.law_answers.specs.inv.model.words.Place.{is_valid}
+use Rattle.law_answers.specs.inv.model.words.Schemes.{helps, is_he}
+use Rattle.law_answers.specs.inv.model.words.declared.config.Config.{Config}
+use Rattle.law_answers.specs.inv.model.words.declared.config.SchemeKind.{SchemeKind}
+use Rattle.law_answers.specs.inv.model.words.declared.config.SchemeKind.TheVariants.{He, Ibr, Wfe}
+use Rattle.law_answers.specs.inv.model.words.declared.layout.Layout.{Layout}
+use Rattle.law_answers.specs.inv.model.defs.declared.event.Event.{Event}
+use Rattle.law_answers.specs.inv.model.defs.declared.event.Event.TheVariants as events
+use Rattle.law_answers.specs.inv.model.defs.declared.event.Guard.TheVariants.{Helper, Index, Whole}
+use Rattle.law_answers.specs.inv.model.declared.post.Post.{Post}
+use Rattle.law_answers.specs.inv.model.Calls.{ReadGuard, GiveBack, Phase, Idle, Runs, Scans, Works}
+use Rattle.law_answers.specs.inv.model.Phases.{Base}
+use Rattle.law_answers.specs.inv.model.Phases.ProtectAt.{CheckClock, CheckUpper, TakeAnswer}
+use Rattle.law_answers.specs.inv.model.Phases.Base.{Protect, Reload}
+use Rattle.law_answers.specs.inv.model.Posts.{counted}
+use Rattle.law_answers.specs.inv.model.World.{World, finds, told_in}
+use Rattle.law_answers.proofs.inv.model.Facts.{first_of, rest_of, same_number}
 use Rattle.law_answers.specs.inv.history.History as histories
 use Rattle.law_answers.specs.inv.history.History.{Item, Made, Steps, done}
 use Rattle.law_answers.specs.inv.history.Record.{Past, Test, Each, EachEntry, tells_of}
@@ -33,9 +33,9 @@ use Rattle.law_answers.proofs.inv.history.Passes.{First, is_quiet}
 use Rattle.law_answers.proofs.OneStep.Along.{Around, Kept, history_keeps}
 use Rattle.law_answers.proofs.Turns.Counted.{histories_count}
 use Rattle.law_answers.specs.Heard.{IsCounted}
-use Rattle.laws.specs.StateAt.{reserves_by, reserves_of}
-use Rattle.laws.specs.HistorySteps.{events_tried}
-use Rattle.laws.specs.StepLaw.{event_tried}
+use Rattle.law_answers.specs.laws.StateAt.{reserves_by, reserves_of}
+use Rattle.law_answers.specs.laws.HistorySteps.{events_tried}
+use Rattle.law_answers.specs.laws.StepLaw.{event_tried}
 use Rattle.law_turns.proofs.TryCounts as counts
 use Rattle.law_turns.proofs.TryCounts.{Tries, events_same, unfound_one}
 

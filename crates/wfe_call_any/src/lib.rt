@@ -7,7 +7,7 @@ mod scheme_calls;
 
 pub use keeping::{Keeping, KeepingOf};
 pub use running::{CallOf, Running, begin_call};
-pub use scheme_calls::{HeCall, IbrCall, WfeCall};
+pub use scheme_calls::{HeCall, IbrCall, SchemeCall, WfeCall};
 pub use wfe_bucketmap::{
     Advance, CopyIndex, DropIndex, Get, He, Hold, Ibr, Look, Put, PutIf, Release, Remove, Scheme,
     Wfe,

@@ -2,5 +2,3 @@ pub use Rattle.law_answers.specs.inv as inv
 pub use Rattle.law_answers.specs.history as history
 pub use Rattle.wfe_drive_cells.specs as drive_cells
 pub mod Reached
-pub mod Seats
-pub mod Sound

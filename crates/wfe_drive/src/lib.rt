@@ -4,7 +4,6 @@
 
 mod engine;
 mod rig;
-mod seat;
 
 pub use engine::Engine;
 pub use rig::Rig;

@@ -7,14 +7,14 @@ ghost use Rattle.wfe_core.specs.Locals.{busy_in, may_begin};
 ghost use Rattle.wfe_core.specs.Steps.{first_phase};
 ghost use Rattle.wfe_core.specs.declared.post.Post.{Post};
 ghost use Rattle.wfe_drive.specs.Reached.{first_table, units_left};
-ghost use Rattle.wfe_drive.specs.Seats.{Suits, engaged_phase, is_engaged};
+ghost use Rattle.wfe_drive_seat.specs.Seats.{Suits, engaged_phase, is_engaged};
 
-use crate::seat::{Engaged, SeatState};
 use std::alloc::Global;
 use std::marker::Model;
 use wfe_call_any::{HeCall, IbrCall, WfeCall};
 use wfe_core::{Answer, Call, CallMachine, Layout, NoMemory, SchemeKind, Told};
 use wfe_drive_cells::Cells;
+use wfe_drive_seat::{Engaged, SeatState};
 
 type State = SeatState<HeCall, IbrCall, WfeCall>;
 

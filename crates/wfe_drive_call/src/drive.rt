@@ -1,15 +1,14 @@
 // The steps of a call, one operation after another, from its beginning to its answer.
-ghost use Rattle.std.specs.Prelude.{◌≡◌, true};
+ghost use Rattle.std.specs.Prelude.{◌≡◌, ◌<◌, None, true};
 ghost use Rattle.laws.specs.AnswerLaw.{suits};
-ghost use Rattle.wfe_core.specs.Calls.{Changes, Idle};
+ghost use Rattle.wfe_core.specs.Calls.{Idle};
 ghost use Rattle.wfe_core.specs.DeskHeld.{HasRoom};
 ghost use Rattle.wfe_core.specs.Frames.{SamePlace};
 ghost use Rattle.wfe_core.specs.Locals.{may_begin};
-ghost use Rattle.wfe_core.specs.Rounds.{round};
+ghost use Rattle.wfe_core.specs.Rounds.{bucket_of, kept_row};
 ghost use Rattle.wfe_core.specs.Steps.{first_phase};
 ghost use Rattle.wfe_core.specs.words.declared.config.SchemeKind.TheVariants.{He as HeKind, Ibr as IbrKind, Wfe as WfeKind};
 ghost use Rattle.wfe_core.specs.defs.declared.call.Call.TheVariants.{Get as GetCall};
-ghost use Rattle.wfe_drive_change.specs.Changing.{first_kept};
 ghost use Rattle.wfe_drive_change.specs.drive_words.Called.{Called, Here, Makes, at_phase};
 ghost use Rattle.wfe_drive_change.specs.drive_words.Ran.{Answered};
 
@@ -17,7 +16,8 @@ use wfe_core::{Answer, Call, CallMachine, Change, Desk, Post, SchemeKind};
 use wfe_drive_change::change_bucket;
 use wfe_drive_change::queue::on_words::{
     Advance, CopyIndex, Dequeue, DropIndex, Enqueue, Get, He, Hold, Ibr, Look, Put, PutIf, Release,
-    Remove, Scan, Scheme, Wfe, Words, drive_on, get_he, get_ibr, get_wfe,
+    Remove, Scan, Scheme, Wfe, Words, bucket_for, drive_apart, drive_on, get_he, get_he_in,
+    get_ibr_in, get_wfe, get_wfe_in,
 };
 use wfe_drive_change::queue::{dequeue_item, enqueue_item};
 
@@ -48,6 +48,41 @@ pub fn drive_call<W: Words>(words: &mut W, post: &mut Post, desk: &mut Desk, cal
         SchemeKind::He => drive_he(words, post, desk, call),
         SchemeKind::Ibr => drive_ibr(words, post, desk, call),
         SchemeKind::Wfe => drive_wfe(words, post, desk, call),
+    }
+}
+
+/// Makes a get, of a key whose bucket is known, as `drive_call` does. Its code hands the words to no
+/// function that is compiled apart, and so a compiler can keep them out of memory.
+#[inline(always)]
+pub fn drive_get<W: Words>(
+    words: &mut W,
+    post: &mut Post,
+    desk: &mut Desk,
+    key: u64,
+    bucket: u32,
+) -> Answer
+    requires valid { W.valid words.old }
+    requires here { Here (W.at words.old) (at_phase Idle post.old desk.old) }
+    requires room { HasRoom desk.old post.old.layout }
+    requires bucket { bucket ≡ bucket_of post.old key }
+    requires there { bucket < post.old.layout.config.buckets }
+    ensures valid { W.valid words.new }
+    ensures same { W.same words.old words.new }
+    ensures here { Here (W.at words.new) (at_phase Idle post.new desk.new) }
+    ensures room { HasRoom desk.new post.new.layout }
+    ensures place { SamePlace post.old post.new }
+    ensures suits { suits (GetCall key) result ≡ true }
+    ensures called { Called (GetCall key) result (W.at words.old) (W.at words.new)
+        (W.stands words.old) (W.stands words.new)
+        (at_phase Idle post.old desk.old) (at_phase Idle post.new desk.new) }
+{
+    words.start(Call::Get { key });
+    post.steps = 0;
+    desk.notes.clear();
+    match post.layout.config().scheme {
+        SchemeKind::He => get_he_in(words, post, desk, key, bucket),
+        SchemeKind::Ibr => get_free(words, post, desk, key, bucket, Call::Get { key }),
+        SchemeKind::Wfe => get_wfe_in(words, post, desk, key, bucket),
     }
 }
 
@@ -116,8 +151,8 @@ fn drive_wfe<W: Words>(words: &mut W, post: &mut Post, desk: &mut Desk, call: Ca
     }
 }
 
-/// Makes the steps of a call that has begun under 2GE. A get, a put, a put that names a version and a
-/// remove of a seat that keeps no row make them without a machine.
+/// Makes the steps of a call that has begun under 2GE, as the seat keeps a row or none: the interval would
+/// end now.
 #[inline(always)]
 fn drive_ibr<W: Words>(words: &mut W, post: &mut Post, desk: &mut Desk, call: Call) -> Answer
     requires valid { W.valid words.old }
@@ -131,24 +166,44 @@ fn drive_ibr<W: Words>(words: &mut W, post: &mut Post, desk: &mut Desk, call: Ca
         (W.stands words.old) (W.stands words.new)
         (at_phase (first_phase call post.old) post.old desk.old) (at_phase Idle post.new desk.new) }
 {
+    match Ibr::finish(post) {
+        Some(_) => drive_free(words, post, desk, call),
+        None => drive_under::<W, Ibr>(words, post, desk, call),
+    }
+}
+
+/// Makes the steps of a call that has begun under 2GE, of a seat that keeps no row. A get, a put, a put
+/// that names a version, a remove, an enqueue and a dequeue make them without a machine.
+#[inline(always)]
+fn drive_free<W: Words>(words: &mut W, post: &mut Post, desk: &mut Desk, call: Call) -> Answer
+    requires valid { W.valid words.old }
+    requires scheme { post.old.layout.config.scheme ≡ IbrKind }
+    requires free { kept_row post.old ≡ None }
+    requires here { Here (W.at words.old) (at_phase (first_phase call post.old) post.old desk.old) }
+    requires room { HasRoom desk.old post.old.layout }
+    ensures valid { W.valid words.new }
+    ensures same { W.same words.old words.new }
+    ensures room { HasRoom desk.new post.new.layout }
+    ensures made { Makes (λ ops l m. Answered l ops result m) (W.at words.old) (W.at words.new)
+        (W.stands words.old) (W.stands words.new)
+        (at_phase (first_phase call post.old) post.old desk.old) (at_phase Idle post.new desk.new) }
+{
     match call {
-        Call::Get { key } => get_free(words, post, desk, key, call),
-        Call::Put { key, value } => {
-            change_free(words, post, desk, Change::Put { key, value }, None, call)
+        Call::Get { key } => {
+            let bucket = bucket_for(key, &post.layout);
+            get_free(words, post, desk, key, bucket, call)
         }
-        Call::Remove { key } => change_free(words, post, desk, Change::Removed { key }, None, call),
+        Call::Put { key, value } => {
+            change_bucket(words, post, desk, Change::Put { key, value }, None)
+        }
+        Call::Remove { key } => change_bucket(words, post, desk, Change::Removed { key }, None),
         Call::PutIf {
             key,
             value,
             version,
-        } => change_free(
-            words,
-            post,
-            desk,
-            Change::Put { key, value },
-            Some(version),
-            call,
-        ),
+        } => change_bucket(words, post, desk, Change::Put { key, value }, Some(version)),
+        Call::Enqueue { value } => enqueue_item(words, post, desk, value),
+        Call::Dequeue => dequeue_item(words, post, desk),
         _ => drive_under::<W, Ibr>(words, post, desk, call),
     }
 }
@@ -160,10 +215,13 @@ fn get_free<W: Words>(
     post: &mut Post,
     desk: &mut Desk,
     key: u64,
+    bucket: u32,
     call: Call,
 ) -> Answer
     requires valid { W.valid words.old }
     requires get { call ≡ GetCall key }
+    requires bucket { bucket ≡ bucket_of post.old key }
+    requires there { bucket < post.old.layout.config.buckets }
     requires scheme { post.old.layout.config.scheme ≡ IbrKind }
     requires here { Here (W.at words.old) (at_phase (first_phase call post.old) post.old desk.old) }
     requires room { HasRoom desk.old post.old.layout }
@@ -176,40 +234,35 @@ fn get_free<W: Words>(
 {
     match post.span {
         None => match Ibr::finish(post) {
-            Some(_) => get_ibr(words, post, desk, key),
-            None => drive_under::<W, Ibr>(words, post, desk, call),
+            Some(_) => get_ibr_in(words, post, desk, key, bucket),
+            None => get_kept(words, post, desk, key, call),
         },
-        Some(_) => drive_under::<W, Ibr>(words, post, desk, call),
+        Some(_) => get_kept(words, post, desk, key, call),
     }
 }
 
-/// Makes the steps of a put or a remove under 2GE, as the seat keeps a row or none: the interval would
-/// end now.
+/// Makes the steps of a get under 2GE by its machine.
 #[inline(always)]
-fn change_free<W: Words>(
+fn get_kept<W: Words>(
     words: &mut W,
     post: &mut Post,
     desk: &mut Desk,
-    change: Change,
-    wanted: Option<u64>,
-    call: Call,
+    key: u64,
+    _call: Call,
 ) -> Answer
     requires valid { W.valid words.old }
-    requires first { first_phase call post.old ≡ round (Changes (first_kept change wanted)) post.old }
+    requires get { _call ≡ GetCall key }
     requires scheme { post.old.layout.config.scheme ≡ IbrKind }
-    requires here { Here (W.at words.old) (at_phase (first_phase call post.old) post.old desk.old) }
+    requires here { Here (W.at words.old) (at_phase (first_phase _call post.old) post.old desk.old) }
     requires room { HasRoom desk.old post.old.layout }
     ensures valid { W.valid words.new }
     ensures same { W.same words.old words.new }
     ensures room { HasRoom desk.new post.new.layout }
     ensures made { Makes (λ ops l m. Answered l ops result m) (W.at words.old) (W.at words.new)
         (W.stands words.old) (W.stands words.new)
-        (at_phase (first_phase call post.old) post.old desk.old) (at_phase Idle post.new desk.new) }
+        (at_phase (first_phase _call post.old) post.old desk.old) (at_phase Idle post.new desk.new) }
 {
-    match Ibr::finish(post) {
-        Some(_) => change_bucket(words, post, desk, change, wanted),
-        None => drive_under::<W, Ibr>(words, post, desk, call),
-    }
+    drive_apart(words, Get::<Ibr>::new(key), post, desk)
 }
 
 /// Makes the steps of a call that has begun, under the table's scheme. Each kind of call has a loop of

@@ -3,5 +3,7 @@
 
 mod drive;
 
-pub use drive::drive_call;
-pub use wfe_drive_change::queue::on_words::{Words, answers_leave_groups, histories_ready_seats};
+pub use drive::{drive_call, drive_get};
+pub use wfe_drive_change::queue::on_words::{
+    Words, answers_leave_groups, bucket_for, histories_ready_seats,
+};

@@ -67,6 +67,7 @@ pub fn append<W: Words>(words: &mut W, post: &mut Post, item: &mut Item, slot: u
     ensures same { W.same words.old words.new }
     ensures rest { W.rest words.new ≤ W.rest words.old }
     ensures layout { post.new.layout ≡ post.old.layout }
+    ensures standing { post.new.standing ≡ post.old.standing }
     ensures leads { (desk : ModelDesk) → Here (W.at words.old) (seat_of (Works (Enqueuing (kept_of item.old) (ExchangeNext slot))) post.old desk)
         → Leads (W.at words.old) (W.at words.new) (W.stands words.old) (W.stands words.new) (seat_of (Works (Enqueuing (kept_of item.old) (ExchangeNext slot))) post.old desk)
         (clearing_at (Enqueues (kept_of item.new)) (next_of result) post.new desk) }

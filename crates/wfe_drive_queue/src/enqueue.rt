@@ -1,31 +1,31 @@
 // An enqueue, round by round: the tail's row is protected, an item is written and linked after it, and
 // the tail is moved; a round that another enqueue was before is made again.
-ghost use Rattle.std.specs.Prelude.{◌≡◌, ◌≤◌, ◌<◌, false};
-ghost use Rattle.wfe_core.specs.words.Schemes.{has_one_interval};
+ghost use Rattle.std.specs.Prelude.{◌≡◌, ◌≤◌, ◌<◌};
 ghost use Rattle.wfe_core.specs.defs.declared.call.Call.TheVariants.{Enqueue as EnqueueCall};
 ghost use Rattle.wfe_core.specs.Calls.{Enqueues, Fills, Idle, Runs};
 ghost use Rattle.wfe_core.specs.Change.{no_room as model_no_room};
 ghost use Rattle.wfe_core.specs.DeskHeld.{HasRoom, desk_of};
 ghost use Rattle.wfe_core.specs.Enqueue.{filling};
-ghost use Rattle.wfe_core.specs.Rounds.{opening};
+ghost use Rattle.wfe_core.specs.Rounds.{round};
 ghost use Rattle.wfe_core.specs.Steps.{first_phase};
 ghost use Rattle.wfe_drive_queue.specs.Items.{kept_of, next_of};
 ghost use Rattle.wfe_drive_queue.specs.drive_words.Called.{Here, at_phase};
 ghost use Rattle.wfe_drive_queue.specs.drive_words.Path.{Closes, Leads};
-ghost use Rattle.wfe_drive_queue.specs.drive_runs.Pieces.{clearing_at};
+ghost use Rattle.wfe_drive_queue.specs.drive_runs.Pieces.{IsFree, clearing_at};
 
 use crate::append::{append, pass_tail, read_tail};
 use crate::fill::fill;
 use crate::item::{Item, RoundEnd};
 use wfe_core::{Answer, Desk, Post, Root};
-use wfe_drive_runs::{Words, close, give_up, helps, hold_root, note_steps, tidy};
+use wfe_drive_runs::{
+    Words, close_again, close_round, give_up, helps, note_steps, open_round, tidy,
+};
 
-/// Makes an enqueue from its first step to its answer, under the schemes that clear an index by a step:
-/// Hazard Eras and Wait-Free Eras.
+/// Makes an enqueue from its first step to its answer. Under 2GE its seat keeps no row.
 #[inline(always)]
 pub fn enqueue_item<W: Words>(words: &mut W, post: &mut Post, desk: &mut Desk, value: u64) -> Answer
     requires valid { W.valid words.old }
-    requires clears { has_one_interval post.old.layout.config.scheme ≡ false }
+    requires free { IsFree post.old }
     requires here { Here (W.at words.old) (at_phase (first_phase (EnqueueCall value) post.old) post.old desk.old) }
     requires room { HasRoom desk.old post.old.layout }
     ensures valid { W.valid words.new }
@@ -42,21 +42,23 @@ pub fn enqueue_item<W: Words>(words: &mut W, post: &mut Post, desk: &mut Desk, v
         number: 0,
     };
     loop {
-        let ending = link_item(words, post, desk, &mut item);
-        close(words, post);
-        match ending {
-            RoundEnd::Again => {}
+        match link_item(words, post, desk, &mut item) {
+            RoundEnd::Again => close_again(words, post),
             RoundEnd::MakeRoom => {
+                close_round(words, post);
                 let helps = helps(post.layout.config().scheme);
                 tidy(words, helps, post, desk);
             }
-            RoundEnd::Answers(answer) => match item.taken {
-                Some(slot) => return give_up(words, post, desk, slot, answer),
-                None => {
-                    note_steps(desk, post.steps);
-                    return answer;
+            RoundEnd::Answers(answer) => {
+                close_round(words, post);
+                match item.taken {
+                    Some(slot) => return give_up(words, post, desk, slot, answer),
+                    None => {
+                        note_steps(desk, post.steps);
+                        return answer;
+                    }
                 }
-            },
+            }
         }
     }
 }
@@ -65,19 +67,20 @@ pub fn enqueue_item<W: Words>(words: &mut W, post: &mut Post, desk: &mut Desk, v
 #[inline(always)]
 fn link_item<W: Words>(words: &mut W, post: &mut Post, desk: &mut Desk, item: &mut Item) -> RoundEnd
     requires valid { W.valid words.old }
-    requires clears { has_one_interval post.old.layout.config.scheme ≡ false }
-    requires here { Here (W.at words.old) (at_phase (opening (Enqueues (kept_of item.old)) post.old) post.old desk.old) }
+    requires free { IsFree post.old }
+    requires here { Here (W.at words.old) (at_phase (round (Enqueues (kept_of item.old)) post.old) post.old desk.old) }
     requires room { HasRoom desk.old post.old.layout }
     ensures valid { W.valid words.new }
     ensures same { W.same words.old words.new }
-    ensures rest { W.rest words.new ≤ W.rest words.old }
+    ensures rest { W.rest words.new < W.rest words.old }
     ensures room { HasRoom desk.new post.new.layout }
     ensures layout { post.new.layout ≡ post.old.layout }
+    ensures free { IsFree post.new }
     ensures leads { Leads (W.at words.old) (W.at words.new) (W.stands words.old) (W.stands words.new)
-        (at_phase (opening (Enqueues (kept_of item.old)) post.old) post.old desk.old)
+        (at_phase (round (Enqueues (kept_of item.old)) post.old) post.old desk.old)
         (clearing_at (Enqueues (kept_of item.new)) (next_of result) post.new (desk_of desk.new)) }
 {
-    match hold_root(words, post, desk, 0, Root::Tail) {
+    match open_round(words, post, desk, Root::Tail) {
         Some(tail) => item.tail = tail,
         None => return RoundEnd::Again,
     }
@@ -110,6 +113,7 @@ fn link_filled<W: Words>(
     ensures rest { W.rest words.new ≤ W.rest words.old }
     ensures room { HasRoom desk.new post.new.layout }
     ensures layout { post.new.layout ≡ post.old.layout }
+    ensures standing { post.new.standing ≡ post.old.standing }
     ensures leads { Leads (W.at words.old) (W.at words.new) (W.stands words.old) (W.stands words.new)
         (at_phase (Runs (Fills (Enqueues (kept_of item.old))) (filling (kept_of item.old))) post.old desk.old)
         (clearing_at (Enqueues (kept_of item.new)) (next_of result) post.new (desk_of desk.new)) }

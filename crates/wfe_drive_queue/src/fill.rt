@@ -28,6 +28,7 @@ pub fn fill<W: Words>(
     ensures rest { W.rest words.new ≤ W.rest words.old }
     ensures room { HasRoom desk.new post.new.layout }
     ensures layout { post.new.layout ≡ post.old.layout }
+    ensures standing { post.new.standing ≡ post.old.standing }
     ensures leads { Leads (W.at words.old) (W.at words.new) (W.stands words.old) (W.stands words.new)
         (at_phase (Runs (Fills (Enqueues (kept_of item.old))) (filling (kept_of item.old))) post.old desk.old)
         (filled_at result (kept_of item.old) (kept_of item.new) post.new (desk_of desk.new)) }
@@ -60,7 +61,7 @@ fn write<W: Words>(words: &mut W, post: &mut Post, _desk: &Desk, item: &Item, sl
     ensures valid { W.valid words.new }
     ensures same { W.same words.old words.new }
     ensures rest { W.rest words.new ≤ W.rest words.old }
-    ensures layout { post.new.layout ≡ post.old.layout }
+    ensures post { post.new ≡ record post.old { steps = post.old.steps + 3 } }
     ensures leads { Leads (W.at words.old) (W.at words.new) (W.stands words.old) (W.stands words.new)
         (at_phase (Runs (Fills (Enqueues (kept_of item.now))) (writing slot (new_item (kept_of item.now)))) post.old _desk.now)
         (at_phase (Works (Enqueuing (kept_of item.now) (ExchangeNext slot))) post.new _desk.now) }

@@ -70,7 +70,7 @@ pub fn take<W: Words>(words: &mut W, post: &mut Post, head: u32, next: u32) -> T
     ensures valid { W.valid words.new }
     ensures same { W.same words.old words.new }
     ensures rest { W.rest words.new ≤ W.rest words.old }
-    ensures layout { post.new.layout ≡ post.old.layout }
+    ensures post { post.new ≡ record post.old { steps = post.old.steps + 3 } }
     ensures leads { (desk : ModelDesk) → Here (W.at words.old) (seat_of (Works (Dequeuing (TakeNumber head next))) post.old desk)
         → Leads (W.at words.old) (W.at words.new) (W.stands words.old) (W.stands words.new) (seat_of (Works (Dequeuing (TakeNumber head next))) post.old desk)
         (clearing_next_at (next_of result) post.new desk) }

@@ -1,9 +1,5 @@
 -- A step of a protection that is followed is a step of the protection by itself, and what follows.
 use Rattle.std.proofs.Common.{Bool, List, [], ap, false, refl, subst, sym, true, ℕ, ◌==◌, ◌≡◌, ◌∙◌, if◌then◌else◌}
-use Rattle.std.proofs.lemmas.Bool.{false≢true}
-use Rattle.wfe_core.specs.words.Schemes.{has_one_interval}
-use Rattle.wfe_core.specs.words.declared.config.SchemeKind.{SchemeKind}
-use Rattle.wfe_core.specs.words.declared.config.SchemeKind.TheVariants.{Ibr}
 use Rattle.wfe_core.specs.words.declared.layout.Layout.{Layout}
 use Rattle.wfe_core.specs.defs.declared.event.Event.{Event}
 use Rattle.wfe_core.specs.defs.declared.event.Root.TheVariants.{Next}
@@ -135,7 +131,3 @@ so_from {at0 = at0} {at1 = at1} {stands0 = stands0} {stands1 = stands1} {why = w
 -- the room of a desk under the same layout
 pub room_as : {held : HeldDesk} {old new : Layout} → new ≡ old → HasRoom held old → HasRoom held new
 room_as {held = held} e room = subst (λ (layout : Layout). HasRoom held layout) (sym e) room
-
--- a scheme without an interval is not 2GE
-pub no_interval : (kind : SchemeKind) → kind ≡ Ibr → has_one_interval kind ≡ false → ⊥
-no_interval kind is one = false≢true (sym one ∙ ap has_one_interval is)

@@ -1,6 +1,6 @@
 -- Pieces of calls that code makes without the call's machine: a machine of the call's in a loop of its own, a protection, and the end of
 -- a round. Each holds of whatever the call does before and after it, so it serves all calls.
-use Rattle.std.specs.Prelude.{List, None, Option, Some, [], ℕ, ◌-◌, ◌∷◌, ◌≡◌, ◌≤◌, true}
+use Rattle.std.specs.Prelude.{IsSome, List, None, Option, Some, [], ℕ, ◌-◌, ◌∷◌, ◌≡◌, ◌≤◌, true}
 use Rattle.wfe_core.specs.defs.declared.call.Answer.{Answer}
 use Rattle.wfe_core.specs.defs.declared.call.ClockMove.{ClockMove}
 use Rattle.wfe_core.specs.defs.declared.event.Event.{Event}
@@ -15,7 +15,7 @@ use Rattle.wfe_core.specs.Locals.{Local}
 use Rattle.wfe_core.specs.Phases.{Alone, Base, Endless, Ending}
 use Rattle.wfe_core.specs.Phases.Base.{Allocate}
 use Rattle.wfe_core.specs.Posts.{with_row}
-use Rattle.wfe_core.specs.Rounds.{clearing, clearing_next, kept_row}
+use Rattle.wfe_core.specs.Rounds.{clearing, clearing_next, index_of, kept_row, root_of}
 use Rattle.wfe_core.specs.Scan.{scanned}
 use Rattle.wfe_core.specs.Steps.{after_move, resume}
 use Rattle.wfe_core.specs.words.Schemes.{has_one_interval}
@@ -99,6 +99,14 @@ Finishing (Retiring slot answer) = Unit {0}
 -- where the scheme has one interval no row is kept: so the interval ends by a step
 abbrev pub IsFree : Post → Type 0
 IsFree post = has_one_interval post.layout.config.scheme ≡ true → kept_row post ≡ None
+
+-- where the scheme has one interval it stands
+abbrev pub IsSpanned : Post → Type 0
+IsSpanned post = has_one_interval post.layout.config.scheme ≡ true → IsSome post.span
+
+-- a task protects this root, at index 0
+abbrev pub Protects : Task → Root → Post → Type 0
+Protects task root post = (index_of task ≡ 0) × (root_of task post ≡ root)
 
 -- a walk over the rows changes nothing of what stands
 abbrev pub IsWalk : Base → Type 0

@@ -1,6 +1,5 @@
-// A protection of the next link of the queue's head row, by which the seat is as the model's, under the
-// schemes that clear an index by a step.
-ghost use Rattle.std.specs.Prelude.{◌≡◌, ◌<◌, ◌≤◌, ◌+◌, ◌^◌, ℕ, false};
+// A protection of the next link of the queue's head row, by which the seat is as the model's.
+ghost use Rattle.std.specs.Prelude.{◌≡◌, ◌<◌, ◌≤◌, ◌+◌, ◌^◌, ℕ, IsSome};
 ghost use Rattle.wfe_core.specs.Calls.{Runs, Why};
 ghost use Rattle.wfe_core.specs.Dequeue.{follow_base};
 ghost use Rattle.wfe_core.specs.DeskHeld.{HasRoom, desk_of};
@@ -9,22 +8,24 @@ ghost use Rattle.wfe_core.specs.Phases.Base.{Reload};
 ghost use Rattle.wfe_core.specs.Phases.Ending.{Followed as FollowedEnd};
 ghost use Rattle.wfe_core.specs.Phases.ProtectAt.{PublishRequest};
 ghost use Rattle.wfe_core.specs.Ready.{LinkFits, follow_within};
+ghost use Rattle.wfe_core.specs.Rounds.{kept_row};
 ghost use Rattle.wfe_core.specs.Valid.{IsValid};
 ghost use Rattle.wfe_core.specs.defs.declared.event.Root.TheVariants.{Next as NextOf};
 ghost use Rattle.wfe_core.specs.words.Place.Place.{Head};
-ghost use Rattle.wfe_core.specs.words.Schemes.{has_one_interval};
-ghost use Rattle.wfe_core.specs.words.declared.config.SchemeKind.TheVariants.{He as HeKind, Wfe as WfeKind};
+ghost use Rattle.wfe_core.specs.words.declared.config.SchemeKind.TheVariants.{He as HeKind, Ibr as IbrKind, Wfe as WfeKind};
 ghost use Rattle.wfe_drive_words.specs.Called.{Here, at_phase};
 ghost use Rattle.wfe_drive_runs.specs.Following.{followed_trial};
 ghost use Rattle.wfe_drive_words.specs.Path.{held_at, protecting};
-ghost use Rattle.wfe_drive_runs.specs.Pieces.{LeadsSo};
+ghost use Rattle.wfe_drive_runs.specs.Pieces.{IsFree, IsSpanned, LeadsSo};
 
 use crate::followed_run::run_followed;
-use wfe_core::{Desk, FollowEnd, Op, Post, ProtectEnd, Root, SchemeKind};
-use wfe_drive_words::{Bounded, Guarded, WfeProtect, Words, protect_he, protect_wfe, step};
+use wfe_core::{Desk, FollowEnd, Interval, Op, Post, ProtectEnd, Root, SchemeKind};
+use wfe_drive_words::{
+    Bounded, Guarded, WfeProtect, Words, protect_he, protect_wfe, protect_within, step,
+};
 
-/// Protects the next link of the head's row at index 1, under a scheme that clears an index by a step, and
-/// holds the row to which it leads where the head is still that row's.
+/// Protects the next link of the head's row at index 1, under any scheme, and holds the row to which it
+/// leads where the head is still that row's. Under 2GE an interval stands.
 #[inline(always)]
 pub fn follow_next<W: Words>(
     words: &mut W,
@@ -33,7 +34,8 @@ pub fn follow_next<W: Words>(
     parent: u32,
 ) -> FollowEnd
     requires valid { W.valid words.old }
-    requires clears { has_one_interval post.old.layout.config.scheme ≡ false }
+    requires free { IsFree post.old }
+    requires spanned { IsSpanned post.old }
     requires here { (why : Why) × Here (W.at words.old) (at_phase (Runs why (follow_base post.old.layout.config.scheme parent)) post.old desk.old) }
     requires room { HasRoom desk.old post.old.layout }
     ensures valid { W.valid words.new }
@@ -41,6 +43,7 @@ pub fn follow_next<W: Words>(
     ensures rest { W.rest words.new < W.rest words.old }
     ensures room { HasRoom desk.new post.new.layout }
     ensures layout { post.new.layout ≡ post.old.layout }
+    ensures free { IsFree post.new }
     ensures within { follow_within result post.new }
     ensures leads { (why : Why) → Here (W.at words.old) (at_phase (Runs why (follow_base post.old.layout.config.scheme parent)) post.old desk.old)
         → LeadsSo (W.at words.old) (W.at words.new) (W.stands words.old) (W.stands words.new) (at_phase (Runs why (follow_base post.old.layout.config.scheme parent)) post.old desk.old) why (FollowedEnd result) post.new desk.new }
@@ -48,7 +51,7 @@ pub fn follow_next<W: Words>(
     match post.layout.config().scheme {
         SchemeKind::Wfe => follow_wfe(words, post, desk, parent),
         SchemeKind::He => follow_he(words, post, desk, parent),
-        SchemeKind::Ibr => follow_he(words, post, desk, parent),
+        SchemeKind::Ibr => follow_ibr(words, post, desk, parent),
     }
 }
 
@@ -92,6 +95,31 @@ fn follow_wfe<W: Words>(words: &mut W, post: &mut Post, desk: &mut Desk, parent:
     }
 }
 
+// Under 2GE, within the interval that stands.
+#[inline(always)]
+fn follow_ibr<W: Words>(words: &mut W, post: &mut Post, _desk: &Desk, parent: u32) -> FollowEnd
+    requires valid { W.valid words.old }
+    requires scheme { post.old.layout.config.scheme ≡ IbrKind }
+    requires span { IsSome post.old.span }
+    requires here { (why : Why) × Here (W.at words.old) (at_phase (Runs why (follow_base IbrKind parent)) post.old _desk.now) }
+    ensures valid { W.valid words.new }
+    ensures same { W.same words.old words.new }
+    ensures rest { W.rest words.new < W.rest words.old }
+    ensures layout { post.new.layout ≡ post.old.layout }
+    ensures kept { kept_row post.new ≡ kept_row post.old }
+    ensures within { follow_within result post.new }
+    ensures leads { (why : Why) → Here (W.at words.old) (at_phase (Runs why (follow_base IbrKind parent)) post.old _desk.now)
+        → LeadsSo (W.at words.old) (W.at words.new) (W.stands words.old) (W.stands words.new) (at_phase (Runs why (follow_base IbrKind parent)) post.old _desk.now) why (FollowedEnd result) post.new _desk.now }
+{
+    let span = post.span.unwrap();
+    let guarded = protect_within(words, post, Root::Next(parent), span.lo, span.hi);
+    post.span = Some(Interval {
+        lo: span.lo,
+        hi: guarded.era,
+    });
+    follow_link(words, post, _desk, parent, guarded)
+}
+
 // The next link was protected: where it leads to a row the head is loaded again.
 #[inline(always)]
 fn follow_link<W: Words>(
@@ -109,6 +137,7 @@ fn follow_link<W: Words>(
     ensures same { W.same words.old words.new }
     ensures rest { W.rest words.new ≤ W.rest words.old }
     ensures layout { post.new.layout ≡ post.old.layout }
+    ensures kept { kept_row post.new ≡ kept_row post.old }
     ensures within { follow_within result post.new }
     ensures leads { (why : Why) (n : ℕ) → Here (W.at words.old) (held_at (followed_trial why (desk_of _desk.now) 0 post.old.steps) 1 (NextOf parent) n guarded.link guarded.era (post.old.steps + guarded.steps) post.old)
         → LeadsSo (W.at words.old) (W.at words.new) (W.stands words.old) (W.stands words.new) (held_at (followed_trial why (desk_of _desk.now) 0 post.old.steps) 1 (NextOf parent) n guarded.link guarded.era (post.old.steps + guarded.steps) post.old) why (FollowedEnd result) post.new _desk.now }
@@ -163,6 +192,7 @@ fn reload<W: Words>(
     ensures same { W.same words.old words.new }
     ensures rest { W.rest words.new < W.rest words.old }
     ensures layout { post.new.layout ≡ post.old.layout }
+    ensures kept { kept_row post.new ≡ kept_row post.old }
     ensures within { follow_within result post.new }
     ensures leads { (why : Why) (era n : ℕ) → Here (W.at words.old) (at_phase (Runs why (Reload parent 1 slot era n)) post.old _desk.now)
         → LeadsSo (W.at words.old) (W.at words.new) (W.stands words.old) (W.stands words.new) (at_phase (Runs why (Reload parent 1 slot era n)) post.old _desk.now) why (FollowedEnd result) post.new _desk.now }

@@ -1,6 +1,6 @@
 // A protection of a root by which the seat is as the model's, under the schemes that clear an index by a
 // step.
-ghost use Rattle.std.specs.Prelude.{◌≡◌, ◌<◌, ◌+◌, ◌^◌, ℕ, false, IfSome};
+ghost use Rattle.std.specs.Prelude.{◌≡◌, ◌<◌, ◌+◌, ◌^◌, ℕ, IfSome};
 ghost use Rattle.wfe_core.specs.Calls.{Runs, Why};
 ghost use Rattle.wfe_core.specs.DeskHeld.{HasRoom, desk_of};
 ghost use Rattle.wfe_core.specs.Phases.Ending.{Protected as ProtectedEnd};
@@ -8,48 +8,16 @@ ghost use Rattle.wfe_core.specs.Phases.ProtectAt.{PublishRequest};
 ghost use Rattle.wfe_core.specs.Ready.{IndexFits, LinkFits, SlotFits};
 ghost use Rattle.wfe_core.specs.Rounds.{protect_base};
 ghost use Rattle.wfe_core.specs.Valid.{IsValid};
-ghost use Rattle.wfe_core.specs.words.Schemes.{has_one_interval};
 ghost use Rattle.wfe_core.specs.words.declared.config.SchemeKind.TheVariants.{He as HeKind, Wfe as WfeKind};
 ghost use Rattle.wfe_drive_words.specs.Called.{Here, at_phase};
 ghost use Rattle.wfe_drive_runs.specs.Pieces.{IsStood, LeadsSo, Outer, asked_trial, end_of};
 ghost use Rattle.wfe_drive_words.specs.Path.{protecting};
 
 use crate::base_run::run;
-use wfe_core::{Desk, Post, ProtectEnd, Root, SchemeKind};
+use wfe_core::{Desk, Post, ProtectEnd, Root};
 use wfe_drive_words::{Bounded, Guarded, WfeProtect, Words, protect_he, protect_wfe};
 
-/// Protects a root under a scheme that clears an index by a step, and answers the row that it holds from
-/// then on.
-#[inline(always)]
-pub fn hold_root<W: Words>(
-    words: &mut W,
-    post: &mut Post,
-    desk: &mut Desk,
-    index: u32,
-    root: Root,
-) -> Option<u32>
-    requires valid { W.valid words.old }
-    requires clears { has_one_interval post.old.layout.config.scheme ≡ false }
-    requires outer { Outer root }
-    requires here { (why : Why) × Here (W.at words.old) (at_phase (Runs why (protect_base post.old.layout.config.scheme index root)) post.old desk.old) }
-    requires room { HasRoom desk.old post.old.layout }
-    ensures valid { W.valid words.new }
-    ensures same { W.same words.old words.new }
-    ensures rest { W.rest words.new < W.rest words.old }
-    ensures room { HasRoom desk.new post.new.layout }
-    ensures layout { post.new.layout ≡ post.old.layout }
-    ensures fits { IfSome result (λ slot. SlotFits post.new slot) }
-    ensures leads { (why : Why) → Here (W.at words.old) (at_phase (Runs why (protect_base post.old.layout.config.scheme index root)) post.old desk.old) → (era : ℕ)
-        × LeadsSo (W.at words.old) (W.at words.new) (W.stands words.old) (W.stands words.new) (at_phase (Runs why (protect_base post.old.layout.config.scheme index root)) post.old desk.old) why (ProtectedEnd (end_of result era)) post.new desk.new }
-{
-    match post.layout.config().scheme {
-        SchemeKind::Wfe => hold_wfe(words, post, desk, index, root),
-        SchemeKind::He => hold_he(words, post, desk, index, root),
-        SchemeKind::Ibr => hold_he(words, post, desk, index, root),
-    }
-}
-
-/// The same under Hazard Eras.
+/// Protects a root under Hazard Eras, and answers the row that it holds from then on.
 #[inline(always)]
 pub fn hold_he<W: Words>(
     words: &mut W,

@@ -33,9 +33,9 @@ fn clear<W: Words>(words: &mut W, post: &mut Post, index: u32)
     post.steps += 1;
 }
 
-/// Ends a round under a scheme that clears an index by a step: index 0 is cleared.
+// Ends a round under a scheme that clears an index by a step: index 0 is cleared.
 #[inline(always)]
-pub fn close<W: Words>(words: &mut W, post: &mut Post)
+fn close<W: Words>(words: &mut W, post: &mut Post)
     requires valid { W.valid words.old }
     requires clears { has_one_interval post.old.layout.config.scheme ≡ false }
     requires here { (task : Task) × (next : Next) × (desk : ModelDesk) × (index_of task ≡ 0) × Here (W.at words.old) (clearing_at task next post.old desk) }
@@ -49,20 +49,25 @@ pub fn close<W: Words>(words: &mut W, post: &mut Post)
     clear(words, post, 0);
 }
 
-/// A dequeue clears index 1 first.
+/// A dequeue clears index 1 first, under any scheme.
 #[inline(always)]
 pub fn close_next<W: Words>(words: &mut W, post: &mut Post)
     requires valid { W.valid words.old }
-    requires clears { has_one_interval post.old.layout.config.scheme ≡ false }
+    requires free { IsFree post.old }
     requires here { (next : Next) × (desk : ModelDesk) × Here (W.at words.old) (clearing_next_at next post.old desk) }
     ensures valid { W.valid words.new }
     ensures same { W.same words.old words.new }
     ensures rest { W.rest words.new ≤ W.rest words.old }
-    ensures post { post.new ≡ record post.old { standing = slice_set post.old.standing 1 None; steps = post.old.steps + 1 } }
+    ensures layout { post.new.layout ≡ post.old.layout }
+    ensures free { IsFree post.new }
     ensures leads { (next : Next) (desk : ModelDesk) → Here (W.at words.old) (clearing_next_at next post.old desk)
         → Leads (W.at words.old) (W.at words.new) (W.stands words.old) (W.stands words.new) (clearing_next_at next post.old desk) (clearing_at Dequeues next post.new desk) }
 {
-    clear(words, post, 1);
+    match post.layout.config().scheme {
+        SchemeKind::Ibr => post.standing[1] = None,
+        SchemeKind::He => clear(words, post, 1),
+        SchemeKind::Wfe => clear(words, post, 1),
+    }
 }
 
 /// Ends a round after which no other comes at once, under any scheme.

@@ -1,6 +1,6 @@
 // Rounds under 2GE of a seat that keeps no row: an interval begins where none stands, a root is protected
 // within it, and the last round of a call ends it.
-ghost use Rattle.std.specs.Prelude.{◌≡◌, ◌≤◌, ◌<◌, ◌+◌, [], ℕ, Some, None, IfSome, slice_set};
+ghost use Rattle.std.specs.Prelude.{◌≡◌, ◌≤◌, ◌<◌, ◌+◌, [], ℕ, Some, None, IfSome, IsSome, slice_set};
 ghost use Rattle.wfe_core.specs.words.declared.config.SchemeKind.TheVariants.{Ibr as IbrKind};
 ghost use Rattle.wfe_core.specs.Calls.{Next, Runs, Task, Why};
 ghost use Rattle.wfe_core.specs.Desks.{Desk as ModelDesk};
@@ -63,6 +63,7 @@ pub fn hold_ibr<W: Words>(
     ensures rest { W.rest words.new < W.rest words.old }
     ensures layout { post.new.layout ≡ post.old.layout }
     ensures kept { kept_row post.new ≡ kept_row post.old }
+    ensures spanned { IsSome post.new.span }
     ensures fits { IfSome result (λ slot. SlotFits post.new slot) }
     ensures leads { (why : Why) → Here (W.at words.old) (at_phase (Runs why (protect_base IbrKind index root)) post.old _desk.now) → (era : ℕ)
         × LeadsSo (W.at words.old) (W.at words.new) (W.stands words.old) (W.stands words.new) (at_phase (Runs why (protect_base IbrKind index root)) post.old _desk.now) why (ProtectedEnd (end_of result era)) post.new _desk.now }

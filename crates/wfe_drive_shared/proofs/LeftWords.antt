@@ -13,9 +13,9 @@ use Rattle.wfe_drive_rule.specs.Views.{Track}
 use Rattle.wfe_drive_rule.specs.history.History.{Item, record_of}
 use Rattle.wfe_drive_rule.specs.history.Record.{Past}
 use Rattle.laws.specs.StateAt.{clock_of}
-use Rattle.law_logs.specs.RunLaw.{AtClose, RunLaw}
-use Rattle.law_logs.specs.Runs.{at_close, logs_of}
-use Rattle.law_logs.proofs.Runs.Lawful.{runs_are_lawful}
+use Rattle.law_all.specs.RunLaw.{AtClose, RunLaw}
+use Rattle.law_all.specs.Runs.{at_close, logs_of}
+use Rattle.law_all.proofs.Runs.Lawful.{runs_are_lawful}
 use Rattle.wfe_drive_shared.specs.Closing.{IsLeft, closing_of}
 
 one_word : (words : List ℕ) (i word : ℕ) → get_elem? words i ≡ some word → take (suc i) words ≡ take i words ++ word ∷ []

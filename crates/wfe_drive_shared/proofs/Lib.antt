@@ -1,5 +1,6 @@
 pub use Rattle.wfe_drive_closed.proofs as closed
-pub use Rattle.law_logs.proofs as logs
+pub use Rattle.law_all.proofs as all
+pub use Rattle.law_all.proofs.logs as logs
 pub mod Backs
 pub mod Bounded
 pub mod Gathered

@@ -7,11 +7,11 @@ use Rattle.wfe_core.specs.defs.declared.call.Answer.{Answer}
 use Rattle.wfe_core.specs.defs.declared.call.Call.{Call}
 use Rattle.wfe_core.specs.words.declared.layout.Layout.{Layout}
 use Rattle.wfe_drive_rule.specs.drive_cells.Unit.{SeatView, shown}
-use Rattle.law_logs.specs.Versions.{Counts, met_by, met_in}
-use Rattle.law_logs.proofs.LastScans.{record_reads}
-use Rattle.law_logs.proofs.Meets.{logs_extend}
-use Rattle.law_logs.proofs.Records.{logs_answer}
-use Rattle.law_logs.proofs.held.places.Placing.Keeps.{records_refuse}
+use Rattle.law_all.specs.logs.Versions.{Counts, met_by, met_in}
+use Rattle.law_all.proofs.logs.LastScans.{record_reads}
+use Rattle.law_all.proofs.logs.Meets.{logs_extend}
+use Rattle.law_all.proofs.logs.Records.{logs_answer}
+use Rattle.law_all.proofs.held.places.Placing.Keeps.{records_refuse}
 use Rattle.wfe_drive_call.specs.drive_words.Called.{Called, Ends, LeadsTo}
 use Rattle.wfe_drive_rule.specs.Handles.{IsResting, IsSeated, IsTracked}
 use Rattle.wfe_drive_rule.specs.Views.{Handle, call_in, entered, own, seat_of, standing}

@@ -2,8 +2,8 @@
 use Rattle.std.specs.Prelude.{All, Contains, List, false, length, map, ℕ, ◌<◌, ◌≡◌, ◌≤◌}
 use Rattle.wfe_core.specs.words.declared.layout.Layout.{Layout}
 use Rattle.wfe_core.specs.World.{is_busy}
-use Rattle.law_logs.specs.RunLaw.{AtClose, RunLaw}
-use Rattle.law_logs.specs.Runs.{logs_of}
+use Rattle.law_all.specs.RunLaw.{AtClose, RunLaw}
+use Rattle.law_all.specs.Runs.{logs_of}
 use Rattle.wfe_drive_closed.specs.Closing.{IsClosed, Reaches}
 use Rattle.wfe_drive_closed.specs.Contents.{IsRead, filling_of}
 use Rattle.wfe_drive_closed.specs.declared.closed.Closed.{Closed}

@@ -107,17 +107,13 @@ pub enum EnqueueRefusal {
 impl Shared {
     /// The key's value, at a version that its bucket had during the call. Whatever the other threads do, it
     /// takes no more steps than `bound` says.
-    #[tactic(auto, using(crate::proofs::Bounded::get_bounded))]
     pub fn get(&self, seat: &mut Seat, key: u64) -> Got
         requires of { IsOf seat.old self.now }
         ensures of { IsOf seat.new self.now }
         ensures made { IsMade self.now.layout seat.old seat.new (calls.Get key) (answers.Got result.version result.value) }
         ensures bound { self.now.layout.config.scheme ≡ schemes.Wfe → steps_of seat.new ≤ 3 * self.now.layout.config.tries + 18 + self.now.layout.config.pairs }
     {
-        match self.call(seat, Call::Get { key }) {
-            Answer::Got { version, value } => Got { version, value },
-            _ => unreachable!(),
-        }
+        seat.get(&self.ledger.shared, key)
     }
 
     /// Gives the key this value.

@@ -1,9 +1,11 @@
 // A seat of the shared table, in the hands of one thread at a time.
-ghost use Rattle.std.specs.Prelude.{◌≡◌, ◌<◌, ◌≤◌, ◌∷◌, [], All, IfOk, IfSome, true, Some, None};
+ghost use Rattle.std.specs.Prelude.{◌≡◌, ◌<◌, ◌≤◌, ◌%◌, ◌∷◌, [], All, IfOk, IfSome, true, Some, None};
 ghost use Rattle.wfe_core.specs.words.Place.{is_valid};
 ghost use Rattle.wfe_core.specs.Held.{notes_of, report_of};
 ghost use Rattle.wfe_core.specs.Locals.{may_begin};
-ghost use Rattle.law_logs.specs.Versions.{met_by, met_in, seen_in, version_told};
+ghost use Rattle.wfe_core.specs.defs.declared.call.Answer.TheVariants.{Got as GotAnswer};
+ghost use Rattle.wfe_core.specs.defs.declared.call.Call.TheVariants.{Get as GetCall};
+ghost use Rattle.law_all.specs.logs.Versions.{met_by, met_in, seen_in, version_told};
 ghost use Rattle.wfe_drive_rule.specs.Handles.{IsGathered, IsResting, IsSeated, IsSized};
 ghost use Rattle.wfe_drive_rule.specs.Views.{fresh_track, own, seat_of};
 ghost use Rattle.wfe_drive_rule.specs.history.History.{record_of};
@@ -12,12 +14,13 @@ ghost use Rattle.wfe_drive_shared.specs.Calls.{IsMade};
 ghost use Rattle.wfe_drive_shared.specs.Public.{SeatNow};
 ghost use Rattle.wfe_drive_shared.specs.Sound.{IsMet};
 
+use crate::calls::Got;
 use crate::list::zeros;
 use crate::words::TableWords;
 use std::alloc::Global;
 use std::marker::Model;
 use wfe_core::{Answer, Call, Desk, Layout, NoMemory, Notes, Post, RetireList, ScanReport};
-use wfe_drive_call::drive_call;
+use wfe_drive_call::{bucket_for, drive_call, drive_get};
 use wfe_drive_rule::{Handle, Ledger, give_slot};
 
 /// A seat of a shared table, with which one thread makes calls. It may move to another thread. It is
@@ -67,6 +70,43 @@ impl Seat {
         })
     }
 
+    // Makes a get on the table that the seat is of, in code of its own.
+    pub(crate) fn get(&mut self, ledger: &Ledger, key: u64) -> Got
+        requires table { self.old.table ≡ ledger.now.table_id }
+        requires layout { self.old.track.local.post.layout ≡ ledger.now.key }
+        requires sized { IsSized ledger.now.table_id ledger.now.key }
+        ensures table { self.new.table ≡ self.old.table }
+        ensures layout { self.new.track.local.post.layout ≡ self.old.track.local.post.layout }
+        ensures made { IsMade ledger.now.key self.old self.new (GetCall key) (GotAnswer result.version result.value) }
+    {
+        let bucket = bucket_for(key, &self.post.layout);
+        let answer = {
+            let slot = self.post.seat as usize;
+            let handle = &mut self.handle;
+            let mut words = TableWords {
+                ledger,
+                handle,
+                slot,
+                first: true,
+            };
+            drive_get(&mut words, &mut self.post, &mut self.desk, key, bucket)
+        };
+        match answer {
+            Answer::Got { version, value } => {
+                see(
+                    &mut self.seen,
+                    self.post.layout,
+                    key,
+                    bucket,
+                    version,
+                    value,
+                );
+                Got { version, value }
+            }
+            _ => unreachable!(),
+        }
+    }
+
     // Makes a whole call on the table that the seat is of. A get is compiled apart from the others.
     pub(crate) fn make(&mut self, ledger: &Ledger, call: Call) -> Answer
         requires table { self.old.table ≡ ledger.now.table_id }
@@ -78,7 +118,13 @@ impl Seat {
         ensures made { IsMade ledger.now.key self.old self.new call result }
     {
         match call {
-            Call::Get { key } => self.make_any(ledger, Call::Get { key }),
+            Call::Get { key } => {
+                let got = self.get(ledger, key);
+                Answer::Got {
+                    version: got.version,
+                    value: got.value,
+                }
+            }
             _ => self.make_any(ledger, call),
         }
     }
@@ -211,4 +257,24 @@ fn meet(seen: &mut Vec<u64>, layout: Layout, call: Call, answer: Answer)
         let bucket = key % layout.config().buckets as u64;
         seen[bucket as usize] = version;
     }
+}
+
+// The versions seen, with the answer of one get more, of a key whose bucket is known.
+#[inline(always)]
+fn see(
+    seen: &mut Vec<u64>,
+    _layout: Layout,
+    _key: u64,
+    bucket: u32,
+    version: u64,
+    _value: Option<u64>,
+)
+    requires valid { is_valid _layout ≡ true }
+    requires bucket { bucket ≡ _key % _layout.config.buckets }
+    requires there { bucket < _layout.config.buckets }
+    requires met { (met : _) × IsMet _layout.config.buckets met seen.old.items }
+    ensures met { (met : _) → IsMet _layout.config.buckets met seen.old.items → IsMet _layout.config.buckets (met_by _layout.config.buckets (GetCall _key) (GotAnswer version _value) met) seen.new.items }
+{
+    let place = bucket as usize;
+    seen[place] = version;
 }

@@ -1,29 +1,30 @@
 // A get, step by step: it protects the row of the key's bucket, reads it, and clears its index.
-ghost use Rattle.std.specs.Prelude.{◌≡◌, ◌<◌, ◌≤◌, ◌+◌, ◌^◌, ℕ, false, List};
+ghost use Rattle.std.specs.Prelude.{◌≡◌, ◌<◌, ◌≤◌, ◌+◌, ◌^◌, ◌%◌, ℕ, false, true, List};
 ghost use Rattle.wfe_core.specs.Calls.{Gets, Idle};
 ghost use Rattle.wfe_core.specs.DeskHeld.{HasRoom, desk_of};
 ghost use Rattle.wfe_core.specs.Desks.{Desk as ModelDesk};
 ghost use Rattle.wfe_core.specs.Phases.ProtectAt.{PublishRequest};
 ghost use Rattle.wfe_core.specs.Ready.{LinkFits, RootFits};
-ghost use Rattle.wfe_core.specs.Rounds.{root_of};
+ghost use Rattle.wfe_core.specs.Rounds.{bucket_of, root_of};
 ghost use Rattle.wfe_core.specs.Steps.{first_phase};
 ghost use Rattle.wfe_core.specs.Valid.{IsValid};
 ghost use Rattle.wfe_core.specs.defs.declared.call.Answer.TheVariants.{Got as GotAnswer};
 ghost use Rattle.wfe_core.specs.defs.declared.call.Call.TheVariants.{Get as GetCall};
 ghost use Rattle.wfe_core.specs.defs.declared.event.Root.TheVariants as roots;
+ghost use Rattle.wfe_core.specs.words.Place.{is_valid};
 ghost use Rattle.wfe_core.specs.words.Schemes.{has_one_interval};
 ghost use Rattle.wfe_core.specs.words.declared.config.SchemeKind.TheVariants.{He as HeKind, Wfe as WfeKind};
 ghost use Rattle.wfe_drive_words.specs.Called.{Here, Makes, at_phase};
 ghost use Rattle.wfe_drive_words.specs.Path.{Closes, Leads, asking_trial, closing_at, get_trial, held_at, held_reader, protecting};
 
 use crate::Words;
+use crate::apart::drive_apart;
 use crate::asking::{Bounded, protect_wfe};
 use crate::found::{Found, find};
-use crate::machine::drive_on;
 use crate::path::{publish, step};
 use crate::protect::protect_he;
 use wfe_call_any::{Get, Wfe};
-use wfe_core::{Answer, Desk, Post, Root};
+use wfe_core::{Answer, Desk, Layout, Post, Root};
 use wfe_fast::WfeProtect;
 
 /// Makes a get under Hazard Eras from its first step to its answer.
@@ -39,10 +40,37 @@ pub fn get_he<W: Words>(words: &mut W, post: &mut Post, desk: &mut Desk, key: u6
     ensures made { Closes result (W.at words.old) (W.at words.new) (W.stands words.old) (W.stands words.new)
         (at_phase (first_phase (GetCall key) post.old) post.old desk.old) (at_phase Idle post.new desk.new) }
 {
-    let root = root_for(key, post);
-    let guarded = protect_he(words, post, 0, root);
+    let bucket = bucket_for(key, &post.layout);
+    get_he_in(words, post, desk, key, bucket)
+}
+
+/// The same, of a key whose bucket is known.
+#[inline(always)]
+pub fn get_he_in<W: Words>(
+    words: &mut W,
+    post: &mut Post,
+    desk: &mut Desk,
+    key: u64,
+    bucket: u32,
+) -> Answer
+    requires valid { W.valid words.old }
+    requires scheme { post.old.layout.config.scheme ≡ HeKind }
+    requires here { Here (W.at words.old) (at_phase (first_phase (GetCall key) post.old) post.old desk.old) }
+    requires bucket { bucket ≡ bucket_of post.old key }
+    requires there { bucket < post.old.layout.config.buckets }
+    requires room { HasRoom desk.old post.old.layout }
+    ensures valid { W.valid words.new }
+    ensures same { W.same words.old words.new }
+    ensures room { HasRoom desk.new post.new.layout }
+    ensures made { Closes result (W.at words.old) (W.at words.new) (W.stands words.old) (W.stands words.new)
+        (at_phase (first_phase (GetCall key) post.old) post.old desk.old) (at_phase Idle post.new desk.new) }
+{
+    // (the post as it is before the steps, for a compiler that can't tell that none of them changes it)
+    let place = *post;
+    let root = Root::Bucket(bucket);
+    let guarded = protect_he(words, &place, 0, root);
     let found = find_held(words, post, key, guarded.link);
-    close_get(words, post, desk, found, guarded.steps)
+    close_get(words, &place, post, desk, found, guarded.steps)
 }
 
 /// Makes a get under Wait-Free Eras from its first step to its answer.
@@ -58,17 +86,45 @@ pub fn get_wfe<W: Words>(words: &mut W, post: &mut Post, desk: &mut Desk, key: u
     ensures made { Closes result (W.at words.old) (W.at words.new) (W.stands words.old) (W.stands words.new)
         (at_phase (first_phase (GetCall key) post.old) post.old desk.old) (at_phase Idle post.new desk.new) }
 {
-    let root = root_for(key, post);
-    match protect_wfe(words, post, 0, root) {
+    let bucket = bucket_for(key, &post.layout);
+    get_wfe_in(words, post, desk, key, bucket)
+}
+
+/// The same, of a key whose bucket is known.
+#[inline(always)]
+pub fn get_wfe_in<W: Words>(
+    words: &mut W,
+    post: &mut Post,
+    desk: &mut Desk,
+    key: u64,
+    bucket: u32,
+) -> Answer
+    requires valid { W.valid words.old }
+    requires scheme { post.old.layout.config.scheme ≡ WfeKind }
+    requires here { Here (W.at words.old) (at_phase (first_phase (GetCall key) post.old) post.old desk.old) }
+    requires bucket { bucket ≡ bucket_of post.old key }
+    requires there { bucket < post.old.layout.config.buckets }
+    requires room { HasRoom desk.old post.old.layout }
+    ensures valid { W.valid words.new }
+    ensures same { W.same words.old words.new }
+    ensures room { HasRoom desk.new post.new.layout }
+    ensures made { Closes result (W.at words.old) (W.at words.new) (W.stands words.old) (W.stands words.new)
+        (at_phase (first_phase (GetCall key) post.old) post.old desk.old) (at_phase Idle post.new desk.new) }
+{
+    // (the post as it is before the steps, for a compiler that can't tell that none of them changes it)
+    let place = *post;
+    let root = Root::Bucket(bucket);
+    match protect_wfe(words, &place, 0, root) {
         Bounded::Within(guarded) => {
             let found = find_held(words, post, key, guarded.link);
-            close_get(words, post, desk, found, guarded.steps)
+            close_get(words, &place, post, desk, found, guarded.steps)
         }
         Bounded::Used { steps } => ask(words, post, desk, key, root, steps),
     }
 }
 
 // The tries of a get are used up after so many steps: its machine asks for help, and goes on.
+#[inline(always)]
 fn ask<W: Words>(
     words: &mut W,
     post: &mut Post,
@@ -90,7 +146,19 @@ fn ask<W: Words>(
 {
     post.steps += steps;
     let protect = WfeProtect::asking(0, root, steps);
-    drive_on(words, Get::<Wfe>::protecting(key, protect), post, desk)
+    drive_apart(words, Get::<Wfe>::protecting(key, protect), post, desk)
+}
+
+/// The number of the key's bucket.
+#[inline(always)]
+#[tactic(auto, using(wfe_core::proofs::Ranges::bounds_of))]
+pub fn bucket_for(key: u64, layout: &Layout) -> u32
+    requires { is_valid layout.now ≡ true }
+    ensures bucket { result ≡ key % layout.now.config.buckets }
+    ensures there { result < layout.now.config.buckets }
+{
+    let buckets = layout.config().buckets as u64;
+    (key % buckets) as u32
 }
 
 // The root of the key's bucket.
@@ -100,8 +168,7 @@ pub fn root_for(key: u64, post: &Post) -> Root
     ensures root { result ≡ root_of (Gets key) post.now }
     ensures there { RootFits post.now.layout result }
 {
-    let buckets = post.layout.config().buckets as u64;
-    Root::Bucket((key % buckets) as u32)
+    Root::Bucket(bucket_for(key, &post.layout))
 }
 
 // Reads the row to which the bucket's link leads, if it leads to one. It serves the schemes that
@@ -137,6 +204,7 @@ fn find_held<W: Words>(words: &mut W, post: &Post, key: u64, link: u32) -> Found
 #[inline(always)]
 fn close_get<W: Words>(
     words: &mut W,
+    place: &Post,
     post: &mut Post,
     desk: &mut Desk,
     found: Found,
@@ -144,6 +212,7 @@ fn close_get<W: Words>(
 ) -> Answer
     requires valid { W.valid words.old }
     requires own { IsValid post.old }
+    requires place { place.now ≡ post.old }
     requires clears { has_one_interval post.old.layout.config.scheme ≡ false }
     requires room { HasRoom desk.old post.old.layout }
     requires here { (key : ℕ) × (bucket : ℕ) × (link : ℕ)
@@ -157,7 +226,7 @@ fn close_get<W: Words>(
         (closing_at key (held_reader post.old bucket link (desk_of desk.old) (post.old.steps + before)) found)
         (at_phase Idle post.new desk.new) }
 {
-    step(words, publish(post, 0, 0));
+    step(words, publish(place, 0, 0));
     post.standing[0] = None;
     post.steps = post.steps + before + found.steps + 1;
     note_steps(desk, post.steps);

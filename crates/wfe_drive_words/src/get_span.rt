@@ -12,7 +12,7 @@ ghost use Rattle.wfe_core.specs.Desks.{Desk as ModelDesk};
 ghost use Rattle.wfe_core.specs.Memory.{Store as Stores, numbered};
 ghost use Rattle.wfe_core.specs.Phases.BeginAt.{LoadLower};
 ghost use Rattle.wfe_core.specs.Ready.{LinkFits};
-ghost use Rattle.wfe_core.specs.Rounds.{kept_row};
+ghost use Rattle.wfe_core.specs.Rounds.{bucket_of, kept_row};
 ghost use Rattle.wfe_core.specs.Steps.{first_phase};
 ghost use Rattle.wfe_core.specs.Valid.{IsValid};
 ghost use Rattle.wfe_core.specs.declared.post.Post.{Post as ModelPost};
@@ -21,19 +21,27 @@ ghost use Rattle.wfe_drive_words.specs.Path.{Closes, Leads, beginning_at, begun_
 
 use crate::Words;
 use crate::found::{Found, find};
-use crate::get::{answer_of, note_steps, root_for};
+use crate::get::{answer_of, note_steps};
 use crate::path::{load_clock, step};
 use crate::within::{protect_within, store_span};
-use wfe_core::{Answer, Desk, Op, Post};
+use wfe_core::{Answer, Desk, Op, Post, Root};
 
-/// Makes a get under 2GE from its first step to its answer.
+/// Makes a get under 2GE, of a key whose bucket is known, from its first step to its answer.
 #[inline(always)]
-pub fn get_ibr<W: Words>(words: &mut W, post: &mut Post, desk: &mut Desk, key: u64) -> Answer
+pub fn get_ibr_in<W: Words>(
+    words: &mut W,
+    post: &mut Post,
+    desk: &mut Desk,
+    key: u64,
+    bucket: u32,
+) -> Answer
     requires valid { W.valid words.old }
     requires scheme { post.old.layout.config.scheme ≡ IbrKind }
     requires span { post.old.span ≡ None }
     requires free { kept_row post.old ≡ None }
     requires here { Here (W.at words.old) (at_phase (first_phase (GetCall key) post.old) post.old desk.old) }
+    requires bucket { bucket ≡ bucket_of post.old key }
+    requires there { bucket < post.old.layout.config.buckets }
     requires room { HasRoom desk.old post.old.layout }
     ensures valid { W.valid words.new }
     ensures same { W.same words.old words.new }
@@ -41,7 +49,7 @@ pub fn get_ibr<W: Words>(words: &mut W, post: &mut Post, desk: &mut Desk, key: u
     ensures made { Closes result (W.at words.old) (W.at words.new) (W.stands words.old) (W.stands words.new)
         (at_phase (first_phase (GetCall key) post.old) post.old desk.old) (at_phase Idle post.new desk.new) }
 {
-    let root = root_for(key, post);
+    let root = Root::Bucket(bucket);
     let era = begin_span(words, post);
     let guarded = protect_within(words, post, root, era, era);
     let found = find_within(words, post, key, guarded.link);

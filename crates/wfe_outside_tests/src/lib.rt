@@ -1,9 +1,5 @@
-//! Tests of what meets the outside: sources and sinks, watchers, and lines put out.
+//! Tests of what meets the outside: sources and sinks.
 #![tactic(auto)]
 
 #[cfg(test)]
-mod out;
-#[cfg(test)]
 mod outside;
-#[cfg(test)]
-mod watch;

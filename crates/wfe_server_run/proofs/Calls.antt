@@ -2,7 +2,7 @@
 use Rattle.std.proofs.Common.{List, ap, length, min, refl, take, ℕ, ◌++◌, ◌∙◌, ◌≡◌}
 use Rattle.std.proofs.lemmas.List.{drop_min, take_min}
 use Rattle.std.specs.Prelude.{drop}
-use Rattle.wfe_drive_shared.specs.logs.RunLaw.{backs, events_of}
+use Rattle.wfe_drive_shared.specs.all.RunLaw.{backs, events_of}
 use Rattle.wfe_core.specs.Desks.{Notes}
 use Rattle.wfe_core.specs.defs.declared.call.Answer.{Answer}
 use Rattle.wfe_core.specs.defs.declared.call.Call.{Call}

@@ -9,9 +9,9 @@ use Rattle.std.specs.List.{range_with_len}
 use Rattle.std.specs.Prelude.{All, map}
 use Rattle.std.specs.declared.alloc.Global.{Global}
 use Rattle.std.specs.declared.vec.Vec.{Vec}
-use Rattle.wfe_drive_shared.specs.logs.RunLaw.{AtClose, call_made, events_of_all}
+use Rattle.wfe_drive_shared.specs.all.RunLaw.{AtClose, call_made, events_of_all}
 use Rattle.laws.specs.StateAt.{Filling}
-use Rattle.wfe_drive_shared.specs.logs.Runs.{logs_of}
+use Rattle.wfe_drive_shared.specs.all.Runs.{logs_of}
 use Rattle.wfe_core.proofs.Ranges.{bounds_of}
 use Rattle.wfe_core.specs.Locals.{Group}
 use Rattle.wfe_core.specs.defs.declared.call.Call.{Call}

@@ -1,7 +1,7 @@
 -- The events of a call, added one after another; and those of calls.
 use Rattle.std.proofs.Common.{Err, List, Ok, OnOk, Result, [], ap, get_or, length, refl, sym, take, ℕ, ◌++◌, ◌+◌, ◌<◌, ◌∙◌, ◌∷◌, ◌≡◌}
 use Rattle.std.proofs.lemmas.List.{append-nil, append_assoc, map-append, take_more}
-use Rattle.wfe_drive_shared.specs.logs.RunLaw.{backs, call_made, events_of, events_of_all}
+use Rattle.wfe_drive_shared.specs.all.RunLaw.{backs, call_made, events_of, events_of_all}
 use Rattle.wfe_core.specs.Locals.{Group}
 use Rattle.wfe_core.specs.defs.declared.call.Call.{Call}
 use Rattle.wfe_core.specs.defs.declared.event.Event.{Event}

@@ -1,6 +1,6 @@
 -- What a worker makes of its seat: the calls of its script in their order, and their events.
 use Rattle.std.specs.Prelude.{List, [], map, ℕ, ◌++◌, ◌≡◌, ◌∷◌}
-use Rattle.wfe_drive_shared.specs.logs.RunLaw.{call_made, events_of, events_of_all}
+use Rattle.wfe_drive_shared.specs.all.RunLaw.{call_made, events_of, events_of_all}
 use Rattle.wfe_core.specs.Locals.{Group}
 use Rattle.wfe_core.specs.defs.declared.call.Call.{Call}
 use Rattle.wfe_core.specs.defs.declared.event.Event.{Event}

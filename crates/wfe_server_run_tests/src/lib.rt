@@ -5,8 +5,6 @@
 #[cfg(test)]
 mod gates;
 #[cfg(test)]
-mod kept;
-#[cfg(test)]
 mod long;
 #[cfg(test)]
 mod many;

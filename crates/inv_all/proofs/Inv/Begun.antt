@@ -1,10 +1,10 @@
 -- All that is known holds at the start, and when a call begins.
 use Rattle.std.proofs.Common.{ℕ, ◌≡◌, true, false, sym, subst, ap}
-use Rattle.wfe_core.specs.words.Place.{is_valid}
-use Rattle.wfe_core.specs.words.declared.layout.Layout.{Layout}
-use Rattle.wfe_core.specs.defs.declared.call.Call.{Call}
-use Rattle.wfe_core.specs.Locals.{may_begin}
-use Rattle.wfe_core.specs.World.{World, start, begin, is_busy}
+use Rattle.inv_ends.specs.model.words.Place.{is_valid}
+use Rattle.inv_ends.specs.model.words.declared.layout.Layout.{Layout}
+use Rattle.inv_ends.specs.model.defs.declared.call.Call.{Call}
+use Rattle.inv_ends.specs.model.Locals.{may_begin}
+use Rattle.inv_ends.specs.model.World.{World, start, begin, is_busy}
 use Rattle.inv_ends.specs.requests.Standing.{Requests}
 use Rattle.inv_ends.specs.requests.Views.{Deal, View as Asked}
 use Rattle.inv_ends.specs.requests.Views.Deal.{Quiet}

@@ -6,7 +6,7 @@ use Rattle.inv_all.specs.Ends.{InvEnds}
 use Rattle.inv_all.proofs.Inv.Kept.{rest_need}
 use Rattle.inv_all.proofs.Inv.Ready.{listed_few}
 use Rattle.std.proofs.Common.{ℕ, ◌≡◌, true, refl}
-use Rattle.wfe_core.specs.Calls.{Task, Gets}
+use Rattle.inv_ends.specs.model.Calls.{Task, Gets}
 use Rattle.inv_ends.specs.Standing.{is_end}
 use Rattle.inv_ends.specs.shapes.Seats.{task_root}
 

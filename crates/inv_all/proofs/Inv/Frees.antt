@@ -1,14 +1,14 @@
 -- A row that is given back is none that a call reads of, works on, or tries to protect.
 use Rattle.std.proofs.Common.{ℕ, ◌≡◌, ◌+◌, true, refl, sym, subst, Some}
-use Rattle.wfe_core.specs.words.declared.layout.Layout.{Layout}
-use Rattle.wfe_core.specs.defs.declared.event.Root.{Root}
-use Rattle.wfe_core.specs.declared.post.Post.{Post}
-use Rattle.wfe_core.specs.Posts.{stands}
-use Rattle.wfe_core.specs.Phases.{ProtectAt, Base}
-use Rattle.wfe_core.specs.Phases.ProtectAt.{LoadClock}
-use Rattle.wfe_core.specs.Phases.Base.{Protect}
-use Rattle.wfe_core.specs.Calls.{Task, Gets, Changes, Holds, Enqueues, Dequeues, Opens, AfterScan, GiveBack, Phase, Scans}
-use Rattle.wfe_core.specs.World.{World, finds}
+use Rattle.inv_ends.specs.model.words.declared.layout.Layout.{Layout}
+use Rattle.inv_ends.specs.model.defs.declared.event.Root.{Root}
+use Rattle.inv_ends.specs.model.declared.post.Post.{Post}
+use Rattle.inv_ends.specs.model.Posts.{stands}
+use Rattle.inv_ends.specs.model.Phases.{ProtectAt, Base}
+use Rattle.inv_ends.specs.model.Phases.ProtectAt.{LoadClock}
+use Rattle.inv_ends.specs.model.Phases.Base.{Protect}
+use Rattle.inv_ends.specs.model.Calls.{Task, Gets, Changes, Holds, Enqueues, Dequeues, Opens, AfterScan, GiveBack, Phase, Scans}
+use Rattle.inv_ends.specs.model.World.{World, finds}
 use Rattle.inv_ends.specs.shapes.Seats.{task_root, Run}
 use Rattle.inv_steps_left.specs.rows.Hands.{row_move}
 use Rattle.inv_steps_left.specs.rows.Rows.{Status, View, is_settled}
@@ -17,7 +17,7 @@ use Rattle.inv_ends.specs.covers.Covers.{takes_or_frees, CoversNeeds, Scanning}
 use Rattle.inv_ends.specs.covers.Held.{under, Held}
 use Rattle.inv_ends.proofs.covers.Begun.{standing_stays}
 use Rattle.inv_steps_left.specs.links.Tracked.{carries_at, carries_base, root_base}
-use Rattle.wfe_core.proofs.Facts.{true_not_false, same_number}
+use Rattle.inv_ends.proofs.model.Facts.{true_not_false, same_number}
 
 -- the row that a scan gives back is made free
 pub back_frees : (w : World) (i : ℕ) (later : AfterScan) (place slot : ℕ) → (w.seat i).phase ≡ Scans later (GiveBack place slot) → takes_or_frees (row_move (w.seat i).phase (w.seat i).post (finds w i)) slot ≡ true

@@ -2,19 +2,19 @@
 use Rattle.std.proofs.Common.{ℕ, ◌≡◌, ◌<◌, Bool, true, false, refl, sym, subst, ap, ◌∙◌, arith, None, Some}
 use Rattle.std.proofs.lemmas.Bool.Decides.{nat_tests}
 use Rattle.std.specs.Prelude.{◌==◌, length, is_some, if◌then◌else◌}
-use Rattle.wfe_core.specs.words.Place.{is_valid}
-use Rattle.wfe_core.specs.words.Place.Place.{Clock, Index as IndexOf}
-use Rattle.wfe_core.specs.defs.declared.event.Guard.TheVariants.{Index}
-use Rattle.wfe_core.specs.defs.declared.event.Root.{Root}
-use Rattle.wfe_core.specs.declared.post.Post.{Post}
-use Rattle.wfe_core.specs.Guards.{one_era, from_to}
-use Rattle.wfe_core.specs.Posts.{stands}
-use Rattle.wfe_core.specs.Phases.{Aim, Tries, Base}
-use Rattle.wfe_core.specs.Phases.ProtectAt.{LoadLink}
-use Rattle.wfe_core.specs.Phases.Base.{Protect}
-use Rattle.wfe_core.specs.Calls.{Why, FollowsHead, DequeueAt, LoadTail, LoadHeld, StoreHeld, Getting, Changing, Enqueuing, Dequeuing, Keeping, Phase, Idle, Runs, Scans, Works}
-use Rattle.wfe_core.proofs.Ranges.{bounds_of}
-use Rattle.wfe_core.specs.World.{World, step}
+use Rattle.inv_ends.specs.model.words.Place.{is_valid}
+use Rattle.inv_ends.specs.model.words.Place.Place.{Clock, Index as IndexOf}
+use Rattle.inv_ends.specs.model.defs.declared.event.Guard.TheVariants.{Index}
+use Rattle.inv_ends.specs.model.defs.declared.event.Root.{Root}
+use Rattle.inv_ends.specs.model.declared.post.Post.{Post}
+use Rattle.inv_ends.specs.model.Guards.{one_era, from_to}
+use Rattle.inv_ends.specs.model.Posts.{stands}
+use Rattle.inv_ends.specs.model.Phases.{Aim, Tries, Base}
+use Rattle.inv_ends.specs.model.Phases.ProtectAt.{LoadLink}
+use Rattle.inv_ends.specs.model.Phases.Base.{Protect}
+use Rattle.inv_ends.specs.model.Calls.{Why, FollowsHead, DequeueAt, LoadTail, LoadHeld, StoreHeld, Getting, Changing, Enqueuing, Dequeuing, Keeping, Phase, Idle, Runs, Scans, Works}
+use Rattle.inv_ends.proofs.model.Ranges.{bounds_of}
+use Rattle.inv_ends.specs.model.World.{World, step}
 use Rattle.inv_ends.specs.shapes.Eras.{Eras}
 use Rattle.inv_ends.specs.shapes.Seats.{Seats}
 use Rattle.inv_ends.specs.shapes.Slots.{CopyIn, Slots}
@@ -42,7 +42,7 @@ use Rattle.inv_all.proofs.Inv.Shown.{clock_small, word_era, shown_span}
 use Rattle.inv_ends.proofs.requests.Known.{copying, known}
 use Rattle.inv_ends.proofs.handover.Deals.{few_ahead}
 use Rattle.inv_ends.proofs.handover.Asks.{run_of}
-use Rattle.wfe_core.proofs.Facts.{below_length}
+use Rattle.inv_ends.proofs.model.Facts.{below_length}
 
 mark_small : (w : World) (i j : ℕ) (z : Asked) → is_valid w.layout ≡ true → Eras w → Requests w z → z.mark i j < 4294967296
 mark_small w i j z d a q =

@@ -1,8 +1,8 @@
 -- Each step keeps all that is known.
 use Rattle.std.proofs.Common.{ℕ, ◌≡◌, ◌<◌, Bool, true, false, refl, sym, subst}
-use Rattle.wfe_core.specs.World.{World, step}
+use Rattle.inv_ends.specs.model.World.{World, step}
 use Rattle.inv_ends.specs.shapes.Eras.{Eras}
-use Rattle.wfe_core.specs.words.Schemes.{is_wfe}
+use Rattle.inv_ends.specs.model.words.Schemes.{is_wfe}
 use Rattle.inv_ends.specs.shapes.Slots.{Slots, SlotsNeeds}
 use Rattle.inv_ends.proofs.shapes.Decode.{eras_step}
 use Rattle.inv_ends.proofs.shapes.Kept.{seats_step}

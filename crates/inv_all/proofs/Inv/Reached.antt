@@ -1,9 +1,9 @@
 -- A history keeps the invariant, item by item.
 use Rattle.std.proofs.Common.{◌≡◌, ◌<◌, true, refl, sym, subst, List}
-use Rattle.wfe_core.specs.words.Place.{is_valid}
-use Rattle.wfe_core.specs.words.declared.layout.Layout.{Layout}
-use Rattle.model_history.specs.History.{Item, first_made, world_of}
-use Rattle.model_history.proofs.Along.{items_keep}
+use Rattle.inv_ends.specs.model.words.Place.{is_valid}
+use Rattle.inv_ends.specs.model.words.declared.layout.Layout.{Layout}
+use Rattle.inv_ends.specs.history.History.{Item, first_made, world_of}
+use Rattle.inv_ends.proofs.history.Along.{items_keep}
 use Rattle.inv_all.specs.Histories.{InvReached, ReachedReady}
 use Rattle.inv_all.proofs.Inv.Begun.{inv_start}
 use Rattle.inv_all.proofs.Inv.Kept.{inv_ready}

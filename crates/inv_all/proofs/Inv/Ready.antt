@@ -1,15 +1,15 @@
 -- What the code of a step, links, and eras take of other parts.
 use Rattle.std.proofs.Common.{ℕ, ◌≡◌, ◌≤◌, ◌<◌, ◌+◌, true, refl, ap}
 use Rattle.std.specs.Prelude.{length}
-use Rattle.wfe_core.specs.words.Place.{is_valid}
-use Rattle.wfe_core.specs.defs.declared.event.Root.{Root}
-use Rattle.wfe_core.specs.declared.post.Post.{Post}
-use Rattle.wfe_core.specs.Posts.{tag_of}
-use Rattle.wfe_core.specs.Phases.{Aim, ProtectAt, Base}
-use Rattle.wfe_core.specs.Phases.ProtectAt.{TakeAnswer}
-use Rattle.wfe_core.specs.Phases.Base.{Protect}
-use Rattle.wfe_core.specs.Calls.{Why, Work, Phase, Runs, Works}
-use Rattle.wfe_core.specs.World.{World, finds}
+use Rattle.inv_ends.specs.model.words.Place.{is_valid}
+use Rattle.inv_ends.specs.model.defs.declared.event.Root.{Root}
+use Rattle.inv_ends.specs.model.declared.post.Post.{Post}
+use Rattle.inv_ends.specs.model.Posts.{tag_of}
+use Rattle.inv_ends.specs.model.Phases.{Aim, ProtectAt, Base}
+use Rattle.inv_ends.specs.model.Phases.ProtectAt.{TakeAnswer}
+use Rattle.inv_ends.specs.model.Phases.Base.{Protect}
+use Rattle.inv_ends.specs.model.Calls.{Why, Work, Phase, Runs, Works}
+use Rattle.inv_ends.specs.model.World.{World, finds}
 use Rattle.inv_ends.specs.shapes.Code.{protect_rises, base_rises, phase_rises, CodeNeeds}
 use Rattle.inv_ends.specs.shapes.Eras.{ErasNeeds}
 use Rattle.inv_ends.specs.shapes.Seats.{Seats}

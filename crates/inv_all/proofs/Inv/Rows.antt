@@ -1,13 +1,13 @@
 -- What the rows, and the load of a link, take of other parts.
 use Rattle.std.proofs.Common.{ℕ, ◌≡◌, ◌≤◌, ◌<◌, true, refl, sym, ap, ◌∙◌, arith, Some}
-use Rattle.wfe_core.specs.words.Packed.{halves}
-use Rattle.wfe_core.specs.words.Place.{is_valid}
-use Rattle.wfe_core.specs.words.Place.Place.{Clock, Life, Row}
-use Rattle.wfe_core.specs.words.declared.packed.Request.TheVariants as requests
-use Rattle.wfe_core.proofs.words.Parts.{halves_some}
-use Rattle.wfe_core.specs.declared.ends.ProtectEnd.TheVariants as protect_ends
-use Rattle.wfe_core.specs.Phases.{ProtectAt, Base, Goes, Ends, Protected}
-use Rattle.wfe_core.specs.World.{World}
+use Rattle.inv_ends.specs.model.words.Packed.{halves}
+use Rattle.inv_ends.specs.model.words.Place.{is_valid}
+use Rattle.inv_ends.specs.model.words.Place.Place.{Clock, Life, Row}
+use Rattle.inv_ends.specs.model.words.declared.packed.Request.TheVariants as requests
+use Rattle.inv_ends.proofs.model.words.Parts.{halves_some}
+use Rattle.inv_ends.specs.model.declared.ends.ProtectEnd.TheVariants as protect_ends
+use Rattle.inv_ends.specs.model.Phases.{ProtectAt, Base, Goes, Ends, Protected}
+use Rattle.inv_ends.specs.model.World.{World}
 use Rattle.inv_ends.specs.shapes.Eras.{LifeIn, NoLife, Lives, Eras}
 use Rattle.inv_ends.specs.shapes.Seats.{Seats}
 use Rattle.inv_ends.proofs.shapes.Gives.{gives_walks, gives_births}

@@ -1,19 +1,19 @@
 -- What the shape of seats and their eras give of the machine that a seat runs.
 use Rattle.std.proofs.Common.{ℕ, ◌≡◌, ◌≤◌, ◌<◌, true, sym, subst, ap, ◌∙◌, arith}
-use Rattle.wfe_core.specs.words.Place.{is_valid}
-use Rattle.wfe_core.specs.words.Place.Place.{Clock}
-use Rattle.wfe_core.specs.words.declared.layout.Layout.{Layout}
-use Rattle.wfe_core.specs.defs.declared.event.Root.{Root}
-use Rattle.wfe_core.specs.defs.declared.event.Root.TheVariants as roots
-use Rattle.wfe_core.specs.declared.post.Post.{Post}
-use Rattle.wfe_core.specs.Links.{parent_of}
-use Rattle.wfe_core.specs.Posts.{upper}
-use Rattle.wfe_core.specs.Phases.{Aim, Follows, ProtectAt, Base}
-use Rattle.wfe_core.specs.Phases.ProtectAt.{CheckClock, CheckOwnClock, CheckUpper, RaiseUpper}
-use Rattle.wfe_core.specs.Phases.Base.{Begin, Protect, Reload, Clear}
-use Rattle.wfe_core.specs.Calls.{KeepAt, Keeping, Why, FollowsHead, Phase, Idle, Runs, Scans, Works}
-use Rattle.wfe_core.proofs.Ranges.{bounds_of}
-use Rattle.wfe_core.specs.World.{World}
+use Rattle.inv_ends.specs.model.words.Place.{is_valid}
+use Rattle.inv_ends.specs.model.words.Place.Place.{Clock}
+use Rattle.inv_ends.specs.model.words.declared.layout.Layout.{Layout}
+use Rattle.inv_ends.specs.model.defs.declared.event.Root.{Root}
+use Rattle.inv_ends.specs.model.defs.declared.event.Root.TheVariants as roots
+use Rattle.inv_ends.specs.model.declared.post.Post.{Post}
+use Rattle.inv_ends.specs.model.Links.{parent_of}
+use Rattle.inv_ends.specs.model.Posts.{upper}
+use Rattle.inv_ends.specs.model.Phases.{Aim, Follows, ProtectAt, Base}
+use Rattle.inv_ends.specs.model.Phases.ProtectAt.{CheckClock, CheckOwnClock, CheckUpper, RaiseUpper}
+use Rattle.inv_ends.specs.model.Phases.Base.{Begin, Protect, Reload, Clear}
+use Rattle.inv_ends.specs.model.Calls.{KeepAt, Keeping, Why, FollowsHead, Phase, Idle, Runs, Scans, Works}
+use Rattle.inv_ends.proofs.model.Ranges.{bounds_of}
+use Rattle.inv_ends.specs.model.World.{World}
 use Rattle.inv_ends.specs.shapes.Eras.{SpanIn, protect_eras, base_eras, PhaseEras, Eras}
 use Rattle.inv_ends.specs.shapes.Frame.{KeepFits}
 use Rattle.inv_ends.specs.shapes.Seats.{aim_by, root_by, PhaseFits, Run, Seats}

@@ -2,18 +2,18 @@
 use Rattle.std.proofs.Common.{ℕ, ◌≡◌, ◌≤◌, ◌<◌, Bool, true, false, refl, sym, subst, ap, ◌∙◌, arith, None, Some, Option}
 use Rattle.std.proofs.lemmas.Bool.Decides.{nat_tests}
 use Rattle.std.specs.Prelude.{◌==◌, if◌then◌else◌}
-use Rattle.wfe_core.specs.words.Packed.{halves, read_reservation, read_span}
-use Rattle.wfe_core.specs.words.Place.{is_valid}
-use Rattle.wfe_core.specs.words.Place.Place.{Clock, Helper as HelperOf, Index as IndexOf}
-use Rattle.wfe_core.specs.words.declared.packed.Reservation.{Reservation}
-use Rattle.wfe_core.proofs.words.Parts.{read_reservation-halves, read_span-halves}
-use Rattle.wfe_core.specs.defs.declared.event.Guard.{Guard}
-use Rattle.wfe_core.specs.defs.declared.event.Guard.TheVariants.{Helper, Index, Whole}
-use Rattle.wfe_core.specs.defs.declared.lifetime.Interval.{Interval}
-use Rattle.wfe_core.specs.defs.Shown as values
-use Rattle.wfe_core.specs.Guards.{one_era, from_to, interval_in}
-use Rattle.wfe_core.proofs.Ranges.{bounds_of}
-use Rattle.wfe_core.specs.World.{World}
+use Rattle.inv_ends.specs.model.words.Packed.{halves, read_reservation, read_span}
+use Rattle.inv_ends.specs.model.words.Place.{is_valid}
+use Rattle.inv_ends.specs.model.words.Place.Place.{Clock, Helper as HelperOf, Index as IndexOf}
+use Rattle.inv_ends.specs.model.words.declared.packed.Reservation.{Reservation}
+use Rattle.inv_ends.proofs.model.words.Parts.{read_reservation-halves, read_span-halves}
+use Rattle.inv_ends.specs.model.defs.declared.event.Guard.{Guard}
+use Rattle.inv_ends.specs.model.defs.declared.event.Guard.TheVariants.{Helper, Index, Whole}
+use Rattle.inv_ends.specs.model.defs.declared.lifetime.Interval.{Interval}
+use Rattle.inv_ends.specs.model.defs.Shown as values
+use Rattle.inv_ends.specs.model.Guards.{one_era, from_to, interval_in}
+use Rattle.inv_ends.proofs.model.Ranges.{bounds_of}
+use Rattle.inv_ends.specs.model.World.{World}
 use Rattle.inv_ends.specs.shapes.Eras.{SpanIn, span_shown, HelperIn, IndexIn, Eras}
 use Rattle.inv_ends.specs.covers.Covers.{NotBefore, eras_shown, shown}
 

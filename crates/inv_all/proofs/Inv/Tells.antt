@@ -1,7 +1,7 @@
 -- What the invariant says of a step: what it tells is right, and it leaves the rows that stand.
 use Rattle.std.proofs.Common.{ap}
-use Rattle.wfe_core.specs.Calls.{StoreHeld}
-use Rattle.wfe_core.specs.Guards.{one_era}
+use Rattle.inv_ends.specs.model.Calls.{StoreHeld}
+use Rattle.inv_ends.specs.model.Guards.{one_era}
 use Rattle.inv_ends.proofs.covers.Begun.{standing_stays}
 use Rattle.inv_ends.proofs.requests.Known.{copying}
 use Rattle.inv_steps_left.proofs.contents.Contents.Kept.{contents_looked, contents_told}

@@ -2,21 +2,21 @@
 use Rattle.std.proofs.Common.{ℕ, ◌≡◌, ◌+◌, Bool, true, false, refl, sym, subst, ap, ◌∙◌, arith}
 use Rattle.std.proofs.lemmas.Bool.Decides.{nat_tests}
 use Rattle.std.specs.Prelude.{◌==◌, ◌&&◌, not}
-use Rattle.wfe_core.specs.words.Place.{is_valid, has}
-use Rattle.wfe_core.specs.words.Place.Place.{Clock}
-use Rattle.wfe_core.specs.words.declared.layout.Layout.{Layout}
-use Rattle.wfe_core.specs.defs.declared.event.Root.{Root}
-use Rattle.wfe_core.specs.declared.post.Post.{Post}
-use Rattle.wfe_core.specs.Links.{link_place, link_number, root_at}
-use Rattle.wfe_core.specs.Posts.{upper}
-use Rattle.wfe_core.specs.Phases.{Aim, ProtectAt, MoveAt, Base}
-use Rattle.wfe_core.specs.Phases.ProtectAt.{CheckClock, LoadOwnClock, PublishHelper, LoadOwnLink, CheckOwnClock, AnswerOwn, LoadAnswer, TakeAnswer, WithdrawRequest, WithdrawHelper, CheckUpper}
-use Rattle.wfe_core.specs.Phases.MoveAt.{LoadEra, CheckEra, AnswerAsked}
-use Rattle.wfe_core.specs.Phases.Base.{Begin, Protect, Reload, Clear, Finish, Release, Allocate, Write, GiveUp, Retire, Move}
-use Rattle.wfe_core.specs.Calls.{Why, Work, Phase, Idle, Runs, Scans, Works}
-use Rattle.wfe_core.proofs.Roots.{root_at_link}
-use Rattle.wfe_core.specs.World.{World}
-use Rattle.wfe_core.proofs.Facts.{both, first_of, same_number, rest_of}
+use Rattle.inv_ends.specs.model.words.Place.{is_valid, has}
+use Rattle.inv_ends.specs.model.words.Place.Place.{Clock}
+use Rattle.inv_ends.specs.model.words.declared.layout.Layout.{Layout}
+use Rattle.inv_ends.specs.model.defs.declared.event.Root.{Root}
+use Rattle.inv_ends.specs.model.declared.post.Post.{Post}
+use Rattle.inv_ends.specs.model.Links.{link_place, link_number, root_at}
+use Rattle.inv_ends.specs.model.Posts.{upper}
+use Rattle.inv_ends.specs.model.Phases.{Aim, ProtectAt, MoveAt, Base}
+use Rattle.inv_ends.specs.model.Phases.ProtectAt.{CheckClock, LoadOwnClock, PublishHelper, LoadOwnLink, CheckOwnClock, AnswerOwn, LoadAnswer, TakeAnswer, WithdrawRequest, WithdrawHelper, CheckUpper}
+use Rattle.inv_ends.specs.model.Phases.MoveAt.{LoadEra, CheckEra, AnswerAsked}
+use Rattle.inv_ends.specs.model.Phases.Base.{Begin, Protect, Reload, Clear, Finish, Release, Allocate, Write, GiveUp, Retire, Move}
+use Rattle.inv_ends.specs.model.Calls.{Why, Work, Phase, Idle, Runs, Scans, Works}
+use Rattle.inv_ends.proofs.model.Roots.{root_at_link}
+use Rattle.inv_ends.specs.model.World.{World}
+use Rattle.inv_ends.proofs.model.Facts.{both, first_of, same_number, rest_of}
 use Rattle.inv_ends.specs.shapes.Eras.{Eras}
 use Rattle.inv_ends.specs.shapes.Seats.{Seats}
 use Rattle.inv_ends.specs.shapes.Slots.{Slots}

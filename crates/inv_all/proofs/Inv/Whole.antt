@@ -1,11 +1,11 @@
 -- What rows, queue, contents and links take of other parts.
 use Rattle.std.proofs.Common.{ℕ, ◌≡◌, ◌<◌, ◌+◌, Bool, true, false, refl, sym, subst, arith}
-use Rattle.wfe_core.specs.words.Place.Place.{Clock}
-use Rattle.wfe_core.specs.Posts.{upper}
-use Rattle.wfe_core.specs.Phases.{Base}
-use Rattle.wfe_core.specs.Calls.{Task, Opens, Work, AfterScan, GiveBack, Phase, Runs, Scans, Works}
-use Rattle.wfe_core.specs.World.{World, finds}
-use Rattle.wfe_core.specs.words.Schemes.{is_wfe}
+use Rattle.inv_ends.specs.model.words.Place.Place.{Clock}
+use Rattle.inv_ends.specs.model.Posts.{upper}
+use Rattle.inv_ends.specs.model.Phases.{Base}
+use Rattle.inv_ends.specs.model.Calls.{Task, Opens, Work, AfterScan, GiveBack, Phase, Runs, Scans, Works}
+use Rattle.inv_ends.specs.model.World.{World, finds}
+use Rattle.inv_ends.specs.model.words.Schemes.{is_wfe}
 use Rattle.inv_ends.specs.shapes.Slots.{work_finds}
 use Rattle.inv_ends.proofs.shapes.Decode.{clock_next}
 use Rattle.inv_ends.proofs.shapes.Gives.{gives_walks, gives_births}
@@ -37,7 +37,7 @@ use Rattle.inv_all.proofs.Inv.Rows.{covers_need, roots_need}
 use Rattle.inv_all.proofs.Inv.Shapes.{phase_tried}
 use Rattle.inv_all.proofs.Inv.Tracks.{tracked_left}
 use Rattle.inv_ends.proofs.handover.Asks.{run_of}
-use Rattle.wfe_core.proofs.Facts.{false_by, true_not_false}
+use Rattle.inv_ends.proofs.model.Facts.{false_by, true_not_false}
 
 pub covers_of : (w : World) (i : ℕ) (v : View) (l : Line) (z : Asked) → Known w v l z → CoversNeeds w i v
 covers_of w i v l z a = covers_need w i v l a.valid a.seats a.eras a.whole.both

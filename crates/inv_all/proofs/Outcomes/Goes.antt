@@ -1,10 +1,10 @@
 -- A history keeps the invariant, what walks have seen, and what movers have met.
 use Rattle.std.proofs.Common.{ℕ, ◌≡◌, ◌<◌, Bool, true, false, refl, sym, subst, List, [], ◌∷◌}
-use Rattle.wfe_core.specs.words.Place.{is_valid}
-use Rattle.wfe_core.specs.words.declared.layout.Layout.{Layout}
-use Rattle.wfe_core.specs.defs.declared.call.Call.{Call}
-use Rattle.wfe_core.specs.Locals.{may_begin}
-use Rattle.wfe_core.specs.World.{begin, is_busy, step}
+use Rattle.inv_ends.specs.model.words.Place.{is_valid}
+use Rattle.inv_ends.specs.model.words.declared.layout.Layout.{Layout}
+use Rattle.inv_ends.specs.model.defs.declared.call.Call.{Call}
+use Rattle.inv_ends.specs.model.Locals.{may_begin}
+use Rattle.inv_ends.specs.model.World.{begin, is_busy, step}
 use Rattle.inv_ends.specs.requests.Views.{Deal, View as Asked}
 use Rattle.inv_ends.proofs.requests.Falling.{needs_of}
 use Rattle.inv_ends.proofs.requests.Kept.{requests_start, requests_begin}
@@ -12,8 +12,8 @@ use Rattle.inv_steps_left.specs.rows.Agree.{first_rows, rows_after}
 use Rattle.inv_steps_left.specs.rows.Chain.{first_line, line_after}
 use Rattle.inv_steps_left.specs.rows.Queue.{Line}
 use Rattle.inv_steps_left.specs.rows.Rows.{View}
-use Rattle.model_history.specs.History.{Item, Begins, Steps, Made, fits, done, done_if, did, made_from, made_of, first_made}
-use Rattle.model_history.proofs.Along.{begins_right, begins_within, low_seat}
+use Rattle.inv_ends.specs.history.History.{Item, Begins, Steps, Made, fits, done, done_if, did, made_from, made_of, first_made}
+use Rattle.inv_ends.proofs.history.Along.{begins_right, begins_within, low_seat}
 use Rattle.inv_all.specs.Known.{Known}
 use Rattle.inv_all.proofs.Inv.Begun.{known_start, known_begin}
 use Rattle.inv_all.proofs.Inv.Kept.{known_kept, asked_next}

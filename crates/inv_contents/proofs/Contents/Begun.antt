@@ -2,16 +2,16 @@
 use Rattle.std.proofs.Common.{ℕ, ◌≡◌, ◌≤◌, ◌&&◌, Bool, true, false, arith, refl, subst}
 use Rattle.std.proofs.lemmas.Bool.Decides.{nat_tests}
 use Rattle.std.specs.Prelude.{◌==◌, nat_le, nat_lt, if◌then◌else◌}
-use Rattle.inv_rows.specs.words.declared.config.Config.{Config}
-use Rattle.inv_rows.specs.defs.declared.call.Call.{Call}
-use Rattle.inv_rows.specs.defs.declared.call.Call.TheVariants as names
-use Rattle.inv_rows.specs.defs.declared.event.Root.TheVariants as roots
-use Rattle.inv_rows.specs.model.declared.post.Post.{Post}
-use Rattle.inv_rows.specs.model.Locals.{Local, begun, begun_post, may_begin}
-use Rattle.inv_rows.specs.model.Steps.{first_phase}
-use Rattle.inv_rows.specs.model.Calls.{Why, Opens, FollowsHead, Fills, KeepAt, Looks, Keeping, Phase, Idle, Runs, Scans, Works}
-use Rattle.inv_rows.specs.Rows.Status.{Free, Linked, InQueue}
-use Rattle.inv_rows.specs.Agree.{first_status}
+use Rattle.inv_covers.specs.words.declared.config.Config.{Config}
+use Rattle.inv_covers.specs.defs.declared.call.Call.{Call}
+use Rattle.inv_covers.specs.defs.declared.call.Call.TheVariants as names
+use Rattle.inv_covers.specs.defs.declared.event.Root.TheVariants as roots
+use Rattle.inv_covers.specs.model.declared.post.Post.{Post}
+use Rattle.inv_covers.specs.model.Locals.{Local, begun, begun_post, may_begin}
+use Rattle.inv_covers.specs.model.Steps.{first_phase}
+use Rattle.inv_covers.specs.model.Calls.{Why, Opens, FollowsHead, Fills, KeepAt, Looks, Keeping, Phase, Idle, Runs, Scans, Works}
+use Rattle.inv_covers.specs.rows.Rows.Status.{Free, Linked, InQueue}
+use Rattle.inv_covers.specs.rows.Agree.{first_status}
 use Rattle.inv_covers.proofs.Begun.{new_stands}
 use Rattle.inv_contents.specs.Shelf.{Shelf, shelf_of}
 use Rattle.inv_contents.specs.Knows.{Ground, Knows}

@@ -1,14 +1,14 @@
 -- The words of a bucket's row, from what is known of rows and what they show.
 use Rattle.std.proofs.Common.{ℕ, ◌+◌, ◌≡◌, true, refl, ap, ◌∙◌, sym, subst, List, length}
 use Rattle.std.specs.Prelude.{◌==◌}
-use Rattle.inv_rows.specs.words.Place.Place.{Bucket}
-use Rattle.inv_rows.specs.defs.Pairs.{Pair, pairs_after}
-use Rattle.inv_rows.specs.defs.declared.event.Root.{Root}
-use Rattle.inv_rows.specs.defs.declared.event.Root.TheVariants as roots
-use Rattle.inv_rows.specs.model.World.{World}
-use Rattle.inv_rows.specs.Rows.{View, is_settled}
-use Rattle.inv_rows.specs.Rows.Status.{Linked}
-use Rattle.inv_rows.specs.Agree.{Agree}
+use Rattle.inv_covers.specs.words.Place.Place.{Bucket}
+use Rattle.inv_covers.specs.defs.Pairs.{Pair, pairs_after}
+use Rattle.inv_covers.specs.defs.declared.event.Root.{Root}
+use Rattle.inv_covers.specs.defs.declared.event.Root.TheVariants as roots
+use Rattle.inv_covers.specs.model.World.{World}
+use Rattle.inv_covers.specs.rows.Rows.{View, is_settled}
+use Rattle.inv_covers.specs.rows.Rows.Status.{Linked}
+use Rattle.inv_covers.specs.rows.Agree.{Agree}
 use Rattle.inv_contents.specs.Shelf.{pairs_by, Shows}
 use Rattle.inv_contents.specs.Contents.{Contents}
 use Rattle.inv_contents.specs.Buckets.{BucketsShow, ChangesKnow}

@@ -2,32 +2,32 @@
 -- it from the bucket's root.
 use Rattle.std.proofs.Common.{ℕ, ◌≡◌, ◌≤◌, ◌<◌, ◌+◌, Bool, true, false, ◌&&◌, ◌⊎◌, inl, inr, arith, refl, sym, subst, ◌∙◌, List, [], length}
 use Rattle.std.specs.Prelude.{◌==◌, if◌then◌else◌, Option, Some, None}
-use Rattle.inv_rows.specs.words.Schemes.{has_one_interval}
-use Rattle.inv_rows.specs.words.declared.config.Config.{Config}
-use Rattle.inv_rows.specs.words.declared.layout.Layout.{Layout}
-use Rattle.inv_rows.specs.defs.declared.event.Event.{Event}
-use Rattle.inv_rows.specs.defs.declared.event.Root.{Root}
-use Rattle.inv_rows.specs.model.declared.post.Post.{Post}
-use Rattle.inv_rows.specs.model.Desks.{Desk}
-use Rattle.inv_rows.specs.model.Keep as keeps
-use Rattle.inv_rows.specs.model.Machine as machine
-use Rattle.inv_rows.specs.model.Memory.{bump}
-use Rattle.inv_rows.specs.model.Phases.{Aim, ProtectAt, Base, Outcome, Goes, Ends, Turn}
-use Rattle.inv_rows.specs.model.Phases.ProtectAt.{LoadClock, PublishEra, LoadLink, CheckClock, PublishRequest, LoadOwnClock, PublishHelper, LoadOwnLink, CheckOwnClock, AnswerOwn, LoadAnswer, TakeAnswer, WithdrawRequest, WithdrawHelper, LoadWithin, CheckUpper, RaiseUpper}
-use Rattle.inv_rows.specs.model.Phases.Base.{Begin, Protect, Reload, Clear, Finish, Release, Allocate, Write, GiveUp, Retire, Move}
-use Rattle.inv_rows.specs.model.Posts.{counted, stands, with_row, with_tag, tag_of, upper, reserves_helper, reserves_index}
-use Rattle.inv_rows.specs.model.Protect.{held_post, protected}
-use Rattle.inv_rows.specs.model.Rounds.{scheme_of}
-use Rattle.inv_rows.specs.model.SlowPath.{own_request}
-use Rattle.inv_rows.specs.model.Steps.{phase_turn, resumed, work_turn}
-use Rattle.inv_rows.specs.model.WriteRow.{last_written}
-use Rattle.inv_rows.specs.model.Calls.{Gets, Changes, Holds, Enqueues, Dequeues, Why, Opens, FollowsHead, LoadHeld, StoreHeld, Work, Keeping, Phase, Idle, Runs, Scans, Works}
+use Rattle.inv_covers.specs.words.Schemes.{has_one_interval}
+use Rattle.inv_covers.specs.words.declared.config.Config.{Config}
+use Rattle.inv_covers.specs.words.declared.layout.Layout.{Layout}
+use Rattle.inv_covers.specs.defs.declared.event.Event.{Event}
+use Rattle.inv_covers.specs.defs.declared.event.Root.{Root}
+use Rattle.inv_covers.specs.model.declared.post.Post.{Post}
+use Rattle.inv_covers.specs.model.Desks.{Desk}
+use Rattle.inv_covers.specs.model.Keep as keeps
+use Rattle.inv_covers.specs.model.Machine as machine
+use Rattle.inv_covers.specs.model.Memory.{bump}
+use Rattle.inv_covers.specs.model.Phases.{Aim, ProtectAt, Base, Outcome, Goes, Ends, Turn}
+use Rattle.inv_covers.specs.model.Phases.ProtectAt.{LoadClock, PublishEra, LoadLink, CheckClock, PublishRequest, LoadOwnClock, PublishHelper, LoadOwnLink, CheckOwnClock, AnswerOwn, LoadAnswer, TakeAnswer, WithdrawRequest, WithdrawHelper, LoadWithin, CheckUpper, RaiseUpper}
+use Rattle.inv_covers.specs.model.Phases.Base.{Begin, Protect, Reload, Clear, Finish, Release, Allocate, Write, GiveUp, Retire, Move}
+use Rattle.inv_covers.specs.model.Posts.{counted, stands, with_row, with_tag, tag_of, upper, reserves_helper, reserves_index}
+use Rattle.inv_covers.specs.model.Protect.{held_post, protected}
+use Rattle.inv_covers.specs.model.Rounds.{scheme_of}
+use Rattle.inv_covers.specs.model.SlowPath.{own_request}
+use Rattle.inv_covers.specs.model.Steps.{phase_turn, resumed, work_turn}
+use Rattle.inv_covers.specs.model.WriteRow.{last_written}
+use Rattle.inv_covers.specs.model.Calls.{Gets, Changes, Holds, Enqueues, Dequeues, Why, Opens, FollowsHead, LoadHeld, StoreHeld, Work, Keeping, Phase, Idle, Runs, Scans, Works}
 use Rattle.inv_requests.specs.Parents.{rises_at}
 use Rattle.inv_requests.specs.shapes.Seats.{PostFits, Run, PhaseFits, kind_of, reloads, index_by}
 use Rattle.inv_requests.specs.shapes.Slots.{WorkIn, PhaseIn}
 use Rattle.inv_requests.proofs.shapes.Written.{index_few, reloads_protect}
-use Rattle.inv_rows.specs.Rows.{Status}
-use Rattle.inv_rows.specs.Rows.Status.{InQueue}
+use Rattle.inv_covers.specs.rows.Rows.{Status}
+use Rattle.inv_covers.specs.rows.Rows.Status.{InQueue}
 use Rattle.inv_covers.proofs.Stands.{withdrawn_shrinks, with_row_apart, with_row_is}
 use Rattle.inv_covers.proofs.Stood.{held_rises, protected_post, same_stands, own_stood, answer_stood, concluded_stood, reload_stood, allocate_stood, write_stood, retire_stood, move_stood, begin_stood}
 use Rattle.inv_covers.proofs.Scans.{scan_shrinks}

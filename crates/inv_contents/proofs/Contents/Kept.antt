@@ -2,34 +2,34 @@
 use Rattle.std.proofs.Common.{ℕ, ◌≤◌, ◌+◌, ◌*◌, ◌%◌, ◌≡◌, Bool, true, false, refl, ap, ◌∙◌, sym, subst, List, ◌++◌, length}
 use Rattle.std.proofs.lemmas.List.{append_assoc}
 use Rattle.std.specs.Prelude.{◌==◌, if◌then◌else◌, take, Option, None}
-use Rattle.inv_rows.specs.words.Place.{Place}
-use Rattle.inv_rows.specs.words.Place.Place.{Bucket, Row}
-use Rattle.inv_rows.specs.words.declared.layout.Layout.{Layout}
-use Rattle.inv_rows.specs.defs.Pairs.{pairs_after, value_in}
-use Rattle.inv_rows.specs.defs.declared.event.Event.{Event}
-use Rattle.inv_rows.specs.defs.declared.event.Root.{Root}
-use Rattle.inv_rows.specs.defs.declared.lifetime.Lifetime.{Lifetime}
-use Rattle.inv_rows.specs.model.declared.post.Post.{Post}
-use Rattle.inv_rows.specs.model.Book.{Book, booked_all}
-use Rattle.inv_rows.specs.model.Change as alters
-use Rattle.inv_rows.specs.model.Enqueue as enqueues
-use Rattle.inv_rows.specs.model.Desks.{Desk, noting}
-use Rattle.inv_rows.specs.model.Machine as machine
-use Rattle.inv_rows.specs.model.Memory.{place_in, found, written}
-use Rattle.inv_rows.specs.model.Posts.{counted}
-use Rattle.inv_rows.specs.model.Steps.{phase_move, phase_turn}
-use Rattle.inv_rows.specs.model.Locals.{Local, turn, settled, told_by, told_end, rounds_told}
-use Rattle.inv_rows.specs.model.World.{World, step, finds, told_in}
-use Rattle.inv_rows.specs.model.Calls.{ChangeKept, EnqueueKept, Changes, ChangeAt, LoadVersion, LoadCount, LoadKey, LoadValue, ExchangeRoot, EnqueueAt, LoadNumber, LoadNext, PassTail, ExchangeNext, ExchangeTail, Getting, Changing, Enqueuing, Dequeuing, Phase, Idle, Runs, Scans, Works, CallTurn, CallOutcome, GoesOn, Answers, Looks, Keeping, GetAt, FindVersion, FindCount, FindKey, FindValue}
-use Rattle.inv_rows.proofs.model.Facts.{number_is, same_number}
-use Rattle.inv_rows.proofs.model.Ranges.{bounds_of}
-use Rattle.inv_rows.specs.Rows.{View, Good, made, is_settled}
-use Rattle.inv_rows.specs.Rows.Status.{Born}
-use Rattle.inv_rows.specs.Rows.RowMove.{Stays, Appends}
-use Rattle.inv_rows.specs.Hands.{row_move, linked_row}
-use Rattle.inv_rows.specs.Agree.{Agree, Words, Plays, Needs, RowsNeeds, rows_after}
-use Rattle.inv_rows.proofs.Fits.{phase_fits}
-use Rattle.inv_rows.proofs.Steps.{of_taken}
+use Rattle.inv_covers.specs.words.Place.{Place}
+use Rattle.inv_covers.specs.words.Place.Place.{Bucket, Row}
+use Rattle.inv_covers.specs.words.declared.layout.Layout.{Layout}
+use Rattle.inv_covers.specs.defs.Pairs.{pairs_after, value_in}
+use Rattle.inv_covers.specs.defs.declared.event.Event.{Event}
+use Rattle.inv_covers.specs.defs.declared.event.Root.{Root}
+use Rattle.inv_covers.specs.defs.declared.lifetime.Lifetime.{Lifetime}
+use Rattle.inv_covers.specs.model.declared.post.Post.{Post}
+use Rattle.inv_covers.specs.model.Book.{Book, booked_all}
+use Rattle.inv_covers.specs.model.Change as alters
+use Rattle.inv_covers.specs.model.Enqueue as enqueues
+use Rattle.inv_covers.specs.model.Desks.{Desk, noting}
+use Rattle.inv_covers.specs.model.Machine as machine
+use Rattle.inv_covers.specs.model.Memory.{place_in, found, written}
+use Rattle.inv_covers.specs.model.Posts.{counted}
+use Rattle.inv_covers.specs.model.Steps.{phase_move, phase_turn}
+use Rattle.inv_covers.specs.model.Locals.{Local, turn, settled, told_by, told_end, rounds_told}
+use Rattle.inv_covers.specs.model.World.{World, step, finds, told_in}
+use Rattle.inv_covers.specs.model.Calls.{ChangeKept, EnqueueKept, Changes, ChangeAt, LoadVersion, LoadCount, LoadKey, LoadValue, ExchangeRoot, EnqueueAt, LoadNumber, LoadNext, PassTail, ExchangeNext, ExchangeTail, Getting, Changing, Enqueuing, Dequeuing, Phase, Idle, Runs, Scans, Works, CallTurn, CallOutcome, GoesOn, Answers, Looks, Keeping, GetAt, FindVersion, FindCount, FindKey, FindValue}
+use Rattle.inv_covers.proofs.model.Facts.{number_is, same_number}
+use Rattle.inv_covers.proofs.model.Ranges.{bounds_of}
+use Rattle.inv_covers.specs.rows.Rows.{View, Good, made, is_settled}
+use Rattle.inv_covers.specs.rows.Rows.Status.{Born}
+use Rattle.inv_covers.specs.rows.Rows.RowMove.{Stays, Appends}
+use Rattle.inv_covers.specs.rows.Hands.{row_move, linked_row}
+use Rattle.inv_covers.specs.rows.Agree.{Agree, Words, Plays, Needs, RowsNeeds, rows_after}
+use Rattle.inv_covers.proofs.rows.Fits.{phase_fits}
+use Rattle.inv_covers.proofs.rows.Steps.{of_taken}
 use Rattle.inv_requests.specs.shapes.Frame.{phase_left, read_slot}
 use Rattle.inv_contents.specs.Shelf.{Shelf, shelf_of, pairs_by, Filled}
 use Rattle.inv_contents.specs.Knows.{Ground, Knows, LookKnows, Ready, get_reads, reads_in}
@@ -46,7 +46,7 @@ use Rattle.inv_contents.proofs.Contents.Rounds.{Adds, Turns, plain_knows, cleari
 use Rattle.inv_contents.proofs.Contents.Shelves.{WordsStay, calm_shelved, keeps_all, joined_far, joined_shelved, exchanged_book, linked_booked, exchanged_far, Linking, Latest, exchanged_shelved}
 use Rattle.inv_contents.proofs.Contents.Turns.{GetOwes, Shown, Looked, LookOutcome, look_turns}
 use Rattle.inv_contents.proofs.Contents.Views.{Keeps, keeps_made, unlinks, settled_stays, owned_stays}
-use Rattle.inv_rows.proofs.Runs.{taken_slot}
+use Rattle.inv_covers.proofs.rows.Runs.{taken_slot}
 use Rattle.inv_requests.proofs.shapes.Frame.{settled_phase, settled_seated, finds_at}
 use Rattle.inv_requests.proofs.shapes.Kept.{counted_fits, run_counted, work_counted}
 use Rattle.inv_requests.specs.shapes.Seats.{PhaseFits}

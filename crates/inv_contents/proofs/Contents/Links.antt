@@ -3,25 +3,25 @@ use Rattle.std.proofs.Common.{ℕ, ◌+◌, ◌-◌, ◌≡◌, Bool, true, fals
 use Rattle.std.proofs.lemmas.Bool.Decides.{nat_tests}
 use Rattle.std.proofs.lemmas.List.{take_all}
 use Rattle.std.specs.Prelude.{◌==◌, if◌then◌else◌}
-use Rattle.inv_rows.specs.words.Place.{Place}
-use Rattle.inv_rows.specs.defs.Pairs.{Pair, changed, pairs_after}
-use Rattle.inv_rows.specs.defs.declared.event.Root.{Root}
-use Rattle.inv_rows.specs.defs.declared.event.Root.TheVariants as roots
-use Rattle.inv_rows.specs.defs.declared.fold.Change.{Change}
-use Rattle.inv_rows.specs.model.Book.{Book}
-use Rattle.inv_rows.specs.model.Memory.{upd}
-use Rattle.inv_rows.specs.model.Calls.{ChangeKept}
-use Rattle.inv_rows.proofs.model.Facts.{number_is, false_by, one_less_one_more}
-use Rattle.inv_rows.specs.Rows.{Status, View, Good, made, is_settled}
-use Rattle.inv_rows.specs.Rows.Status.{Born, Linked, Cut}
-use Rattle.inv_rows.specs.Rows.RowMove.{Links, Replaces}
-use Rattle.inv_rows.specs.Hands.{linked_row}
+use Rattle.inv_covers.specs.words.Place.{Place}
+use Rattle.inv_covers.specs.defs.Pairs.{Pair, changed, pairs_after}
+use Rattle.inv_covers.specs.defs.declared.event.Root.{Root}
+use Rattle.inv_covers.specs.defs.declared.event.Root.TheVariants as roots
+use Rattle.inv_covers.specs.defs.declared.fold.Change.{Change}
+use Rattle.inv_covers.specs.model.Book.{Book}
+use Rattle.inv_covers.specs.model.Memory.{upd}
+use Rattle.inv_covers.specs.model.Calls.{ChangeKept}
+use Rattle.inv_covers.proofs.model.Facts.{number_is, false_by, one_less_one_more}
+use Rattle.inv_covers.specs.rows.Rows.{Status, View, Good, made, is_settled}
+use Rattle.inv_covers.specs.rows.Rows.Status.{Born, Linked, Cut}
+use Rattle.inv_covers.specs.rows.Rows.RowMove.{Links, Replaces}
+use Rattle.inv_covers.specs.rows.Hands.{linked_row}
 use Rattle.inv_contents.specs.Shelf.{shelf_of, pairs_by}
 use Rattle.inv_contents.specs.Knows.{Decided}
 use Rattle.inv_contents.specs.Contents.{Shelved}
 use Rattle.inv_contents.proofs.Contents.Lasts.{on}
 use Rattle.inv_contents.proofs.Contents.Shelves.{Linking, Latest, upd_other}
-use Rattle.inv_rows.proofs.Steps.{upd_own}
+use Rattle.inv_covers.proofs.rows.Steps.{upd_own}
 
 null_root : (n s : ℕ) → n ≡ 0 → n ≡ s + 1 → ⊥
 null_root n s h k = omega arith

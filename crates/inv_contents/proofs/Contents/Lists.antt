@@ -1,8 +1,8 @@
 -- Pairs read one by one, and changes that grow.
 use Rattle.std.proofs.Common.{ℕ, zero, suc, ◌+◌, ◌<◌, ◌≡◌, true, false, arith, refl, ap, ◌∙◌, List, [], ◌∷◌, ◌++◌, length}
 use Rattle.std.specs.Prelude.{◌==◌, take, drop, Some}
-use Rattle.inv_rows.specs.defs.Pairs.{Pair, changed, pairs_from, pairs_after, value_in}
-use Rattle.inv_rows.specs.defs.declared.fold.Change.{Change}
+use Rattle.inv_covers.specs.defs.Pairs.{Pair, changed, pairs_from, pairs_after, value_in}
+use Rattle.inv_covers.specs.defs.declared.fold.Change.{Change}
 use Rattle.inv_contents.specs.Knows.{pair_at}
 
 pub from_append : (ps : List Pair) (cs : List Change) (c : Change) → pairs_from ps (cs ++ c ∷ []) ≡ changed (pairs_from ps cs) c

@@ -2,35 +2,35 @@
 use Rattle.std.proofs.Common.{ℕ, ◌≤◌, ◌≡◌, Bool, true, false, ◌&&◌, arith, refl, List}
 use Rattle.std.proofs.lemmas.Bool.Decides.{nat_tests}
 use Rattle.std.specs.Prelude.{◌==◌, Option, Some, None}
-use Rattle.inv_rows.specs.words.Place.{Place, same}
-use Rattle.inv_rows.specs.words.Place.Place.{Row}
-use Rattle.inv_rows.specs.words.Packed.{reservation_word}
-use Rattle.inv_rows.specs.defs.declared.event.Event.{Event}
-use Rattle.inv_rows.specs.defs.declared.event.Root.{Root}
-use Rattle.inv_rows.specs.defs.declared.event.Root.TheVariants as roots
-use Rattle.inv_rows.specs.model.declared.post.Post.{Post}
-use Rattle.inv_rows.specs.model.Allocate as allocates
-use Rattle.inv_rows.specs.model.Machine as machine
-use Rattle.inv_rows.specs.model.Machine.{base_move}
-use Rattle.inv_rows.specs.model.Memory as memory
-use Rattle.inv_rows.specs.model.Memory.{bump, written}
-use Rattle.inv_rows.specs.model.MoveClock as movers
-use Rattle.inv_rows.specs.model.Protect as protects
-use Rattle.inv_rows.specs.model.Posts.{stands, cleared, reserves_index, reserves_helper, reserves_span}
-use Rattle.inv_rows.specs.model.Phases.{Aim, Alone, Follows, BeginAt, ProtectAt, AllocateAt, RetireAt, MoveAt, Walk, Base, Turn}
-use Rattle.inv_rows.specs.model.Phases.BeginAt.{LoadLower, PublishSpan}
-use Rattle.inv_rows.specs.model.Phases.ProtectAt.{LoadClock, PublishEra, LoadLink, CheckClock, PublishRequest, LoadOwnClock, PublishHelper, LoadOwnLink, CheckOwnClock, AnswerOwn, LoadAnswer, TakeAnswer, WithdrawRequest, WithdrawHelper, LoadWithin, CheckUpper, RaiseUpper}
-use Rattle.inv_rows.specs.model.Phases.AllocateAt.{LoadBirth, ClaimSlot, StoreLife}
-use Rattle.inv_rows.specs.model.Phases.RetireAt.{LoadLife, LoadRetire, StoreRetired}
-use Rattle.inv_rows.specs.model.Phases.MoveAt.{LoadEra, LoadRequest, ShowEra, LoadAsked, CheckEra, AnswerAsked, LoadReserved, HandOver, HideEra, HideLate, ExchangeClock}
-use Rattle.inv_rows.specs.model.Phases.Base.{Begin, Protect, Reload, Clear, Finish, Release, Allocate, Write, GiveUp, Retire, Move}
-use Rattle.inv_rows.specs.model.Scan as scan
-use Rattle.inv_rows.specs.model.Steps.{phase_move, work_move}
-use Rattle.inv_rows.specs.model.Calls.{EnqueueKept, EnqueueAt, LoadNumber, LoadNext, PassTail, ExchangeNext, ExchangeTail, ScanAt, ReadGuard, GiveBack, Work, Getting, Changing, Enqueuing, Dequeuing, Phase, Idle, Runs, Scans, Works, Keeping}
+use Rattle.inv_covers.specs.words.Place.{Place, same}
+use Rattle.inv_covers.specs.words.Place.Place.{Row}
+use Rattle.inv_covers.specs.words.Packed.{reservation_word}
+use Rattle.inv_covers.specs.defs.declared.event.Event.{Event}
+use Rattle.inv_covers.specs.defs.declared.event.Root.{Root}
+use Rattle.inv_covers.specs.defs.declared.event.Root.TheVariants as roots
+use Rattle.inv_covers.specs.model.declared.post.Post.{Post}
+use Rattle.inv_covers.specs.model.Allocate as allocates
+use Rattle.inv_covers.specs.model.Machine as machine
+use Rattle.inv_covers.specs.model.Machine.{base_move}
+use Rattle.inv_covers.specs.model.Memory as memory
+use Rattle.inv_covers.specs.model.Memory.{bump, written}
+use Rattle.inv_covers.specs.model.MoveClock as movers
+use Rattle.inv_covers.specs.model.Protect as protects
+use Rattle.inv_covers.specs.model.Posts.{stands, cleared, reserves_index, reserves_helper, reserves_span}
+use Rattle.inv_covers.specs.model.Phases.{Aim, Alone, Follows, BeginAt, ProtectAt, AllocateAt, RetireAt, MoveAt, Walk, Base, Turn}
+use Rattle.inv_covers.specs.model.Phases.BeginAt.{LoadLower, PublishSpan}
+use Rattle.inv_covers.specs.model.Phases.ProtectAt.{LoadClock, PublishEra, LoadLink, CheckClock, PublishRequest, LoadOwnClock, PublishHelper, LoadOwnLink, CheckOwnClock, AnswerOwn, LoadAnswer, TakeAnswer, WithdrawRequest, WithdrawHelper, LoadWithin, CheckUpper, RaiseUpper}
+use Rattle.inv_covers.specs.model.Phases.AllocateAt.{LoadBirth, ClaimSlot, StoreLife}
+use Rattle.inv_covers.specs.model.Phases.RetireAt.{LoadLife, LoadRetire, StoreRetired}
+use Rattle.inv_covers.specs.model.Phases.MoveAt.{LoadEra, LoadRequest, ShowEra, LoadAsked, CheckEra, AnswerAsked, LoadReserved, HandOver, HideEra, HideLate, ExchangeClock}
+use Rattle.inv_covers.specs.model.Phases.Base.{Begin, Protect, Reload, Clear, Finish, Release, Allocate, Write, GiveUp, Retire, Move}
+use Rattle.inv_covers.specs.model.Scan as scan
+use Rattle.inv_covers.specs.model.Steps.{phase_move, work_move}
+use Rattle.inv_covers.specs.model.Calls.{EnqueueKept, EnqueueAt, LoadNumber, LoadNext, PassTail, ExchangeNext, ExchangeTail, ScanAt, ReadGuard, GiveBack, Work, Getting, Changing, Enqueuing, Dequeuing, Phase, Idle, Runs, Scans, Works, Keeping}
 use Rattle.inv_contents.specs.Knows.{base_owns}
 use Rattle.inv_contents.proofs.Contents.Told.{all_calm, calm_append}
-use Rattle.inv_rows.specs.model.Enqueue as enqueues
-use Rattle.inv_rows.proofs.Writers.{dequeue_stays, get_stays, change_stays, keep_stays}
+use Rattle.inv_covers.specs.model.Enqueue as enqueues
+use Rattle.inv_covers.proofs.rows.Writers.{dequeue_stays, get_stays, change_stays, keep_stays}
 
 abbrev pub Tells : Turn → Type 0
 Tells t = all_calm t.told ≡ true

@@ -1,25 +1,25 @@
 -- One step of a seat at any phase, where it links no row.
 use Rattle.std.proofs.Common.{ℕ, ◌+◌, ◌%◌, ◌≡◌, Bool, true, false, refl, sym, subst, List}
 use Rattle.std.specs.Prelude.{◌==◌, nat_lt}
-use Rattle.inv_rows.specs.words.Place.{Place}
-use Rattle.inv_rows.specs.words.Place.Place.{Bucket}
-use Rattle.inv_rows.specs.defs.declared.event.Root.TheVariants as roots
-use Rattle.inv_rows.specs.defs.declared.lifetime.Lifetime.{Lifetime}
-use Rattle.inv_rows.specs.model.declared.post.Post.{Post}
-use Rattle.inv_rows.specs.model.Desks.{Desk}
-use Rattle.inv_rows.specs.model.Machine as machine
-use Rattle.inv_rows.specs.model.Machine.{base_move}
-use Rattle.inv_rows.specs.model.Memory.{place_in, found, written}
-use Rattle.inv_rows.specs.model.Phases.{Base, Outcome, Turn}
-use Rattle.inv_rows.specs.model.Get as gets
-use Rattle.inv_rows.specs.model.Change as alters
-use Rattle.inv_rows.specs.model.Enqueue as enqueues
-use Rattle.inv_rows.specs.model.Dequeue as dequeues
-use Rattle.inv_rows.specs.model.Keep as keeps
-use Rattle.inv_rows.specs.model.Scan as scan
-use Rattle.inv_rows.specs.model.Steps.{run_turn, phase_move, phase_turn, work_move, work_turn}
-use Rattle.inv_rows.specs.model.Calls.{ChangeKept, Task, Gets, Changes, Holds, Enqueues, Dequeues, Why, Opens, FollowsHead, Fills, ClearsNext, Clears, Finishes, GivesUp, Retires, Tidies, Advances, Releases, GetAt, FindVersion, FindCount, FindKey, FindValue, ChangeAt, LoadVersion, LoadCount, LoadKey, LoadValue, ExchangeRoot, Work, Getting, Changing, Enqueuing, Dequeuing, Phase, Idle, Runs, Scans, Works, KeepAt, Looks, Keeping, CallTurn}
-use Rattle.inv_rows.specs.Hands.{is_right, runs_right, task_fills}
+use Rattle.inv_covers.specs.words.Place.{Place}
+use Rattle.inv_covers.specs.words.Place.Place.{Bucket}
+use Rattle.inv_covers.specs.defs.declared.event.Root.TheVariants as roots
+use Rattle.inv_covers.specs.defs.declared.lifetime.Lifetime.{Lifetime}
+use Rattle.inv_covers.specs.model.declared.post.Post.{Post}
+use Rattle.inv_covers.specs.model.Desks.{Desk}
+use Rattle.inv_covers.specs.model.Machine as machine
+use Rattle.inv_covers.specs.model.Machine.{base_move}
+use Rattle.inv_covers.specs.model.Memory.{place_in, found, written}
+use Rattle.inv_covers.specs.model.Phases.{Base, Outcome, Turn}
+use Rattle.inv_covers.specs.model.Get as gets
+use Rattle.inv_covers.specs.model.Change as alters
+use Rattle.inv_covers.specs.model.Enqueue as enqueues
+use Rattle.inv_covers.specs.model.Dequeue as dequeues
+use Rattle.inv_covers.specs.model.Keep as keeps
+use Rattle.inv_covers.specs.model.Scan as scan
+use Rattle.inv_covers.specs.model.Steps.{run_turn, phase_move, phase_turn, work_move, work_turn}
+use Rattle.inv_covers.specs.model.Calls.{ChangeKept, Task, Gets, Changes, Holds, Enqueues, Dequeues, Why, Opens, FollowsHead, Fills, ClearsNext, Clears, Finishes, GivesUp, Retires, Tidies, Advances, Releases, GetAt, FindVersion, FindCount, FindKey, FindValue, ChangeAt, LoadVersion, LoadCount, LoadKey, LoadValue, ExchangeRoot, Work, Getting, Changing, Enqueuing, Dequeuing, Phase, Idle, Runs, Scans, Works, KeepAt, Looks, Keeping, CallTurn}
+use Rattle.inv_covers.specs.rows.Hands.{is_right, runs_right, task_fills}
 use Rattle.inv_contents.specs.Shelf.{Shelf}
 use Rattle.inv_contents.specs.Knows.{Ground, Knows, TaskKnows, WhyKnows, WorkKnows, KeepKnows, ChangeKnows, reads_in, changes_in, looks_in, keep_reads, work_reads}
 use Rattle.inv_requests.specs.shapes.Frame.{phase_left}

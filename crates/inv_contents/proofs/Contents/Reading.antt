@@ -2,13 +2,13 @@
 use Rattle.std.proofs.Common.{ℕ, ◌+◌, ◌-◌, ◌*◌, ◌/◌, ◌%◌, ◌<◌, ◌≤◌, ◌≡◌, Bool, true, false, ◌&&◌, arith, refl, ap, ◌∙◌, sym, List, length}
 use Rattle.std.proofs.lemmas.Bool.Decides.{nat_tests}
 use Rattle.std.specs.Prelude.{◌==◌}
-use Rattle.inv_rows.specs.words.Place.{Place}
-use Rattle.inv_rows.specs.words.Place.Place.{Row}
-use Rattle.inv_rows.specs.defs.Pairs.{Pair}
-use Rattle.inv_rows.specs.model.Get.{key_place, value_place}
-use Rattle.inv_rows.specs.model.Memory.{put}
-use Rattle.inv_rows.specs.model.Phases.{RowOf, MapRow}
-use Rattle.inv_rows.specs.model.WriteRow.{row_word, pair_word, side_of}
+use Rattle.inv_covers.specs.words.Place.{Place}
+use Rattle.inv_covers.specs.words.Place.Place.{Row}
+use Rattle.inv_covers.specs.defs.Pairs.{Pair}
+use Rattle.inv_covers.specs.model.Get.{key_place, value_place}
+use Rattle.inv_covers.specs.model.Memory.{put}
+use Rattle.inv_covers.specs.model.Phases.{RowOf, MapRow}
+use Rattle.inv_covers.specs.model.WriteRow.{row_word, pair_word, side_of}
 use Rattle.inv_contents.specs.Shelf.{Filled, Shows}
 use Rattle.inv_contents.specs.Knows.{pair_at}
 

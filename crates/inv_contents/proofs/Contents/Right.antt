@@ -1,17 +1,17 @@
 -- What steps tell of the map is right by the book.
 use Rattle.std.proofs.Common.{ℕ, ◌+◌, ◌%◌, ◌≤◌, ◌≡◌, Bool, true, false, arith, refl, ap, ◌∙◌, sym, subst, List, [], ◌∷◌, ◌++◌, length}
 use Rattle.std.specs.Prelude.{◌==◌, take, Option}
-use Rattle.inv_rows.specs.defs.Pairs.{pairs_after, value_in}
-use Rattle.inv_rows.specs.defs.declared.event.Event.{Event}
-use Rattle.inv_rows.specs.defs.declared.event.Event.TheVariants as events
-use Rattle.inv_rows.specs.defs.declared.event.Root.{Root}
-use Rattle.inv_rows.specs.defs.declared.fold.Change.{Change}
-use Rattle.inv_rows.specs.defs.declared.fold.Change.TheVariants as changes
-use Rattle.inv_rows.specs.model.declared.post.Post.{Post}
-use Rattle.inv_rows.specs.model.Book.{Book}
-use Rattle.inv_rows.specs.model.Change.{told_linked, told_cut, told_change, changed_bucket}
-use Rattle.inv_rows.specs.model.Rounds.{key_of}
-use Rattle.inv_rows.specs.model.Calls.{ChangeKept}
+use Rattle.inv_covers.specs.defs.Pairs.{pairs_after, value_in}
+use Rattle.inv_covers.specs.defs.declared.event.Event.{Event}
+use Rattle.inv_covers.specs.defs.declared.event.Event.TheVariants as events
+use Rattle.inv_covers.specs.defs.declared.event.Root.{Root}
+use Rattle.inv_covers.specs.defs.declared.fold.Change.{Change}
+use Rattle.inv_covers.specs.defs.declared.fold.Change.TheVariants as changes
+use Rattle.inv_covers.specs.model.declared.post.Post.{Post}
+use Rattle.inv_covers.specs.model.Book.{Book}
+use Rattle.inv_covers.specs.model.Change.{told_linked, told_cut, told_change, changed_bucket}
+use Rattle.inv_covers.specs.model.Rounds.{key_of}
+use Rattle.inv_covers.specs.model.Calls.{ChangeKept}
 use Rattle.inv_contents.specs.Shelf.{shelf_of, pairs_by}
 use Rattle.inv_contents.specs.Told.{GotRight, NextChange, TellsRight, AllRight}
 use Rattle.inv_contents.proofs.Contents.Told.{Claims, Claimed, GotFrom, FromNone, FromRow}

@@ -2,30 +2,30 @@
 use Rattle.std.proofs.Common.{ℕ, ◌+◌, ◌≡◌, Bool, true, false, refl, ◌∙◌, sym, subst, List, [], ◌∷◌, ◌++◌}
 use Rattle.std.proofs.lemmas.List.{append-nil, append_assoc}
 use Rattle.std.specs.Prelude.{nat_lt, Option, Some, None}
-use Rattle.inv_rows.specs.defs.declared.call.Answer.{Answer}
-use Rattle.inv_rows.specs.defs.declared.call.Answer.TheVariants as the_answers
-use Rattle.inv_rows.specs.defs.declared.event.Event.TheVariants as events
-use Rattle.inv_rows.specs.defs.declared.event.Event.{Event}
-use Rattle.inv_rows.specs.defs.declared.event.Guard.{Guard}
-use Rattle.inv_rows.specs.defs.declared.lifetime.Interval.{Interval}
-use Rattle.inv_rows.specs.defs.Shown.{shown}
-use Rattle.inv_rows.specs.words.declared.config.SchemeKind.{SchemeKind}
-use Rattle.inv_rows.specs.model.declared.post.Post.{Post}
-use Rattle.inv_rows.specs.model.Desks.{Desk}
-use Rattle.inv_rows.specs.model.Posts.{stands}
-use Rattle.inv_rows.specs.model.Phases.{Base}
-use Rattle.inv_rows.specs.model.Guards as the_guards
-use Rattle.inv_rows.specs.model.Rounds as rounds
-use Rattle.inv_rows.specs.model.Rounds.{scheme_of, taken_of, round, round_by, begin_base, finish_base, clear_base, clear_post, clear_told, index_of, closed, given_up, finishing, finishing_by, clearing, clearing_by, clearing_next, clearing_next_by}
-use Rattle.inv_rows.specs.model.Get as gets
-use Rattle.inv_rows.specs.model.Scan as scan
-use Rattle.inv_rows.specs.model.Steps as steps
-use Rattle.inv_rows.specs.model.Calls.{EnqueueKept, EnqueueAt, LoadNumber, LoadNext, PassTail, ExchangeNext, ExchangeTail, Task, Gets, Changes, Holds, Enqueues, Dequeues, Next, Again, MakeRoom, Answering, Retiring, AfterScan, Answered, Repeated, Counted, Why, Opens, FollowsHead, Fills, ClearsNext, Clears, Finishes, GivesUp, Retires, Tidies, Advances, Releases, ScanAt, ReadGuard, GiveBack, Work, Getting, Changing, Enqueuing, Dequeuing, Phase, Idle, Runs, Scans, Works, CallTurn, KeepAt, Looks, Keeping}
+use Rattle.inv_covers.specs.defs.declared.call.Answer.{Answer}
+use Rattle.inv_covers.specs.defs.declared.call.Answer.TheVariants as the_answers
+use Rattle.inv_covers.specs.defs.declared.event.Event.TheVariants as events
+use Rattle.inv_covers.specs.defs.declared.event.Event.{Event}
+use Rattle.inv_covers.specs.defs.declared.event.Guard.{Guard}
+use Rattle.inv_covers.specs.defs.declared.lifetime.Interval.{Interval}
+use Rattle.inv_covers.specs.defs.Shown.{shown}
+use Rattle.inv_covers.specs.words.declared.config.SchemeKind.{SchemeKind}
+use Rattle.inv_covers.specs.model.declared.post.Post.{Post}
+use Rattle.inv_covers.specs.model.Desks.{Desk}
+use Rattle.inv_covers.specs.model.Posts.{stands}
+use Rattle.inv_covers.specs.model.Phases.{Base}
+use Rattle.inv_covers.specs.model.Guards as the_guards
+use Rattle.inv_covers.specs.model.Rounds as rounds
+use Rattle.inv_covers.specs.model.Rounds.{scheme_of, taken_of, round, round_by, begin_base, finish_base, clear_base, clear_post, clear_told, index_of, closed, given_up, finishing, finishing_by, clearing, clearing_by, clearing_next, clearing_next_by}
+use Rattle.inv_covers.specs.model.Get as gets
+use Rattle.inv_covers.specs.model.Scan as scan
+use Rattle.inv_covers.specs.model.Steps as steps
+use Rattle.inv_covers.specs.model.Calls.{EnqueueKept, EnqueueAt, LoadNumber, LoadNext, PassTail, ExchangeNext, ExchangeTail, Task, Gets, Changes, Holds, Enqueues, Dequeues, Next, Again, MakeRoom, Answering, Retiring, AfterScan, Answered, Repeated, Counted, Why, Opens, FollowsHead, Fills, ClearsNext, Clears, Finishes, GivesUp, Retires, Tidies, Advances, Releases, ScanAt, ReadGuard, GiveBack, Work, Getting, Changing, Enqueuing, Dequeuing, Phase, Idle, Runs, Scans, Works, CallTurn, KeepAt, Looks, Keeping}
 use Rattle.inv_requests.specs.shapes.Frame.{phase_left}
 use Rattle.inv_contents.specs.Knows.{Ground, Knows}
 use Rattle.inv_contents.proofs.Contents.Told.{all_calm, calm_append, Claimed, GotFrom, calm_claimed, claimed_append}
 use Rattle.inv_contents.proofs.Contents.Machines.{cleared_calm}
-use Rattle.inv_rows.proofs.model.Schemes.{each_clear_told}
+use Rattle.inv_covers.proofs.model.Schemes.{each_clear_told}
 
 abbrev pub task_plain : Task → Bool
 task_plain (Gets key) = true

@@ -4,32 +4,32 @@ use Rattle.std.proofs.lemmas.Bool.Decides.{nat_tests}
 use Rattle.std.proofs.Math.Seq.{get_or-append_seam}
 use Rattle.std.proofs.lemmas.List.{get_or_append_left, length-append, take-append-le, take_all}
 use Rattle.std.specs.Prelude.{◌==◌, if◌then◌else◌, take, slice_index_or}
-use Rattle.inv_rows.specs.words.Place.{Place}
-use Rattle.inv_rows.specs.words.Place.Place.{Row}
-use Rattle.inv_rows.specs.defs.Pairs.{Pair, changed, pairs_after}
-use Rattle.inv_rows.specs.defs.declared.event.Event.{Event}
-use Rattle.inv_rows.specs.defs.declared.event.Event.TheVariants as events
-use Rattle.inv_rows.specs.defs.declared.event.Root.{Root}
-use Rattle.inv_rows.specs.defs.declared.event.Root.TheVariants as roots
-use Rattle.inv_rows.specs.defs.declared.fold.Change.{Change}
-use Rattle.inv_rows.specs.defs.declared.fold.Change.TheVariants as changes
-use Rattle.inv_rows.specs.model.declared.post.Post.{Post}
-use Rattle.inv_rows.specs.model.Book.{Book, RowBook, booked_all, booked_link, with_change}
-use Rattle.inv_rows.specs.model.Change.{told_linked, told_cut, told_change, changed_bucket, new_row}
-use Rattle.inv_rows.specs.model.Memory.{upd}
-use Rattle.inv_rows.specs.model.Phases.{QueueRow}
-use Rattle.inv_rows.specs.model.Calls.{ChangeKept}
-use Rattle.inv_rows.proofs.model.Facts.{number_is, same_number}
-use Rattle.inv_rows.specs.Rows.{Status, View, made, is_settled}
-use Rattle.inv_rows.specs.Rows.Status.{Linked, InQueue}
-use Rattle.inv_rows.specs.Rows.RowMove.{Appends}
+use Rattle.inv_covers.specs.words.Place.{Place}
+use Rattle.inv_covers.specs.words.Place.Place.{Row}
+use Rattle.inv_covers.specs.defs.Pairs.{Pair, changed, pairs_after}
+use Rattle.inv_covers.specs.defs.declared.event.Event.{Event}
+use Rattle.inv_covers.specs.defs.declared.event.Event.TheVariants as events
+use Rattle.inv_covers.specs.defs.declared.event.Root.{Root}
+use Rattle.inv_covers.specs.defs.declared.event.Root.TheVariants as roots
+use Rattle.inv_covers.specs.defs.declared.fold.Change.{Change}
+use Rattle.inv_covers.specs.defs.declared.fold.Change.TheVariants as changes
+use Rattle.inv_covers.specs.model.declared.post.Post.{Post}
+use Rattle.inv_covers.specs.model.Book.{Book, RowBook, booked_all, booked_link, with_change}
+use Rattle.inv_covers.specs.model.Change.{told_linked, told_cut, told_change, changed_bucket, new_row}
+use Rattle.inv_covers.specs.model.Memory.{upd}
+use Rattle.inv_covers.specs.model.Phases.{QueueRow}
+use Rattle.inv_covers.specs.model.Calls.{ChangeKept}
+use Rattle.inv_covers.proofs.model.Facts.{number_is, same_number}
+use Rattle.inv_covers.specs.rows.Rows.{Status, View, made, is_settled}
+use Rattle.inv_covers.specs.rows.Rows.Status.{Linked, InQueue}
+use Rattle.inv_covers.specs.rows.Rows.RowMove.{Appends}
 use Rattle.inv_contents.specs.Shelf.{Shelf, shelf_of, pairs_by, value_by, Filled, Shows}
 use Rattle.inv_contents.specs.Contents.{Shelved}
 use Rattle.inv_contents.proofs.Contents.Told.{SameBook, SameSlot, same_slot}
 use Rattle.inv_contents.proofs.Contents.Lasts.{on}
 use Rattle.inv_contents.proofs.Contents.Lists.{after_append}
 use Rattle.inv_contents.proofs.Contents.Views.{Keeps}
-use Rattle.inv_rows.proofs.Steps.{upd_own}
+use Rattle.inv_covers.proofs.rows.Steps.{upd_own}
 
 pub upd_other : {A : Type 0} (f : ℕ → A) (i : ℕ) (x : A) (k : ℕ) → (k == i) ≡ false → upd f i x k ≡ f k
 upd_other f i x k h = rw h refl

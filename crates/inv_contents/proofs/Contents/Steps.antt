@@ -2,40 +2,40 @@
 use Rattle.std.proofs.Common.{ℕ, ◌+◌, ◌-◌, ◌*◌, ◌%◌, ◌≡◌, Bool, true, false, arith, refl, sym, subst, List, [], ◌∷◌, ◌++◌, length}
 use Rattle.std.proofs.lemmas.Bool.Decides.{nat_tests}
 use Rattle.std.specs.Prelude.{◌==◌, if◌then◌else◌, Option, Some, None}
-use Rattle.inv_rows.specs.words.Place.{Place}
-use Rattle.inv_rows.specs.words.Place.Place.{Row}
-use Rattle.inv_rows.specs.defs.declared.call.Answer.{Answer}
-use Rattle.inv_rows.specs.defs.declared.call.Answer.TheVariants as the_answers
-use Rattle.inv_rows.specs.defs.declared.call.ClockMove.TheVariants as moves
-use Rattle.inv_rows.specs.defs.declared.event.Event.{Event}
-use Rattle.inv_rows.specs.defs.declared.event.Event.TheVariants as events
-use Rattle.inv_rows.specs.defs.declared.event.Root.TheVariants as roots
-use Rattle.inv_rows.specs.model.declared.ends.AllocateEnd.{AllocateEnd}
-use Rattle.inv_rows.specs.model.declared.ends.AllocateEnd.TheVariants as allocate_ends
-use Rattle.inv_rows.specs.model.declared.ends.FollowEnd.{FollowEnd}
-use Rattle.inv_rows.specs.model.declared.ends.FollowEnd.TheVariants as follow_ends
-use Rattle.inv_rows.specs.model.declared.ends.ProtectEnd.TheVariants as protect_ends
-use Rattle.inv_rows.specs.model.declared.post.Post.{Post}
-use Rattle.inv_rows.specs.model.Allocate.{is_claimed, walking, walk_past}
-use Rattle.inv_rows.specs.model.Desks.{Desk, with_life}
-use Rattle.inv_rows.specs.model.Machine as machine
-use Rattle.inv_rows.specs.model.Machine.{base_move}
-use Rattle.inv_rows.specs.model.Memory.{place_in, found, put, written}
-use Rattle.inv_rows.specs.model.Phases.{RowOf, Base, Walk, AllocateAt, Ending, Outcome, Goes, Ends, Turn, goes, ends}
-use Rattle.inv_rows.specs.model.Phases.Ending.{Done, Protected, Followed, Allocated, Retired, Clocked}
-use Rattle.inv_rows.specs.model.Phases.AllocateAt.{LoadBirth, ClaimSlot, StoreLife}
-use Rattle.inv_rows.specs.model.Phases.Base.{Begin, Protect, Reload, Clear, Finish, Release, Allocate, Write, GiveUp, Retire, Move}
-use Rattle.inv_rows.specs.words.Schemes.{has_one_interval}
-use Rattle.inv_rows.specs.model.Posts.{cleared, reserves_index, stands, withdrawn}
-use Rattle.inv_rows.specs.model.Rounds.{clearing_next, let_index, opening, scheme_of}
-use Rattle.inv_rows.specs.model.Change as alters
-use Rattle.inv_rows.specs.model.Enqueue as enqueues
-use Rattle.inv_rows.specs.model.Dequeue as dequeues
-use Rattle.inv_rows.specs.model.Keep as keeps
-use Rattle.inv_rows.specs.model.Steps as steps
-use Rattle.inv_rows.specs.model.WriteRow.{row_word, last_written}
-use Rattle.inv_rows.specs.model.Calls.{ChangeKept, EnqueueKept, Task, Gets, Changes, Holds, Enqueues, Dequeues, Next, Again, Answering, Retiring, AfterScan, Why, Opens, FollowsHead, Fills, ClearsNext, Clears, Finishes, GivesUp, Retires, Tidies, Advances, Releases, EnqueueAt, LoadNumber, LoadNext, PassTail, ExchangeNext, ExchangeTail, DequeueAt, LoadTail, SwingTail, TakeNumber, TakeValue, ExchangeHead, Runs, goes_on, LetGo, Released, Rehold, Dropped, KeepAt, Loosens, LoadHeld, StoreHeld, Looks, Misses}
-use Rattle.inv_rows.specs.Hands.{fills_right, holds_slot}
+use Rattle.inv_covers.specs.words.Place.{Place}
+use Rattle.inv_covers.specs.words.Place.Place.{Row}
+use Rattle.inv_covers.specs.defs.declared.call.Answer.{Answer}
+use Rattle.inv_covers.specs.defs.declared.call.Answer.TheVariants as the_answers
+use Rattle.inv_covers.specs.defs.declared.call.ClockMove.TheVariants as moves
+use Rattle.inv_covers.specs.defs.declared.event.Event.{Event}
+use Rattle.inv_covers.specs.defs.declared.event.Event.TheVariants as events
+use Rattle.inv_covers.specs.defs.declared.event.Root.TheVariants as roots
+use Rattle.inv_covers.specs.model.declared.ends.AllocateEnd.{AllocateEnd}
+use Rattle.inv_covers.specs.model.declared.ends.AllocateEnd.TheVariants as allocate_ends
+use Rattle.inv_covers.specs.model.declared.ends.FollowEnd.{FollowEnd}
+use Rattle.inv_covers.specs.model.declared.ends.FollowEnd.TheVariants as follow_ends
+use Rattle.inv_covers.specs.model.declared.ends.ProtectEnd.TheVariants as protect_ends
+use Rattle.inv_covers.specs.model.declared.post.Post.{Post}
+use Rattle.inv_covers.specs.model.Allocate.{is_claimed, walking, walk_past}
+use Rattle.inv_covers.specs.model.Desks.{Desk, with_life}
+use Rattle.inv_covers.specs.model.Machine as machine
+use Rattle.inv_covers.specs.model.Machine.{base_move}
+use Rattle.inv_covers.specs.model.Memory.{place_in, found, put, written}
+use Rattle.inv_covers.specs.model.Phases.{RowOf, Base, Walk, AllocateAt, Ending, Outcome, Goes, Ends, Turn, goes, ends}
+use Rattle.inv_covers.specs.model.Phases.Ending.{Done, Protected, Followed, Allocated, Retired, Clocked}
+use Rattle.inv_covers.specs.model.Phases.AllocateAt.{LoadBirth, ClaimSlot, StoreLife}
+use Rattle.inv_covers.specs.model.Phases.Base.{Begin, Protect, Reload, Clear, Finish, Release, Allocate, Write, GiveUp, Retire, Move}
+use Rattle.inv_covers.specs.words.Schemes.{has_one_interval}
+use Rattle.inv_covers.specs.model.Posts.{cleared, reserves_index, stands, withdrawn}
+use Rattle.inv_covers.specs.model.Rounds.{clearing_next, let_index, opening, scheme_of}
+use Rattle.inv_covers.specs.model.Change as alters
+use Rattle.inv_covers.specs.model.Enqueue as enqueues
+use Rattle.inv_covers.specs.model.Dequeue as dequeues
+use Rattle.inv_covers.specs.model.Keep as keeps
+use Rattle.inv_covers.specs.model.Steps as steps
+use Rattle.inv_covers.specs.model.WriteRow.{row_word, last_written}
+use Rattle.inv_covers.specs.model.Calls.{ChangeKept, EnqueueKept, Task, Gets, Changes, Holds, Enqueues, Dequeues, Next, Again, Answering, Retiring, AfterScan, Why, Opens, FollowsHead, Fills, ClearsNext, Clears, Finishes, GivesUp, Retires, Tidies, Advances, Releases, EnqueueAt, LoadNumber, LoadNext, PassTail, ExchangeNext, ExchangeTail, DequeueAt, LoadTail, SwingTail, TakeNumber, TakeValue, ExchangeHead, Runs, goes_on, LetGo, Released, Rehold, Dropped, KeepAt, Loosens, LoadHeld, StoreHeld, Looks, Misses}
+use Rattle.inv_covers.specs.rows.Hands.{fills_right, holds_slot}
 use Rattle.inv_contents.specs.Shelf.{Shelf, Filled}
 use Rattle.inv_contents.specs.Knows.{ItemKnows, WritingItem, Ground, FillKnows, Decided, Writing, changes_in}
 use Rattle.inv_contents.proofs.Contents.Told.{all_calm, calm_append, calm_claimed, FromNone}
@@ -44,8 +44,8 @@ use Rattle.inv_contents.proofs.Contents.Machines.{cleared_calm, base_calm}
 use Rattle.inv_contents.proofs.Contents.Reading.{filled_next}
 use Rattle.inv_contents.proofs.Contents.Rounds.{got_turns, Adds, Turns, turns_adds, adds_none, plain_knows, why_plain, task_plain, round_plain, closed_adds, finishing_adds, clearing_adds, clearing_next_adds, tidying_adds}
 use Rattle.inv_contents.proofs.Contents.Turns.{clearing_turns, deciding_turns, null_decided}
-use Rattle.inv_rows.proofs.Own.{taken_in}
-use Rattle.inv_rows.proofs.model.Facts.{no_truth}
+use Rattle.inv_covers.proofs.rows.Own.{taken_in}
+use Rattle.inv_covers.proofs.model.Facts.{no_truth}
 
 -- the queue's ends are moved
 told_link_calm : (tail : Bool) (slot : ℕ) (same : Bool) → all_calm (enqueues.told_link (if tail then roots.Tail else roots.Head) slot same) ≡ true

@@ -2,16 +2,16 @@
 use Rattle.std.proofs.Common.{◌≤◌, ℕ, ◌≡◌, Bool, true, false, ◌&&◌, arith, refl, ap, ◌∙◌, sym, List, [], ◌∷◌, ◌++◌}
 use Rattle.std.proofs.lemmas.Bool.Decides.{nat_tests}
 use Rattle.std.specs.Prelude.{◌==◌, Option, None}
-use Rattle.inv_rows.specs.defs.Pairs.{value_in}
-use Rattle.inv_rows.specs.defs.declared.event.Event.{Event}
-use Rattle.inv_rows.specs.defs.declared.event.Event.TheVariants as events
-use Rattle.inv_rows.specs.defs.declared.event.Root.{Root}
-use Rattle.inv_rows.specs.defs.declared.event.Root.TheVariants as roots
-use Rattle.inv_rows.specs.model.Book.{Book, RowBook, booked, booked_all, with_row}
-use Rattle.inv_rows.specs.model.Memory.{upd}
+use Rattle.inv_covers.specs.defs.Pairs.{value_in}
+use Rattle.inv_covers.specs.defs.declared.event.Event.{Event}
+use Rattle.inv_covers.specs.defs.declared.event.Event.TheVariants as events
+use Rattle.inv_covers.specs.defs.declared.event.Root.{Root}
+use Rattle.inv_covers.specs.defs.declared.event.Root.TheVariants as roots
+use Rattle.inv_covers.specs.model.Book.{Book, RowBook, booked, booked_all, with_row}
+use Rattle.inv_covers.specs.model.Memory.{upd}
 use Rattle.inv_contents.specs.Shelf.{Shelf, shelf_of, pairs_by}
-use Rattle.inv_rows.proofs.model.Facts.{first_of, rest_of, both}
-use Rattle.inv_rows.specs.Tries.{is_end}
+use Rattle.inv_covers.proofs.model.Facts.{first_of, rest_of, both}
+use Rattle.inv_covers.specs.rows.Tries.{is_end}
 
 -- the event leaves changes and rows of the map, and tells nothing of a bucket's pairs
 abbrev pub is_calm : Event → Bool

@@ -2,29 +2,29 @@
 use Rattle.std.proofs.Common.{ℕ, ◌+◌, ◌≡◌, Bool, true, false, arith, refl, ap, ◌∙◌, sym, subst, List}
 use Rattle.std.proofs.lemmas.Bool.Decides.{nat_tests}
 use Rattle.std.specs.Prelude.{◌==◌, if◌then◌else◌}
-use Rattle.inv_rows.specs.defs.declared.lifetime.Lifetime.{Lifetime}
-use Rattle.inv_rows.specs.model.declared.post.Post.{Post}
-use Rattle.inv_rows.specs.model.Allocate.{is_claimed}
-use Rattle.inv_rows.specs.model.Memory.{upd}
-use Rattle.inv_rows.specs.model.Phases.{AllocateAt, RetireAt, Base}
-use Rattle.inv_rows.specs.model.Phases.AllocateAt.{LoadBirth, ClaimSlot, StoreLife}
-use Rattle.inv_rows.specs.model.Phases.RetireAt.{LoadLife, LoadRetire, StoreRetired}
-use Rattle.inv_rows.specs.model.Phases.Base.{Begin, Protect, Reload, Clear, Finish, Release, Allocate, Write, GiveUp, Retire, Move}
-use Rattle.inv_rows.specs.model.Calls.{EnqueueKept, ChangeKept, Why, Opens, FollowsHead, Fills, ClearsNext, Clears, Finishes, GivesUp, Retires, Tidies, Advances, Releases, ScanAt, ReadGuard, GiveBack, ChangeAt, LoadVersion, LoadCount, LoadKey, LoadValue, ExchangeRoot, EnqueueAt, LoadNumber, LoadNext, PassTail, ExchangeNext, ExchangeTail, DequeueAt, LoadTail, SwingTail, TakeNumber, TakeValue, ExchangeHead, Work, Getting, Changing, Enqueuing, Dequeuing, Phase, Idle, Runs, Scans, Works, Keeping}
-use Rattle.inv_rows.proofs.model.Facts.{number_is, false_by}
-use Rattle.inv_rows.specs.Rows.{Status, View, Good, RowMove, made, is_settled}
-use Rattle.inv_rows.specs.Rows.Hand.{Taken}
-use Rattle.inv_rows.specs.Rows.Status.{Free, Claimed, Born, Linked, InQueue, Cut, Sealed, Listed}
-use Rattle.inv_rows.specs.Rows.RowMove.{Stays, Claims, Bears, Drops, Links, Replaces, Appends, Pops, Reads, Seals, Lists, Returns}
-use Rattle.inv_rows.specs.Hands.{is_plain, runs_right, hand_base, base_row, allocate_row, retire_row, scan_row, row_move, change_row, enqueue_row, dequeue_row, work_row}
-use Rattle.inv_rows.specs.Agree.{Plays}
-use Rattle.inv_rows.proofs.Fits.{MoveFits}
-use Rattle.inv_rows.proofs.Steps.{of_taken}
+use Rattle.inv_covers.specs.defs.declared.lifetime.Lifetime.{Lifetime}
+use Rattle.inv_covers.specs.model.declared.post.Post.{Post}
+use Rattle.inv_covers.specs.model.Allocate.{is_claimed}
+use Rattle.inv_covers.specs.model.Memory.{upd}
+use Rattle.inv_covers.specs.model.Phases.{AllocateAt, RetireAt, Base}
+use Rattle.inv_covers.specs.model.Phases.AllocateAt.{LoadBirth, ClaimSlot, StoreLife}
+use Rattle.inv_covers.specs.model.Phases.RetireAt.{LoadLife, LoadRetire, StoreRetired}
+use Rattle.inv_covers.specs.model.Phases.Base.{Begin, Protect, Reload, Clear, Finish, Release, Allocate, Write, GiveUp, Retire, Move}
+use Rattle.inv_covers.specs.model.Calls.{EnqueueKept, ChangeKept, Why, Opens, FollowsHead, Fills, ClearsNext, Clears, Finishes, GivesUp, Retires, Tidies, Advances, Releases, ScanAt, ReadGuard, GiveBack, ChangeAt, LoadVersion, LoadCount, LoadKey, LoadValue, ExchangeRoot, EnqueueAt, LoadNumber, LoadNext, PassTail, ExchangeNext, ExchangeTail, DequeueAt, LoadTail, SwingTail, TakeNumber, TakeValue, ExchangeHead, Work, Getting, Changing, Enqueuing, Dequeuing, Phase, Idle, Runs, Scans, Works, Keeping}
+use Rattle.inv_covers.proofs.model.Facts.{number_is, false_by}
+use Rattle.inv_covers.specs.rows.Rows.{Status, View, Good, RowMove, made, is_settled}
+use Rattle.inv_covers.specs.rows.Rows.Hand.{Taken}
+use Rattle.inv_covers.specs.rows.Rows.Status.{Free, Claimed, Born, Linked, InQueue, Cut, Sealed, Listed}
+use Rattle.inv_covers.specs.rows.Rows.RowMove.{Stays, Claims, Bears, Drops, Links, Replaces, Appends, Pops, Reads, Seals, Lists, Returns}
+use Rattle.inv_covers.specs.rows.Hands.{is_plain, runs_right, hand_base, base_row, allocate_row, retire_row, scan_row, row_move, change_row, enqueue_row, dequeue_row, work_row}
+use Rattle.inv_covers.specs.rows.Agree.{Plays}
+use Rattle.inv_covers.proofs.rows.Fits.{MoveFits}
+use Rattle.inv_covers.proofs.rows.Steps.{of_taken}
 use Rattle.inv_contents.specs.Knows.{base_owns, owns_in}
 use Rattle.inv_contents.proofs.Contents.Machines.{writes_in}
 use Rattle.inv_contents.proofs.Contents.Phases.{change_links, work_links, links_in}
 use Rattle.inv_contents.proofs.Contents.Steps.{joins}
-use Rattle.inv_rows.proofs.Runs.{taken_slot}
+use Rattle.inv_covers.proofs.rows.Runs.{taken_slot}
 
 -- a machine that writes a row has it in hand
 base_taken : (base : Base) (s : ℕ) → base_owns base s ≡ true → hand_base base ≡ Taken s

@@ -1,11 +1,11 @@
 -- At the start the dummy alone is in the queue, and a call begins with nothing read of it.
 use Rattle.std.proofs.Common.{ℕ, ◌≡◌, arith, refl, sym, subst}
 use Rattle.std.proofs.lemmas.Bool.Decides.{nat_tests}
-use Rattle.inv_rows.specs.words.Place.Place.{Row}
-use Rattle.inv_rows.specs.words.declared.layout.Layout.{Layout}
-use Rattle.inv_rows.specs.model.Calls.{Idle}
-use Rattle.inv_rows.specs.model.Locals.{Local, begun_post}
-use Rattle.inv_rows.specs.model.World.{start, begin}
+use Rattle.inv_covers.specs.words.Place.Place.{Row}
+use Rattle.inv_covers.specs.words.declared.layout.Layout.{Layout}
+use Rattle.inv_covers.specs.model.Calls.{Idle}
+use Rattle.inv_covers.specs.model.Locals.{Local, begun_post}
+use Rattle.inv_covers.specs.model.World.{start, begin}
 use Rattle.inv_requests.proofs.shapes.Frame.{begin_stays, begin_begins}
 use Rattle.inv_requests.proofs.shapes.Kept.{one_moves}
 use Rattle.inv_contents.specs.Reads.{Reads}

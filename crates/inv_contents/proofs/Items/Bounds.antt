@@ -3,33 +3,33 @@ use Rattle.std.proofs.Common.{ℕ, ◌≡◌, ◌≤◌, ◌<◌, ◌+◌, Bool,
 use Rattle.std.proofs.lemmas.Bool.Decides.{nat_tests}
 use Rattle.std.proofs.lemmas.List.{length-append, take-append-le, take_all}
 use Rattle.std.specs.Prelude.{◌==◌, nat_le, take, None}
-use Rattle.inv_rows.specs.words.Place.{Place}
-use Rattle.inv_rows.specs.words.Place.Place.{Bucket, Head, Row}
-use Rattle.inv_rows.specs.defs.Pairs.{Pair, changed, pairs_after}
-use Rattle.inv_rows.specs.defs.declared.call.Answer.TheVariants as the_answers
-use Rattle.inv_rows.specs.defs.declared.call.ClockMove.TheVariants as clock_moves
-use Rattle.inv_rows.specs.defs.declared.event.Event.{Event}
-use Rattle.inv_rows.specs.defs.declared.event.Event.TheVariants as events
-use Rattle.inv_rows.specs.defs.declared.event.Root.TheVariants as roots
-use Rattle.inv_rows.specs.defs.declared.fold.Change.{Change}
-use Rattle.inv_rows.specs.defs.declared.fold.Change.TheVariants as changes
-use Rattle.inv_rows.specs.model.declared.post.Post.{Post}
-use Rattle.inv_rows.specs.model.Book.{Book, booked_all}
-use Rattle.inv_rows.specs.model.Memory.{upd}
-use Rattle.inv_rows.specs.model.Posts.{counted}
-use Rattle.inv_rows.specs.model.Change as alters
-use Rattle.inv_rows.specs.model.Enqueue as enqueues
-use Rattle.inv_rows.specs.model.Dequeue as dequeues
-use Rattle.inv_rows.specs.model.Desks.{Desk}
-use Rattle.inv_rows.specs.model.Steps.{phase_turn}
-use Rattle.inv_rows.specs.model.Locals.{told_by, told_end}
-use Rattle.inv_rows.specs.model.World.{World}
-use Rattle.inv_rows.specs.model.Calls.{ChangeKept, EnqueueKept, Changes, Retiring, ChangeAt, LoadVersion, LoadCount, LoadKey, LoadValue, ExchangeRoot, EnqueueAt, LoadNumber, LoadNext, PassTail, ExchangeNext, ExchangeTail, DequeueAt, LoadTail, SwingTail, TakeNumber, TakeValue, ExchangeHead, Getting, Changing, Enqueuing, Dequeuing, Phase, Idle, Runs, Scans, Works, CallTurn, Keeping}
-use Rattle.inv_rows.proofs.model.Facts.{number_is}
+use Rattle.inv_covers.specs.words.Place.{Place}
+use Rattle.inv_covers.specs.words.Place.Place.{Bucket, Head, Row}
+use Rattle.inv_covers.specs.defs.Pairs.{Pair, changed, pairs_after}
+use Rattle.inv_covers.specs.defs.declared.call.Answer.TheVariants as the_answers
+use Rattle.inv_covers.specs.defs.declared.call.ClockMove.TheVariants as clock_moves
+use Rattle.inv_covers.specs.defs.declared.event.Event.{Event}
+use Rattle.inv_covers.specs.defs.declared.event.Event.TheVariants as events
+use Rattle.inv_covers.specs.defs.declared.event.Root.TheVariants as roots
+use Rattle.inv_covers.specs.defs.declared.fold.Change.{Change}
+use Rattle.inv_covers.specs.defs.declared.fold.Change.TheVariants as changes
+use Rattle.inv_covers.specs.model.declared.post.Post.{Post}
+use Rattle.inv_covers.specs.model.Book.{Book, booked_all}
+use Rattle.inv_covers.specs.model.Memory.{upd}
+use Rattle.inv_covers.specs.model.Posts.{counted}
+use Rattle.inv_covers.specs.model.Change as alters
+use Rattle.inv_covers.specs.model.Enqueue as enqueues
+use Rattle.inv_covers.specs.model.Dequeue as dequeues
+use Rattle.inv_covers.specs.model.Desks.{Desk}
+use Rattle.inv_covers.specs.model.Steps.{phase_turn}
+use Rattle.inv_covers.specs.model.Locals.{told_by, told_end}
+use Rattle.inv_covers.specs.model.World.{World}
+use Rattle.inv_covers.specs.model.Calls.{ChangeKept, EnqueueKept, Changes, Retiring, ChangeAt, LoadVersion, LoadCount, LoadKey, LoadValue, ExchangeRoot, EnqueueAt, LoadNumber, LoadNext, PassTail, ExchangeNext, ExchangeTail, DequeueAt, LoadTail, SwingTail, TakeNumber, TakeValue, ExchangeHead, Getting, Changing, Enqueuing, Dequeuing, Phase, Idle, Runs, Scans, Works, CallTurn, Keeping}
+use Rattle.inv_covers.proofs.model.Facts.{number_is}
 use Rattle.inv_requests.specs.shapes.Slots.{Slots, PhaseIn, ChangeIn, ChangeAtIn}
-use Rattle.inv_rows.specs.Rows.{View}
-use Rattle.inv_rows.specs.Agree.{Agree}
-use Rattle.inv_rows.specs.Queue.{Line}
+use Rattle.inv_covers.specs.rows.Rows.{View}
+use Rattle.inv_covers.specs.rows.Agree.{Agree}
+use Rattle.inv_covers.specs.rows.Queue.{Line}
 use Rattle.inv_contents.specs.Buckets.{IsLatest}
 use Rattle.inv_contents.specs.Contents.{Contents, ground_of}
 use Rattle.inv_contents.specs.Knows.{Knows, Ready}
@@ -44,7 +44,7 @@ use Rattle.inv_contents.proofs.Items.Follow.{finds_phase, phase_finds}
 use Rattle.inv_contents.proofs.Items.Steps.{first_booked, cut_same}
 use Rattle.inv_contents.proofs.QueueReads.Turns.{phase_turns}
 use Rattle.inv_contents.specs.Turns.{SameItems, change_hits, enqueue_hits, dequeue_hits, hits, Turns}
-use Rattle.inv_rows.proofs.Went.{LineIn, WalksIn}
+use Rattle.inv_covers.proofs.rows.Went.{LineIn, WalksIn}
 
 -- the same of a book
 pub record Limits (most pairs : ℕ) (book : Book) : Type 0 where

@@ -1,19 +1,19 @@
 -- What a step finds of a row's version, number and count of pairs is in range.
 use Rattle.std.proofs.Common.{ℕ, ◌≡◌, ◌≤◌, ◌+◌, ◌%◌, true, arith, ap, sym, subst, ◌∙◌, length}
 use Rattle.std.specs.Prelude.{◌==◌, take}
-use Rattle.inv_rows.specs.words.Place.Place.{Row}
-use Rattle.inv_rows.specs.defs.Pairs.{pairs_after}
-use Rattle.inv_rows.specs.defs.declared.event.Root.{Root}
-use Rattle.inv_rows.specs.defs.declared.event.Root.TheVariants as roots
-use Rattle.inv_rows.specs.model.declared.post.Post.{Post}
-use Rattle.inv_rows.specs.model.Calls.{ChangeKept, EnqueueKept, GetAt, FindVersion, FindCount, FindKey, FindValue, ChangeAt, LoadVersion, LoadCount, LoadKey, LoadValue, ExchangeRoot, EnqueueAt, LoadNumber, LoadNext, PassTail, ExchangeNext, ExchangeTail, DequeueAt, LoadTail, SwingTail, TakeNumber, TakeValue, ExchangeHead, Work, Getting, Changing, Enqueuing, Dequeuing, Phase, Works, KeepAt, Loosens, LoadHeld, StoreHeld, Looks, Misses, Keeping}
-use Rattle.inv_rows.specs.model.Get.{get_move}
-use Rattle.inv_rows.specs.model.Memory.{found, place_in}
-use Rattle.inv_rows.specs.model.World.{World}
-use Rattle.inv_rows.proofs.model.Facts.{same_number}
+use Rattle.inv_covers.specs.words.Place.Place.{Row}
+use Rattle.inv_covers.specs.defs.Pairs.{pairs_after}
+use Rattle.inv_covers.specs.defs.declared.event.Root.{Root}
+use Rattle.inv_covers.specs.defs.declared.event.Root.TheVariants as roots
+use Rattle.inv_covers.specs.model.declared.post.Post.{Post}
+use Rattle.inv_covers.specs.model.Calls.{ChangeKept, EnqueueKept, GetAt, FindVersion, FindCount, FindKey, FindValue, ChangeAt, LoadVersion, LoadCount, LoadKey, LoadValue, ExchangeRoot, EnqueueAt, LoadNumber, LoadNext, PassTail, ExchangeNext, ExchangeTail, DequeueAt, LoadTail, SwingTail, TakeNumber, TakeValue, ExchangeHead, Work, Getting, Changing, Enqueuing, Dequeuing, Phase, Works, KeepAt, Loosens, LoadHeld, StoreHeld, Looks, Misses, Keeping}
+use Rattle.inv_covers.specs.model.Get.{get_move}
+use Rattle.inv_covers.specs.model.Memory.{found, place_in}
+use Rattle.inv_covers.specs.model.World.{World}
+use Rattle.inv_covers.proofs.model.Facts.{same_number}
 use Rattle.inv_requests.specs.shapes.Slots.{work_finds, get_finds, change_finds, enqueue_finds, dequeue_finds, keep_finds}
-use Rattle.inv_rows.specs.Rows.{View, is_settled}
-use Rattle.inv_rows.specs.Queue.{Line}
+use Rattle.inv_covers.specs.rows.Rows.{View, is_settled}
+use Rattle.inv_covers.specs.rows.Queue.{Line}
 use Rattle.inv_contents.specs.Shelf.{shelf_of, pairs_by}
 use Rattle.inv_contents.specs.Contents.{Contents, ground_of}
 use Rattle.inv_contents.specs.Knows.{Knows, GetKnows, KeepKnows, ChangeKnows, get_reads, reads_in, work_reads, changes_in}
@@ -23,7 +23,7 @@ use Rattle.inv_contents.specs.Reads.{Reads}
 use Rattle.inv_contents.specs.Bounded.{Bounded}
 use Rattle.inv_contents.specs.Gives.{WorkFinds}
 use Rattle.inv_contents.proofs.Items.Follow.{finds_phase}
-use Rattle.inv_rows.proofs.Went.{WalksIn}
+use Rattle.inv_covers.proofs.rows.Went.{WalksIn}
 
 -- a settled row of a bucket shows a version and a count in range
 

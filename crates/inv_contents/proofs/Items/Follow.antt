@@ -1,33 +1,33 @@
 -- What a step finds of the queue's rows, and a row to which a dequeue has followed the head's next link.
 use Rattle.std.proofs.Common.{ℕ, ◌≡◌, ◌+◌, true, false, arith, ap, sym, ◌∙◌, [], ◌∷◌}
 use Rattle.std.specs.Prelude.{◌==◌}
-use Rattle.inv_rows.specs.words.Place.{Place}
-use Rattle.inv_rows.specs.words.Place.Place.{Head, Row}
-use Rattle.inv_rows.specs.defs.declared.event.Event.TheVariants as events
-use Rattle.inv_rows.specs.defs.declared.event.Root.{Root}
-use Rattle.inv_rows.specs.model.declared.ends.FollowEnd.{FollowEnd}
-use Rattle.inv_rows.specs.model.declared.ends.FollowEnd.TheVariants as follow_ends
-use Rattle.inv_rows.specs.model.declared.post.Post.{Post}
-use Rattle.inv_rows.specs.model.Book.{Book}
-use Rattle.inv_rows.specs.model.Posts.{with_row}
-use Rattle.inv_rows.specs.model.Memory.{bump, place_in, found}
-use Rattle.inv_rows.specs.model.Machine as machine
-use Rattle.inv_rows.specs.model.Machine.{base_move}
-use Rattle.inv_rows.specs.model.Steps.{phase_move}
-use Rattle.inv_rows.specs.model.Phases.{Aim, Alone, Follows, ProtectAt, Base, Outcome, Goes, Ends, Turn, ends}
-use Rattle.inv_rows.specs.model.Phases.Ending.{Done, Protected, Followed, Allocated, Retired, Clocked}
-use Rattle.inv_rows.specs.model.Phases.Base.{Begin, Protect, Reload, Clear, Finish, Release, Allocate, Write, GiveUp, Retire, Move}
-use Rattle.inv_rows.specs.model.Calls.{EnqueueKept, Why, FollowsHead, EnqueueAt, LoadNumber, LoadNext, PassTail, ExchangeNext, ExchangeTail, DequeueAt, LoadTail, SwingTail, TakeNumber, TakeValue, ExchangeHead, Work, Getting, Changing, Enqueuing, Dequeuing, Phase, Idle, Runs, Scans, Works, Keeping}
-use Rattle.inv_rows.proofs.model.Facts.{same_number, number_is, if_by}
-use Rattle.inv_rows.specs.Rows.{View}
-use Rattle.inv_rows.specs.Follow.{LoadsBase}
-use Rattle.inv_rows.specs.Queue.{Line}
-use Rattle.inv_rows.specs.Chain.{queue_of}
+use Rattle.inv_covers.specs.words.Place.{Place}
+use Rattle.inv_covers.specs.words.Place.Place.{Head, Row}
+use Rattle.inv_covers.specs.defs.declared.event.Event.TheVariants as events
+use Rattle.inv_covers.specs.defs.declared.event.Root.{Root}
+use Rattle.inv_covers.specs.model.declared.ends.FollowEnd.{FollowEnd}
+use Rattle.inv_covers.specs.model.declared.ends.FollowEnd.TheVariants as follow_ends
+use Rattle.inv_covers.specs.model.declared.post.Post.{Post}
+use Rattle.inv_covers.specs.model.Book.{Book}
+use Rattle.inv_covers.specs.model.Posts.{with_row}
+use Rattle.inv_covers.specs.model.Memory.{bump, place_in, found}
+use Rattle.inv_covers.specs.model.Machine as machine
+use Rattle.inv_covers.specs.model.Machine.{base_move}
+use Rattle.inv_covers.specs.model.Steps.{phase_move}
+use Rattle.inv_covers.specs.model.Phases.{Aim, Alone, Follows, ProtectAt, Base, Outcome, Goes, Ends, Turn, ends}
+use Rattle.inv_covers.specs.model.Phases.Ending.{Done, Protected, Followed, Allocated, Retired, Clocked}
+use Rattle.inv_covers.specs.model.Phases.Base.{Begin, Protect, Reload, Clear, Finish, Release, Allocate, Write, GiveUp, Retire, Move}
+use Rattle.inv_covers.specs.model.Calls.{EnqueueKept, Why, FollowsHead, EnqueueAt, LoadNumber, LoadNext, PassTail, ExchangeNext, ExchangeTail, DequeueAt, LoadTail, SwingTail, TakeNumber, TakeValue, ExchangeHead, Work, Getting, Changing, Enqueuing, Dequeuing, Phase, Idle, Runs, Scans, Works, Keeping}
+use Rattle.inv_covers.proofs.model.Facts.{same_number, number_is, if_by}
+use Rattle.inv_covers.specs.rows.Rows.{View}
+use Rattle.inv_covers.specs.rows.Follow.{LoadsBase}
+use Rattle.inv_covers.specs.rows.Queue.{Line}
+use Rattle.inv_covers.specs.rows.Chain.{queue_of}
 use Rattle.inv_contents.proofs.Stands.Machines.{follow_lands, lands, protect_lands}
 use Rattle.inv_contents.specs.Reads.{Reads}
 use Rattle.inv_contents.specs.Items.{Shown}
 use Rattle.inv_contents.specs.Turns.{NextRight, follow_right, outcome_right, why_right, enqueue_right, dequeue_right, work_right, phase_right}
-use Rattle.inv_rows.proofs.Went.{LineIn, WalksIn}
+use Rattle.inv_covers.proofs.rows.Went.{LineIn, WalksIn}
 
 -- what a step of a phase finds
 abbrev pub finds_phase : (Place → ℕ) → Phase → Post → ℕ

@@ -2,28 +2,28 @@
 use Rattle.std.proofs.Common.{ℕ, ◌≡◌, ◌≤◌, ◌<◌, ◌+◌, ◌-◌, Bool, true, false, arith, refl, ap, sym, subst, ◌∙◌, List, [], ◌∷◌, ◌++◌, length}
 use Rattle.std.proofs.lemmas.List.{append_assoc}
 use Rattle.std.specs.Prelude.{◌==◌, None}
-use Rattle.inv_rows.specs.words.Place.{Place}
-use Rattle.inv_rows.specs.words.Place.Place.{Head, Row}
-use Rattle.inv_rows.specs.defs.declared.call.Answer.TheVariants as the_answers
-use Rattle.inv_rows.specs.defs.declared.call.ClockMove.TheVariants as clock_moves
-use Rattle.inv_rows.specs.defs.declared.event.Event.{Event}
-use Rattle.inv_rows.specs.defs.declared.event.Event.TheVariants as events
-use Rattle.inv_rows.specs.defs.declared.event.Root.TheVariants as roots
-use Rattle.inv_rows.specs.defs.declared.fold.Change.{Change}
-use Rattle.inv_rows.specs.defs.declared.fold.Change.TheVariants as changes
-use Rattle.inv_rows.specs.model.declared.post.Post.{Post}
-use Rattle.inv_rows.specs.model.Book.{Book}
-use Rattle.inv_rows.specs.model.Posts.{counted}
-use Rattle.inv_rows.specs.model.Change as alters
-use Rattle.inv_rows.specs.model.Enqueue as enqueues
-use Rattle.inv_rows.specs.model.Dequeue as dequeues
-use Rattle.inv_rows.specs.model.Desks.{Desk}
-use Rattle.inv_rows.specs.model.Steps.{phase_turn}
-use Rattle.inv_rows.specs.model.Locals.{told_by, told_end}
-use Rattle.inv_rows.specs.model.Calls.{ChangeKept, EnqueueKept, Changes, Retiring, ChangeAt, LoadVersion, LoadCount, LoadKey, LoadValue, ExchangeRoot, EnqueueAt, LoadNumber, LoadNext, PassTail, ExchangeNext, ExchangeTail, DequeueAt, LoadTail, SwingTail, TakeNumber, TakeValue, ExchangeHead, Getting, Changing, Enqueuing, Dequeuing, Phase, Idle, Runs, Scans, Works, CallTurn, Keeping}
-use Rattle.inv_rows.proofs.model.Facts.{same_number, number_is, first_of, rest_of, same_both}
-use Rattle.inv_rows.specs.Rows.{View}
-use Rattle.inv_rows.specs.Queue.{Line}
+use Rattle.inv_covers.specs.words.Place.{Place}
+use Rattle.inv_covers.specs.words.Place.Place.{Head, Row}
+use Rattle.inv_covers.specs.defs.declared.call.Answer.TheVariants as the_answers
+use Rattle.inv_covers.specs.defs.declared.call.ClockMove.TheVariants as clock_moves
+use Rattle.inv_covers.specs.defs.declared.event.Event.{Event}
+use Rattle.inv_covers.specs.defs.declared.event.Event.TheVariants as events
+use Rattle.inv_covers.specs.defs.declared.event.Root.TheVariants as roots
+use Rattle.inv_covers.specs.defs.declared.fold.Change.{Change}
+use Rattle.inv_covers.specs.defs.declared.fold.Change.TheVariants as changes
+use Rattle.inv_covers.specs.model.declared.post.Post.{Post}
+use Rattle.inv_covers.specs.model.Book.{Book}
+use Rattle.inv_covers.specs.model.Posts.{counted}
+use Rattle.inv_covers.specs.model.Change as alters
+use Rattle.inv_covers.specs.model.Enqueue as enqueues
+use Rattle.inv_covers.specs.model.Dequeue as dequeues
+use Rattle.inv_covers.specs.model.Desks.{Desk}
+use Rattle.inv_covers.specs.model.Steps.{phase_turn}
+use Rattle.inv_covers.specs.model.Locals.{told_by, told_end}
+use Rattle.inv_covers.specs.model.Calls.{ChangeKept, EnqueueKept, Changes, Retiring, ChangeAt, LoadVersion, LoadCount, LoadKey, LoadValue, ExchangeRoot, EnqueueAt, LoadNumber, LoadNext, PassTail, ExchangeNext, ExchangeTail, DequeueAt, LoadTail, SwingTail, TakeNumber, TakeValue, ExchangeHead, Getting, Changing, Enqueuing, Dequeuing, Phase, Idle, Runs, Scans, Works, CallTurn, Keeping}
+use Rattle.inv_covers.proofs.model.Facts.{same_number, number_is, first_of, rest_of, same_both}
+use Rattle.inv_covers.specs.rows.Rows.{View}
+use Rattle.inv_covers.specs.rows.Queue.{Line}
 use Rattle.inv_contents.proofs.Stands.Rounds.{Adds, clearing_adds, clearing_next_adds}
 use Rattle.inv_contents.specs.Reads.{value_under, Reads}
 use Rattle.inv_contents.specs.Items.{Shown}
@@ -32,7 +32,7 @@ use Rattle.inv_contents.proofs.QueueReads.Events.{mute_append, clear_mute, end_m
 use Rattle.inv_contents.proofs.Items.Follow.{finds_phase, phase_finds}
 use Rattle.inv_contents.proofs.QueueReads.Turns.{phase_turns}
 use Rattle.inv_contents.specs.Turns.{is_mute, all_mute, change_hits, enqueue_hits, dequeue_hits, hits, Turns}
-use Rattle.inv_rows.proofs.Went.{LineIn, WalksIn}
+use Rattle.inv_covers.proofs.rows.Went.{LineIn, WalksIn}
 
 -- the tail's row, where it is the last
 tail_number : (most : ℕ) (mem : Place → ℕ) (a : Book) (v : View) (l : Line) (kept : EnqueueKept) (slot : ℕ) → LineIn v l mem → WalksIn (Works (Enqueuing kept (ExchangeNext slot))) v l mem → Reads (Works (Enqueuing kept (ExchangeNext slot))) l a.queued → Shown most mem a v l → mem (Row kept.tail 0) ≡ 0 → kept.number ≡ length a.queued

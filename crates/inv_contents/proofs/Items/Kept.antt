@@ -2,29 +2,29 @@
 use Rattle.std.proofs.Common.{ℕ, ◌≡◌, ◌<◌, Bool, true, false, arith, refl, sym, subst}
 use Rattle.std.proofs.lemmas.Bool.Decides.{nat_tests}
 use Rattle.std.specs.Prelude.{◌==◌}
-use Rattle.inv_rows.specs.words.Place.Place.{Row}
-use Rattle.inv_rows.specs.model.declared.post.Post.{Post}
-use Rattle.inv_rows.specs.model.Book.{Book}
-use Rattle.inv_rows.specs.model.Enqueue as enqueues
-use Rattle.inv_rows.specs.model.Posts.{counted}
-use Rattle.inv_rows.specs.model.Locals.{Local, turn, settled}
-use Rattle.inv_rows.specs.model.Calls.{EnqueueKept, ExchangeNext, Enqueuing, AfterScan, GiveBack, Phase, Scans, Works}
-use Rattle.inv_rows.specs.model.World.{World, step, finds}
-use Rattle.inv_rows.proofs.model.Facts.{number_is}
+use Rattle.inv_covers.specs.words.Place.Place.{Row}
+use Rattle.inv_covers.specs.model.declared.post.Post.{Post}
+use Rattle.inv_covers.specs.model.Book.{Book}
+use Rattle.inv_covers.specs.model.Enqueue as enqueues
+use Rattle.inv_covers.specs.model.Posts.{counted}
+use Rattle.inv_covers.specs.model.Locals.{Local, turn, settled}
+use Rattle.inv_covers.specs.model.Calls.{EnqueueKept, ExchangeNext, Enqueuing, AfterScan, GiveBack, Phase, Scans, Works}
+use Rattle.inv_covers.specs.model.World.{World, step, finds}
+use Rattle.inv_covers.proofs.model.Facts.{number_is}
 use Rattle.inv_requests.specs.shapes.Frame.{phase_left, Seated}
 use Rattle.inv_requests.specs.shapes.Slots.{PhaseIn}
 use Rattle.inv_requests.proofs.shapes.Frame.{seat_stays, seat_steps, settled_seated}
 use Rattle.inv_requests.proofs.shapes.Kept.{one_moves}
-use Rattle.inv_rows.specs.Rows.{Status, View, made}
-use Rattle.inv_rows.specs.Rows.Status.{Free, Claimed, Born, Linked, InQueue, Cut, Sealed, Listed}
-use Rattle.inv_rows.specs.Rows.RowMove.{Returns}
-use Rattle.inv_rows.specs.Hands.{row_move}
-use Rattle.inv_rows.specs.Agree.{rows_after}
-use Rattle.inv_rows.specs.Queue.{Line, is_past}
-use Rattle.inv_rows.specs.Chain.{Both, QueueNeeds, queue_of, line_after}
-use Rattle.inv_rows.specs.Facts.{RowStays, is_born_by}
-use Rattle.inv_rows.proofs.Facts.{lined_stays}
-use Rattle.inv_rows.proofs.Writers.{row_words_stay}
+use Rattle.inv_covers.specs.rows.Rows.{Status, View, made}
+use Rattle.inv_covers.specs.rows.Rows.Status.{Free, Claimed, Born, Linked, InQueue, Cut, Sealed, Listed}
+use Rattle.inv_covers.specs.rows.Rows.RowMove.{Returns}
+use Rattle.inv_covers.specs.rows.Hands.{row_move}
+use Rattle.inv_covers.specs.rows.Agree.{rows_after}
+use Rattle.inv_covers.specs.rows.Queue.{Line, is_past}
+use Rattle.inv_covers.specs.rows.Chain.{Both, QueueNeeds, queue_of, line_after}
+use Rattle.inv_covers.specs.rows.Facts.{RowStays, is_born_by}
+use Rattle.inv_covers.proofs.rows.Facts.{lined_stays}
+use Rattle.inv_covers.proofs.rows.Writers.{row_words_stay}
 use Rattle.inv_contents.specs.Shelf.{Filled}
 use Rattle.inv_contents.specs.Contents.{ground_of}
 use Rattle.inv_contents.specs.Knows.{Knows}
@@ -35,7 +35,7 @@ use Rattle.inv_contents.proofs.Items.Rows.{returned_queue}
 use Rattle.inv_contents.proofs.Items.Shown.{Kept, reads_grown}
 use Rattle.inv_contents.proofs.Items.Steps.{Did, Rests, phase_did}
 use Rattle.inv_requests.proofs.Paces.{Any}
-use Rattle.inv_rows.proofs.Lists.{apart_by}
+use Rattle.inv_covers.proofs.rows.Lists.{apart_by}
 
 past_unborn : (x : Status) (i : ℕ) → is_past x ≡ true → is_born_by i x ≡ false
 past_unborn Free i h = absurd (cc)

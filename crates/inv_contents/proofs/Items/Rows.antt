@@ -2,19 +2,19 @@
 use Rattle.std.proofs.Common.{ℕ, ◌≡◌, ◌-◌, Bool, true, false, arith, refl}
 use Rattle.std.proofs.lemmas.Bool.Decides.{nat_tests}
 use Rattle.std.specs.Prelude.{◌==◌, if◌then◌else◌}
-use Rattle.inv_rows.specs.model.declared.post.Post.{Post}
-use Rattle.inv_rows.specs.model.Allocate.{is_claimed}
-use Rattle.inv_rows.specs.model.Change.{changed_bucket}
-use Rattle.inv_rows.specs.model.Phases.{AllocateAt, RetireAt, Base}
-use Rattle.inv_rows.specs.model.Phases.AllocateAt.{LoadBirth, ClaimSlot, StoreLife}
-use Rattle.inv_rows.specs.model.Phases.RetireAt.{LoadLife, LoadRetire, StoreRetired}
-use Rattle.inv_rows.specs.model.Phases.Base.{Begin, Protect, Reload, Clear, Finish, Release, Allocate, Write, GiveUp, Retire, Move}
-use Rattle.inv_rows.specs.model.Calls.{ChangeKept, EnqueueKept, ChangeAt, LoadVersion, LoadCount, LoadKey, LoadValue, ExchangeRoot, EnqueueAt, LoadNumber, LoadNext, PassTail, ExchangeNext, ExchangeTail, DequeueAt, LoadTail, SwingTail, TakeNumber, TakeValue, ExchangeHead, ScanAt, ReadGuard, GiveBack, Work, Getting, Changing, Enqueuing, Dequeuing, Phase, Idle, Runs, Scans, Works, Keeping}
-use Rattle.inv_rows.specs.Rows.{View, RowMove, made}
-use Rattle.inv_rows.specs.Rows.RowMove.{Stays, Claims, Bears, Drops, Links, Replaces, Appends, Pops, Reads, Seals, Lists, Returns}
-use Rattle.inv_rows.specs.Hands.{allocate_row, retire_row, base_row, scan_row, linked_row, change_row, enqueue_row, dequeue_row, work_row, row_move}
-use Rattle.inv_rows.specs.Queue.{Line, moved_line, line_move, scan_line, enqueue_line}
-use Rattle.inv_rows.specs.Chain.{queue_of}
+use Rattle.inv_covers.specs.model.declared.post.Post.{Post}
+use Rattle.inv_covers.specs.model.Allocate.{is_claimed}
+use Rattle.inv_covers.specs.model.Change.{changed_bucket}
+use Rattle.inv_covers.specs.model.Phases.{AllocateAt, RetireAt, Base}
+use Rattle.inv_covers.specs.model.Phases.AllocateAt.{LoadBirth, ClaimSlot, StoreLife}
+use Rattle.inv_covers.specs.model.Phases.RetireAt.{LoadLife, LoadRetire, StoreRetired}
+use Rattle.inv_covers.specs.model.Phases.Base.{Begin, Protect, Reload, Clear, Finish, Release, Allocate, Write, GiveUp, Retire, Move}
+use Rattle.inv_covers.specs.model.Calls.{ChangeKept, EnqueueKept, ChangeAt, LoadVersion, LoadCount, LoadKey, LoadValue, ExchangeRoot, EnqueueAt, LoadNumber, LoadNext, PassTail, ExchangeNext, ExchangeTail, DequeueAt, LoadTail, SwingTail, TakeNumber, TakeValue, ExchangeHead, ScanAt, ReadGuard, GiveBack, Work, Getting, Changing, Enqueuing, Dequeuing, Phase, Idle, Runs, Scans, Works, Keeping}
+use Rattle.inv_covers.specs.rows.Rows.{View, RowMove, made}
+use Rattle.inv_covers.specs.rows.Rows.RowMove.{Stays, Claims, Bears, Drops, Links, Replaces, Appends, Pops, Reads, Seals, Lists, Returns}
+use Rattle.inv_covers.specs.rows.Hands.{allocate_row, retire_row, base_row, scan_row, linked_row, change_row, enqueue_row, dequeue_row, work_row, row_move}
+use Rattle.inv_covers.specs.rows.Queue.{Line, moved_line, line_move, scan_line, enqueue_line}
+use Rattle.inv_covers.specs.rows.Chain.{queue_of}
 use Rattle.inv_contents.specs.Turns.{enqueue_hits, dequeue_hits}
 
 -- a move that neither takes a row into the queue nor cuts its head

@@ -4,16 +4,16 @@ use Rattle.std.proofs.lemmas.Bool.Decides.{nat_tests}
 use Rattle.std.proofs.lemmas.List.{length-append, get_or_append_left}
 use Rattle.std.proofs.Math.Seq.{get_or-append_seam}
 use Rattle.std.specs.Prelude.{◌==◌}
-use Rattle.inv_rows.specs.words.Place.{Place}
-use Rattle.inv_rows.specs.words.Place.Place.{Row}
-use Rattle.inv_rows.specs.model.Book.{Book}
-use Rattle.inv_rows.specs.model.Phases.{Base}
-use Rattle.inv_rows.specs.model.Calls.{EnqueueKept, Task, Gets, Changes, Holds, Enqueues, Dequeues, Why, Opens, FollowsHead, Fills, EnqueueAt, LoadNumber, LoadNext, PassTail, ExchangeNext, ExchangeTail, DequeueAt, LoadTail, SwingTail, TakeNumber, TakeValue, ExchangeHead, Work, Getting, Changing, Enqueuing, Dequeuing, Phase, Idle, Runs, Scans, Works, Keeping}
-use Rattle.inv_rows.proofs.model.Facts.{number_is, or_left_true, or_more}
-use Rattle.inv_rows.specs.Rows.{View}
-use Rattle.inv_rows.specs.Queue.{Line, moved_line, stands_on}
-use Rattle.inv_rows.specs.Queue.LineMove.{Joins}
-use Rattle.inv_rows.specs.Chain.{queue_of}
+use Rattle.inv_covers.specs.words.Place.{Place}
+use Rattle.inv_covers.specs.words.Place.Place.{Row}
+use Rattle.inv_covers.specs.model.Book.{Book}
+use Rattle.inv_covers.specs.model.Phases.{Base}
+use Rattle.inv_covers.specs.model.Calls.{EnqueueKept, Task, Gets, Changes, Holds, Enqueues, Dequeues, Why, Opens, FollowsHead, Fills, EnqueueAt, LoadNumber, LoadNext, PassTail, ExchangeNext, ExchangeTail, DequeueAt, LoadTail, SwingTail, TakeNumber, TakeValue, ExchangeHead, Work, Getting, Changing, Enqueuing, Dequeuing, Phase, Idle, Runs, Scans, Works, Keeping}
+use Rattle.inv_covers.proofs.model.Facts.{number_is, or_left_true, or_more}
+use Rattle.inv_covers.specs.rows.Rows.{View}
+use Rattle.inv_covers.specs.rows.Queue.{Line, moved_line, stands_on}
+use Rattle.inv_covers.specs.rows.Queue.LineMove.{Joins}
+use Rattle.inv_covers.specs.rows.Chain.{queue_of}
 use Rattle.inv_contents.specs.Stands.{nexts_in}
 use Rattle.inv_contents.specs.Reads.{value_under, numbers_in, values_in, Reads}
 use Rattle.inv_contents.specs.Items.{Shown}

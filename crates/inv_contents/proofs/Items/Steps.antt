@@ -3,40 +3,40 @@ use Rattle.std.proofs.Common.{ℕ, ◌≡◌, ◌<◌, ◌+◌, Bool, true, fals
 use Rattle.std.proofs.lemmas.Bool.Decides.{nat_tests}
 use Rattle.std.proofs.lemmas.List.{append_assoc}
 use Rattle.std.specs.Prelude.{◌==◌, ◌&&◌, if◌then◌else◌, None}
-use Rattle.inv_rows.specs.words.Place.{Place}
-use Rattle.inv_rows.specs.words.Place.Place.{Head, Row}
-use Rattle.inv_rows.specs.defs.declared.call.Answer.TheVariants as the_answers
-use Rattle.inv_rows.specs.defs.declared.call.ClockMove.TheVariants as clock_moves
-use Rattle.inv_rows.specs.defs.declared.event.Event.{Event}
-use Rattle.inv_rows.specs.defs.declared.event.Event.TheVariants as events
-use Rattle.inv_rows.specs.defs.declared.event.Root.TheVariants as roots
-use Rattle.inv_rows.specs.defs.declared.fold.Change.{Change}
-use Rattle.inv_rows.specs.defs.declared.fold.Change.TheVariants as changes
-use Rattle.inv_rows.specs.defs.declared.lifetime.Lifetime.{Lifetime}
-use Rattle.inv_rows.specs.model.declared.post.Post.{Post}
-use Rattle.inv_rows.specs.model.Book.{Book, booked_all}
-use Rattle.inv_rows.specs.model.Change as alters
-use Rattle.inv_rows.specs.model.Enqueue as enqueues
-use Rattle.inv_rows.specs.model.Dequeue as dequeues
-use Rattle.inv_rows.specs.model.Desks.{Desk}
-use Rattle.inv_rows.specs.model.Memory.{Cas, written}
-use Rattle.inv_rows.specs.model.Scan as scan
-use Rattle.inv_rows.specs.model.Steps.{phase_move, phase_turn}
-use Rattle.inv_rows.specs.model.Locals.{told_by, told_end}
-use Rattle.inv_rows.specs.model.Calls.{ChangeKept, EnqueueKept, Changes, Retiring, ChangeAt, LoadVersion, LoadCount, LoadKey, LoadValue, ExchangeRoot, EnqueueAt, LoadNumber, LoadNext, PassTail, ExchangeNext, ExchangeTail, DequeueAt, LoadTail, SwingTail, TakeNumber, TakeValue, ExchangeHead, Work, Getting, Changing, Enqueuing, Dequeuing, Phase, Idle, Runs, Scans, Works, CallTurn, Keeping}
-use Rattle.inv_rows.proofs.model.Facts.{same_number, number_is}
+use Rattle.inv_covers.specs.words.Place.{Place}
+use Rattle.inv_covers.specs.words.Place.Place.{Head, Row}
+use Rattle.inv_covers.specs.defs.declared.call.Answer.TheVariants as the_answers
+use Rattle.inv_covers.specs.defs.declared.call.ClockMove.TheVariants as clock_moves
+use Rattle.inv_covers.specs.defs.declared.event.Event.{Event}
+use Rattle.inv_covers.specs.defs.declared.event.Event.TheVariants as events
+use Rattle.inv_covers.specs.defs.declared.event.Root.TheVariants as roots
+use Rattle.inv_covers.specs.defs.declared.fold.Change.{Change}
+use Rattle.inv_covers.specs.defs.declared.fold.Change.TheVariants as changes
+use Rattle.inv_covers.specs.defs.declared.lifetime.Lifetime.{Lifetime}
+use Rattle.inv_covers.specs.model.declared.post.Post.{Post}
+use Rattle.inv_covers.specs.model.Book.{Book, booked_all}
+use Rattle.inv_covers.specs.model.Change as alters
+use Rattle.inv_covers.specs.model.Enqueue as enqueues
+use Rattle.inv_covers.specs.model.Dequeue as dequeues
+use Rattle.inv_covers.specs.model.Desks.{Desk}
+use Rattle.inv_covers.specs.model.Memory.{Cas, written}
+use Rattle.inv_covers.specs.model.Scan as scan
+use Rattle.inv_covers.specs.model.Steps.{phase_move, phase_turn}
+use Rattle.inv_covers.specs.model.Locals.{told_by, told_end}
+use Rattle.inv_covers.specs.model.Calls.{ChangeKept, EnqueueKept, Changes, Retiring, ChangeAt, LoadVersion, LoadCount, LoadKey, LoadValue, ExchangeRoot, EnqueueAt, LoadNumber, LoadNext, PassTail, ExchangeNext, ExchangeTail, DequeueAt, LoadTail, SwingTail, TakeNumber, TakeValue, ExchangeHead, Work, Getting, Changing, Enqueuing, Dequeuing, Phase, Idle, Runs, Scans, Works, CallTurn, Keeping}
+use Rattle.inv_covers.proofs.model.Facts.{same_number, number_is}
 use Rattle.inv_requests.specs.shapes.Frame.{phase_left}
 use Rattle.inv_requests.proofs.shapes.Frame.{written_own}
-use Rattle.inv_rows.specs.Rows.{View, Good, made}
-use Rattle.inv_rows.specs.Rows.Status.{Born}
-use Rattle.inv_rows.specs.Rows.RowMove.{Stays, Appends, Pops}
-use Rattle.inv_rows.specs.Hands.{row_move}
-use Rattle.inv_rows.specs.Agree.{Plays}
-use Rattle.inv_rows.specs.Queue.{Line, moved_line, line_move}
-use Rattle.inv_rows.specs.Queue.LineMove.{Keeps, Joins}
-use Rattle.inv_rows.specs.Chain.{queue_of}
-use Rattle.inv_rows.proofs.Steps.{of_taken}
-use Rattle.inv_rows.proofs.Went.{born_unlined, LineIn, WalksIn}
+use Rattle.inv_covers.specs.rows.Rows.{View, Good, made}
+use Rattle.inv_covers.specs.rows.Rows.Status.{Born}
+use Rattle.inv_covers.specs.rows.Rows.RowMove.{Stays, Appends, Pops}
+use Rattle.inv_covers.specs.rows.Hands.{row_move}
+use Rattle.inv_covers.specs.rows.Agree.{Plays}
+use Rattle.inv_covers.specs.rows.Queue.{Line, moved_line, line_move}
+use Rattle.inv_covers.specs.rows.Queue.LineMove.{Keeps, Joins}
+use Rattle.inv_covers.specs.rows.Chain.{queue_of}
+use Rattle.inv_covers.proofs.rows.Steps.{of_taken}
+use Rattle.inv_covers.proofs.rows.Went.{born_unlined, LineIn, WalksIn}
 use Rattle.inv_contents.specs.Shelf.{Filled}
 use Rattle.inv_contents.proofs.Contents.Machines.{enqueue_stays}
 use Rattle.inv_contents.proofs.Stands.Rounds.{Adds, clearing_adds, clearing_next_adds, scan_told, scan_adds}
@@ -48,7 +48,7 @@ use Rattle.inv_contents.proofs.Items.Rows.{queues, Mild, mild_made, phase_mild, 
 use Rattle.inv_contents.proofs.Items.Shown.{Kept, mild_shown, Joining, joined_shown, Grown, lower_grown, joined_grown}
 use Rattle.inv_contents.proofs.QueueReads.Turns.{phase_turns, bare_reads, free_bare}
 use Rattle.inv_contents.specs.Turns.{SameItems, change_hits, enqueue_hits, dequeue_hits, hits, Turns}
-use Rattle.inv_rows.proofs.Runs.{taken_slot}
+use Rattle.inv_covers.proofs.rows.Runs.{taken_slot}
 use Rattle.inv_contents.proofs.Contents.Told.{booked_append}
 
 -- what a step leaves: what rows show, what its own seat has read, and that numbers and values stay

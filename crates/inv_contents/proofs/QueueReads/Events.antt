@@ -1,16 +1,16 @@
 -- Most events leave what the book says of the queue and of the changes of buckets.
 use Rattle.std.proofs.Common.{ℕ, ◌≡◌, true, refl, ◌∙◌, List, [], ◌∷◌, ◌++◌}
-use Rattle.inv_rows.specs.defs.declared.event.Event.{Event}
-use Rattle.inv_rows.specs.defs.declared.event.Event.TheVariants as events
-use Rattle.inv_rows.specs.defs.declared.event.Root.{Root}
-use Rattle.inv_rows.specs.defs.declared.event.Root.TheVariants as roots
-use Rattle.inv_rows.specs.model.declared.post.Post.{Post}
-use Rattle.inv_rows.specs.model.Book.{Book, booked, booked_all}
-use Rattle.inv_rows.specs.model.Calls.{CallOutcome, GoesOn, Answers}
-use Rattle.inv_rows.specs.model.Locals.{told_end}
+use Rattle.inv_covers.specs.defs.declared.event.Event.{Event}
+use Rattle.inv_covers.specs.defs.declared.event.Event.TheVariants as events
+use Rattle.inv_covers.specs.defs.declared.event.Root.{Root}
+use Rattle.inv_covers.specs.defs.declared.event.Root.TheVariants as roots
+use Rattle.inv_covers.specs.model.declared.post.Post.{Post}
+use Rattle.inv_covers.specs.model.Book.{Book, booked, booked_all}
+use Rattle.inv_covers.specs.model.Calls.{CallOutcome, GoesOn, Answers}
+use Rattle.inv_covers.specs.model.Locals.{told_end}
 use Rattle.inv_contents.proofs.Stands.Rounds.{is_clear, all_clear}
 use Rattle.inv_contents.specs.Turns.{is_mute, all_mute, SameItems, MuteBooks}
-use Rattle.inv_rows.proofs.model.Facts.{first_of, rest_of, both}
+use Rattle.inv_covers.proofs.model.Facts.{first_of, rest_of, both}
 
 pub mute_append : (a b : List Event) → all_mute a ≡ true → all_mute b ≡ true → all_mute (a ++ b) ≡ true
 mute_append [] b h k = k

@@ -3,44 +3,44 @@
 use Rattle.std.proofs.Common.{ℕ, ◌≡◌, ◌<◌, ◌+◌, ◌-◌, ◌&&◌, Bool, true, false, arith, refl, ap, sym, ◌∙◌, subst, List, [], ◌∷◌, ◌++◌, length}
 use Rattle.std.proofs.lemmas.Bool.Decides.{nat_tests}
 use Rattle.std.specs.Prelude.{◌==◌, nat_lt, Option, Some, None}
-use Rattle.inv_rows.specs.defs.declared.call.Answer.{Answer}
-use Rattle.inv_rows.specs.defs.declared.call.Answer.TheVariants as the_answers
-use Rattle.inv_rows.specs.defs.declared.event.Event.{Event}
-use Rattle.inv_rows.specs.defs.declared.event.Event.TheVariants as events
-use Rattle.inv_rows.specs.defs.declared.event.Root.{Root}
-use Rattle.inv_rows.specs.defs.declared.event.Root.TheVariants as root_names
-use Rattle.inv_rows.specs.model.declared.ends.AllocateEnd.{AllocateEnd}
-use Rattle.inv_rows.specs.model.declared.ends.AllocateEnd.TheVariants as allocate_ends
-use Rattle.inv_rows.specs.model.declared.ends.FollowEnd.{FollowEnd}
-use Rattle.inv_rows.specs.model.declared.ends.FollowEnd.TheVariants as follow_ends
-use Rattle.inv_rows.specs.model.declared.ends.ProtectEnd.TheVariants as protect_ends
-use Rattle.inv_rows.specs.model.declared.post.Post.{Post}
-use Rattle.inv_rows.specs.model.Desks.{Desk}
-use Rattle.inv_rows.specs.model.Machine as machine
-use Rattle.inv_rows.specs.model.Phases.{Base, Ending, Outcome, Goes, Ends, Turn}
-use Rattle.inv_rows.specs.model.Phases.Ending.{Done, Protected, Followed, Allocated, Retired, Clocked}
-use Rattle.inv_rows.specs.words.Schemes.{has_one_interval}
-use Rattle.inv_rows.specs.model.Posts.{cleared, reserves_index, stands, withdrawn}
-use Rattle.inv_rows.specs.model.Rounds.{bucket_of, let_index, scheme_of, clearing, clearing_next, closed}
-use Rattle.inv_rows.specs.model.Get as gets
-use Rattle.inv_rows.specs.model.Change as alters
-use Rattle.inv_rows.specs.model.Enqueue as enqueues
-use Rattle.inv_rows.specs.model.Dequeue as dequeues
-use Rattle.inv_rows.specs.model.Keep as keeps
-use Rattle.inv_rows.specs.model.Scan as scan
-use Rattle.inv_rows.specs.model.Steps as steps
-use Rattle.inv_rows.specs.model.Steps.{first_phase}
-use Rattle.inv_rows.specs.model.Calls.{ChangeKept, EnqueueKept, Task, Gets, Changes, Holds, Enqueues, Dequeues, Next, Again, Answering, Why, Opens, FollowsHead, Fills, ClearsNext, Clears, Finishes, GivesUp, Retires, Tidies, Advances, Releases, ScanAt, ReadGuard, GiveBack, GetAt, FindVersion, FindCount, FindKey, FindValue, ChangeAt, LoadVersion, LoadCount, LoadKey, LoadValue, ExchangeRoot, EnqueueAt, LoadNumber, LoadNext, PassTail, ExchangeNext, ExchangeTail, DequeueAt, LoadTail, SwingTail, TakeNumber, TakeValue, ExchangeHead, Work, Getting, Changing, Enqueuing, Dequeuing, Phase, Idle, Runs, Scans, Works, CallTurn, goes_on, KeepAt, Loosens, LoadHeld, StoreHeld, Looks, Misses, Keeping}
+use Rattle.inv_covers.specs.defs.declared.call.Answer.{Answer}
+use Rattle.inv_covers.specs.defs.declared.call.Answer.TheVariants as the_answers
+use Rattle.inv_covers.specs.defs.declared.event.Event.{Event}
+use Rattle.inv_covers.specs.defs.declared.event.Event.TheVariants as events
+use Rattle.inv_covers.specs.defs.declared.event.Root.{Root}
+use Rattle.inv_covers.specs.defs.declared.event.Root.TheVariants as root_names
+use Rattle.inv_covers.specs.model.declared.ends.AllocateEnd.{AllocateEnd}
+use Rattle.inv_covers.specs.model.declared.ends.AllocateEnd.TheVariants as allocate_ends
+use Rattle.inv_covers.specs.model.declared.ends.FollowEnd.{FollowEnd}
+use Rattle.inv_covers.specs.model.declared.ends.FollowEnd.TheVariants as follow_ends
+use Rattle.inv_covers.specs.model.declared.ends.ProtectEnd.TheVariants as protect_ends
+use Rattle.inv_covers.specs.model.declared.post.Post.{Post}
+use Rattle.inv_covers.specs.model.Desks.{Desk}
+use Rattle.inv_covers.specs.model.Machine as machine
+use Rattle.inv_covers.specs.model.Phases.{Base, Ending, Outcome, Goes, Ends, Turn}
+use Rattle.inv_covers.specs.model.Phases.Ending.{Done, Protected, Followed, Allocated, Retired, Clocked}
+use Rattle.inv_covers.specs.words.Schemes.{has_one_interval}
+use Rattle.inv_covers.specs.model.Posts.{cleared, reserves_index, stands, withdrawn}
+use Rattle.inv_covers.specs.model.Rounds.{bucket_of, let_index, scheme_of, clearing, clearing_next, closed}
+use Rattle.inv_covers.specs.model.Get as gets
+use Rattle.inv_covers.specs.model.Change as alters
+use Rattle.inv_covers.specs.model.Enqueue as enqueues
+use Rattle.inv_covers.specs.model.Dequeue as dequeues
+use Rattle.inv_covers.specs.model.Keep as keeps
+use Rattle.inv_covers.specs.model.Scan as scan
+use Rattle.inv_covers.specs.model.Steps as steps
+use Rattle.inv_covers.specs.model.Steps.{first_phase}
+use Rattle.inv_covers.specs.model.Calls.{ChangeKept, EnqueueKept, Task, Gets, Changes, Holds, Enqueues, Dequeues, Next, Again, Answering, Why, Opens, FollowsHead, Fills, ClearsNext, Clears, Finishes, GivesUp, Retires, Tidies, Advances, Releases, ScanAt, ReadGuard, GiveBack, GetAt, FindVersion, FindCount, FindKey, FindValue, ChangeAt, LoadVersion, LoadCount, LoadKey, LoadValue, ExchangeRoot, EnqueueAt, LoadNumber, LoadNext, PassTail, ExchangeNext, ExchangeTail, DequeueAt, LoadTail, SwingTail, TakeNumber, TakeValue, ExchangeHead, Work, Getting, Changing, Enqueuing, Dequeuing, Phase, Idle, Runs, Scans, Works, CallTurn, goes_on, KeepAt, Loosens, LoadHeld, StoreHeld, Looks, Misses, Keeping}
 use Rattle.inv_requests.specs.shapes.Frame.{phase_left}
-use Rattle.inv_rows.specs.Queue.{Line}
+use Rattle.inv_covers.specs.rows.Queue.{Line}
 use Rattle.inv_contents.proofs.Stands.Rounds.{why_free, is_free, Adds, clearing_adds, clearing_next_adds, closed_adds, scan_told, scan_adds, why_ends, ends_free, resume_adds, released_adds, each_first}
 use Rattle.inv_contents.specs.Reads.{value_under, Reads}
 use Rattle.inv_contents.proofs.QueueReads.Events.{mute_append, clear_mute}
 use Rattle.inv_contents.proofs.QueueReads.Told.{cleared_mute, base_mute}
 use Rattle.inv_contents.specs.Turns.{all_mute, change_hits, enqueue_hits, dequeue_hits, work_hits, NextRight, follow_right, ending_right, outcome_right, why_right, enqueue_right, dequeue_right, work_right, Turns, CallsBegin, CallsRead}
 use Rattle.inv_contents.proofs.Contents.Rounds.{task_plain}
-use Rattle.inv_rows.proofs.Quiet.{quiet_task}
-use Rattle.inv_rows.proofs.model.Facts.{value_there}
+use Rattle.inv_covers.proofs.rows.Quiet.{quiet_task}
+use Rattle.inv_covers.proofs.model.Facts.{value_there}
 
 abbrev pub why_bare : Why → Bool
 why_bare (Opens task) = true

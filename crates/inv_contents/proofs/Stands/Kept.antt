@@ -1,15 +1,15 @@
 -- What a call works on stands, from the start on and over every step.
 use Rattle.std.proofs.Common.{ℕ, refl, sym, subst}
-use Rattle.inv_rows.specs.words.declared.layout.Layout.{Layout}
-use Rattle.inv_rows.specs.defs.declared.call.Call.{Call}
-use Rattle.inv_rows.specs.model.declared.post.Post.{Post}
-use Rattle.inv_rows.specs.model.Desks.{Desk}
-use Rattle.inv_rows.specs.model.Posts.{counted}
-use Rattle.inv_rows.specs.model.Calls.{Phase, Idle, Runs, Scans, Works}
-use Rattle.inv_rows.specs.model.Steps.{phase_turn, first_phase}
-use Rattle.inv_rows.specs.model.Scan.{scan_turn}
-use Rattle.inv_rows.specs.model.Locals.{Local, begun_post, turn}
-use Rattle.inv_rows.specs.model.World.{begin, step, finds}
+use Rattle.inv_covers.specs.words.declared.layout.Layout.{Layout}
+use Rattle.inv_covers.specs.defs.declared.call.Call.{Call}
+use Rattle.inv_covers.specs.model.declared.post.Post.{Post}
+use Rattle.inv_covers.specs.model.Desks.{Desk}
+use Rattle.inv_covers.specs.model.Posts.{counted}
+use Rattle.inv_covers.specs.model.Calls.{Phase, Idle, Runs, Scans, Works}
+use Rattle.inv_covers.specs.model.Steps.{phase_turn, first_phase}
+use Rattle.inv_covers.specs.model.Scan.{scan_turn}
+use Rattle.inv_covers.specs.model.Locals.{Local, begun_post, turn}
+use Rattle.inv_covers.specs.model.World.{begin, step, finds}
 use Rattle.inv_requests.specs.shapes.Seats.{PostFits, PhaseFits}
 use Rattle.inv_requests.proofs.shapes.Frame.{seat_stays, seat_steps, begin_stays, begin_begins, settled_seated}
 use Rattle.inv_requests.proofs.shapes.Kept.{counted_fits, run_counted, one_moves}

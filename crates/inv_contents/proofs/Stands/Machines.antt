@@ -3,37 +3,37 @@ use Rattle.std.proofs.Common.{ℕ, ◌≡◌, ◌+◌, true, arith, refl, sym, a
 use Rattle.std.proofs.lemmas.Bool.Decides.{nat_tests}
 use Rattle.std.proofs.lemmas.List.{get_or-set_same}
 use Rattle.std.specs.Prelude.{◌==◌, ◌-◌, Option, Some, None}
-use Rattle.inv_rows.specs.words.Packed.{read_request}
-use Rattle.inv_rows.specs.words.declared.layout.Layout.{Layout}
-use Rattle.inv_rows.specs.defs.declared.event.Event.{Event}
-use Rattle.inv_rows.specs.defs.declared.event.Event.TheVariants as events
-use Rattle.inv_rows.specs.defs.declared.event.Root.{Root}
-use Rattle.inv_rows.specs.model.declared.ends.FollowEnd.{FollowEnd}
-use Rattle.inv_rows.specs.model.declared.ends.FollowEnd.TheVariants as follow_ends
-use Rattle.inv_rows.specs.model.declared.post.Post.{Post}
-use Rattle.inv_rows.specs.model.Allocate.{walking, walk_past, is_claimed, next_slot}
-use Rattle.inv_rows.specs.model.Desks.{Desk}
-use Rattle.inv_rows.specs.model.Links.{parent_of}
-use Rattle.inv_rows.specs.model.Memory.{bump}
-use Rattle.inv_rows.specs.model.Posts.{stands, with_row, upper, reserves_helper}
-use Rattle.inv_rows.specs.model.Protect.{held_post, told_held, concluded, protected, failed_once}
-use Rattle.inv_rows.specs.model.SlowPath.{answer_in, lost_turn, own_request}
-use Rattle.inv_rows.specs.model.WriteRow.{last_written}
-use Rattle.inv_rows.specs.model.Phases.{Aim, Follows, Walk, AllocateAt, ProtectAt, Base, Outcome, Goes, Ends, Turn, goes, ends, Ending}
-use Rattle.inv_rows.specs.model.Phases.ProtectAt.{LoadClock, PublishEra, LoadLink, CheckClock, PublishRequest, LoadOwnClock, PublishHelper, LoadOwnLink, CheckOwnClock, AnswerOwn, LoadAnswer, TakeAnswer, WithdrawRequest, WithdrawHelper, LoadWithin, CheckUpper, RaiseUpper}
-use Rattle.inv_rows.specs.model.Phases.AllocateAt.{LoadBirth, ClaimSlot, StoreLife}
-use Rattle.inv_rows.specs.model.Phases.Base.{Begin, Protect, Reload, Clear, Finish, Release, Allocate, Write, GiveUp, Retire, Move}
-use Rattle.inv_rows.specs.model.Phases.Ending.{Done, Protected, Followed, Allocated, Retired, Clocked}
-use Rattle.inv_rows.specs.model.Machine.{protect_turn, allocate_turn, after}
-use Rattle.inv_rows.specs.model.Steps.{resumed, run_turn}
-use Rattle.inv_rows.specs.model.Calls.{Task, Gets, Changes, Holds, Enqueues, Dequeues, Why, Opens, FollowsHead, Fills, ClearsNext, Clears, Finishes, GivesUp, Retires, Tidies, Advances, Releases, Runs}
+use Rattle.inv_covers.specs.words.Packed.{read_request}
+use Rattle.inv_covers.specs.words.declared.layout.Layout.{Layout}
+use Rattle.inv_covers.specs.defs.declared.event.Event.{Event}
+use Rattle.inv_covers.specs.defs.declared.event.Event.TheVariants as events
+use Rattle.inv_covers.specs.defs.declared.event.Root.{Root}
+use Rattle.inv_covers.specs.model.declared.ends.FollowEnd.{FollowEnd}
+use Rattle.inv_covers.specs.model.declared.ends.FollowEnd.TheVariants as follow_ends
+use Rattle.inv_covers.specs.model.declared.post.Post.{Post}
+use Rattle.inv_covers.specs.model.Allocate.{walking, walk_past, is_claimed, next_slot}
+use Rattle.inv_covers.specs.model.Desks.{Desk}
+use Rattle.inv_covers.specs.model.Links.{parent_of}
+use Rattle.inv_covers.specs.model.Memory.{bump}
+use Rattle.inv_covers.specs.model.Posts.{stands, with_row, upper, reserves_helper}
+use Rattle.inv_covers.specs.model.Protect.{held_post, told_held, concluded, protected, failed_once}
+use Rattle.inv_covers.specs.model.SlowPath.{answer_in, lost_turn, own_request}
+use Rattle.inv_covers.specs.model.WriteRow.{last_written}
+use Rattle.inv_covers.specs.model.Phases.{Aim, Follows, Walk, AllocateAt, ProtectAt, Base, Outcome, Goes, Ends, Turn, goes, ends, Ending}
+use Rattle.inv_covers.specs.model.Phases.ProtectAt.{LoadClock, PublishEra, LoadLink, CheckClock, PublishRequest, LoadOwnClock, PublishHelper, LoadOwnLink, CheckOwnClock, AnswerOwn, LoadAnswer, TakeAnswer, WithdrawRequest, WithdrawHelper, LoadWithin, CheckUpper, RaiseUpper}
+use Rattle.inv_covers.specs.model.Phases.AllocateAt.{LoadBirth, ClaimSlot, StoreLife}
+use Rattle.inv_covers.specs.model.Phases.Base.{Begin, Protect, Reload, Clear, Finish, Release, Allocate, Write, GiveUp, Retire, Move}
+use Rattle.inv_covers.specs.model.Phases.Ending.{Done, Protected, Followed, Allocated, Retired, Clocked}
+use Rattle.inv_covers.specs.model.Machine.{protect_turn, allocate_turn, after}
+use Rattle.inv_covers.specs.model.Steps.{resumed, run_turn}
+use Rattle.inv_covers.specs.model.Calls.{Task, Gets, Changes, Holds, Enqueues, Dequeues, Why, Opens, FollowsHead, Fills, ClearsNext, Clears, Finishes, GivesUp, Retires, Tidies, Advances, Releases, Runs}
 use Rattle.inv_requests.specs.shapes.Seats.{PostFits, Run, suits, ToFill}
 use Rattle.inv_requests.specs.Parents.{why_stands, OutcomeStands}
 use Rattle.inv_requests.proofs.Standings.{machine_stands}
 use Rattle.inv_contents.specs.Stands.{Stood}
 use Rattle.inv_contents.proofs.Stands.Rounds.{TurnStood, free_stood, adds_stood, why_ends, ends_free, resume_adds}
 use Rattle.inv_contents.proofs.Stands.Works.{opened_stood, ending_nexts, followed_by_stood, task_stays, filled_stood}
-use Rattle.inv_rows.proofs.model.Facts.{if_by}
+use Rattle.inv_covers.proofs.model.Facts.{if_by}
 
 -- a row that was followed stands at index 1
 

@@ -2,31 +2,31 @@
 use Rattle.std.proofs.Common.{ℕ, ◌≡◌, ◌+◌, ◌%◌, ◌&&◌, Bool, true, false, refl, ◌∙◌, sym, List, [], ◌∷◌, ◌++◌}
 use Rattle.std.proofs.lemmas.List.{append-nil, append_assoc}
 use Rattle.std.specs.Prelude.{◌==◌, nat_lt, Option, Some, None}
-use Rattle.inv_rows.specs.defs.declared.call.Answer.{Answer}
-use Rattle.inv_rows.specs.defs.declared.call.Call.{Call}
-use Rattle.inv_rows.specs.defs.declared.call.Call.TheVariants as names
-use Rattle.inv_rows.specs.defs.declared.event.Event.TheVariants as events
-use Rattle.inv_rows.specs.defs.declared.event.Event.{Event}
-use Rattle.inv_rows.specs.defs.declared.event.Guard.{Guard}
-use Rattle.inv_rows.specs.defs.declared.lifetime.Interval.{Interval}
-use Rattle.inv_rows.specs.defs.Shown.{shown}
-use Rattle.inv_rows.specs.words.declared.config.SchemeKind.{SchemeKind}
-use Rattle.inv_rows.specs.model.declared.post.Post.{Post}
-use Rattle.inv_rows.specs.model.Desks.{Desk, with_life}
-use Rattle.inv_rows.specs.model.Posts.{stands, cleared}
-use Rattle.inv_rows.specs.model.Phases.{Base, Ending}
-use Rattle.inv_rows.specs.model.Phases.Ending.{Done, Protected, Followed, Allocated, Retired, Clocked}
-use Rattle.inv_rows.specs.model.Guards as the_guards
-use Rattle.inv_rows.specs.model.Rounds.{scheme_of, taken_of, round, round_by, begin_base, finish_base, clear_base, clear_post, clear_told, index_of, closed, given_up, finishing, finishing_by, clearing, clearing_by, clearing_next, clearing_next_by, let_index, letting_by, letting, release_base}
-use Rattle.inv_rows.specs.model.Keep as keeps
-use Rattle.inv_rows.specs.model.Scan as scan
-use Rattle.inv_rows.specs.model.Steps as steps
-use Rattle.inv_rows.specs.model.Calls.{Task, Gets, Changes, Holds, Enqueues, Dequeues, Next, Again, MakeRoom, Answering, Retiring, AfterScan, Answered, Repeated, Counted, Why, Opens, FollowsHead, Fills, ClearsNext, Clears, Finishes, GivesUp, Retires, Tidies, Advances, Releases, ScanAt, ReadGuard, GiveBack, Phase, Idle, Runs, Scans, Works, CallTurn, LetGo, Released, Rehold, Dropped, KeepAt, Looks, FindVersion, Work, Keeping}
+use Rattle.inv_covers.specs.defs.declared.call.Answer.{Answer}
+use Rattle.inv_covers.specs.defs.declared.call.Call.{Call}
+use Rattle.inv_covers.specs.defs.declared.call.Call.TheVariants as names
+use Rattle.inv_covers.specs.defs.declared.event.Event.TheVariants as events
+use Rattle.inv_covers.specs.defs.declared.event.Event.{Event}
+use Rattle.inv_covers.specs.defs.declared.event.Guard.{Guard}
+use Rattle.inv_covers.specs.defs.declared.lifetime.Interval.{Interval}
+use Rattle.inv_covers.specs.defs.Shown.{shown}
+use Rattle.inv_covers.specs.words.declared.config.SchemeKind.{SchemeKind}
+use Rattle.inv_covers.specs.model.declared.post.Post.{Post}
+use Rattle.inv_covers.specs.model.Desks.{Desk, with_life}
+use Rattle.inv_covers.specs.model.Posts.{stands, cleared}
+use Rattle.inv_covers.specs.model.Phases.{Base, Ending}
+use Rattle.inv_covers.specs.model.Phases.Ending.{Done, Protected, Followed, Allocated, Retired, Clocked}
+use Rattle.inv_covers.specs.model.Guards as the_guards
+use Rattle.inv_covers.specs.model.Rounds.{scheme_of, taken_of, round, round_by, begin_base, finish_base, clear_base, clear_post, clear_told, index_of, closed, given_up, finishing, finishing_by, clearing, clearing_by, clearing_next, clearing_next_by, let_index, letting_by, letting, release_base}
+use Rattle.inv_covers.specs.model.Keep as keeps
+use Rattle.inv_covers.specs.model.Scan as scan
+use Rattle.inv_covers.specs.model.Steps as steps
+use Rattle.inv_covers.specs.model.Calls.{Task, Gets, Changes, Holds, Enqueues, Dequeues, Next, Again, MakeRoom, Answering, Retiring, AfterScan, Answered, Repeated, Counted, Why, Opens, FollowsHead, Fills, ClearsNext, Clears, Finishes, GivesUp, Retires, Tidies, Advances, Releases, ScanAt, ReadGuard, GiveBack, Phase, Idle, Runs, Scans, Works, CallTurn, LetGo, Released, Rehold, Dropped, KeepAt, Looks, FindVersion, Work, Keeping}
 use Rattle.inv_requests.specs.shapes.Frame.{phase_left}
 use Rattle.inv_contents.specs.Stands.{Stood}
 use Rattle.inv_contents.proofs.Contents.Rounds.{task_plain}
-use Rattle.inv_rows.proofs.model.Facts.{first_of, rest_of, both}
-use Rattle.inv_rows.proofs.model.Schemes.{each_clear_told}
+use Rattle.inv_covers.proofs.model.Facts.{first_of, rest_of, both}
+use Rattle.inv_covers.proofs.model.Schemes.{each_clear_told}
 
 abbrev pub why_free : Why → Bool
 why_free (Opens task) = true

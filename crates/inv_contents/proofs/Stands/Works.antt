@@ -2,31 +2,31 @@
 use Rattle.std.proofs.Common.{ℕ, ◌≡◌, ◌+◌, Bool, true, false, arith, refl, ap, ◌∙◌, List, [], ◌∷◌, ◌++◌, length}
 use Rattle.std.proofs.lemmas.Bool.Decides.{nat_tests}
 use Rattle.std.specs.Prelude.{◌==◌, ◌-◌, nat_lt, Option, Some, None}
-use Rattle.inv_rows.specs.defs.declared.call.Answer.{Answer}
-use Rattle.inv_rows.specs.defs.declared.call.Answer.TheVariants as the_answers
-use Rattle.inv_rows.specs.defs.declared.call.ClockMove.TheVariants as moves
-use Rattle.inv_rows.specs.defs.declared.event.Event.{Event}
-use Rattle.inv_rows.specs.defs.declared.event.Event.TheVariants as events
-use Rattle.inv_rows.specs.defs.declared.event.Root.TheVariants as root_names
-use Rattle.inv_rows.specs.model.declared.ends.AllocateEnd.{AllocateEnd}
-use Rattle.inv_rows.specs.model.declared.ends.AllocateEnd.TheVariants as allocate_ends
-use Rattle.inv_rows.specs.model.declared.ends.FollowEnd.{FollowEnd}
-use Rattle.inv_rows.specs.model.declared.ends.FollowEnd.TheVariants as follow_ends
-use Rattle.inv_rows.specs.model.declared.ends.ProtectEnd.TheVariants as protect_ends
-use Rattle.inv_rows.specs.model.declared.post.Post.{Post}
-use Rattle.inv_rows.specs.model.Desks.{Desk}
-use Rattle.inv_rows.specs.words.Schemes.{has_one_interval}
-use Rattle.inv_rows.specs.model.Posts.{cleared, reserves_index, stands, withdrawn}
-use Rattle.inv_rows.specs.model.Phases.{Ending}
-use Rattle.inv_rows.specs.model.Phases.Ending.{Done, Protected, Followed, Allocated, Retired, Clocked}
-use Rattle.inv_rows.specs.model.Rounds.{bucket_of, index_of, let_index, scheme_of, clearing, clearing_next, closed}
-use Rattle.inv_rows.specs.model.Get as gets
-use Rattle.inv_rows.specs.model.Change as alters
-use Rattle.inv_rows.specs.model.Enqueue as enqueues
-use Rattle.inv_rows.specs.model.Dequeue as dequeues
-use Rattle.inv_rows.specs.model.Keep as keeps
-use Rattle.inv_rows.specs.model.Steps as steps
-use Rattle.inv_rows.specs.model.Calls.{ChangeKept, EnqueueKept, Task, Gets, Changes, Holds, Enqueues, Dequeues, Next, Again, Answering, Retiring, GetAt, FindVersion, FindCount, FindKey, FindValue, ChangeAt, LoadVersion, LoadCount, LoadKey, LoadValue, ExchangeRoot, EnqueueAt, LoadNumber, LoadNext, PassTail, ExchangeNext, ExchangeTail, DequeueAt, LoadTail, SwingTail, TakeNumber, TakeValue, ExchangeHead, Work, Getting, Changing, Enqueuing, Dequeuing, Works, KeepAt, Loosens, LoadHeld, StoreHeld, Looks, Misses, Keeping, Idle}
+use Rattle.inv_covers.specs.defs.declared.call.Answer.{Answer}
+use Rattle.inv_covers.specs.defs.declared.call.Answer.TheVariants as the_answers
+use Rattle.inv_covers.specs.defs.declared.call.ClockMove.TheVariants as moves
+use Rattle.inv_covers.specs.defs.declared.event.Event.{Event}
+use Rattle.inv_covers.specs.defs.declared.event.Event.TheVariants as events
+use Rattle.inv_covers.specs.defs.declared.event.Root.TheVariants as root_names
+use Rattle.inv_covers.specs.model.declared.ends.AllocateEnd.{AllocateEnd}
+use Rattle.inv_covers.specs.model.declared.ends.AllocateEnd.TheVariants as allocate_ends
+use Rattle.inv_covers.specs.model.declared.ends.FollowEnd.{FollowEnd}
+use Rattle.inv_covers.specs.model.declared.ends.FollowEnd.TheVariants as follow_ends
+use Rattle.inv_covers.specs.model.declared.ends.ProtectEnd.TheVariants as protect_ends
+use Rattle.inv_covers.specs.model.declared.post.Post.{Post}
+use Rattle.inv_covers.specs.model.Desks.{Desk}
+use Rattle.inv_covers.specs.words.Schemes.{has_one_interval}
+use Rattle.inv_covers.specs.model.Posts.{cleared, reserves_index, stands, withdrawn}
+use Rattle.inv_covers.specs.model.Phases.{Ending}
+use Rattle.inv_covers.specs.model.Phases.Ending.{Done, Protected, Followed, Allocated, Retired, Clocked}
+use Rattle.inv_covers.specs.model.Rounds.{bucket_of, index_of, let_index, scheme_of, clearing, clearing_next, closed}
+use Rattle.inv_covers.specs.model.Get as gets
+use Rattle.inv_covers.specs.model.Change as alters
+use Rattle.inv_covers.specs.model.Enqueue as enqueues
+use Rattle.inv_covers.specs.model.Dequeue as dequeues
+use Rattle.inv_covers.specs.model.Keep as keeps
+use Rattle.inv_covers.specs.model.Steps as steps
+use Rattle.inv_covers.specs.model.Calls.{ChangeKept, EnqueueKept, Task, Gets, Changes, Holds, Enqueues, Dequeues, Next, Again, Answering, Retiring, GetAt, FindVersion, FindCount, FindKey, FindValue, ChangeAt, LoadVersion, LoadCount, LoadKey, LoadValue, ExchangeRoot, EnqueueAt, LoadNumber, LoadNext, PassTail, ExchangeNext, ExchangeTail, DequeueAt, LoadTail, SwingTail, TakeNumber, TakeValue, ExchangeHead, Work, Getting, Changing, Enqueuing, Dequeuing, Works, KeepAt, Loosens, LoadHeld, StoreHeld, Looks, Misses, Keeping, Idle}
 use Rattle.inv_requests.specs.Parents.{ended}
 use Rattle.inv_contents.specs.Stands.{Stood}
 use Rattle.inv_contents.proofs.Stands.Rounds.{TurnStood, free_stood, adds_stood, clearing_adds, clearing_next_adds, closed_adds, released_adds}

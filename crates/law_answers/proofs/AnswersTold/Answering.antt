@@ -2,22 +2,22 @@
 use Rattle.std.proofs.Common.{ℕ, ◌≡◌, ◌<◌, ◌%◌, Bool, true, false, List, [], ◌∷◌, ◌++◌, Option, Some, None, refl, sym, ap, ◌∙◌, subst, arith}
 use Rattle.std.proofs.lemmas.Bool.Decides.{nat_tests}
 use Rattle.std.specs.Prelude.{◌==◌, ◌&&◌}
-use Rattle.wfe_core.specs.words.Place.{is_valid}
-use Rattle.wfe_core.specs.words.declared.layout.Layout.{Layout}
-use Rattle.wfe_core.specs.defs.declared.call.Answer.{Answer}
-use Rattle.wfe_core.specs.defs.declared.call.Answer.TheVariants as the_answers
-use Rattle.wfe_core.specs.defs.declared.call.Call.{Call}
-use Rattle.wfe_core.specs.defs.declared.call.Call.TheVariants as names
-use Rattle.wfe_core.specs.defs.declared.event.Event.{Event}
-use Rattle.wfe_core.specs.defs.declared.event.Event.TheVariants as events
-use Rattle.wfe_core.specs.declared.post.Post.{Post}
-use Rattle.wfe_core.specs.Desks.{Desk, noting}
-use Rattle.wfe_core.specs.Locals.{Local, begun_post, busy_in, may_begin, settled_by, turn, told_by, told_end, rounds_told}
-use Rattle.wfe_core.specs.Posts.{counted}
-use Rattle.wfe_core.specs.Steps.{first_phase}
-use Rattle.wfe_core.specs.Calls.{CallTurn, CallOutcome, GoesOn, Answers}
-use Rattle.wfe_core.specs.World.{World, begin, step, finds, is_busy, told_in}
-use Rattle.wfe_core.proofs.Facts.{both, first_of, rest_of, same_number}
+use Rattle.inv_all.specs.model.words.Place.{is_valid}
+use Rattle.inv_all.specs.model.words.declared.layout.Layout.{Layout}
+use Rattle.inv_all.specs.model.defs.declared.call.Answer.{Answer}
+use Rattle.inv_all.specs.model.defs.declared.call.Answer.TheVariants as the_answers
+use Rattle.inv_all.specs.model.defs.declared.call.Call.{Call}
+use Rattle.inv_all.specs.model.defs.declared.call.Call.TheVariants as names
+use Rattle.inv_all.specs.model.defs.declared.event.Event.{Event}
+use Rattle.inv_all.specs.model.defs.declared.event.Event.TheVariants as events
+use Rattle.inv_all.specs.model.declared.post.Post.{Post}
+use Rattle.inv_all.specs.model.Desks.{Desk, noting}
+use Rattle.inv_all.specs.model.Locals.{Local, begun_post, busy_in, may_begin, settled_by, turn, told_by, told_end, rounds_told}
+use Rattle.inv_all.specs.model.Posts.{counted}
+use Rattle.inv_all.specs.model.Steps.{first_phase}
+use Rattle.inv_all.specs.model.Calls.{CallTurn, CallOutcome, GoesOn, Answers}
+use Rattle.inv_all.specs.model.World.{World, begin, step, finds, is_busy, told_in}
+use Rattle.inv_all.proofs.model.Facts.{both, first_of, rest_of, same_number}
 use Rattle.inv_all.proofs.shapes.Frame.{seat_stays, seat_steps, begin_stays, begin_begins}
 use Rattle.laws.specs.StateAt.{same_value, began_by, began_of, with_told, told_of}
 use Rattle.inv_all.specs.history.Record.{Past, Each, tells_of}

@@ -1,17 +1,17 @@
 -- Where the clock is moved alone, its machine goes on as a move, or ends with an outcome of the move.
 use Rattle.std.proofs.Common.{ℕ, ◌≡◌, Bool, true, false, refl}
 use Rattle.std.specs.Prelude.{◌==◌, if◌then◌else◌}
-use Rattle.wfe_core.specs.words.Packed.{reservation_word, read_reservation}
-use Rattle.wfe_core.specs.declared.post.Post.{Post}
-use Rattle.wfe_core.specs.Machine as machine
-use Rattle.wfe_core.specs.MoveClock as movers
-use Rattle.wfe_core.specs.SlowPath.{asking}
-use Rattle.wfe_core.specs.Posts.{counted}
-use Rattle.wfe_core.specs.Phases.{MoveAt, Turn, Base}
-use Rattle.wfe_core.specs.Phases.MoveAt.{LoadEra, CheckEra, AnswerAsked, LoadReserved, HandOver, ExchangeClock}
-use Rattle.wfe_core.specs.Phases.Base.{Move}
-use Rattle.wfe_core.specs.Calls.{Why, Advances, Phase, Idle, Runs, Scans, Works}
-use Rattle.wfe_core.specs.World.{World, finds}
+use Rattle.inv_all.specs.model.words.Packed.{reservation_word, read_reservation}
+use Rattle.inv_all.specs.model.declared.post.Post.{Post}
+use Rattle.inv_all.specs.model.Machine as machine
+use Rattle.inv_all.specs.model.MoveClock as movers
+use Rattle.inv_all.specs.model.SlowPath.{asking}
+use Rattle.inv_all.specs.model.Posts.{counted}
+use Rattle.inv_all.specs.model.Phases.{MoveAt, Turn, Base}
+use Rattle.inv_all.specs.model.Phases.MoveAt.{LoadEra, CheckEra, AnswerAsked, LoadReserved, HandOver, ExchangeClock}
+use Rattle.inv_all.specs.model.Phases.Base.{Move}
+use Rattle.inv_all.specs.model.Calls.{Why, Advances, Phase, Idle, Runs, Scans, Works}
+use Rattle.inv_all.specs.model.World.{World, finds}
 use Rattle.inv_all.specs.shapes.Seats.{ToMove, suits, Seats, Run}
 use Rattle.law_answers.proofs.AnswersTold.Owed.{out_clocked, EndsFor}
 use Rattle.law_answers.proofs.AnswersTold.Owing.{PhaseEnds}

@@ -1,20 +1,20 @@
 -- What a call has told of the map, of the queue and of copies where it stands, and the answers that suit it.
 use Rattle.std.proofs.Common.{ℕ, ◌≡◌, ◌+◌, Bool, true, false, List, [], ◌∷◌, ◌++◌, Option, Some, None, refl, ap, ◌∙◌}
 use Rattle.std.specs.Prelude.{if◌then◌else◌, is_none}
-use Rattle.wfe_core.specs.defs.declared.call.Answer.{Answer}
-use Rattle.wfe_core.specs.defs.declared.call.Answer.TheVariants as the_answers
-use Rattle.wfe_core.specs.defs.declared.call.Call.{Call}
-use Rattle.wfe_core.specs.defs.declared.call.Call.TheVariants as names
-use Rattle.wfe_core.specs.defs.declared.call.ClockMove.{ClockMove}
-use Rattle.wfe_core.specs.defs.declared.event.Event.{Event}
-use Rattle.wfe_core.specs.defs.declared.event.Event.TheVariants as events
-use Rattle.wfe_core.specs.defs.declared.fold.Change.{Change}
-use Rattle.wfe_core.specs.defs.declared.fold.Change.TheVariants as changes
-use Rattle.wfe_core.specs.Rounds.{with_clock}
-use Rattle.wfe_core.specs.Phases.{Ending, Outcome, Goes, Ends}
-use Rattle.wfe_core.specs.Phases.Ending.{Clocked}
-use Rattle.wfe_core.specs.Calls.{Task, Gets, Changes, Holds, Enqueues, Dequeues, Next, Again, MakeRoom, Answering, Retiring, AfterScan, Answered, Repeated, Counted, EnqueueKept, EnqueueAt, LoadNumber, LoadNext, PassTail, ExchangeNext, ExchangeTail, Work, Getting, Changing, Enqueuing, Dequeuing, Keeping, KeepAt, Loosens, LoadHeld, StoreHeld, Looks, Misses, LetGo, Released, Rehold, Dropped, Why, Opens, FollowsHead, Fills, ClearsNext, Clears, Finishes, GivesUp, Retires, Tidies, Advances, Releases, Phase, Idle, Runs, Scans, Works, CallTurn, CallOutcome, GoesOn, Answers}
-use Rattle.wfe_core.proofs.Facts.{first_of, rest_of}
+use Rattle.inv_all.specs.model.defs.declared.call.Answer.{Answer}
+use Rattle.inv_all.specs.model.defs.declared.call.Answer.TheVariants as the_answers
+use Rattle.inv_all.specs.model.defs.declared.call.Call.{Call}
+use Rattle.inv_all.specs.model.defs.declared.call.Call.TheVariants as names
+use Rattle.inv_all.specs.model.defs.declared.call.ClockMove.{ClockMove}
+use Rattle.inv_all.specs.model.defs.declared.event.Event.{Event}
+use Rattle.inv_all.specs.model.defs.declared.event.Event.TheVariants as events
+use Rattle.inv_all.specs.model.defs.declared.fold.Change.{Change}
+use Rattle.inv_all.specs.model.defs.declared.fold.Change.TheVariants as changes
+use Rattle.inv_all.specs.model.Rounds.{with_clock}
+use Rattle.inv_all.specs.model.Phases.{Ending, Outcome, Goes, Ends}
+use Rattle.inv_all.specs.model.Phases.Ending.{Clocked}
+use Rattle.inv_all.specs.model.Calls.{Task, Gets, Changes, Holds, Enqueues, Dequeues, Next, Again, MakeRoom, Answering, Retiring, AfterScan, Answered, Repeated, Counted, EnqueueKept, EnqueueAt, LoadNumber, LoadNext, PassTail, ExchangeNext, ExchangeTail, Work, Getting, Changing, Enqueuing, Dequeuing, Keeping, KeepAt, Loosens, LoadHeld, StoreHeld, Looks, Misses, LetGo, Released, Rehold, Dropped, Why, Opens, FollowsHead, Fills, ClearsNext, Clears, Finishes, GivesUp, Retires, Tidies, Advances, Releases, Phase, Idle, Runs, Scans, Works, CallTurn, CallOutcome, GoesOn, Answers}
+use Rattle.inv_all.proofs.model.Facts.{first_of, rest_of}
 use Rattle.laws.specs.AnswerLaw.{suits}
 use Rattle.laws.specs.HistoryAnswers.{owes}
 use Rattle.inv_all.proofs.history.AllOf.{all_of, of_along, of_weaker}

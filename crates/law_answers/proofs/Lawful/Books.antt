@@ -1,6 +1,6 @@
 -- The book has of the map and of the queue what the record says.
 use Rattle.std.proofs.Common.{refl}
-use Rattle.wfe_core.specs.World.{told_in}
+use Rattle.inv_all.specs.model.World.{told_in}
 use Rattle.inv_all.specs.history.History.{Made, first_made}
 use Rattle.inv_all.proofs.history.Along.{Steady, items_keep}
 use Rattle.law_answers.proofs.Lawful.Maps.{told_changes}

@@ -2,20 +2,20 @@
 use Rattle.std.proofs.Common.{ℕ, ◌≡◌, ◌≤◌, ◌<◌, ◌+◌, ◌*◌, Bool, true, false, List, refl, sym, subst, arith}
 use Rattle.std.proofs.lemmas.Bool.Decides.{nat_tests}
 use Rattle.std.specs.Prelude.{◌==◌, nat_le, if◌then◌else◌}
-use Rattle.wfe_core.specs.words.declared.layout.Layout.{Layout}
-use Rattle.wfe_core.specs.defs.declared.event.Event.{Event}
-use Rattle.wfe_core.specs.defs.declared.event.Event.TheVariants as events
-use Rattle.wfe_core.specs.defs.declared.event.Root.{Root}
-use Rattle.wfe_core.specs.declared.post.Post.{Post}
-use Rattle.wfe_core.specs.Memory.{bump}
-use Rattle.wfe_core.specs.Posts.{counted}
-use Rattle.wfe_core.specs.Phases.{Aim, ProtectAt, Base}
-use Rattle.wfe_core.specs.Phases.ProtectAt.{CheckClock, TakeAnswer, CheckUpper}
-use Rattle.wfe_core.specs.Phases.Base.{Protect, Reload}
-use Rattle.wfe_core.specs.Calls.{Why, FollowsHead, ScanAt, ReadGuard, GiveBack, Phase, Idle, Runs, Scans, Works}
-use Rattle.wfe_core.specs.World.{World, finds, told_in}
-use Rattle.wfe_core.proofs.Facts.{first_of, rest_of, number_is}
-use Rattle.wfe_core.specs.words.Schemes.{is_wfe}
+use Rattle.inv_all.specs.model.words.declared.layout.Layout.{Layout}
+use Rattle.inv_all.specs.model.defs.declared.event.Event.{Event}
+use Rattle.inv_all.specs.model.defs.declared.event.Event.TheVariants as events
+use Rattle.inv_all.specs.model.defs.declared.event.Root.{Root}
+use Rattle.inv_all.specs.model.declared.post.Post.{Post}
+use Rattle.inv_all.specs.model.Memory.{bump}
+use Rattle.inv_all.specs.model.Posts.{counted}
+use Rattle.inv_all.specs.model.Phases.{Aim, ProtectAt, Base}
+use Rattle.inv_all.specs.model.Phases.ProtectAt.{CheckClock, TakeAnswer, CheckUpper}
+use Rattle.inv_all.specs.model.Phases.Base.{Protect, Reload}
+use Rattle.inv_all.specs.model.Calls.{Why, FollowsHead, ScanAt, ReadGuard, GiveBack, Phase, Idle, Runs, Scans, Works}
+use Rattle.inv_all.specs.model.World.{World, finds, told_in}
+use Rattle.inv_all.proofs.model.Facts.{first_of, rest_of, number_is}
+use Rattle.inv_all.specs.model.words.Schemes.{is_wfe}
 use Rattle.inv_all.specs.shapes.Seats.{protect_fits, kind_of, reloads, index_by, Run}
 use Rattle.inv_all.specs.requests.Paces.{InTime}
 use Rattle.inv_all.specs.Inv.{Inv}

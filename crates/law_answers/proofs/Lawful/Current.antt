@@ -2,34 +2,34 @@
 use Rattle.std.proofs.Common.{ℕ, None, ◌≡◌, ◌≤◌, ◌<◌, ◌+◌, ◌-◌, ◌%◌, Bool, true, false, List, [], ◌∷◌, ◌++◌, length, refl, sym, ap, ◌∙◌, subst, arith, length-append}
 use Rattle.std.proofs.lemmas.Bool.Decides.{nat_tests}
 use Rattle.std.specs.Prelude.{◌==◌, nat_le, if◌then◌else◌}
-use Rattle.wfe_core.specs.words.Place.{Place}
-use Rattle.wfe_core.specs.words.Place.Place.{Clock, Bucket}
-use Rattle.wfe_core.specs.words.declared.layout.Layout.{Layout}
-use Rattle.wfe_core.specs.defs.declared.call.Call.{Call}
-use Rattle.wfe_core.specs.defs.declared.event.Event.{Event}
-use Rattle.wfe_core.specs.defs.declared.event.Event.TheVariants as events
-use Rattle.wfe_core.specs.defs.declared.event.Root.{Root}
-use Rattle.wfe_core.specs.defs.declared.event.Root.TheVariants as roots
-use Rattle.wfe_core.specs.defs.declared.fold.Change.{Change}
-use Rattle.wfe_core.specs.defs.declared.fold.Change.TheVariants as the_changes
-use Rattle.wfe_core.specs.declared.ends.ProtectEnd.TheVariants as protect_ends
-use Rattle.wfe_core.specs.declared.post.Post.{Post}
-use Rattle.wfe_core.specs.Book.{Book, booked, booked_all}
-use Rattle.wfe_core.specs.Change as alters
-use Rattle.wfe_core.specs.Enqueue as enqueues
-use Rattle.wfe_core.specs.Desks.{Desk}
-use Rattle.wfe_core.specs.Links.{link_place}
-use Rattle.wfe_core.specs.Locals.{Local, begun_post, turn, told_by, told_end}
-use Rattle.wfe_core.specs.Machine as machine
-use Rattle.wfe_core.specs.Posts.{counted, upper}
-use Rattle.wfe_core.specs.Rounds.{key_of}
-use Rattle.wfe_core.specs.Steps.{first_phase, phase_turn}
-use Rattle.wfe_core.specs.Phases.{Base, Ends, Protected}
-use Rattle.wfe_core.specs.Phases.Base.{Begin, Protect, Reload, Clear, Finish, Release, Allocate, Write, GiveUp, Retire, Move}
-use Rattle.wfe_core.specs.Calls.{Again, Changes, Enqueues, Gets, Opens, Why, LoadVersion, LoadCount, LoadKey, LoadValue, ExchangeRoot, LoadNumber, LoadNext, PassTail, ExchangeNext, ExchangeTail, Getting, Changing, Enqueuing, Dequeuing, Keeping, Phase, Idle, Runs, Scans, Works, CallTurn}
-use Rattle.wfe_core.specs.World.{World, start, begin, step, is_busy, finds, told_in}
+use Rattle.inv_all.specs.model.words.Place.{Place}
+use Rattle.inv_all.specs.model.words.Place.Place.{Clock, Bucket}
+use Rattle.inv_all.specs.model.words.declared.layout.Layout.{Layout}
+use Rattle.inv_all.specs.model.defs.declared.call.Call.{Call}
+use Rattle.inv_all.specs.model.defs.declared.event.Event.{Event}
+use Rattle.inv_all.specs.model.defs.declared.event.Event.TheVariants as events
+use Rattle.inv_all.specs.model.defs.declared.event.Root.{Root}
+use Rattle.inv_all.specs.model.defs.declared.event.Root.TheVariants as roots
+use Rattle.inv_all.specs.model.defs.declared.fold.Change.{Change}
+use Rattle.inv_all.specs.model.defs.declared.fold.Change.TheVariants as the_changes
+use Rattle.inv_all.specs.model.declared.ends.ProtectEnd.TheVariants as protect_ends
+use Rattle.inv_all.specs.model.declared.post.Post.{Post}
+use Rattle.inv_all.specs.model.Book.{Book, booked, booked_all}
+use Rattle.inv_all.specs.model.Change as alters
+use Rattle.inv_all.specs.model.Enqueue as enqueues
+use Rattle.inv_all.specs.model.Desks.{Desk}
+use Rattle.inv_all.specs.model.Links.{link_place}
+use Rattle.inv_all.specs.model.Locals.{Local, begun_post, turn, told_by, told_end}
+use Rattle.inv_all.specs.model.Machine as machine
+use Rattle.inv_all.specs.model.Posts.{counted, upper}
+use Rattle.inv_all.specs.model.Rounds.{key_of}
+use Rattle.inv_all.specs.model.Steps.{first_phase, phase_turn}
+use Rattle.inv_all.specs.model.Phases.{Base, Ends, Protected}
+use Rattle.inv_all.specs.model.Phases.Base.{Begin, Protect, Reload, Clear, Finish, Release, Allocate, Write, GiveUp, Retire, Move}
+use Rattle.inv_all.specs.model.Calls.{Again, Changes, Enqueues, Gets, Opens, Why, LoadVersion, LoadCount, LoadKey, LoadValue, ExchangeRoot, LoadNumber, LoadNext, PassTail, ExchangeNext, ExchangeTail, Getting, Changing, Enqueuing, Dequeuing, Keeping, Phase, Idle, Runs, Scans, Works, CallTurn}
+use Rattle.inv_all.specs.model.World.{World, start, begin, step, is_busy, finds, told_in}
 use Rattle.inv_all.specs.shapes.Frame.{phase_left}
-use Rattle.wfe_core.specs.words.Schemes.{is_wfe}
+use Rattle.inv_all.specs.model.words.Schemes.{is_wfe}
 use Rattle.inv_all.specs.shapes.Seats.{root_by}
 use Rattle.inv_all.specs.requests.Deals.{is_quiet}
 use Rattle.inv_all.specs.requests.NextDeals.{next_deals}
@@ -66,7 +66,7 @@ use Rattle.inv_all.proofs.Inv.Whole.{contents_need, links_show, links_stay, orig
 use Rattle.inv_all.proofs.shapes.Frame.{seat_stays, begin_stays, begin_begins}
 use Rattle.law_answers.proofs.Lawful.Versions.{version_stays}
 use Rattle.inv_all.proofs.covers.Held.{stepped_phase}
-use Rattle.wfe_core.proofs.Facts.{true_not_false}
+use Rattle.inv_all.proofs.model.Facts.{true_not_false}
 
 -- a row of a bucket counts only if its version is no lower than what the bucket had before
 abbrev pub since : (ℕ → ℕ) → Root → ℕ → Root

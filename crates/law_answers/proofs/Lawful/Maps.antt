@@ -2,20 +2,20 @@
 use Rattle.std.proofs.Common.{ℕ, ◌≡◌, ◌≤◌, ◌<◌, ◌+◌, ◌%◌, Bool, true, false, List, [], ◌∷◌, ◌++◌, length, take, Option, refl, sym, ap, ◌∙◌, subst, arith}
 use Rattle.std.proofs.lemmas.Bool.Decides.{nat_tests}
 use Rattle.std.specs.Prelude.{◌==◌, ◌&&◌, nat_le, if◌then◌else◌}
-use Rattle.wfe_core.specs.words.Place.{is_valid}
-use Rattle.wfe_core.specs.words.declared.layout.Layout.{Layout}
-use Rattle.wfe_core.specs.defs.Pairs.{pairs_after, value_in}
-use Rattle.wfe_core.specs.defs.declared.call.Call.{Call}
-use Rattle.wfe_core.specs.defs.declared.event.Event.{Event}
-use Rattle.wfe_core.specs.defs.declared.event.Event.TheVariants as events
-use Rattle.wfe_core.specs.defs.declared.event.Root.TheVariants as roots
-use Rattle.wfe_core.specs.defs.declared.fold.Change.{Change}
-use Rattle.wfe_core.specs.defs.declared.fold.Change.TheVariants as the_changes
-use Rattle.wfe_core.specs.Book.{Book, booked, booked_all}
-use Rattle.wfe_core.specs.Posts.{counted}
-use Rattle.wfe_core.specs.Locals.{may_begin}
-use Rattle.wfe_core.specs.World.{World, start, begin, step, finds, is_busy, told_in}
-use Rattle.wfe_core.proofs.Facts.{both, first_of, rest_of}
+use Rattle.inv_all.specs.model.words.Place.{is_valid}
+use Rattle.inv_all.specs.model.words.declared.layout.Layout.{Layout}
+use Rattle.inv_all.specs.model.defs.Pairs.{pairs_after, value_in}
+use Rattle.inv_all.specs.model.defs.declared.call.Call.{Call}
+use Rattle.inv_all.specs.model.defs.declared.event.Event.{Event}
+use Rattle.inv_all.specs.model.defs.declared.event.Event.TheVariants as events
+use Rattle.inv_all.specs.model.defs.declared.event.Root.TheVariants as roots
+use Rattle.inv_all.specs.model.defs.declared.fold.Change.{Change}
+use Rattle.inv_all.specs.model.defs.declared.fold.Change.TheVariants as the_changes
+use Rattle.inv_all.specs.model.Book.{Book, booked, booked_all}
+use Rattle.inv_all.specs.model.Posts.{counted}
+use Rattle.inv_all.specs.model.Locals.{may_begin}
+use Rattle.inv_all.specs.model.World.{World, start, begin, step, finds, is_busy, told_in}
+use Rattle.inv_all.proofs.model.Facts.{both, first_of, rest_of}
 use Rattle.inv_all.specs.requests.Views.{Deal, View as Asked}
 use Rattle.inv_all.proofs.requests.Kept.{requests_start, requests_begin}
 use Rattle.inv_all.specs.rows.Agree.{first_rows, rows_after}

@@ -2,15 +2,15 @@
 use Rattle.std.proofs.Common.{ℕ, ◌≡◌, ◌≤◌, ◌<◌, ◌+◌, ◌-◌, Bool, true, false, List, [], ◌∷◌, ◌++◌, length, refl, sym, ap, ◌∙◌, subst, arith}
 use Rattle.std.proofs.lemmas.Bool.Decides.{nat_tests}
 use Rattle.std.specs.Prelude.{◌==◌, ◌&&◌, nat_le, slice_index_or, if◌then◌else◌}
-use Rattle.wfe_core.specs.defs.declared.call.Call.{Call}
-use Rattle.wfe_core.specs.defs.declared.event.Event.{Event}
-use Rattle.wfe_core.specs.defs.declared.event.Event.TheVariants as events
-use Rattle.wfe_core.specs.defs.declared.event.Root.TheVariants as roots
-use Rattle.wfe_core.specs.Book.{Book, booked, booked_all}
-use Rattle.wfe_core.specs.Posts.{counted}
-use Rattle.wfe_core.specs.Locals.{may_begin}
-use Rattle.wfe_core.specs.World.{finds, is_busy, told_in}
-use Rattle.wfe_core.proofs.Facts.{both, first_of, rest_of}
+use Rattle.inv_all.specs.model.defs.declared.call.Call.{Call}
+use Rattle.inv_all.specs.model.defs.declared.event.Event.{Event}
+use Rattle.inv_all.specs.model.defs.declared.event.Event.TheVariants as events
+use Rattle.inv_all.specs.model.defs.declared.event.Root.TheVariants as roots
+use Rattle.inv_all.specs.model.Book.{Book, booked, booked_all}
+use Rattle.inv_all.specs.model.Posts.{counted}
+use Rattle.inv_all.specs.model.Locals.{may_begin}
+use Rattle.inv_all.specs.model.World.{finds, is_busy, told_in}
+use Rattle.inv_all.proofs.model.Facts.{both, first_of, rest_of}
 use Rattle.inv_all.specs.contents.Gives.{QueueRight, AllQueueRight}
 use Rattle.inv_all.specs.history.Record.{Past, Each, tells_of}
 use Rattle.inv_all.specs.history.Record.Past.{Then}

@@ -2,15 +2,15 @@
 use Rattle.std.proofs.Common.{ℕ, ◌≡◌, Bool, true, false, List, [], ◌∷◌, arith, refl, sym, ap, subst, ◌∙◌}
 use Rattle.std.proofs.lemmas.Bool.Decides.{nat_tests}
 use Rattle.std.specs.Prelude.{◌==◌, if◌then◌else◌}
-use Rattle.wfe_core.specs.defs.declared.event.Event.{Event}
-use Rattle.wfe_core.specs.defs.declared.event.Event.TheVariants as events
-use Rattle.wfe_core.specs.defs.declared.event.Root.TheVariants as roots
-use Rattle.wfe_core.specs.Book.{Book, RowBook, booked, booked_all}
-use Rattle.wfe_core.specs.Calls.{CallTurn}
-use Rattle.wfe_core.specs.Locals.{turn, told_end, told_by}
-use Rattle.wfe_core.specs.Posts.{counted}
-use Rattle.wfe_core.specs.World.{World, step, finds}
-use Rattle.wfe_core.proofs.Facts.{first_of, rest_of}
+use Rattle.inv_all.specs.model.defs.declared.event.Event.{Event}
+use Rattle.inv_all.specs.model.defs.declared.event.Event.TheVariants as events
+use Rattle.inv_all.specs.model.defs.declared.event.Root.TheVariants as roots
+use Rattle.inv_all.specs.model.Book.{Book, RowBook, booked, booked_all}
+use Rattle.inv_all.specs.model.Calls.{CallTurn}
+use Rattle.inv_all.specs.model.Locals.{turn, told_end, told_by}
+use Rattle.inv_all.specs.model.Posts.{counted}
+use Rattle.inv_all.specs.model.World.{World, step, finds}
+use Rattle.inv_all.proofs.model.Facts.{first_of, rest_of}
 use Rattle.inv_all.specs.covers.Covers.{takes_or_frees}
 use Rattle.inv_all.specs.rows.Hands.{row_move}
 use Rattle.inv_all.proofs.links.Links.Told.{links_one, links_in, append_in, phase_in}

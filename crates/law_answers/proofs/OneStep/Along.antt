@@ -1,12 +1,12 @@
 -- What each item of a history keeps, the history keeps. At each item the invariant of the World holds, and turns are counted.
 use Rattle.std.proofs.Common.{ℕ, ◌≡◌, ◌<◌, ◌+◌, ◌^◌, Bool, true, false, List, [], ◌∷◌, ◌++◌, refl, sym, subst}
 use Rattle.std.specs.Prelude.{◌&&◌, not, nat_lt}
-use Rattle.wfe_core.specs.words.Place.{is_valid}
-use Rattle.wfe_core.specs.words.declared.layout.Layout.{Layout}
-use Rattle.wfe_core.specs.defs.declared.call.Call.{Call}
-use Rattle.wfe_core.specs.Rest.{rest}
-use Rattle.wfe_core.specs.Locals.{may_begin}
-use Rattle.wfe_core.specs.World.{is_busy, step, told_in}
+use Rattle.inv_all.specs.model.words.Place.{is_valid}
+use Rattle.inv_all.specs.model.words.declared.layout.Layout.{Layout}
+use Rattle.inv_all.specs.model.defs.declared.call.Call.{Call}
+use Rattle.inv_all.specs.model.Rest.{rest}
+use Rattle.inv_all.specs.model.Locals.{may_begin}
+use Rattle.inv_all.specs.model.World.{is_busy, step, told_in}
 use Rattle.inv_all.specs.history.Turns as schedule
 use Rattle.inv_all.specs.history.Turns.History.{Blank, Starts, Turns}
 use Rattle.inv_all.specs.history.History.{Item, Begins, Steps, Made, fits, done, done_if, did, made_from, first_made, made_of}
@@ -16,7 +16,7 @@ use Rattle.inv_all.proofs.Inv.Reached.{inv_reached}
 use Rattle.inv_all.specs.history.Heard.{heard_if, heard_from, heard_of}
 use Rattle.law_answers.specs.Heard.{IsCounted}
 use Rattle.law_answers.proofs.Turns.Counted.{histories_count}
-use Rattle.wfe_core.proofs.Facts.{rest_of}
+use Rattle.inv_all.proofs.model.Facts.{rest_of}
 
 -- what is known where a history stands
 pub record Around (made : Made) (h : schedule.History) : Type 0 where

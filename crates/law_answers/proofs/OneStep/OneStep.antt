@@ -1,24 +1,24 @@
 -- A turn tells at most one event that an atomic step makes.
 use Rattle.std.proofs.Common.{ℕ, ◌≡◌, ◌-◌, ◌+◌, Bool, true, false, List, [], ◌∷◌, ◌++◌, Option, Some, None, refl, arith}
 use Rattle.std.specs.Prelude.{◌==◌, not, if◌then◌else◌}
-use Rattle.wfe_core.specs.words.declared.config.SchemeKind.{SchemeKind}
-use Rattle.wfe_core.specs.defs.declared.event.Event.{Event}
-use Rattle.wfe_core.specs.defs.declared.event.Event.TheVariants as events
-use Rattle.wfe_core.specs.defs.declared.event.Root.{Root}
-use Rattle.wfe_core.specs.defs.declared.fold.Change.{Change}
-use Rattle.wfe_core.specs.declared.post.Post.{Post}
-use Rattle.wfe_core.specs.Change as alters
-use Rattle.wfe_core.specs.Desks.{Desk}
-use Rattle.wfe_core.specs.Enqueue as enqueues
-use Rattle.wfe_core.specs.Locals.{told_by, told_end}
-use Rattle.wfe_core.specs.Machine as machine
-use Rattle.wfe_core.specs.Posts.{cleared, counted, reserves_index, stands}
-use Rattle.wfe_core.specs.words.Schemes.{has_one_interval}
-use Rattle.wfe_core.specs.Rounds.{scheme_of, clear_told, bucket_of, let_index}
-use Rattle.wfe_core.specs.Steps as steps
-use Rattle.wfe_core.specs.Phases.{Base}
-use Rattle.wfe_core.specs.Calls.{ScanAt, ReadGuard, GiveBack, ChangeKept, KeepAt, Loosens, LoadHeld, StoreHeld, Looks, Misses, Work, Keeping, Phase, Idle, Runs, Scans, Works, CallOutcome, GoesOn, Answers}
-use Rattle.wfe_core.proofs.Facts.{both, first_of, rest_of, if_implies}
+use Rattle.inv_all.specs.model.words.declared.config.SchemeKind.{SchemeKind}
+use Rattle.inv_all.specs.model.defs.declared.event.Event.{Event}
+use Rattle.inv_all.specs.model.defs.declared.event.Event.TheVariants as events
+use Rattle.inv_all.specs.model.defs.declared.event.Root.{Root}
+use Rattle.inv_all.specs.model.defs.declared.fold.Change.{Change}
+use Rattle.inv_all.specs.model.declared.post.Post.{Post}
+use Rattle.inv_all.specs.model.Change as alters
+use Rattle.inv_all.specs.model.Desks.{Desk}
+use Rattle.inv_all.specs.model.Enqueue as enqueues
+use Rattle.inv_all.specs.model.Locals.{told_by, told_end}
+use Rattle.inv_all.specs.model.Machine as machine
+use Rattle.inv_all.specs.model.Posts.{cleared, counted, reserves_index, stands}
+use Rattle.inv_all.specs.model.words.Schemes.{has_one_interval}
+use Rattle.inv_all.specs.model.Rounds.{scheme_of, clear_told, bucket_of, let_index}
+use Rattle.inv_all.specs.model.Steps as steps
+use Rattle.inv_all.specs.model.Phases.{Base}
+use Rattle.inv_all.specs.model.Calls.{ScanAt, ReadGuard, GiveBack, ChangeKept, KeepAt, Loosens, LoadHeld, StoreHeld, Looks, Misses, Work, Keeping, Phase, Idle, Runs, Scans, Works, CallOutcome, GoesOn, Answers}
+use Rattle.inv_all.proofs.model.Facts.{both, first_of, rest_of, if_implies}
 use Rattle.inv_all.specs.history.Turns as schedule
 use Rattle.inv_all.specs.history.History.{Made}
 use Rattle.inv_all.proofs.history.Passes.{Closing, Any, First, copied_told, keep_told, work_told, phase_any, scan_told, step_closes}

@@ -2,19 +2,19 @@
 use Rattle.std.proofs.Common.{ℕ, ◌≡◌, ◌≤◌, ◌<◌, ◌+◌, ◌^◌, Bool, true, false, List, [], ◌∷◌, ◌++◌, refl, sym, ap, ◌∙◌, subst, arith}
 use Rattle.std.proofs.lemmas.Bool.Decides.{nat_tests}
 use Rattle.std.specs.Prelude.{◌==◌, ◌&&◌, ◌||◌, not, nat_lt, if◌then◌else◌}
-use Rattle.wfe_core.specs.words.declared.layout.Layout.{Layout}
-use Rattle.wfe_core.specs.defs.declared.call.Call.{Call}
-use Rattle.wfe_core.specs.defs.declared.event.Event.{Event}
-use Rattle.wfe_core.specs.defs.declared.event.Event.TheVariants as events
-use Rattle.wfe_core.specs.declared.post.Post.{Post}
-use Rattle.wfe_core.specs.Desks.{Desk, noting}
-use Rattle.wfe_core.specs.Locals.{Local, begun_post, busy_in, may_begin, settled_by, turn, told_by, told_end, rounds_told}
-use Rattle.wfe_core.specs.Memory.{bump}
-use Rattle.wfe_core.specs.Posts.{counted}
-use Rattle.wfe_core.specs.Rest.{rest}
-use Rattle.wfe_core.specs.Rest as rests
-use Rattle.wfe_core.specs.Calls.{Phase, Idle, Runs, Scans, Works, CallTurn, CallOutcome, GoesOn, Answers}
-use Rattle.wfe_core.specs.World.{World, begin, step, finds, is_busy, told_in}
+use Rattle.inv_all.specs.model.words.declared.layout.Layout.{Layout}
+use Rattle.inv_all.specs.model.defs.declared.call.Call.{Call}
+use Rattle.inv_all.specs.model.defs.declared.event.Event.{Event}
+use Rattle.inv_all.specs.model.defs.declared.event.Event.TheVariants as events
+use Rattle.inv_all.specs.model.declared.post.Post.{Post}
+use Rattle.inv_all.specs.model.Desks.{Desk, noting}
+use Rattle.inv_all.specs.model.Locals.{Local, begun_post, busy_in, may_begin, settled_by, turn, told_by, told_end, rounds_told}
+use Rattle.inv_all.specs.model.Memory.{bump}
+use Rattle.inv_all.specs.model.Posts.{counted}
+use Rattle.inv_all.specs.model.Rest.{rest}
+use Rattle.inv_all.specs.model.Rest as rests
+use Rattle.inv_all.specs.model.Calls.{Phase, Idle, Runs, Scans, Works, CallTurn, CallOutcome, GoesOn, Answers}
+use Rattle.inv_all.specs.model.World.{World, begin, step, finds, is_busy, told_in}
 use Rattle.inv_all.proofs.shapes.Frame.{seat_stays, seat_steps, begin_stays, begin_begins}
 use Rattle.inv_all.specs.history.Turns as schedule
 use Rattle.inv_all.specs.history.Turns.History.{Blank, Starts, Turns}
@@ -32,11 +32,11 @@ use Rattle.law_answers.proofs.AnswersTold.Answering.{owes_of}
 use Rattle.law_answers.proofs.AnswersTold.Owed.{is_open, Serves, OutServes, Owes, Told, owed, out_owed}
 use Rattle.inv_all.specs.history.Heard.{heard_if, heard_from, heard_of}
 use Rattle.law_answers.specs.Heard.{HistoriesCount}
-use Rattle.wfe_core.specs.words.Place.{is_valid}
+use Rattle.inv_all.specs.model.words.Place.{is_valid}
 use Rattle.law_answers.proofs.AnswersTold.Owing.{first_serves}
-use Rattle.wfe_core.specs.Steps.{first_phase}
-use Rattle.wfe_core.proofs.Facts.{both, first_of, rest_of}
-use Rattle.wfe_core.specs.words.Place.Place.{Clock}
+use Rattle.inv_all.specs.model.Steps.{first_phase}
+use Rattle.inv_all.proofs.model.Facts.{both, first_of, rest_of}
+use Rattle.inv_all.specs.model.words.Place.Place.{Clock}
 use Rattle.law_answers.proofs.Turns.Steady.{turn_steps}
 
 -- what a turn tells: no beginning, and an end only where its call ends, with this count

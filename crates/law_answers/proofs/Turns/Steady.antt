@@ -1,30 +1,30 @@
 -- No step of a call changes the count of its steps besides counting itself.
 use Rattle.std.proofs.Common.{ℕ, ◌≡◌, Bool, true, false, List, refl, ◌∙◌}
 use Rattle.std.specs.Prelude.{◌==◌, if◌then◌else◌, Option, Some, None}
-use Rattle.wfe_core.specs.words.declared.config.SchemeKind.{SchemeKind}
-use Rattle.wfe_core.specs.words.declared.config.SchemeKind.TheVariants.{He, Ibr, Wfe}
-use Rattle.wfe_core.specs.defs.declared.event.Event.{Event}
-use Rattle.wfe_core.specs.defs.declared.event.Root.{Root}
-use Rattle.wfe_core.specs.defs.declared.event.Root.TheVariants as roots
-use Rattle.wfe_core.specs.declared.post.Post.{Post}
-use Rattle.wfe_core.specs.Posts.{stands, with_tag}
-use Rattle.wfe_core.specs.Phases.{Aim, Alone, Follows, Walk, Base, Turn}
-use Rattle.wfe_core.specs.Phases.BeginAt.{LoadLower}
-use Rattle.wfe_core.specs.Phases.ProtectAt.{CheckClock, CheckOwnClock, AnswerOwn, TakeAnswer, WithdrawHelper, CheckUpper}
-use Rattle.wfe_core.specs.Phases.AllocateAt.{ClaimSlot}
-use Rattle.wfe_core.specs.Phases.RetireAt.{LoadLife}
-use Rattle.wfe_core.specs.Phases.MoveAt.{LoadEra, CheckEra, AnswerAsked, LoadReserved, HandOver, ExchangeClock}
-use Rattle.wfe_core.specs.Phases.Base.{Begin, Protect, Reload, Allocate, Write, Retire, Move}
-use Rattle.wfe_core.specs.Protect.{held_post, concluded}
-use Rattle.wfe_core.specs.Allocate.{walking, walk_past, is_claimed}
-use Rattle.wfe_core.specs.WriteRow.{last_written}
-use Rattle.wfe_core.specs.MoveClock.{after_hand_over}
-use Rattle.wfe_core.specs.Machine.{after}
-use Rattle.wfe_core.specs.Desks.{Desk}
-use Rattle.wfe_core.specs.Rounds.{scheme_of, clear_post}
-use Rattle.wfe_core.specs.Steps as steps
-use Rattle.wfe_core.specs.Calls.{KeepAt, Loosens, LoadHeld, StoreHeld, Looks, Misses, Work, Keeping, Phase, Idle, Runs, Scans, Works}
-use Rattle.wfe_core.specs.words.Schemes.{has_one_interval}
+use Rattle.inv_all.specs.model.words.declared.config.SchemeKind.{SchemeKind}
+use Rattle.inv_all.specs.model.words.declared.config.SchemeKind.TheVariants.{He, Ibr, Wfe}
+use Rattle.inv_all.specs.model.defs.declared.event.Event.{Event}
+use Rattle.inv_all.specs.model.defs.declared.event.Root.{Root}
+use Rattle.inv_all.specs.model.defs.declared.event.Root.TheVariants as roots
+use Rattle.inv_all.specs.model.declared.post.Post.{Post}
+use Rattle.inv_all.specs.model.Posts.{stands, with_tag}
+use Rattle.inv_all.specs.model.Phases.{Aim, Alone, Follows, Walk, Base, Turn}
+use Rattle.inv_all.specs.model.Phases.BeginAt.{LoadLower}
+use Rattle.inv_all.specs.model.Phases.ProtectAt.{CheckClock, CheckOwnClock, AnswerOwn, TakeAnswer, WithdrawHelper, CheckUpper}
+use Rattle.inv_all.specs.model.Phases.AllocateAt.{ClaimSlot}
+use Rattle.inv_all.specs.model.Phases.RetireAt.{LoadLife}
+use Rattle.inv_all.specs.model.Phases.MoveAt.{LoadEra, CheckEra, AnswerAsked, LoadReserved, HandOver, ExchangeClock}
+use Rattle.inv_all.specs.model.Phases.Base.{Begin, Protect, Reload, Allocate, Write, Retire, Move}
+use Rattle.inv_all.specs.model.Protect.{held_post, concluded}
+use Rattle.inv_all.specs.model.Allocate.{walking, walk_past, is_claimed}
+use Rattle.inv_all.specs.model.WriteRow.{last_written}
+use Rattle.inv_all.specs.model.MoveClock.{after_hand_over}
+use Rattle.inv_all.specs.model.Machine.{after}
+use Rattle.inv_all.specs.model.Desks.{Desk}
+use Rattle.inv_all.specs.model.Rounds.{scheme_of, clear_post}
+use Rattle.inv_all.specs.model.Steps as steps
+use Rattle.inv_all.specs.model.Calls.{KeepAt, Loosens, LoadHeld, StoreHeld, Looks, Misses, Work, Keeping, Phase, Idle, Runs, Scans, Works}
+use Rattle.inv_all.specs.model.words.Schemes.{has_one_interval}
 use Rattle.inv_all.proofs.history.Passes.{Closed, First, copied_post, keep_post, work_post, step_goes}
 
 along : (a b c : ℕ) → b ≡ a → c ≡ b → c ≡ a

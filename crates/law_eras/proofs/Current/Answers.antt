@@ -3,28 +3,28 @@
 use Rattle.std.proofs.Common.{ℕ, ◌≡◌, ◌≤◌, ◌+◌, Bool, true, false, List, Option, Some, None, refl, ap, ◌∙◌, subst, arith}
 use Rattle.std.proofs.lemmas.Bool.Decides.{nat_tests}
 use Rattle.std.specs.Prelude.{◌==◌, nat_lt, if◌then◌else◌}
-use Rattle.wfe_core.specs.words.Packed.{halves, reservation_word, read_request, read_reservation}
-use Rattle.wfe_core.specs.words.Place.Place.{Index, Request}
-use Rattle.wfe_core.specs.words.declared.layout.Layout.{Layout}
-use Rattle.wfe_core.specs.words.declared.packed.Request.{Request as Asking}
-use Rattle.wfe_core.specs.words.declared.packed.Request.TheVariants as requests
-use Rattle.wfe_core.specs.defs.declared.event.Event.{Event}
-use Rattle.wfe_core.specs.defs.declared.event.Root.{Root}
-use Rattle.wfe_core.specs.declared.post.Post.{Post}
-use Rattle.wfe_core.specs.Calls.{Why, Phase, Idle, Runs, Scans, Works}
-use Rattle.wfe_core.specs.Desks.{Desk}
-use Rattle.wfe_core.specs.Links.{link_number}
-use Rattle.wfe_core.specs.Machine as machine
-use Rattle.wfe_core.specs.Memory.{upd}
-use Rattle.wfe_core.specs.MoveClock as movers
-use Rattle.wfe_core.specs.Phases.{ProtectAt, MoveAt, Base, Turn, Outcome, Goes, Ends}
-use Rattle.wfe_core.specs.Phases.ProtectAt.{PublishRequest, AnswerOwn, TakeAnswer, WithdrawRequest}
-use Rattle.wfe_core.specs.Phases.MoveAt.{LoadEra, LoadRequest, CheckEra, AnswerAsked, LoadReserved, HandOver, ExchangeClock}
-use Rattle.wfe_core.specs.Phases.Base.{Begin, Protect, Reload, Allocate, Write, Retire, Move}
-use Rattle.wfe_core.specs.Posts.{tag_of}
-use Rattle.wfe_core.specs.SlowPath.{own_request, asking}
-use Rattle.wfe_core.specs.Steps as steps
-use Rattle.wfe_core.specs.World.{World}
+use Rattle.law_reuse.specs.inv.model.words.Packed.{halves, reservation_word, read_request, read_reservation}
+use Rattle.law_reuse.specs.inv.model.words.Place.Place.{Index, Request}
+use Rattle.law_reuse.specs.inv.model.words.declared.layout.Layout.{Layout}
+use Rattle.law_reuse.specs.inv.model.words.declared.packed.Request.{Request as Asking}
+use Rattle.law_reuse.specs.inv.model.words.declared.packed.Request.TheVariants as requests
+use Rattle.law_reuse.specs.inv.model.defs.declared.event.Event.{Event}
+use Rattle.law_reuse.specs.inv.model.defs.declared.event.Root.{Root}
+use Rattle.law_reuse.specs.inv.model.declared.post.Post.{Post}
+use Rattle.law_reuse.specs.inv.model.Calls.{Why, Phase, Idle, Runs, Scans, Works}
+use Rattle.law_reuse.specs.inv.model.Desks.{Desk}
+use Rattle.law_reuse.specs.inv.model.Links.{link_number}
+use Rattle.law_reuse.specs.inv.model.Machine as machine
+use Rattle.law_reuse.specs.inv.model.Memory.{upd}
+use Rattle.law_reuse.specs.inv.model.MoveClock as movers
+use Rattle.law_reuse.specs.inv.model.Phases.{ProtectAt, MoveAt, Base, Turn, Outcome, Goes, Ends}
+use Rattle.law_reuse.specs.inv.model.Phases.ProtectAt.{PublishRequest, AnswerOwn, TakeAnswer, WithdrawRequest}
+use Rattle.law_reuse.specs.inv.model.Phases.MoveAt.{LoadEra, LoadRequest, CheckEra, AnswerAsked, LoadReserved, HandOver, ExchangeClock}
+use Rattle.law_reuse.specs.inv.model.Phases.Base.{Begin, Protect, Reload, Allocate, Write, Retire, Move}
+use Rattle.law_reuse.specs.inv.model.Posts.{tag_of}
+use Rattle.law_reuse.specs.inv.model.SlowPath.{own_request, asking}
+use Rattle.law_reuse.specs.inv.model.Steps as steps
+use Rattle.law_reuse.specs.inv.model.World.{World}
 use Rattle.law_reuse.specs.inv.shapes.Frame.{phase_left}
 use Rattle.law_reuse.proofs.inv.requests.Kept.{at_of}
 use Rattle.law_reuse.specs.inv.requests.NextDeals.{protect_deals, move_deals, base_deals, phase_deals}

@@ -2,24 +2,24 @@
 use Rattle.std.proofs.Common.{ℕ, ◌≡◌, ◌≤◌, ◌<◌, ◌+◌, ◌^◌, Bool, true, false, refl, sym, ap, ◌∙◌, subst, arith}
 use Rattle.std.proofs.lemmas.Bool.Decides.{nat_tests}
 use Rattle.std.specs.Prelude.{◌==◌, ◌&&◌, not}
-use Rattle.wfe_core.specs.words.Packed.{read_request}
-use Rattle.wfe_core.specs.words.Place.{is_valid}
-use Rattle.wfe_core.specs.words.Place.Place.{Clock}
-use Rattle.wfe_core.specs.words.declared.layout.Layout.{Layout}
-use Rattle.wfe_core.proofs.words.Parts.{read_request-answered}
-use Rattle.wfe_core.specs.defs.declared.call.Call.{Call}
-use Rattle.wfe_core.specs.defs.declared.event.Root.{Root}
-use Rattle.wfe_core.proofs.Ranges.{bounds_of}
-use Rattle.wfe_core.specs.Calls.{Why, Phase, Idle, Runs, Scans, Works}
-use Rattle.wfe_core.specs.Links.{link_number}
-use Rattle.wfe_core.specs.Locals.{Local, begun_post}
-use Rattle.wfe_core.specs.Phases.{Aim, ProtectAt, Base}
-use Rattle.wfe_core.specs.Phases.ProtectAt.{AnswerOwn, LoadAnswer, TakeAnswer}
-use Rattle.wfe_core.specs.Phases.MoveAt.{CheckEra, AnswerAsked}
-use Rattle.wfe_core.specs.Phases.Base.{Protect, Move}
-use Rattle.wfe_core.specs.Posts.{counted, tag_of}
-use Rattle.wfe_core.specs.SlowPath.{own_request, asking, answer_in}
-use Rattle.wfe_core.specs.World.{World, start, begin, step, finds, is_busy}
+use Rattle.law_reuse.specs.inv.model.words.Packed.{read_request}
+use Rattle.law_reuse.specs.inv.model.words.Place.{is_valid}
+use Rattle.law_reuse.specs.inv.model.words.Place.Place.{Clock}
+use Rattle.law_reuse.specs.inv.model.words.declared.layout.Layout.{Layout}
+use Rattle.law_reuse.proofs.inv.model.words.Parts.{read_request-answered}
+use Rattle.law_reuse.specs.inv.model.defs.declared.call.Call.{Call}
+use Rattle.law_reuse.specs.inv.model.defs.declared.event.Root.{Root}
+use Rattle.law_reuse.proofs.inv.model.Ranges.{bounds_of}
+use Rattle.law_reuse.specs.inv.model.Calls.{Why, Phase, Idle, Runs, Scans, Works}
+use Rattle.law_reuse.specs.inv.model.Links.{link_number}
+use Rattle.law_reuse.specs.inv.model.Locals.{Local, begun_post}
+use Rattle.law_reuse.specs.inv.model.Phases.{Aim, ProtectAt, Base}
+use Rattle.law_reuse.specs.inv.model.Phases.ProtectAt.{AnswerOwn, LoadAnswer, TakeAnswer}
+use Rattle.law_reuse.specs.inv.model.Phases.MoveAt.{CheckEra, AnswerAsked}
+use Rattle.law_reuse.specs.inv.model.Phases.Base.{Protect, Move}
+use Rattle.law_reuse.specs.inv.model.Posts.{counted, tag_of}
+use Rattle.law_reuse.specs.inv.model.SlowPath.{own_request, asking, answer_in}
+use Rattle.law_reuse.specs.inv.model.World.{World, start, begin, step, finds, is_busy}
 use Rattle.law_reuse.proofs.inv.shapes.Frame.{seat_stays, begin_stays, begin_begins}
 use Rattle.law_reuse.specs.inv.shapes.Seats.{Seats}
 use Rattle.law_reuse.proofs.inv.requests.Answering.{heard, word_by_open}
@@ -39,7 +39,7 @@ use Rattle.law_eras.proofs.Current.Ages.{protect_since, PhaseSince, HeardSince}
 use Rattle.law_eras.proofs.Current.Answers.{DealSince, base_helps, HelpSince, Answers, phase_kept, checks, turn_checked, checked_since}
 use Rattle.law_reuse.proofs.inv.requests.Known.{stands_as, own_word}
 use Rattle.law_reuse.proofs.inv.links.Origins.Kept.{idle_deal}
-use Rattle.wfe_core.proofs.Facts.{not_right, first_of, same_test}
+use Rattle.law_reuse.proofs.inv.model.Facts.{not_right, first_of, same_test}
 
 -- what a mover knows of the request that it has loaded
 helps_know : (w : World) (m : ℕ) (z : View) (why : Why) (e s t j : ℕ) (r : Root) (link : ℕ) → Requests w z → (w.seat m).phase ≡ Runs why (Move (AnswerAsked e s t j r link)) → knows_of z s t j (link_number w.layout r) ≡ true

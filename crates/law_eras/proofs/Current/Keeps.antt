@@ -2,25 +2,25 @@
 use Rattle.std.proofs.Common.{ℕ, ◌≡◌, ◌≤◌, ◌<◌, Bool, true, false, List, [], ◌∷◌, ◌++◌, Some, refl, sym, ap, ◌∙◌, subst, arith}
 use Rattle.std.proofs.lemmas.Bool.Decides.{nat_tests}
 use Rattle.std.specs.Prelude.{◌==◌}
-use Rattle.wfe_core.specs.words.Place.{is_valid}
-use Rattle.wfe_core.specs.words.Place.Place.{Clock}
-use Rattle.wfe_core.specs.words.declared.layout.Layout.{Layout}
-use Rattle.wfe_core.specs.defs.declared.call.Call.{Call}
-use Rattle.wfe_core.specs.defs.declared.call.Call.TheVariants as names
-use Rattle.wfe_core.specs.defs.declared.event.Event.{Event}
-use Rattle.wfe_core.specs.defs.declared.event.Event.TheVariants as events
-use Rattle.wfe_core.specs.Calls.{Why, Phase, Idle, Runs, Scans, Works, StoreHeld, Keeping}
-use Rattle.wfe_core.specs.Locals.{Local, after, begun, told_by, may_begin, busy_in}
-use Rattle.wfe_core.specs.Phases.{Base}
-use Rattle.wfe_core.specs.Phases.BeginAt.{LoadLower}
-use Rattle.wfe_core.specs.Phases.ProtectAt.{LoadClock, CheckClock, LoadOwnClock, CheckOwnClock, CheckUpper}
-use Rattle.wfe_core.specs.Phases.AllocateAt.{LoadBirth}
-use Rattle.wfe_core.specs.Phases.RetireAt.{LoadRetire}
-use Rattle.wfe_core.specs.Phases.MoveAt.{LoadEra}
-use Rattle.wfe_core.specs.Phases.Base.{Begin, Protect, Allocate, Retire, Move}
-use Rattle.wfe_core.specs.Posts.{counted}
-use Rattle.wfe_core.specs.Steps as steps
-use Rattle.wfe_core.specs.World.{World, begin, step, finds, is_busy, told_in}
+use Rattle.law_reuse.specs.inv.model.words.Place.{is_valid}
+use Rattle.law_reuse.specs.inv.model.words.Place.Place.{Clock}
+use Rattle.law_reuse.specs.inv.model.words.declared.layout.Layout.{Layout}
+use Rattle.law_reuse.specs.inv.model.defs.declared.call.Call.{Call}
+use Rattle.law_reuse.specs.inv.model.defs.declared.call.Call.TheVariants as names
+use Rattle.law_reuse.specs.inv.model.defs.declared.event.Event.{Event}
+use Rattle.law_reuse.specs.inv.model.defs.declared.event.Event.TheVariants as events
+use Rattle.law_reuse.specs.inv.model.Calls.{Why, Phase, Idle, Runs, Scans, Works, StoreHeld, Keeping}
+use Rattle.law_reuse.specs.inv.model.Locals.{Local, after, begun, told_by, may_begin, busy_in}
+use Rattle.law_reuse.specs.inv.model.Phases.{Base}
+use Rattle.law_reuse.specs.inv.model.Phases.BeginAt.{LoadLower}
+use Rattle.law_reuse.specs.inv.model.Phases.ProtectAt.{LoadClock, CheckClock, LoadOwnClock, CheckOwnClock, CheckUpper}
+use Rattle.law_reuse.specs.inv.model.Phases.AllocateAt.{LoadBirth}
+use Rattle.law_reuse.specs.inv.model.Phases.RetireAt.{LoadRetire}
+use Rattle.law_reuse.specs.inv.model.Phases.MoveAt.{LoadEra}
+use Rattle.law_reuse.specs.inv.model.Phases.Base.{Begin, Protect, Allocate, Retire, Move}
+use Rattle.law_reuse.specs.inv.model.Posts.{counted}
+use Rattle.law_reuse.specs.inv.model.Steps as steps
+use Rattle.law_reuse.specs.inv.model.World.{World, begin, step, finds, is_busy, told_in}
 use Rattle.law_reuse.proofs.inv.shapes.Frame.{after_seated, begun_seated, seat_stays, seat_steps, begin_stays, begin_begins}
 use Rattle.law_reuse.proofs.inv.shapes.Kept.{begun_fits}
 use Rattle.law_reuse.specs.inv.shapes.Frame.{Seated}
@@ -43,23 +43,23 @@ use Rattle.law_reuse.proofs.inv.Inv.Begun.{known_start, known_begin}
 use Rattle.law_reuse.proofs.inv.Inv.Kept.{known_kept, asked_next}
 use Rattle.law_reuse.proofs.inv.Inv.Whole.{origins_need}
 use Rattle.law_reuse.proofs.inv.Machines.{within_of}
-use Rattle.laws.specs.StateAt.{clock_of, value_of}
+use Rattle.law_reuse.specs.laws.StateAt.{clock_of, value_of}
 use Rattle.law_eras.proofs.EraLaw.Keeps.{record_clock}
-use Rattle.laws.specs.HistoryEras.{birth_current, retire_current, reserve_current}
+use Rattle.law_reuse.specs.laws.HistoryEras.{birth_current, retire_current, reserve_current}
 use Rattle.law_eras.specs.Records.{RecordsGiveCurrent, RecordsRetireCurrent, RecordsReserveCurrent}
 use Rattle.law_eras.proofs.Current.Ages.{loads_base, BaseHears, Loads, PhaseSince, PhaseLoads, Aged, since_grows, since_owed, same_since}
 use Rattle.law_eras.proofs.Current.Answers.{Answers}
 use Rattle.law_eras.proofs.Current.Heard.{answers_step, answers_begin, answers_start, hears_since, same_answers}
 use Rattle.law_eras.proofs.Current.Positions.{begun_at, cut_at, since_low, begun_stays, begun_other, cut_stays}
 use Rattle.law_eras.proofs.Current.Tells.{current_ok, Copies, step_led}
-use Rattle.wfe_core.specs.Guards.{one_era}
+use Rattle.law_reuse.specs.inv.model.Guards.{one_era}
 use Rattle.law_reuse.specs.inv.covers.Covers.{eras_shown}
 use Rattle.law_reuse.proofs.Holding.Holds.{record_values}
 use Rattle.law_reuse.proofs.inv.requests.Known.{copying}
-use Rattle.wfe_core.specs.defs.declared.event.Guard.{Guard}
-use Rattle.wfe_core.specs.defs.declared.event.Guard.TheVariants.{Index}
-use Rattle.law_answers.proofs.AnswersTold.Answering as answering
-use Rattle.law_answers.proofs.AnswersTold.Owed.{Serves}
+use Rattle.law_reuse.specs.inv.model.defs.declared.event.Guard.{Guard}
+use Rattle.law_reuse.specs.inv.model.defs.declared.event.Guard.TheVariants.{Index}
+use Rattle.law_reuse.proofs.answers.AnswersTold.Answering as answering
+use Rattle.law_reuse.proofs.answers.AnswersTold.Owed.{Serves}
 
 -- a World is that of a history
 pub record OfItems (layout : Layout) (made : Made) : Type 0 where

@@ -3,31 +3,31 @@ use Rattle.std.proofs.Common.{ℕ, ◌≡◌, ◌<◌, ◌≤◌, ◌-◌, ◌*�
 use Rattle.std.proofs.Math.Nat.{div-lt_iff_lt-mul, mod-lt}
 use Rattle.std.proofs.lemmas.Bool.Decides.{nat_tests}
 use Rattle.std.specs.Prelude.{◌==◌, ◌&&◌, not, nat_lt, nat_le, if◌then◌else◌}
-use Rattle.wfe_core.specs.words.Place.{is_valid}
-use Rattle.wfe_core.specs.words.Place.Place.{Clock}
-use Rattle.wfe_core.specs.words.Schemes.{is_wfe, publishes_eras, has_one_interval, helps, counts_tries}
-use Rattle.wfe_core.specs.words.declared.config.Config.{Config}
-use Rattle.wfe_core.specs.words.declared.config.SchemeKind.{SchemeKind}
-use Rattle.wfe_core.specs.words.declared.config.SchemeKind.TheVariants.{He, Ibr, Wfe}
-use Rattle.wfe_core.specs.words.declared.layout.Layout.{Layout}
-use Rattle.wfe_core.specs.defs.declared.event.Event.{Event}
-use Rattle.wfe_core.specs.defs.declared.event.Event.TheVariants as events
-use Rattle.wfe_core.specs.defs.declared.event.Guard.{Guard}
-use Rattle.wfe_core.specs.defs.declared.event.Guard.TheVariants.{Helper, Index, Whole}
-use Rattle.wfe_core.specs.declared.post.Post.{Post}
-use Rattle.wfe_core.specs.Calls.{ReadGuard, GiveBack, Why, StoreHeld, Work, Keeping, Phase, Idle, Runs, Scans, Works}
-use Rattle.wfe_core.specs.Guards.{guard_at, guards_by, guard_by, index_at}
-use Rattle.wfe_core.specs.Phases.{Base, Endless, Failed}
-use Rattle.wfe_core.specs.Phases.BeginAt.{LoadLower, PublishSpan}
-use Rattle.wfe_core.specs.Phases.ProtectAt.{PublishEra, PublishHelper, TakeAnswer, WithdrawHelper, RaiseUpper}
-use Rattle.wfe_core.specs.Phases.MoveAt.{ShowEra, HandOver, HideEra, HideLate}
-use Rattle.wfe_core.specs.Phases.Base.{Begin, Protect, Clear, Finish, Release, Move}
-use Rattle.wfe_core.specs.Posts.{counted}
-use Rattle.wfe_core.specs.Rounds.{scheme_of}
-use Rattle.wfe_core.specs.World.{World, told_in, finds}
-use Rattle.wfe_core.proofs.Facts.{both, first_of, rest_of, and_true, false_of_not, lt_test, number_is}
-use Rattle.wfe_core.proofs.Ranges.{bounds_of}
-use Rattle.wfe_core.proofs.words.Schemes.{clock_eras, counts_eras, helps_eras, other_eras}
+use Rattle.law_reuse.specs.inv.model.words.Place.{is_valid}
+use Rattle.law_reuse.specs.inv.model.words.Place.Place.{Clock}
+use Rattle.law_reuse.specs.inv.model.words.Schemes.{is_wfe, publishes_eras, has_one_interval, helps, counts_tries}
+use Rattle.law_reuse.specs.inv.model.words.declared.config.Config.{Config}
+use Rattle.law_reuse.specs.inv.model.words.declared.config.SchemeKind.{SchemeKind}
+use Rattle.law_reuse.specs.inv.model.words.declared.config.SchemeKind.TheVariants.{He, Ibr, Wfe}
+use Rattle.law_reuse.specs.inv.model.words.declared.layout.Layout.{Layout}
+use Rattle.law_reuse.specs.inv.model.defs.declared.event.Event.{Event}
+use Rattle.law_reuse.specs.inv.model.defs.declared.event.Event.TheVariants as events
+use Rattle.law_reuse.specs.inv.model.defs.declared.event.Guard.{Guard}
+use Rattle.law_reuse.specs.inv.model.defs.declared.event.Guard.TheVariants.{Helper, Index, Whole}
+use Rattle.law_reuse.specs.inv.model.declared.post.Post.{Post}
+use Rattle.law_reuse.specs.inv.model.Calls.{ReadGuard, GiveBack, Why, StoreHeld, Work, Keeping, Phase, Idle, Runs, Scans, Works}
+use Rattle.law_reuse.specs.inv.model.Guards.{guard_at, guards_by, guard_by, index_at}
+use Rattle.law_reuse.specs.inv.model.Phases.{Base, Endless, Failed}
+use Rattle.law_reuse.specs.inv.model.Phases.BeginAt.{LoadLower, PublishSpan}
+use Rattle.law_reuse.specs.inv.model.Phases.ProtectAt.{PublishEra, PublishHelper, TakeAnswer, WithdrawHelper, RaiseUpper}
+use Rattle.law_reuse.specs.inv.model.Phases.MoveAt.{ShowEra, HandOver, HideEra, HideLate}
+use Rattle.law_reuse.specs.inv.model.Phases.Base.{Begin, Protect, Clear, Finish, Release, Move}
+use Rattle.law_reuse.specs.inv.model.Posts.{counted}
+use Rattle.law_reuse.specs.inv.model.Rounds.{scheme_of}
+use Rattle.law_reuse.specs.inv.model.World.{World, told_in, finds}
+use Rattle.law_reuse.proofs.inv.model.Facts.{both, first_of, rest_of, and_true, false_of_not, lt_test, number_is}
+use Rattle.law_reuse.proofs.inv.model.Ranges.{bounds_of}
+use Rattle.law_reuse.proofs.inv.model.words.Schemes.{clock_eras, counts_eras, helps_eras, other_eras}
 use Rattle.law_reuse.specs.inv.covers.Held.{index_base}
 use Rattle.law_reuse.specs.inv.history.History.{Made, first_made, record_of}
 use Rattle.law_reuse.specs.inv.history.Record.{Past, Each, tells_of}
@@ -45,7 +45,7 @@ use Rattle.law_reuse.proofs.inv.history.MayTell.{Tells, may_store, base_helper, 
 use Rattle.law_reuse.proofs.inv.history.Passes.{is_quiet, First}
 use Rattle.law_reuse.proofs.Holding.Holds.{Held, begin_held, step_held, first_held, ranges_of}
 use Rattle.law_reuse.proofs.Holding.Values.{Ranges}
-use Rattle.laws.specs.HistoryTable.{is_guard, is_guarded, guards_ok}
+use Rattle.law_reuse.specs.laws.HistoryTable.{is_guard, is_guarded, guards_ok}
 use Rattle.law_eras.specs.Records.{RecordsNameGuards}
 
 -- what a scheme can do

@@ -1,16 +1,16 @@
 -- A history's record keeps the law on eras.
 use Rattle.std.proofs.Common.{ℕ, ◌≡◌, ◌<◌, true, false, List, [], ◌∷◌, refl, ap, ◌∙◌, subst}
 use Rattle.std.specs.List.{filter}
-use Rattle.wfe_core.specs.words.Place.{is_valid}
-use Rattle.wfe_core.specs.words.Place.Place.{Clock}
-use Rattle.wfe_core.specs.words.declared.layout.Layout.{Layout}
-use Rattle.wfe_core.specs.defs.declared.call.Call.{Call}
-use Rattle.wfe_core.specs.defs.declared.event.Event.{Event}
-use Rattle.wfe_core.specs.Calls.{Why, Phase, Runs}
-use Rattle.wfe_core.specs.Locals.{may_begin}
+use Rattle.law_reuse.specs.inv.model.words.Place.{is_valid}
+use Rattle.law_reuse.specs.inv.model.words.Place.Place.{Clock}
+use Rattle.law_reuse.specs.inv.model.words.declared.layout.Layout.{Layout}
+use Rattle.law_reuse.specs.inv.model.defs.declared.call.Call.{Call}
+use Rattle.law_reuse.specs.inv.model.defs.declared.event.Event.{Event}
+use Rattle.law_reuse.specs.inv.model.Calls.{Why, Phase, Runs}
+use Rattle.law_reuse.specs.inv.model.Locals.{may_begin}
 use Rattle.law_reuse.specs.inv.shapes.Eras.{PhaseEras}
-use Rattle.wfe_core.specs.Phases.{Base}
-use Rattle.wfe_core.specs.World.{World, finds, is_busy, step, told_in}
+use Rattle.law_reuse.specs.inv.model.Phases.{Base}
+use Rattle.law_reuse.specs.inv.model.World.{World, finds, is_busy, step, told_in}
 use Rattle.law_reuse.specs.inv.rows.Rows.RowMove.{Lists}
 use Rattle.law_reuse.specs.inv.rows.Hands.{row_move}
 use Rattle.law_reuse.specs.inv.history.Record.{Past, Each, tells_of}
@@ -20,13 +20,13 @@ use Rattle.law_reuse.specs.inv.history.History.{Item, Begins, Steps, Made, done,
 use Rattle.law_reuse.proofs.inv.history.Along.{Steady, items_keep}
 use Rattle.law_reuse.specs.inv.ends.Told.{move_of}
 use Rattle.law_reuse.proofs.inv.ends.Told.Births.{retires_given}
-use Rattle.laws.proofs.Along.{along, along_kind, Single, single_each}
+use Rattle.law_reuse.proofs.laws.Along.{along, along_kind, Single, single_each}
 use Rattle.law_reuse.proofs.Holding.Holds.{Held, begin_held, step_held, first_held, given_need, ranges_of}
-use Rattle.laws.specs.StateAt.{ticked_by, clock_of}
-use Rattle.laws.specs.EraLaw.{guard_ok}
-use Rattle.laws.specs.HistoryEras.{era_ok}
+use Rattle.law_reuse.specs.laws.StateAt.{ticked_by, clock_of}
+use Rattle.law_reuse.specs.laws.EraLaw.{guard_ok}
+use Rattle.law_reuse.specs.laws.HistoryEras.{era_ok}
 use Rattle.law_eras.specs.Records.{RecordsKeepEras, RecordClock, RecordsKeepGuards}
-use Rattle.wfe_core.specs.defs.declared.event.Guard.TheVariants.{Helper}
+use Rattle.law_reuse.specs.inv.model.defs.declared.event.Guard.TheVariants.{Helper}
 use Rattle.law_eras.proofs.EraLaw.Owners.{is_reserve, guard_kind, step_owned, hands_of}
 use Rattle.law_eras.proofs.EraLaw.Dates.{Dates, is_dated, ticks_quiet, era_kind, Retired, step_dates}
 

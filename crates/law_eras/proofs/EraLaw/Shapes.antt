@@ -4,22 +4,22 @@ use Rattle.std.proofs.Common.{ℕ, ◌≡◌, ◌∙◌, Bool, true, false, List
 use Rattle.std.proofs.lemmas.List.Elements.{filter-append}
 use Rattle.std.specs.List.{filter}
 use Rattle.std.specs.Prelude.{if◌then◌else◌}
-use Rattle.wfe_core.specs.Phases.{Base}
-use Rattle.wfe_core.specs.declared.post.Post.{Post}
-use Rattle.wfe_core.specs.defs.declared.event.Event.{Event}
-use Rattle.wfe_core.specs.defs.declared.event.Event.TheVariants as events
+use Rattle.law_reuse.specs.inv.model.Phases.{Base}
+use Rattle.law_reuse.specs.inv.model.declared.post.Post.{Post}
+use Rattle.law_reuse.specs.inv.model.defs.declared.event.Event.{Event}
+use Rattle.law_reuse.specs.inv.model.defs.declared.event.Event.TheVariants as events
 use Rattle.law_reuse.proofs.inv.history.MayTell.{Shape, Silent, Clears, Takes, Tells, is_find, cleared_all}
 use Rattle.law_reuse.proofs.inv.history.AllOf.{all_of, of_along}
 use Rattle.law_reuse.proofs.inv.history.Passes.{copied_told, keep_told, work_told}
-use Rattle.wfe_core.proofs.Facts.{and_true}
-use Rattle.wfe_core.specs.Calls.{KeepAt, Loosens, LoadHeld, StoreHeld, Looks, Misses, Work, Getting, Changing, Enqueuing, Dequeuing, Keeping}
-use Rattle.wfe_core.specs.Guards.{one_era}
-use Rattle.wfe_core.specs.Posts.{cleared, stands, reserves_index}
-use Rattle.wfe_core.specs.Rounds.{scheme_of, let_index}
-use Rattle.wfe_core.specs.defs.declared.event.Guard.TheVariants.{Index}
-use Rattle.wfe_core.specs.words.Schemes.{has_one_interval}
+use Rattle.law_reuse.proofs.inv.model.Facts.{and_true}
+use Rattle.law_reuse.specs.inv.model.Calls.{KeepAt, Loosens, LoadHeld, StoreHeld, Looks, Misses, Work, Getting, Changing, Enqueuing, Dequeuing, Keeping}
+use Rattle.law_reuse.specs.inv.model.Guards.{one_era}
+use Rattle.law_reuse.specs.inv.model.Posts.{cleared, stands, reserves_index}
+use Rattle.law_reuse.specs.inv.model.Rounds.{scheme_of, let_index}
+use Rattle.law_reuse.specs.inv.model.defs.declared.event.Guard.TheVariants.{Index}
+use Rattle.law_reuse.specs.inv.model.words.Schemes.{has_one_interval}
 use Rattle.law_reuse.specs.inv.history.Record.{Past, Test}
-use Rattle.laws.proofs.Along.{Single}
+use Rattle.law_reuse.proofs.laws.Along.{Single}
 
 -- of what a machine's step tells one event at most is of such a kind, where neither what stands no more nor what is found is
 kept_none : (kind : Event → Bool) (event : Event) (told : List Event) → kind event ≡ false → filter kind (event ∷ told) ≡ filter kind told

@@ -2,30 +2,30 @@
 use Rattle.std.proofs.Common.{ℕ, ◌≡◌, ◌-◌, ◌+◌, ◌%◌, Bool, true, false, List, [], ◌∷◌, ◌++◌, Option, Some, None, refl, sym, ap, ◌∙◌, subst, arith}
 use Rattle.std.proofs.lemmas.Bool.Decides.{nat_tests}
 use Rattle.std.specs.Prelude.{◌==◌, ◌||◌, not, if◌then◌else◌}
-use Rattle.wfe_core.specs.words.Place.{is_valid}
-use Rattle.wfe_core.specs.words.declared.layout.Layout.{Layout}
-use Rattle.wfe_core.specs.defs.declared.event.Event.{Event}
-use Rattle.wfe_core.specs.defs.declared.event.Event.TheVariants as events
-use Rattle.wfe_core.specs.defs.declared.event.Root.{Root}
-use Rattle.wfe_core.specs.defs.declared.event.Root.TheVariants as roots
-use Rattle.wfe_core.specs.defs.declared.fold.Change.{Change}
-use Rattle.wfe_core.specs.defs.declared.fold.Change.TheVariants as the_changes
-use Rattle.wfe_core.specs.declared.ends.ProtectEnd.TheVariants as protect_ends
-use Rattle.wfe_core.specs.declared.post.Post.{Post}
-use Rattle.wfe_core.specs.Change as alters
-use Rattle.wfe_core.specs.Enqueue as enqueues
-use Rattle.wfe_core.specs.Locals.{told_end}
-use Rattle.wfe_core.specs.Machine as machine
-use Rattle.wfe_core.specs.Memory.{bump}
-use Rattle.wfe_core.specs.Posts.{counted}
-use Rattle.wfe_core.specs.Rounds.{scheme_of, bucket_of, clear_told}
-use Rattle.wfe_core.specs.World.{World, finds, told_in}
-use Rattle.wfe_core.specs.Phases.{Base, Ending, Outcome, Goes, Ends}
-use Rattle.wfe_core.specs.Phases.Base.{Protect}
-use Rattle.wfe_core.specs.Phases.Ending.{Done, Protected, Followed, Allocated, Retired, Clocked}
-use Rattle.wfe_core.specs.Calls.{Task, Gets, Changes, Holds, Enqueues, Dequeues, Why, Opens, GetAt, FindVersion, FindCount, FindKey, FindValue, Work, Getting, Changing, Enqueuing, Dequeuing, Keeping, ReadGuard, GiveBack, Phase, Idle, Runs, Scans, Works, CallOutcome, GoesOn, Answers}
-use Rattle.wfe_core.proofs.Frames.{after_same}
-use Rattle.wfe_core.proofs.Facts.{same_number, first_of, rest_of, zero_test}
+use Rattle.law_turns.specs.inv.model.words.Place.{is_valid}
+use Rattle.law_turns.specs.inv.model.words.declared.layout.Layout.{Layout}
+use Rattle.law_turns.specs.inv.model.defs.declared.event.Event.{Event}
+use Rattle.law_turns.specs.inv.model.defs.declared.event.Event.TheVariants as events
+use Rattle.law_turns.specs.inv.model.defs.declared.event.Root.{Root}
+use Rattle.law_turns.specs.inv.model.defs.declared.event.Root.TheVariants as roots
+use Rattle.law_turns.specs.inv.model.defs.declared.fold.Change.{Change}
+use Rattle.law_turns.specs.inv.model.defs.declared.fold.Change.TheVariants as the_changes
+use Rattle.law_turns.specs.inv.model.declared.ends.ProtectEnd.TheVariants as protect_ends
+use Rattle.law_turns.specs.inv.model.declared.post.Post.{Post}
+use Rattle.law_turns.specs.inv.model.Change as alters
+use Rattle.law_turns.specs.inv.model.Enqueue as enqueues
+use Rattle.law_turns.specs.inv.model.Locals.{told_end}
+use Rattle.law_turns.specs.inv.model.Machine as machine
+use Rattle.law_turns.specs.inv.model.Memory.{bump}
+use Rattle.law_turns.specs.inv.model.Posts.{counted}
+use Rattle.law_turns.specs.inv.model.Rounds.{scheme_of, bucket_of, clear_told}
+use Rattle.law_turns.specs.inv.model.World.{World, finds, told_in}
+use Rattle.law_turns.specs.inv.model.Phases.{Base, Ending, Outcome, Goes, Ends}
+use Rattle.law_turns.specs.inv.model.Phases.Base.{Protect}
+use Rattle.law_turns.specs.inv.model.Phases.Ending.{Done, Protected, Followed, Allocated, Retired, Clocked}
+use Rattle.law_turns.specs.inv.model.Calls.{Task, Gets, Changes, Holds, Enqueues, Dequeues, Why, Opens, GetAt, FindVersion, FindCount, FindKey, FindValue, Work, Getting, Changing, Enqueuing, Dequeuing, Keeping, ReadGuard, GiveBack, Phase, Idle, Runs, Scans, Works, CallOutcome, GoesOn, Answers}
+use Rattle.law_turns.proofs.inv.model.Frames.{after_same}
+use Rattle.law_turns.proofs.inv.model.Facts.{same_number, first_of, rest_of, zero_test}
 use Rattle.law_places.specs.inv.contents.Contents.{ground_of}
 use Rattle.law_places.specs.inv.contents.Knows.{Knows, GetKnows, FoundRow, get_reads, reads_in}
 use Rattle.law_places.specs.inv.contents.Stands.{read_index}
@@ -39,16 +39,16 @@ use Rattle.law_places.proofs.inv.Inv.Reached.{inv_reached}
 use Rattle.law_places.specs.inv.history.Record.{Past, Each, tells_of}
 use Rattle.law_places.specs.inv.history.Record.Past.{Start, Then}
 use Rattle.law_places.specs.inv.history.Turns as schedule
-use Rattle.laws.specs.StateAt.{count_of, bucket_at, stood_at, row_at, null_by, null_of}
+use Rattle.law_turns.specs.laws.StateAt.{count_of, bucket_at, stood_at, row_at, null_by, null_of}
 use Rattle.law_places.proofs.inv.history.AllOf.{all_of, of_weaker}
 use Rattle.law_places.proofs.inv.Machines.{is_machine, base_machine, clear_machine}
-use Rattle.laws.proofs.Tells.{seen_tells, tells_both}
+use Rattle.law_turns.proofs.laws.Tells.{seen_tells, tells_both}
 use Rattle.law_places.proofs.reuse.Reuse.Keeps.{record_stands}
 use Rattle.law_places.proofs.inv.history.Passes.{Closing, First, get_allows, ending_allows, why_allows, outcome_allows, work_allows, work_told, phase_allows, step_closes}
 use Rattle.law_held.proofs.Roots.Ways.{record_each}
 use Rattle.law_places.proofs.inv.ends.Told.Rows.{own_told}
 use Rattle.law_places.specs.inv.history.Heard.{heard_of}
-use Rattle.laws.specs.HistoryHolds.{stands_as, got_right, gots_ok}
+use Rattle.law_turns.specs.laws.HistoryHolds.{stands_as, got_right, gots_ok}
 use Rattle.law_held.specs.Records.{RecordsTellRows}
 use Rattle.law_held.proofs.GotRows.Nulled.{nulled, nulled_at, NulledIn, step_nulled, begin_nulled, ended_null}
 use Rattle.law_held.proofs.GotRows.Rowed.{Rowed, step_rowed, begin_rowed, first_book_rowed}

@@ -3,37 +3,37 @@ use Rattle.std.proofs.Common.{ℕ, ◌≡◌, ◌-◌, ◌+◌, Bool, true, fals
 use Rattle.std.proofs.lemmas.Bool.Decides.{nat_tests}
 use Rattle.std.specs.List.{list_all}
 use Rattle.std.specs.Prelude.{◌==◌, ◌||◌, not, nat_le, if◌then◌else◌}
-use Rattle.wfe_core.specs.words.Place.{is_valid}
-use Rattle.wfe_core.specs.words.Packed.{read_request}
-use Rattle.wfe_core.specs.words.declared.config.Config.{Config}
-use Rattle.wfe_core.specs.words.declared.config.SchemeKind.{SchemeKind}
-use Rattle.wfe_core.specs.words.declared.config.SchemeKind.TheVariants.{He, Ibr, Wfe}
-use Rattle.wfe_core.specs.words.declared.layout.Layout.{Layout}
-use Rattle.wfe_core.specs.words.declared.packed.Request.{Request}
-use Rattle.wfe_core.specs.words.declared.packed.Request.TheVariants as requests
-use Rattle.wfe_core.specs.defs.declared.call.Call.{Call}
-use Rattle.wfe_core.specs.defs.declared.event.Event.{Event}
-use Rattle.wfe_core.specs.defs.declared.event.Event.TheVariants as events
-use Rattle.wfe_core.specs.defs.declared.event.Root.{Root}
-use Rattle.wfe_core.specs.defs.declared.event.Root.TheVariants as roots
-use Rattle.wfe_core.specs.declared.ends.FollowEnd.TheVariants as follow_ends
-use Rattle.wfe_core.specs.declared.post.Post.{Post}
-use Rattle.wfe_core.specs.Links.{parent_of}
-use Rattle.wfe_core.specs.Locals.{Local, turn}
-use Rattle.wfe_core.specs.Machine.{after, protect_turn}
-use Rattle.wfe_core.specs.Memory.{bump}
-use Rattle.wfe_core.specs.Posts.{counted, upper, with_row, reserves_helper}
-use Rattle.wfe_core.specs.Protect.{held_post, told_held, concluded, protected, failed_once, trying}
-use Rattle.wfe_core.specs.Rounds.{scheme_of, index_of, protect_at}
-use Rattle.wfe_core.specs.SlowPath.{own_request, answer_in, lost_turn}
-use Rattle.wfe_core.specs.World.{World, begin, step, finds, told_in}
-use Rattle.wfe_core.specs.Phases.BeginAt.{LoadLower, PublishSpan}
-use Rattle.wfe_core.specs.Phases.{Aim, Alone, Follows, BeginAt, Tries, Endless, Failed, ProtectAt, Base, Outcome, Goes, Ends, Turn, goes, ends}
-use Rattle.wfe_core.specs.Phases.ProtectAt.{PublishEra, LoadLink, CheckClock, PublishRequest, CheckOwnClock, AnswerOwn, LoadAnswer, TakeAnswer, WithdrawRequest, WithdrawHelper, CheckUpper, RaiseUpper}
-use Rattle.wfe_core.specs.Phases.Base.{Begin, Protect, Reload, Allocate, Write, Retire, Move}
-use Rattle.wfe_core.specs.Phases.Ending.{Followed}
-use Rattle.wfe_core.specs.Calls.{Why, Phase, Idle, Runs, Scans, Works}
-use Rattle.wfe_core.proofs.Facts.{first_of, rest_of, then_of, or_more}
+use Rattle.law_turns.specs.inv.model.words.Place.{is_valid}
+use Rattle.law_turns.specs.inv.model.words.Packed.{read_request}
+use Rattle.law_turns.specs.inv.model.words.declared.config.Config.{Config}
+use Rattle.law_turns.specs.inv.model.words.declared.config.SchemeKind.{SchemeKind}
+use Rattle.law_turns.specs.inv.model.words.declared.config.SchemeKind.TheVariants.{He, Ibr, Wfe}
+use Rattle.law_turns.specs.inv.model.words.declared.layout.Layout.{Layout}
+use Rattle.law_turns.specs.inv.model.words.declared.packed.Request.{Request}
+use Rattle.law_turns.specs.inv.model.words.declared.packed.Request.TheVariants as requests
+use Rattle.law_turns.specs.inv.model.defs.declared.call.Call.{Call}
+use Rattle.law_turns.specs.inv.model.defs.declared.event.Event.{Event}
+use Rattle.law_turns.specs.inv.model.defs.declared.event.Event.TheVariants as events
+use Rattle.law_turns.specs.inv.model.defs.declared.event.Root.{Root}
+use Rattle.law_turns.specs.inv.model.defs.declared.event.Root.TheVariants as roots
+use Rattle.law_turns.specs.inv.model.declared.ends.FollowEnd.TheVariants as follow_ends
+use Rattle.law_turns.specs.inv.model.declared.post.Post.{Post}
+use Rattle.law_turns.specs.inv.model.Links.{parent_of}
+use Rattle.law_turns.specs.inv.model.Locals.{Local, turn}
+use Rattle.law_turns.specs.inv.model.Machine.{after, protect_turn}
+use Rattle.law_turns.specs.inv.model.Memory.{bump}
+use Rattle.law_turns.specs.inv.model.Posts.{counted, upper, with_row, reserves_helper}
+use Rattle.law_turns.specs.inv.model.Protect.{held_post, told_held, concluded, protected, failed_once, trying}
+use Rattle.law_turns.specs.inv.model.Rounds.{scheme_of, index_of, protect_at}
+use Rattle.law_turns.specs.inv.model.SlowPath.{own_request, answer_in, lost_turn}
+use Rattle.law_turns.specs.inv.model.World.{World, begin, step, finds, told_in}
+use Rattle.law_turns.specs.inv.model.Phases.BeginAt.{LoadLower, PublishSpan}
+use Rattle.law_turns.specs.inv.model.Phases.{Aim, Alone, Follows, BeginAt, Tries, Endless, Failed, ProtectAt, Base, Outcome, Goes, Ends, Turn, goes, ends}
+use Rattle.law_turns.specs.inv.model.Phases.ProtectAt.{PublishEra, LoadLink, CheckClock, PublishRequest, CheckOwnClock, AnswerOwn, LoadAnswer, TakeAnswer, WithdrawRequest, WithdrawHelper, CheckUpper, RaiseUpper}
+use Rattle.law_turns.specs.inv.model.Phases.Base.{Begin, Protect, Reload, Allocate, Write, Retire, Move}
+use Rattle.law_turns.specs.inv.model.Phases.Ending.{Followed}
+use Rattle.law_turns.specs.inv.model.Calls.{Why, Phase, Idle, Runs, Scans, Works}
+use Rattle.law_turns.proofs.inv.model.Facts.{first_of, rest_of, then_of, or_more}
 use Rattle.law_places.proofs.inv.history.MayTell.{concluded_told}
 use Rattle.law_places.specs.inv.links.Origins.{ends_at}
 use Rattle.law_places.specs.inv.shapes.Frame.{Onward, Grows, Owes, Moves, Passed}
@@ -44,13 +44,13 @@ use Rattle.law_places.proofs.inv.shapes.Inside.{shape_moves}
 use Rattle.law_places.proofs.inv.shapes.Kept.{counted_fits, run_counted, work_counted, begun_fits}
 use Rattle.law_places.specs.inv.history.Record.{Past, tells_of}
 use Rattle.law_places.specs.inv.history.Record.Past.{Then}
-use Rattle.laws.proofs.Along.{along}
+use Rattle.law_turns.proofs.laws.Along.{along}
 use Rattle.law_places.proofs.Placing.Sums.{along_both}
-use Rattle.laws.proofs.Tells.{seen_tells, seen_stays, seen_other}
+use Rattle.law_turns.proofs.laws.Tells.{seen_tells, seen_stays, seen_other}
 use Rattle.law_places.proofs.inv.ends.Told.Rows.{own_told, own_post, step_adds}
 use Rattle.law_places.proofs.inv.ends.Told.Turns.{Adds, is_later}
 use Rattle.law_places.proofs.inv.ends.Told.Births.{each_stores}
-use Rattle.laws.specs.StateAt.{null_by, null_of}
+use Rattle.law_turns.specs.laws.StateAt.{null_by, null_of}
 
 -- where an answer was taken whose link is null, index 0 was told null
 abbrev pub nulled_at : ProtectAt → Bool → Bool

@@ -2,31 +2,31 @@
 use Rattle.std.proofs.Common.{ℕ, ◌≡◌, ◌≤◌, ◌+◌, ◌-◌, Bool, true, false, List, [], ◌∷◌, ◌++◌, length, Option, Some, refl, sym, ap, ◌∙◌, subst, arith, length-append}
 use Rattle.std.proofs.lemmas.Bool.Decides.{nat_tests}
 use Rattle.std.specs.Prelude.{◌==◌, if◌then◌else◌}
-use Rattle.wfe_core.specs.defs.declared.call.Call.{Call}
-use Rattle.wfe_core.specs.defs.declared.event.Event.{Event}
-use Rattle.wfe_core.specs.defs.declared.event.Event.TheVariants as events
-use Rattle.wfe_core.specs.defs.declared.event.Root.TheVariants as roots
-use Rattle.wfe_core.specs.defs.declared.fold.Change.{Change}
-use Rattle.wfe_core.specs.defs.declared.fold.Change.TheVariants as changes
-use Rattle.wfe_core.specs.declared.post.Post.{Post}
-use Rattle.wfe_core.specs.Book.{Book, RowBook, first_book, booked, booked_all}
-use Rattle.wfe_core.specs.Change.{told_change, changed_bucket}
-use Rattle.wfe_core.specs.Enqueue.{told_link}
-use Rattle.wfe_core.specs.Locals.{told_end, turn}
-use Rattle.wfe_core.specs.Memory.{upd}
-use Rattle.wfe_core.specs.Posts.{counted}
-use Rattle.wfe_core.specs.World.{World, finds, step, told_in}
-use Rattle.wfe_core.specs.Calls.{ChangeKept, EnqueueKept, LoadVersion, LoadCount, LoadKey, LoadValue, ExchangeRoot, LoadNumber, LoadNext, PassTail, ExchangeNext, ExchangeTail, LoadTail, SwingTail, TakeNumber, TakeValue, ExchangeHead, Getting, Changing, Enqueuing, Dequeuing, Keeping, Phase, Idle, Runs, Scans, Works, CallTurn, CallOutcome, GoesOn, Answers}
-use Rattle.wfe_core.proofs.Facts.{same_number, first_of, rest_of}
+use Rattle.law_turns.specs.inv.model.defs.declared.call.Call.{Call}
+use Rattle.law_turns.specs.inv.model.defs.declared.event.Event.{Event}
+use Rattle.law_turns.specs.inv.model.defs.declared.event.Event.TheVariants as events
+use Rattle.law_turns.specs.inv.model.defs.declared.event.Root.TheVariants as roots
+use Rattle.law_turns.specs.inv.model.defs.declared.fold.Change.{Change}
+use Rattle.law_turns.specs.inv.model.defs.declared.fold.Change.TheVariants as changes
+use Rattle.law_turns.specs.inv.model.declared.post.Post.{Post}
+use Rattle.law_turns.specs.inv.model.Book.{Book, RowBook, first_book, booked, booked_all}
+use Rattle.law_turns.specs.inv.model.Change.{told_change, changed_bucket}
+use Rattle.law_turns.specs.inv.model.Enqueue.{told_link}
+use Rattle.law_turns.specs.inv.model.Locals.{told_end, turn}
+use Rattle.law_turns.specs.inv.model.Memory.{upd}
+use Rattle.law_turns.specs.inv.model.Posts.{counted}
+use Rattle.law_turns.specs.inv.model.World.{World, finds, step, told_in}
+use Rattle.law_turns.specs.inv.model.Calls.{ChangeKept, EnqueueKept, LoadVersion, LoadCount, LoadKey, LoadValue, ExchangeRoot, LoadNumber, LoadNext, PassTail, ExchangeNext, ExchangeTail, LoadTail, SwingTail, TakeNumber, TakeValue, ExchangeHead, Getting, Changing, Enqueuing, Dequeuing, Keeping, Phase, Idle, Runs, Scans, Works, CallTurn, CallOutcome, GoesOn, Answers}
+use Rattle.law_turns.proofs.inv.model.Facts.{same_number, first_of, rest_of}
 use Rattle.law_places.proofs.inv.contents.Contents.Told.{booked_append}
 use Rattle.law_places.specs.inv.history.Record.{Past, tells_of}
 use Rattle.law_places.specs.inv.history.Record.Past.{Start, Then}
-use Rattle.laws.specs.StateAt.{changes_of, count_of, bucket_at, row_at}
+use Rattle.law_turns.specs.laws.StateAt.{changes_of, count_of, bucket_at, row_at}
 use Rattle.law_places.proofs.inv.history.AllOf.{all_of, of_weaker}
 use Rattle.law_places.proofs.answers.Lawful.Maps.{told_changes}
 use Rattle.law_places.proofs.Placing.Fronts.{linked_front, queued_front, taken_front}
 use Rattle.law_places.proofs.Placing.Marks.{is_common, ordered, InOrder, step_order}
-use Rattle.laws.proofs.Tells.{tells_both}
+use Rattle.law_turns.proofs.laws.Tells.{tells_both}
 use Rattle.law_places.proofs.inv.contents.Contents.Shelves.{same_bucket}
 
 -- row s is that of this version of bucket b

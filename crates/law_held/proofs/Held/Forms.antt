@@ -1,39 +1,39 @@
 -- In which order a step tells what changes guards and lives, and what stands.
 use Rattle.std.proofs.Common.{ℕ, ◌≡◌, ◌+◌, ◌%◌, Bool, true, false, List, [], ◌∷◌, ◌++◌, Option, Some, None, refl, sym, ap, ◌∙◌, subst}
 use Rattle.std.specs.Prelude.{◌==◌, not, if◌then◌else◌}
-use Rattle.wfe_core.specs.words.declared.config.SchemeKind.{SchemeKind}
-use Rattle.wfe_core.specs.words.declared.config.SchemeKind.TheVariants.{He, Ibr, Wfe}
-use Rattle.wfe_core.specs.words.declared.layout.Layout.{Layout}
-use Rattle.wfe_core.specs.defs.declared.call.Answer.{Answer}
-use Rattle.wfe_core.specs.defs.declared.event.Event.{Event}
-use Rattle.wfe_core.specs.defs.declared.event.Event.TheVariants as events
-use Rattle.wfe_core.specs.defs.declared.event.Root.{Root}
-use Rattle.wfe_core.specs.declared.post.Post.{Post}
-use Rattle.wfe_core.specs.Allocate as allocates
-use Rattle.wfe_core.specs.Desks.{Desk, with_life}
-use Rattle.wfe_core.specs.Keep as keeps
-use Rattle.wfe_core.specs.Locals.{told_by, told_end}
-use Rattle.wfe_core.specs.Machine as machine
-use Rattle.wfe_core.specs.Memory.{bump}
-use Rattle.wfe_core.specs.Posts.{upper}
-use Rattle.wfe_core.specs.Protect as protects
-use Rattle.wfe_core.specs.Protect.{told_held}
-use Rattle.wfe_core.specs.Rounds.{scheme_of, taken_of, clear_told, given_up, closed}
-use Rattle.wfe_core.specs.Scan as scan
-use Rattle.wfe_core.specs.SlowPath.{own_request}
-use Rattle.wfe_core.specs.Steps as steps
-use Rattle.wfe_core.specs.WriteRow.{last_written}
-use Rattle.wfe_core.specs.Phases.{Aim, BeginAt, ProtectAt, AllocateAt, Walk, Base, Ending, Outcome, Goes, Ends, Turn, goes}
-use Rattle.wfe_core.specs.Phases.BeginAt.{LoadLower, PublishSpan}
-use Rattle.wfe_core.specs.Phases.ProtectAt.{PublishEra, CheckClock, PublishHelper, CheckOwnClock, AnswerOwn, TakeAnswer, WithdrawHelper, CheckUpper, RaiseUpper}
-use Rattle.wfe_core.specs.Phases.AllocateAt.{LoadBirth, ClaimSlot, StoreLife}
-use Rattle.wfe_core.specs.Phases.Base.{Begin, Protect, Reload, Clear, Allocate, Write}
-use Rattle.wfe_core.specs.Phases.Ending.{Done, Protected, Followed, Allocated, Retired, Clocked}
-use Rattle.wfe_core.specs.Calls.{Task, Next, Again, MakeRoom, Answering, Retiring, AfterScan, Answered, Repeated, Counted, Why, Opens, FollowsHead, Fills, ClearsNext, Clears, Finishes, GivesUp, Retires, Tidies, Advances, Releases, LetGo, Released, Rehold, Dropped, GiveBack, Runs, Scans, CallTurn, CallOutcome, GoesOn, Answers}
-use Rattle.wfe_core.proofs.Facts.{first_of, rest_of, false_not_true}
+use Rattle.law_turns.specs.inv.model.words.declared.config.SchemeKind.{SchemeKind}
+use Rattle.law_turns.specs.inv.model.words.declared.config.SchemeKind.TheVariants.{He, Ibr, Wfe}
+use Rattle.law_turns.specs.inv.model.words.declared.layout.Layout.{Layout}
+use Rattle.law_turns.specs.inv.model.defs.declared.call.Answer.{Answer}
+use Rattle.law_turns.specs.inv.model.defs.declared.event.Event.{Event}
+use Rattle.law_turns.specs.inv.model.defs.declared.event.Event.TheVariants as events
+use Rattle.law_turns.specs.inv.model.defs.declared.event.Root.{Root}
+use Rattle.law_turns.specs.inv.model.declared.post.Post.{Post}
+use Rattle.law_turns.specs.inv.model.Allocate as allocates
+use Rattle.law_turns.specs.inv.model.Desks.{Desk, with_life}
+use Rattle.law_turns.specs.inv.model.Keep as keeps
+use Rattle.law_turns.specs.inv.model.Locals.{told_by, told_end}
+use Rattle.law_turns.specs.inv.model.Machine as machine
+use Rattle.law_turns.specs.inv.model.Memory.{bump}
+use Rattle.law_turns.specs.inv.model.Posts.{upper}
+use Rattle.law_turns.specs.inv.model.Protect as protects
+use Rattle.law_turns.specs.inv.model.Protect.{told_held}
+use Rattle.law_turns.specs.inv.model.Rounds.{scheme_of, taken_of, clear_told, given_up, closed}
+use Rattle.law_turns.specs.inv.model.Scan as scan
+use Rattle.law_turns.specs.inv.model.SlowPath.{own_request}
+use Rattle.law_turns.specs.inv.model.Steps as steps
+use Rattle.law_turns.specs.inv.model.WriteRow.{last_written}
+use Rattle.law_turns.specs.inv.model.Phases.{Aim, BeginAt, ProtectAt, AllocateAt, Walk, Base, Ending, Outcome, Goes, Ends, Turn, goes}
+use Rattle.law_turns.specs.inv.model.Phases.BeginAt.{LoadLower, PublishSpan}
+use Rattle.law_turns.specs.inv.model.Phases.ProtectAt.{PublishEra, CheckClock, PublishHelper, CheckOwnClock, AnswerOwn, TakeAnswer, WithdrawHelper, CheckUpper, RaiseUpper}
+use Rattle.law_turns.specs.inv.model.Phases.AllocateAt.{LoadBirth, ClaimSlot, StoreLife}
+use Rattle.law_turns.specs.inv.model.Phases.Base.{Begin, Protect, Reload, Clear, Allocate, Write}
+use Rattle.law_turns.specs.inv.model.Phases.Ending.{Done, Protected, Followed, Allocated, Retired, Clocked}
+use Rattle.law_turns.specs.inv.model.Calls.{Task, Next, Again, MakeRoom, Answering, Retiring, AfterScan, Answered, Repeated, Counted, Why, Opens, FollowsHead, Fills, ClearsNext, Clears, Finishes, GivesUp, Retires, Tidies, Advances, Releases, LetGo, Released, Rehold, Dropped, GiveBack, Runs, Scans, CallTurn, CallOutcome, GoesOn, Answers}
+use Rattle.law_turns.proofs.inv.model.Facts.{first_of, rest_of, false_not_true}
 use Rattle.law_places.proofs.inv.history.MayTell as may
 use Rattle.law_places.proofs.inv.history.MayTell.{concluded_told, Silent, Single, Takes, takes, shape_of, held_any}
-use Rattle.wfe_core.specs.words.Schemes.{is_ibr}
+use Rattle.law_turns.specs.inv.model.words.Schemes.{is_ibr}
 use Rattle.law_places.specs.inv.shapes.Seats.{Run, ToClear, suits, protect_fits}
 use Rattle.law_places.proofs.inv.history.AllOf.{all_of, of_along}
 use Rattle.law_places.proofs.inv.history.Passes.{is_quiet, all_quiet, Closed, step_goes}

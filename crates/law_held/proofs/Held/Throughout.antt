@@ -3,40 +3,40 @@ use Rattle.std.proofs.Common.{ℕ, ◌≡◌, ◌-◌, ◌⊎◌, inl, inr, Bool
 use Rattle.std.proofs.lemmas.Bool.Decides.{nat_tests}
 use Rattle.std.specs.List.{list_any, list_all}
 use Rattle.std.specs.Prelude.{◌==◌, ◌&&◌, ◌||◌, nat_lt, if◌then◌else◌}
-use Rattle.wfe_core.specs.words.Place.{is_valid}
-use Rattle.wfe_core.specs.words.declared.config.Config.{Config}
-use Rattle.wfe_core.specs.words.declared.layout.Layout.{Layout}
-use Rattle.wfe_core.specs.defs.declared.event.Event.{Event}
-use Rattle.wfe_core.specs.defs.declared.event.Event.TheVariants as events
-use Rattle.wfe_core.specs.defs.declared.event.Guard.TheVariants.{Index}
-use Rattle.wfe_core.specs.defs.declared.event.Root.{Root}
-use Rattle.wfe_core.specs.defs.declared.event.Root.TheVariants as roots
-use Rattle.wfe_core.specs.declared.post.Post.{Post}
-use Rattle.wfe_core.proofs.Frames.{after_same}
-use Rattle.wfe_core.specs.Guards.{one_era}
-use Rattle.wfe_core.specs.Locals.{told_by, told_end, turn}
-use Rattle.wfe_core.specs.Memory.{bump}
-use Rattle.wfe_core.specs.Posts.{stands, counted, cleared}
-use Rattle.wfe_core.specs.Protect.{told_held}
-use Rattle.wfe_core.specs.Steps as steps
-use Rattle.wfe_core.specs.World.{World, finds, is_busy, told_in, step}
-use Rattle.wfe_core.specs.Phases.{Aim, Base}
-use Rattle.wfe_core.specs.Phases.ProtectAt.{TakeAnswer}
-use Rattle.wfe_core.specs.Phases.Base.{Protect}
-use Rattle.wfe_core.specs.Calls.{ReadGuard, GiveBack, Why, Phase, Idle, Runs, Scans, Works, CallTurn, KeepAt, Loosens, LoadHeld, StoreHeld, Looks, Misses, Work, Getting, Changing, Enqueuing, Dequeuing, Keeping}
-use Rattle.wfe_core.specs.Keep as keeps
-use Rattle.wfe_core.specs.Rounds.{let_index, scheme_of}
-use Rattle.wfe_core.specs.words.Schemes.{has_one_interval}
-use Rattle.wfe_core.specs.defs.declared.event.Guard.{Guard}
-use Rattle.wfe_core.specs.defs.declared.lifetime.Interval.{Interval}
+use Rattle.law_turns.specs.inv.model.words.Place.{is_valid}
+use Rattle.law_turns.specs.inv.model.words.declared.config.Config.{Config}
+use Rattle.law_turns.specs.inv.model.words.declared.layout.Layout.{Layout}
+use Rattle.law_turns.specs.inv.model.defs.declared.event.Event.{Event}
+use Rattle.law_turns.specs.inv.model.defs.declared.event.Event.TheVariants as events
+use Rattle.law_turns.specs.inv.model.defs.declared.event.Guard.TheVariants.{Index}
+use Rattle.law_turns.specs.inv.model.defs.declared.event.Root.{Root}
+use Rattle.law_turns.specs.inv.model.defs.declared.event.Root.TheVariants as roots
+use Rattle.law_turns.specs.inv.model.declared.post.Post.{Post}
+use Rattle.law_turns.proofs.inv.model.Frames.{after_same}
+use Rattle.law_turns.specs.inv.model.Guards.{one_era}
+use Rattle.law_turns.specs.inv.model.Locals.{told_by, told_end, turn}
+use Rattle.law_turns.specs.inv.model.Memory.{bump}
+use Rattle.law_turns.specs.inv.model.Posts.{stands, counted, cleared}
+use Rattle.law_turns.specs.inv.model.Protect.{told_held}
+use Rattle.law_turns.specs.inv.model.Steps as steps
+use Rattle.law_turns.specs.inv.model.World.{World, finds, is_busy, told_in, step}
+use Rattle.law_turns.specs.inv.model.Phases.{Aim, Base}
+use Rattle.law_turns.specs.inv.model.Phases.ProtectAt.{TakeAnswer}
+use Rattle.law_turns.specs.inv.model.Phases.Base.{Protect}
+use Rattle.law_turns.specs.inv.model.Calls.{ReadGuard, GiveBack, Why, Phase, Idle, Runs, Scans, Works, CallTurn, KeepAt, Loosens, LoadHeld, StoreHeld, Looks, Misses, Work, Getting, Changing, Enqueuing, Dequeuing, Keeping}
+use Rattle.law_turns.specs.inv.model.Keep as keeps
+use Rattle.law_turns.specs.inv.model.Rounds.{let_index, scheme_of}
+use Rattle.law_turns.specs.inv.model.words.Schemes.{has_one_interval}
+use Rattle.law_turns.specs.inv.model.defs.declared.event.Guard.{Guard}
+use Rattle.law_turns.specs.inv.model.defs.declared.lifetime.Interval.{Interval}
 use Rattle.law_places.proofs.inv.contents.Stands.Rounds.{is_clear}
-use Rattle.wfe_core.proofs.Facts.{both, same_number, first_of, rest_of, implies_or, or_left_true, or_more, then_of}
+use Rattle.law_turns.proofs.inv.model.Facts.{both, same_number, first_of, rest_of, implies_or, or_left_true, or_more, then_of}
 use Rattle.law_places.proofs.inv.covers.Resting.{rests_give}
 use Rattle.law_places.proofs.inv.ends.Ends.Held.{held_stands}
 use Rattle.law_places.specs.inv.shapes.Seats.{Seats}
 use Rattle.law_places.specs.inv.history.History.{Item, Begins, Steps, Made, fits, done, done_if, made_of, record_of, world_of}
 use Rattle.law_places.proofs.inv.history.Along.{low_seat, paths_keep}
-use Rattle.laws.specs.HoldLaw.{is_held}
+use Rattle.law_turns.specs.laws.HoldLaw.{is_held}
 use Rattle.law_places.proofs.reuse.Holding.Holds.{records_hold}
 use Rattle.law_places.specs.inv.Inv.{Inv}
 use Rattle.law_places.proofs.inv.Inv.Guards.{rests_need}
@@ -44,9 +44,9 @@ use Rattle.law_places.proofs.inv.Inv.Reached.{inv_reached}
 use Rattle.law_places.specs.inv.history.Record.{Past, Each, EachEntry, tells_of}
 use Rattle.law_places.proofs.inv.history.Entries.{entries_of_each}
 use Rattle.law_places.proofs.inv.history.AllOf.{all_of, of_along}
-use Rattle.laws.specs.StateAt.{stood_at, is_row}
+use Rattle.law_turns.specs.laws.StateAt.{stood_at, is_row}
 use Rattle.law_places.proofs.reuse.Reuse.Keeps.{record_stands}
-use Rattle.laws.proofs.Along.{row_of}
+use Rattle.law_turns.proofs.laws.Along.{row_of}
 use Rattle.law_held.proofs.Roots.Ways.{Turning}
 use Rattle.law_places.proofs.inv.ends.Told.Rows.{own_told, own_post, step_adds}
 use Rattle.law_places.proofs.inv.ends.Told.Turns.{Adds, is_later}
@@ -54,7 +54,7 @@ use Rattle.law_held.specs.Records.{RecordsHoldThroughout}
 use Rattle.law_held.proofs.Held.Flat.{is_flat, is_settled, is_at, comes, settled_flat, all_flat, holds_ok, Good, late_each, take_each, copy_each, plain_each}
 use Rattle.law_held.proofs.Held.Forms.{Shape, Even, Late, end_settled, run_shape, back_shape}
 use Rattle.law_held.proofs.Resting.Resting.{next_made}
-use Rattle.wfe_core.specs.defs.Events.{is_held as event_is_held}
+use Rattle.law_turns.specs.inv.model.defs.Events.{is_held as event_is_held}
 use Rattle.law_places.specs.inv.ends.Stands.{is_copied}
 use Rattle.law_places.proofs.inv.ends.Ends.Copied.{copy_stands}
 use Rattle.law_places.proofs.inv.history.Passes.{copied_told, keep_told}

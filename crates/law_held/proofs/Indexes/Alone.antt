@@ -1,23 +1,23 @@
 -- A protection ends only where nothing stands at its index, and so a copy is made.
 use Rattle.std.proofs.Common.{ℕ, ◌≡◌, Bool, true, false, List, [], ◌∷◌, ◌++◌, Option, None, refl, sym, ap, ◌∙◌, subst}
 use Rattle.std.specs.Prelude.{◌==◌, ◌&&◌, ◌||◌, not, is_none, if◌then◌else◌, Some}
-use Rattle.wfe_core.specs.words.Place.{is_valid}
-use Rattle.wfe_core.specs.words.declared.config.SchemeKind.{SchemeKind}
-use Rattle.wfe_core.specs.words.declared.layout.Layout.{Layout}
-use Rattle.wfe_core.specs.defs.declared.event.Event.{Event}
-use Rattle.wfe_core.specs.defs.declared.event.Event.TheVariants as events
-use Rattle.wfe_core.specs.declared.post.Post.{Post}
-use Rattle.wfe_core.specs.Calls.{Task, Gets, Changes, Holds, Enqueues, Dequeues, ReadGuard, GiveBack, Why, Opens, FollowsHead, Phase, Idle, Runs, Scans, Works, Work, Getting, Changing, Enqueuing, Dequeuing, Keeping, Loosens, LoadHeld, StoreHeld, Looks, Misses}
-use Rattle.wfe_core.specs.Machine as machine
-use Rattle.wfe_core.specs.Memory.{bump}
-use Rattle.wfe_core.specs.Phases.{ProtectAt, Base}
-use Rattle.wfe_core.specs.Phases.ProtectAt.{CheckClock, TakeAnswer, CheckUpper}
-use Rattle.wfe_core.specs.Phases.Base.{Protect, Reload}
-use Rattle.wfe_core.specs.Posts.{stands, counted, cleared, reserves_index}
-use Rattle.wfe_core.specs.Rounds.{index_of, scheme_of, clear_told, let_index}
-use Rattle.wfe_core.specs.words.Schemes.{has_one_interval}
-use Rattle.wfe_core.specs.World.{World, finds, told_in}
-use Rattle.wfe_core.proofs.Facts.{same_number, first_of, rest_of, number_is}
+use Rattle.law_turns.specs.inv.model.words.Place.{is_valid}
+use Rattle.law_turns.specs.inv.model.words.declared.config.SchemeKind.{SchemeKind}
+use Rattle.law_turns.specs.inv.model.words.declared.layout.Layout.{Layout}
+use Rattle.law_turns.specs.inv.model.defs.declared.event.Event.{Event}
+use Rattle.law_turns.specs.inv.model.defs.declared.event.Event.TheVariants as events
+use Rattle.law_turns.specs.inv.model.declared.post.Post.{Post}
+use Rattle.law_turns.specs.inv.model.Calls.{Task, Gets, Changes, Holds, Enqueues, Dequeues, ReadGuard, GiveBack, Why, Opens, FollowsHead, Phase, Idle, Runs, Scans, Works, Work, Getting, Changing, Enqueuing, Dequeuing, Keeping, Loosens, LoadHeld, StoreHeld, Looks, Misses}
+use Rattle.law_turns.specs.inv.model.Machine as machine
+use Rattle.law_turns.specs.inv.model.Memory.{bump}
+use Rattle.law_turns.specs.inv.model.Phases.{ProtectAt, Base}
+use Rattle.law_turns.specs.inv.model.Phases.ProtectAt.{CheckClock, TakeAnswer, CheckUpper}
+use Rattle.law_turns.specs.inv.model.Phases.Base.{Protect, Reload}
+use Rattle.law_turns.specs.inv.model.Posts.{stands, counted, cleared, reserves_index}
+use Rattle.law_turns.specs.inv.model.Rounds.{index_of, scheme_of, clear_told, let_index}
+use Rattle.law_turns.specs.inv.model.words.Schemes.{has_one_interval}
+use Rattle.law_turns.specs.inv.model.World.{World, finds, told_in}
+use Rattle.law_turns.proofs.inv.model.Facts.{same_number, first_of, rest_of, number_is}
 use Rattle.law_places.specs.inv.covers.Rests.{Vacant, bare, vacant, vacant_why}
 use Rattle.law_places.specs.inv.shapes.Seats.{Run, Seats, kind_of, suits, index_by}
 use Rattle.law_places.specs.inv.history.History.{record_of, world_of}
@@ -28,8 +28,8 @@ use Rattle.law_places.proofs.inv.history.Passes.{is_quiet, all_quiet, Closed, Fi
 use Rattle.law_places.proofs.inv.handover.Asks.{run_of}
 use Rattle.law_places.proofs.reuse.Reuse.Follows.{stood, stood_along}
 use Rattle.law_places.proofs.reuse.Reuse.Keeps.{record_stands}
-use Rattle.laws.proofs.Tells.{AllRight}
-use Rattle.laws.specs.StateAt.{stood_by, stood_at}
+use Rattle.law_turns.proofs.laws.Tells.{AllRight}
+use Rattle.law_turns.specs.laws.StateAt.{stood_by, stood_at}
 use Rattle.law_held.specs.Records.{RecordsHoldAlone}
 use Rattle.law_held.proofs.Indexes.Clears.{own_stood}
 use Rattle.law_held.proofs.Roots.Ways.{Along, record_each, answers_of}

@@ -3,29 +3,29 @@ use Rattle.std.proofs.Common.{ℕ, ◌≡◌, ◌<◌, ◌+◌, ◌-◌, Bool, t
 use Rattle.std.proofs.lemmas.Bool.Decides.{nat_tests}
 use Rattle.std.specs.List.{list_any}
 use Rattle.std.specs.Prelude.{◌==◌, ◌&&◌, ◌||◌, not, if◌then◌else◌}
-use Rattle.wfe_core.proofs.Ranges.{bounds_of}
-use Rattle.wfe_core.specs.words.Place.{is_valid}
-use Rattle.wfe_core.specs.words.Schemes.{has_one_interval}
-use Rattle.wfe_core.specs.words.declared.config.Config.{Config}
-use Rattle.wfe_core.specs.words.declared.config.SchemeKind.{SchemeKind}
-use Rattle.wfe_core.specs.words.declared.config.SchemeKind.TheVariants.{He, Ibr, Wfe}
-use Rattle.wfe_core.specs.words.declared.layout.Layout.{Layout}
-use Rattle.wfe_core.specs.defs.declared.event.Event.{Event}
-use Rattle.wfe_core.specs.defs.declared.event.Event.TheVariants as events
-use Rattle.wfe_core.specs.defs.declared.event.Root.{Root}
-use Rattle.wfe_core.specs.defs.declared.event.Root.TheVariants as roots
-use Rattle.wfe_core.specs.declared.post.Post.{Post}
-use Rattle.wfe_core.specs.Calls.{Why, Phase, Idle, Runs, Scans, Works, ScanAt, ReadGuard, GiveBack, Work, Getting, Changing, Enqueuing, Dequeuing, Keeping, Loosens, LoadHeld, StoreHeld, Looks, Misses}
-use Rattle.wfe_core.specs.Machine as machine
-use Rattle.wfe_core.specs.Memory.{bump}
-use Rattle.wfe_core.specs.Phases.{ProtectAt, Base}
-use Rattle.wfe_core.specs.Phases.ProtectAt.{CheckClock, TakeAnswer, CheckUpper}
-use Rattle.wfe_core.specs.Phases.Base.{Begin, Protect, Reload, Clear, Finish, Release, Allocate, Write, GiveUp, Retire, Move}
-use Rattle.wfe_core.specs.Posts.{stands, counted, cleared, upper, reserves_index, reserves_span}
-use Rattle.wfe_core.specs.Protect.{told_held}
-use Rattle.wfe_core.specs.Rounds.{scheme_of, clear_told, let_index}
-use Rattle.wfe_core.specs.World.{World, finds, told_in}
-use Rattle.wfe_core.proofs.Facts.{same_number, first_of, rest_of, and_right_false, below_length}
+use Rattle.law_turns.proofs.inv.model.Ranges.{bounds_of}
+use Rattle.law_turns.specs.inv.model.words.Place.{is_valid}
+use Rattle.law_turns.specs.inv.model.words.Schemes.{has_one_interval}
+use Rattle.law_turns.specs.inv.model.words.declared.config.Config.{Config}
+use Rattle.law_turns.specs.inv.model.words.declared.config.SchemeKind.{SchemeKind}
+use Rattle.law_turns.specs.inv.model.words.declared.config.SchemeKind.TheVariants.{He, Ibr, Wfe}
+use Rattle.law_turns.specs.inv.model.words.declared.layout.Layout.{Layout}
+use Rattle.law_turns.specs.inv.model.defs.declared.event.Event.{Event}
+use Rattle.law_turns.specs.inv.model.defs.declared.event.Event.TheVariants as events
+use Rattle.law_turns.specs.inv.model.defs.declared.event.Root.{Root}
+use Rattle.law_turns.specs.inv.model.defs.declared.event.Root.TheVariants as roots
+use Rattle.law_turns.specs.inv.model.declared.post.Post.{Post}
+use Rattle.law_turns.specs.inv.model.Calls.{Why, Phase, Idle, Runs, Scans, Works, ScanAt, ReadGuard, GiveBack, Work, Getting, Changing, Enqueuing, Dequeuing, Keeping, Loosens, LoadHeld, StoreHeld, Looks, Misses}
+use Rattle.law_turns.specs.inv.model.Machine as machine
+use Rattle.law_turns.specs.inv.model.Memory.{bump}
+use Rattle.law_turns.specs.inv.model.Phases.{ProtectAt, Base}
+use Rattle.law_turns.specs.inv.model.Phases.ProtectAt.{CheckClock, TakeAnswer, CheckUpper}
+use Rattle.law_turns.specs.inv.model.Phases.Base.{Begin, Protect, Reload, Clear, Finish, Release, Allocate, Write, GiveUp, Retire, Move}
+use Rattle.law_turns.specs.inv.model.Posts.{stands, counted, cleared, upper, reserves_index, reserves_span}
+use Rattle.law_turns.specs.inv.model.Protect.{told_held}
+use Rattle.law_turns.specs.inv.model.Rounds.{scheme_of, clear_told, let_index}
+use Rattle.law_turns.specs.inv.model.World.{World, finds, told_in}
+use Rattle.law_turns.proofs.inv.model.Facts.{same_number, first_of, rest_of, and_right_false, below_length}
 use Rattle.law_places.specs.inv.covers.Held.{index_base}
 use Rattle.law_places.proofs.inv.ends.Ends.Tests.{Calm, at_shows, base_shows, base_any}
 use Rattle.law_places.specs.inv.shapes.Seats.{Seats}
@@ -33,14 +33,14 @@ use Rattle.law_places.specs.inv.shapes.Slots.{PhaseIn, Slots, WorkIn}
 use Rattle.law_places.specs.inv.history.History.{Item, record_of, world_of}
 use Rattle.law_places.specs.inv.history.Record.{Past, Each, EachEntry, tells_of}
 use Rattle.law_places.specs.inv.history.Record.Past.{Then}
-use Rattle.laws.proofs.Tells.{AllRight}
-use Rattle.laws.specs.StateAt.{stood_by, stood_at, is_row}
+use Rattle.law_turns.proofs.laws.Tells.{AllRight}
+use Rattle.law_turns.specs.laws.StateAt.{stood_by, stood_at, is_row}
 use Rattle.law_places.proofs.reuse.Reuse.Follows.{stood, stood_along, Follow, follow_closed, base_follows, copy_index, work_follows}
 use Rattle.law_places.proofs.reuse.Reuse.Keeps.{record_stands, room_of}
 use Rattle.law_places.proofs.inv.history.Passes.{is_quiet, all_quiet, Closed, First, copied_told, scan_told, step_goes, work_told}
 use Rattle.law_held.specs.Records.{RecordsClearRows}
 use Rattle.law_held.proofs.Roots.Ways.{Along, record_each, answers_of}
-use Rattle.wfe_core.proofs.Lists.{or_left, or_right}
+use Rattle.law_turns.proofs.inv.model.Lists.{or_left, or_right}
 
 -- at one index: what is cleared there stood there, and what is copied from there stands there
 abbrev pub clear_right : ℕ → Event → Option ℕ → Bool

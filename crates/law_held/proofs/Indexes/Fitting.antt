@@ -2,47 +2,47 @@
 use Rattle.std.proofs.Common.{ℕ, ◌≡◌, ◌≤◌, ◌<◌, arith, ◌+◌, ◌-◌, ◌%◌, Bool, true, false, List, [], ◌∷◌, ◌++◌, length, Option, Some, None, refl, sym, subst}
 use Rattle.std.proofs.lemmas.Bool.Decides.{nat_tests}
 use Rattle.std.specs.Prelude.{◌==◌, ◌&&◌, nat_le, nat_lt, if◌then◌else◌}
-use Rattle.wfe_core.specs.words.declared.config.SchemeKind.{SchemeKind}
-use Rattle.wfe_core.specs.words.declared.config.SchemeKind.TheVariants.{He, Ibr, Wfe}
-use Rattle.wfe_core.specs.defs.declared.call.Answer.{Answer}
-use Rattle.wfe_core.specs.defs.declared.call.Answer.TheVariants as the_answers
-use Rattle.wfe_core.specs.defs.declared.call.Call.{Call}
-use Rattle.wfe_core.specs.defs.declared.call.Call.TheVariants as names
-use Rattle.wfe_core.specs.defs.declared.call.ClockMove.TheVariants as moves
-use Rattle.wfe_core.specs.defs.declared.event.Event.{Event}
-use Rattle.wfe_core.specs.defs.declared.event.Event.TheVariants as events
-use Rattle.wfe_core.specs.defs.declared.event.Root.{Root}
-use Rattle.wfe_core.specs.defs.declared.event.Root.TheVariants as roots
-use Rattle.wfe_core.specs.defs.declared.fold.Change.{Change}
-use Rattle.wfe_core.specs.defs.declared.fold.Change.TheVariants as changes
-use Rattle.wfe_core.specs.declared.ends.AllocateEnd.{AllocateEnd}
-use Rattle.wfe_core.specs.declared.ends.AllocateEnd.TheVariants as allocate_ends
-use Rattle.wfe_core.specs.declared.ends.FollowEnd.{FollowEnd}
-use Rattle.wfe_core.specs.declared.ends.FollowEnd.TheVariants as follow_ends
-use Rattle.wfe_core.specs.declared.ends.ProtectEnd.TheVariants as protect_ends
-use Rattle.wfe_core.specs.declared.post.Post.{Post}
-use Rattle.wfe_core.specs.Change as alters
-use Rattle.wfe_core.specs.Dequeue as dequeues
-use Rattle.wfe_core.specs.Desks.{Desk, with_life}
-use Rattle.wfe_core.specs.Enqueue as enqueues
-use Rattle.wfe_core.specs.Get as gets
-use Rattle.wfe_core.specs.Keep as keeps
-use Rattle.wfe_core.specs.Posts.{stands, cleared, reserves_index}
-use Rattle.wfe_core.specs.Steps as steps
-use Rattle.wfe_core.specs.Rounds.{scheme_of, bucket_of, index_of, taken_of, finish_base, clear_base, clear_post, clear_told, given_up, closed, finishing_by, finishing, clearing_by, clearing, clearing_next_by, clearing_next, let_index}
-use Rattle.wfe_core.specs.Phases.{Base, Ending, Outcome, Goes, Ends}
-use Rattle.wfe_core.specs.Phases.Ending.{Protected, Followed, Allocated, Retired, Clocked}
-use Rattle.wfe_core.specs.Calls.{Task, Gets, Changes, Holds, Enqueues, Dequeues, Next, Again, MakeRoom, Answering, Retiring, AfterScan, ChangeKept, EnqueueKept, GetAt, FindVersion, FindCount, FindKey, FindValue, ChangeAt, LoadVersion, LoadCount, LoadKey, LoadValue, ExchangeRoot, EnqueueAt, LoadNumber, LoadNext, PassTail, ExchangeNext, ExchangeTail, DequeueAt, SwingTail, ExchangeHead, Work, Getting, Changing, Enqueuing, Dequeuing, Keeping, KeepAt, Loosens, LoadHeld, StoreHeld, Looks, Misses, LetGo, Released, Rehold, Dropped, Why, Opens, FollowsHead, Fills, ClearsNext, Clears, Finishes, GivesUp, Retires, Tidies, Advances, Releases, CallTurn}
-use Rattle.wfe_core.specs.words.Schemes.{has_one_interval}
-use Rattle.wfe_core.specs.words.declared.config.Config.{Config}
-use Rattle.wfe_core.proofs.Facts.{both, same_both, same_number}
+use Rattle.law_turns.specs.inv.model.words.declared.config.SchemeKind.{SchemeKind}
+use Rattle.law_turns.specs.inv.model.words.declared.config.SchemeKind.TheVariants.{He, Ibr, Wfe}
+use Rattle.law_turns.specs.inv.model.defs.declared.call.Answer.{Answer}
+use Rattle.law_turns.specs.inv.model.defs.declared.call.Answer.TheVariants as the_answers
+use Rattle.law_turns.specs.inv.model.defs.declared.call.Call.{Call}
+use Rattle.law_turns.specs.inv.model.defs.declared.call.Call.TheVariants as names
+use Rattle.law_turns.specs.inv.model.defs.declared.call.ClockMove.TheVariants as moves
+use Rattle.law_turns.specs.inv.model.defs.declared.event.Event.{Event}
+use Rattle.law_turns.specs.inv.model.defs.declared.event.Event.TheVariants as events
+use Rattle.law_turns.specs.inv.model.defs.declared.event.Root.{Root}
+use Rattle.law_turns.specs.inv.model.defs.declared.event.Root.TheVariants as roots
+use Rattle.law_turns.specs.inv.model.defs.declared.fold.Change.{Change}
+use Rattle.law_turns.specs.inv.model.defs.declared.fold.Change.TheVariants as changes
+use Rattle.law_turns.specs.inv.model.declared.ends.AllocateEnd.{AllocateEnd}
+use Rattle.law_turns.specs.inv.model.declared.ends.AllocateEnd.TheVariants as allocate_ends
+use Rattle.law_turns.specs.inv.model.declared.ends.FollowEnd.{FollowEnd}
+use Rattle.law_turns.specs.inv.model.declared.ends.FollowEnd.TheVariants as follow_ends
+use Rattle.law_turns.specs.inv.model.declared.ends.ProtectEnd.TheVariants as protect_ends
+use Rattle.law_turns.specs.inv.model.declared.post.Post.{Post}
+use Rattle.law_turns.specs.inv.model.Change as alters
+use Rattle.law_turns.specs.inv.model.Dequeue as dequeues
+use Rattle.law_turns.specs.inv.model.Desks.{Desk, with_life}
+use Rattle.law_turns.specs.inv.model.Enqueue as enqueues
+use Rattle.law_turns.specs.inv.model.Get as gets
+use Rattle.law_turns.specs.inv.model.Keep as keeps
+use Rattle.law_turns.specs.inv.model.Posts.{stands, cleared, reserves_index}
+use Rattle.law_turns.specs.inv.model.Steps as steps
+use Rattle.law_turns.specs.inv.model.Rounds.{scheme_of, bucket_of, index_of, taken_of, finish_base, clear_base, clear_post, clear_told, given_up, closed, finishing_by, finishing, clearing_by, clearing, clearing_next_by, clearing_next, let_index}
+use Rattle.law_turns.specs.inv.model.Phases.{Base, Ending, Outcome, Goes, Ends}
+use Rattle.law_turns.specs.inv.model.Phases.Ending.{Protected, Followed, Allocated, Retired, Clocked}
+use Rattle.law_turns.specs.inv.model.Calls.{Task, Gets, Changes, Holds, Enqueues, Dequeues, Next, Again, MakeRoom, Answering, Retiring, AfterScan, ChangeKept, EnqueueKept, GetAt, FindVersion, FindCount, FindKey, FindValue, ChangeAt, LoadVersion, LoadCount, LoadKey, LoadValue, ExchangeRoot, EnqueueAt, LoadNumber, LoadNext, PassTail, ExchangeNext, ExchangeTail, DequeueAt, SwingTail, ExchangeHead, Work, Getting, Changing, Enqueuing, Dequeuing, Keeping, KeepAt, Loosens, LoadHeld, StoreHeld, Looks, Misses, LetGo, Released, Rehold, Dropped, Why, Opens, FollowsHead, Fills, ClearsNext, Clears, Finishes, GivesUp, Retires, Tidies, Advances, Releases, CallTurn}
+use Rattle.law_turns.specs.inv.model.words.Schemes.{has_one_interval}
+use Rattle.law_turns.specs.inv.model.words.declared.config.Config.{Config}
+use Rattle.law_turns.proofs.inv.model.Facts.{both, same_both, same_number}
 use Rattle.law_places.specs.inv.shapes.Slots.{CopyIn, KeepIn, KeptIn, WorkIn}
 use Rattle.law_places.proofs.inv.ends.Told.Turns.{keep_just}
 use Rattle.law_places.proofs.inv.history.Passes.{copied_told, keep_told}
 use Rattle.law_places.proofs.answers.AnswersTold.Owed.{call_for, TaskServes, FreeServes, KeepServes, WhyServes, WorkServes}
 use Rattle.law_places.proofs.inv.history.AllOf.{all_of, of_along}
-use Rattle.laws.specs.HistoryHolds.{protects_at, clears_at}
-use Rattle.laws.specs.Standing.{is_copy}
+use Rattle.law_turns.specs.laws.HistoryHolds.{protects_at, clears_at}
+use Rattle.law_turns.specs.laws.Standing.{is_copy}
 
 -- a copy from this index to that goes upwards, from an index from 2 on, to one of the table
 abbrev pub rises_to : (indexes from index : ℕ) → Bool

@@ -2,23 +2,23 @@
 use Rattle.std.proofs.Common.{ℕ, ◌≡◌, ◌+◌, Bool, true, false, List, [], ◌∷◌, Some, None, refl, sym, ap, ◌∙◌, subst, arith}
 use Rattle.std.proofs.lemmas.Bool.Decides.{nat_tests}
 use Rattle.std.specs.Prelude.{◌==◌, ◌&&◌, ◌||◌, not, if◌then◌else◌}
-use Rattle.wfe_core.specs.words.Place.{is_valid}
-use Rattle.wfe_core.specs.words.Place.Place.{Clock, Head, Row}
-use Rattle.wfe_core.specs.words.declared.layout.Layout.{Layout}
-use Rattle.wfe_core.specs.defs.declared.call.Call.{Call}
-use Rattle.wfe_core.specs.defs.declared.event.Event.{Event}
-use Rattle.wfe_core.specs.defs.declared.event.Event.TheVariants as events
-use Rattle.wfe_core.specs.defs.declared.event.Root.{Root}
-use Rattle.wfe_core.specs.defs.declared.event.Root.TheVariants as roots
-use Rattle.wfe_core.specs.declared.post.Post.{Post}
-use Rattle.wfe_core.specs.Links.{link_place, parent_of}
-use Rattle.wfe_core.specs.Posts.{upper}
-use Rattle.wfe_core.specs.Phases.{Aim, ProtectAt, Base}
-use Rattle.wfe_core.specs.Phases.Base.{Protect, Reload}
-use Rattle.wfe_core.specs.Calls.{Gets, Changes, Holds, Enqueues, Dequeues, Why, Opens, FollowsHead, Phase, Idle, Runs, Scans, Works}
-use Rattle.wfe_core.specs.Locals.{may_begin}
-use Rattle.wfe_core.specs.World.{World, finds, is_busy, told_in}
-use Rattle.wfe_core.proofs.Facts.{same_number, first_of, rest_of, or_more}
+use Rattle.law_turns.specs.inv.model.words.Place.{is_valid}
+use Rattle.law_turns.specs.inv.model.words.Place.Place.{Clock, Head, Row}
+use Rattle.law_turns.specs.inv.model.words.declared.layout.Layout.{Layout}
+use Rattle.law_turns.specs.inv.model.defs.declared.call.Call.{Call}
+use Rattle.law_turns.specs.inv.model.defs.declared.event.Event.{Event}
+use Rattle.law_turns.specs.inv.model.defs.declared.event.Event.TheVariants as events
+use Rattle.law_turns.specs.inv.model.defs.declared.event.Root.{Root}
+use Rattle.law_turns.specs.inv.model.defs.declared.event.Root.TheVariants as roots
+use Rattle.law_turns.specs.inv.model.declared.post.Post.{Post}
+use Rattle.law_turns.specs.inv.model.Links.{link_place, parent_of}
+use Rattle.law_turns.specs.inv.model.Posts.{upper}
+use Rattle.law_turns.specs.inv.model.Phases.{Aim, ProtectAt, Base}
+use Rattle.law_turns.specs.inv.model.Phases.Base.{Protect, Reload}
+use Rattle.law_turns.specs.inv.model.Calls.{Gets, Changes, Holds, Enqueues, Dequeues, Why, Opens, FollowsHead, Phase, Idle, Runs, Scans, Works}
+use Rattle.law_turns.specs.inv.model.Locals.{may_begin}
+use Rattle.law_turns.specs.inv.model.World.{World, finds, is_busy, told_in}
+use Rattle.law_turns.proofs.inv.model.Facts.{same_number, first_of, rest_of, or_more}
 use Rattle.law_places.specs.inv.shapes.Seats.{Seats, Run, root_by}
 use Rattle.law_places.specs.inv.history.History.{Item, Begins, Steps, Made, fits, done_if, made_of, first_made}
 use Rattle.law_places.proofs.inv.history.Along.{begins_right, begins_within, low_seat, paths_keep}
@@ -34,7 +34,7 @@ use Rattle.law_places.proofs.inv.Machines.{is_within, within_of, within_begins}
 use Rattle.law_places.specs.inv.links.Origins.{Origins}
 use Rattle.law_places.specs.inv.links.Tracked.{carries_at, carries_in, root_for, root_in, Tracked, Carried}
 use Rattle.law_places.proofs.inv.links.Origins.Kept.{origins_kept, origins_start, origins_begin}
-use Rattle.laws.specs.StateAt.{next_at, head_at}
+use Rattle.law_turns.specs.laws.StateAt.{next_at, head_at}
 use Rattle.law_places.proofs.Ordering.Ordered.{no_row, one_row}
 use Rattle.law_places.specs.inv.requests.Standing.{Requests}
 use Rattle.law_places.specs.inv.requests.Views.{Deal, View as Asked}
@@ -45,7 +45,7 @@ use Rattle.law_places.specs.inv.rows.Queue.{Line, heads_on, stands_on}
 use Rattle.law_places.specs.inv.rows.Rows.{View}
 use Rattle.law_places.specs.inv.links.Links.{links_to}
 use Rattle.law_held.proofs.Roots.Leads.{Leads, leads_of}
-use Rattle.laws.specs.HoldLaw.{is_last}
+use Rattle.law_turns.specs.laws.HoldLaw.{is_last}
 use Rattle.law_held.proofs.NextRows.Nexts.{Nexts, nexts_step, nexts_first}
 use Rattle.law_places.proofs.inv.links.Origins.Ends.{found_clock}
 use Rattle.law_places.proofs.inv.handover.Asks.{run_of}

@@ -3,30 +3,30 @@ use Rattle.std.proofs.Common.{ℕ, ◌≡◌, ◌-◌, ◌+◌, Bool, true, fals
 use Rattle.std.proofs.lemmas.Bool.Decides.{nat_tests}
 use Rattle.std.specs.List.{list_any, list_all}
 use Rattle.std.specs.Prelude.{◌==◌, not, if◌then◌else◌}
-use Rattle.wfe_core.specs.words.Place.Place.{Head}
-use Rattle.wfe_core.specs.words.declared.layout.Layout.{Layout}
-use Rattle.wfe_core.specs.defs.declared.event.Event.{Event}
-use Rattle.wfe_core.specs.defs.declared.event.Event.TheVariants as events
-use Rattle.wfe_core.specs.defs.declared.event.Guard.{Guard}
-use Rattle.wfe_core.specs.defs.declared.event.Guard.TheVariants.{Index}
-use Rattle.wfe_core.specs.defs.declared.event.Root.{Root}
-use Rattle.wfe_core.specs.defs.declared.event.Root.TheVariants as roots
-use Rattle.wfe_core.specs.defs.declared.lifetime.Interval.{Interval}
-use Rattle.wfe_core.specs.declared.post.Post.{Post}
-use Rattle.wfe_core.specs.Follow.{after_reload}
-use Rattle.wfe_core.specs.Guards.{one_era}
-use Rattle.wfe_core.specs.Locals.{turn}
-use Rattle.wfe_core.specs.Machine as machine
-use Rattle.wfe_core.specs.Memory.{bump}
-use Rattle.wfe_core.specs.Posts.{stands, counted, cleared, upper, reserves_helper}
-use Rattle.wfe_core.specs.Protect.{held_post, told_held, concluded, protected, failed_once}
-use Rattle.wfe_core.specs.SlowPath.{own_request}
-use Rattle.wfe_core.specs.World.{World, finds, told_in}
-use Rattle.wfe_core.specs.Phases.{Aim, ProtectAt, Base, Turn, goes}
-use Rattle.wfe_core.specs.Phases.ProtectAt.{PublishEra, CheckClock, PublishHelper, CheckOwnClock, AnswerOwn, TakeAnswer, WithdrawHelper, CheckUpper, RaiseUpper}
-use Rattle.wfe_core.specs.Phases.Base.{Protect, Reload, Clear, Release}
-use Rattle.wfe_core.specs.Calls.{Work, Task, Gets, Changes, Holds, Enqueues, Dequeues, ReadGuard, GiveBack, Why, Opens, FollowsHead, Phase, Idle, Runs, Scans, Works}
-use Rattle.wfe_core.proofs.Facts.{same_number, both, and_right_false, number_is, or_more, first_of, rest_of, false_of_not}
+use Rattle.law_turns.specs.inv.model.words.Place.Place.{Head}
+use Rattle.law_turns.specs.inv.model.words.declared.layout.Layout.{Layout}
+use Rattle.law_turns.specs.inv.model.defs.declared.event.Event.{Event}
+use Rattle.law_turns.specs.inv.model.defs.declared.event.Event.TheVariants as events
+use Rattle.law_turns.specs.inv.model.defs.declared.event.Guard.{Guard}
+use Rattle.law_turns.specs.inv.model.defs.declared.event.Guard.TheVariants.{Index}
+use Rattle.law_turns.specs.inv.model.defs.declared.event.Root.{Root}
+use Rattle.law_turns.specs.inv.model.defs.declared.event.Root.TheVariants as roots
+use Rattle.law_turns.specs.inv.model.defs.declared.lifetime.Interval.{Interval}
+use Rattle.law_turns.specs.inv.model.declared.post.Post.{Post}
+use Rattle.law_turns.specs.inv.model.Follow.{after_reload}
+use Rattle.law_turns.specs.inv.model.Guards.{one_era}
+use Rattle.law_turns.specs.inv.model.Locals.{turn}
+use Rattle.law_turns.specs.inv.model.Machine as machine
+use Rattle.law_turns.specs.inv.model.Memory.{bump}
+use Rattle.law_turns.specs.inv.model.Posts.{stands, counted, cleared, upper, reserves_helper}
+use Rattle.law_turns.specs.inv.model.Protect.{held_post, told_held, concluded, protected, failed_once}
+use Rattle.law_turns.specs.inv.model.SlowPath.{own_request}
+use Rattle.law_turns.specs.inv.model.World.{World, finds, told_in}
+use Rattle.law_turns.specs.inv.model.Phases.{Aim, ProtectAt, Base, Turn, goes}
+use Rattle.law_turns.specs.inv.model.Phases.ProtectAt.{PublishEra, CheckClock, PublishHelper, CheckOwnClock, AnswerOwn, TakeAnswer, WithdrawHelper, CheckUpper, RaiseUpper}
+use Rattle.law_turns.specs.inv.model.Phases.Base.{Protect, Reload, Clear, Release}
+use Rattle.law_turns.specs.inv.model.Calls.{Work, Task, Gets, Changes, Holds, Enqueues, Dequeues, ReadGuard, GiveBack, Why, Opens, FollowsHead, Phase, Idle, Runs, Scans, Works}
+use Rattle.law_turns.proofs.inv.model.Facts.{same_number, both, and_right_false, number_is, or_more, first_of, rest_of, false_of_not}
 use Rattle.law_places.proofs.inv.history.AllOf.{all_of}
 use Rattle.law_places.proofs.inv.history.Passes.{work_told}
 use Rattle.law_places.proofs.inv.history.MayTell.{concluded_told, work_all}
@@ -39,10 +39,10 @@ use Rattle.law_places.specs.inv.history.Record.{Past, Each, tells_of, begins, he
 use Rattle.law_places.specs.inv.history.Record.Past.{Then}
 use Rattle.law_places.specs.inv.links.Origins.{Origins}
 use Rattle.law_places.specs.inv.links.Tracked.{carries_at}
-use Rattle.laws.specs.Once.{is_slot}
-use Rattle.laws.specs.StateAt.{next_at, head_at, stood_at}
+use Rattle.law_turns.specs.laws.Once.{is_slot}
+use Rattle.law_turns.specs.laws.StateAt.{next_at, head_at, stood_at}
 use Rattle.law_places.proofs.Ordering.Ordered.{head_is}
-use Rattle.laws.proofs.Tells.{tells_both}
+use Rattle.law_turns.proofs.laws.Tells.{tells_both}
 use Rattle.law_places.specs.inv.requests.Views.{View as Asked}
 use Rattle.law_places.proofs.reuse.Reuse.Keeps.{record_stands}
 use Rattle.law_places.specs.inv.rows.Queue.{Line, stands_on}
@@ -51,15 +51,15 @@ use Rattle.law_places.proofs.inv.ends.Told.Rows.{own_told, own_post, step_adds}
 use Rattle.law_places.proofs.inv.ends.Told.Turns.{Adds, is_later}
 use Rattle.law_held.proofs.Roots.Leads.{Leads, leads_of}
 use Rattle.law_held.proofs.Roots.Ways.{record_each}
-use Rattle.laws.specs.HistoryHolds.{was_last, behind_ok}
-use Rattle.laws.specs.HoldLaw.{is_last}
+use Rattle.law_turns.specs.laws.HistoryHolds.{was_last, behind_ok}
+use Rattle.law_turns.specs.laws.HoldLaw.{is_last}
 use Rattle.law_held.specs.Records.{RecordsFollowNexts}
 use Rattle.law_held.proofs.NextRows.Behind.{had_none, within_none, carried_none, reloaded_next, behind_of}
 use Rattle.law_held.proofs.NextRows.Nexts.{Nexts}
 use Rattle.law_turns.proofs.TurnCounts.Tried.{is_follow}
 use Rattle.law_places.proofs.inv.handover.Asks.{run_of}
 use Rattle.law_places.proofs.Ordering.Linked.{row_is}
-use Rattle.wfe_core.proofs.Lists.{or_left, or_right}
+use Rattle.law_turns.proofs.inv.model.Lists.{or_left, or_right}
 
 -- what is told of protections at index 1
 abbrev pub is_one : Event → Bool

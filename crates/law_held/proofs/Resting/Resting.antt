@@ -2,35 +2,35 @@
 use Rattle.std.proofs.Common.{ℕ, zero, suc, ◌≡◌, ◌≤◌, ◌<◌, ◌⊎◌, inl, inr, Bool, true, false, List, [], ◌∷◌, ◌++◌, Option, Some, None, refl, sym, ap, ◌∙◌, subst, arith}
 use Rattle.std.proofs.lemmas.Bool.Decides.{nat_tests}
 use Rattle.std.specs.Prelude.{◌==◌, nat_lt, is_none, if◌then◌else◌}
-use Rattle.wfe_core.specs.words.Packed.{halves}
-use Rattle.wfe_core.specs.words.Place.{is_valid, Place as places}
-use Rattle.wfe_core.specs.words.declared.config.SchemeKind.{SchemeKind}
-use Rattle.wfe_core.specs.words.declared.config.SchemeKind.TheVariants.{He, Ibr, Wfe}
-use Rattle.wfe_core.specs.words.declared.layout.Layout.{Layout}
-use Rattle.wfe_core.specs.defs.declared.call.Answer.{Answer}
-use Rattle.wfe_core.specs.defs.declared.event.Event.{Event}
-use Rattle.wfe_core.specs.defs.declared.event.Event.TheVariants as events
-use Rattle.wfe_core.specs.defs.declared.event.Guard.{Guard}
-use Rattle.wfe_core.specs.defs.declared.event.Guard.TheVariants.{Helper, Index, Whole}
-use Rattle.wfe_core.specs.defs.declared.lifetime.Interval.{Interval}
-use Rattle.wfe_core.specs.defs.declared.lifetime.Lifetime.{Lifetime}
-use Rattle.wfe_core.specs.defs.Shown as values
-use Rattle.wfe_core.specs.defs.Shown.{keeps}
-use Rattle.wfe_core.specs.declared.post.Post.{Post}
-use Rattle.wfe_core.specs.Guards.{one_era, own_guard}
-use Rattle.wfe_core.specs.Calls.{Phase, Idle, CallTurn, CallOutcome, GoesOn, Answers}
-use Rattle.wfe_core.specs.Locals.{busy_in, told_by, told_end, turn}
-use Rattle.wfe_core.specs.Posts.{stands}
-use Rattle.wfe_core.specs.Rounds.{kept_row}
-use Rattle.wfe_core.proofs.Standing.{some_kept}
-use Rattle.wfe_core.specs.words.declared.config.Config.{Config}
-use Rattle.wfe_core.specs.defs.declared.call.Call.{Call}
+use Rattle.law_turns.specs.inv.model.words.Packed.{halves}
+use Rattle.law_turns.specs.inv.model.words.Place.{is_valid, Place as places}
+use Rattle.law_turns.specs.inv.model.words.declared.config.SchemeKind.{SchemeKind}
+use Rattle.law_turns.specs.inv.model.words.declared.config.SchemeKind.TheVariants.{He, Ibr, Wfe}
+use Rattle.law_turns.specs.inv.model.words.declared.layout.Layout.{Layout}
+use Rattle.law_turns.specs.inv.model.defs.declared.call.Answer.{Answer}
+use Rattle.law_turns.specs.inv.model.defs.declared.event.Event.{Event}
+use Rattle.law_turns.specs.inv.model.defs.declared.event.Event.TheVariants as events
+use Rattle.law_turns.specs.inv.model.defs.declared.event.Guard.{Guard}
+use Rattle.law_turns.specs.inv.model.defs.declared.event.Guard.TheVariants.{Helper, Index, Whole}
+use Rattle.law_turns.specs.inv.model.defs.declared.lifetime.Interval.{Interval}
+use Rattle.law_turns.specs.inv.model.defs.declared.lifetime.Lifetime.{Lifetime}
+use Rattle.law_turns.specs.inv.model.defs.Shown as values
+use Rattle.law_turns.specs.inv.model.defs.Shown.{keeps}
+use Rattle.law_turns.specs.inv.model.declared.post.Post.{Post}
+use Rattle.law_turns.specs.inv.model.Guards.{one_era, own_guard}
+use Rattle.law_turns.specs.inv.model.Calls.{Phase, Idle, CallTurn, CallOutcome, GoesOn, Answers}
+use Rattle.law_turns.specs.inv.model.Locals.{busy_in, told_by, told_end, turn}
+use Rattle.law_turns.specs.inv.model.Posts.{stands}
+use Rattle.law_turns.specs.inv.model.Rounds.{kept_row}
+use Rattle.law_turns.proofs.inv.model.Standing.{some_kept}
+use Rattle.law_turns.specs.inv.model.words.declared.config.Config.{Config}
+use Rattle.law_turns.specs.inv.model.defs.declared.call.Call.{Call}
 use Rattle.law_held.proofs.Indexes.Indexing.{record_high}
-use Rattle.wfe_core.specs.World.{World, finds, is_busy, told_in}
-use Rattle.wfe_core.proofs.Facts.{first_of, rest_of}
+use Rattle.law_turns.specs.inv.model.World.{World, finds, is_busy, told_in}
+use Rattle.law_turns.proofs.inv.model.Facts.{first_of, rest_of}
 use Rattle.law_places.specs.inv.covers.Covers.{life_in, eras_shown, shown}
 use Rattle.law_places.proofs.inv.covers.Held.{stepped_phase}
-use Rattle.wfe_core.specs.words.Schemes.{is_ibr}
+use Rattle.law_turns.specs.inv.model.words.Schemes.{is_ibr}
 use Rattle.law_places.specs.inv.shapes.Frame.{phase_left}
 use Rattle.law_places.specs.inv.requests.Roles.{shows}
 use Rattle.law_places.specs.inv.requests.Standing.{Requests, role_of}
@@ -44,7 +44,7 @@ use Rattle.law_places.specs.inv.history.Record.Past.{Then}
 use Rattle.law_places.specs.inv.history.Turns as schedule
 use Rattle.law_places.specs.inv.history.History.{Item, Steps, Made, fits, done, done_if, made_of, first_made, record_of, world_of}
 use Rattle.law_places.proofs.inv.history.Along.{made_snoc}
-use Rattle.laws.specs.StateAt.{stood_at, reserves_of, value_of}
+use Rattle.law_turns.specs.laws.StateAt.{stood_at, reserves_of, value_of}
 use Rattle.law_places.proofs.reuse.Reuse.Keeps.{record_stands}
 use Rattle.law_places.proofs.inv.history.AllOf.{all_of}
 use Rattle.law_places.proofs.answers.AnswersTold.Owed.{is_open, Owes, owed}
@@ -59,12 +59,12 @@ use Rattle.law_held.proofs.Roots.Ways.{Turning, record_each, answers_of}
 use Rattle.law_places.specs.inv.history.Heard.{heard_of}
 use Rattle.law_places.specs.answers.Heard.{IsCounted}
 use Rattle.law_places.proofs.answers.Turns.Counted.{histories_count}
-use Rattle.laws.specs.HistoryHolds.{first_of as first_row_of, helpers_ok, index_rests, is_alike, kept_below, spans_ok, words_ok}
+use Rattle.law_turns.specs.laws.HistoryHolds.{first_of as first_row_of, helpers_ok, index_rests, is_alike, kept_below, spans_ok, words_ok}
 use Rattle.law_held.specs.Records.{RecordsRestGuards}
 use Rattle.law_held.proofs.Resting.Spans.{spent_of}
 use Rattle.law_held.proofs.Resting.Spent.{Spent}
 use Rattle.law_held.proofs.Resting.Valued.{history_empty}
-use Rattle.laws.proofs.Tells.{tells_both}
+use Rattle.law_turns.proofs.laws.Tells.{tells_both}
 
 -- a seat that has no call under way
 idle_as : (w : World) (i : ℕ) → is_busy w i ≡ false → (w.seat i).phase ≡ Idle

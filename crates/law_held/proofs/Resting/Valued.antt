@@ -2,20 +2,20 @@
 use Rattle.std.proofs.Common.{ℕ, ◌≡◌, Bool, true, false, List, [], ◌∷◌, Option, Some, None, refl, sym, ◌∙◌, subst, arith}
 use Rattle.std.proofs.lemmas.Bool.Decides.{nat_tests}
 use Rattle.std.specs.Prelude.{◌==◌, ◌&&◌, ◌||◌, nat_lt, if◌then◌else◌}
-use Rattle.wfe_core.specs.defs.declared.call.Call.{Call}
-use Rattle.wfe_core.specs.defs.declared.event.Event.{Event}
-use Rattle.wfe_core.specs.defs.declared.event.Event.TheVariants as events
-use Rattle.wfe_core.specs.defs.declared.event.Guard.TheVariants.{Helper, Index, Whole}
-use Rattle.wfe_core.specs.defs.declared.lifetime.Interval.{Interval}
-use Rattle.wfe_core.proofs.Facts.{first_of, rest_of}
-use Rattle.laws.specs.StateAt.{is_index_word, one_more, reserves_by, reserves_of, value_of, reserved_by}
-use Rattle.laws.specs.HistoryTurns.{event_handed, events_handed, handed_right}
+use Rattle.law_turns.specs.inv.model.defs.declared.call.Call.{Call}
+use Rattle.law_turns.specs.inv.model.defs.declared.event.Event.{Event}
+use Rattle.law_turns.specs.inv.model.defs.declared.event.Event.TheVariants as events
+use Rattle.law_turns.specs.inv.model.defs.declared.event.Guard.TheVariants.{Helper, Index, Whole}
+use Rattle.law_turns.specs.inv.model.defs.declared.lifetime.Interval.{Interval}
+use Rattle.law_turns.proofs.inv.model.Facts.{first_of, rest_of}
+use Rattle.law_turns.specs.laws.StateAt.{is_index_word, one_more, reserves_by, reserves_of, value_of, reserved_by}
+use Rattle.law_turns.specs.laws.HistoryTurns.{event_handed, events_handed, handed_right}
 use Rattle.law_places.specs.inv.history.Turns.{EachTurn, record_of}
 use Rattle.law_places.specs.inv.history.Record.{Past, tells_of}
 use Rattle.law_places.specs.inv.history.Record.Past.{Then}
 use Rattle.law_places.specs.inv.history.Turns as schedule
 use Rattle.law_places.specs.inv.history.Turns.History.{Blank, Starts, Turns}
-use Rattle.laws.proofs.Along.{index_guard}
+use Rattle.law_turns.proofs.laws.Along.{index_guard}
 
 -- where its seat has published nothing, it publishes nothing
 abbrev pub Empty : ℕ → ℕ → Past → Type 0

@@ -3,18 +3,18 @@ use Rattle.std.proofs.Common.{ℕ, ◌≡◌, Bool, true, false, List, [], ◌�
 use Rattle.std.proofs.lemmas.Bool.Decides.{nat_tests}
 use Rattle.std.specs.List.{list_any}
 use Rattle.std.specs.Prelude.{◌==◌, ◌||◌, not}
-use Rattle.wfe_core.specs.words.Place.{is_valid}
-use Rattle.wfe_core.specs.words.declared.layout.Layout.{Layout}
-use Rattle.wfe_core.specs.defs.declared.call.Call.{Call}
-use Rattle.wfe_core.specs.defs.declared.event.Event.{Event}
-use Rattle.wfe_core.specs.defs.declared.event.Event.TheVariants as events
-use Rattle.wfe_core.specs.declared.post.Post.{Post}
-use Rattle.wfe_core.specs.Calls.{Phase, Idle, Runs, Scans, Works, CallTurn, CallOutcome, GoesOn, Answers}
-use Rattle.wfe_core.specs.Desks.{Desk, noting}
-use Rattle.wfe_core.specs.Locals.{Local, busy_in, settled_by, begun, begun_post, told_by, told_end, rounds_told, turn}
-use Rattle.wfe_core.specs.Posts.{counted}
-use Rattle.wfe_core.specs.World.{World, begin, step, finds, is_busy, told_in}
-use Rattle.wfe_core.proofs.Facts.{first_of, rest_of, or_left_true, or_more}
+use Rattle.law_turns.specs.inv.model.words.Place.{is_valid}
+use Rattle.law_turns.specs.inv.model.words.declared.layout.Layout.{Layout}
+use Rattle.law_turns.specs.inv.model.defs.declared.call.Call.{Call}
+use Rattle.law_turns.specs.inv.model.defs.declared.event.Event.{Event}
+use Rattle.law_turns.specs.inv.model.defs.declared.event.Event.TheVariants as events
+use Rattle.law_turns.specs.inv.model.declared.post.Post.{Post}
+use Rattle.law_turns.specs.inv.model.Calls.{Phase, Idle, Runs, Scans, Works, CallTurn, CallOutcome, GoesOn, Answers}
+use Rattle.law_turns.specs.inv.model.Desks.{Desk, noting}
+use Rattle.law_turns.specs.inv.model.Locals.{Local, busy_in, settled_by, begun, begun_post, told_by, told_end, rounds_told, turn}
+use Rattle.law_turns.specs.inv.model.Posts.{counted}
+use Rattle.law_turns.specs.inv.model.World.{World, begin, step, finds, is_busy, told_in}
+use Rattle.law_turns.proofs.inv.model.Facts.{first_of, rest_of, or_left_true, or_more}
 use Rattle.law_places.proofs.inv.ends.Ends.Tests.{Calm, step_any}
 use Rattle.law_places.specs.inv.shapes.Frame.{phase_left}
 use Rattle.law_places.specs.inv.shapes.Seats.{Seats}
@@ -23,17 +23,17 @@ use Rattle.law_places.specs.inv.history.History.{Item, Made, first_made, record_
 use Rattle.law_places.proofs.inv.history.Along.{Steady, items_keep}
 use Rattle.law_places.specs.inv.history.Record.{Past, Each, tells_of}
 use Rattle.law_places.specs.inv.history.Record.Past.{Then}
-use Rattle.laws.proofs.Along.{along}
+use Rattle.law_turns.proofs.laws.Along.{along}
 use Rattle.law_places.proofs.inv.history.AllOf.{all_of}
 use Rattle.law_places.proofs.inv.Machines.{is_within, within_of}
-use Rattle.laws.specs.StateAt.{began_of, has_root, rooted_by, rooted_of}
+use Rattle.law_turns.specs.laws.StateAt.{began_of, has_root, rooted_by, rooted_of}
 use Rattle.law_places.proofs.answers.AnswersTold.Answering as answering
 use Rattle.law_places.proofs.answers.AnswersTold.Answering.{first_all, owes_of, began_along}
 use Rattle.law_places.proofs.answers.AnswersTold.Owed.{is_open, Serves, Owes, owed}
 use Rattle.law_places.proofs.Placing.Sums.{along_both}
-use Rattle.laws.proofs.Tells.{seen_other, seen_tells, seen_stays, tells_both}
+use Rattle.law_turns.proofs.laws.Tells.{seen_other, seen_tells, seen_stays, tells_both}
 use Rattle.law_places.proofs.inv.ends.Told.Turns.{is_later}
-use Rattle.laws.specs.HoldLaw.{finds_ok}
+use Rattle.law_turns.specs.laws.HoldLaw.{finds_ok}
 use Rattle.law_held.specs.Records.{RecordsFindRoots}
 use Rattle.law_held.proofs.Roots.Early.{is_early, is_rooting, Fate, RunFits, phase_fate, first_early}
 use Rattle.law_held.proofs.Roots.Ways.{record_each, answers_of}

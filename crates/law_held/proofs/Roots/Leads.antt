@@ -1,18 +1,18 @@
 -- Where roots lead by the record of a history is where their words lead.
 use Rattle.std.proofs.Common.{ℕ, ◌≡◌, ◌<◌, ◌+◌, true, false, List, refl, sym, ap, ◌∙◌, subst}
-use Rattle.wfe_core.specs.words.Place.{Place, is_valid}
-use Rattle.wfe_core.specs.words.Place.Place.{Head, Tail, Bucket}
-use Rattle.wfe_core.specs.words.declared.layout.Layout.{Layout}
-use Rattle.wfe_core.specs.defs.declared.call.Call.{Call}
-use Rattle.wfe_core.specs.Locals.{may_begin}
-use Rattle.wfe_core.specs.World.{World, is_busy, step, told_in}
+use Rattle.law_turns.specs.inv.model.words.Place.{Place, is_valid}
+use Rattle.law_turns.specs.inv.model.words.Place.Place.{Head, Tail, Bucket}
+use Rattle.law_turns.specs.inv.model.words.declared.layout.Layout.{Layout}
+use Rattle.law_turns.specs.inv.model.defs.declared.call.Call.{Call}
+use Rattle.law_turns.specs.inv.model.Locals.{may_begin}
+use Rattle.law_turns.specs.inv.model.World.{World, is_busy, step, told_in}
 use Rattle.law_places.specs.inv.history.History.{Item, Begins, Steps, Made, done, first_made, record_of, world_of}
 use Rattle.law_places.proofs.inv.history.Along.{Steady, items_keep}
 use Rattle.law_places.specs.inv.Known.{Known}
 use Rattle.law_places.proofs.inv.Inv.Begun.{known_start, known_begin}
 use Rattle.law_places.proofs.inv.Inv.Kept.{known_kept, asked_next}
 use Rattle.law_places.specs.inv.history.Record.{Past, tells_of}
-use Rattle.laws.specs.StateAt.{tail_by, tail_at, bucket_at, head_at}
+use Rattle.law_turns.specs.laws.StateAt.{tail_by, tail_at, bucket_at, head_at}
 use Rattle.law_places.proofs.Placing.Comes.{agree_of}
 use Rattle.law_places.proofs.Ordering.Nexts.{tail_moved}
 use Rattle.law_places.proofs.Ordering.Ordered.{word_of, Roots, roots_step, whole_comes}

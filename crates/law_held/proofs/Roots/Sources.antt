@@ -3,30 +3,30 @@ use Rattle.std.proofs.Common.{ℕ, ◌≡◌, ◌-◌, ◌+◌, ◌%◌, Bool, t
 use Rattle.std.proofs.lemmas.Bool.Decides.{nat_tests}
 use Rattle.std.specs.List.{list_any}
 use Rattle.std.specs.Prelude.{◌==◌, ◌&&◌, ◌||◌, not, if◌then◌else◌}
-use Rattle.wfe_core.specs.words.Place.{Place, is_valid}
-use Rattle.wfe_core.specs.words.Place.Place.{Clock, Head, Tail, Bucket}
-use Rattle.wfe_core.specs.words.declared.config.Config.{Config}
-use Rattle.wfe_core.specs.words.declared.layout.Layout.{Layout}
-use Rattle.wfe_core.specs.defs.declared.call.Call.{Call}
-use Rattle.wfe_core.specs.defs.declared.call.Call.TheVariants as names
-use Rattle.wfe_core.specs.defs.declared.event.Event.{Event}
-use Rattle.wfe_core.specs.defs.declared.event.Event.TheVariants as events
-use Rattle.wfe_core.specs.defs.declared.event.Root.{Root}
-use Rattle.wfe_core.specs.defs.declared.event.Root.TheVariants as roots
-use Rattle.wfe_core.specs.defs.declared.fold.Change.{Change}
-use Rattle.wfe_core.specs.defs.declared.fold.Change.TheVariants as changes
-use Rattle.wfe_core.specs.declared.post.Post.{Post}
-use Rattle.wfe_core.specs.Calls.{Task, Gets, Changes, Holds, Enqueues, Dequeues, Why, Opens, FollowsHead, Phase, Idle, Runs, Scans, Works}
-use Rattle.wfe_core.specs.Links.{link_place}
-use Rattle.wfe_core.specs.Locals.{may_begin}
-use Rattle.wfe_core.specs.Memory.{bump}
-use Rattle.wfe_core.specs.Phases.{Aim, ProtectAt, Base}
-use Rattle.wfe_core.specs.Phases.ProtectAt.{CheckClock, TakeAnswer, CheckUpper}
-use Rattle.wfe_core.specs.Phases.Base.{Protect, Reload, Clear, Release}
-use Rattle.wfe_core.specs.Posts.{counted, cleared, stands, upper}
-use Rattle.wfe_core.specs.Protect.{told_held}
-use Rattle.wfe_core.specs.World.{World, finds, is_busy, told_in}
-use Rattle.wfe_core.proofs.Facts.{same_number, both, first_of, rest_of, true_of_not}
+use Rattle.law_turns.specs.inv.model.words.Place.{Place, is_valid}
+use Rattle.law_turns.specs.inv.model.words.Place.Place.{Clock, Head, Tail, Bucket}
+use Rattle.law_turns.specs.inv.model.words.declared.config.Config.{Config}
+use Rattle.law_turns.specs.inv.model.words.declared.layout.Layout.{Layout}
+use Rattle.law_turns.specs.inv.model.defs.declared.call.Call.{Call}
+use Rattle.law_turns.specs.inv.model.defs.declared.call.Call.TheVariants as names
+use Rattle.law_turns.specs.inv.model.defs.declared.event.Event.{Event}
+use Rattle.law_turns.specs.inv.model.defs.declared.event.Event.TheVariants as events
+use Rattle.law_turns.specs.inv.model.defs.declared.event.Root.{Root}
+use Rattle.law_turns.specs.inv.model.defs.declared.event.Root.TheVariants as roots
+use Rattle.law_turns.specs.inv.model.defs.declared.fold.Change.{Change}
+use Rattle.law_turns.specs.inv.model.defs.declared.fold.Change.TheVariants as changes
+use Rattle.law_turns.specs.inv.model.declared.post.Post.{Post}
+use Rattle.law_turns.specs.inv.model.Calls.{Task, Gets, Changes, Holds, Enqueues, Dequeues, Why, Opens, FollowsHead, Phase, Idle, Runs, Scans, Works}
+use Rattle.law_turns.specs.inv.model.Links.{link_place}
+use Rattle.law_turns.specs.inv.model.Locals.{may_begin}
+use Rattle.law_turns.specs.inv.model.Memory.{bump}
+use Rattle.law_turns.specs.inv.model.Phases.{Aim, ProtectAt, Base}
+use Rattle.law_turns.specs.inv.model.Phases.ProtectAt.{CheckClock, TakeAnswer, CheckUpper}
+use Rattle.law_turns.specs.inv.model.Phases.Base.{Protect, Reload, Clear, Release}
+use Rattle.law_turns.specs.inv.model.Posts.{counted, cleared, stands, upper}
+use Rattle.law_turns.specs.inv.model.Protect.{told_held}
+use Rattle.law_turns.specs.inv.model.World.{World, finds, is_busy, told_in}
+use Rattle.law_turns.proofs.inv.model.Facts.{same_number, both, first_of, rest_of, true_of_not}
 use Rattle.law_places.proofs.inv.ends.Ends.Tests.{Calm, at_shows, base_shows, none_worked, phase_shows, step_any}
 use Rattle.law_places.specs.inv.shapes.Seats.{Seats, protects, kind_of, task_root}
 use Rattle.law_places.specs.inv.history.History.{Item, Begins, Steps, Made, fits, done_if, made_of, first_made, record_of, world_of}
@@ -35,7 +35,7 @@ use Rattle.law_places.specs.inv.Known.{Known}
 use Rattle.law_places.proofs.inv.Inv.Begun.{known_start, known_begin}
 use Rattle.law_places.proofs.inv.Inv.Kept.{known_kept, asked_next}
 use Rattle.law_places.proofs.inv.Inv.Whole.{origins_need}
-use Rattle.laws.specs.StateAt.{same_value, tail_at, bucket_at, head_at, began_of}
+use Rattle.law_turns.specs.laws.StateAt.{same_value, tail_at, bucket_at, head_at, began_of}
 use Rattle.law_places.specs.inv.history.Record.{Past, Each, tells_of, begins, held_since}
 use Rattle.law_places.specs.inv.history.Record.Past.{Start, Then}
 use Rattle.law_places.proofs.inv.history.AllOf.{all_of}
@@ -56,8 +56,8 @@ use Rattle.law_places.specs.inv.rows.Rows.{View}
 use Rattle.law_places.proofs.inv.ends.Told.Turns.{is_later}
 use Rattle.law_places.proofs.answers.AnswersTold.Answering.{one_began, own_began}
 use Rattle.law_places.proofs.answers.AnswersTold.Owed.{call_for, TaskServes, Serves}
-use Rattle.laws.specs.HistoryHolds.{sources_ok}
-use Rattle.laws.specs.HoldLaw.{has_had}
+use Rattle.law_turns.specs.laws.HistoryHolds.{sources_ok}
+use Rattle.law_turns.specs.laws.HoldLaw.{has_had}
 use Rattle.law_held.specs.Records.{RecordsFindSources}
 use Rattle.law_held.proofs.Roots.Leads.{Leads, leads_of}
 use Rattle.law_held.proofs.Roots.Ways.{record_each, answers_of}
@@ -65,7 +65,7 @@ use Rattle.law_places.proofs.answers.Lawful.Counts.{reload_index}
 use Rattle.law_places.proofs.inv.links.Origins.Ends.{found_clock}
 use Rattle.law_places.proofs.inv.handover.Asks.{run_of}
 use Rattle.law_held.proofs.NextRows.Behind.{now_held, one_held}
-use Rattle.wfe_core.proofs.Lists.{or_left, or_right as none_rest}
+use Rattle.law_turns.proofs.inv.model.Lists.{or_left, or_right as none_rest}
 
 -- the row of a link
 abbrev row_of : ℕ → Option ℕ

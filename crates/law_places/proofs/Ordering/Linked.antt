@@ -2,53 +2,53 @@
 use Rattle.std.proofs.Common.{ℕ, ◌≡◌, ◌<◌, ◌+◌, ◌-◌, Bool, true, false, List, [], ◌∷◌, ◌++◌, Option, Some, None, refl, sym, ap, ◌∙◌, subst, arith, ◌⊎◌, inl, inr}
 use Rattle.std.proofs.lemmas.Bool.Decides.{nat_tests}
 use Rattle.std.specs.Prelude.{◌==◌, if◌then◌else◌, is_none}
-use Rattle.wfe_core.specs.words.Place.{Place, has, is_valid}
-use Rattle.wfe_core.specs.words.Place.Place.{Head, Tail, Bucket, Row}
-use Rattle.wfe_core.specs.words.declared.layout.Layout.{Layout}
-use Rattle.wfe_core.specs.defs.declared.call.Call.{Call}
-use Rattle.wfe_core.specs.defs.declared.event.Event.{Event}
-use Rattle.wfe_core.specs.defs.declared.event.Event.TheVariants as events
-use Rattle.wfe_core.specs.defs.declared.event.Root.TheVariants as roots
-use Rattle.wfe_core.specs.defs.declared.fold.Change.{Change}
-use Rattle.wfe_core.specs.defs.declared.fold.Change.TheVariants as changes
-use Rattle.wfe_core.specs.defs.declared.lifetime.Lifetime.{Lifetime}
-use Rattle.wfe_core.specs.declared.post.Post.{Post}
-use Rattle.wfe_core.specs.Change.{told_change, changed_bucket}
-use Rattle.wfe_core.specs.Enqueue.{told_link}
-use Rattle.wfe_core.specs.Memory.{written}
-use Rattle.wfe_core.specs.Locals.{told_end, turn, may_begin}
-use Rattle.wfe_core.specs.Posts.{counted}
-use Rattle.wfe_core.specs.Steps.{phase_move}
-use Rattle.wfe_core.specs.World.{World, step, finds, is_busy, told_in}
-use Rattle.wfe_core.specs.Calls.{ChangeKept, EnqueueKept, LoadVersion, LoadCount, LoadKey, LoadValue, ExchangeRoot, LoadNumber, LoadNext, PassTail, ExchangeNext, ExchangeTail, LoadTail, SwingTail, TakeNumber, TakeValue, ExchangeHead, Getting, Changing, Enqueuing, Dequeuing, Keeping, ReadGuard, GiveBack, Phase, Idle, Runs, Scans, Works, CallTurn, CallOutcome, GoesOn, Answers}
-use Rattle.wfe_core.proofs.Facts.{same_number, both, first_of, rest_of, none_by, if_same, unless_true, same_both, number_is}
-use Rattle.law_answers.specs.inv.requests.Views.{View as Asked}
-use Rattle.law_answers.proofs.inv.requests.Kept.{requests_begin, requests_start}
-use Rattle.law_answers.specs.inv.rows.Agree.{first_rows, rows_after}
-use Rattle.law_answers.specs.inv.rows.Chain.{first_line, line_after}
-use Rattle.law_answers.specs.inv.rows.Hands.{hand_in, holds_slot, is_right, row_move}
-use Rattle.law_answers.specs.inv.rows.Queue.{Line, is_past, line_move, moved_line, Joins, Keeps}
-use Rattle.law_answers.specs.inv.rows.Rows.{Status, Hand, View, RowMove, made, names, status_in, is_taken}
-use Rattle.law_answers.specs.inv.rows.Rows.Hand.{Taken}
-use Rattle.law_answers.specs.inv.rows.Rows.Status.{Free, Claimed, Born, Linked, InQueue, Cut, Sealed, Listed}
-use Rattle.law_answers.specs.inv.rows.Rows.RowMove.{Stays, Claims, Bears, Drops, Links, Replaces, Appends, Pops, Reads, Seals, Lists, Returns}
-use Rattle.law_answers.proofs.inv.rows.Fits.{MoveFits}
-use Rattle.law_answers.proofs.inv.rows.Went.{WalksIn}
-use Rattle.law_answers.proofs.inv.covers.Kept.{before_at}
-use Rattle.law_answers.specs.inv.history.Record.{Past, Each, tells_of}
-use Rattle.law_answers.specs.inv.history.Record.Past.{Then}
-use Rattle.law_answers.proofs.inv.history.Entries.{entries_of_each}
-use Rattle.law_answers.specs.inv.history.History.{Begins, Steps, Made, done, first_made, record_of}
-use Rattle.law_answers.proofs.inv.history.Along.{Steady, items_keep}
-use Rattle.law_answers.specs.inv.Known.{Known}
-use Rattle.law_answers.proofs.inv.Inv.Begun.{known_start, known_begin}
-use Rattle.law_answers.proofs.inv.Inv.Kept.{known_kept, asked_next}
-use Rattle.law_answers.specs.inv.ends.Told.{row_events, birth_in, move_of}
-use Rattle.laws.proofs.Along.{along}
-use Rattle.law_answers.proofs.inv.history.AllOf.{all_of, of_weaker}
-use Rattle.laws.specs.StateAt.{next_by, next_at, was_given_by, was_given, tail_by, tail_at, head_at}
-use Rattle.laws.specs.HistoryRows.{nexts_ok}
-use Rattle.laws.specs.Once.{is_slot}
+use Rattle.law_reuse.specs.inv.model.words.Place.{Place, has, is_valid}
+use Rattle.law_reuse.specs.inv.model.words.Place.Place.{Head, Tail, Bucket, Row}
+use Rattle.law_reuse.specs.inv.model.words.declared.layout.Layout.{Layout}
+use Rattle.law_reuse.specs.inv.model.defs.declared.call.Call.{Call}
+use Rattle.law_reuse.specs.inv.model.defs.declared.event.Event.{Event}
+use Rattle.law_reuse.specs.inv.model.defs.declared.event.Event.TheVariants as events
+use Rattle.law_reuse.specs.inv.model.defs.declared.event.Root.TheVariants as roots
+use Rattle.law_reuse.specs.inv.model.defs.declared.fold.Change.{Change}
+use Rattle.law_reuse.specs.inv.model.defs.declared.fold.Change.TheVariants as changes
+use Rattle.law_reuse.specs.inv.model.defs.declared.lifetime.Lifetime.{Lifetime}
+use Rattle.law_reuse.specs.inv.model.declared.post.Post.{Post}
+use Rattle.law_reuse.specs.inv.model.Change.{told_change, changed_bucket}
+use Rattle.law_reuse.specs.inv.model.Enqueue.{told_link}
+use Rattle.law_reuse.specs.inv.model.Memory.{written}
+use Rattle.law_reuse.specs.inv.model.Locals.{told_end, turn, may_begin}
+use Rattle.law_reuse.specs.inv.model.Posts.{counted}
+use Rattle.law_reuse.specs.inv.model.Steps.{phase_move}
+use Rattle.law_reuse.specs.inv.model.World.{World, step, finds, is_busy, told_in}
+use Rattle.law_reuse.specs.inv.model.Calls.{ChangeKept, EnqueueKept, LoadVersion, LoadCount, LoadKey, LoadValue, ExchangeRoot, LoadNumber, LoadNext, PassTail, ExchangeNext, ExchangeTail, LoadTail, SwingTail, TakeNumber, TakeValue, ExchangeHead, Getting, Changing, Enqueuing, Dequeuing, Keeping, ReadGuard, GiveBack, Phase, Idle, Runs, Scans, Works, CallTurn, CallOutcome, GoesOn, Answers}
+use Rattle.law_reuse.proofs.inv.model.Facts.{same_number, both, first_of, rest_of, none_by, if_same, unless_true, same_both, number_is}
+use Rattle.law_reuse.specs.inv.requests.Views.{View as Asked}
+use Rattle.law_reuse.proofs.inv.requests.Kept.{requests_begin, requests_start}
+use Rattle.law_reuse.specs.inv.rows.Agree.{first_rows, rows_after}
+use Rattle.law_reuse.specs.inv.rows.Chain.{first_line, line_after}
+use Rattle.law_reuse.specs.inv.rows.Hands.{hand_in, holds_slot, is_right, row_move}
+use Rattle.law_reuse.specs.inv.rows.Queue.{Line, is_past, line_move, moved_line, Joins, Keeps}
+use Rattle.law_reuse.specs.inv.rows.Rows.{Status, Hand, View, RowMove, made, names, status_in, is_taken}
+use Rattle.law_reuse.specs.inv.rows.Rows.Hand.{Taken}
+use Rattle.law_reuse.specs.inv.rows.Rows.Status.{Free, Claimed, Born, Linked, InQueue, Cut, Sealed, Listed}
+use Rattle.law_reuse.specs.inv.rows.Rows.RowMove.{Stays, Claims, Bears, Drops, Links, Replaces, Appends, Pops, Reads, Seals, Lists, Returns}
+use Rattle.law_reuse.proofs.inv.rows.Fits.{MoveFits}
+use Rattle.law_reuse.proofs.inv.rows.Went.{WalksIn}
+use Rattle.law_reuse.proofs.inv.covers.Kept.{before_at}
+use Rattle.law_reuse.specs.inv.history.Record.{Past, Each, tells_of}
+use Rattle.law_reuse.specs.inv.history.Record.Past.{Then}
+use Rattle.law_reuse.proofs.inv.history.Entries.{entries_of_each}
+use Rattle.law_reuse.specs.inv.history.History.{Begins, Steps, Made, done, first_made, record_of}
+use Rattle.law_reuse.proofs.inv.history.Along.{Steady, items_keep}
+use Rattle.law_reuse.specs.inv.Known.{Known}
+use Rattle.law_reuse.proofs.inv.Inv.Begun.{known_start, known_begin}
+use Rattle.law_reuse.proofs.inv.Inv.Kept.{known_kept, asked_next}
+use Rattle.law_reuse.specs.inv.ends.Told.{row_events, birth_in, move_of}
+use Rattle.law_reuse.proofs.laws.Along.{along}
+use Rattle.law_reuse.proofs.inv.history.AllOf.{all_of, of_weaker}
+use Rattle.law_reuse.specs.laws.StateAt.{next_by, next_at, was_given_by, was_given, tail_by, tail_at, head_at}
+use Rattle.law_reuse.specs.laws.HistoryRows.{nexts_ok}
+use Rattle.law_reuse.specs.laws.Once.{is_slot}
 use Rattle.law_places.specs.Records.{RecordsLinkNexts}
 use Rattle.law_places.proofs.Placing.Comes.{agree_of, shape_in}
 use Rattle.law_places.proofs.Placing.Fronts.{linked_front, queued_front, taken_front}
@@ -56,10 +56,10 @@ use Rattle.law_places.proofs.Placing.Marks.{is_marked, is_common, marks, ordered
 use Rattle.law_places.proofs.Ordering.Nexts.{Here, next_moved, tail_moved, joined_next, link_next, taken_next, linked_next, before_next}
 use Rattle.law_places.proofs.Ordering.Ordered.{word_of, Roots, roots_step, whole_comes, one_row, no_row, head_is}
 use Rattle.law_places.proofs.Placing.Shapes.{Claiming, Shape}
-use Rattle.laws.proofs.Tells.{tells_both}
-use Rattle.law_answers.proofs.inv.rows.Queued.{finds_phase}
-use Rattle.law_answers.proofs.inv.Inv.Whole.{covers_of}
-use Rattle.law_answers.proofs.inv.rows.Runs.{taken_slot}
+use Rattle.law_reuse.proofs.laws.Tells.{tells_both}
+use Rattle.law_reuse.proofs.inv.rows.Queued.{finds_phase}
+use Rattle.law_reuse.proofs.inv.Inv.Whole.{covers_of}
+use Rattle.law_reuse.proofs.inv.rows.Runs.{taken_slot}
 
 -- a row that is given and not linked
 abbrev pub is_new : Status → Bool

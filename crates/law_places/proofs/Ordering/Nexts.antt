@@ -2,46 +2,46 @@
 use Rattle.std.proofs.Common.{ℕ, ◌≡◌, ◌<◌, ◌+◌, ◌-◌, Bool, true, false, List, [], ◌∷◌, ◌++◌, Option, Some, refl, sym, ap, ◌∙◌, subst, arith}
 use Rattle.std.proofs.lemmas.Bool.Decides.{nat_tests}
 use Rattle.std.specs.Prelude.{◌==◌, ◌&&◌, if◌then◌else◌}
-use Rattle.wfe_core.specs.words.Place.{Place, same}
-use Rattle.wfe_core.specs.words.Place.Place.{Head, Tail, Bucket, Index, Row}
-use Rattle.wfe_core.specs.defs.declared.event.Event.{Event}
-use Rattle.wfe_core.specs.defs.declared.event.Event.TheVariants as events
-use Rattle.wfe_core.specs.defs.declared.event.Root.TheVariants as roots
-use Rattle.wfe_core.specs.defs.declared.fold.Change.{Change}
-use Rattle.wfe_core.specs.defs.declared.fold.Change.TheVariants as changes
-use Rattle.wfe_core.specs.defs.declared.lifetime.Lifetime.{Lifetime}
-use Rattle.wfe_core.specs.declared.post.Post.{Post}
-use Rattle.wfe_core.specs.Change.{told_change, changed_bucket}
-use Rattle.wfe_core.specs.Enqueue.{told_link}
-use Rattle.wfe_core.specs.Memory as memory
-use Rattle.wfe_core.specs.Memory.{written}
-use Rattle.wfe_core.specs.Machine.{base_move}
-use Rattle.wfe_core.specs.Phases.{Base, RowOf}
-use Rattle.wfe_core.specs.Phases.Base.{Write}
-use Rattle.wfe_core.specs.Posts.{counted, index_word}
-use Rattle.wfe_core.specs.Steps.{phase_move}
-use Rattle.wfe_core.specs.WriteRow.{row_word}
-use Rattle.wfe_core.specs.Calls.{ChangeKept, EnqueueKept, LoadVersion, LoadCount, LoadKey, LoadValue, ExchangeRoot, LoadNumber, LoadNext, PassTail, ExchangeNext, ExchangeTail, LoadTail, SwingTail, TakeNumber, TakeValue, ExchangeHead, KeepAt, StoreHeld, Looks, Getting, Changing, Enqueuing, Dequeuing, Keeping, GetAt, FindVersion, ReadGuard, GiveBack, Why, Phase, Idle, Runs, Scans, Works}
-use Rattle.wfe_core.proofs.Facts.{same_number, same_both}
-use Rattle.law_answers.specs.inv.rows.Agree.{Plays}
-use Rattle.law_answers.specs.inv.rows.Hands.{row_move}
-use Rattle.law_answers.specs.inv.rows.Queue.{Line, is_past}
-use Rattle.law_answers.specs.inv.rows.Rows.{Status, Hand, View, RowMove, Good, names, status_in}
-use Rattle.law_answers.specs.inv.rows.Rows.Status.{Free, Born}
-use Rattle.law_answers.specs.inv.rows.Rows.Hand.{Taken}
-use Rattle.law_answers.specs.inv.rows.Rows.RowMove.{Stays, Claims, Bears, Drops, Links, Replaces, Appends, Pops, Reads, Seals, Lists, Returns}
-use Rattle.law_answers.proofs.inv.rows.Fits.{MoveFits}
-use Rattle.law_answers.proofs.inv.rows.Own.{unlinked_row, unlinked_tail, is_write, base_links}
-use Rattle.law_answers.proofs.inv.rows.Went.{LineIn, WalksIn, born_unlined}
-use Rattle.law_answers.proofs.inv.rows.Words.{put_other, missed}
-use Rattle.law_answers.specs.inv.ends.Told.{row_events, birth_in}
-use Rattle.laws.proofs.Along.{along}
-use Rattle.laws.specs.StateAt.{next_by, tail_by}
+use Rattle.law_reuse.specs.inv.model.words.Place.{Place, same}
+use Rattle.law_reuse.specs.inv.model.words.Place.Place.{Head, Tail, Bucket, Index, Row}
+use Rattle.law_reuse.specs.inv.model.defs.declared.event.Event.{Event}
+use Rattle.law_reuse.specs.inv.model.defs.declared.event.Event.TheVariants as events
+use Rattle.law_reuse.specs.inv.model.defs.declared.event.Root.TheVariants as roots
+use Rattle.law_reuse.specs.inv.model.defs.declared.fold.Change.{Change}
+use Rattle.law_reuse.specs.inv.model.defs.declared.fold.Change.TheVariants as changes
+use Rattle.law_reuse.specs.inv.model.defs.declared.lifetime.Lifetime.{Lifetime}
+use Rattle.law_reuse.specs.inv.model.declared.post.Post.{Post}
+use Rattle.law_reuse.specs.inv.model.Change.{told_change, changed_bucket}
+use Rattle.law_reuse.specs.inv.model.Enqueue.{told_link}
+use Rattle.law_reuse.specs.inv.model.Memory as memory
+use Rattle.law_reuse.specs.inv.model.Memory.{written}
+use Rattle.law_reuse.specs.inv.model.Machine.{base_move}
+use Rattle.law_reuse.specs.inv.model.Phases.{Base, RowOf}
+use Rattle.law_reuse.specs.inv.model.Phases.Base.{Write}
+use Rattle.law_reuse.specs.inv.model.Posts.{counted, index_word}
+use Rattle.law_reuse.specs.inv.model.Steps.{phase_move}
+use Rattle.law_reuse.specs.inv.model.WriteRow.{row_word}
+use Rattle.law_reuse.specs.inv.model.Calls.{ChangeKept, EnqueueKept, LoadVersion, LoadCount, LoadKey, LoadValue, ExchangeRoot, LoadNumber, LoadNext, PassTail, ExchangeNext, ExchangeTail, LoadTail, SwingTail, TakeNumber, TakeValue, ExchangeHead, KeepAt, StoreHeld, Looks, Getting, Changing, Enqueuing, Dequeuing, Keeping, GetAt, FindVersion, ReadGuard, GiveBack, Why, Phase, Idle, Runs, Scans, Works}
+use Rattle.law_reuse.proofs.inv.model.Facts.{same_number, same_both}
+use Rattle.law_reuse.specs.inv.rows.Agree.{Plays}
+use Rattle.law_reuse.specs.inv.rows.Hands.{row_move}
+use Rattle.law_reuse.specs.inv.rows.Queue.{Line, is_past}
+use Rattle.law_reuse.specs.inv.rows.Rows.{Status, Hand, View, RowMove, Good, names, status_in}
+use Rattle.law_reuse.specs.inv.rows.Rows.Status.{Free, Born}
+use Rattle.law_reuse.specs.inv.rows.Rows.Hand.{Taken}
+use Rattle.law_reuse.specs.inv.rows.Rows.RowMove.{Stays, Claims, Bears, Drops, Links, Replaces, Appends, Pops, Reads, Seals, Lists, Returns}
+use Rattle.law_reuse.proofs.inv.rows.Fits.{MoveFits}
+use Rattle.law_reuse.proofs.inv.rows.Own.{unlinked_row, unlinked_tail, is_write, base_links}
+use Rattle.law_reuse.proofs.inv.rows.Went.{LineIn, WalksIn, born_unlined}
+use Rattle.law_reuse.proofs.inv.rows.Words.{put_other, missed}
+use Rattle.law_reuse.specs.inv.ends.Told.{row_events, birth_in}
+use Rattle.law_reuse.proofs.laws.Along.{along}
+use Rattle.law_reuse.specs.laws.StateAt.{next_by, tail_by}
 use Rattle.law_places.proofs.Placing.Fronts.{linked_front, queued_front, taken_front}
 use Rattle.law_places.proofs.Placing.Marks.{marks}
 use Rattle.law_places.proofs.Ordering.Ordered.{word_of}
 use Rattle.law_places.proofs.Placing.Shapes.{why_hand}
-use Rattle.law_answers.proofs.inv.rows.Queued.{finds_phase}
+use Rattle.law_reuse.proofs.inv.rows.Queued.{finds_phase}
 
 -- events of the rows lead no next link anywhere, but that a row is given
 rows_next : (s b : ℕ) (m : RowMove) (x : Option ℕ) → ((slot : ℕ) → m ≡ Claims slot → (s == slot) ≡ false) → along (next_by s) (row_events b m) x ≡ x

@@ -2,48 +2,48 @@
 use Rattle.std.proofs.Common.{ℕ, ◌≡◌, ◌<◌, ◌+◌, Bool, true, false, List, [], ◌∷◌, Option, Some, None, refl, sym, ap, ◌∙◌, subst, arith}
 use Rattle.std.proofs.lemmas.Bool.Decides.{nat_tests}
 use Rattle.std.specs.Prelude.{◌==◌, if◌then◌else◌}
-use Rattle.wfe_core.specs.words.Place.{is_valid}
-use Rattle.wfe_core.specs.words.Place.Place.{Head}
-use Rattle.wfe_core.specs.words.declared.layout.Layout.{Layout}
-use Rattle.wfe_core.specs.defs.declared.call.Call.{Call}
-use Rattle.wfe_core.specs.defs.declared.event.Event.{Event}
-use Rattle.wfe_core.specs.defs.declared.event.Event.TheVariants as events
-use Rattle.wfe_core.specs.defs.declared.event.Root.TheVariants as roots
-use Rattle.wfe_core.specs.declared.post.Post.{Post}
-use Rattle.wfe_core.specs.Calls.{Phase, Idle, Runs, Scans, Works, CallTurn, CallOutcome, GoesOn, Answers}
-use Rattle.wfe_core.specs.Locals.{told_end, turn, may_begin}
-use Rattle.wfe_core.specs.Memory as memory
-use Rattle.wfe_core.specs.Memory.{upd}
-use Rattle.wfe_core.specs.Steps.{phase_move}
-use Rattle.wfe_core.specs.World.{World, finds, is_busy, told_in}
-use Rattle.wfe_core.proofs.Facts.{same_number, both, first_of, rest_of}
-use Rattle.law_answers.specs.inv.requests.Views.{View as Asked}
-use Rattle.law_answers.proofs.inv.requests.Kept.{requests_begin, requests_start}
-use Rattle.law_answers.specs.inv.rows.Agree.{Agree, first_rows, rows_after}
-use Rattle.law_answers.specs.inv.rows.Chain.{first_line, line_after}
-use Rattle.law_answers.specs.inv.rows.Queue.{Line}
-use Rattle.law_answers.specs.inv.rows.Rows.{RowMove, View, made}
-use Rattle.law_answers.specs.inv.rows.Rows.RowMove.{Stays, Claims, Bears, Drops, Links, Replaces, Appends, Pops, Reads, Seals, Lists, Returns}
-use Rattle.law_answers.specs.inv.history.Record.{Past, Each, tells_of}
-use Rattle.law_answers.specs.inv.history.Record.Past.{Then}
-use Rattle.law_answers.proofs.inv.history.Entries.{entries_of_each}
-use Rattle.law_answers.specs.inv.history.History.{Begins, Steps, Made, done, first_made, record_of}
-use Rattle.law_answers.proofs.inv.history.Along.{Steady, items_keep}
-use Rattle.law_answers.specs.inv.Known.{Known}
-use Rattle.law_answers.proofs.inv.Inv.Begun.{known_start, known_begin}
-use Rattle.law_answers.proofs.inv.Inv.Kept.{known_kept, asked_next}
-use Rattle.law_answers.specs.inv.ends.Told.{move_of}
-use Rattle.laws.proofs.Along.{along, along_kind}
-use Rattle.law_answers.proofs.inv.history.AllOf.{all_of, of_weaker}
-use Rattle.laws.specs.StateAt.{bucket_by, bucket_at, head_by, head_at}
-use Rattle.laws.specs.Once.{Due, NoneDue, due_linked, due_by, due_at, is_free, changes_due, meets_due, order_ok}
+use Rattle.law_reuse.specs.inv.model.words.Place.{is_valid}
+use Rattle.law_reuse.specs.inv.model.words.Place.Place.{Head}
+use Rattle.law_reuse.specs.inv.model.words.declared.layout.Layout.{Layout}
+use Rattle.law_reuse.specs.inv.model.defs.declared.call.Call.{Call}
+use Rattle.law_reuse.specs.inv.model.defs.declared.event.Event.{Event}
+use Rattle.law_reuse.specs.inv.model.defs.declared.event.Event.TheVariants as events
+use Rattle.law_reuse.specs.inv.model.defs.declared.event.Root.TheVariants as roots
+use Rattle.law_reuse.specs.inv.model.declared.post.Post.{Post}
+use Rattle.law_reuse.specs.inv.model.Calls.{Phase, Idle, Runs, Scans, Works, CallTurn, CallOutcome, GoesOn, Answers}
+use Rattle.law_reuse.specs.inv.model.Locals.{told_end, turn, may_begin}
+use Rattle.law_reuse.specs.inv.model.Memory as memory
+use Rattle.law_reuse.specs.inv.model.Memory.{upd}
+use Rattle.law_reuse.specs.inv.model.Steps.{phase_move}
+use Rattle.law_reuse.specs.inv.model.World.{World, finds, is_busy, told_in}
+use Rattle.law_reuse.proofs.inv.model.Facts.{same_number, both, first_of, rest_of}
+use Rattle.law_reuse.specs.inv.requests.Views.{View as Asked}
+use Rattle.law_reuse.proofs.inv.requests.Kept.{requests_begin, requests_start}
+use Rattle.law_reuse.specs.inv.rows.Agree.{Agree, first_rows, rows_after}
+use Rattle.law_reuse.specs.inv.rows.Chain.{first_line, line_after}
+use Rattle.law_reuse.specs.inv.rows.Queue.{Line}
+use Rattle.law_reuse.specs.inv.rows.Rows.{RowMove, View, made}
+use Rattle.law_reuse.specs.inv.rows.Rows.RowMove.{Stays, Claims, Bears, Drops, Links, Replaces, Appends, Pops, Reads, Seals, Lists, Returns}
+use Rattle.law_reuse.specs.inv.history.Record.{Past, Each, tells_of}
+use Rattle.law_reuse.specs.inv.history.Record.Past.{Then}
+use Rattle.law_reuse.proofs.inv.history.Entries.{entries_of_each}
+use Rattle.law_reuse.specs.inv.history.History.{Begins, Steps, Made, done, first_made, record_of}
+use Rattle.law_reuse.proofs.inv.history.Along.{Steady, items_keep}
+use Rattle.law_reuse.specs.inv.Known.{Known}
+use Rattle.law_reuse.proofs.inv.Inv.Begun.{known_start, known_begin}
+use Rattle.law_reuse.proofs.inv.Inv.Kept.{known_kept, asked_next}
+use Rattle.law_reuse.specs.inv.ends.Told.{move_of}
+use Rattle.law_reuse.proofs.laws.Along.{along, along_kind}
+use Rattle.law_reuse.proofs.inv.history.AllOf.{all_of, of_weaker}
+use Rattle.law_reuse.specs.laws.StateAt.{bucket_by, bucket_at, head_by, head_at}
+use Rattle.law_reuse.specs.laws.Once.{Due, NoneDue, due_linked, due_by, due_at, is_free, changes_due, meets_due, order_ok}
 use Rattle.law_places.specs.Records.{RecordsKeepOrder}
 use Rattle.law_places.proofs.Placing.Comes.{agree_of, shape_in, finds_bucket}
 use Rattle.law_places.proofs.Placing.Marks.{is_marked, is_common, marks, ordered, InOrder, tells, marks_told, step_order}
 use Rattle.law_places.proofs.Placing.Moved.{passing}
 use Rattle.law_places.proofs.Placing.Shapes.{is_change_of, is_passing, FindsAt, Shape}
 use Rattle.law_places.proofs.Placing.Sums.{along_both}
-use Rattle.laws.proofs.Tells.{tells_both}
+use Rattle.law_reuse.proofs.laws.Tells.{tells_both}
 
 -- the word that leads to a row
 abbrev pub word_of : Option ℕ → ℕ

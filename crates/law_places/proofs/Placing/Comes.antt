@@ -3,39 +3,39 @@ use Rattle.std.proofs.Common.{ℕ, ◌≡◌, ◌<◌, ◌+◌, Bool, true, fals
 use Rattle.std.proofs.lemmas.Bool.Decides.{nat_tests}
 use Rattle.std.specs.List.{filter}
 use Rattle.std.specs.Prelude.{◌==◌, nat_lt, if◌then◌else◌}
-use Rattle.wfe_core.specs.words.Place.Place.{Bucket}
-use Rattle.wfe_core.specs.defs.declared.call.Answer.{Answer}
-use Rattle.wfe_core.specs.defs.declared.event.Event.{Event}
-use Rattle.wfe_core.specs.defs.declared.event.Event.TheVariants as events
-use Rattle.wfe_core.specs.declared.post.Post.{Post}
-use Rattle.wfe_core.specs.Book.{Book}
-use Rattle.wfe_core.specs.Calls.{CallTurn, CallOutcome, GoesOn, Answers}
-use Rattle.wfe_core.specs.Locals.{busy_in, told_end, turn}
-use Rattle.wfe_core.specs.Memory as memory
-use Rattle.wfe_core.specs.Posts.{counted}
-use Rattle.wfe_core.specs.Steps.{phase_move}
-use Rattle.wfe_core.specs.World.{World, step, finds, is_busy, told_in}
-use Rattle.law_answers.proofs.inv.covers.Held.{stepped_phase}
-use Rattle.law_answers.specs.inv.shapes.Frame.{phase_left}
-use Rattle.law_answers.specs.inv.requests.Views.{View as Asked}
-use Rattle.law_answers.specs.inv.rows.Agree.{Agree, rows_after}
-use Rattle.law_answers.specs.inv.rows.Queue.{Line}
-use Rattle.law_answers.specs.inv.rows.Rows.{Hand, RowMove, View}
-use Rattle.law_answers.specs.inv.rows.Rows.RowMove.{Stays, Claims, Bears, Drops, Links, Replaces, Appends, Pops, Reads, Seals, Lists, Returns}
-use Rattle.law_answers.specs.inv.contents.Told.{NextChange, TellsRight, AllRight}
-use Rattle.law_answers.specs.inv.history.Record.{Past, tells_of}
-use Rattle.law_answers.specs.inv.Inv.{TellsRight as StepTells}
-use Rattle.law_answers.specs.inv.Known.{Known}
-use Rattle.law_answers.proofs.inv.Inv.Tells.{inv_tells}
-use Rattle.law_answers.specs.inv.ends.Told.{move_of}
-use Rattle.laws.proofs.Along.{along, along_kind}
-use Rattle.laws.specs.StateAt.{Given, Without, given_of, given_by, cuts_of, cuts_by, retires_of, retires_by, changed_of, changed_by, seen}
+use Rattle.law_reuse.specs.inv.model.words.Place.Place.{Bucket}
+use Rattle.law_reuse.specs.inv.model.defs.declared.call.Answer.{Answer}
+use Rattle.law_reuse.specs.inv.model.defs.declared.event.Event.{Event}
+use Rattle.law_reuse.specs.inv.model.defs.declared.event.Event.TheVariants as events
+use Rattle.law_reuse.specs.inv.model.declared.post.Post.{Post}
+use Rattle.law_reuse.specs.inv.model.Book.{Book}
+use Rattle.law_reuse.specs.inv.model.Calls.{CallTurn, CallOutcome, GoesOn, Answers}
+use Rattle.law_reuse.specs.inv.model.Locals.{busy_in, told_end, turn}
+use Rattle.law_reuse.specs.inv.model.Memory as memory
+use Rattle.law_reuse.specs.inv.model.Posts.{counted}
+use Rattle.law_reuse.specs.inv.model.Steps.{phase_move}
+use Rattle.law_reuse.specs.inv.model.World.{World, step, finds, is_busy, told_in}
+use Rattle.law_reuse.proofs.inv.covers.Held.{stepped_phase}
+use Rattle.law_reuse.specs.inv.shapes.Frame.{phase_left}
+use Rattle.law_reuse.specs.inv.requests.Views.{View as Asked}
+use Rattle.law_reuse.specs.inv.rows.Agree.{Agree, rows_after}
+use Rattle.law_reuse.specs.inv.rows.Queue.{Line}
+use Rattle.law_reuse.specs.inv.rows.Rows.{Hand, RowMove, View}
+use Rattle.law_reuse.specs.inv.rows.Rows.RowMove.{Stays, Claims, Bears, Drops, Links, Replaces, Appends, Pops, Reads, Seals, Lists, Returns}
+use Rattle.law_reuse.specs.inv.contents.Told.{NextChange, TellsRight, AllRight}
+use Rattle.law_reuse.specs.inv.history.Record.{Past, tells_of}
+use Rattle.law_reuse.specs.inv.Inv.{TellsRight as StepTells}
+use Rattle.law_reuse.specs.inv.Known.{Known}
+use Rattle.law_reuse.proofs.inv.Inv.Tells.{inv_tells}
+use Rattle.law_reuse.specs.inv.ends.Told.{move_of}
+use Rattle.law_reuse.proofs.laws.Along.{along, along_kind}
+use Rattle.law_reuse.specs.laws.StateAt.{Given, Without, given_of, given_by, cuts_of, cuts_by, retires_of, retires_by, changed_of, changed_by, seen}
 use Rattle.law_places.proofs.Placing.Marks.{is_marked, marks, tells, marks_told}
 use Rattle.law_places.proofs.Placing.Moved.{hand_after, hand_made, loud_by, said_by, Says, Agrees, AgreesAfter, agrees_moved}
 use Rattle.law_places.proofs.Placing.Shapes.{HandFits, hand_fits, is_change_of, FindsAt, Ending, Shape, shape_of}
 use Rattle.law_places.proofs.Placing.Sums.{given_kind, cuts_kind, retires_still, changed_still, loud_still, said_still, along_both}
-use Rattle.laws.proofs.Tells.{seen_tells, seen_stays}
-use Rattle.law_answers.proofs.inv.rows.Kept.{made_hand}
+use Rattle.law_reuse.proofs.laws.Tells.{seen_tells, seen_stays}
+use Rattle.law_reuse.proofs.inv.rows.Kept.{made_hand}
 
 -- the record says of a seat what it has in hand
 abbrev pub ComesTo : Hand → Bool → ℕ → Past → Type 0

@@ -3,39 +3,39 @@
 use Rattle.std.proofs.Common.{ℕ, ◌≡◌, ◌+◌, ◌-◌, ◌%◌, Bool, true, false, List, [], ◌∷◌, ◌++◌, length, Option, Some, None, refl, sym, ◌∙◌}
 use Rattle.std.proofs.lemmas.List.{append_assoc}
 use Rattle.std.specs.Prelude.{◌==◌, nat_lt}
-use Rattle.wfe_core.specs.words.declared.config.SchemeKind.{SchemeKind}
-use Rattle.wfe_core.specs.defs.declared.call.Answer.{Answer}
-use Rattle.wfe_core.specs.defs.declared.call.Answer.TheVariants as the_answers
-use Rattle.wfe_core.specs.defs.declared.call.ClockMove.TheVariants as moves
-use Rattle.wfe_core.specs.defs.declared.event.Event.{Event}
-use Rattle.wfe_core.specs.defs.declared.event.Event.TheVariants as events
-use Rattle.wfe_core.specs.defs.declared.event.Root.TheVariants as roots
-use Rattle.wfe_core.specs.declared.ends.AllocateEnd.{AllocateEnd}
-use Rattle.wfe_core.specs.declared.ends.AllocateEnd.TheVariants as allocate_ends
-use Rattle.wfe_core.specs.declared.ends.FollowEnd.{FollowEnd}
-use Rattle.wfe_core.specs.declared.ends.FollowEnd.TheVariants as follow_ends
-use Rattle.wfe_core.specs.declared.ends.ProtectEnd.TheVariants as protect_ends
-use Rattle.wfe_core.specs.declared.post.Post.{Post}
-use Rattle.wfe_core.specs.Change as alters
-use Rattle.wfe_core.specs.Dequeue as dequeues
-use Rattle.wfe_core.specs.Desks.{Desk, with_life}
-use Rattle.wfe_core.specs.Enqueue as enqueues
-use Rattle.wfe_core.specs.Get as gets
-use Rattle.wfe_core.specs.Guards.{guards, guard_at, eras_in, published}
-use Rattle.wfe_core.specs.Keep as keeps
-use Rattle.wfe_core.specs.Machine as machine
-use Rattle.wfe_core.specs.Posts.{cleared, reserves_index, stands, with_row, withdrawn}
-use Rattle.wfe_core.specs.words.Schemes.{has_one_interval}
-use Rattle.wfe_core.specs.Scan as scan
-use Rattle.wfe_core.specs.Steps as steps
-use Rattle.wfe_core.specs.Rounds.{scheme_of, bucket_of, index_of, taken_of, finish_base, clear_base, clear_post, clear_told, given_up, closed, finishing_by, finishing, clearing_by, clearing, clearing_next_by, clearing_next, let_index}
-use Rattle.wfe_core.specs.Phases.{Base, Ending, Outcome, Goes, Ends}
-use Rattle.wfe_core.specs.Phases.Ending.{Done, Protected, Followed, Allocated, Retired, Clocked}
-use Rattle.wfe_core.specs.Calls.{Task, Gets, Changes, Holds, Enqueues, Dequeues, Next, Again, MakeRoom, Answering, Retiring, AfterScan, Answered, Repeated, Counted, ChangeKept, EnqueueKept, GetAt, FindVersion, FindCount, FindKey, FindValue, ChangeAt, LoadVersion, LoadCount, LoadKey, LoadValue, ExchangeRoot, EnqueueAt, LoadNumber, LoadNext, PassTail, ExchangeNext, ExchangeTail, DequeueAt, LoadTail, SwingTail, TakeNumber, TakeValue, ExchangeHead, Work, Getting, Changing, Enqueuing, Dequeuing, Keeping, KeepAt, Loosens, LoadHeld, StoreHeld, Looks, Misses, LetGo, Released, Rehold, Dropped, ScanAt, ReadGuard, GiveBack, Why, Opens, FollowsHead, Fills, ClearsNext, Clears, Finishes, GivesUp, Retires, Tidies, Advances, Releases, Phase, Idle, Runs, Scans, Works, CallTurn, CallOutcome}
-use Rattle.law_answers.proofs.inv.history.Passes.{scan_told}
-use Rattle.law_answers.proofs.AnswersTold.Owed.{append_none}
-use Rattle.law_answers.proofs.inv.history.AllOf.{all_of, of_along}
-use Rattle.law_answers.proofs.inv.history.MayTell.{clear_all, cleared_all}
+use Rattle.law_reuse.specs.inv.model.words.declared.config.SchemeKind.{SchemeKind}
+use Rattle.law_reuse.specs.inv.model.defs.declared.call.Answer.{Answer}
+use Rattle.law_reuse.specs.inv.model.defs.declared.call.Answer.TheVariants as the_answers
+use Rattle.law_reuse.specs.inv.model.defs.declared.call.ClockMove.TheVariants as moves
+use Rattle.law_reuse.specs.inv.model.defs.declared.event.Event.{Event}
+use Rattle.law_reuse.specs.inv.model.defs.declared.event.Event.TheVariants as events
+use Rattle.law_reuse.specs.inv.model.defs.declared.event.Root.TheVariants as roots
+use Rattle.law_reuse.specs.inv.model.declared.ends.AllocateEnd.{AllocateEnd}
+use Rattle.law_reuse.specs.inv.model.declared.ends.AllocateEnd.TheVariants as allocate_ends
+use Rattle.law_reuse.specs.inv.model.declared.ends.FollowEnd.{FollowEnd}
+use Rattle.law_reuse.specs.inv.model.declared.ends.FollowEnd.TheVariants as follow_ends
+use Rattle.law_reuse.specs.inv.model.declared.ends.ProtectEnd.TheVariants as protect_ends
+use Rattle.law_reuse.specs.inv.model.declared.post.Post.{Post}
+use Rattle.law_reuse.specs.inv.model.Change as alters
+use Rattle.law_reuse.specs.inv.model.Dequeue as dequeues
+use Rattle.law_reuse.specs.inv.model.Desks.{Desk, with_life}
+use Rattle.law_reuse.specs.inv.model.Enqueue as enqueues
+use Rattle.law_reuse.specs.inv.model.Get as gets
+use Rattle.law_reuse.specs.inv.model.Guards.{guards, guard_at, eras_in, published}
+use Rattle.law_reuse.specs.inv.model.Keep as keeps
+use Rattle.law_reuse.specs.inv.model.Machine as machine
+use Rattle.law_reuse.specs.inv.model.Posts.{cleared, reserves_index, stands, with_row, withdrawn}
+use Rattle.law_reuse.specs.inv.model.words.Schemes.{has_one_interval}
+use Rattle.law_reuse.specs.inv.model.Scan as scan
+use Rattle.law_reuse.specs.inv.model.Steps as steps
+use Rattle.law_reuse.specs.inv.model.Rounds.{scheme_of, bucket_of, index_of, taken_of, finish_base, clear_base, clear_post, clear_told, given_up, closed, finishing_by, finishing, clearing_by, clearing, clearing_next_by, clearing_next, let_index}
+use Rattle.law_reuse.specs.inv.model.Phases.{Base, Ending, Outcome, Goes, Ends}
+use Rattle.law_reuse.specs.inv.model.Phases.Ending.{Done, Protected, Followed, Allocated, Retired, Clocked}
+use Rattle.law_reuse.specs.inv.model.Calls.{Task, Gets, Changes, Holds, Enqueues, Dequeues, Next, Again, MakeRoom, Answering, Retiring, AfterScan, Answered, Repeated, Counted, ChangeKept, EnqueueKept, GetAt, FindVersion, FindCount, FindKey, FindValue, ChangeAt, LoadVersion, LoadCount, LoadKey, LoadValue, ExchangeRoot, EnqueueAt, LoadNumber, LoadNext, PassTail, ExchangeNext, ExchangeTail, DequeueAt, LoadTail, SwingTail, TakeNumber, TakeValue, ExchangeHead, Work, Getting, Changing, Enqueuing, Dequeuing, Keeping, KeepAt, Loosens, LoadHeld, StoreHeld, Looks, Misses, LetGo, Released, Rehold, Dropped, ScanAt, ReadGuard, GiveBack, Why, Opens, FollowsHead, Fills, ClearsNext, Clears, Finishes, GivesUp, Retires, Tidies, Advances, Releases, Phase, Idle, Runs, Scans, Works, CallTurn, CallOutcome}
+use Rattle.law_reuse.proofs.inv.history.Passes.{scan_told}
+use Rattle.law_reuse.proofs.answers.AnswersTold.Owed.{append_none}
+use Rattle.law_reuse.proofs.inv.history.AllOf.{all_of, of_along}
+use Rattle.law_reuse.proofs.inv.history.MayTell.{clear_all, cleared_all}
 
 -- what comes after
 abbrev pub is_after : Event → Bool

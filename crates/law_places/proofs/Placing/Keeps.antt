@@ -2,48 +2,48 @@
 use Rattle.std.proofs.Common.{ℕ, ◌≡◌, ◌<◌, ◌+◌, Bool, true, false, List, [], ◌∷◌, ◌++◌, length, None, Some, refl, sym, ap, ◌∙◌, subst, arith}
 use Rattle.std.proofs.lemmas.Bool.Decides.{nat_tests}
 use Rattle.std.specs.Prelude.{◌==◌, ◌&&◌, ◌||◌, not, if◌then◌else◌}
-use Rattle.wfe_core.specs.words.Place.{is_valid}
-use Rattle.wfe_core.specs.words.declared.layout.Layout.{Layout}
-use Rattle.wfe_core.specs.defs.declared.call.Answer.{Answer}
-use Rattle.wfe_core.specs.defs.declared.call.Call.{Call}
-use Rattle.wfe_core.specs.defs.declared.event.Event.{Event}
-use Rattle.wfe_core.specs.defs.declared.event.Event.TheVariants as events
-use Rattle.wfe_core.specs.declared.post.Post.{Post}
-use Rattle.wfe_core.specs.Calls.{CallTurn, CallOutcome, GoesOn, Answers}
-use Rattle.wfe_core.specs.Locals.{Local, busy_in, may_begin, told_end, turn}
-use Rattle.wfe_core.specs.World.{World, begin, step, finds, is_busy, told_in}
-use Rattle.wfe_core.proofs.Facts.{same_number, first_of, rest_of}
-use Rattle.law_answers.proofs.inv.covers.Held.{stepped_phase}
-use Rattle.law_answers.specs.inv.shapes.Frame.{phase_left}
-use Rattle.law_answers.proofs.inv.shapes.Frame.{seat_stays, begin_stays}
-use Rattle.law_answers.specs.inv.requests.Views.{View as Asked}
-use Rattle.law_answers.proofs.inv.requests.Kept.{requests_begin, requests_start}
-use Rattle.law_answers.specs.inv.rows.Agree.{Agree, first_rows, rows_after}
-use Rattle.law_answers.specs.inv.rows.Chain.{first_line, line_after}
-use Rattle.law_answers.specs.inv.rows.Hands.{hand_in}
-use Rattle.law_answers.specs.inv.rows.Queue.{Line}
-use Rattle.law_answers.specs.inv.rows.Rows.{Hand, RowMove, View}
-use Rattle.law_answers.specs.inv.rows.Rows.Hand.{Empty}
-use Rattle.law_answers.specs.inv.rows.Rows.RowMove.{Claims, Lists}
-use Rattle.law_answers.specs.inv.history.Record.{Past, Each, tells_of}
-use Rattle.law_answers.specs.inv.history.Record.Past.{Then}
-use Rattle.law_answers.proofs.inv.history.Entries.{entries_of_each}
-use Rattle.law_answers.specs.inv.history.History.{Item, Begins, Steps, Made, done, made_of, first_made, record_of}
-use Rattle.law_answers.proofs.inv.history.Along.{Steady, items_keep}
-use Rattle.law_answers.specs.inv.Known.{Known}
-use Rattle.law_answers.proofs.inv.Inv.Begun.{known_start, known_begin}
-use Rattle.law_answers.proofs.inv.Inv.Kept.{known_kept, asked_next}
-use Rattle.law_answers.specs.inv.ends.Told.{move_of}
-use Rattle.laws.proofs.Along.{along}
-use Rattle.law_answers.proofs.inv.history.AllOf.{all_of}
-use Rattle.laws.specs.StateAt.{began_of, told_of, Given, Without, given_of, given_by, cuts_of, cuts_by, is_empty, retires_of, retires_by, changed_of, changed_by, seen}
-use Rattle.laws.specs.AnswerLaw.{retires_for}
-use Rattle.laws.specs.HistoryAnswers.{answers_ok, counts_right, retires_ok, is_change, refuses_right, refusing_ok}
-use Rattle.law_answers.proofs.AnswersTold.Answering as answering
-use Rattle.law_answers.proofs.AnswersTold.Answering.{owes_of}
-use Rattle.law_answers.proofs.AnswersTold.Owed.{is_open, owed, Owes}
-use Rattle.laws.specs.HistoryRows.{cuts_one, has_none, places_right, placing_ok, single_ok}
-use Rattle.laws.specs.Once.{retires_right, retiring_ok}
+use Rattle.law_reuse.specs.inv.model.words.Place.{is_valid}
+use Rattle.law_reuse.specs.inv.model.words.declared.layout.Layout.{Layout}
+use Rattle.law_reuse.specs.inv.model.defs.declared.call.Answer.{Answer}
+use Rattle.law_reuse.specs.inv.model.defs.declared.call.Call.{Call}
+use Rattle.law_reuse.specs.inv.model.defs.declared.event.Event.{Event}
+use Rattle.law_reuse.specs.inv.model.defs.declared.event.Event.TheVariants as events
+use Rattle.law_reuse.specs.inv.model.declared.post.Post.{Post}
+use Rattle.law_reuse.specs.inv.model.Calls.{CallTurn, CallOutcome, GoesOn, Answers}
+use Rattle.law_reuse.specs.inv.model.Locals.{Local, busy_in, may_begin, told_end, turn}
+use Rattle.law_reuse.specs.inv.model.World.{World, begin, step, finds, is_busy, told_in}
+use Rattle.law_reuse.proofs.inv.model.Facts.{same_number, first_of, rest_of}
+use Rattle.law_reuse.proofs.inv.covers.Held.{stepped_phase}
+use Rattle.law_reuse.specs.inv.shapes.Frame.{phase_left}
+use Rattle.law_reuse.proofs.inv.shapes.Frame.{seat_stays, begin_stays}
+use Rattle.law_reuse.specs.inv.requests.Views.{View as Asked}
+use Rattle.law_reuse.proofs.inv.requests.Kept.{requests_begin, requests_start}
+use Rattle.law_reuse.specs.inv.rows.Agree.{Agree, first_rows, rows_after}
+use Rattle.law_reuse.specs.inv.rows.Chain.{first_line, line_after}
+use Rattle.law_reuse.specs.inv.rows.Hands.{hand_in}
+use Rattle.law_reuse.specs.inv.rows.Queue.{Line}
+use Rattle.law_reuse.specs.inv.rows.Rows.{Hand, RowMove, View}
+use Rattle.law_reuse.specs.inv.rows.Rows.Hand.{Empty}
+use Rattle.law_reuse.specs.inv.rows.Rows.RowMove.{Claims, Lists}
+use Rattle.law_reuse.specs.inv.history.Record.{Past, Each, tells_of}
+use Rattle.law_reuse.specs.inv.history.Record.Past.{Then}
+use Rattle.law_reuse.proofs.inv.history.Entries.{entries_of_each}
+use Rattle.law_reuse.specs.inv.history.History.{Item, Begins, Steps, Made, done, made_of, first_made, record_of}
+use Rattle.law_reuse.proofs.inv.history.Along.{Steady, items_keep}
+use Rattle.law_reuse.specs.inv.Known.{Known}
+use Rattle.law_reuse.proofs.inv.Inv.Begun.{known_start, known_begin}
+use Rattle.law_reuse.proofs.inv.Inv.Kept.{known_kept, asked_next}
+use Rattle.law_reuse.specs.inv.ends.Told.{move_of}
+use Rattle.law_reuse.proofs.laws.Along.{along}
+use Rattle.law_reuse.proofs.inv.history.AllOf.{all_of}
+use Rattle.law_reuse.specs.laws.StateAt.{began_of, told_of, Given, Without, given_of, given_by, cuts_of, cuts_by, is_empty, retires_of, retires_by, changed_of, changed_by, seen}
+use Rattle.law_reuse.specs.laws.AnswerLaw.{retires_for}
+use Rattle.law_reuse.specs.laws.HistoryAnswers.{answers_ok, counts_right, retires_ok, is_change, refuses_right, refusing_ok}
+use Rattle.law_reuse.proofs.answers.AnswersTold.Answering as answering
+use Rattle.law_reuse.proofs.answers.AnswersTold.Answering.{owes_of}
+use Rattle.law_reuse.proofs.answers.AnswersTold.Owed.{is_open, owed, Owes}
+use Rattle.law_reuse.specs.laws.HistoryRows.{cuts_one, has_none, places_right, placing_ok, single_ok}
+use Rattle.law_reuse.specs.laws.Once.{retires_right, retiring_ok}
 use Rattle.law_places.specs.Records.{RecordsPlaceRows, RecordsRetireCuts, RecordsCountRetires, RecordsRefuse, RecordsRetireOne}
 use Rattle.law_places.proofs.Placing.Comes.{given_end, changed_end, loud_end, cuts_end, retires_end, said_end, ComesTo, Stepping, agree_of, shape_in, fits_in, comes_own, comes_other}
 use Rattle.law_places.proofs.Placing.Marks.{is_marked, marks, tells, marks_told}
@@ -51,8 +51,8 @@ use Rattle.law_places.proofs.Placing.Moved.{in_hand_of, new_of, old_of, is_place
 use Rattle.law_places.proofs.Placing.Shapes.{Claiming, HandFits, Shape}
 use Rattle.law_places.proofs.Placing.Single.{Single, no_single, single_by, single_right, single_seen, single_each, single_kind, single_moved, OnlyFirst, phase_first}
 use Rattle.law_places.proofs.Placing.Sums.{given_kind, cuts_kind, along_both, said_told, loud_told, answer_said, answer_loud}
-use Rattle.laws.proofs.Tells.{AllRight, each_tells, right_kind, seen_tells, tells_both}
-use Rattle.law_answers.proofs.inv.rows.Kept.{idle_hand}
+use Rattle.law_reuse.proofs.laws.Tells.{AllRight, each_tells, right_kind, seen_tells, tells_both}
+use Rattle.law_reuse.proofs.inv.rows.Kept.{idle_hand}
 
 -- a call that begins has come to nothing yet
 begun_none : (busy : Bool) → Agrees Empty busy Without false false [] 0 0

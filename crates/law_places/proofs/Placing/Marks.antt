@@ -3,29 +3,29 @@ use Rattle.std.proofs.Common.{ℕ, ◌≡◌, ◌-◌, Bool, true, false, List, 
 use Rattle.std.proofs.lemmas.List.Elements.{filter-append}
 use Rattle.std.specs.List.{filter}
 use Rattle.std.specs.Prelude.{◌==◌, if◌then◌else◌}
-use Rattle.wfe_core.specs.defs.declared.event.Event.{Event}
-use Rattle.wfe_core.specs.defs.declared.event.Event.TheVariants as events
-use Rattle.wfe_core.specs.defs.declared.event.Root.{Root}
-use Rattle.wfe_core.specs.defs.declared.event.Root.TheVariants as roots
-use Rattle.wfe_core.specs.defs.declared.fold.Change.{Change}
-use Rattle.wfe_core.specs.defs.declared.fold.Change.TheVariants as changes
-use Rattle.wfe_core.specs.declared.post.Post.{Post}
-use Rattle.wfe_core.specs.Change.{told_change, changed_bucket}
-use Rattle.wfe_core.specs.Enqueue.{told_link}
-use Rattle.wfe_core.specs.Desks.{Desk}
-use Rattle.wfe_core.specs.Locals.{told_end, turn}
-use Rattle.wfe_core.specs.Posts.{counted}
-use Rattle.wfe_core.specs.Steps.{phase_turn}
-use Rattle.wfe_core.specs.Calls.{ChangeKept, EnqueueKept, LoadVersion, LoadCount, LoadKey, LoadValue, ExchangeRoot, LoadNumber, LoadNext, PassTail, ExchangeNext, ExchangeTail, LoadTail, SwingTail, TakeNumber, TakeValue, ExchangeHead, Work, Getting, Changing, Enqueuing, Dequeuing, Keeping, Phase, Idle, Runs, Scans, Works, CallTurn, CallOutcome, GoesOn, Answers}
-use Rattle.wfe_core.specs.World.{World, finds}
-use Rattle.wfe_core.proofs.Facts.{first_of, rest_of}
-use Rattle.law_answers.specs.inv.rows.Hands.{row_move}
-use Rattle.wfe_core.specs.defs.Events.{is_of_rows}
-use Rattle.law_answers.specs.inv.ends.Told.{row_events, birth_in, move_of}
-use Rattle.law_answers.proofs.inv.ends.Told.Rows.{rows_told}
-use Rattle.law_answers.proofs.AnswersTold.Owed.{append_none}
-use Rattle.law_answers.proofs.inv.history.AllOf.{all_of, of_along, of_weaker}
-use Rattle.law_answers.proofs.inv.Machines.{is_machine, base_machine, scan_machine}
+use Rattle.law_reuse.specs.inv.model.defs.declared.event.Event.{Event}
+use Rattle.law_reuse.specs.inv.model.defs.declared.event.Event.TheVariants as events
+use Rattle.law_reuse.specs.inv.model.defs.declared.event.Root.{Root}
+use Rattle.law_reuse.specs.inv.model.defs.declared.event.Root.TheVariants as roots
+use Rattle.law_reuse.specs.inv.model.defs.declared.fold.Change.{Change}
+use Rattle.law_reuse.specs.inv.model.defs.declared.fold.Change.TheVariants as changes
+use Rattle.law_reuse.specs.inv.model.declared.post.Post.{Post}
+use Rattle.law_reuse.specs.inv.model.Change.{told_change, changed_bucket}
+use Rattle.law_reuse.specs.inv.model.Enqueue.{told_link}
+use Rattle.law_reuse.specs.inv.model.Desks.{Desk}
+use Rattle.law_reuse.specs.inv.model.Locals.{told_end, turn}
+use Rattle.law_reuse.specs.inv.model.Posts.{counted}
+use Rattle.law_reuse.specs.inv.model.Steps.{phase_turn}
+use Rattle.law_reuse.specs.inv.model.Calls.{ChangeKept, EnqueueKept, LoadVersion, LoadCount, LoadKey, LoadValue, ExchangeRoot, LoadNumber, LoadNext, PassTail, ExchangeNext, ExchangeTail, LoadTail, SwingTail, TakeNumber, TakeValue, ExchangeHead, Work, Getting, Changing, Enqueuing, Dequeuing, Keeping, Phase, Idle, Runs, Scans, Works, CallTurn, CallOutcome, GoesOn, Answers}
+use Rattle.law_reuse.specs.inv.model.World.{World, finds}
+use Rattle.law_reuse.proofs.inv.model.Facts.{first_of, rest_of}
+use Rattle.law_reuse.specs.inv.rows.Hands.{row_move}
+use Rattle.law_reuse.specs.inv.model.defs.Events.{is_of_rows}
+use Rattle.law_reuse.specs.inv.ends.Told.{row_events, birth_in, move_of}
+use Rattle.law_reuse.proofs.inv.ends.Told.Rows.{rows_told}
+use Rattle.law_reuse.proofs.answers.AnswersTold.Owed.{append_none}
+use Rattle.law_reuse.proofs.inv.history.AllOf.{all_of, of_along, of_weaker}
+use Rattle.law_reuse.proofs.inv.Machines.{is_machine, base_machine, scan_machine}
 use Rattle.law_places.proofs.Placing.Fronts.{is_after, Starts, linked_front, queued_front, taken_front, work_front, front, turn_starts}
 
 -- of rows, links and changes, or the beginning or the end of a call

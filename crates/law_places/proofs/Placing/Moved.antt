@@ -2,23 +2,23 @@
 use Rattle.std.proofs.Common.{ℕ, ◌≡◌, ◌+◌, Bool, true, false, List, [], ◌∷◌, length, Option, Some, None, refl, sym, ap, ◌∙◌, subst, arith}
 use Rattle.std.proofs.lemmas.Bool.Decides.{nat_tests}
 use Rattle.std.specs.Prelude.{◌==◌, nat_lt, if◌then◌else◌}
-use Rattle.wfe_core.specs.defs.declared.event.Event.{Event}
-use Rattle.wfe_core.specs.defs.declared.event.Event.TheVariants as events
-use Rattle.wfe_core.specs.defs.declared.event.Root.TheVariants as roots
-use Rattle.wfe_core.specs.declared.post.Post.{Post}
-use Rattle.wfe_core.specs.Calls.{Phase}
-use Rattle.wfe_core.specs.Memory.{upd}
-use Rattle.wfe_core.proofs.Facts.{same_number, first_of, rest_of}
-use Rattle.law_answers.specs.inv.rows.Rows.{Hand, RowMove, View, made}
-use Rattle.law_answers.specs.inv.rows.Rows.Hand.{Empty, New, Taken, Old, Known, Dated}
-use Rattle.law_answers.specs.inv.rows.Rows.RowMove.{Stays, Claims, Bears, Drops, Links, Replaces, Appends, Pops, Reads, Seals, Lists, Returns}
-use Rattle.laws.proofs.Along.{along}
-use Rattle.law_answers.proofs.inv.history.AllOf.{all_of}
-use Rattle.laws.specs.StateAt.{Given, Without, InHand, Placed, given_by, without_one, is_among, cuts_by, retires_by, changed_by}
-use Rattle.laws.specs.HistoryRows.{is_without, is_in_hand, places_right}
-use Rattle.laws.specs.Once.{retires_right}
+use Rattle.law_reuse.specs.inv.model.defs.declared.event.Event.{Event}
+use Rattle.law_reuse.specs.inv.model.defs.declared.event.Event.TheVariants as events
+use Rattle.law_reuse.specs.inv.model.defs.declared.event.Root.TheVariants as roots
+use Rattle.law_reuse.specs.inv.model.declared.post.Post.{Post}
+use Rattle.law_reuse.specs.inv.model.Calls.{Phase}
+use Rattle.law_reuse.specs.inv.model.Memory.{upd}
+use Rattle.law_reuse.proofs.inv.model.Facts.{same_number, first_of, rest_of}
+use Rattle.law_reuse.specs.inv.rows.Rows.{Hand, RowMove, View, made}
+use Rattle.law_reuse.specs.inv.rows.Rows.Hand.{Empty, New, Taken, Old, Known, Dated}
+use Rattle.law_reuse.specs.inv.rows.Rows.RowMove.{Stays, Claims, Bears, Drops, Links, Replaces, Appends, Pops, Reads, Seals, Lists, Returns}
+use Rattle.law_reuse.proofs.laws.Along.{along}
+use Rattle.law_reuse.proofs.inv.history.AllOf.{all_of}
+use Rattle.law_reuse.specs.laws.StateAt.{Given, Without, InHand, Placed, given_by, without_one, is_among, cuts_by, retires_by, changed_by}
+use Rattle.law_reuse.specs.laws.HistoryRows.{is_without, is_in_hand, places_right}
+use Rattle.law_reuse.specs.laws.Once.{retires_right}
 use Rattle.law_places.proofs.Placing.Shapes.{HandFits, is_change_of, is_passing, Shape}
-use Rattle.laws.proofs.Tells.{AllRight}
+use Rattle.law_reuse.proofs.laws.Tells.{AllRight}
 
 -- the hand after a move
 abbrev pub hand_after : RowMove → Hand → Hand

@@ -2,40 +2,40 @@
 use Rattle.std.proofs.Common.{ℕ, ◌≡◌, ◌+◌, ◌-◌, Bool, true, false, List, [], ◌∷◌, ◌++◌, refl, arith}
 use Rattle.std.proofs.lemmas.Bool.Decides.{nat_tests}
 use Rattle.std.specs.Prelude.{◌==◌, if◌then◌else◌}
-use Rattle.wfe_core.specs.words.Place.{Place}
-use Rattle.wfe_core.specs.words.Place.Place.{Head, Bucket}
-use Rattle.wfe_core.specs.defs.declared.call.Answer.{Answer}
-use Rattle.wfe_core.specs.defs.declared.call.Call.{Call}
-use Rattle.wfe_core.specs.defs.declared.event.Event.{Event}
-use Rattle.wfe_core.specs.defs.declared.event.Event.TheVariants as events
-use Rattle.wfe_core.specs.defs.declared.event.Root.TheVariants as roots
-use Rattle.wfe_core.specs.defs.declared.fold.Change.{Change}
-use Rattle.wfe_core.specs.defs.declared.fold.Change.TheVariants as changes
-use Rattle.wfe_core.specs.defs.declared.lifetime.Lifetime.{Lifetime}
-use Rattle.wfe_core.specs.declared.post.Post.{Post}
-use Rattle.wfe_core.specs.Allocate.{is_claimed}
-use Rattle.wfe_core.specs.Change.{told_change, changed_bucket}
-use Rattle.wfe_core.specs.Enqueue.{told_link}
-use Rattle.wfe_core.specs.Desks.{Desk}
-use Rattle.wfe_core.specs.Memory as memory
-use Rattle.wfe_core.specs.Memory.{place_in}
-use Rattle.wfe_core.specs.Phases.{Base, Walk}
-use Rattle.wfe_core.specs.Phases.AllocateAt.{ClaimSlot, StoreLife}
-use Rattle.wfe_core.specs.Phases.RetireAt.{LoadLife, LoadRetire, StoreRetired}
-use Rattle.wfe_core.specs.Phases.Base.{Allocate, GiveUp, Retire}
-use Rattle.wfe_core.specs.Posts.{counted}
-use Rattle.wfe_core.specs.Steps.{phase_move, phase_turn}
-use Rattle.wfe_core.specs.Calls.{Task, Gets, Changes, Holds, Enqueues, Dequeues, ChangeKept, EnqueueKept, LoadVersion, LoadCount, LoadKey, LoadValue, ExchangeRoot, LoadNumber, LoadNext, PassTail, ExchangeNext, ExchangeTail, LoadTail, SwingTail, TakeNumber, TakeValue, ExchangeHead, Getting, Changing, Enqueuing, Dequeuing, Keeping, ReadGuard, GiveBack, Why, Fills, GivesUp, Retires, Phase, Idle, Runs, Scans, Works, Answers}
-use Rattle.law_answers.specs.inv.rows.Hands.{hand_of, hand_in, hand_why, hand_base, is_right, runs_right, is_plain, base_row, linked_row, row_move}
-use Rattle.law_answers.specs.inv.rows.Rows.{Hand, RowMove}
-use Rattle.law_answers.specs.inv.rows.Rows.Hand.{Empty, New, Taken, Old, Known, Dated}
-use Rattle.law_answers.specs.inv.rows.Rows.RowMove.{Stays, Claims, Bears, Drops, Links, Replaces, Appends, Pops, Reads, Seals, Lists, Returns}
-use Rattle.law_answers.specs.inv.ends.Told.{row_events}
-use Rattle.law_answers.proofs.AnswersTold.Owed.{owed}
-use Rattle.law_answers.proofs.inv.history.AllOf.{all_of}
+use Rattle.law_reuse.specs.inv.model.words.Place.{Place}
+use Rattle.law_reuse.specs.inv.model.words.Place.Place.{Head, Bucket}
+use Rattle.law_reuse.specs.inv.model.defs.declared.call.Answer.{Answer}
+use Rattle.law_reuse.specs.inv.model.defs.declared.call.Call.{Call}
+use Rattle.law_reuse.specs.inv.model.defs.declared.event.Event.{Event}
+use Rattle.law_reuse.specs.inv.model.defs.declared.event.Event.TheVariants as events
+use Rattle.law_reuse.specs.inv.model.defs.declared.event.Root.TheVariants as roots
+use Rattle.law_reuse.specs.inv.model.defs.declared.fold.Change.{Change}
+use Rattle.law_reuse.specs.inv.model.defs.declared.fold.Change.TheVariants as changes
+use Rattle.law_reuse.specs.inv.model.defs.declared.lifetime.Lifetime.{Lifetime}
+use Rattle.law_reuse.specs.inv.model.declared.post.Post.{Post}
+use Rattle.law_reuse.specs.inv.model.Allocate.{is_claimed}
+use Rattle.law_reuse.specs.inv.model.Change.{told_change, changed_bucket}
+use Rattle.law_reuse.specs.inv.model.Enqueue.{told_link}
+use Rattle.law_reuse.specs.inv.model.Desks.{Desk}
+use Rattle.law_reuse.specs.inv.model.Memory as memory
+use Rattle.law_reuse.specs.inv.model.Memory.{place_in}
+use Rattle.law_reuse.specs.inv.model.Phases.{Base, Walk}
+use Rattle.law_reuse.specs.inv.model.Phases.AllocateAt.{ClaimSlot, StoreLife}
+use Rattle.law_reuse.specs.inv.model.Phases.RetireAt.{LoadLife, LoadRetire, StoreRetired}
+use Rattle.law_reuse.specs.inv.model.Phases.Base.{Allocate, GiveUp, Retire}
+use Rattle.law_reuse.specs.inv.model.Posts.{counted}
+use Rattle.law_reuse.specs.inv.model.Steps.{phase_move, phase_turn}
+use Rattle.law_reuse.specs.inv.model.Calls.{Task, Gets, Changes, Holds, Enqueues, Dequeues, ChangeKept, EnqueueKept, LoadVersion, LoadCount, LoadKey, LoadValue, ExchangeRoot, LoadNumber, LoadNext, PassTail, ExchangeNext, ExchangeTail, LoadTail, SwingTail, TakeNumber, TakeValue, ExchangeHead, Getting, Changing, Enqueuing, Dequeuing, Keeping, ReadGuard, GiveBack, Why, Fills, GivesUp, Retires, Phase, Idle, Runs, Scans, Works, Answers}
+use Rattle.law_reuse.specs.inv.rows.Hands.{hand_of, hand_in, hand_why, hand_base, is_right, runs_right, is_plain, base_row, linked_row, row_move}
+use Rattle.law_reuse.specs.inv.rows.Rows.{Hand, RowMove}
+use Rattle.law_reuse.specs.inv.rows.Rows.Hand.{Empty, New, Taken, Old, Known, Dated}
+use Rattle.law_reuse.specs.inv.rows.Rows.RowMove.{Stays, Claims, Bears, Drops, Links, Replaces, Appends, Pops, Reads, Seals, Lists, Returns}
+use Rattle.law_reuse.specs.inv.ends.Told.{row_events}
+use Rattle.law_reuse.proofs.answers.AnswersTold.Owed.{owed}
+use Rattle.law_reuse.proofs.inv.history.AllOf.{all_of}
 use Rattle.law_places.proofs.Placing.Fronts.{linked_front, queued_front, taken_front}
 use Rattle.law_places.proofs.Placing.Marks.{marks}
-use Rattle.law_answers.proofs.inv.rows.Runs.{taken_slot}
+use Rattle.law_reuse.proofs.inv.rows.Runs.{taken_slot}
 
 -- what a seat has in hand before a move of rows
 abbrev pub HandFits : RowMove → Hand → Type 0

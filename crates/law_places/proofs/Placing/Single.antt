@@ -1,26 +1,26 @@
 -- A call retires one row at most: what it has retired and what it still has to are no more than its answer says.
 use Rattle.std.proofs.Common.{ℕ, ◌≡◌, ◌+◌, Bool, true, false, List, [], ◌∷◌, Option, Some, None, refl, sym, ap, ◌∙◌, subst, arith}
 use Rattle.std.specs.Prelude.{◌==◌, ◌&&◌, nat_lt, if◌then◌else◌}
-use Rattle.wfe_core.specs.defs.declared.call.Answer.{Answer}
-use Rattle.wfe_core.specs.defs.declared.call.Answer.TheVariants as answers
-use Rattle.wfe_core.specs.defs.declared.call.Call.{Call}
-use Rattle.wfe_core.specs.defs.declared.call.Call.TheVariants as calls
-use Rattle.wfe_core.specs.defs.declared.event.Event.{Event}
-use Rattle.wfe_core.specs.defs.declared.event.Event.TheVariants as events
-use Rattle.wfe_core.specs.declared.post.Post.{Post}
-use Rattle.wfe_core.specs.Calls.{Phase, Idle, Runs, Scans, Works, Why, Opens, FollowsHead, Fills, ClearsNext, Clears, Finishes, GivesUp, Retires, Tidies, Advances, Releases, Next, Again, MakeRoom, Answering, Retiring, AfterScan, Answered, Repeated, Counted, Getting, Changing, Enqueuing, Dequeuing, Keeping, EnqueueKept, EnqueueAt, LoadNumber, LoadNext, PassTail, ExchangeNext, ExchangeTail}
-use Rattle.wfe_core.proofs.Facts.{first_of, rest_of, both}
-use Rattle.law_answers.specs.inv.rows.Rows.{RowMove}
-use Rattle.law_answers.specs.inv.rows.Rows.RowMove.{Stays, Claims, Bears, Drops, Links, Replaces, Appends, Pops, Reads, Seals, Lists, Returns}
-use Rattle.law_answers.specs.inv.history.Record.{Past, Each}
-use Rattle.law_answers.specs.inv.history.Record.Past.{Start, Then}
-use Rattle.law_answers.proofs.inv.history.AllOf.{all_of, of_weaker}
-use Rattle.laws.proofs.Along.{along}
-use Rattle.laws.proofs.Tells.{AllRight, OfKind}
-use Rattle.laws.specs.HistoryAnswers.{owes}
-use Rattle.laws.specs.HistoryRows.{cuts_one, single_ok}
-use Rattle.laws.specs.StateAt.{began_by, began_of, retires_by, retires_of, seen}
-use Rattle.law_answers.proofs.AnswersTold.Owed.{owed, next_owed, later_owed, why_owed, enqueue_owed}
+use Rattle.law_reuse.specs.inv.model.defs.declared.call.Answer.{Answer}
+use Rattle.law_reuse.specs.inv.model.defs.declared.call.Answer.TheVariants as answers
+use Rattle.law_reuse.specs.inv.model.defs.declared.call.Call.{Call}
+use Rattle.law_reuse.specs.inv.model.defs.declared.call.Call.TheVariants as calls
+use Rattle.law_reuse.specs.inv.model.defs.declared.event.Event.{Event}
+use Rattle.law_reuse.specs.inv.model.defs.declared.event.Event.TheVariants as events
+use Rattle.law_reuse.specs.inv.model.declared.post.Post.{Post}
+use Rattle.law_reuse.specs.inv.model.Calls.{Phase, Idle, Runs, Scans, Works, Why, Opens, FollowsHead, Fills, ClearsNext, Clears, Finishes, GivesUp, Retires, Tidies, Advances, Releases, Next, Again, MakeRoom, Answering, Retiring, AfterScan, Answered, Repeated, Counted, Getting, Changing, Enqueuing, Dequeuing, Keeping, EnqueueKept, EnqueueAt, LoadNumber, LoadNext, PassTail, ExchangeNext, ExchangeTail}
+use Rattle.law_reuse.proofs.inv.model.Facts.{first_of, rest_of, both}
+use Rattle.law_reuse.specs.inv.rows.Rows.{RowMove}
+use Rattle.law_reuse.specs.inv.rows.Rows.RowMove.{Stays, Claims, Bears, Drops, Links, Replaces, Appends, Pops, Reads, Seals, Lists, Returns}
+use Rattle.law_reuse.specs.inv.history.Record.{Past, Each}
+use Rattle.law_reuse.specs.inv.history.Record.Past.{Start, Then}
+use Rattle.law_reuse.proofs.inv.history.AllOf.{all_of, of_weaker}
+use Rattle.law_reuse.proofs.laws.Along.{along}
+use Rattle.law_reuse.proofs.laws.Tells.{AllRight, OfKind}
+use Rattle.law_reuse.specs.laws.HistoryAnswers.{owes}
+use Rattle.law_reuse.specs.laws.HistoryRows.{cuts_one, single_ok}
+use Rattle.law_reuse.specs.laws.StateAt.{began_by, began_of, retires_by, retires_of, seen}
+use Rattle.law_reuse.proofs.answers.AnswersTold.Owed.{owed, next_owed, later_owed, why_owed, enqueue_owed}
 use Rattle.law_places.proofs.Placing.Marks.{is_marked}
 use Rattle.law_places.proofs.Placing.Moved.{said_by}
 use Rattle.law_places.proofs.Placing.Shapes.{Shape, is_change_of, is_passing}

@@ -3,24 +3,24 @@
 use Rattle.std.proofs.Common.{ℕ, ◌≡◌, ◌+◌, Bool, true, false, List, [], ◌∷◌, ◌++◌, Option, Some, None, refl, sym, ap, ◌∙◌, arith}
 use Rattle.std.proofs.lemmas.Bool.Decides.{nat_tests}
 use Rattle.std.specs.Prelude.{◌==◌, ◌&&◌, nat_lt, if◌then◌else◌}
-use Rattle.wfe_core.specs.defs.declared.call.Answer.{Answer}
-use Rattle.wfe_core.specs.defs.declared.call.Answer.TheVariants as answers
-use Rattle.wfe_core.specs.defs.declared.call.Call.{Call}
-use Rattle.wfe_core.specs.defs.declared.call.Call.TheVariants as calls
-use Rattle.wfe_core.specs.defs.declared.event.Event.{Event}
-use Rattle.wfe_core.specs.defs.declared.event.Event.TheVariants as events
-use Rattle.wfe_core.proofs.Facts.{first_of, rest_of}
-use Rattle.law_answers.specs.inv.history.Record.{Past}
-use Rattle.law_answers.specs.inv.history.Record.Past.{Start, Then}
-use Rattle.laws.proofs.Along.{along}
-use Rattle.laws.specs.StateAt.{with_told, told_of, Given, given_by, cuts_by, retires_by, changed_by, seen}
-use Rattle.laws.specs.AnswerLaw.{suits, same_event, retires_for}
-use Rattle.laws.specs.HistoryAnswers.{owes, same_told, answer_right, is_change}
-use Rattle.laws.specs.HistoryRows.{places_right}
-use Rattle.laws.specs.Once.{retires_right}
+use Rattle.law_reuse.specs.inv.model.defs.declared.call.Answer.{Answer}
+use Rattle.law_reuse.specs.inv.model.defs.declared.call.Answer.TheVariants as answers
+use Rattle.law_reuse.specs.inv.model.defs.declared.call.Call.{Call}
+use Rattle.law_reuse.specs.inv.model.defs.declared.call.Call.TheVariants as calls
+use Rattle.law_reuse.specs.inv.model.defs.declared.event.Event.{Event}
+use Rattle.law_reuse.specs.inv.model.defs.declared.event.Event.TheVariants as events
+use Rattle.law_reuse.proofs.inv.model.Facts.{first_of, rest_of}
+use Rattle.law_reuse.specs.inv.history.Record.{Past}
+use Rattle.law_reuse.specs.inv.history.Record.Past.{Start, Then}
+use Rattle.law_reuse.proofs.laws.Along.{along}
+use Rattle.law_reuse.specs.laws.StateAt.{with_told, told_of, Given, given_by, cuts_by, retires_by, changed_by, seen}
+use Rattle.law_reuse.specs.laws.AnswerLaw.{suits, same_event, retires_for}
+use Rattle.law_reuse.specs.laws.HistoryAnswers.{owes, same_told, answer_right, is_change}
+use Rattle.law_reuse.specs.laws.HistoryRows.{places_right}
+use Rattle.law_reuse.specs.laws.Once.{retires_right}
 use Rattle.law_places.proofs.Placing.Marks.{is_marked}
 use Rattle.law_places.proofs.Placing.Moved.{loud_by, said_by}
-use Rattle.laws.proofs.Tells.{OfKind}
+use Rattle.law_reuse.proofs.laws.Tells.{OfKind}
 
 given_still : (event : Event) (x : Given) → is_marked event ≡ false → given_by event x ≡ x
 given_still (events.Begin call) x h = absurd (cc)

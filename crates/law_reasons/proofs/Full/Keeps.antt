@@ -2,24 +2,24 @@
 use Rattle.std.proofs.Common.{ℕ, ◌≡◌, ◌≤◌, ◌<◌, Bool, true, false, List, [], ◌∷◌, Option, Some, refl, sym, ap, ◌∙◌, subst, arith}
 use Rattle.std.proofs.lemmas.Bool.Decides.{nat_tests}
 use Rattle.std.specs.Prelude.{◌==◌, ◌&&◌, ◌||◌, not, nat_lt}
-use Rattle.wfe_core.specs.words.Place.{is_valid}
-use Rattle.wfe_core.specs.words.declared.config.Config.{Config}
-use Rattle.wfe_core.specs.words.declared.layout.Layout.{Layout}
-use Rattle.wfe_core.specs.defs.declared.call.Answer.{Answer}
-use Rattle.wfe_core.specs.defs.declared.call.Answer.TheVariants as the_answers
-use Rattle.wfe_core.specs.defs.declared.call.Call.{Call}
-use Rattle.wfe_core.specs.defs.declared.event.Event.{Event}
-use Rattle.wfe_core.specs.defs.declared.event.Event.TheVariants as events
-use Rattle.wfe_core.specs.declared.post.Post.{Post}
-use Rattle.wfe_core.specs.Guards.{guards}
-use Rattle.wfe_core.specs.Steps as steps
-use Rattle.wfe_core.specs.Phases.AllocateAt.{ClaimSlot}
-use Rattle.wfe_core.specs.Phases.Base.{Allocate}
-use Rattle.wfe_core.specs.Calls.{AfterScan, Answered, Repeated, Counted, ScanAt, ReadGuard, GiveBack, Phase, Idle, Runs, Scans, Works, CallTurn, CallOutcome, GoesOn, Answers}
-use Rattle.wfe_core.specs.Locals.{Local, begun, begun_post, may_begin, told_end, turn}
-use Rattle.wfe_core.specs.Posts.{counted}
-use Rattle.wfe_core.specs.World.{World, begin, step, finds, is_busy, told_in}
-use Rattle.wfe_core.proofs.Facts.{both, first_of, rest_of, or_left_true, same_test, or_more}
+use Rattle.law_scans.specs.inv.model.words.Place.{is_valid}
+use Rattle.law_scans.specs.inv.model.words.declared.config.Config.{Config}
+use Rattle.law_scans.specs.inv.model.words.declared.layout.Layout.{Layout}
+use Rattle.law_scans.specs.inv.model.defs.declared.call.Answer.{Answer}
+use Rattle.law_scans.specs.inv.model.defs.declared.call.Answer.TheVariants as the_answers
+use Rattle.law_scans.specs.inv.model.defs.declared.call.Call.{Call}
+use Rattle.law_scans.specs.inv.model.defs.declared.event.Event.{Event}
+use Rattle.law_scans.specs.inv.model.defs.declared.event.Event.TheVariants as events
+use Rattle.law_scans.specs.inv.model.declared.post.Post.{Post}
+use Rattle.law_scans.specs.inv.model.Guards.{guards}
+use Rattle.law_scans.specs.inv.model.Steps as steps
+use Rattle.law_scans.specs.inv.model.Phases.AllocateAt.{ClaimSlot}
+use Rattle.law_scans.specs.inv.model.Phases.Base.{Allocate}
+use Rattle.law_scans.specs.inv.model.Calls.{AfterScan, Answered, Repeated, Counted, ScanAt, ReadGuard, GiveBack, Phase, Idle, Runs, Scans, Works, CallTurn, CallOutcome, GoesOn, Answers}
+use Rattle.law_scans.specs.inv.model.Locals.{Local, begun, begun_post, may_begin, told_end, turn}
+use Rattle.law_scans.specs.inv.model.Posts.{counted}
+use Rattle.law_scans.specs.inv.model.World.{World, begin, step, finds, is_busy, told_in}
+use Rattle.law_scans.proofs.inv.model.Facts.{both, first_of, rest_of, or_left_true, same_test, or_more}
 use Rattle.law_scans.proofs.inv.covers.Held.{stepped_phase}
 use Rattle.law_scans.specs.inv.shapes.Frame.{phase_left}
 use Rattle.law_scans.proofs.inv.shapes.Frame.{seat_stays, begin_stays, begin_begins}
@@ -29,8 +29,8 @@ use Rattle.law_scans.specs.inv.history.Record.Past.{Start, Then}
 use Rattle.law_scans.proofs.inv.history.Entries.{entries_of_each}
 use Rattle.law_scans.specs.inv.history.History.{Item, Begins, Steps, Made, done, made_of, first_made, record_of}
 use Rattle.law_scans.proofs.inv.history.Along.{Steady, items_keep}
-use Rattle.laws.specs.StateAt.{taken_at, began_of, is_mark, taken_since, was_taken}
-use Rattle.laws.proofs.Along.{along}
+use Rattle.law_scans.specs.laws.StateAt.{taken_at, began_of, is_mark, taken_since, was_taken}
+use Rattle.law_scans.proofs.laws.Along.{along}
 use Rattle.law_scans.proofs.reuse.Once.Calm.{is_unread}
 use Rattle.law_scans.proofs.reuse.Once.Keeps as once
 use Rattle.law_scans.proofs.inv.history.Passes.{scan_told}
@@ -41,16 +41,16 @@ use Rattle.law_scans.proofs.answers.AnswersTold.Answering.{began_along, first_al
 use Rattle.law_reasons.proofs.Reasons.Later.{Later, later_all, later_same, later_then}
 use Rattle.law_scans.proofs.answers.AnswersTold.Owed.{is_open, owed, Owes}
 use Rattle.law_scans.proofs.places.Placing.Sums.{along_both}
-use Rattle.laws.proofs.Tells.{seen_own, seen_tells, seen_stays, tells_both}
+use Rattle.law_scans.proofs.laws.Tells.{seen_own, seen_tells, seen_stays, tells_both}
 use Rattle.law_scans.specs.inv.ends.Walks.{Walking, WalkPhase, seen_after}
 use Rattle.law_scans.proofs.inv.ends.Walks.Kept.{full_seen, walking_start, walking_kept}
 use Rattle.law_scans.proofs.DueScans.Keeps.{phase_right, told_starts}
 use Rattle.law_scans.proofs.DueScans.Lands.{PhaseRight}
 use Rattle.law_scans.proofs.DueScans.Still.{is_still, front}
-use Rattle.laws.specs.AnswerLaw.{has_number, lacks_row, lacks_ok}
-use Rattle.laws.specs.HistoryAnswers.{full_ok}
+use Rattle.law_scans.specs.laws.AnswerLaw.{has_number, lacks_row, lacks_ok}
+use Rattle.law_scans.specs.laws.HistoryAnswers.{full_ok}
 use Rattle.law_reasons.specs.Records.{RecordsKeepFull, RecordsKeepLacks, RecordsScanForRoom}
-use Rattle.laws.specs.HistoryScans.{Search, search_by, no_search, search_of, room_ok}
+use Rattle.law_scans.specs.laws.HistoryScans.{Search, search_by, no_search, search_of, room_ok}
 use Rattle.law_reasons.proofs.Full.Lands.{FullSees, Onto, PhaseSure, after_first, first_fits, later_on, now_by, out_on, phase_on, turn_fits}
 use Rattle.law_reasons.proofs.Full.Lacks.{lacks_last, phase_sure}
 use Rattle.law_reasons.proofs.Full.Sees.{Sees, step_sees, begin_sees, first_sees}

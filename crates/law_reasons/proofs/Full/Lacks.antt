@@ -2,29 +2,29 @@
 use Rattle.std.proofs.Common.{ℕ, zero, suc, ◌≡◌, ◌≤◌, ◌<◌, ◌%◌, Bool, true, false, List, [], length, Option, Some, None, refl, sym, ap, ◌∙◌, subst, arith}
 use Rattle.std.proofs.lemmas.Bool.Decides.{nat_tests}
 use Rattle.std.specs.Prelude.{◌==◌, ◌&&◌, ◌||◌, nat_lt, not, is_some, if◌then◌else◌}
-use Rattle.wfe_core.specs.words.Place.Place.{Row}
-use Rattle.wfe_core.specs.words.declared.config.Config.{Config}
-use Rattle.wfe_core.specs.words.declared.layout.Layout.{Layout}
-use Rattle.wfe_core.specs.defs.Pairs.{Pair, pairs_after, value_in}
-use Rattle.wfe_core.specs.defs.declared.call.Answer.TheVariants as answers
-use Rattle.wfe_core.specs.defs.declared.call.Call.{Call}
-use Rattle.wfe_core.specs.defs.declared.call.Call.TheVariants as calls
-use Rattle.wfe_core.specs.defs.declared.fold.Change.{Change}
-use Rattle.wfe_core.specs.defs.declared.fold.Change.TheVariants as changes
-use Rattle.wfe_core.specs.declared.ends.ProtectEnd.TheVariants as protect_ends
-use Rattle.wfe_core.proofs.Frames.{after_same}
-use Rattle.wfe_core.specs.Change as alters
-use Rattle.wfe_core.specs.Machine as machine
-use Rattle.wfe_core.specs.Posts.{counted}
-use Rattle.wfe_core.specs.Rounds.{key_of}
-use Rattle.wfe_core.specs.Phases.{Base, Outcome, Goes, Ends}
-use Rattle.wfe_core.specs.Phases.Ending.{Done, Protected, Followed, Allocated, Retired, Clocked}
-use Rattle.wfe_core.specs.Calls.{Task, Gets, Changes, Holds, Enqueues, Dequeues, Opens, EnqueueKept, LoadCount, LoadValue, LoadNext, Changing, Enqueuing, Phase, Idle, Runs, Scans, Works}
-use Rattle.wfe_core.specs.World.{World, finds}
-use Rattle.wfe_core.proofs.Facts.{same_number, both, first_of, rest_of, below_unless, true_of_not, or_left_true, same_both, lt_test_2, or_more}
+use Rattle.law_scans.specs.inv.model.words.Place.Place.{Row}
+use Rattle.law_scans.specs.inv.model.words.declared.config.Config.{Config}
+use Rattle.law_scans.specs.inv.model.words.declared.layout.Layout.{Layout}
+use Rattle.law_scans.specs.inv.model.defs.Pairs.{Pair, pairs_after, value_in}
+use Rattle.law_scans.specs.inv.model.defs.declared.call.Answer.TheVariants as answers
+use Rattle.law_scans.specs.inv.model.defs.declared.call.Call.{Call}
+use Rattle.law_scans.specs.inv.model.defs.declared.call.Call.TheVariants as calls
+use Rattle.law_scans.specs.inv.model.defs.declared.fold.Change.{Change}
+use Rattle.law_scans.specs.inv.model.defs.declared.fold.Change.TheVariants as changes
+use Rattle.law_scans.specs.inv.model.declared.ends.ProtectEnd.TheVariants as protect_ends
+use Rattle.law_scans.proofs.inv.model.Frames.{after_same}
+use Rattle.law_scans.specs.inv.model.Change as alters
+use Rattle.law_scans.specs.inv.model.Machine as machine
+use Rattle.law_scans.specs.inv.model.Posts.{counted}
+use Rattle.law_scans.specs.inv.model.Rounds.{key_of}
+use Rattle.law_scans.specs.inv.model.Phases.{Base, Outcome, Goes, Ends}
+use Rattle.law_scans.specs.inv.model.Phases.Ending.{Done, Protected, Followed, Allocated, Retired, Clocked}
+use Rattle.law_scans.specs.inv.model.Calls.{Task, Gets, Changes, Holds, Enqueues, Dequeues, Opens, EnqueueKept, LoadCount, LoadValue, LoadNext, Changing, Enqueuing, Phase, Idle, Runs, Scans, Works}
+use Rattle.law_scans.specs.inv.model.World.{World, finds}
+use Rattle.law_scans.proofs.inv.model.Facts.{same_number, both, first_of, rest_of, below_unless, true_of_not, or_left_true, same_both, lt_test_2, or_more}
 use Rattle.law_scans.proofs.answers.AnswersTold.Owed.{ChangeServes, Serves, call_for, may_want}
 use Rattle.law_scans.proofs.inv.covers.Held.{finds_at}
-use Rattle.laws.specs.StateAt.{was_current, bucket_of, count_of, queued_of, is_there, pairs_at}
+use Rattle.law_scans.specs.laws.StateAt.{was_current, bucket_of, count_of, queued_of, is_there, pairs_at}
 use Rattle.law_scans.specs.inv.history.Record.{Past, begins, held_since}
 use Rattle.law_scans.specs.inv.contents.Reads.{numbers_in}
 use Rattle.law_scans.specs.inv.requests.Views.{View as Asked}
@@ -33,7 +33,7 @@ use Rattle.law_scans.specs.inv.rows.Rows.{View}
 use Rattle.law_reasons.proofs.Reasons.Later.{Later, more_count, current_lasts}
 use Rattle.law_reasons.proofs.Reasons.Reading.{Shown, count_read, value_read, null_read}
 use Rattle.law_reasons.proofs.Reasons.Refusing.{ReadAt, current_of}
-use Rattle.laws.specs.AnswerLaw.{any_up_to, put_at, remove_at, has_number, lacks_row}
+use Rattle.law_scans.specs.laws.AnswerLaw.{any_up_to, put_at, remove_at, has_number, lacks_row}
 use Rattle.law_reasons.proofs.Full.Lands.{PhaseSure}
 use Rattle.law_reasons.proofs.Full.Since.{held_now}
 use Rattle.law_reasons.proofs.Full.Ties.{Now, OutcomeSure}

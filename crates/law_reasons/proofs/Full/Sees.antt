@@ -1,12 +1,12 @@
 -- What a record shows of the map and of the queue along a history: changes, versions current during calls, and values queued.
 use Rattle.std.proofs.Common.{ℕ, ◌≡◌, ◌<◌, true, false, refl, ap}
-use Rattle.wfe_core.specs.words.Place.{is_valid}
-use Rattle.wfe_core.specs.words.declared.layout.Layout.{Layout}
-use Rattle.wfe_core.specs.defs.declared.call.Call.{Call}
-use Rattle.wfe_core.specs.defs.declared.event.Event.TheVariants as events
-use Rattle.wfe_core.specs.Book.{booked_all}
-use Rattle.wfe_core.specs.Locals.{may_begin}
-use Rattle.wfe_core.specs.World.{World, start, begin, step, is_busy, told_in}
+use Rattle.law_scans.specs.inv.model.words.Place.{is_valid}
+use Rattle.law_scans.specs.inv.model.words.declared.layout.Layout.{Layout}
+use Rattle.law_scans.specs.inv.model.defs.declared.call.Call.{Call}
+use Rattle.law_scans.specs.inv.model.defs.declared.event.Event.TheVariants as events
+use Rattle.law_scans.specs.inv.model.Book.{booked_all}
+use Rattle.law_scans.specs.inv.model.Locals.{may_begin}
+use Rattle.law_scans.specs.inv.model.World.{World, start, begin, step, is_busy, told_in}
 use Rattle.law_scans.proofs.inv.requests.Kept.{requests_start, requests_begin}
 use Rattle.law_scans.specs.inv.requests.Views.{Deal, View as Asked}
 use Rattle.law_scans.specs.inv.requests.Views.Deal.{Quiet}

@@ -1,33 +1,33 @@
 -- What was so at a position of a record since an entry goes on to be so; and what a walk has seen stays seen.
 use Rattle.std.proofs.Common.{ℕ, ◌≡◌, ◌+◌, Bool, true, false, List, [], ◌∷◌, Option, Some, None, refl, ap}
 use Rattle.std.specs.Prelude.{◌==◌, ◌&&◌, ◌||◌, not, nat_lt, if◌then◌else◌}
-use Rattle.wfe_core.specs.defs.declared.call.Call.{Call}
-use Rattle.wfe_core.specs.defs.declared.call.Call.TheVariants as names
-use Rattle.wfe_core.specs.defs.declared.event.Event.{Event}
-use Rattle.wfe_core.specs.defs.declared.event.Event.TheVariants as events
-use Rattle.wfe_core.specs.defs.declared.lifetime.Interval.{Interval}
-use Rattle.wfe_core.specs.declared.post.Post.{Post}
-use Rattle.wfe_core.specs.Desks.{Desk}
-use Rattle.wfe_core.specs.Phases.AllocateAt.{ClaimSlot}
-use Rattle.wfe_core.specs.Phases.Base.{Allocate, Clear}
-use Rattle.wfe_core.specs.Locals.{told_by}
-use Rattle.wfe_core.specs.Calls.{LetGo, Released, Rehold, Dropped, AfterScan, Answered, Repeated, Counted, ReadGuard, GiveBack, ScanAt, Holds, Task, Phase, Idle, Runs, Scans, Works}
-use Rattle.wfe_core.specs.Guards.{guards, guard_at, eras_in, published}
-use Rattle.wfe_core.specs.Posts.{stands, withdrawn}
-use Rattle.wfe_core.specs.words.Schemes.{has_one_interval}
-use Rattle.wfe_core.specs.Rounds.{begin_base, begin_span, kept_row, let_index, letting, letting_by, release_span, round, round_by, scheme_of}
-use Rattle.wfe_core.specs.Scan as scan
-use Rattle.wfe_core.specs.Steps as steps
-use Rattle.wfe_core.proofs.Facts.{both, first_of, rest_of, or_left_true, or_more}
+use Rattle.law_scans.specs.inv.model.defs.declared.call.Call.{Call}
+use Rattle.law_scans.specs.inv.model.defs.declared.call.Call.TheVariants as names
+use Rattle.law_scans.specs.inv.model.defs.declared.event.Event.{Event}
+use Rattle.law_scans.specs.inv.model.defs.declared.event.Event.TheVariants as events
+use Rattle.law_scans.specs.inv.model.defs.declared.lifetime.Interval.{Interval}
+use Rattle.law_scans.specs.inv.model.declared.post.Post.{Post}
+use Rattle.law_scans.specs.inv.model.Desks.{Desk}
+use Rattle.law_scans.specs.inv.model.Phases.AllocateAt.{ClaimSlot}
+use Rattle.law_scans.specs.inv.model.Phases.Base.{Allocate, Clear}
+use Rattle.law_scans.specs.inv.model.Locals.{told_by}
+use Rattle.law_scans.specs.inv.model.Calls.{LetGo, Released, Rehold, Dropped, AfterScan, Answered, Repeated, Counted, ReadGuard, GiveBack, ScanAt, Holds, Task, Phase, Idle, Runs, Scans, Works}
+use Rattle.law_scans.specs.inv.model.Guards.{guards, guard_at, eras_in, published}
+use Rattle.law_scans.specs.inv.model.Posts.{stands, withdrawn}
+use Rattle.law_scans.specs.inv.model.words.Schemes.{has_one_interval}
+use Rattle.law_scans.specs.inv.model.Rounds.{begin_base, begin_span, kept_row, let_index, letting, letting_by, release_span, round, round_by, scheme_of}
+use Rattle.law_scans.specs.inv.model.Scan as scan
+use Rattle.law_scans.specs.inv.model.Steps as steps
+use Rattle.law_scans.proofs.inv.model.Facts.{both, first_of, rest_of, or_left_true, or_more}
 use Rattle.law_scans.specs.inv.shapes.Frame.{phase_left}
 use Rattle.law_scans.specs.inv.history.Record.{Past, Test, begins, own, held_since, tells_of}
 use Rattle.law_scans.specs.inv.history.Record.Past.{Start, Then}
 use Rattle.law_scans.proofs.inv.history.AllOf.{all_of}
 use Rattle.law_scans.proofs.reuse.Once.Calm.{is_unread, run_unread, work_unread}
 use Rattle.law_scans.specs.inv.ends.Walks.{WalkPhase}
-use Rattle.wfe_core.specs.words.declared.config.SchemeKind.{SchemeKind}
-use Rattle.wfe_core.specs.words.declared.config.SchemeKind.TheVariants.{He, Ibr, Wfe}
-use Rattle.laws.specs.StateAt.{is_mark}
+use Rattle.law_scans.specs.inv.model.words.declared.config.SchemeKind.{SchemeKind}
+use Rattle.law_scans.specs.inv.model.words.declared.config.SchemeKind.TheVariants.{He, Ibr, Wfe}
+use Rattle.law_scans.specs.laws.StateAt.{is_mark}
 
 -- at this position
 pub held_now : (test : Test) (f : Past → Bool) (p : Past) → f p ≡ true → held_since test f p ≡ true

@@ -3,22 +3,22 @@ use Rattle.std.proofs.Common.{ℕ, ◌≡◌, ◌<◌, ◌≤◌, ◌%◌, Bool,
 use Rattle.std.proofs.Math.Nat.{mod-lt}
 use Rattle.std.proofs.lemmas.Bool.Decides.{nat_tests}
 use Rattle.std.specs.Prelude.{◌==◌, ◌&&◌, nat_le, nat_lt, if◌then◌else◌}
-use Rattle.wfe_core.specs.words.Place.{is_valid}
-use Rattle.wfe_core.specs.words.declared.config.Config.{Config}
-use Rattle.wfe_core.specs.words.declared.layout.Layout.{Layout}
-use Rattle.wfe_core.specs.defs.Entry.{Entry}
-use Rattle.wfe_core.specs.defs.declared.call.Answer.{Answer}
-use Rattle.wfe_core.specs.defs.declared.call.Answer.TheVariants as answers
-use Rattle.wfe_core.specs.defs.declared.call.Call.{Call}
-use Rattle.wfe_core.specs.defs.declared.call.Call.TheVariants as calls
-use Rattle.wfe_core.specs.defs.declared.event.Event.{Event}
-use Rattle.wfe_core.specs.defs.declared.event.Event.TheVariants as events
-use Rattle.wfe_core.specs.declared.post.Post.{Post}
-use Rattle.wfe_core.specs.Calls.{CallTurn, CallOutcome, GoesOn, Answers}
-use Rattle.wfe_core.specs.Locals.{may_begin, told_end, turn}
-use Rattle.wfe_core.specs.World.{World, finds, is_busy, told_in}
-use Rattle.wfe_core.proofs.Facts.{both, first_of, lt_test, number_is, rest_of}
-use Rattle.wfe_core.proofs.Ranges.{bounds_of}
+use Rattle.law_scans.specs.inv.model.words.Place.{is_valid}
+use Rattle.law_scans.specs.inv.model.words.declared.config.Config.{Config}
+use Rattle.law_scans.specs.inv.model.words.declared.layout.Layout.{Layout}
+use Rattle.law_scans.specs.inv.model.defs.Entry.{Entry}
+use Rattle.law_scans.specs.inv.model.defs.declared.call.Answer.{Answer}
+use Rattle.law_scans.specs.inv.model.defs.declared.call.Answer.TheVariants as answers
+use Rattle.law_scans.specs.inv.model.defs.declared.call.Call.{Call}
+use Rattle.law_scans.specs.inv.model.defs.declared.call.Call.TheVariants as calls
+use Rattle.law_scans.specs.inv.model.defs.declared.event.Event.{Event}
+use Rattle.law_scans.specs.inv.model.defs.declared.event.Event.TheVariants as events
+use Rattle.law_scans.specs.inv.model.declared.post.Post.{Post}
+use Rattle.law_scans.specs.inv.model.Calls.{CallTurn, CallOutcome, GoesOn, Answers}
+use Rattle.law_scans.specs.inv.model.Locals.{may_begin, told_end, turn}
+use Rattle.law_scans.specs.inv.model.World.{World, finds, is_busy, told_in}
+use Rattle.law_scans.proofs.inv.model.Facts.{both, first_of, lt_test, number_is, rest_of}
+use Rattle.law_scans.proofs.inv.model.Ranges.{bounds_of}
 use Rattle.law_scans.proofs.inv.history.AllOf.{all_of, of_along, of_both}
 use Rattle.law_scans.proofs.inv.history.Along.{Steady, items_keep}
 use Rattle.law_scans.proofs.inv.history.Entries.{each_before}
@@ -29,10 +29,10 @@ use Rattle.law_scans.proofs.reuse.Holding.Holds.{Held, begin_held, step_held, fi
 use Rattle.law_scans.proofs.answers.AnswersTold.Answering.{records_keep_answers}
 use Rattle.law_scans.proofs.answers.Lawful.Maps.{records_keep_map}
 use Rattle.law_scans.proofs.places.Placing.Marks.{tells as step_tells}
-use Rattle.laws.specs.HistoryAnswers.{answer_right, reason}
-use Rattle.laws.specs.MapLaw.{map_ok}
-use Rattle.laws.specs.StateAt.{bucket_of, began_of, told_of, stood_by, stood_at, is_row}
-use Rattle.laws.specs.HistoryTable.{is_in_range, ranges_ok}
+use Rattle.law_scans.specs.laws.HistoryAnswers.{answer_right, reason}
+use Rattle.law_scans.specs.laws.MapLaw.{map_ok}
+use Rattle.law_scans.specs.laws.StateAt.{bucket_of, began_of, told_of, stood_by, stood_at, is_row}
+use Rattle.law_scans.specs.laws.HistoryTable.{is_in_range, ranges_ok}
 use Rattle.law_reasons.specs.Records.{RecordsStayInRange}
 use Rattle.law_reasons.proofs.Ranges.Finds.{finds_in, step_finds}
 use Rattle.law_reasons.proofs.Ranges.Rows.{rows_in, step_rows}

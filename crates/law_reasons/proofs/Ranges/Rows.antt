@@ -4,30 +4,30 @@ use Rattle.std.proofs.Math.Nat.{mod-lt}
 use Rattle.std.proofs.lemmas.Bool.Decides.{nat_tests}
 use Rattle.std.specs.List.{filter}
 use Rattle.std.specs.Prelude.{◌==◌, ◌&&◌, nat_le, nat_lt, if◌then◌else◌}
-use Rattle.wfe_core.specs.words.Place.{is_valid}
-use Rattle.wfe_core.specs.words.declared.config.Config.{Config}
-use Rattle.wfe_core.specs.words.declared.layout.Layout.{Layout}
-use Rattle.wfe_core.specs.defs.declared.event.Event.{Event}
-use Rattle.wfe_core.specs.defs.declared.event.Event.TheVariants as events
-use Rattle.wfe_core.specs.defs.declared.event.Root.{Root}
-use Rattle.wfe_core.specs.defs.declared.event.Root.TheVariants as roots
-use Rattle.wfe_core.specs.defs.declared.fold.Change.{Change}
-use Rattle.wfe_core.specs.defs.declared.fold.Change.TheVariants as changes
-use Rattle.wfe_core.specs.declared.post.Post.{Post}
-use Rattle.wfe_core.specs.Allocate.{is_claimed}
-use Rattle.wfe_core.specs.Change.{changed_bucket, told_change, told_cut}
-use Rattle.wfe_core.specs.Desks.{Desk}
-use Rattle.wfe_core.specs.Enqueue.{told_link}
-use Rattle.wfe_core.specs.Calls.{ChangeKept, EnqueueKept, ReadGuard, GiveBack, Getting, Changing, Enqueuing, Dequeuing, Keeping, ChangeAt, ExchangeRoot, EnqueueAt, PassTail, ExchangeNext, ExchangeTail, DequeueAt, SwingTail, ExchangeHead, Work, Why, Phase, Idle, Runs, Scans, Works}
-use Rattle.wfe_core.specs.Phases.{Base}
-use Rattle.wfe_core.specs.Phases.AllocateAt.{ClaimSlot}
-use Rattle.wfe_core.specs.Phases.RetireAt.{StoreRetired}
-use Rattle.wfe_core.specs.Phases.Base.{Allocate, GiveUp, Retire}
-use Rattle.wfe_core.specs.Posts.{counted}
-use Rattle.wfe_core.specs.Rounds.{key_of}
-use Rattle.wfe_core.specs.World.{World, finds}
-use Rattle.wfe_core.proofs.Facts.{both, and_true, first_of, le_test, rest_of}
-use Rattle.wfe_core.proofs.Ranges.{bounds_of}
+use Rattle.law_scans.specs.inv.model.words.Place.{is_valid}
+use Rattle.law_scans.specs.inv.model.words.declared.config.Config.{Config}
+use Rattle.law_scans.specs.inv.model.words.declared.layout.Layout.{Layout}
+use Rattle.law_scans.specs.inv.model.defs.declared.event.Event.{Event}
+use Rattle.law_scans.specs.inv.model.defs.declared.event.Event.TheVariants as events
+use Rattle.law_scans.specs.inv.model.defs.declared.event.Root.{Root}
+use Rattle.law_scans.specs.inv.model.defs.declared.event.Root.TheVariants as roots
+use Rattle.law_scans.specs.inv.model.defs.declared.fold.Change.{Change}
+use Rattle.law_scans.specs.inv.model.defs.declared.fold.Change.TheVariants as changes
+use Rattle.law_scans.specs.inv.model.declared.post.Post.{Post}
+use Rattle.law_scans.specs.inv.model.Allocate.{is_claimed}
+use Rattle.law_scans.specs.inv.model.Change.{changed_bucket, told_change, told_cut}
+use Rattle.law_scans.specs.inv.model.Desks.{Desk}
+use Rattle.law_scans.specs.inv.model.Enqueue.{told_link}
+use Rattle.law_scans.specs.inv.model.Calls.{ChangeKept, EnqueueKept, ReadGuard, GiveBack, Getting, Changing, Enqueuing, Dequeuing, Keeping, ChangeAt, ExchangeRoot, EnqueueAt, PassTail, ExchangeNext, ExchangeTail, DequeueAt, SwingTail, ExchangeHead, Work, Why, Phase, Idle, Runs, Scans, Works}
+use Rattle.law_scans.specs.inv.model.Phases.{Base}
+use Rattle.law_scans.specs.inv.model.Phases.AllocateAt.{ClaimSlot}
+use Rattle.law_scans.specs.inv.model.Phases.RetireAt.{StoreRetired}
+use Rattle.law_scans.specs.inv.model.Phases.Base.{Allocate, GiveUp, Retire}
+use Rattle.law_scans.specs.inv.model.Posts.{counted}
+use Rattle.law_scans.specs.inv.model.Rounds.{key_of}
+use Rattle.law_scans.specs.inv.model.World.{World, finds}
+use Rattle.law_scans.proofs.inv.model.Facts.{both, and_true, first_of, le_test, rest_of}
+use Rattle.law_scans.proofs.inv.model.Ranges.{bounds_of}
 use Rattle.law_scans.specs.inv.rows.Rows.RowMove.{Stays, Claims}
 use Rattle.law_scans.specs.inv.rows.Hands.{base_row}
 use Rattle.law_scans.specs.inv.ends.Told.{birth_in, row_events}
@@ -37,7 +37,7 @@ use Rattle.law_scans.proofs.inv.history.AllOf.{all_of, of_along}
 use Rattle.law_scans.proofs.inv.shapes.SlotCalls.{link_row}
 use Rattle.law_scans.proofs.places.Placing.Fronts.{linked_front, change_front, enqueue_front, dequeue_front, queued_front, taken_front, work_front}
 use Rattle.law_scans.proofs.places.Placing.Marks.{is_marked, marks, tells, marks_told}
-use Rattle.laws.specs.HistoryTable.{is_root}
+use Rattle.law_scans.specs.laws.HistoryTable.{is_root}
 
 -- of the events of rows and links; changes of the map are told with their key's bucket, which the law of the map says
 abbrev pub rows_in : Config → Event → Bool

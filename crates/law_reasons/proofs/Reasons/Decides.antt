@@ -2,42 +2,42 @@
 use Rattle.std.proofs.Common.{ℕ, ◌≡◌, ◌≢◌, ◌≤◌, ◌<◌, ◌+◌, ◌%◌, Bool, true, false, List, [], take, length, Option, Some, None, refl, sym, ap, ◌∙◌, subst, arith}
 use Rattle.std.proofs.lemmas.Bool.Decides.{nat_tests}
 use Rattle.std.specs.Prelude.{◌==◌, ◌&&◌, is_none, is_some, nat_le, nat_lt, not, if◌then◌else◌}
-use Rattle.wfe_core.specs.words.declared.config.Config.{Config}
-use Rattle.wfe_core.specs.words.declared.layout.Layout.{Layout}
-use Rattle.wfe_core.specs.defs.Pairs.{Pair}
-use Rattle.wfe_core.specs.defs.declared.fold.Change.{Change}
-use Rattle.wfe_core.specs.defs.declared.fold.Change.TheVariants as changes
-use Rattle.wfe_core.specs.defs.declared.call.Answer.{Answer}
-use Rattle.wfe_core.specs.defs.declared.call.Answer.TheVariants as the_answers
-use Rattle.wfe_core.specs.defs.declared.call.Call.{Call}
-use Rattle.wfe_core.specs.defs.declared.call.Call.TheVariants as names
-use Rattle.wfe_core.specs.defs.declared.call.ClockMove.{ClockMove}
-use Rattle.wfe_core.specs.defs.declared.call.ClockMove.TheVariants as moves
-use Rattle.wfe_core.specs.declared.ends.FollowEnd.TheVariants as follow_ends
-use Rattle.wfe_core.specs.declared.ends.ProtectEnd.TheVariants as protect_ends
-use Rattle.wfe_core.specs.declared.post.Post.{Post}
-use Rattle.wfe_core.proofs.Frames.{after_same}
-use Rattle.wfe_core.proofs.Ranges.{bounds_of}
-use Rattle.wfe_core.proofs.Standing.{stands-withdrawn_same, stands-with_row_same, stands-with_row_other}
-use Rattle.wfe_core.specs.Change as alters
-use Rattle.wfe_core.specs.Locals.{turn}
-use Rattle.wfe_core.specs.Machine as machine
-use Rattle.wfe_core.specs.Keep as keeps
-use Rattle.wfe_core.specs.Desks.{Desk}
-use Rattle.wfe_core.specs.words.Schemes.{has_one_interval}
-use Rattle.wfe_core.specs.defs.declared.event.Event.{Event}
-use Rattle.wfe_core.specs.defs.Pairs.{pairs_after, value_in}
-use Rattle.wfe_core.specs.Posts.{cleared, counted, reserves_index, stands, with_row, withdrawn}
-use Rattle.wfe_core.specs.Rounds.{key_of, let_index, scheme_of, with_clock}
-use Rattle.wfe_core.specs.Steps as steps
-use Rattle.wfe_core.specs.Phases.{Base, Ending, Outcome, Goes, Ends, Turn}
-use Rattle.wfe_core.specs.Phases.Ending.{Protected, Followed}
-use Rattle.wfe_core.specs.Phases.Base.{Clear, Release}
-use Rattle.wfe_core.specs.Calls.{Keeping, KeepAt, Loosens, LoadHeld, StoreHeld, Looks, Misses, LetGo, Released, Rehold, Dropped, GetAt, FindVersion, FindCount, FindKey, FindValue, CallOutcome, Answers, Task, Changes, Holds, ChangeKept, EnqueueKept, ChangeAt, LoadCount, LoadValue, EnqueueAt, LoadNext, Work, Changing, Enqueuing, Why, Opens, FollowsHead, Releases, Phase, Idle, Runs, Scans, Works}
-use Rattle.wfe_core.specs.World.{World, finds}
-use Rattle.wfe_core.proofs.Facts.{both, none_by, same_number}
+use Rattle.law_scans.specs.inv.model.words.declared.config.Config.{Config}
+use Rattle.law_scans.specs.inv.model.words.declared.layout.Layout.{Layout}
+use Rattle.law_scans.specs.inv.model.defs.Pairs.{Pair}
+use Rattle.law_scans.specs.inv.model.defs.declared.fold.Change.{Change}
+use Rattle.law_scans.specs.inv.model.defs.declared.fold.Change.TheVariants as changes
+use Rattle.law_scans.specs.inv.model.defs.declared.call.Answer.{Answer}
+use Rattle.law_scans.specs.inv.model.defs.declared.call.Answer.TheVariants as the_answers
+use Rattle.law_scans.specs.inv.model.defs.declared.call.Call.{Call}
+use Rattle.law_scans.specs.inv.model.defs.declared.call.Call.TheVariants as names
+use Rattle.law_scans.specs.inv.model.defs.declared.call.ClockMove.{ClockMove}
+use Rattle.law_scans.specs.inv.model.defs.declared.call.ClockMove.TheVariants as moves
+use Rattle.law_scans.specs.inv.model.declared.ends.FollowEnd.TheVariants as follow_ends
+use Rattle.law_scans.specs.inv.model.declared.ends.ProtectEnd.TheVariants as protect_ends
+use Rattle.law_scans.specs.inv.model.declared.post.Post.{Post}
+use Rattle.law_scans.proofs.inv.model.Frames.{after_same}
+use Rattle.law_scans.proofs.inv.model.Ranges.{bounds_of}
+use Rattle.law_scans.proofs.inv.model.Standing.{stands-withdrawn_same, stands-with_row_same, stands-with_row_other}
+use Rattle.law_scans.specs.inv.model.Change as alters
+use Rattle.law_scans.specs.inv.model.Locals.{turn}
+use Rattle.law_scans.specs.inv.model.Machine as machine
+use Rattle.law_scans.specs.inv.model.Keep as keeps
+use Rattle.law_scans.specs.inv.model.Desks.{Desk}
+use Rattle.law_scans.specs.inv.model.words.Schemes.{has_one_interval}
+use Rattle.law_scans.specs.inv.model.defs.declared.event.Event.{Event}
+use Rattle.law_scans.specs.inv.model.defs.Pairs.{pairs_after, value_in}
+use Rattle.law_scans.specs.inv.model.Posts.{cleared, counted, reserves_index, stands, with_row, withdrawn}
+use Rattle.law_scans.specs.inv.model.Rounds.{key_of, let_index, scheme_of, with_clock}
+use Rattle.law_scans.specs.inv.model.Steps as steps
+use Rattle.law_scans.specs.inv.model.Phases.{Base, Ending, Outcome, Goes, Ends, Turn}
+use Rattle.law_scans.specs.inv.model.Phases.Ending.{Protected, Followed}
+use Rattle.law_scans.specs.inv.model.Phases.Base.{Clear, Release}
+use Rattle.law_scans.specs.inv.model.Calls.{Keeping, KeepAt, Loosens, LoadHeld, StoreHeld, Looks, Misses, LetGo, Released, Rehold, Dropped, GetAt, FindVersion, FindCount, FindKey, FindValue, CallOutcome, Answers, Task, Changes, Holds, ChangeKept, EnqueueKept, ChangeAt, LoadCount, LoadValue, EnqueueAt, LoadNext, Work, Changing, Enqueuing, Why, Opens, FollowsHead, Releases, Phase, Idle, Runs, Scans, Works}
+use Rattle.law_scans.specs.inv.model.World.{World, finds}
+use Rattle.law_scans.proofs.inv.model.Facts.{both, none_by, same_number}
 use Rattle.law_scans.proofs.answers.AnswersTold.Owed.{ChangeServes, FreeServes, KeepServes, MissServes, Serves, WhyServes, WorkServes}
-use Rattle.wfe_core.specs.defs.Events.{is_null, is_held}
+use Rattle.law_scans.specs.inv.model.defs.Events.{is_null, is_held}
 use Rattle.law_scans.proofs.inv.shapes.Kept.{counted_fits, run_counted}
 use Rattle.law_scans.specs.inv.shapes.Seats.{PhaseFits, Run, Seats}
 use Rattle.law_scans.specs.inv.history.Record.{Past, tells_of}
@@ -48,18 +48,18 @@ use Rattle.law_scans.proofs.inv.contents.Contents.Kept.{contents_looked}
 use Rattle.law_scans.proofs.inv.Inv.Whole.{contents_need}
 use Rattle.law_scans.specs.inv.shapes.Frame.{KeepFits, read_slot}
 use Rattle.law_scans.specs.inv.shapes.Slots.{CopyIn, KeepIn, PhaseIn, Slots}
-use Rattle.laws.specs.StateAt.{queued_of, stood_at, is_row, begun_at, has_told, was_empty}
+use Rattle.law_scans.specs.laws.StateAt.{queued_of, stood_at, is_row, begun_at, has_told, was_empty}
 use Rattle.law_scans.proofs.inv.requests.Standings.{machine_stands}
 use Rattle.law_scans.specs.inv.requests.Parents.{OutcomeStands, base_stands, phase_stands}
 use Rattle.law_scans.specs.inv.requests.Views.{View as Asked}
 use Rattle.law_scans.specs.inv.rows.Queue.{Line}
 use Rattle.law_scans.specs.inv.rows.Rows.{View}
-use Rattle.laws.specs.AnswerLaw.{enqueue_reason, shows_value, tells_none}
-use Rattle.laws.specs.StateAt.{RowShows, same_value, shows_of, times, value_at}
-use Rattle.laws.specs.StateAt.RowShows.{ShowsVersion}
+use Rattle.law_scans.specs.laws.AnswerLaw.{enqueue_reason, shows_value, tells_none}
+use Rattle.law_scans.specs.laws.StateAt.{RowShows, same_value, shows_of, times, value_at}
+use Rattle.law_scans.specs.laws.StateAt.RowShows.{ShowsVersion}
 use Rattle.law_reasons.proofs.Reasons.Missing.{MissesAt, is_any, is_copying, missed_none}
 use Rattle.law_reasons.proofs.Reasons.Shows.{Shows}
-use Rattle.laws.specs.HistoryAnswers.{put_reason, put_if_reason, remove_reason, dequeue_reason, hold_reason, release_reason, copy_reason, drop_reason, look_reason, reason}
+use Rattle.law_scans.specs.laws.HistoryAnswers.{put_reason, put_if_reason, remove_reason, dequeue_reason, hold_reason, release_reason, copy_reason, drop_reason, look_reason, reason}
 use Rattle.law_reasons.proofs.Reasons.Later.{Later, Bounds, is_last, reason_lasts}
 use Rattle.law_reasons.proofs.Reasons.Deciding.{Sound, is_plain, ChangeDecides, EnqueueDecides, TaskDecides, FollowDecides, FreeDecides, WhyDecides, OutcomeDecides, AlterDecides, AppendDecides, KeepDecides, WorkDecides, PhaseDecides, PhaseKeeps, OutKeeps, keeps_on, turn_keeps}
 use Rattle.law_reasons.proofs.Reasons.Emptied.{Emptied, no_next_seen}

@@ -1,37 +1,37 @@
 -- Which answers a call has decided upon where it stands: what a step adds to them is right where what it decides is.
 use Rattle.std.proofs.Common.{ℕ, ◌≡◌, ◌+◌, ◌-◌, Bool, true, false, List, [], ◌∷◌, ◌++◌, Option, Some, None, refl}
 use Rattle.std.specs.Prelude.{◌==◌, ◌%◌, nat_lt, length, if◌then◌else◌}
-use Rattle.wfe_core.specs.defs.declared.call.Answer.{Answer}
-use Rattle.wfe_core.specs.defs.declared.call.Answer.TheVariants as the_answers
-use Rattle.wfe_core.specs.defs.declared.call.Call.{Call}
-use Rattle.wfe_core.specs.defs.declared.call.Call.TheVariants as names
-use Rattle.wfe_core.specs.defs.declared.call.ClockMove.{ClockMove}
-use Rattle.wfe_core.specs.defs.declared.call.ClockMove.TheVariants as moves
-use Rattle.wfe_core.specs.defs.declared.event.Event.{Event}
-use Rattle.wfe_core.specs.defs.declared.event.Event.TheVariants as events
-use Rattle.wfe_core.specs.defs.declared.event.Root.TheVariants as roots
-use Rattle.wfe_core.specs.declared.ends.AllocateEnd.{AllocateEnd}
-use Rattle.wfe_core.specs.declared.ends.AllocateEnd.TheVariants as allocate_ends
-use Rattle.wfe_core.specs.declared.ends.FollowEnd.{FollowEnd}
-use Rattle.wfe_core.specs.declared.ends.FollowEnd.TheVariants as follow_ends
-use Rattle.wfe_core.specs.declared.ends.ProtectEnd.TheVariants as protect_ends
-use Rattle.wfe_core.specs.declared.post.Post.{Post}
-use Rattle.wfe_core.specs.Change as alters
-use Rattle.wfe_core.specs.Desks.{Desk, with_life}
-use Rattle.wfe_core.specs.Dequeue as dequeues
-use Rattle.wfe_core.specs.Enqueue as enqueues
-use Rattle.wfe_core.specs.Get as gets
-use Rattle.wfe_core.specs.Guards.{guard_at, guards, eras_in, published}
-use Rattle.wfe_core.specs.Machine as machine
-use Rattle.wfe_core.specs.Keep as keeps
-use Rattle.wfe_core.specs.Posts.{cleared, reserves_index, stands, withdrawn}
-use Rattle.wfe_core.specs.words.Schemes.{has_one_interval}
-use Rattle.wfe_core.specs.Scan as scan
-use Rattle.wfe_core.specs.Steps as steps
-use Rattle.wfe_core.specs.Rounds.{scheme_of, taken_of, index_of, bucket_of, begin_base, finish_base, clear_base, given_up, round, round_by, closed, finishing_by, finishing, clearing_by, clearing, clearing_next_by, clearing_next, let_index, letting, letting_by, release_base, with_clock}
-use Rattle.wfe_core.specs.Phases.{Base, Ending, Outcome, Goes, Ends}
-use Rattle.wfe_core.specs.Phases.Ending.{Done, Protected, Followed, Allocated, Retired, Clocked}
-use Rattle.wfe_core.specs.Calls.{Keeping, KeepAt, Loosens, LoadHeld, StoreHeld, Looks, Misses, LetGo, Released, Rehold, Dropped, Task, Gets, Changes, Holds, Enqueues, Dequeues, Next, Again, MakeRoom, Answering, Retiring, AfterScan, Answered, Repeated, Counted, ChangeKept, EnqueueKept, GetAt, FindVersion, FindCount, FindKey, FindValue, ChangeAt, LoadVersion, LoadCount, LoadKey, LoadValue, ExchangeRoot, EnqueueAt, LoadNumber, LoadNext, PassTail, ExchangeNext, ExchangeTail, DequeueAt, SwingTail, ExchangeHead, Work, Getting, Changing, Enqueuing, Dequeuing, ScanAt, ReadGuard, GiveBack, Why, Opens, FollowsHead, Fills, ClearsNext, Clears, Finishes, GivesUp, Retires, Tidies, Advances, Releases, Phase, Idle, Runs, Scans, Works, CallOutcome, GoesOn, Answers}
+use Rattle.law_scans.specs.inv.model.defs.declared.call.Answer.{Answer}
+use Rattle.law_scans.specs.inv.model.defs.declared.call.Answer.TheVariants as the_answers
+use Rattle.law_scans.specs.inv.model.defs.declared.call.Call.{Call}
+use Rattle.law_scans.specs.inv.model.defs.declared.call.Call.TheVariants as names
+use Rattle.law_scans.specs.inv.model.defs.declared.call.ClockMove.{ClockMove}
+use Rattle.law_scans.specs.inv.model.defs.declared.call.ClockMove.TheVariants as moves
+use Rattle.law_scans.specs.inv.model.defs.declared.event.Event.{Event}
+use Rattle.law_scans.specs.inv.model.defs.declared.event.Event.TheVariants as events
+use Rattle.law_scans.specs.inv.model.defs.declared.event.Root.TheVariants as roots
+use Rattle.law_scans.specs.inv.model.declared.ends.AllocateEnd.{AllocateEnd}
+use Rattle.law_scans.specs.inv.model.declared.ends.AllocateEnd.TheVariants as allocate_ends
+use Rattle.law_scans.specs.inv.model.declared.ends.FollowEnd.{FollowEnd}
+use Rattle.law_scans.specs.inv.model.declared.ends.FollowEnd.TheVariants as follow_ends
+use Rattle.law_scans.specs.inv.model.declared.ends.ProtectEnd.TheVariants as protect_ends
+use Rattle.law_scans.specs.inv.model.declared.post.Post.{Post}
+use Rattle.law_scans.specs.inv.model.Change as alters
+use Rattle.law_scans.specs.inv.model.Desks.{Desk, with_life}
+use Rattle.law_scans.specs.inv.model.Dequeue as dequeues
+use Rattle.law_scans.specs.inv.model.Enqueue as enqueues
+use Rattle.law_scans.specs.inv.model.Get as gets
+use Rattle.law_scans.specs.inv.model.Guards.{guard_at, guards, eras_in, published}
+use Rattle.law_scans.specs.inv.model.Machine as machine
+use Rattle.law_scans.specs.inv.model.Keep as keeps
+use Rattle.law_scans.specs.inv.model.Posts.{cleared, reserves_index, stands, withdrawn}
+use Rattle.law_scans.specs.inv.model.words.Schemes.{has_one_interval}
+use Rattle.law_scans.specs.inv.model.Scan as scan
+use Rattle.law_scans.specs.inv.model.Steps as steps
+use Rattle.law_scans.specs.inv.model.Rounds.{scheme_of, taken_of, index_of, bucket_of, begin_base, finish_base, clear_base, given_up, round, round_by, closed, finishing_by, finishing, clearing_by, clearing, clearing_next_by, clearing_next, let_index, letting, letting_by, release_base, with_clock}
+use Rattle.law_scans.specs.inv.model.Phases.{Base, Ending, Outcome, Goes, Ends}
+use Rattle.law_scans.specs.inv.model.Phases.Ending.{Done, Protected, Followed, Allocated, Retired, Clocked}
+use Rattle.law_scans.specs.inv.model.Calls.{Keeping, KeepAt, Loosens, LoadHeld, StoreHeld, Looks, Misses, LetGo, Released, Rehold, Dropped, Task, Gets, Changes, Holds, Enqueues, Dequeues, Next, Again, MakeRoom, Answering, Retiring, AfterScan, Answered, Repeated, Counted, ChangeKept, EnqueueKept, GetAt, FindVersion, FindCount, FindKey, FindValue, ChangeAt, LoadVersion, LoadCount, LoadKey, LoadValue, ExchangeRoot, EnqueueAt, LoadNumber, LoadNext, PassTail, ExchangeNext, ExchangeTail, DequeueAt, SwingTail, ExchangeHead, Work, Getting, Changing, Enqueuing, Dequeuing, ScanAt, ReadGuard, GiveBack, Why, Opens, FollowsHead, Fills, ClearsNext, Clears, Finishes, GivesUp, Retires, Tidies, Advances, Releases, Phase, Idle, Runs, Scans, Works, CallOutcome, GoesOn, Answers}
 
 -- a change that fills a row answers with the version after the one that it read, and an enqueue with the number after it
 abbrev pub change_done : ChangeKept → Answer

@@ -2,22 +2,22 @@
 use Rattle.std.proofs.Common.{ℕ, ◌≡◌, ◌<◌, Bool, true, false, length, refl, sym, ap, ◌∙◌, subst, arith}
 use Rattle.std.proofs.lemmas.Bool.Decides.{nat_tests}
 use Rattle.std.specs.Prelude.{◌==◌, if◌then◌else◌}
-use Rattle.wfe_core.specs.words.Place.Place.{Row}
-use Rattle.wfe_core.specs.words.declared.layout.Layout.{Layout}
-use Rattle.wfe_core.specs.defs.declared.call.Call.{Call}
-use Rattle.wfe_core.specs.defs.declared.event.Root.{Root}
-use Rattle.wfe_core.specs.defs.declared.event.Root.TheVariants as roots
-use Rattle.wfe_core.specs.declared.ends.FollowEnd.TheVariants as follow_ends
-use Rattle.wfe_core.specs.declared.post.Post.{Post}
-use Rattle.wfe_core.specs.Links.{link_place, parent_of}
-use Rattle.wfe_core.specs.Machine as machine
-use Rattle.wfe_core.specs.Posts.{counted}
-use Rattle.wfe_core.specs.Phases.{Base, Ends}
-use Rattle.wfe_core.specs.Phases.Ending.{Followed}
-use Rattle.wfe_core.specs.Phases.Base.{Protect, Reload}
-use Rattle.wfe_core.specs.Calls.{Gets, Why, Opens, FollowsHead, Phase, Idle, Runs, Scans, Works}
-use Rattle.wfe_core.specs.World.{World, start, begin, step, is_busy, finds}
-use Rattle.wfe_core.proofs.Facts.{same_number}
+use Rattle.law_scans.specs.inv.model.words.Place.Place.{Row}
+use Rattle.law_scans.specs.inv.model.words.declared.layout.Layout.{Layout}
+use Rattle.law_scans.specs.inv.model.defs.declared.call.Call.{Call}
+use Rattle.law_scans.specs.inv.model.defs.declared.event.Root.{Root}
+use Rattle.law_scans.specs.inv.model.defs.declared.event.Root.TheVariants as roots
+use Rattle.law_scans.specs.inv.model.declared.ends.FollowEnd.TheVariants as follow_ends
+use Rattle.law_scans.specs.inv.model.declared.post.Post.{Post}
+use Rattle.law_scans.specs.inv.model.Links.{link_place, parent_of}
+use Rattle.law_scans.specs.inv.model.Machine as machine
+use Rattle.law_scans.specs.inv.model.Posts.{counted}
+use Rattle.law_scans.specs.inv.model.Phases.{Base, Ends}
+use Rattle.law_scans.specs.inv.model.Phases.Ending.{Followed}
+use Rattle.law_scans.specs.inv.model.Phases.Base.{Protect, Reload}
+use Rattle.law_scans.specs.inv.model.Calls.{Gets, Why, Opens, FollowsHead, Phase, Idle, Runs, Scans, Works}
+use Rattle.law_scans.specs.inv.model.World.{World, start, begin, step, is_busy, finds}
+use Rattle.law_scans.proofs.inv.model.Facts.{same_number}
 use Rattle.law_scans.specs.inv.shapes.Seats.{Seats, Run, root_by}
 use Rattle.law_scans.proofs.inv.Inv.Whole.{origins_need}
 use Rattle.law_scans.specs.inv.Known.{Known}

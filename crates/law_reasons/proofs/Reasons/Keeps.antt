@@ -2,21 +2,21 @@
 use Rattle.std.proofs.Common.{ℕ, ◌≡◌, ◌≤◌, ◌<◌, Bool, true, false, List, [], ◌∷◌, ◌++◌, length, Option, Some, refl, sym, ap, ◌∙◌, subst, arith}
 use Rattle.std.proofs.lemmas.Bool.Decides.{nat_tests}
 use Rattle.std.specs.Prelude.{◌==◌, ◌||◌, nat_lt}
-use Rattle.wfe_core.specs.words.Place.{is_valid}
-use Rattle.wfe_core.specs.words.declared.config.Config.{Config}
-use Rattle.wfe_core.specs.words.declared.layout.Layout.{Layout}
-use Rattle.wfe_core.specs.defs.declared.call.Call.{Call}
-use Rattle.wfe_core.specs.defs.declared.event.Event.{Event}
-use Rattle.wfe_core.specs.defs.declared.event.Event.TheVariants as events
-use Rattle.wfe_core.specs.declared.post.Post.{Post}
-use Rattle.wfe_core.specs.Desks.{Desk, noting}
-use Rattle.wfe_core.specs.Book.{booked_all}
-use Rattle.wfe_core.specs.Calls.{CallTurn, CallOutcome, GoesOn, Answers}
-use Rattle.wfe_core.specs.Locals.{Local, begun_post, may_begin, rounds_told, settled_by, told_by, told_end, turn}
-use Rattle.wfe_core.specs.Posts.{stands}
-use Rattle.wfe_core.specs.Steps.{first_phase}
-use Rattle.wfe_core.specs.World.{World, start, begin, step, finds, is_busy, told_in}
-use Rattle.wfe_core.proofs.Facts.{first_of, rest_of}
+use Rattle.law_scans.specs.inv.model.words.Place.{is_valid}
+use Rattle.law_scans.specs.inv.model.words.declared.config.Config.{Config}
+use Rattle.law_scans.specs.inv.model.words.declared.layout.Layout.{Layout}
+use Rattle.law_scans.specs.inv.model.defs.declared.call.Call.{Call}
+use Rattle.law_scans.specs.inv.model.defs.declared.event.Event.{Event}
+use Rattle.law_scans.specs.inv.model.defs.declared.event.Event.TheVariants as events
+use Rattle.law_scans.specs.inv.model.declared.post.Post.{Post}
+use Rattle.law_scans.specs.inv.model.Desks.{Desk, noting}
+use Rattle.law_scans.specs.inv.model.Book.{booked_all}
+use Rattle.law_scans.specs.inv.model.Calls.{CallTurn, CallOutcome, GoesOn, Answers}
+use Rattle.law_scans.specs.inv.model.Locals.{Local, begun_post, may_begin, rounds_told, settled_by, told_by, told_end, turn}
+use Rattle.law_scans.specs.inv.model.Posts.{stands}
+use Rattle.law_scans.specs.inv.model.Steps.{first_phase}
+use Rattle.law_scans.specs.inv.model.World.{World, start, begin, step, finds, is_busy, told_in}
+use Rattle.law_scans.proofs.inv.model.Facts.{first_of, rest_of}
 use Rattle.law_scans.proofs.inv.covers.Begun.{first_begins}
 use Rattle.law_scans.proofs.inv.covers.Held.{stepped_post}
 use Rattle.law_scans.proofs.inv.shapes.Frame.{begin_begins, begin_stays, seat_stays, seat_steps}
@@ -40,7 +40,7 @@ use Rattle.law_scans.proofs.inv.Inv.Begun.{known_start, known_begin}
 use Rattle.law_scans.proofs.inv.Inv.Kept.{known_kept, asked_next}
 use Rattle.law_scans.proofs.inv.Inv.Tells.{inv_tells}
 use Rattle.law_scans.proofs.reuse.Reuse.Keeps.{record_stands}
-use Rattle.laws.specs.StateAt.{times, stood_at, queued_of, taken_of, began_of, told_of, all_taken, was_empty}
+use Rattle.law_scans.specs.laws.StateAt.{times, stood_at, queued_of, taken_of, began_of, told_of, all_taken, was_empty}
 use Rattle.law_scans.proofs.answers.Lawful.Current.{base_begun, current_start, current_begin, current_kept, current_same}
 use Rattle.law_scans.proofs.inv.history.AllOf.{all_of}
 use Rattle.law_scans.proofs.inv.Machines.{is_within, within_of}
@@ -50,7 +50,7 @@ use Rattle.law_scans.proofs.answers.AnswersTold.Answering as answering
 use Rattle.law_scans.proofs.answers.AnswersTold.Answering.{first_all, owes_of, began_along}
 use Rattle.law_scans.proofs.answers.AnswersTold.Owed.{is_open, Owes, owed}
 use Rattle.law_scans.proofs.places.BareEnds.{end_stood}
-use Rattle.laws.specs.HistoryAnswers.{reason, reasons_ok}
+use Rattle.law_scans.specs.laws.HistoryAnswers.{reason, reasons_ok}
 use Rattle.law_reasons.specs.Records.{RecordsKeepReasons}
 use Rattle.law_reasons.proofs.Reasons.Decides.{Kept, Right, kept_lasts, step_decides}
 use Rattle.law_reasons.proofs.Reasons.Deciding.{PhaseKeeps, OutKeeps, keeps_on, first_keeps}
@@ -60,7 +60,7 @@ use Rattle.law_reasons.proofs.Reasons.Missing.{is_any, MissesAt, begin_misses, o
 use Rattle.law_reasons.proofs.Reasons.Reading.{Shown, count_most}
 use Rattle.law_reasons.proofs.Reasons.Saying.{PhaseSays, Tells, ends_say, says_lasts, start_says, told_now, turn_says}
 use Rattle.law_reasons.proofs.Reasons.Shows.{Shows, begin_shows, first_book_shows, step_shows}
-use Rattle.laws.proofs.Tells.{tells_both}
+use Rattle.law_scans.proofs.laws.Tells.{tells_both}
 
 -- the law along what a turn tells
 open_ok : (c : Config) (i : ℕ) (p : Past) (event : Event) → is_open event ≡ true → reasons_ok c p i event ≡ true

@@ -3,25 +3,25 @@ use Rattle.std.proofs.Common.{ℕ, ◌≡◌, ◌≤◌, ◌+◌, ◌-◌, Bool,
 use Rattle.std.proofs.lemmas.Bool.Decides.{nat_tests}
 use Rattle.std.proofs.lemmas.List.{append-nil, append_assoc, length-append, take-append-le}
 use Rattle.std.specs.Prelude.{◌==◌, ◌&&◌, ◌||◌, nat_le, nat_lt, not, is_some, Some, if◌then◌else◌}
-use Rattle.wfe_core.specs.words.declared.config.Config.{Config}
-use Rattle.wfe_core.specs.defs.Pairs.{pairs_after, value_in}
-use Rattle.wfe_core.specs.defs.declared.call.Answer.{Answer}
-use Rattle.wfe_core.specs.defs.declared.call.Answer.TheVariants as answers
-use Rattle.wfe_core.specs.defs.declared.call.Call.{Call}
-use Rattle.wfe_core.specs.defs.declared.call.Call.TheVariants as calls
-use Rattle.wfe_core.specs.defs.declared.event.Event.{Event}
-use Rattle.wfe_core.specs.defs.declared.event.Event.TheVariants as events
-use Rattle.wfe_core.specs.defs.declared.fold.Change.{Change}
-use Rattle.wfe_core.specs.defs.declared.fold.Change.TheVariants as the_changes
-use Rattle.wfe_core.proofs.Facts.{both, first_of, rest_of}
-use Rattle.laws.specs.StateAt.{was_current, bucket_of, changes_of, count_of, with_change, queued_of, all_taken, begun_at, had_version, has_told, is_there, pairs_at, was_empty}
+use Rattle.law_scans.specs.inv.model.words.declared.config.Config.{Config}
+use Rattle.law_scans.specs.inv.model.defs.Pairs.{pairs_after, value_in}
+use Rattle.law_scans.specs.inv.model.defs.declared.call.Answer.{Answer}
+use Rattle.law_scans.specs.inv.model.defs.declared.call.Answer.TheVariants as answers
+use Rattle.law_scans.specs.inv.model.defs.declared.call.Call.{Call}
+use Rattle.law_scans.specs.inv.model.defs.declared.call.Call.TheVariants as calls
+use Rattle.law_scans.specs.inv.model.defs.declared.event.Event.{Event}
+use Rattle.law_scans.specs.inv.model.defs.declared.event.Event.TheVariants as events
+use Rattle.law_scans.specs.inv.model.defs.declared.fold.Change.{Change}
+use Rattle.law_scans.specs.inv.model.defs.declared.fold.Change.TheVariants as the_changes
+use Rattle.law_scans.proofs.inv.model.Facts.{both, first_of, rest_of}
+use Rattle.law_scans.specs.laws.StateAt.{was_current, bucket_of, changes_of, count_of, with_change, queued_of, all_taken, begun_at, had_version, has_told, is_there, pairs_at, was_empty}
 use Rattle.law_scans.specs.inv.history.Record.{Past, begins, own, told_since, tells_of}
 use Rattle.law_scans.specs.inv.history.Record.Past.{Then}
 use Rattle.law_scans.proofs.inv.history.AllOf.{all_of}
 use Rattle.law_scans.proofs.inv.Machines.{is_within, within_begins}
-use Rattle.wfe_core.specs.defs.Events.{is_null}
-use Rattle.laws.specs.AnswerLaw.{enqueue_reason}
-use Rattle.laws.specs.HistoryAnswers.{put_reason, put_if_reason, remove_reason, dequeue_reason, hold_reason, release_reason, copy_reason, drop_reason, look_reason, reason}
+use Rattle.law_scans.specs.inv.model.defs.Events.{is_null}
+use Rattle.law_scans.specs.laws.AnswerLaw.{enqueue_reason}
+use Rattle.law_scans.specs.laws.HistoryAnswers.{put_reason, put_if_reason, remove_reason, dequeue_reason, hold_reason, release_reason, copy_reason, drop_reason, look_reason, reason}
 
 -- q comes after p in the same call of seat i
 pub record Later (i : ℕ) (p q : Past) : Type 0 where

@@ -1,25 +1,25 @@
 -- A copy that finds nothing to copy has told nothing yet.
 use Rattle.std.proofs.Common.{ℕ, ◌≡◌, ◌+◌, Bool, true, false, List, [], ◌∷◌, Option, Some, None, refl, sym, ◌∙◌, subst}
 use Rattle.std.specs.Prelude.{◌==◌, ◌&&◌, if◌then◌else◌}
-use Rattle.wfe_core.specs.defs.declared.call.Call.{Call}
-use Rattle.wfe_core.specs.defs.declared.call.Call.TheVariants as names
-use Rattle.wfe_core.specs.defs.declared.event.Event.{Event}
-use Rattle.wfe_core.specs.defs.declared.event.Event.TheVariants as events
-use Rattle.wfe_core.specs.declared.post.Post.{Post}
-use Rattle.wfe_core.specs.Calls.{Keeping, KeepAt, Loosens, LoadHeld, StoreHeld, Looks, Misses, Work, Phase, Idle, Runs, Scans, Works, CallOutcome, GoesOn, Answers}
-use Rattle.wfe_core.specs.Desks.{Desk}
-use Rattle.wfe_core.specs.Keep as keeps
-use Rattle.wfe_core.specs.Locals.{Local, begun, settled_by, turn}
-use Rattle.wfe_core.specs.Posts.{counted, reserves_index, stands}
-use Rattle.wfe_core.specs.Rounds.{scheme_of}
-use Rattle.wfe_core.specs.words.Schemes.{has_one_interval}
-use Rattle.wfe_core.specs.Steps as steps
-use Rattle.wfe_core.proofs.Facts.{same_number}
+use Rattle.law_scans.specs.inv.model.defs.declared.call.Call.{Call}
+use Rattle.law_scans.specs.inv.model.defs.declared.call.Call.TheVariants as names
+use Rattle.law_scans.specs.inv.model.defs.declared.event.Event.{Event}
+use Rattle.law_scans.specs.inv.model.defs.declared.event.Event.TheVariants as events
+use Rattle.law_scans.specs.inv.model.declared.post.Post.{Post}
+use Rattle.law_scans.specs.inv.model.Calls.{Keeping, KeepAt, Loosens, LoadHeld, StoreHeld, Looks, Misses, Work, Phase, Idle, Runs, Scans, Works, CallOutcome, GoesOn, Answers}
+use Rattle.law_scans.specs.inv.model.Desks.{Desk}
+use Rattle.law_scans.specs.inv.model.Keep as keeps
+use Rattle.law_scans.specs.inv.model.Locals.{Local, begun, settled_by, turn}
+use Rattle.law_scans.specs.inv.model.Posts.{counted, reserves_index, stands}
+use Rattle.law_scans.specs.inv.model.Rounds.{scheme_of}
+use Rattle.law_scans.specs.inv.model.words.Schemes.{has_one_interval}
+use Rattle.law_scans.specs.inv.model.Steps as steps
+use Rattle.law_scans.proofs.inv.model.Facts.{same_number}
 use Rattle.law_scans.specs.inv.history.Record.{Past, begins, own, tells_of}
 use Rattle.law_scans.specs.inv.history.Record.Past.{Then}
 use Rattle.law_scans.specs.inv.shapes.Frame.{phase_left}
-use Rattle.laws.specs.AnswerLaw.{tells_none}
-use Rattle.laws.specs.StateAt.{times}
+use Rattle.law_scans.specs.laws.AnswerLaw.{tells_none}
+use Rattle.law_scans.specs.laws.StateAt.{times}
 
 -- any event
 abbrev pub is_any : Event → Bool

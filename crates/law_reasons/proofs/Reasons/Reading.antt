@@ -4,22 +4,22 @@ use Rattle.std.proofs.Common.{ℕ, ◌≡◌, ◌≤◌, ◌<◌, ◌+◌, ◌%�
 use Rattle.std.proofs.lemmas.Bool.Decides.{nat_tests}
 use Rattle.std.proofs.lemmas.List.{take_all}
 use Rattle.std.specs.Prelude.{◌==◌, nat_lt}
-use Rattle.wfe_core.specs.words.Place.Place.{Row}
-use Rattle.wfe_core.specs.defs.Pairs.{Pair, pairs_after}
-use Rattle.wfe_core.specs.defs.declared.event.Root.{Root}
-use Rattle.wfe_core.specs.defs.declared.event.Root.TheVariants as roots
-use Rattle.wfe_core.specs.defs.declared.fold.Change.{Change}
-use Rattle.wfe_core.specs.declared.ends.ProtectEnd.TheVariants as protect_ends
-use Rattle.wfe_core.specs.Change as alters
-use Rattle.wfe_core.specs.Get as gets
-use Rattle.wfe_core.specs.Machine as machine
-use Rattle.wfe_core.specs.Posts.{counted}
-use Rattle.wfe_core.specs.Rounds.{key_of}
-use Rattle.wfe_core.specs.Phases.{Base, Ends}
-use Rattle.wfe_core.specs.Phases.Ending.{Protected}
-use Rattle.wfe_core.specs.Calls.{ChangeKept, EnqueueKept, LoadCount, LoadValue, LoadNext, Task, Changes, Opens, Changing, Enqueuing, Phase, Runs, Works}
-use Rattle.wfe_core.specs.World.{World, finds}
-use Rattle.wfe_core.proofs.Facts.{same_number, same_both}
+use Rattle.law_scans.specs.inv.model.words.Place.Place.{Row}
+use Rattle.law_scans.specs.inv.model.defs.Pairs.{Pair, pairs_after}
+use Rattle.law_scans.specs.inv.model.defs.declared.event.Root.{Root}
+use Rattle.law_scans.specs.inv.model.defs.declared.event.Root.TheVariants as roots
+use Rattle.law_scans.specs.inv.model.defs.declared.fold.Change.{Change}
+use Rattle.law_scans.specs.inv.model.declared.ends.ProtectEnd.TheVariants as protect_ends
+use Rattle.law_scans.specs.inv.model.Change as alters
+use Rattle.law_scans.specs.inv.model.Get as gets
+use Rattle.law_scans.specs.inv.model.Machine as machine
+use Rattle.law_scans.specs.inv.model.Posts.{counted}
+use Rattle.law_scans.specs.inv.model.Rounds.{key_of}
+use Rattle.law_scans.specs.inv.model.Phases.{Base, Ends}
+use Rattle.law_scans.specs.inv.model.Phases.Ending.{Protected}
+use Rattle.law_scans.specs.inv.model.Calls.{ChangeKept, EnqueueKept, LoadCount, LoadValue, LoadNext, Task, Changes, Opens, Changing, Enqueuing, Phase, Runs, Works}
+use Rattle.law_scans.specs.inv.model.World.{World, finds}
+use Rattle.law_scans.proofs.inv.model.Facts.{same_number, same_both}
 use Rattle.law_scans.proofs.inv.contents.Contents.Lasts.{on}
 use Rattle.law_scans.proofs.inv.contents.Contents.Lists.{take_next}
 use Rattle.law_scans.proofs.inv.contents.Contents.Reading.{count_shown, value_shown}
@@ -34,7 +34,7 @@ use Rattle.law_scans.proofs.answers.Lawful.Current.{Current, shelf_since, since,
 use Rattle.law_scans.proofs.answers.Lawful.Gots.{null_at}
 use Rattle.law_scans.proofs.answers.Lawful.Maps.{base_of}
 use Rattle.law_scans.proofs.inv.links.Origins.Ends.{end_tracked, end_root}
-use Rattle.laws.specs.StateAt.{queued_of, changes_of, count_of, begun_at, pairs_at}
+use Rattle.law_scans.specs.laws.StateAt.{queued_of, changes_of, count_of, begun_at, pairs_at}
 use Rattle.law_scans.specs.inv.history.Record.{Past}
 use Rattle.law_scans.specs.inv.links.Tracked.{root_in}
 use Rattle.law_scans.specs.inv.requests.Views.{View as Asked}

@@ -3,20 +3,20 @@
 use Rattle.std.proofs.Common.{ℕ, ◌≡◌, ◌≤◌, ◌+◌, ◌-◌, ◌%◌, Bool, true, false, List, length, Option, Some, None, refl, sym, ap, ◌∙◌, subst, arith}
 use Rattle.std.proofs.lemmas.Bool.Decides.{nat_tests}
 use Rattle.std.specs.Prelude.{◌==◌, ◌&&◌, ◌||◌, nat_le, nat_lt, not, is_some, if◌then◌else◌}
-use Rattle.wfe_core.specs.words.declared.config.Config.{Config}
-use Rattle.wfe_core.specs.defs.Pairs.{Pair, value_in}
-use Rattle.wfe_core.specs.defs.declared.call.Answer.{Answer}
-use Rattle.wfe_core.specs.defs.declared.call.Answer.TheVariants as answers
-use Rattle.wfe_core.specs.defs.declared.call.ClockMove.TheVariants as moves
-use Rattle.wfe_core.specs.defs.declared.fold.Change.{Change}
-use Rattle.wfe_core.specs.defs.declared.fold.Change.TheVariants as changes
-use Rattle.wfe_core.specs.Change as alters
-use Rattle.wfe_core.specs.Rounds.{key_of}
-use Rattle.wfe_core.proofs.Facts.{both, first_of, rest_of, below_unless, true_of_not, one_more_less, lt_test_2}
+use Rattle.law_scans.specs.inv.model.words.declared.config.Config.{Config}
+use Rattle.law_scans.specs.inv.model.defs.Pairs.{Pair, value_in}
+use Rattle.law_scans.specs.inv.model.defs.declared.call.Answer.{Answer}
+use Rattle.law_scans.specs.inv.model.defs.declared.call.Answer.TheVariants as answers
+use Rattle.law_scans.specs.inv.model.defs.declared.call.ClockMove.TheVariants as moves
+use Rattle.law_scans.specs.inv.model.defs.declared.fold.Change.{Change}
+use Rattle.law_scans.specs.inv.model.defs.declared.fold.Change.TheVariants as changes
+use Rattle.law_scans.specs.inv.model.Change as alters
+use Rattle.law_scans.specs.inv.model.Rounds.{key_of}
+use Rattle.law_scans.proofs.inv.model.Facts.{both, first_of, rest_of, below_unless, true_of_not, one_more_less, lt_test_2}
 use Rattle.law_scans.proofs.answers.AnswersTold.Owed.{call_for, may_want}
-use Rattle.laws.specs.StateAt.{was_current, count_of, begun_at, had_version, is_there, pairs_at}
+use Rattle.law_scans.specs.laws.StateAt.{was_current, count_of, begun_at, had_version, is_there, pairs_at}
 use Rattle.law_scans.specs.inv.history.Record.{Past}
-use Rattle.laws.specs.HistoryAnswers.{put_if_reason, put_reason, remove_reason, reason}
+use Rattle.law_scans.specs.laws.HistoryAnswers.{put_if_reason, put_reason, remove_reason, reason}
 
 -- a call of seat i has read these pairs at this version of bucket b
 pub record ReadAt (c : Config) (i b version : ℕ) (pairs : List Pair) (p : Past) : Type 0 where

@@ -3,36 +3,36 @@ use Rattle.std.proofs.Common.{ℕ, ◌≡◌, ◌+◌, ◌-◌, Bool, true, fals
 use Rattle.std.proofs.lemmas.Bool.Decides.{nat_tests}
 use Rattle.std.specs.List.{list_any}
 use Rattle.std.specs.Prelude.{◌==◌, ◌&&◌, ◌||◌, nat_le, nat_lt, if◌then◌else◌}
-use Rattle.wfe_core.specs.words.Packed.{read_request}
-use Rattle.wfe_core.specs.words.declared.config.Config.{Config}
-use Rattle.wfe_core.specs.words.declared.packed.Request.{Request}
-use Rattle.wfe_core.specs.words.declared.packed.Request.TheVariants as requests
-use Rattle.wfe_core.specs.words.declared.layout.Layout.{Layout}
-use Rattle.wfe_core.specs.defs.declared.call.Answer.{Answer}
-use Rattle.wfe_core.specs.defs.declared.event.Event.{Event}
-use Rattle.wfe_core.specs.defs.declared.event.Event.TheVariants as events
-use Rattle.wfe_core.specs.defs.declared.event.Root.{Root}
-use Rattle.wfe_core.specs.declared.ends.FollowEnd.TheVariants as follow_ends
-use Rattle.wfe_core.specs.declared.ends.ProtectEnd.TheVariants as protect_ends
-use Rattle.wfe_core.specs.declared.post.Post.{Post}
-use Rattle.wfe_core.specs.Desks.{Desk}
-use Rattle.wfe_core.specs.Locals.{turn, told_end}
-use Rattle.wfe_core.specs.Machine as machine
-use Rattle.wfe_core.specs.Memory.{bump}
-use Rattle.wfe_core.specs.Posts.{counted, reserves_index, stands, upper, reserves_helper}
-use Rattle.wfe_core.specs.words.Schemes.{has_one_interval}
-use Rattle.wfe_core.specs.Keep as keeps
-use Rattle.wfe_core.specs.Protect as protects
-use Rattle.wfe_core.specs.Rounds.{index_of, scheme_of}
-use Rattle.wfe_core.specs.SlowPath as slow
-use Rattle.wfe_core.specs.Steps as steps
-use Rattle.wfe_core.specs.Phases.{Aim, Alone, Follows, Tries, Endless, Failed, ProtectAt, Base, Ending, Outcome, Goes, Ends, Turn}
-use Rattle.wfe_core.specs.Phases.Ending.{Done, Protected, Followed, Allocated, Retired, Clocked}
-use Rattle.wfe_core.specs.Phases.ProtectAt.{PublishEra, LoadLink, CheckClock, PublishRequest, CheckOwnClock, AnswerOwn, LoadAnswer, TakeAnswer, WithdrawRequest, WithdrawHelper, CheckUpper}
-use Rattle.wfe_core.specs.Phases.Base.{Protect, Move}
-use Rattle.wfe_core.specs.Calls.{Getting, Changing, Enqueuing, Dequeuing, Keeping, KeepAt, Loosens, LoadHeld, StoreHeld, Looks, Misses, Work, Task, Why, Opens, FollowsHead, Phase, Idle, Runs, Scans, Works, CallTurn, CallOutcome, GoesOn, Answers}
-use Rattle.wfe_core.specs.World.{World, finds, told_in}
-use Rattle.wfe_core.proofs.Facts.{same_number, both, first_of, rest_of, is_one_more}
+use Rattle.law_scans.specs.inv.model.words.Packed.{read_request}
+use Rattle.law_scans.specs.inv.model.words.declared.config.Config.{Config}
+use Rattle.law_scans.specs.inv.model.words.declared.packed.Request.{Request}
+use Rattle.law_scans.specs.inv.model.words.declared.packed.Request.TheVariants as requests
+use Rattle.law_scans.specs.inv.model.words.declared.layout.Layout.{Layout}
+use Rattle.law_scans.specs.inv.model.defs.declared.call.Answer.{Answer}
+use Rattle.law_scans.specs.inv.model.defs.declared.event.Event.{Event}
+use Rattle.law_scans.specs.inv.model.defs.declared.event.Event.TheVariants as events
+use Rattle.law_scans.specs.inv.model.defs.declared.event.Root.{Root}
+use Rattle.law_scans.specs.inv.model.declared.ends.FollowEnd.TheVariants as follow_ends
+use Rattle.law_scans.specs.inv.model.declared.ends.ProtectEnd.TheVariants as protect_ends
+use Rattle.law_scans.specs.inv.model.declared.post.Post.{Post}
+use Rattle.law_scans.specs.inv.model.Desks.{Desk}
+use Rattle.law_scans.specs.inv.model.Locals.{turn, told_end}
+use Rattle.law_scans.specs.inv.model.Machine as machine
+use Rattle.law_scans.specs.inv.model.Memory.{bump}
+use Rattle.law_scans.specs.inv.model.Posts.{counted, reserves_index, stands, upper, reserves_helper}
+use Rattle.law_scans.specs.inv.model.words.Schemes.{has_one_interval}
+use Rattle.law_scans.specs.inv.model.Keep as keeps
+use Rattle.law_scans.specs.inv.model.Protect as protects
+use Rattle.law_scans.specs.inv.model.Rounds.{index_of, scheme_of}
+use Rattle.law_scans.specs.inv.model.SlowPath as slow
+use Rattle.law_scans.specs.inv.model.Steps as steps
+use Rattle.law_scans.specs.inv.model.Phases.{Aim, Alone, Follows, Tries, Endless, Failed, ProtectAt, Base, Ending, Outcome, Goes, Ends, Turn}
+use Rattle.law_scans.specs.inv.model.Phases.Ending.{Done, Protected, Followed, Allocated, Retired, Clocked}
+use Rattle.law_scans.specs.inv.model.Phases.ProtectAt.{PublishEra, LoadLink, CheckClock, PublishRequest, CheckOwnClock, AnswerOwn, LoadAnswer, TakeAnswer, WithdrawRequest, WithdrawHelper, CheckUpper}
+use Rattle.law_scans.specs.inv.model.Phases.Base.{Protect, Move}
+use Rattle.law_scans.specs.inv.model.Calls.{Getting, Changing, Enqueuing, Dequeuing, Keeping, KeepAt, Loosens, LoadHeld, StoreHeld, Looks, Misses, Work, Task, Why, Opens, FollowsHead, Phase, Idle, Runs, Scans, Works, CallTurn, CallOutcome, GoesOn, Answers}
+use Rattle.law_scans.specs.inv.model.World.{World, finds, told_in}
+use Rattle.law_scans.proofs.inv.model.Facts.{same_number, both, first_of, rest_of, is_one_more}
 use Rattle.law_scans.specs.inv.shapes.Frame.{phase_left}
 use Rattle.law_scans.specs.inv.shapes.Seats.{Aimed, Run, Seats, task_root}
 use Rattle.law_scans.proofs.inv.covers.Fresh.{resume_fresh, work_fresh}
@@ -41,14 +41,14 @@ use Rattle.law_scans.specs.inv.covers.Tries.{is_start, starts_base}
 use Rattle.law_scans.proofs.inv.ends.Ends.Stood.{held_told}
 use Rattle.law_scans.proofs.inv.ends.Ends.Nulls.{null_told}
 use Rattle.law_scans.specs.inv.ends.Nulls.{null_base, null_in}
-use Rattle.wfe_core.specs.defs.Events.{is_null, is_held}
+use Rattle.law_scans.specs.inv.model.defs.Events.{is_null, is_held}
 use Rattle.law_scans.specs.inv.ends.Standing.{is_end, holds_base, holds_in}
 use Rattle.law_scans.specs.inv.history.Record.{Past, begins, own, told_since, tells_of}
 use Rattle.law_scans.specs.inv.history.Record.Past.{Then}
 use Rattle.law_scans.proofs.inv.links.Origins.Plain.{is_move, ends_plain, out_moves, out_plain, moves_on, plain_after}
 use Rattle.law_scans.proofs.inv.history.AllOf.{all_of}
 use Rattle.law_scans.proofs.inv.Machines.{is_within, within_begins}
-use Rattle.laws.specs.StateAt.{has_told}
+use Rattle.law_scans.specs.laws.StateAt.{has_told}
 use Rattle.law_reasons.proofs.Reasons.Later.{Later, later_same, later_all}
 use Rattle.law_scans.proofs.inv.handover.Asks.{run_of}
 use Rattle.law_scans.proofs.inv.Inv.Ends.{task_end}

@@ -1,24 +1,24 @@
 -- How often a step tells that its seat has found its root: once at most, and only where it begins a round.
 use Rattle.std.proofs.Common.{ℕ, ◌≡◌, ◌≤◌, ◌+◌, Bool, true, false, List, [], ◌∷◌, ◌++◌, refl, ap, ◌∙◌, arith}
 use Rattle.std.specs.Prelude.{◌==◌, if◌then◌else◌, ◌&&◌}
-use Rattle.wfe_core.specs.words.declared.config.SchemeKind.{SchemeKind}
-use Rattle.wfe_core.specs.words.declared.layout.Layout.{Layout}
-use Rattle.wfe_core.specs.defs.declared.event.Event.{Event}
-use Rattle.wfe_core.specs.defs.declared.event.Event.TheVariants as events
-use Rattle.wfe_core.specs.defs.declared.event.Root.{Root}
-use Rattle.wfe_core.specs.declared.post.Post.{Post}
-use Rattle.wfe_core.specs.Desks.{Desk}
-use Rattle.wfe_core.specs.Locals.{round_told, rounds_told, told_by}
-use Rattle.wfe_core.specs.Machine as machine
-use Rattle.wfe_core.specs.Memory.{bump}
-use Rattle.wfe_core.specs.Rest.{is_told}
-use Rattle.wfe_core.specs.Rounds.{scheme_of, clear_told, index_of}
-use Rattle.wfe_core.specs.Steps as steps
-use Rattle.wfe_core.specs.Phases.{Aim, ProtectAt, Base}
-use Rattle.wfe_core.specs.Phases.ProtectAt.{CheckClock, TakeAnswer, CheckUpper}
-use Rattle.wfe_core.specs.Phases.Base.{Begin, Protect, Reload, Clear, Finish, Release, Allocate, Write, GiveUp, Retire, Move}
-use Rattle.wfe_core.specs.Calls.{Why, Opens, FollowsHead, Fills, ClearsNext, Clears, Finishes, GivesUp, Retires, Tidies, Advances, Releases, Phase, Idle, Runs, Scans, Works, ReadGuard, GiveBack, ScanAt}
-use Rattle.wfe_core.proofs.Facts.{first_of, rest_of, number_is}
+use Rattle.law_scans.specs.inv.model.words.declared.config.SchemeKind.{SchemeKind}
+use Rattle.law_scans.specs.inv.model.words.declared.layout.Layout.{Layout}
+use Rattle.law_scans.specs.inv.model.defs.declared.event.Event.{Event}
+use Rattle.law_scans.specs.inv.model.defs.declared.event.Event.TheVariants as events
+use Rattle.law_scans.specs.inv.model.defs.declared.event.Root.{Root}
+use Rattle.law_scans.specs.inv.model.declared.post.Post.{Post}
+use Rattle.law_scans.specs.inv.model.Desks.{Desk}
+use Rattle.law_scans.specs.inv.model.Locals.{round_told, rounds_told, told_by}
+use Rattle.law_scans.specs.inv.model.Machine as machine
+use Rattle.law_scans.specs.inv.model.Memory.{bump}
+use Rattle.law_scans.specs.inv.model.Rest.{is_told}
+use Rattle.law_scans.specs.inv.model.Rounds.{scheme_of, clear_told, index_of}
+use Rattle.law_scans.specs.inv.model.Steps as steps
+use Rattle.law_scans.specs.inv.model.Phases.{Aim, ProtectAt, Base}
+use Rattle.law_scans.specs.inv.model.Phases.ProtectAt.{CheckClock, TakeAnswer, CheckUpper}
+use Rattle.law_scans.specs.inv.model.Phases.Base.{Begin, Protect, Reload, Clear, Finish, Release, Allocate, Write, GiveUp, Retire, Move}
+use Rattle.law_scans.specs.inv.model.Calls.{Why, Opens, FollowsHead, Fills, ClearsNext, Clears, Finishes, GivesUp, Retires, Tidies, Advances, Releases, Phase, Idle, Runs, Scans, Works, ReadGuard, GiveBack, ScanAt}
+use Rattle.law_scans.proofs.inv.model.Facts.{first_of, rest_of, number_is}
 use Rattle.law_scans.specs.inv.shapes.Seats.{Run}
 use Rattle.law_scans.proofs.inv.history.AllOf.{all_of, of_weaker}
 use Rattle.law_scans.proofs.inv.steps_left.Rest.Closings.{rounds_join}

@@ -2,27 +2,27 @@
 use Rattle.std.proofs.Common.{ℕ, ◌≡◌, ◌≤◌, ◌<◌, ◌+◌, ◌-◌, ◌*◌, ◌%◌, Bool, true, false, List, [], ◌∷◌, length, Option, Some, None, refl, sym, ap, ◌∙◌, subst, arith}
 use Rattle.std.proofs.lemmas.Bool.Decides.{nat_tests}
 use Rattle.std.specs.Prelude.{◌==◌, nat_le, if◌then◌else◌}
-use Rattle.wfe_core.specs.words.Place.{is_valid}
-use Rattle.wfe_core.specs.words.Place.Place.{Tail}
-use Rattle.wfe_core.specs.words.declared.config.Config.{Config}
-use Rattle.wfe_core.specs.words.declared.layout.Layout.{Layout}
-use Rattle.wfe_core.specs.defs.declared.call.Call.{Call}
-use Rattle.wfe_core.specs.defs.declared.call.Call.TheVariants as calls
-use Rattle.wfe_core.specs.defs.declared.event.Event.{Event}
-use Rattle.wfe_core.specs.defs.declared.event.Event.TheVariants as events
-use Rattle.wfe_core.specs.defs.declared.fold.Change.{Change}
-use Rattle.wfe_core.specs.defs.declared.fold.Change.TheVariants as changes
-use Rattle.wfe_core.specs.declared.post.Post.{Post}
-use Rattle.wfe_core.specs.Guards.{guards}
-use Rattle.wfe_core.specs.Phases.{Base}
-use Rattle.wfe_core.specs.Posts.{counted}
-use Rattle.wfe_core.specs.Rest.{is_told, lost_by}
-use Rattle.wfe_core.specs.Rounds.{index_of, key_of}
-use Rattle.wfe_core.specs.Calls.{Task, Gets, Changes, Holds, Enqueues, Dequeues, Why, Opens, Phase, Idle, Runs, Scans, Works, CallTurn, CallOutcome, GoesOn, Answers}
-use Rattle.wfe_core.specs.Desks.{noting}
-use Rattle.wfe_core.specs.Locals.{Local, may_begin, rounds_told, settled_by, told_by, told_end, turn}
-use Rattle.wfe_core.specs.World.{World, start, begin, step, finds, is_busy, told_in}
-use Rattle.wfe_core.proofs.Facts.{same_number, first_of, rest_of}
+use Rattle.law_scans.specs.inv.model.words.Place.{is_valid}
+use Rattle.law_scans.specs.inv.model.words.Place.Place.{Tail}
+use Rattle.law_scans.specs.inv.model.words.declared.config.Config.{Config}
+use Rattle.law_scans.specs.inv.model.words.declared.layout.Layout.{Layout}
+use Rattle.law_scans.specs.inv.model.defs.declared.call.Call.{Call}
+use Rattle.law_scans.specs.inv.model.defs.declared.call.Call.TheVariants as calls
+use Rattle.law_scans.specs.inv.model.defs.declared.event.Event.{Event}
+use Rattle.law_scans.specs.inv.model.defs.declared.event.Event.TheVariants as events
+use Rattle.law_scans.specs.inv.model.defs.declared.fold.Change.{Change}
+use Rattle.law_scans.specs.inv.model.defs.declared.fold.Change.TheVariants as changes
+use Rattle.law_scans.specs.inv.model.declared.post.Post.{Post}
+use Rattle.law_scans.specs.inv.model.Guards.{guards}
+use Rattle.law_scans.specs.inv.model.Phases.{Base}
+use Rattle.law_scans.specs.inv.model.Posts.{counted}
+use Rattle.law_scans.specs.inv.model.Rest.{is_told, lost_by}
+use Rattle.law_scans.specs.inv.model.Rounds.{index_of, key_of}
+use Rattle.law_scans.specs.inv.model.Calls.{Task, Gets, Changes, Holds, Enqueues, Dequeues, Why, Opens, Phase, Idle, Runs, Scans, Works, CallTurn, CallOutcome, GoesOn, Answers}
+use Rattle.law_scans.specs.inv.model.Desks.{noting}
+use Rattle.law_scans.specs.inv.model.Locals.{Local, may_begin, rounds_told, settled_by, told_by, told_end, turn}
+use Rattle.law_scans.specs.inv.model.World.{World, start, begin, step, finds, is_busy, told_in}
+use Rattle.law_scans.proofs.inv.model.Facts.{same_number, first_of, rest_of}
 use Rattle.law_scans.specs.inv.shapes.Seats.{Run}
 use Rattle.law_scans.proofs.inv.shapes.Frame.{seat_stays, seat_steps, begin_stays, begin_begins}
 use Rattle.law_scans.proofs.inv.Inv.Begun.{known_start, known_begin}
@@ -36,7 +36,7 @@ use Rattle.law_scans.specs.inv.rows.Queue.{Line}
 use Rattle.law_scans.specs.inv.rows.Rows.{View}
 use Rattle.law_scans.specs.inv.history.Record.{Past, Each, begins, tells_of, value_since}
 use Rattle.law_scans.specs.inv.history.Record.Past.{Start, Then}
-use Rattle.laws.specs.StateAt.{began_of, finds_of, tails_of}
+use Rattle.law_scans.specs.laws.StateAt.{began_of, finds_of, tails_of}
 use Rattle.law_scans.proofs.inv.history.Entries.{entries_of_each}
 use Rattle.law_scans.specs.inv.history.History.{Begins, Steps, Made, done, first_made, record_of}
 use Rattle.law_scans.proofs.inv.history.Along.{Steady, items_keep}
@@ -44,15 +44,15 @@ use Rattle.law_scans.proofs.inv.history.AllOf.{all_of}
 use Rattle.law_scans.proofs.inv.Machines.{is_within, within_of}
 use Rattle.law_scans.proofs.answers.AnswersTold.Answering.{first_all, owes_of}
 use Rattle.law_scans.proofs.answers.AnswersTold.Owed.{Owes, Serves, TaskServes, ChangeServes, is_open, owed}
-use Rattle.laws.proofs.Tells.{seen_stays, tells_both}
+use Rattle.law_scans.proofs.laws.Tells.{seen_stays, tells_both}
 use Rattle.law_scans.specs.inv.steps_left.Rounds.{Rounds}
 use Rattle.law_scans.specs.inv.steps_left.Tallies.{Tally, once, tally, phase_paced, task_paced, why_paced}
 use Rattle.law_reasons.proofs.Full.Keeps as full
 use Rattle.law_reasons.proofs.Full.Keeps.{now_of}
 use Rattle.law_reasons.proofs.Full.Ties as ties
-use Rattle.laws.specs.HistoryScans.{Search, search_by, no_search, search_of}
-use Rattle.laws.specs.AnswerLaw.{moves_before, moves_of}
-use Rattle.laws.specs.HistoryAnswers.{repeats_ok, whole_scan}
+use Rattle.law_scans.specs.laws.HistoryScans.{Search, search_by, no_search, search_of}
+use Rattle.law_scans.specs.laws.AnswerLaw.{moves_before, moves_of}
+use Rattle.law_scans.specs.laws.HistoryAnswers.{repeats_ok, whole_scan}
 use Rattle.law_reasons.specs.Records.{RecordsKeepRepeats}
 use Rattle.law_reasons.proofs.Repeats.Finds.{both_finds, finds_in, opens_now, phase_top, run_opens, step_finds, told_finds, top_of}
 use Rattle.law_reasons.proofs.Repeats.Gets.{gets_begin, gets_start, gets_step, once_more}

@@ -1,13 +1,13 @@
 -- A call that has found its root more often still loses no more rounds than its task may, where what it has lost is counted.
 use Rattle.std.proofs.Common.{ℕ, ◌≡◌, ◌≤◌, ◌+◌, ◌-◌, ◌*◌, ◌%◌, Bool, true, false, refl, ap, ◌∙◌, subst, arith}
-use Rattle.wfe_core.specs.words.declared.config.Config.{Config}
-use Rattle.wfe_core.specs.defs.declared.call.Call.{Call}
-use Rattle.wfe_core.specs.defs.declared.call.Call.TheVariants as names
-use Rattle.wfe_core.specs.Phases.{Base}
-use Rattle.wfe_core.specs.Rest.{is_told, lost_by, rounds_most}
-use Rattle.wfe_core.specs.Rounds.{key_of}
-use Rattle.wfe_core.specs.Calls.{ChangeKept, EnqueueKept, Task, Gets, Changes, Holds, Enqueues, Dequeues, Next, Again, MakeRoom, Answering, Retiring, AfterScan, Answered, Repeated, Counted, Why, Opens, FollowsHead, Fills, ClearsNext, Clears, Finishes, Tidies, Releases, EnqueueAt, ExchangeTail, DequeueAt, LoadTail, Work, Getting, Changing, Enqueuing, Dequeuing, Keeping, KeepAt, Loosens, LoadHeld, StoreHeld, Looks, Misses, LetGo, Released, Rehold, Dropped, Phase, Idle, Runs, Scans, Works}
-use Rattle.wfe_core.specs.Locals.{busy_in}
+use Rattle.law_scans.specs.inv.model.words.declared.config.Config.{Config}
+use Rattle.law_scans.specs.inv.model.defs.declared.call.Call.{Call}
+use Rattle.law_scans.specs.inv.model.defs.declared.call.Call.TheVariants as names
+use Rattle.law_scans.specs.inv.model.Phases.{Base}
+use Rattle.law_scans.specs.inv.model.Rest.{is_told, lost_by, rounds_most}
+use Rattle.law_scans.specs.inv.model.Rounds.{key_of}
+use Rattle.law_scans.specs.inv.model.Calls.{ChangeKept, EnqueueKept, Task, Gets, Changes, Holds, Enqueues, Dequeues, Next, Again, MakeRoom, Answering, Retiring, AfterScan, Answered, Repeated, Counted, Why, Opens, FollowsHead, Fills, ClearsNext, Clears, Finishes, Tidies, Releases, EnqueueAt, ExchangeTail, DequeueAt, LoadTail, Work, Getting, Changing, Enqueuing, Dequeuing, Keeping, KeepAt, Loosens, LoadHeld, StoreHeld, Looks, Misses, LetGo, Released, Rehold, Dropped, Phase, Idle, Runs, Scans, Works}
+use Rattle.law_scans.specs.inv.model.Locals.{busy_in}
 use Rattle.law_reasons.proofs.Repeats.Records.{is_counted}
 use Rattle.law_scans.proofs.answers.AnswersTold.Owed.{Serves, WhyServes, WorkServes, LaterServes, TaskServes, FreeServes, KeepServes, MissServes}
 use Rattle.law_scans.specs.inv.steps_left.Losses.{InRound, LostRound, tells_fit, opens_fit, fills_fit, lost_fit, next_fit, finish_fit, later_fit, why_fit, work_fit, phase_fit}

@@ -3,17 +3,17 @@
 use Rattle.std.proofs.Common.{ℕ, ◌≡◌, ◌≤◌, ◌<◌, ◌+◌, ◌-◌, ◌*◌, ◌%◌, Bool, true, false, length, Option, Some, None, refl, sym, ap, subst, arith}
 use Rattle.std.proofs.lemmas.Bool.Decides.{nat_tests}
 use Rattle.std.specs.Prelude.{◌==◌}
-use Rattle.wfe_core.specs.words.Place.Place.{Tail}
-use Rattle.wfe_core.specs.defs.declared.call.Call.{Call}
-use Rattle.wfe_core.specs.defs.declared.call.Call.TheVariants as names
-use Rattle.wfe_core.specs.declared.post.Post.{Post}
-use Rattle.wfe_core.specs.Calls.{Gets, Changes, Holds, Enqueues, Dequeues, LetGo, Released, Rehold, Dropped}
-use Rattle.wfe_core.specs.Locals.{Local, begun_post, busy_in}
-use Rattle.wfe_core.specs.Posts.{stands}
-use Rattle.wfe_core.specs.Phases.{Base}
-use Rattle.wfe_core.specs.Rounds.{let_index, letting, letting_by, release_base, scheme_of}
-use Rattle.wfe_core.specs.Steps as steps
-use Rattle.wfe_core.specs.World.{World, begin, step, is_busy}
+use Rattle.law_scans.specs.inv.model.words.Place.Place.{Tail}
+use Rattle.law_scans.specs.inv.model.defs.declared.call.Call.{Call}
+use Rattle.law_scans.specs.inv.model.defs.declared.call.Call.TheVariants as names
+use Rattle.law_scans.specs.inv.model.declared.post.Post.{Post}
+use Rattle.law_scans.specs.inv.model.Calls.{Gets, Changes, Holds, Enqueues, Dequeues, LetGo, Released, Rehold, Dropped}
+use Rattle.law_scans.specs.inv.model.Locals.{Local, begun_post, busy_in}
+use Rattle.law_scans.specs.inv.model.Posts.{stands}
+use Rattle.law_scans.specs.inv.model.Phases.{Base}
+use Rattle.law_scans.specs.inv.model.Rounds.{let_index, letting, letting_by, release_base, scheme_of}
+use Rattle.law_scans.specs.inv.model.Steps as steps
+use Rattle.law_scans.specs.inv.model.World.{World, begin, step, is_busy}
 use Rattle.law_scans.proofs.inv.shapes.Frame.{begin_stays, begin_begins}
 use Rattle.law_scans.specs.inv.Known.{Known}
 use Rattle.law_scans.proofs.inv.contents.Items.Gives.{items_count}
@@ -32,7 +32,7 @@ use Rattle.law_scans.specs.inv.steps_left.Tallies.{Tally, tally, phase_paced, ph
 use Rattle.law_scans.specs.inv.rows.Chain.{line_after, queue_of}
 use Rattle.law_scans.specs.inv.rows.Queue.{Line}
 use Rattle.law_scans.specs.inv.rows.Rows.{View}
-use Rattle.wfe_core.specs.defs.declared.event.Root.{Root}
+use Rattle.law_scans.specs.inv.model.defs.declared.event.Root.{Root}
 use Rattle.law_reasons.proofs.Repeats.Losing.{Few, phase_more}
 use Rattle.law_reasons.proofs.Repeats.Records.{is_counted}
 use Rattle.law_reasons.proofs.Repeats.Shift.{rounds_alike, shifted, shifted_step, tracked_alike}

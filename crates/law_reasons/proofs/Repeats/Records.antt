@@ -2,25 +2,25 @@
 use Rattle.std.proofs.Common.{ℕ, ◌≡◌, ◌≤◌, ◌+◌, Bool, true, false, List, [], ◌∷◌, Option, Some, refl, ap, ◌∙◌, arith}
 use Rattle.std.proofs.lemmas.Bool.Decides.{nat_tests}
 use Rattle.std.specs.Prelude.{◌==◌, ◌&&◌, nat_le, if◌then◌else◌}
-use Rattle.wfe_core.specs.words.declared.config.Config.{Config}
-use Rattle.wfe_core.specs.defs.declared.call.Call.{Call}
-use Rattle.wfe_core.specs.defs.declared.call.Call.TheVariants as calls
-use Rattle.wfe_core.specs.defs.declared.event.Event.{Event}
-use Rattle.wfe_core.specs.defs.declared.event.Event.TheVariants as events
-use Rattle.wfe_core.specs.defs.declared.event.Root.TheVariants as roots
-use Rattle.wfe_core.specs.Locals.{round_told, rounds_told}
-use Rattle.wfe_core.proofs.Facts.{same_number, first_of, rest_of}
+use Rattle.law_scans.specs.inv.model.words.declared.config.Config.{Config}
+use Rattle.law_scans.specs.inv.model.defs.declared.call.Call.{Call}
+use Rattle.law_scans.specs.inv.model.defs.declared.call.Call.TheVariants as calls
+use Rattle.law_scans.specs.inv.model.defs.declared.event.Event.{Event}
+use Rattle.law_scans.specs.inv.model.defs.declared.event.Event.TheVariants as events
+use Rattle.law_scans.specs.inv.model.defs.declared.event.Root.TheVariants as roots
+use Rattle.law_scans.specs.inv.model.Locals.{round_told, rounds_told}
+use Rattle.law_scans.proofs.inv.model.Facts.{same_number, first_of, rest_of}
 use Rattle.law_scans.specs.inv.history.Record.{Past, begins, value_since, tells_of}
 use Rattle.law_scans.specs.inv.history.Record.Past.{Start, Then}
-use Rattle.laws.specs.StateAt.{bucket_of, taken_of, began_by, began_of, finds_root, finds_of, tails_by, tails_of}
+use Rattle.law_scans.specs.laws.StateAt.{bucket_of, taken_of, began_by, began_of, finds_root, finds_of, tails_by, tails_of}
 use Rattle.law_scans.proofs.inv.history.AllOf.{all_of}
 use Rattle.law_scans.proofs.inv.Machines.{is_within, within_begins}
-use Rattle.laws.proofs.Tells.{seen_own}
+use Rattle.law_scans.proofs.laws.Tells.{seen_own}
 use Rattle.law_reasons.proofs.Reasons.Later.{later_all, later_same, more_queued, more_count}
 use Rattle.law_reasons.proofs.Full.Since.{others_begin, others_own}
-use Rattle.laws.specs.HistoryScans.{Search, search_by, no_search, search_of}
-use Rattle.laws.specs.AnswerLaw.{moves_of, moves_before}
-use Rattle.laws.specs.HistoryAnswers.{whole_scan}
+use Rattle.law_scans.specs.laws.HistoryScans.{Search, search_by, no_search, search_of}
+use Rattle.law_scans.specs.laws.AnswerLaw.{moves_of, moves_before}
+use Rattle.law_scans.specs.laws.HistoryAnswers.{whole_scan}
 use Rattle.law_scans.proofs.answers.AnswersTold.Answering.{one_began}
 
 -- finds

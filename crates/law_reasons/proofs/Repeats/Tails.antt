@@ -2,24 +2,24 @@
 use Rattle.std.proofs.Common.{ℕ, ◌≡◌, ◌+◌, ◌-◌, Bool, true, false, List, [], ◌∷◌, ◌++◌, refl, sym, ap, ◌∙◌, subst, arith}
 use Rattle.std.proofs.lemmas.Bool.Decides.{nat_tests}
 use Rattle.std.specs.Prelude.{◌==◌, if◌then◌else◌}
-use Rattle.wfe_core.specs.words.Place.{Place}
-use Rattle.wfe_core.specs.words.Place.Place.{Head, Tail, Bucket, Row}
-use Rattle.wfe_core.specs.defs.declared.event.Event.{Event}
-use Rattle.wfe_core.specs.defs.declared.event.Event.TheVariants as events
-use Rattle.wfe_core.specs.defs.declared.event.Root.TheVariants as roots
-use Rattle.wfe_core.specs.defs.declared.fold.Change.{Change}
-use Rattle.wfe_core.specs.defs.declared.fold.Change.TheVariants as changes
-use Rattle.wfe_core.specs.defs.declared.lifetime.Lifetime.{Lifetime}
-use Rattle.wfe_core.specs.declared.post.Post.{Post}
-use Rattle.wfe_core.specs.Change.{told_change, changed_bucket}
-use Rattle.wfe_core.specs.Enqueue.{told_link}
-use Rattle.wfe_core.specs.Get.{get_move}
-use Rattle.wfe_core.specs.Keep.{keep_move}
-use Rattle.wfe_core.specs.Memory as memory
-use Rattle.wfe_core.specs.Memory.{written}
-use Rattle.wfe_core.specs.Posts.{counted}
-use Rattle.wfe_core.specs.Steps.{phase_move}
-use Rattle.wfe_core.specs.Calls.{ChangeKept, EnqueueKept, LoadVersion, LoadCount, LoadKey, LoadValue, ExchangeRoot, LoadNumber, LoadNext, PassTail, ExchangeNext, ExchangeTail, LoadTail, SwingTail, TakeNumber, TakeValue, ExchangeHead, Getting, Changing, Enqueuing, Dequeuing, Keeping, KeepAt, Loosens, LoadHeld, StoreHeld, Looks, Misses, GetAt, FindVersion, FindCount, FindKey, FindValue, ReadGuard, GiveBack, Phase, Idle, Runs, Scans, Works, CallOutcome, GoesOn, Answers}
+use Rattle.law_scans.specs.inv.model.words.Place.{Place}
+use Rattle.law_scans.specs.inv.model.words.Place.Place.{Head, Tail, Bucket, Row}
+use Rattle.law_scans.specs.inv.model.defs.declared.event.Event.{Event}
+use Rattle.law_scans.specs.inv.model.defs.declared.event.Event.TheVariants as events
+use Rattle.law_scans.specs.inv.model.defs.declared.event.Root.TheVariants as roots
+use Rattle.law_scans.specs.inv.model.defs.declared.fold.Change.{Change}
+use Rattle.law_scans.specs.inv.model.defs.declared.fold.Change.TheVariants as changes
+use Rattle.law_scans.specs.inv.model.defs.declared.lifetime.Lifetime.{Lifetime}
+use Rattle.law_scans.specs.inv.model.declared.post.Post.{Post}
+use Rattle.law_scans.specs.inv.model.Change.{told_change, changed_bucket}
+use Rattle.law_scans.specs.inv.model.Enqueue.{told_link}
+use Rattle.law_scans.specs.inv.model.Get.{get_move}
+use Rattle.law_scans.specs.inv.model.Keep.{keep_move}
+use Rattle.law_scans.specs.inv.model.Memory as memory
+use Rattle.law_scans.specs.inv.model.Memory.{written}
+use Rattle.law_scans.specs.inv.model.Posts.{counted}
+use Rattle.law_scans.specs.inv.model.Steps.{phase_move}
+use Rattle.law_scans.specs.inv.model.Calls.{ChangeKept, EnqueueKept, LoadVersion, LoadCount, LoadKey, LoadValue, ExchangeRoot, LoadNumber, LoadNext, PassTail, ExchangeNext, ExchangeTail, LoadTail, SwingTail, TakeNumber, TakeValue, ExchangeHead, Getting, Changing, Enqueuing, Dequeuing, Keeping, KeepAt, Loosens, LoadHeld, StoreHeld, Looks, Misses, GetAt, FindVersion, FindCount, FindKey, FindValue, ReadGuard, GiveBack, Phase, Idle, Runs, Scans, Works, CallOutcome, GoesOn, Answers}
 use Rattle.law_scans.specs.inv.rows.Hands.{row_move, hand_in, is_right}
 use Rattle.law_scans.specs.inv.rows.Queue.{Line, line_move, moved_line}
 use Rattle.law_scans.specs.inv.rows.Rows.{View, RowMove}
@@ -28,13 +28,13 @@ use Rattle.law_scans.proofs.inv.rows.Own.{unlinked_tail}
 use Rattle.law_scans.proofs.inv.rows.Went.{born_unlined}
 use Rattle.law_scans.proofs.inv.rows.Words.{missed}
 use Rattle.law_scans.specs.inv.ends.Told.{row_events, birth_in}
-use Rattle.laws.proofs.Along.{along}
-use Rattle.laws.specs.StateAt.{tails_by, tails_of}
+use Rattle.law_scans.proofs.laws.Along.{along}
+use Rattle.law_scans.specs.laws.StateAt.{tails_by, tails_of}
 use Rattle.law_scans.proofs.places.Placing.Fronts.{linked_front, queued_front, taken_front}
 use Rattle.law_scans.proofs.places.Placing.Marks.{is_marked, marks}
 use Rattle.law_scans.proofs.places.Ordering.Ordered.{whole_comes}
-use Rattle.wfe_core.specs.Locals.{told_end}
-use Rattle.wfe_core.specs.World.{World, step, told_in}
+use Rattle.law_scans.specs.inv.model.Locals.{told_end}
+use Rattle.law_scans.specs.inv.model.World.{World, step, told_in}
 use Rattle.law_scans.specs.inv.Known.{Known}
 use Rattle.law_scans.specs.inv.requests.Views.{View as Asked}
 use Rattle.law_scans.proofs.inv.rows.Steps.{of_taken}
@@ -45,7 +45,7 @@ use Rattle.law_scans.proofs.inv.steps_left.Rounds.Worlds.{next_number, other_num
 use Rattle.law_scans.proofs.inv.rows.Queued.{finds_phase}
 use Rattle.law_scans.proofs.places.Ordering.Linked.{here_of}
 use Rattle.law_scans.proofs.inv.rows.Runs.{taken_slot}
-use Rattle.wfe_core.proofs.Facts.{same_both, number_is}
+use Rattle.law_scans.proofs.inv.model.Facts.{same_both, number_is}
 
 rows_tail : (b : ℕ) (m : RowMove) (x : ℕ) → along tails_by (row_events b m) x ≡ x
 rows_tail b Stays x = refl

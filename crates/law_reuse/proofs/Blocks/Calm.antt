@@ -1,32 +1,32 @@
 -- The record of scans after what a step tells that is of no scan; and the desk and the phase after such a step.
 use Rattle.std.proofs.Common.{ℕ, ◌≡◌, Bool, true, false, List, [], ◌∷◌, length, refl, ap, ◌∙◌}
 use Rattle.std.specs.Prelude.{◌==◌, ◌||◌, not}
-use Rattle.wfe_core.specs.defs.Shown.{Seen}
-use Rattle.wfe_core.specs.words.declared.config.Config.{Config}
-use Rattle.wfe_core.specs.defs.declared.event.Event.{Event}
-use Rattle.wfe_core.specs.defs.declared.event.Event.TheVariants as events
-use Rattle.wfe_core.specs.defs.declared.lifetime.Lifetime.{Lifetime}
-use Rattle.wfe_core.specs.declared.post.Post.{Post}
-use Rattle.wfe_core.specs.Calls.{Why, Work, Runs, Works, Retires}
-use Rattle.wfe_core.specs.Desks.{Desk}
-use Rattle.wfe_core.specs.Guards.{guards}
-use Rattle.wfe_core.specs.Machine.{after}
-use Rattle.wfe_core.specs.Phases.{Base, Ending, Outcome, Goes, Ends}
-use Rattle.wfe_core.specs.Phases.Ending.{Done, Protected, Followed, Allocated, Retired, Clocked}
-use Rattle.wfe_core.specs.Steps.{phase_turn}
-use Rattle.wfe_core.proofs.Facts.{same_number, first_of, rest_of}
-use Rattle.inv_all.specs.shapes.Frame.{phase_left}
-use Rattle.inv_all.specs.covers.Covers.{is_fresh}
-use Rattle.inv_all.proofs.covers.Fresh.{works_fresh as fresh_work}
-use Rattle.inv_all.specs.history.Record.{Past, Each, tells_of}
-use Rattle.inv_all.specs.history.Record.Past.{Then}
-use Rattle.laws.specs.StateAt.{list_of, read_by, read_of, is_scan, scans_of}
+use Rattle.law_answers.specs.inv.model.defs.Shown.{Seen}
+use Rattle.law_answers.specs.inv.model.words.declared.config.Config.{Config}
+use Rattle.law_answers.specs.inv.model.defs.declared.event.Event.{Event}
+use Rattle.law_answers.specs.inv.model.defs.declared.event.Event.TheVariants as events
+use Rattle.law_answers.specs.inv.model.defs.declared.lifetime.Lifetime.{Lifetime}
+use Rattle.law_answers.specs.inv.model.declared.post.Post.{Post}
+use Rattle.law_answers.specs.inv.model.Calls.{Why, Work, Runs, Works, Retires}
+use Rattle.law_answers.specs.inv.model.Desks.{Desk}
+use Rattle.law_answers.specs.inv.model.Guards.{guards}
+use Rattle.law_answers.specs.inv.model.Machine.{after}
+use Rattle.law_answers.specs.inv.model.Phases.{Base, Ending, Outcome, Goes, Ends}
+use Rattle.law_answers.specs.inv.model.Phases.Ending.{Done, Protected, Followed, Allocated, Retired, Clocked}
+use Rattle.law_answers.specs.inv.model.Steps.{phase_turn}
+use Rattle.law_answers.proofs.inv.model.Facts.{same_number, first_of, rest_of}
+use Rattle.law_answers.specs.inv.shapes.Frame.{phase_left}
+use Rattle.law_answers.specs.inv.covers.Covers.{is_fresh}
+use Rattle.law_answers.proofs.inv.covers.Fresh.{works_fresh as fresh_work}
+use Rattle.law_answers.specs.inv.history.Record.{Past, Each, tells_of}
+use Rattle.law_answers.specs.inv.history.Record.Past.{Then}
+use Rattle.law_answers.specs.laws.StateAt.{list_of, read_by, read_of, is_scan, scans_of}
 use Rattle.law_reuse.proofs.Once.Calm.{is_unread}
 use Rattle.law_reuse.proofs.Once.Desks.{left_desk, left_at, resumed_desk, work_desk}
-use Rattle.laws.specs.ScanLaw.{is_over, scan_by, scan_ok}
+use Rattle.law_answers.specs.laws.ScanLaw.{is_over, scan_by, scan_ok}
 use Rattle.law_reuse.proofs.Blocks.Placed.{Rests}
-use Rattle.inv_all.proofs.history.AllOf.{all_of}
-use Rattle.inv_all.proofs.covers.Kept.{resumed_fresh}
+use Rattle.law_answers.proofs.inv.history.AllOf.{all_of}
+use Rattle.law_answers.proofs.inv.covers.Kept.{resumed_fresh}
 
 pub read_own : (all i : ℕ) (event : Event) (p : Past) → read_of all i (Then p i event) ≡ read_by all event (read_of all i p)
 read_own all i event p = rw (same_number i) refl

@@ -2,49 +2,49 @@
 use Rattle.std.proofs.Common.{ℕ, ◌≡◌, ◌<◌, ◌+◌, Bool, true, false, List, [], ◌∷◌, ◌++◌, length, Option, Some, None, refl, sym, ap, ◌∙◌, subst, arith}
 use Rattle.std.proofs.lemmas.Bool.Decides.{nat_tests}
 use Rattle.std.specs.Prelude.{◌==◌, ◌&&◌, nat_lt, if◌then◌else◌}
-use Rattle.wfe_core.specs.defs.Shown.{Seen}
-use Rattle.wfe_core.specs.words.declared.config.Config.{Config}
-use Rattle.wfe_core.specs.words.declared.layout.Layout.{Layout}
-use Rattle.wfe_core.specs.defs.declared.call.Answer.{Answer}
-use Rattle.wfe_core.specs.defs.declared.call.Answer.TheVariants as the_answers
-use Rattle.wfe_core.specs.defs.declared.call.Call.{Call}
-use Rattle.wfe_core.specs.defs.declared.call.Call.TheVariants as names
-use Rattle.wfe_core.specs.defs.declared.event.Event.{Event}
-use Rattle.wfe_core.specs.defs.declared.event.Event.TheVariants as events
-use Rattle.wfe_core.specs.declared.post.Post.{Post}
-use Rattle.wfe_core.specs.Calls.{AfterScan, Counted, ScanAt, ReadGuard, GiveBack, Phase, Idle, Runs, Scans, Works, CallTurn, CallOutcome, GoesOn, Answers}
-use Rattle.wfe_core.specs.Desks.{Desk, Report, noting}
-use Rattle.wfe_core.specs.Guards.{guards, guard_at, eras_in, published}
-use Rattle.wfe_core.specs.Locals.{Local, after, begun, settled, rounds_told, told_by, told_end, turn, may_begin}
-use Rattle.wfe_core.specs.Posts.{counted}
-use Rattle.wfe_core.specs.Scan.{Entry, giving_back, reading, with_read, with_back, unmet_from, scan_turn}
-use Rattle.wfe_core.specs.Steps.{phase_turn}
-use Rattle.wfe_core.specs.World.{World, begin, step, finds, is_busy, told_in}
-use Rattle.wfe_core.proofs.Facts.{same_number, both, first_of, rest_of}
-use Rattle.inv_all.specs.covers.Covers.{upto_at}
-use Rattle.inv_all.proofs.covers.Held.{settled_phase}
-use Rattle.inv_all.specs.shapes.Frame.{phase_left}
-use Rattle.inv_all.specs.shapes.Seats.{scan_fits}
-use Rattle.inv_all.proofs.shapes.Frame.{seat_stays, seat_steps, begin_stays, begin_begins}
-use Rattle.inv_all.specs.history.Record.{Past, Each, begins, own, tells_of}
-use Rattle.inv_all.specs.history.Record.Past.{Then}
-use Rattle.laws.specs.StateAt.{call_of, list_of, without, is_read, is_back, times}
-use Rattle.inv_all.proofs.history.Entries.{entries_of_each}
-use Rattle.inv_all.specs.history.History.{Begins, Steps, Made, done, first_made, record_of}
-use Rattle.inv_all.proofs.history.Along.{Steady, items_keep}
-use Rattle.inv_all.specs.rows.Hands.{each_once, is_right, scans_right}
-use Rattle.laws.proofs.Along.{list_own}
+use Rattle.law_answers.specs.inv.model.defs.Shown.{Seen}
+use Rattle.law_answers.specs.inv.model.words.declared.config.Config.{Config}
+use Rattle.law_answers.specs.inv.model.words.declared.layout.Layout.{Layout}
+use Rattle.law_answers.specs.inv.model.defs.declared.call.Answer.{Answer}
+use Rattle.law_answers.specs.inv.model.defs.declared.call.Answer.TheVariants as the_answers
+use Rattle.law_answers.specs.inv.model.defs.declared.call.Call.{Call}
+use Rattle.law_answers.specs.inv.model.defs.declared.call.Call.TheVariants as names
+use Rattle.law_answers.specs.inv.model.defs.declared.event.Event.{Event}
+use Rattle.law_answers.specs.inv.model.defs.declared.event.Event.TheVariants as events
+use Rattle.law_answers.specs.inv.model.declared.post.Post.{Post}
+use Rattle.law_answers.specs.inv.model.Calls.{AfterScan, Counted, ScanAt, ReadGuard, GiveBack, Phase, Idle, Runs, Scans, Works, CallTurn, CallOutcome, GoesOn, Answers}
+use Rattle.law_answers.specs.inv.model.Desks.{Desk, Report, noting}
+use Rattle.law_answers.specs.inv.model.Guards.{guards, guard_at, eras_in, published}
+use Rattle.law_answers.specs.inv.model.Locals.{Local, after, begun, settled, rounds_told, told_by, told_end, turn, may_begin}
+use Rattle.law_answers.specs.inv.model.Posts.{counted}
+use Rattle.law_answers.specs.inv.model.Scan.{Entry, giving_back, reading, with_read, with_back, unmet_from, scan_turn}
+use Rattle.law_answers.specs.inv.model.Steps.{phase_turn}
+use Rattle.law_answers.specs.inv.model.World.{World, begin, step, finds, is_busy, told_in}
+use Rattle.law_answers.proofs.inv.model.Facts.{same_number, both, first_of, rest_of}
+use Rattle.law_answers.specs.inv.covers.Covers.{upto_at}
+use Rattle.law_answers.proofs.inv.covers.Held.{settled_phase}
+use Rattle.law_answers.specs.inv.shapes.Frame.{phase_left}
+use Rattle.law_answers.specs.inv.shapes.Seats.{scan_fits}
+use Rattle.law_answers.proofs.inv.shapes.Frame.{seat_stays, seat_steps, begin_stays, begin_begins}
+use Rattle.law_answers.specs.inv.history.Record.{Past, Each, begins, own, tells_of}
+use Rattle.law_answers.specs.inv.history.Record.Past.{Then}
+use Rattle.law_answers.specs.laws.StateAt.{call_of, list_of, without, is_read, is_back, times}
+use Rattle.law_answers.proofs.inv.history.Entries.{entries_of_each}
+use Rattle.law_answers.specs.inv.history.History.{Begins, Steps, Made, done, first_made, record_of}
+use Rattle.law_answers.proofs.inv.history.Along.{Steady, items_keep}
+use Rattle.law_answers.specs.inv.rows.Hands.{each_once, is_right, scans_right}
+use Rattle.law_answers.proofs.laws.Along.{list_own}
 use Rattle.law_reuse.proofs.Once.Calm.{is_calm, run_calm, work_calm}
 use Rattle.law_reuse.proofs.Once.Keeps.{Keeps, first_keeps, begin_keeps, step_keeps, settled_list}
 use Rattle.law_reuse.proofs.Once.Moves.{removed}
-use Rattle.laws.specs.HistoryScans.{answers_scan, count_ok}
-use Rattle.laws.specs.ScanLaw.{is_scan_call}
+use Rattle.law_answers.specs.laws.HistoryScans.{answers_scan, count_ok}
+use Rattle.law_answers.specs.laws.ScanLaw.{is_scan_call}
 use Rattle.law_reuse.specs.Records.{RecordsCountScans}
 use Rattle.law_reuse.proofs.Blocks.Keeps.{ScanFits, scans_fit}
 use Rattle.law_reuse.proofs.Blocks.Placed.{scan_event, scan_tells}
-use Rattle.inv_all.proofs.history.AllOf.{all_of, of_along}
-use Rattle.inv_all.proofs.Machines.{is_within}
-use Rattle.inv_all.proofs.Inv.Whole.{covers_of}
+use Rattle.law_answers.proofs.inv.history.AllOf.{all_of, of_along}
+use Rattle.law_answers.proofs.inv.Machines.{is_within}
+use Rattle.law_answers.proofs.inv.Inv.Whole.{covers_of}
 
 calm_within : (told : List Event) → all_of is_calm told ≡ true → all_of is_within told ≡ true
 calm_within [] h = refl

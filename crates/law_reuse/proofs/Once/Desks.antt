@@ -1,31 +1,31 @@
 -- A step of a call leaves the desk as it was, but that a retirement that ends puts its life on the list.
 use Rattle.std.proofs.Common.{ℕ, ◌≡◌, Bool, true, false, List, [], ◌∷◌, ◌++◌, refl}
 use Rattle.std.specs.Prelude.{◌==◌, ◌+◌, ◌-◌, nat_lt, length, Option, Some, None}
-use Rattle.wfe_core.specs.defs.declared.call.Answer.{Answer}
-use Rattle.wfe_core.specs.defs.declared.call.Answer.TheVariants as answers
-use Rattle.wfe_core.specs.defs.declared.call.ClockMove.TheVariants as moves
-use Rattle.wfe_core.specs.defs.declared.event.Event.TheVariants as events
-use Rattle.wfe_core.specs.defs.declared.event.Root.TheVariants as roots
-use Rattle.wfe_core.specs.defs.declared.event.Event.{Event}
-use Rattle.wfe_core.specs.declared.ends.AllocateEnd.{AllocateEnd}
-use Rattle.wfe_core.specs.declared.ends.AllocateEnd.TheVariants as allocate_ends
-use Rattle.wfe_core.specs.declared.ends.FollowEnd.{FollowEnd}
-use Rattle.wfe_core.specs.declared.ends.FollowEnd.TheVariants as follow_ends
-use Rattle.wfe_core.specs.declared.ends.ProtectEnd.TheVariants as protect_ends
-use Rattle.wfe_core.specs.declared.post.Post.{Post}
-use Rattle.wfe_core.specs.Desks.{Desk, with_life}
-use Rattle.wfe_core.specs.Phases.{Base, Ending, Outcome, Goes, Ends}
-use Rattle.wfe_core.specs.Phases.Ending.{Protected, Followed, Allocated, Retired, Clocked}
-use Rattle.wfe_core.specs.Calls.{ChangeKept, EnqueueKept, Task, Gets, Changes, Holds, Enqueues, Dequeues, Next, Again, MakeRoom, Answering, Retiring, AfterScan, Why, Opens, FollowsHead, Fills, ClearsNext, Clears, Finishes, GivesUp, Retires, Tidies, Advances, Releases, GetAt, FindVersion, FindCount, FindKey, FindValue, ChangeAt, LoadVersion, LoadCount, LoadKey, LoadValue, ExchangeRoot, EnqueueAt, LoadNumber, LoadNext, PassTail, ExchangeNext, ExchangeTail, DequeueAt, SwingTail, ExchangeHead, Work, Getting, Changing, Enqueuing, Dequeuing, LetGo, Released, Rehold, Dropped, KeepAt, Loosens, LoadHeld, StoreHeld, Looks, Misses, Keeping}
-use Rattle.wfe_core.specs.Rounds.{scheme_of, clear_post, closed, finishing_by, finishing, clearing_by, clearing, clearing_next_by, clearing_next, given_up, let_index}
-use Rattle.wfe_core.specs.Rounds as rounds
-use Rattle.wfe_core.specs.Get.{got, finding, found_key, get_turn}
-use Rattle.wfe_core.specs.Change.{with_read, answer_done, told_linked, at_link, with_walked, no_room, deciding_by, deciding, reading, exchanged, change_turn}
-use Rattle.wfe_core.specs.Enqueue.{told_link, item_walked, appending, at_next, appended, enqueue_turn}
-use Rattle.wfe_core.specs.Dequeue.{followed_row, followed, taken, dequeue_turn}
-use Rattle.wfe_core.specs.Steps.{opened_row, opened_null, opened, filled_by, written_row, filled, followed_by, tidying, retired_by, tidied, advanced, resume, resumed, work_turn}
-use Rattle.wfe_core.specs.Posts.{withdrawn}
-use Rattle.wfe_core.specs.Keep.{copied, load_held, looking, looked_key, look_turn, keep_turn, released}
+use Rattle.law_answers.specs.inv.model.defs.declared.call.Answer.{Answer}
+use Rattle.law_answers.specs.inv.model.defs.declared.call.Answer.TheVariants as answers
+use Rattle.law_answers.specs.inv.model.defs.declared.call.ClockMove.TheVariants as moves
+use Rattle.law_answers.specs.inv.model.defs.declared.event.Event.TheVariants as events
+use Rattle.law_answers.specs.inv.model.defs.declared.event.Root.TheVariants as roots
+use Rattle.law_answers.specs.inv.model.defs.declared.event.Event.{Event}
+use Rattle.law_answers.specs.inv.model.declared.ends.AllocateEnd.{AllocateEnd}
+use Rattle.law_answers.specs.inv.model.declared.ends.AllocateEnd.TheVariants as allocate_ends
+use Rattle.law_answers.specs.inv.model.declared.ends.FollowEnd.{FollowEnd}
+use Rattle.law_answers.specs.inv.model.declared.ends.FollowEnd.TheVariants as follow_ends
+use Rattle.law_answers.specs.inv.model.declared.ends.ProtectEnd.TheVariants as protect_ends
+use Rattle.law_answers.specs.inv.model.declared.post.Post.{Post}
+use Rattle.law_answers.specs.inv.model.Desks.{Desk, with_life}
+use Rattle.law_answers.specs.inv.model.Phases.{Base, Ending, Outcome, Goes, Ends}
+use Rattle.law_answers.specs.inv.model.Phases.Ending.{Protected, Followed, Allocated, Retired, Clocked}
+use Rattle.law_answers.specs.inv.model.Calls.{ChangeKept, EnqueueKept, Task, Gets, Changes, Holds, Enqueues, Dequeues, Next, Again, MakeRoom, Answering, Retiring, AfterScan, Why, Opens, FollowsHead, Fills, ClearsNext, Clears, Finishes, GivesUp, Retires, Tidies, Advances, Releases, GetAt, FindVersion, FindCount, FindKey, FindValue, ChangeAt, LoadVersion, LoadCount, LoadKey, LoadValue, ExchangeRoot, EnqueueAt, LoadNumber, LoadNext, PassTail, ExchangeNext, ExchangeTail, DequeueAt, SwingTail, ExchangeHead, Work, Getting, Changing, Enqueuing, Dequeuing, LetGo, Released, Rehold, Dropped, KeepAt, Loosens, LoadHeld, StoreHeld, Looks, Misses, Keeping}
+use Rattle.law_answers.specs.inv.model.Rounds.{scheme_of, clear_post, closed, finishing_by, finishing, clearing_by, clearing, clearing_next_by, clearing_next, given_up, let_index}
+use Rattle.law_answers.specs.inv.model.Rounds as rounds
+use Rattle.law_answers.specs.inv.model.Get.{got, finding, found_key, get_turn}
+use Rattle.law_answers.specs.inv.model.Change.{with_read, answer_done, told_linked, at_link, with_walked, no_room, deciding_by, deciding, reading, exchanged, change_turn}
+use Rattle.law_answers.specs.inv.model.Enqueue.{told_link, item_walked, appending, at_next, appended, enqueue_turn}
+use Rattle.law_answers.specs.inv.model.Dequeue.{followed_row, followed, taken, dequeue_turn}
+use Rattle.law_answers.specs.inv.model.Steps.{opened_row, opened_null, opened, filled_by, written_row, filled, followed_by, tidying, retired_by, tidied, advanced, resume, resumed, work_turn}
+use Rattle.law_answers.specs.inv.model.Posts.{withdrawn}
+use Rattle.law_answers.specs.inv.model.Keep.{copied, load_held, looking, looked_key, look_turn, keep_turn, released}
 
 given_up_desk : (answer : Answer) (post : Post) (desk : Desk) (told : List Event) (o : Option ℕ) → (given_up answer post desk told o).desk ≡ desk
 given_up_desk answer post desk told None = refl

@@ -3,16 +3,16 @@ use Rattle.std.proofs.Common.{ℕ, zero, suc, ◌≡◌, Bool, true, false, List
 use Rattle.std.proofs.lemmas.Bool.Decides.{nat_tests}
 use Rattle.std.specs.Prelude.{◌==◌, if◌then◌else◌}
 use Rattle.std.specs.List.{remove}
-use Rattle.wfe_core.specs.defs.declared.lifetime.Lifetime.{Lifetime}
-use Rattle.inv_all.specs.rows.Hands.{no_entry, each_once, in_list, stands_at}
-use Rattle.inv_all.specs.rows.Rows.{Status, View, RowMove, made, is_taken}
-use Rattle.inv_all.specs.rows.Rows.Status.{Free, Claimed, Born, Linked, InQueue, Cut, Sealed, Listed}
-use Rattle.inv_all.specs.rows.Rows.RowMove.{Stays, Claims, Bears, Drops, Links, Replaces, Appends, Pops, Reads, Seals, Lists, Returns}
-use Rattle.inv_all.proofs.rows.Fits.{MoveFits}
-use Rattle.inv_all.specs.ends.Told.{row_events}
-use Rattle.laws.specs.StateAt.{taken_by, retired_by, list_by, without, has_slot}
+use Rattle.law_answers.specs.inv.model.defs.declared.lifetime.Lifetime.{Lifetime}
+use Rattle.law_answers.specs.inv.rows.Hands.{no_entry, each_once, in_list, stands_at}
+use Rattle.law_answers.specs.inv.rows.Rows.{Status, View, RowMove, made, is_taken}
+use Rattle.law_answers.specs.inv.rows.Rows.Status.{Free, Claimed, Born, Linked, InQueue, Cut, Sealed, Listed}
+use Rattle.law_answers.specs.inv.rows.Rows.RowMove.{Stays, Claims, Bears, Drops, Links, Replaces, Appends, Pops, Reads, Seals, Lists, Returns}
+use Rattle.law_answers.proofs.inv.rows.Fits.{MoveFits}
+use Rattle.law_answers.specs.inv.ends.Told.{row_events}
+use Rattle.law_answers.specs.laws.StateAt.{taken_by, retired_by, list_by, without, has_slot}
 use Rattle.law_reuse.specs.Rows.{is_listed, is_cut}
-use Rattle.laws.proofs.Along.{along}
+use Rattle.law_answers.proofs.laws.Along.{along}
 
 -- where a move changes one row
 here : (s slot : ℕ) → (s == slot) ≡ true → slot ≡ s

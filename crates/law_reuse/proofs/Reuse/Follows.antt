@@ -2,40 +2,40 @@
 use Rattle.std.proofs.Common.{ℕ, ◌≡◌, ◌<◌, ◌+◌, ◌-◌, Bool, true, false, List, [], ◌∷◌, ◌++◌, length, Option, Some, None, refl, sym, ap, ◌∙◌, subst, arith}
 use Rattle.std.proofs.lemmas.Bool.Decides.{nat_tests}
 use Rattle.std.specs.Prelude.{◌==◌, if◌then◌else◌}
-use Rattle.wfe_core.specs.words.declared.config.SchemeKind.{SchemeKind}
-use Rattle.wfe_core.specs.words.declared.config.SchemeKind.TheVariants.{He, Ibr, Wfe}
-use Rattle.wfe_core.specs.words.Packed.{reservation_word, read_reservation}
-use Rattle.wfe_core.specs.defs.declared.event.Event.{Event}
-use Rattle.wfe_core.specs.defs.declared.event.Event.TheVariants as events
-use Rattle.wfe_core.specs.defs.declared.event.Root.{Root}
-use Rattle.wfe_core.specs.defs.declared.event.Root.TheVariants as roots
-use Rattle.wfe_core.specs.declared.post.Post.{Post}
-use Rattle.wfe_core.specs.Allocate as allocates
-use Rattle.wfe_core.specs.Machine as machine
-use Rattle.wfe_core.specs.Memory.{bump}
-use Rattle.wfe_core.specs.MoveClock as movers
-use Rattle.wfe_core.specs.Posts.{stands, cleared, reserves_helper, with_row, with_tag, withdrawn, tag_of, upper, reserves_index}
-use Rattle.wfe_core.specs.Protect as protects
-use Rattle.wfe_core.specs.Rounds.{scheme_of, clear_post, clear_told, let_index}
-use Rattle.wfe_core.specs.Phases.{Aim, Alone, Follows, BeginAt, ProtectAt, AllocateAt, RetireAt, MoveAt, Walk, Base, Turn, RowOf, Tries}
-use Rattle.wfe_core.specs.Phases.BeginAt.{LoadLower, PublishSpan}
-use Rattle.wfe_core.specs.Phases.ProtectAt.{CheckClock, CheckOwnClock, AnswerOwn, TakeAnswer, WithdrawHelper, CheckUpper}
-use Rattle.wfe_core.specs.Phases.AllocateAt.{LoadBirth, ClaimSlot, StoreLife}
-use Rattle.wfe_core.specs.Phases.RetireAt.{LoadLife, LoadRetire, StoreRetired}
-use Rattle.wfe_core.specs.Phases.MoveAt.{LoadEra, CheckEra, AnswerAsked, LoadReserved, HandOver, ExchangeClock}
-use Rattle.wfe_core.specs.Phases.Base.{Begin, Protect, Reload, Clear, Finish, Release, Allocate, Write, GiveUp, Retire, Move}
-use Rattle.wfe_core.specs.WriteRow.{last_written, after_write}
-use Rattle.inv_all.specs.covers.Held.{index_base}
-use Rattle.laws.specs.StateAt.{stood_by}
-use Rattle.inv_all.proofs.history.Passes.{is_quiet, all_quiet, Closed, copied_post, copied_told, work_post, work_told}
-use Rattle.wfe_core.specs.SlowPath.{own_request, asking}
-use Rattle.wfe_core.specs.Follow.{after_reload}
-use Rattle.wfe_core.specs.defs.declared.event.Guard.TheVariants as the_guards
-use Rattle.wfe_core.specs.Guards.{one_era}
-use Rattle.wfe_core.proofs.Facts.{first_of, rest_of, number_is}
-use Rattle.wfe_core.proofs.Standing.{stands-withdrawn_same, stands-with_row_same, stands-withdrawn_other, stands-with_row_other}
-use Rattle.wfe_core.specs.Calls.{Work, Getting, Changing, Enqueuing, Dequeuing, Keeping, Loosens, LoadHeld, StoreHeld, Looks, Misses}
-use Rattle.wfe_core.specs.words.Schemes.{has_one_interval}
+use Rattle.law_answers.specs.inv.model.words.declared.config.SchemeKind.{SchemeKind}
+use Rattle.law_answers.specs.inv.model.words.declared.config.SchemeKind.TheVariants.{He, Ibr, Wfe}
+use Rattle.law_answers.specs.inv.model.words.Packed.{reservation_word, read_reservation}
+use Rattle.law_answers.specs.inv.model.defs.declared.event.Event.{Event}
+use Rattle.law_answers.specs.inv.model.defs.declared.event.Event.TheVariants as events
+use Rattle.law_answers.specs.inv.model.defs.declared.event.Root.{Root}
+use Rattle.law_answers.specs.inv.model.defs.declared.event.Root.TheVariants as roots
+use Rattle.law_answers.specs.inv.model.declared.post.Post.{Post}
+use Rattle.law_answers.specs.inv.model.Allocate as allocates
+use Rattle.law_answers.specs.inv.model.Machine as machine
+use Rattle.law_answers.specs.inv.model.Memory.{bump}
+use Rattle.law_answers.specs.inv.model.MoveClock as movers
+use Rattle.law_answers.specs.inv.model.Posts.{stands, cleared, reserves_helper, with_row, with_tag, withdrawn, tag_of, upper, reserves_index}
+use Rattle.law_answers.specs.inv.model.Protect as protects
+use Rattle.law_answers.specs.inv.model.Rounds.{scheme_of, clear_post, clear_told, let_index}
+use Rattle.law_answers.specs.inv.model.Phases.{Aim, Alone, Follows, BeginAt, ProtectAt, AllocateAt, RetireAt, MoveAt, Walk, Base, Turn, RowOf, Tries}
+use Rattle.law_answers.specs.inv.model.Phases.BeginAt.{LoadLower, PublishSpan}
+use Rattle.law_answers.specs.inv.model.Phases.ProtectAt.{CheckClock, CheckOwnClock, AnswerOwn, TakeAnswer, WithdrawHelper, CheckUpper}
+use Rattle.law_answers.specs.inv.model.Phases.AllocateAt.{LoadBirth, ClaimSlot, StoreLife}
+use Rattle.law_answers.specs.inv.model.Phases.RetireAt.{LoadLife, LoadRetire, StoreRetired}
+use Rattle.law_answers.specs.inv.model.Phases.MoveAt.{LoadEra, CheckEra, AnswerAsked, LoadReserved, HandOver, ExchangeClock}
+use Rattle.law_answers.specs.inv.model.Phases.Base.{Begin, Protect, Reload, Clear, Finish, Release, Allocate, Write, GiveUp, Retire, Move}
+use Rattle.law_answers.specs.inv.model.WriteRow.{last_written, after_write}
+use Rattle.law_answers.specs.inv.covers.Held.{index_base}
+use Rattle.law_answers.specs.laws.StateAt.{stood_by}
+use Rattle.law_answers.proofs.inv.history.Passes.{is_quiet, all_quiet, Closed, copied_post, copied_told, work_post, work_told}
+use Rattle.law_answers.specs.inv.model.SlowPath.{own_request, asking}
+use Rattle.law_answers.specs.inv.model.Follow.{after_reload}
+use Rattle.law_answers.specs.inv.model.defs.declared.event.Guard.TheVariants as the_guards
+use Rattle.law_answers.specs.inv.model.Guards.{one_era}
+use Rattle.law_answers.proofs.inv.model.Facts.{first_of, rest_of, number_is}
+use Rattle.law_answers.proofs.inv.model.Standing.{stands-withdrawn_same, stands-with_row_same, stands-withdrawn_other, stands-with_row_other}
+use Rattle.law_answers.specs.inv.model.Calls.{Work, Getting, Changing, Enqueuing, Dequeuing, Keeping, Loosens, LoadHeld, StoreHeld, Looks, Misses}
+use Rattle.law_answers.specs.inv.model.words.Schemes.{has_one_interval}
 
 -- what these events make of what stood
 abbrev pub stood : ℕ → List Event → Option ℕ → Option ℕ

@@ -2,17 +2,17 @@
 use Rattle.std.proofs.Common.{ℕ, ◌≡◌, Bool, true, false, List, [], ◌∷◌, ◌++◌, refl, sym, ap, ◌∙◌, subst, arith}
 use Rattle.std.proofs.lemmas.Bool.Decides.{nat_tests}
 use Rattle.std.specs.Prelude.{◌==◌, nat_lt, ◌≤◌, nat_le, if◌then◌else◌}
-use Rattle.wfe_core.specs.words.Place.{is_valid, Place}
-use Rattle.wfe_core.specs.words.declared.layout.Layout.{Layout}
-use Rattle.wfe_core.specs.defs.declared.call.Answer.{Answer}
-use Rattle.wfe_core.specs.defs.declared.call.Call.{Call}
-use Rattle.wfe_core.specs.defs.declared.event.Event.{Event}
-use Rattle.wfe_core.specs.defs.declared.event.Event.TheVariants as events
-use Rattle.wfe_core.specs.declared.post.Post.{Post}
-use Rattle.wfe_core.specs.Calls.{Phase, Idle, Runs, Scans, Works, CallTurn, CallOutcome, GoesOn, Answers, Why, Opens, FollowsHead, Fills, ClearsNext, Clears, Finishes, GivesUp, Retires, Tidies, Advances, Releases, ReadGuard, GiveBack}
-use Rattle.wfe_core.specs.Locals.{Local, begun_post, told_end, turn}
-use Rattle.wfe_core.specs.Posts.{counted}
-use Rattle.wfe_core.specs.World.{World, begin, step, finds, is_busy, told_in}
+use Rattle.law_places.specs.inv.model.words.Place.{is_valid, Place}
+use Rattle.law_places.specs.inv.model.words.declared.layout.Layout.{Layout}
+use Rattle.law_places.specs.inv.model.defs.declared.call.Answer.{Answer}
+use Rattle.law_places.specs.inv.model.defs.declared.call.Call.{Call}
+use Rattle.law_places.specs.inv.model.defs.declared.event.Event.{Event}
+use Rattle.law_places.specs.inv.model.defs.declared.event.Event.TheVariants as events
+use Rattle.law_places.specs.inv.model.declared.post.Post.{Post}
+use Rattle.law_places.specs.inv.model.Calls.{Phase, Idle, Runs, Scans, Works, CallTurn, CallOutcome, GoesOn, Answers, Why, Opens, FollowsHead, Fills, ClearsNext, Clears, Finishes, GivesUp, Retires, Tidies, Advances, Releases, ReadGuard, GiveBack}
+use Rattle.law_places.specs.inv.model.Locals.{Local, begun_post, told_end, turn}
+use Rattle.law_places.specs.inv.model.Posts.{counted}
+use Rattle.law_places.specs.inv.model.World.{World, begin, step, finds, is_busy, told_in}
 use Rattle.law_places.specs.inv.shapes.Frame.{phase_left}
 use Rattle.law_places.specs.inv.shapes.Seats.{kind_of, suits}
 use Rattle.law_places.proofs.inv.shapes.Frame.{seat_stays, begin_stays, begin_begins}
@@ -24,26 +24,26 @@ use Rattle.law_places.proofs.inv.history.Along.{item_keeps, made_snoc}
 use Rattle.law_places.proofs.inv.history.AllOf.{all_of, of_along}
 use Rattle.law_places.proofs.answers.AnswersTold.Answering.{owes_of}
 use Rattle.law_places.proofs.answers.AnswersTold.Owed.{is_open, owed, Owes}
-use Rattle.wfe_core.specs.words.Place.Place.{Clock}
-use Rattle.wfe_core.specs.defs.declared.call.Answer.TheVariants as the_answers
-use Rattle.wfe_core.specs.defs.declared.call.ClockMove.{ClockMove}
-use Rattle.wfe_core.specs.defs.declared.call.ClockMove.TheVariants as moves
-use Rattle.wfe_core.specs.Machine.{base_move}
-use Rattle.wfe_core.specs.Memory as memory
-use Rattle.wfe_core.specs.Memory.{place_in}
-use Rattle.wfe_core.specs.Phases.{MoveAt, Base}
-use Rattle.wfe_core.specs.Phases.AllocateAt.{LoadBirth, ClaimSlot, StoreLife}
-use Rattle.wfe_core.specs.Phases.MoveAt.{LoadEra, CheckEra, ExchangeClock}
-use Rattle.wfe_core.specs.Phases.Base.{Allocate, Retire, Move}
-use Rattle.wfe_core.specs.Steps.{phase_move}
-use Rattle.wfe_core.specs.Allocate as allocates
-use Rattle.wfe_core.proofs.Facts.{both, first_of, rest_of, both_below}
+use Rattle.law_places.specs.inv.model.words.Place.Place.{Clock}
+use Rattle.law_places.specs.inv.model.defs.declared.call.Answer.TheVariants as the_answers
+use Rattle.law_places.specs.inv.model.defs.declared.call.ClockMove.{ClockMove}
+use Rattle.law_places.specs.inv.model.defs.declared.call.ClockMove.TheVariants as moves
+use Rattle.law_places.specs.inv.model.Machine.{base_move}
+use Rattle.law_places.specs.inv.model.Memory as memory
+use Rattle.law_places.specs.inv.model.Memory.{place_in}
+use Rattle.law_places.specs.inv.model.Phases.{MoveAt, Base}
+use Rattle.law_places.specs.inv.model.Phases.AllocateAt.{LoadBirth, ClaimSlot, StoreLife}
+use Rattle.law_places.specs.inv.model.Phases.MoveAt.{LoadEra, CheckEra, ExchangeClock}
+use Rattle.law_places.specs.inv.model.Phases.Base.{Allocate, Retire, Move}
+use Rattle.law_places.specs.inv.model.Steps.{phase_move}
+use Rattle.law_places.specs.inv.model.Allocate as allocates
+use Rattle.law_places.proofs.inv.model.Facts.{both, first_of, rest_of, both_below}
 use Rattle.law_places.proofs.inv.covers.Held.{stepped_phase}
-use Rattle.laws.proofs.Tells.{tells_both}
-use Rattle.laws.specs.StateAt.{clock_of}
+use Rattle.law_places.proofs.laws.Tells.{tells_both}
+use Rattle.law_places.specs.laws.StateAt.{clock_of}
 use Rattle.law_scans.specs.Outcomes.{clock_tally}
-use Rattle.laws.specs.AnswerLaw.{from_by, from_of}
-use Rattle.laws.specs.HistoryAnswers.{time_fits, answer_time, times_ok}
+use Rattle.law_places.specs.laws.AnswerLaw.{from_by, from_of}
+use Rattle.law_places.specs.laws.HistoryAnswers.{time_fits, answer_time, times_ok}
 use Rattle.law_scans.specs.Records.{RecordsKeepTimes}
 use Rattle.law_scans.proofs.DueScans.Keeps.{phase_right, told_starts}
 use Rattle.law_scans.proofs.ClockAnswers.Kept.{KeepsClocks, fronts, own_lands, steady, first_clocks}

@@ -2,40 +2,40 @@
 use Rattle.std.proofs.Common.{ℕ, ◌≡◌, ◌<◌, ◌+◌, ◌%◌, Bool, true, false, List, [], ◌∷◌, Option, Some, None, refl, sym, ap, ◌∙◌, arith}
 use Rattle.std.proofs.lemmas.Bool.Decides.{nat_tests}
 use Rattle.std.specs.Prelude.{◌==◌, ◌&&◌, nat_lt, if◌then◌else◌, nat_le, ◌≤◌}
-use Rattle.wfe_core.specs.words.Packed.{reservation_word, read_reservation, read_request}
-use Rattle.wfe_core.specs.defs.declared.call.Answer.{Answer}
-use Rattle.wfe_core.specs.defs.declared.call.Answer.TheVariants as the_answers
-use Rattle.wfe_core.specs.defs.declared.call.Call.{Call}
-use Rattle.wfe_core.specs.defs.declared.call.Call.TheVariants as names
-use Rattle.wfe_core.specs.defs.declared.call.ClockMove.{ClockMove}
-use Rattle.wfe_core.specs.defs.declared.call.ClockMove.TheVariants as moves
-use Rattle.wfe_core.specs.defs.declared.event.Event.{Event}
-use Rattle.wfe_core.specs.defs.declared.event.Event.TheVariants as events
-use Rattle.wfe_core.specs.defs.declared.event.Root.{Root}
-use Rattle.wfe_core.specs.declared.post.Post.{Post}
-use Rattle.wfe_core.specs.Allocate as allocates
-use Rattle.wfe_core.specs.Desks.{Desk, with_life}
-use Rattle.wfe_core.specs.Guards.{guards, guard_at, eras_in, published}
-use Rattle.wfe_core.specs.Machine as machine
-use Rattle.wfe_core.specs.Posts.{stands}
-use Rattle.wfe_core.specs.Scan as scan
-use Rattle.wfe_core.specs.Steps as steps
-use Rattle.wfe_core.specs.Rounds.{scheme_of, begin_base, round, round_by, with_clock, let_index, letting, letting_by, release_base}
-use Rattle.wfe_core.specs.Phases.{MoveAt, Base, Ending, Outcome, Goes, Ends}
-use Rattle.wfe_core.specs.Phases.AllocateAt.{ClaimSlot}
-use Rattle.wfe_core.specs.Phases.MoveAt.{LoadEra, LoadRequest, ShowEra, LoadAsked, CheckEra, AnswerAsked, LoadReserved, HandOver, HideEra, HideLate, ExchangeClock}
-use Rattle.wfe_core.specs.Phases.Base.{Allocate, Retire, Move}
-use Rattle.wfe_core.specs.Phases.Ending.{Done, Protected, Followed, Allocated, Retired, Clocked}
-use Rattle.wfe_core.specs.Calls.{Task, Gets, Holds, Dequeues, Next, Again, MakeRoom, Answering, Retiring, AfterScan, Answered, Repeated, Counted, ScanAt, ReadGuard, GiveBack, Why, Opens, FollowsHead, Fills, ClearsNext, Clears, Finishes, GivesUp, Retires, Tidies, Advances, Releases, Phase, Idle, Runs, Scans, Works, CallOutcome, GoesOn, Answers, LetGo, Released, Rehold, Dropped}
+use Rattle.law_places.specs.inv.model.words.Packed.{reservation_word, read_reservation, read_request}
+use Rattle.law_places.specs.inv.model.defs.declared.call.Answer.{Answer}
+use Rattle.law_places.specs.inv.model.defs.declared.call.Answer.TheVariants as the_answers
+use Rattle.law_places.specs.inv.model.defs.declared.call.Call.{Call}
+use Rattle.law_places.specs.inv.model.defs.declared.call.Call.TheVariants as names
+use Rattle.law_places.specs.inv.model.defs.declared.call.ClockMove.{ClockMove}
+use Rattle.law_places.specs.inv.model.defs.declared.call.ClockMove.TheVariants as moves
+use Rattle.law_places.specs.inv.model.defs.declared.event.Event.{Event}
+use Rattle.law_places.specs.inv.model.defs.declared.event.Event.TheVariants as events
+use Rattle.law_places.specs.inv.model.defs.declared.event.Root.{Root}
+use Rattle.law_places.specs.inv.model.declared.post.Post.{Post}
+use Rattle.law_places.specs.inv.model.Allocate as allocates
+use Rattle.law_places.specs.inv.model.Desks.{Desk, with_life}
+use Rattle.law_places.specs.inv.model.Guards.{guards, guard_at, eras_in, published}
+use Rattle.law_places.specs.inv.model.Machine as machine
+use Rattle.law_places.specs.inv.model.Posts.{stands}
+use Rattle.law_places.specs.inv.model.Scan as scan
+use Rattle.law_places.specs.inv.model.Steps as steps
+use Rattle.law_places.specs.inv.model.Rounds.{scheme_of, begin_base, round, round_by, with_clock, let_index, letting, letting_by, release_base}
+use Rattle.law_places.specs.inv.model.Phases.{MoveAt, Base, Ending, Outcome, Goes, Ends}
+use Rattle.law_places.specs.inv.model.Phases.AllocateAt.{ClaimSlot}
+use Rattle.law_places.specs.inv.model.Phases.MoveAt.{LoadEra, LoadRequest, ShowEra, LoadAsked, CheckEra, AnswerAsked, LoadReserved, HandOver, HideEra, HideLate, ExchangeClock}
+use Rattle.law_places.specs.inv.model.Phases.Base.{Allocate, Retire, Move}
+use Rattle.law_places.specs.inv.model.Phases.Ending.{Done, Protected, Followed, Allocated, Retired, Clocked}
+use Rattle.law_places.specs.inv.model.Calls.{Task, Gets, Holds, Dequeues, Next, Again, MakeRoom, Answering, Retiring, AfterScan, Answered, Repeated, Counted, ScanAt, ReadGuard, GiveBack, Why, Opens, FollowsHead, Fills, ClearsNext, Clears, Finishes, GivesUp, Retires, Tidies, Advances, Releases, Phase, Idle, Runs, Scans, Works, CallOutcome, GoesOn, Answers, LetGo, Released, Rehold, Dropped}
 use Rattle.law_places.specs.inv.shapes.Seats.{Kind, ToRetire, kind_of, suits, retires}
-use Rattle.laws.proofs.Along.{along}
+use Rattle.law_places.proofs.laws.Along.{along}
 use Rattle.law_places.proofs.inv.history.Passes.{scan_told}
-use Rattle.wfe_core.specs.SlowPath.{asking}
-use Rattle.wfe_core.specs.MoveClock as movers
-use Rattle.wfe_core.specs.words.declared.packed.Request.{Request}
-use Rattle.wfe_core.specs.words.declared.packed.Request.TheVariants as requests
-use Rattle.wfe_core.proofs.Facts.{both, first_of, rest_of}
-use Rattle.laws.specs.HistoryAnswers.{ClockTally, outcome_fits, answer_fits}
+use Rattle.law_places.specs.inv.model.SlowPath.{asking}
+use Rattle.law_places.specs.inv.model.MoveClock as movers
+use Rattle.law_places.specs.inv.model.words.declared.packed.Request.{Request}
+use Rattle.law_places.specs.inv.model.words.declared.packed.Request.TheVariants as requests
+use Rattle.law_places.proofs.inv.model.Facts.{both, first_of, rest_of}
+use Rattle.law_places.specs.laws.HistoryAnswers.{ClockTally, outcome_fits, answer_fits}
 use Rattle.law_scans.specs.Outcomes.{clock_by}
 use Rattle.law_scans.proofs.ClockAnswers.Clocks.{is_plain, NextFits, WhyFits, PhaseFits, OutFits, move_due}
 use Rattle.law_scans.proofs.DueScans.Lands.{PhaseRight}

@@ -2,19 +2,19 @@
 use Rattle.std.proofs.Common.{ℕ, ◌≡◌, ◌<◌, Bool, true, false, List, [], ◌∷◌, ◌++◌, refl, sym, ap, ◌∙◌, subst, arith}
 use Rattle.std.proofs.lemmas.Bool.Decides.{nat_tests}
 use Rattle.std.specs.Prelude.{◌==◌}
-use Rattle.wfe_core.specs.words.Place.{is_valid}
-use Rattle.wfe_core.specs.words.declared.layout.Layout.{Layout}
-use Rattle.wfe_core.specs.defs.declared.call.Call.{Call}
-use Rattle.wfe_core.specs.defs.declared.event.Event.{Event}
-use Rattle.wfe_core.specs.defs.declared.event.Event.TheVariants as events
-use Rattle.wfe_core.specs.defs.declared.lifetime.Lifetime.{Lifetime}
-use Rattle.wfe_core.specs.declared.post.Post.{Post}
-use Rattle.wfe_core.specs.Calls.{Phase, Idle, Runs, Scans, Works, CallTurn, CallOutcome, GoesOn, Answers}
-use Rattle.wfe_core.specs.Guards.{guards}
-use Rattle.wfe_core.specs.Locals.{Local, begun, begun_post, told_end, turn, may_begin}
-use Rattle.wfe_core.specs.Posts.{counted}
-use Rattle.wfe_core.specs.World.{World, begin, step, finds, is_busy, told_in}
-use Rattle.wfe_core.proofs.Facts.{both, first_of, rest_of}
+use Rattle.law_places.specs.inv.model.words.Place.{is_valid}
+use Rattle.law_places.specs.inv.model.words.declared.layout.Layout.{Layout}
+use Rattle.law_places.specs.inv.model.defs.declared.call.Call.{Call}
+use Rattle.law_places.specs.inv.model.defs.declared.event.Event.{Event}
+use Rattle.law_places.specs.inv.model.defs.declared.event.Event.TheVariants as events
+use Rattle.law_places.specs.inv.model.defs.declared.lifetime.Lifetime.{Lifetime}
+use Rattle.law_places.specs.inv.model.declared.post.Post.{Post}
+use Rattle.law_places.specs.inv.model.Calls.{Phase, Idle, Runs, Scans, Works, CallTurn, CallOutcome, GoesOn, Answers}
+use Rattle.law_places.specs.inv.model.Guards.{guards}
+use Rattle.law_places.specs.inv.model.Locals.{Local, begun, begun_post, told_end, turn, may_begin}
+use Rattle.law_places.specs.inv.model.Posts.{counted}
+use Rattle.law_places.specs.inv.model.World.{World, begin, step, finds, is_busy, told_in}
+use Rattle.law_places.proofs.inv.model.Facts.{both, first_of, rest_of}
 use Rattle.law_places.proofs.inv.covers.Held.{stepped_phase, stepped_post}
 use Rattle.law_places.specs.inv.shapes.Frame.{phase_left}
 use Rattle.law_places.specs.inv.shapes.Seats.{scan_fits, PhaseFits as Shapes}
@@ -34,17 +34,17 @@ use Rattle.law_places.proofs.inv.history.Along.{Steady, items_keep}
 use Rattle.law_places.specs.inv.Known.{Known}
 use Rattle.law_places.proofs.inv.Inv.Begun.{known_start, known_begin}
 use Rattle.law_places.proofs.inv.Inv.Kept.{known_kept, asked_next}
-use Rattle.laws.proofs.Along.{along}
+use Rattle.law_places.proofs.laws.Along.{along}
 use Rattle.law_places.proofs.inv.history.AllOf.{all_of}
 use Rattle.law_places.proofs.answers.AnswersTold.Answering as answering
 use Rattle.law_places.proofs.answers.AnswersTold.Answering.{owes_of}
 use Rattle.law_places.proofs.answers.AnswersTold.Owed.{is_open, owed, Owes, append_none}
 use Rattle.law_places.proofs.Placing.Sums.{along_both}
-use Rattle.laws.proofs.Tells.{AllRight, each_tells, seen_own, seen_other, seen_tells, seen_stays}
-use Rattle.laws.specs.HistoryScans.{Course, Tally, first_course, no_tally, is_settled, scan_right}
+use Rattle.law_places.proofs.laws.Tells.{AllRight, each_tells, seen_own, seen_other, seen_tells, seen_stays}
+use Rattle.law_places.specs.laws.HistoryScans.{Course, Tally, first_course, no_tally, is_settled, scan_right}
 use Rattle.law_scans.specs.Scans.{tally_by}
 use Rattle.law_scans.specs.Scans.{tally_of}
-use Rattle.laws.specs.HistoryEras.{move_right}
+use Rattle.law_places.specs.laws.HistoryEras.{move_right}
 use Rattle.law_scans.specs.Records.{RecordsScanWhereDue, RecordsMoveWhereDue}
 use Rattle.law_scans.proofs.DueScans.Courses.{course_right, PhaseFits, OutFits, Lands}
 use Rattle.law_scans.proofs.DueScans.Lands.{PhaseRight, turn_lands, first_fits}

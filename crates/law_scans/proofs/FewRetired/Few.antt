@@ -1,21 +1,21 @@
 -- In the record of each history few rows are retired.
 use Rattle.std.proofs.Common.{ℕ, ◌≡◌, ◌≤◌, ◌<◌, ◌+◌, ◌*◌, true, List, [], refl, subst, arith}
 use Rattle.std.proofs.lemmas.Nat.{mul-le}
-use Rattle.wfe_core.specs.words.Place.{is_valid}
-use Rattle.wfe_core.specs.words.declared.layout.Layout.{Layout}
-use Rattle.wfe_core.proofs.Ranges.{bounds_of}
-use Rattle.wfe_core.specs.Valid as ranges
+use Rattle.law_places.specs.inv.model.words.Place.{is_valid}
+use Rattle.law_places.specs.inv.model.words.declared.layout.Layout.{Layout}
+use Rattle.law_places.proofs.inv.model.Ranges.{bounds_of}
+use Rattle.law_places.specs.inv.model.Valid as ranges
 use Rattle.law_places.proofs.inv.history.Entries.{each_of_entries, each_before}
-use Rattle.laws.specs.MapLaw.{map_ok}
-use Rattle.wfe_core.specs.defs.Entry.{Entry}
+use Rattle.law_places.specs.laws.MapLaw.{map_ok}
+use Rattle.law_places.specs.inv.model.defs.Entry.{Entry}
 use Rattle.law_places.specs.inv.history.Record.{Past, Each, tells}
 use Rattle.law_places.specs.inv.history.History.{Item, record_of}
 use Rattle.law_places.proofs.answers.Lawful.Maps.{records_keep_map}
-use Rattle.laws.specs.HistoryRows.{OrderLaw}
-use Rattle.laws.specs.Once.{order_ok, retiring_ok}
+use Rattle.law_places.specs.laws.HistoryRows.{OrderLaw}
+use Rattle.law_places.specs.laws.Once.{order_ok, retiring_ok}
 use Rattle.law_places.proofs.Placing.Keeps.{records_retire_cuts}
 use Rattle.law_places.proofs.Ordering.Ordered.{records_keep_order}
-use Rattle.laws.specs.StateAt.{told, is_retire, takes_out}
+use Rattle.law_places.specs.laws.StateAt.{told, is_retire, takes_out}
 use Rattle.law_scans.specs.Records.{RecordsRetireFew}
 use Rattle.law_scans.proofs.FewRetired.Cuts.{retired_taken}
 use Rattle.law_scans.proofs.FewRetired.Changes.{out_most}

@@ -2,29 +2,29 @@
 use Rattle.std.proofs.Common.{ℕ, ◌≡◌, Bool, true, false, List, [], ◌∷◌, ◌++◌, Option, Some, None, refl, ◌∙◌, subst}
 use Rattle.std.proofs.lemmas.Bool.{or_left, or_right}
 use Rattle.std.specs.Prelude.{◌==◌, ◌&&◌, ◌||◌, if◌then◌else◌, not}
-use Rattle.wfe_core.specs.words.Packed.{reservation_word}
-use Rattle.wfe_core.specs.words.declared.config.Config.{Config}
-use Rattle.wfe_core.specs.defs.declared.event.Event.{Event}
-use Rattle.wfe_core.specs.defs.declared.event.Event.TheVariants as events
-use Rattle.wfe_core.specs.defs.declared.event.Guard.TheVariants.{Helper, Index, Whole}
-use Rattle.wfe_core.specs.defs.declared.event.Root.{Root}
-use Rattle.wfe_core.specs.defs.declared.lifetime.Interval.{Interval}
-use Rattle.wfe_core.specs.declared.post.Post.{Post}
-use Rattle.wfe_core.specs.Guards.{one_era}
-use Rattle.wfe_core.specs.Machine as machine
-use Rattle.wfe_core.specs.Memory.{bump}
-use Rattle.wfe_core.specs.MoveClock as movers
-use Rattle.wfe_core.specs.Posts.{stands, cleared, reserves_index, reserves_helper, reserves_span}
-use Rattle.wfe_core.specs.Protect as protects
-use Rattle.wfe_core.specs.Rounds.{scheme_of, clear_told, index_of, let_index}
-use Rattle.wfe_core.specs.words.Schemes.{has_one_interval}
-use Rattle.wfe_core.specs.Phases.{Aim, ProtectAt, MoveAt, Base}
-use Rattle.wfe_core.specs.Phases.BeginAt.{PublishSpan}
-use Rattle.wfe_core.specs.Phases.ProtectAt.{PublishEra, PublishHelper, TakeAnswer, WithdrawHelper, RaiseUpper}
-use Rattle.wfe_core.specs.Phases.MoveAt.{ShowEra, HandOver, HideEra, HideLate}
-use Rattle.wfe_core.specs.Phases.Base.{Begin, Protect, Clear, Finish, Release, Move}
-use Rattle.wfe_core.specs.Calls.{Work, Getting, Changing, Enqueuing, Dequeuing, Keeping, Loosens, LoadHeld, StoreHeld, Looks, Misses, Task, Gets, Changes, Holds, Enqueues, Dequeues, AfterScan, Answered, Repeated, Counted, Why, Opens, FollowsHead, Fills, ClearsNext, Clears, Finishes, GivesUp, Retires, Tidies, Advances, Releases}
-use Rattle.wfe_core.proofs.Facts.{same_number, first_of, rest_of}
+use Rattle.law_scans.specs.inv.model.words.Packed.{reservation_word}
+use Rattle.law_scans.specs.inv.model.words.declared.config.Config.{Config}
+use Rattle.law_scans.specs.inv.model.defs.declared.event.Event.{Event}
+use Rattle.law_scans.specs.inv.model.defs.declared.event.Event.TheVariants as events
+use Rattle.law_scans.specs.inv.model.defs.declared.event.Guard.TheVariants.{Helper, Index, Whole}
+use Rattle.law_scans.specs.inv.model.defs.declared.event.Root.{Root}
+use Rattle.law_scans.specs.inv.model.defs.declared.lifetime.Interval.{Interval}
+use Rattle.law_scans.specs.inv.model.declared.post.Post.{Post}
+use Rattle.law_scans.specs.inv.model.Guards.{one_era}
+use Rattle.law_scans.specs.inv.model.Machine as machine
+use Rattle.law_scans.specs.inv.model.Memory.{bump}
+use Rattle.law_scans.specs.inv.model.MoveClock as movers
+use Rattle.law_scans.specs.inv.model.Posts.{stands, cleared, reserves_index, reserves_helper, reserves_span}
+use Rattle.law_scans.specs.inv.model.Protect as protects
+use Rattle.law_scans.specs.inv.model.Rounds.{scheme_of, clear_told, index_of, let_index}
+use Rattle.law_scans.specs.inv.model.words.Schemes.{has_one_interval}
+use Rattle.law_scans.specs.inv.model.Phases.{Aim, ProtectAt, MoveAt, Base}
+use Rattle.law_scans.specs.inv.model.Phases.BeginAt.{PublishSpan}
+use Rattle.law_scans.specs.inv.model.Phases.ProtectAt.{PublishEra, PublishHelper, TakeAnswer, WithdrawHelper, RaiseUpper}
+use Rattle.law_scans.specs.inv.model.Phases.MoveAt.{ShowEra, HandOver, HideEra, HideLate}
+use Rattle.law_scans.specs.inv.model.Phases.Base.{Begin, Protect, Clear, Finish, Release, Move}
+use Rattle.law_scans.specs.inv.model.Calls.{Work, Getting, Changing, Enqueuing, Dequeuing, Keeping, Loosens, LoadHeld, StoreHeld, Looks, Misses, Task, Gets, Changes, Holds, Enqueues, Dequeues, AfterScan, Answered, Repeated, Counted, Why, Opens, FollowsHead, Fills, ClearsNext, Clears, Finishes, GivesUp, Retires, Tidies, Advances, Releases}
+use Rattle.law_scans.proofs.inv.model.Facts.{same_number, first_of, rest_of}
 use Rattle.law_held.specs.turns.inv.shapes.Seats.{Shaped, kind_of, suits, index_by}
 use Rattle.law_held.specs.turns.inv.history.Record.{Past, Test, Each, tells_of}
 use Rattle.law_held.specs.turns.inv.history.Record.Past.{Then}
@@ -32,14 +32,14 @@ use Rattle.law_held.proofs.turns.inv.history.AllOf.{all_of, of_weaker}
 use Rattle.law_held.proofs.turns.inv.history.Passes.{Closed, copied_told, work_told}
 use Rattle.law_held.proofs.turns.Counting.Passing.{Apart}
 use Rattle.law_held.proofs.turns.inv.history.MayTell.{concluded_told, publishes, is_reserve, no_reserve, held_any}
-use Rattle.laws.specs.HistoryScans.{Course}
-use Rattle.laws.specs.HistoryEras.{may_move}
+use Rattle.law_scans.specs.laws.HistoryScans.{Course}
+use Rattle.law_scans.specs.laws.HistoryEras.{may_move}
 use Rattle.law_scans.specs.Scans.{tally_of}
 use Rattle.law_scans.proofs.DueScans.Courses as courses
-use Rattle.laws.specs.StateAt.{tried_of, shown_of}
+use Rattle.law_scans.specs.laws.StateAt.{tried_of, shown_of}
 use Rattle.law_held.proofs.turns.TurnCounts.Trying.{base_tried}
 use Rattle.law_held.proofs.turns.Withdrawals.Withdrawing.{is_mute, all_mute, quiet_mute, clear_mute, base_shows}
-use Rattle.laws.specs.HistorySteps.{failed_at, failed_once}
+use Rattle.law_scans.specs.laws.HistorySteps.{failed_at, failed_once}
 
 -- both laws at once
 abbrev pub asks_ok : Config → Test

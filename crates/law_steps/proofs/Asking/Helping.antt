@@ -2,26 +2,26 @@
 use Rattle.std.proofs.Common.{ℕ, ◌≡◌, ◌+◌, Bool, true, false, List, [], ◌∷◌, ◌++◌, Option, Some, None, refl, ap, subst, arith}
 use Rattle.std.proofs.lemmas.Bool.Decides.{nat_tests}
 use Rattle.std.specs.Prelude.{◌==◌, ◌&&◌, nat_le, if◌then◌else◌}
-use Rattle.wfe_core.specs.words.declared.config.Config.{Config}
-use Rattle.wfe_core.specs.words.declared.layout.Layout.{Layout}
-use Rattle.wfe_core.specs.defs.declared.event.Event.{Event}
-use Rattle.wfe_core.specs.defs.declared.event.Event.TheVariants as events
-use Rattle.wfe_core.specs.defs.declared.event.Guard.TheVariants.{Helper}
-use Rattle.wfe_core.specs.defs.declared.event.Root.{Root}
-use Rattle.wfe_core.specs.defs.declared.lifetime.Interval.{Interval}
-use Rattle.wfe_core.specs.declared.post.Post.{Post}
-use Rattle.wfe_core.specs.Guards.{one_era}
-use Rattle.wfe_core.specs.Machine as machine
-use Rattle.wfe_core.specs.Posts.{counted, reserves_helper}
-use Rattle.wfe_core.specs.Rounds.{scheme_of, clear_told}
-use Rattle.wfe_core.specs.World.{World, finds, told_in}
-use Rattle.wfe_core.specs.Phases.{Base}
-use Rattle.wfe_core.specs.Phases.ProtectAt.{PublishHelper}
-use Rattle.wfe_core.specs.Phases.MoveAt.{ShowEra}
-use Rattle.wfe_core.specs.Phases.Base.{Protect, Clear, Move}
-use Rattle.wfe_core.specs.Calls.{Work, Why, Opens, FollowsHead, Fills, ClearsNext, Clears, Finishes, GivesUp, Retires, Tidies, Advances, Releases, ReadGuard, GiveBack, Phase, Idle, Runs, Scans, Works}
-use Rattle.wfe_core.proofs.Facts.{same_number, both, first_of, rest_of}
-use Rattle.wfe_core.specs.words.Schemes.{is_wfe}
+use Rattle.law_scans.specs.inv.model.words.declared.config.Config.{Config}
+use Rattle.law_scans.specs.inv.model.words.declared.layout.Layout.{Layout}
+use Rattle.law_scans.specs.inv.model.defs.declared.event.Event.{Event}
+use Rattle.law_scans.specs.inv.model.defs.declared.event.Event.TheVariants as events
+use Rattle.law_scans.specs.inv.model.defs.declared.event.Guard.TheVariants.{Helper}
+use Rattle.law_scans.specs.inv.model.defs.declared.event.Root.{Root}
+use Rattle.law_scans.specs.inv.model.defs.declared.lifetime.Interval.{Interval}
+use Rattle.law_scans.specs.inv.model.declared.post.Post.{Post}
+use Rattle.law_scans.specs.inv.model.Guards.{one_era}
+use Rattle.law_scans.specs.inv.model.Machine as machine
+use Rattle.law_scans.specs.inv.model.Posts.{counted, reserves_helper}
+use Rattle.law_scans.specs.inv.model.Rounds.{scheme_of, clear_told}
+use Rattle.law_scans.specs.inv.model.World.{World, finds, told_in}
+use Rattle.law_scans.specs.inv.model.Phases.{Base}
+use Rattle.law_scans.specs.inv.model.Phases.ProtectAt.{PublishHelper}
+use Rattle.law_scans.specs.inv.model.Phases.MoveAt.{ShowEra}
+use Rattle.law_scans.specs.inv.model.Phases.Base.{Protect, Clear, Move}
+use Rattle.law_scans.specs.inv.model.Calls.{Work, Why, Opens, FollowsHead, Fills, ClearsNext, Clears, Finishes, GivesUp, Retires, Tidies, Advances, Releases, ReadGuard, GiveBack, Phase, Idle, Runs, Scans, Works}
+use Rattle.law_scans.proofs.inv.model.Facts.{same_number, both, first_of, rest_of}
+use Rattle.law_scans.specs.inv.model.words.Schemes.{is_wfe}
 use Rattle.law_held.specs.turns.inv.shapes.Seats.{PhaseFits, kind_of, suits}
 use Rattle.law_held.specs.turns.inv.history.Record.{Past, Each, tells_of}
 use Rattle.law_held.specs.turns.inv.history.Record.Past.{Then}
@@ -35,9 +35,9 @@ use Rattle.law_held.proofs.turns.answers.Turns.Counted.{histories_count}
 use Rattle.law_held.proofs.turns.inv.history.Passes.{Closed, First, step_goes, work_told}
 use Rattle.law_held.proofs.turns.inv.history.MayTell.{work_all}
 use Rattle.law_held.proofs.turns.answers.OneStep.Along.{Around, Kept, history_keeps}
-use Rattle.laws.specs.HistoryTurns.{turns_since}
-use Rattle.laws.specs.StateAt.{tried_by, tried_of, last_of}
-use Rattle.laws.specs.HistorySteps.{tried_enough, helper_ok}
+use Rattle.law_scans.specs.laws.HistoryTurns.{turns_since}
+use Rattle.law_scans.specs.laws.StateAt.{tried_by, tried_of, last_of}
+use Rattle.law_scans.specs.laws.HistorySteps.{tried_enough, helper_ok}
 use Rattle.law_steps.specs.Records.{RecordsKeepHelpers}
 use Rattle.law_held.proofs.turns.Withdrawals.Withdrawing.{is_mute, all_mute, quiet_mute, clear_mute, is_plain, all_plain, base_plain}
 use Rattle.law_held.proofs.turns.TurnCounts.Trying.{base_tried}

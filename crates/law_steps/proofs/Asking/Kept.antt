@@ -1,20 +1,20 @@
 -- The record of each history keeps the laws on where helper words show eras.
 use Rattle.std.proofs.Common.{ℕ, ◌≡◌, ◌<◌, true, List, ◌∷◌, Some, None, refl, sym, subst}
 use Rattle.std.specs.Prelude.{◌||◌}
-use Rattle.wfe_core.specs.words.Place.{is_valid}
-use Rattle.wfe_core.specs.words.declared.config.Config.{Config}
-use Rattle.wfe_core.specs.words.declared.layout.Layout.{Layout}
-use Rattle.wfe_core.specs.defs.declared.event.Event.{Event}
-use Rattle.wfe_core.specs.defs.declared.event.Event.TheVariants as events
-use Rattle.wfe_core.specs.defs.declared.event.Guard.TheVariants.{Helper, Index, Whole}
-use Rattle.wfe_core.specs.declared.post.Post.{Post}
-use Rattle.wfe_core.specs.Calls.{Why, Opens, FollowsHead, Fills, ClearsNext, Clears, Finishes, GivesUp, Retires, Tidies, Advances, Releases, ReadGuard, GiveBack, Phase, Idle, Runs, Scans, Works}
-use Rattle.wfe_core.specs.Guards.{guards}
-use Rattle.wfe_core.specs.Phases.{Base}
-use Rattle.wfe_core.specs.Phases.Base.{Protect}
-use Rattle.wfe_core.specs.Posts.{counted}
-use Rattle.wfe_core.specs.World.{World, finds, told_in}
-use Rattle.wfe_core.specs.words.Schemes.{is_wfe}
+use Rattle.law_scans.specs.inv.model.words.Place.{is_valid}
+use Rattle.law_scans.specs.inv.model.words.declared.config.Config.{Config}
+use Rattle.law_scans.specs.inv.model.words.declared.layout.Layout.{Layout}
+use Rattle.law_scans.specs.inv.model.defs.declared.event.Event.{Event}
+use Rattle.law_scans.specs.inv.model.defs.declared.event.Event.TheVariants as events
+use Rattle.law_scans.specs.inv.model.defs.declared.event.Guard.TheVariants.{Helper, Index, Whole}
+use Rattle.law_scans.specs.inv.model.declared.post.Post.{Post}
+use Rattle.law_scans.specs.inv.model.Calls.{Why, Opens, FollowsHead, Fills, ClearsNext, Clears, Finishes, GivesUp, Retires, Tidies, Advances, Releases, ReadGuard, GiveBack, Phase, Idle, Runs, Scans, Works}
+use Rattle.law_scans.specs.inv.model.Guards.{guards}
+use Rattle.law_scans.specs.inv.model.Phases.{Base}
+use Rattle.law_scans.specs.inv.model.Phases.Base.{Protect}
+use Rattle.law_scans.specs.inv.model.Posts.{counted}
+use Rattle.law_scans.specs.inv.model.World.{World, finds, told_in}
+use Rattle.law_scans.specs.inv.model.words.Schemes.{is_wfe}
 use Rattle.law_held.specs.turns.inv.shapes.Seats.{kind_of, suits}
 use Rattle.law_held.specs.turns.inv.shapes.Seats as seats
 use Rattle.law_held.specs.turns.inv.history.Record.{Past, Each, EachEntry}
@@ -28,20 +28,20 @@ use Rattle.law_held.proofs.turns.answers.Turns.Counted.{histories_count}
 use Rattle.law_held.proofs.turns.inv.history.Passes.{First, step_goes}
 use Rattle.law_held.proofs.turns.answers.OneStep.Along.{Around, Kept, history_keeps}
 use Rattle.law_held.proofs.turns.Counting.Passing.{Apart}
-use Rattle.laws.specs.HistoryTurns.{turns_since}
-use Rattle.laws.specs.HistoryScans.{Tally, plain_tally}
-use Rattle.laws.specs.HistoryEras.{may_move}
+use Rattle.law_scans.specs.laws.HistoryTurns.{turns_since}
+use Rattle.law_scans.specs.laws.HistoryScans.{Tally, plain_tally}
+use Rattle.law_scans.specs.laws.HistoryEras.{may_move}
 use Rattle.law_scans.specs.Scans.{tally_of}
 use Rattle.law_scans.proofs.DueScans.Courses as courses
 use Rattle.law_scans.proofs.DueScans.Keeps as scans
 use Rattle.law_scans.proofs.FewRetired.Plain.{records_count_plainly}
-use Rattle.laws.specs.StateAt.{tried_of, last_of, shown_of}
+use Rattle.law_scans.specs.laws.StateAt.{tried_of, last_of, shown_of}
 use Rattle.law_held.proofs.turns.TurnCounts.Lasting.{base_apart}
 use Rattle.law_held.proofs.turns.TurnCounts.Tried.{why_tried, phase_tried}
 use Rattle.law_held.proofs.turns.TurnCounts.Underway as underway
 use Rattle.law_held.proofs.turns.TurnCounts.Underway.{Lasts}
 use Rattle.law_held.proofs.turns.Withdrawals.Withdrawing.{phase_shows}
-use Rattle.laws.specs.HistorySteps.{failed_once, shows_ok, takes_ok}
+use Rattle.law_scans.specs.laws.HistorySteps.{failed_once, shows_ok, takes_ok}
 use Rattle.law_steps.specs.Records.{RecordsShowLate, RecordsTakeLate}
 use Rattle.law_steps.proofs.Asking.Asking.{work_asks, Asks, asks_ok, asks_closed, Tries, base_asks, move_course, told_each}
 

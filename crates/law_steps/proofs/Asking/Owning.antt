@@ -1,31 +1,31 @@
 -- A protection asks for help only once the eras of its own tries have risen.
 use Rattle.std.proofs.Common.{ℕ, ◌≡◌, ◌≤◌, ◌+◌, Bool, true, false, List, [], ◌∷◌, ◌++◌, Option, Some, None, refl, sym, ap, ◌∙◌, subst}
 use Rattle.std.specs.Prelude.{◌==◌, ◌&&◌, ◌||◌, nat_le, if◌then◌else◌}
-use Rattle.wfe_core.specs.words.Place.Place.{Clock}
-use Rattle.wfe_core.specs.words.Schemes.{is_ibr, is_wfe}
-use Rattle.wfe_core.specs.words.declared.config.Config.{Config}
-use Rattle.wfe_core.specs.words.declared.layout.Layout.{Layout}
-use Rattle.wfe_core.specs.defs.declared.call.Call.{Call}
-use Rattle.wfe_core.specs.defs.declared.event.Event.{Event}
-use Rattle.wfe_core.specs.defs.declared.event.Event.TheVariants as events
-use Rattle.wfe_core.specs.defs.declared.event.Guard.TheVariants.{Helper}
-use Rattle.wfe_core.specs.defs.declared.lifetime.Interval.{Interval}
-use Rattle.wfe_core.specs.declared.post.Post.{Post}
-use Rattle.wfe_core.specs.Calls.{ReadGuard, GiveBack, Why, Phase, Idle, Runs, Scans, Works}
-use Rattle.wfe_core.specs.Guards.{one_era}
-use Rattle.wfe_core.specs.Locals.{Local, begun_post}
-use Rattle.wfe_core.specs.Machine as machine
-use Rattle.wfe_core.specs.Memory.{found, place_in}
-use Rattle.wfe_core.specs.Phases.{Base, Outcome, Goes, Ends}
-use Rattle.wfe_core.specs.Phases.ProtectAt.{LoadClock, PublishEra, CheckClock, PublishHelper}
-use Rattle.wfe_core.specs.Phases.MoveAt.{ShowEra}
-use Rattle.wfe_core.specs.Phases.Base.{Protect, Move}
-use Rattle.wfe_core.specs.Posts.{counted, reserves_helper}
-use Rattle.wfe_core.specs.Rounds.{scheme_of, clear_told}
-use Rattle.wfe_core.specs.Steps as steps
-use Rattle.wfe_core.specs.Steps.{phase_move}
-use Rattle.wfe_core.specs.World.{World, begin, step, finds, told_in}
-use Rattle.wfe_core.proofs.Facts.{both, first_of, rest_of, number_is, same_number}
+use Rattle.law_scans.specs.inv.model.words.Place.Place.{Clock}
+use Rattle.law_scans.specs.inv.model.words.Schemes.{is_ibr, is_wfe}
+use Rattle.law_scans.specs.inv.model.words.declared.config.Config.{Config}
+use Rattle.law_scans.specs.inv.model.words.declared.layout.Layout.{Layout}
+use Rattle.law_scans.specs.inv.model.defs.declared.call.Call.{Call}
+use Rattle.law_scans.specs.inv.model.defs.declared.event.Event.{Event}
+use Rattle.law_scans.specs.inv.model.defs.declared.event.Event.TheVariants as events
+use Rattle.law_scans.specs.inv.model.defs.declared.event.Guard.TheVariants.{Helper}
+use Rattle.law_scans.specs.inv.model.defs.declared.lifetime.Interval.{Interval}
+use Rattle.law_scans.specs.inv.model.declared.post.Post.{Post}
+use Rattle.law_scans.specs.inv.model.Calls.{ReadGuard, GiveBack, Why, Phase, Idle, Runs, Scans, Works}
+use Rattle.law_scans.specs.inv.model.Guards.{one_era}
+use Rattle.law_scans.specs.inv.model.Locals.{Local, begun_post}
+use Rattle.law_scans.specs.inv.model.Machine as machine
+use Rattle.law_scans.specs.inv.model.Memory.{found, place_in}
+use Rattle.law_scans.specs.inv.model.Phases.{Base, Outcome, Goes, Ends}
+use Rattle.law_scans.specs.inv.model.Phases.ProtectAt.{LoadClock, PublishEra, CheckClock, PublishHelper}
+use Rattle.law_scans.specs.inv.model.Phases.MoveAt.{ShowEra}
+use Rattle.law_scans.specs.inv.model.Phases.Base.{Protect, Move}
+use Rattle.law_scans.specs.inv.model.Posts.{counted, reserves_helper}
+use Rattle.law_scans.specs.inv.model.Rounds.{scheme_of, clear_told}
+use Rattle.law_scans.specs.inv.model.Steps as steps
+use Rattle.law_scans.specs.inv.model.Steps.{phase_move}
+use Rattle.law_scans.specs.inv.model.World.{World, begin, step, finds, told_in}
+use Rattle.law_scans.proofs.inv.model.Facts.{both, first_of, rest_of, number_is, same_number}
 use Rattle.law_held.specs.turns.inv.shapes.Eras.{Eras}
 use Rattle.law_held.specs.turns.inv.shapes.Seats.{PhaseFits, Run, kind_of, suits}
 use Rattle.law_held.specs.turns.inv.history.History as histories
@@ -49,11 +49,11 @@ use Rattle.law_held.proofs.turns.TurnCounts.Underway as underway
 use Rattle.law_held.proofs.turns.TurnCounts.Underway.{Lasts}
 use Rattle.law_held.proofs.turns.Withdrawals.Leaving.{Leads, Left, first_new, stepped_leads, tries_none}
 use Rattle.law_held.proofs.turns.Withdrawals.Withdrawing.{all_plain, base_plain, clear_mute, is_plain, quiet_mute}
-use Rattle.laws.specs.HistorySteps.{asks_ok}
-use Rattle.laws.specs.StateAt.{own_last_by, own_last_of, own_rising_by, own_rising_of}
-use Rattle.laws.specs.HistoryTurns.{turns_since}
-use Rattle.laws.specs.StateAt.{last_of, tried_of}
-use Rattle.laws.specs.HistorySteps.{helper_ok, tried_enough}
+use Rattle.law_scans.specs.laws.HistorySteps.{asks_ok}
+use Rattle.law_scans.specs.laws.StateAt.{own_last_by, own_last_of, own_rising_by, own_rising_of}
+use Rattle.law_scans.specs.laws.HistoryTurns.{turns_since}
+use Rattle.law_scans.specs.laws.StateAt.{last_of, tried_of}
+use Rattle.law_scans.specs.laws.HistorySteps.{helper_ok, tried_enough}
 use Rattle.law_steps.specs.Records.{RecordsAskLate}
 use Rattle.law_steps.proofs.Asking.Helping.{mute_plain, other_why, records_keep_helpers, work_plain}
 use Rattle.law_steps.proofs.Asking.Owns.{Begun, Comes, Leaves, Out, OwnEra, base_leaves, base_own, comes_along, fresh_of, last_told, new_own, phase_own, rise_told}

@@ -2,42 +2,42 @@
 use Rattle.std.proofs.Common.{ℕ, ◌≡◌, ◌≤◌, ◌+◌, Bool, true, false, List, [], ◌∷◌, ◌++◌, Option, Some, None, refl, sym, ◌∙◌, subst, arith}
 use Rattle.std.proofs.lemmas.Bool.Decides.{nat_tests}
 use Rattle.std.specs.Prelude.{◌==◌, ◌&&◌, nat_le, nat_lt, if◌then◌else◌}
-use Rattle.wfe_core.specs.words.Packed.{read_request, read_reservation, reservation_word}
-use Rattle.wfe_core.specs.words.declared.config.Config.{Config}
-use Rattle.wfe_core.specs.words.declared.packed.Request.{Request}
-use Rattle.wfe_core.specs.words.declared.packed.Request.TheVariants as requests
-use Rattle.wfe_core.specs.defs.declared.event.Event.{Event}
-use Rattle.wfe_core.specs.defs.declared.event.Event.TheVariants as events
-use Rattle.wfe_core.specs.defs.declared.event.Guard.TheVariants.{Index}
-use Rattle.wfe_core.specs.defs.declared.event.Root.{Root}
-use Rattle.wfe_core.specs.defs.declared.lifetime.Interval.{Interval}
-use Rattle.wfe_core.specs.declared.post.Post.{Post}
-use Rattle.wfe_core.specs.Allocate as allocates
-use Rattle.wfe_core.specs.Calls.{Phase, Idle, Runs, Scans, Works}
-use Rattle.wfe_core.specs.Guards.{one_era}
-use Rattle.wfe_core.specs.Machine as machine
-use Rattle.wfe_core.specs.Memory.{bump}
-use Rattle.wfe_core.specs.MoveClock as movers
-use Rattle.wfe_core.specs.Phases.{Aim, Alone, Follows, Tries, Endless, Failed, ProtectAt, MoveAt, Walk, Base, Turn, Outcome, Goes, Ends}
-use Rattle.wfe_core.specs.Phases.BeginAt.{LoadLower}
-use Rattle.wfe_core.specs.Phases.ProtectAt.{LoadClock, PublishEra, LoadLink, CheckClock, PublishRequest, LoadOwnClock, PublishHelper, LoadOwnLink, CheckOwnClock, AnswerOwn, LoadAnswer, TakeAnswer, WithdrawRequest, WithdrawHelper, LoadWithin, CheckUpper, RaiseUpper}
-use Rattle.wfe_core.specs.Phases.AllocateAt.{ClaimSlot}
-use Rattle.wfe_core.specs.Phases.RetireAt.{LoadLife}
-use Rattle.wfe_core.specs.Phases.MoveAt.{LoadEra, CheckEra, AnswerAsked, LoadReserved, HandOver, ExchangeClock}
-use Rattle.wfe_core.specs.Phases.Base.{Begin, Protect, Reload, Allocate, Write, Retire, Move}
-use Rattle.wfe_core.specs.Posts.{upper, reserves_helper, reserves_index}
-use Rattle.wfe_core.specs.Protect as protects
-use Rattle.wfe_core.specs.SlowPath as slow
-use Rattle.wfe_core.specs.WriteRow.{last_written}
-use Rattle.wfe_core.proofs.Facts.{both, first_of, rest_of, same_number}
+use Rattle.law_scans.specs.inv.model.words.Packed.{read_request, read_reservation, reservation_word}
+use Rattle.law_scans.specs.inv.model.words.declared.config.Config.{Config}
+use Rattle.law_scans.specs.inv.model.words.declared.packed.Request.{Request}
+use Rattle.law_scans.specs.inv.model.words.declared.packed.Request.TheVariants as requests
+use Rattle.law_scans.specs.inv.model.defs.declared.event.Event.{Event}
+use Rattle.law_scans.specs.inv.model.defs.declared.event.Event.TheVariants as events
+use Rattle.law_scans.specs.inv.model.defs.declared.event.Guard.TheVariants.{Index}
+use Rattle.law_scans.specs.inv.model.defs.declared.event.Root.{Root}
+use Rattle.law_scans.specs.inv.model.defs.declared.lifetime.Interval.{Interval}
+use Rattle.law_scans.specs.inv.model.declared.post.Post.{Post}
+use Rattle.law_scans.specs.inv.model.Allocate as allocates
+use Rattle.law_scans.specs.inv.model.Calls.{Phase, Idle, Runs, Scans, Works}
+use Rattle.law_scans.specs.inv.model.Guards.{one_era}
+use Rattle.law_scans.specs.inv.model.Machine as machine
+use Rattle.law_scans.specs.inv.model.Memory.{bump}
+use Rattle.law_scans.specs.inv.model.MoveClock as movers
+use Rattle.law_scans.specs.inv.model.Phases.{Aim, Alone, Follows, Tries, Endless, Failed, ProtectAt, MoveAt, Walk, Base, Turn, Outcome, Goes, Ends}
+use Rattle.law_scans.specs.inv.model.Phases.BeginAt.{LoadLower}
+use Rattle.law_scans.specs.inv.model.Phases.ProtectAt.{LoadClock, PublishEra, LoadLink, CheckClock, PublishRequest, LoadOwnClock, PublishHelper, LoadOwnLink, CheckOwnClock, AnswerOwn, LoadAnswer, TakeAnswer, WithdrawRequest, WithdrawHelper, LoadWithin, CheckUpper, RaiseUpper}
+use Rattle.law_scans.specs.inv.model.Phases.AllocateAt.{ClaimSlot}
+use Rattle.law_scans.specs.inv.model.Phases.RetireAt.{LoadLife}
+use Rattle.law_scans.specs.inv.model.Phases.MoveAt.{LoadEra, CheckEra, AnswerAsked, LoadReserved, HandOver, ExchangeClock}
+use Rattle.law_scans.specs.inv.model.Phases.Base.{Begin, Protect, Reload, Allocate, Write, Retire, Move}
+use Rattle.law_scans.specs.inv.model.Posts.{upper, reserves_helper, reserves_index}
+use Rattle.law_scans.specs.inv.model.Protect as protects
+use Rattle.law_scans.specs.inv.model.SlowPath as slow
+use Rattle.law_scans.specs.inv.model.WriteRow.{last_written}
+use Rattle.law_scans.proofs.inv.model.Facts.{both, first_of, rest_of, same_number}
 use Rattle.law_held.specs.turns.inv.history.Record.{Past}
 use Rattle.law_held.specs.turns.inv.history.Record.Past.{Start, Then}
 use Rattle.law_held.proofs.turns.Withdrawals.Leaving.{is_first, is_new}
 use Rattle.law_held.proofs.turns.Withdrawals.Withdrawing.{is_mute, all_mute}
-use Rattle.laws.specs.StateAt.{own_last_by, own_last_of, own_rising_by, own_rising_of}
-use Rattle.laws.specs.StateAt.{is_index_word, one_more, tried_by, tried_of}
-use Rattle.laws.specs.StateAt.{era_grows}
-use Rattle.laws.specs.StateAt.{rises_on}
+use Rattle.law_scans.specs.laws.StateAt.{own_last_by, own_last_of, own_rising_by, own_rising_of}
+use Rattle.law_scans.specs.laws.StateAt.{is_index_word, one_more, tried_by, tried_of}
+use Rattle.law_scans.specs.laws.StateAt.{era_grows}
+use Rattle.law_scans.specs.laws.StateAt.{rises_on}
 
 -- along what a step tells
 abbrev pub last_told : (seat index : ℕ) → List Event → Option Interval → Option Interval

@@ -2,30 +2,30 @@
 use Rattle.std.proofs.Common.{ℕ, ◌≡◌, ◌≤◌, ◌<◌, ap, ◌+◌, Bool, true, false, List, [], ◌∷◌, Option, Some, None, refl, sym, ◌∙◌, subst, arith}
 use Rattle.std.proofs.lemmas.Bool.Decides.{nat_tests}
 use Rattle.std.specs.Prelude.{◌==◌, ◌&&◌, ◌||◌, ◌*◌, not, is_some, nat_le, nat_lt, if◌then◌else◌}
-use Rattle.wfe_core.specs.words.declared.config.Config.{Config}
-use Rattle.wfe_core.specs.defs.declared.call.Call.{Call}
-use Rattle.wfe_core.specs.defs.declared.call.Call.TheVariants as calls
-use Rattle.wfe_core.specs.defs.declared.event.Event.{Event}
-use Rattle.wfe_core.specs.defs.declared.event.Event.TheVariants as events
-use Rattle.wfe_core.specs.declared.post.Post.{Post}
-use Rattle.wfe_core.specs.Desks.{Desk}
-use Rattle.wfe_core.specs.Guards.{guards, guard_at, eras_in, published}
-use Rattle.wfe_core.specs.Rest.{move_left}
-use Rattle.wfe_core.specs.Rounds.{helps, scheme_of}
-use Rattle.wfe_core.specs.Keep as keeps
-use Rattle.wfe_core.specs.Posts.{reserves_index, stands}
-use Rattle.wfe_core.specs.Scan as scans
-use Rattle.wfe_core.specs.Steps as steps
-use Rattle.wfe_core.specs.Phases.{Alone, MoveAt, Base}
-use Rattle.wfe_core.specs.Phases.MoveAt.{LoadEra, ExchangeClock}
-use Rattle.wfe_core.specs.Phases.Base.{Protect, Clear, Release, Move}
-use Rattle.wfe_core.specs.Calls.{Gets, Holds, Answering, Counted, Opens, Clears, Advances, Releases, Released, Rehold, Dropped, KeepAt, Loosens, LoadHeld, StoreHeld, Looks, Misses, Keeping, ScanAt, ReadGuard, GiveBack, GetAt, FindVersion, FindCount, FindKey, FindValue, Getting, Phase, Runs, Scans, Works, CallOutcome, GoesOn, Answers}
-use Rattle.wfe_core.proofs.Facts.{both}
-use Rattle.wfe_core.specs.words.Schemes.{has_one_interval, is_wfe}
+use Rattle.law_scans.specs.inv.model.words.declared.config.Config.{Config}
+use Rattle.law_scans.specs.inv.model.defs.declared.call.Call.{Call}
+use Rattle.law_scans.specs.inv.model.defs.declared.call.Call.TheVariants as calls
+use Rattle.law_scans.specs.inv.model.defs.declared.event.Event.{Event}
+use Rattle.law_scans.specs.inv.model.defs.declared.event.Event.TheVariants as events
+use Rattle.law_scans.specs.inv.model.declared.post.Post.{Post}
+use Rattle.law_scans.specs.inv.model.Desks.{Desk}
+use Rattle.law_scans.specs.inv.model.Guards.{guards, guard_at, eras_in, published}
+use Rattle.law_scans.specs.inv.model.Rest.{move_left}
+use Rattle.law_scans.specs.inv.model.Rounds.{helps, scheme_of}
+use Rattle.law_scans.specs.inv.model.Keep as keeps
+use Rattle.law_scans.specs.inv.model.Posts.{reserves_index, stands}
+use Rattle.law_scans.specs.inv.model.Scan as scans
+use Rattle.law_scans.specs.inv.model.Steps as steps
+use Rattle.law_scans.specs.inv.model.Phases.{Alone, MoveAt, Base}
+use Rattle.law_scans.specs.inv.model.Phases.MoveAt.{LoadEra, ExchangeClock}
+use Rattle.law_scans.specs.inv.model.Phases.Base.{Protect, Clear, Release, Move}
+use Rattle.law_scans.specs.inv.model.Calls.{Gets, Holds, Answering, Counted, Opens, Clears, Advances, Releases, Released, Rehold, Dropped, KeepAt, Loosens, LoadHeld, StoreHeld, Looks, Misses, Keeping, ScanAt, ReadGuard, GiveBack, GetAt, FindVersion, FindCount, FindKey, FindValue, Getting, Phase, Runs, Scans, Works, CallOutcome, GoesOn, Answers}
+use Rattle.law_scans.proofs.inv.model.Facts.{both}
+use Rattle.law_scans.specs.inv.model.words.Schemes.{has_one_interval, is_wfe}
 use Rattle.law_held.specs.turns.inv.shapes.Frame.{KeepFits}
 use Rattle.law_held.specs.turns.inv.shapes.Slots.{GetIn, KeepIn}
 use Rattle.law_held.specs.turns.inv.shapes.Seats.{Kind, suits}
-use Rattle.laws.specs.HistorySteps.{steps_right}
+use Rattle.law_scans.specs.laws.HistorySteps.{steps_right}
 
 -- the only phase of a release
 abbrev pub at_release : Phase → Bool

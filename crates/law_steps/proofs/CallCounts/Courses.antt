@@ -2,39 +2,39 @@
 use Rattle.std.proofs.Common.{ℕ, ◌≡◌, ◌≤◌, ◌<◌, ◌+◌, ◌^◌, Bool, true, false, List, [], ◌∷◌, ◌++◌, Option, Some, None, refl, sym, ◌∙◌, subst, arith}
 use Rattle.std.proofs.lemmas.Bool.Decides.{nat_tests}
 use Rattle.std.specs.Prelude.{◌==◌, ◌||◌, ◌*◌, not, nat_le, nat_lt, if◌then◌else◌}
-use Rattle.wfe_core.specs.words.declared.config.Config.{Config}
-use Rattle.wfe_core.specs.words.declared.config.SchemeKind.{SchemeKind}
-use Rattle.wfe_core.specs.words.declared.config.SchemeKind.TheVariants.{He, Ibr, Wfe}
-use Rattle.wfe_core.specs.defs.declared.call.Answer.{Answer}
-use Rattle.wfe_core.specs.defs.declared.call.Answer.TheVariants as the_answers
-use Rattle.wfe_core.specs.defs.declared.call.Call.TheVariants as calls
-use Rattle.wfe_core.specs.defs.declared.event.Event.{Event}
-use Rattle.wfe_core.specs.defs.declared.event.Event.TheVariants as events
-use Rattle.wfe_core.specs.defs.declared.event.Root.{Root}
-use Rattle.wfe_core.specs.declared.ends.ProtectEnd.TheVariants as protect_ends
-use Rattle.wfe_core.specs.declared.post.Post.{Post}
-use Rattle.wfe_core.specs.Desks.{Desk}
-use Rattle.wfe_core.specs.Get as gets
-use Rattle.wfe_core.specs.Machine as machine
-use Rattle.wfe_core.specs.Memory.{bump}
-use Rattle.wfe_core.specs.Posts.{upper}
-use Rattle.wfe_core.specs.Rest.{move_left}
-use Rattle.wfe_core.specs.Rounds.{scheme_of, bucket_of, index_of, root_of, clearing, finishing, round}
-use Rattle.wfe_core.specs.SlowPath as slow
-use Rattle.wfe_core.specs.Steps as steps
-use Rattle.wfe_core.specs.Phases.{Aim, Alone, Follows, Failed, ProtectAt, MoveAt, Base, Turn, Outcome, Goes, Ends}
-use Rattle.wfe_core.specs.Phases.ProtectAt.{LoadClock, CheckClock, CheckOwnClock, AnswerOwn, WithdrawHelper, CheckUpper}
-use Rattle.wfe_core.specs.Phases.MoveAt.{LoadEra, ExchangeClock}
-use Rattle.wfe_core.specs.Phases.Base.{Protect, Clear, Release, Move}
-use Rattle.wfe_core.specs.Phases.Ending.{Protected, Clocked}
-use Rattle.wfe_core.specs.Calls.{Task, Gets, Holds, Next, Answering, Why, Opens, Clears, Advances, Releases, Rehold, GetAt, FindVersion, FindCount, FindKey, FindValue, Getting, Phase, Runs, Works, CallOutcome, GoesOn, Answers}
-use Rattle.wfe_core.specs.words.Schemes.{is_wfe}
+use Rattle.law_scans.specs.inv.model.words.declared.config.Config.{Config}
+use Rattle.law_scans.specs.inv.model.words.declared.config.SchemeKind.{SchemeKind}
+use Rattle.law_scans.specs.inv.model.words.declared.config.SchemeKind.TheVariants.{He, Ibr, Wfe}
+use Rattle.law_scans.specs.inv.model.defs.declared.call.Answer.{Answer}
+use Rattle.law_scans.specs.inv.model.defs.declared.call.Answer.TheVariants as the_answers
+use Rattle.law_scans.specs.inv.model.defs.declared.call.Call.TheVariants as calls
+use Rattle.law_scans.specs.inv.model.defs.declared.event.Event.{Event}
+use Rattle.law_scans.specs.inv.model.defs.declared.event.Event.TheVariants as events
+use Rattle.law_scans.specs.inv.model.defs.declared.event.Root.{Root}
+use Rattle.law_scans.specs.inv.model.declared.ends.ProtectEnd.TheVariants as protect_ends
+use Rattle.law_scans.specs.inv.model.declared.post.Post.{Post}
+use Rattle.law_scans.specs.inv.model.Desks.{Desk}
+use Rattle.law_scans.specs.inv.model.Get as gets
+use Rattle.law_scans.specs.inv.model.Machine as machine
+use Rattle.law_scans.specs.inv.model.Memory.{bump}
+use Rattle.law_scans.specs.inv.model.Posts.{upper}
+use Rattle.law_scans.specs.inv.model.Rest.{move_left}
+use Rattle.law_scans.specs.inv.model.Rounds.{scheme_of, bucket_of, index_of, root_of, clearing, finishing, round}
+use Rattle.law_scans.specs.inv.model.SlowPath as slow
+use Rattle.law_scans.specs.inv.model.Steps as steps
+use Rattle.law_scans.specs.inv.model.Phases.{Aim, Alone, Follows, Failed, ProtectAt, MoveAt, Base, Turn, Outcome, Goes, Ends}
+use Rattle.law_scans.specs.inv.model.Phases.ProtectAt.{LoadClock, CheckClock, CheckOwnClock, AnswerOwn, WithdrawHelper, CheckUpper}
+use Rattle.law_scans.specs.inv.model.Phases.MoveAt.{LoadEra, ExchangeClock}
+use Rattle.law_scans.specs.inv.model.Phases.Base.{Protect, Clear, Release, Move}
+use Rattle.law_scans.specs.inv.model.Phases.Ending.{Protected, Clocked}
+use Rattle.law_scans.specs.inv.model.Calls.{Task, Gets, Holds, Next, Answering, Why, Opens, Clears, Advances, Releases, Rehold, GetAt, FindVersion, FindCount, FindKey, FindValue, Getting, Phase, Runs, Works, CallOutcome, GoesOn, Answers}
+use Rattle.law_scans.specs.inv.model.words.Schemes.{is_wfe}
 use Rattle.law_held.specs.turns.inv.shapes.Seats.{Kind, kind_of, suits, move_fits}
 use Rattle.law_held.specs.turns.inv.shapes.Slots.{GetIn}
 use Rattle.law_held.specs.turns.inv.requests.Paces.{Falls}
 use Rattle.law_held.proofs.turns.answers.AnswersTold.Owed.{out_clocked}
 use Rattle.law_steps.proofs.CallCounts.Counting.{short_move, at_advance, alone_steps, at_hold, getting_steps, at_get, Out}
-use Rattle.wfe_core.proofs.Facts.{le_of_test, le_test}
+use Rattle.law_scans.proofs.inv.model.Facts.{le_of_test, le_test}
 
 -- a move of the clock under Wait-Free Eras
 fewer : (n left m most : ℕ) → nat_le (n + left) most ≡ true → 1 ≤ left → m ≡ n + 1 → nat_le m most ≡ true

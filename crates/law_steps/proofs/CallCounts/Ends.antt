@@ -2,33 +2,33 @@
 use Rattle.std.proofs.Common.{ℕ, ◌≡◌, ◌<◌, ◌+◌, ◌^◌, Bool, true, false, List, [], ◌∷◌, Option, Some, None, refl, sym, ap, ◌∙◌, subst, arith}
 use Rattle.std.proofs.lemmas.Bool.Decides.{nat_tests}
 use Rattle.std.specs.Prelude.{◌==◌, ◌&&◌, ◌||◌, ◌*◌, not, nat_le, nat_lt, if◌then◌else◌}
-use Rattle.wfe_core.specs.words.declared.config.Config.{Config}
-use Rattle.wfe_core.specs.words.declared.config.SchemeKind.{SchemeKind}
-use Rattle.wfe_core.specs.words.declared.config.SchemeKind.TheVariants.{Wfe}
-use Rattle.wfe_core.specs.words.declared.layout.Layout.{Layout}
-use Rattle.wfe_core.specs.defs.declared.call.Answer.{Answer}
-use Rattle.wfe_core.specs.defs.declared.call.Call.{Call}
-use Rattle.wfe_core.specs.defs.declared.call.Call.TheVariants as calls
-use Rattle.wfe_core.specs.defs.declared.event.Event.{Event}
-use Rattle.wfe_core.specs.defs.declared.event.Event.TheVariants as events
-use Rattle.wfe_core.specs.declared.post.Post.{Post}
-use Rattle.wfe_core.specs.Desks.{Desk, noting}
-use Rattle.wfe_core.specs.Guards.{guards, guard_at, published as publishes}
-use Rattle.wfe_core.specs.Scan as scans
-use Rattle.wfe_core.specs.Phases.{Base}
+use Rattle.law_scans.specs.inv.model.words.declared.config.Config.{Config}
+use Rattle.law_scans.specs.inv.model.words.declared.config.SchemeKind.{SchemeKind}
+use Rattle.law_scans.specs.inv.model.words.declared.config.SchemeKind.TheVariants.{Wfe}
+use Rattle.law_scans.specs.inv.model.words.declared.layout.Layout.{Layout}
+use Rattle.law_scans.specs.inv.model.defs.declared.call.Answer.{Answer}
+use Rattle.law_scans.specs.inv.model.defs.declared.call.Call.{Call}
+use Rattle.law_scans.specs.inv.model.defs.declared.call.Call.TheVariants as calls
+use Rattle.law_scans.specs.inv.model.defs.declared.event.Event.{Event}
+use Rattle.law_scans.specs.inv.model.defs.declared.event.Event.TheVariants as events
+use Rattle.law_scans.specs.inv.model.declared.post.Post.{Post}
+use Rattle.law_scans.specs.inv.model.Desks.{Desk, noting}
+use Rattle.law_scans.specs.inv.model.Guards.{guards, guard_at, published as publishes}
+use Rattle.law_scans.specs.inv.model.Scan as scans
+use Rattle.law_scans.specs.inv.model.Phases.{Base}
 use Rattle.law_held.proofs.turns.inv.shapes.Kept.{work_counted}
-use Rattle.wfe_core.specs.Locals.{Local, may_begin, busy_in, begun_post, told_by, told_end, turn, rounds_told, settled_by}
-use Rattle.wfe_core.specs.Phases.Base.{Move}
-use Rattle.wfe_core.specs.Posts.{counted, stands}
-use Rattle.wfe_core.specs.Rest.{rest, move_left}
-use Rattle.wfe_core.specs.Phases.MoveAt.{LoadEra}
-use Rattle.wfe_core.specs.Calls.{Gets, Counted, Advances, Releases, Released, Dropped, Loosens, Keeping, ScanAt, ReadGuard, GiveBack, Phase, Runs, Scans, Works, CallTurn, CallOutcome, GoesOn, Answers}
-use Rattle.wfe_core.specs.Rounds.{scheme_of, letting_by, release_base, move_base, helps, round}
-use Rattle.wfe_core.specs.Steps as steps
-use Rattle.wfe_core.specs.World.{World, begin, step, finds, is_busy, told_in}
-use Rattle.wfe_core.proofs.Frames.{after_same}
-use Rattle.wfe_core.proofs.Facts.{same_number, first_of, rest_of}
-use Rattle.wfe_core.specs.words.Schemes.{is_wfe}
+use Rattle.law_scans.specs.inv.model.Locals.{Local, may_begin, busy_in, begun_post, told_by, told_end, turn, rounds_told, settled_by}
+use Rattle.law_scans.specs.inv.model.Phases.Base.{Move}
+use Rattle.law_scans.specs.inv.model.Posts.{counted, stands}
+use Rattle.law_scans.specs.inv.model.Rest.{rest, move_left}
+use Rattle.law_scans.specs.inv.model.Phases.MoveAt.{LoadEra}
+use Rattle.law_scans.specs.inv.model.Calls.{Gets, Counted, Advances, Releases, Released, Dropped, Loosens, Keeping, ScanAt, ReadGuard, GiveBack, Phase, Runs, Scans, Works, CallTurn, CallOutcome, GoesOn, Answers}
+use Rattle.law_scans.specs.inv.model.Rounds.{scheme_of, letting_by, release_base, move_base, helps, round}
+use Rattle.law_scans.specs.inv.model.Steps as steps
+use Rattle.law_scans.specs.inv.model.World.{World, begin, step, finds, is_busy, told_in}
+use Rattle.law_scans.proofs.inv.model.Frames.{after_same}
+use Rattle.law_scans.proofs.inv.model.Facts.{same_number, first_of, rest_of}
+use Rattle.law_scans.specs.inv.model.words.Schemes.{is_wfe}
 use Rattle.law_held.specs.turns.inv.shapes.Seats.{PhaseFits, Run}
 use Rattle.law_held.specs.turns.inv.shapes.Slots.{PhaseIn}
 use Rattle.law_held.proofs.turns.inv.shapes.Frame.{seat_stays, seat_steps, begin_stays, begin_begins}
@@ -43,7 +43,7 @@ use Rattle.law_held.proofs.turns.inv.requests.Paced.{in_time}
 use Rattle.law_held.proofs.turns.inv.requests.Falling.{moves_on}
 use Rattle.law_held.proofs.turns.inv.covers.Held.{stepped_post}
 use Rattle.law_held.specs.turns.inv.Inv.{Inv}
-use Rattle.laws.specs.StateAt.{began_of, backs_by, backs_of}
+use Rattle.law_scans.specs.laws.StateAt.{began_of, backs_by, backs_of}
 use Rattle.law_held.proofs.turns.answers.AnswersTold.Answering as answering
 use Rattle.law_held.proofs.turns.inv.Machines.{within_of}
 use Rattle.law_held.proofs.turns.answers.AnswersTold.Answering.{began_along, first_all, owes_of}
@@ -52,12 +52,12 @@ use Rattle.law_held.proofs.turns.answers.AnswersTold.Owed.{is_open}
 use Rattle.law_held.proofs.turns.answers.AnswersTold.Owing.{PhaseEnds}
 use Rattle.law_held.proofs.turns.inv.history.AllOf.{all_of}
 use Rattle.law_held.proofs.turns.answers.OneStep.Along.{Around, Kept, history_keeps}
-use Rattle.laws.specs.HistorySteps.{steps_right, end_ok}
+use Rattle.law_scans.specs.laws.HistorySteps.{steps_right, end_ok}
 use Rattle.law_steps.specs.Records.{RecordsKeepEnds}
 use Rattle.law_steps.proofs.CallCounts.Counting.{at_release, at_drop, at_copy, at_look, at_scan, at_advance, at_hold, at_get, call_steps, Out, release_out, drop_out, copy_out, look_out, scan_small, backs_at, scan_out}
 use Rattle.law_steps.proofs.CallCounts.Courses.{Facts, wfe_scheme, advance_out, hold_out, get_out}
 use Rattle.law_scans.proofs.reuse.Blocks.Placed.{scan_event}
-use Rattle.laws.proofs.Tells.{tells_both}
+use Rattle.law_scans.proofs.laws.Tells.{tells_both}
 
 -- rows that go back, along what a step tells
 abbrev backs_along : List Event → ℕ → ℕ

@@ -2,37 +2,37 @@
 use Rattle.std.proofs.Common.{ℕ, ◌≡◌, ◌<◌, ◌-◌, ◌+◌, ◌^◌, Bool, true, false, List, [], ◌∷◌, ◌++◌, Option, Some, None, refl, sym, ap, ◌∙◌, subst, arith}
 use Rattle.std.proofs.lemmas.Bool.Decides.{nat_tests}
 use Rattle.std.specs.Prelude.{◌==◌, ◌&&◌, ◌||◌, ◌*◌, not, nat_le, is_some, if◌then◌else◌}
-use Rattle.wfe_core.specs.words.declared.config.SchemeKind.{SchemeKind}
-use Rattle.wfe_core.specs.words.declared.config.SchemeKind.TheVariants.{Ibr}
-use Rattle.wfe_core.specs.words.declared.layout.Layout.{Layout}
-use Rattle.wfe_core.specs.defs.declared.event.Event.{Event}
-use Rattle.wfe_core.specs.defs.declared.event.Event.TheVariants as events
-use Rattle.wfe_core.specs.defs.declared.event.Guard.TheVariants.{Whole}
-use Rattle.wfe_core.specs.defs.declared.event.Root.{Root}
-use Rattle.wfe_core.specs.defs.declared.event.Root.TheVariants as roots
-use Rattle.wfe_core.specs.defs.declared.lifetime.Interval.{Interval}
-use Rattle.wfe_core.specs.declared.ends.FollowEnd.TheVariants as follow_ends
-use Rattle.wfe_core.specs.declared.post.Post.{Post}
-use Rattle.wfe_core.specs.Guards.{from_to}
-use Rattle.wfe_core.specs.Links.{parent_of}
-use Rattle.wfe_core.specs.Machine as machine
-use Rattle.wfe_core.specs.Memory.{bump}
-use Rattle.wfe_core.specs.Posts.{stands, cleared, upper, lower, withdrawn, with_span, reserves_span}
+use Rattle.law_scans.specs.inv.model.words.declared.config.SchemeKind.{SchemeKind}
+use Rattle.law_scans.specs.inv.model.words.declared.config.SchemeKind.TheVariants.{Ibr}
+use Rattle.law_scans.specs.inv.model.words.declared.layout.Layout.{Layout}
+use Rattle.law_scans.specs.inv.model.defs.declared.event.Event.{Event}
+use Rattle.law_scans.specs.inv.model.defs.declared.event.Event.TheVariants as events
+use Rattle.law_scans.specs.inv.model.defs.declared.event.Guard.TheVariants.{Whole}
+use Rattle.law_scans.specs.inv.model.defs.declared.event.Root.{Root}
+use Rattle.law_scans.specs.inv.model.defs.declared.event.Root.TheVariants as roots
+use Rattle.law_scans.specs.inv.model.defs.declared.lifetime.Interval.{Interval}
+use Rattle.law_scans.specs.inv.model.declared.ends.FollowEnd.TheVariants as follow_ends
+use Rattle.law_scans.specs.inv.model.declared.post.Post.{Post}
+use Rattle.law_scans.specs.inv.model.Guards.{from_to}
+use Rattle.law_scans.specs.inv.model.Links.{parent_of}
+use Rattle.law_scans.specs.inv.model.Machine as machine
+use Rattle.law_scans.specs.inv.model.Memory.{bump}
+use Rattle.law_scans.specs.inv.model.Posts.{stands, cleared, upper, lower, withdrawn, with_span, reserves_span}
 use Rattle.law_held.proofs.turns.Counting.Runs.{bump_low, calm_kind, is_calm, calm_of}
-use Rattle.wfe_core.specs.Protect as protects
-use Rattle.wfe_core.specs.Rounds.{scheme_of}
-use Rattle.wfe_core.specs.Phases.{Aim, Alone, Follows, Tries, BeginAt, ProtectAt, Base, Turn, Ending, Outcome, Goes, Ends, goes, ends}
-use Rattle.wfe_core.specs.Phases.BeginAt.{LoadLower, PublishSpan}
-use Rattle.wfe_core.specs.Phases.ProtectAt.{LoadClock, PublishEra, LoadLink, CheckClock, LoadWithin, CheckUpper, RaiseUpper}
-use Rattle.wfe_core.specs.Phases.Base.{Begin, Protect, Reload, Clear, Finish, Release}
-use Rattle.wfe_core.specs.Phases.Ending.{Done, Protected, Followed, Allocated, Retired, Clocked}
-use Rattle.wfe_core.specs.Calls.{Task, Gets, Changes, Holds, Enqueues, Dequeues, Why, Opens, FollowsHead, Fills, ClearsNext, Clears, Finishes, GivesUp, Retires, Tidies, Advances, Releases}
-use Rattle.wfe_core.proofs.Facts.{both, first_of, rest_of, and_true, zero_of_test, le_of_test, le_one_more, no_truth}
-use Rattle.wfe_core.specs.words.Schemes.{is_ibr}
+use Rattle.law_scans.specs.inv.model.Protect as protects
+use Rattle.law_scans.specs.inv.model.Rounds.{scheme_of}
+use Rattle.law_scans.specs.inv.model.Phases.{Aim, Alone, Follows, Tries, BeginAt, ProtectAt, Base, Turn, Ending, Outcome, Goes, Ends, goes, ends}
+use Rattle.law_scans.specs.inv.model.Phases.BeginAt.{LoadLower, PublishSpan}
+use Rattle.law_scans.specs.inv.model.Phases.ProtectAt.{LoadClock, PublishEra, LoadLink, CheckClock, LoadWithin, CheckUpper, RaiseUpper}
+use Rattle.law_scans.specs.inv.model.Phases.Base.{Begin, Protect, Reload, Clear, Finish, Release}
+use Rattle.law_scans.specs.inv.model.Phases.Ending.{Done, Protected, Followed, Allocated, Retired, Clocked}
+use Rattle.law_scans.specs.inv.model.Calls.{Task, Gets, Changes, Holds, Enqueues, Dequeues, Why, Opens, FollowsHead, Fills, ClearsNext, Clears, Finishes, GivesUp, Retires, Tidies, Advances, Releases}
+use Rattle.law_scans.proofs.inv.model.Facts.{both, first_of, rest_of, and_true, zero_of_test, le_of_test, le_one_more, no_truth}
+use Rattle.law_scans.specs.inv.model.words.Schemes.{is_ibr}
 use Rattle.law_held.specs.turns.inv.shapes.Frame.{Moves, Passed}
 use Rattle.law_held.specs.turns.inv.shapes.Seats.{PostFits, PhaseFits, Run, protect_fits, kind_of, protects as protecting, index_by, root_by, aim_by}
-use Rattle.laws.specs.StateAt.{is_whole, spanned_by, raised_by}
-use Rattle.laws.specs.StepLaw.{number_raised}
+use Rattle.law_scans.specs.laws.StateAt.{is_whole, spanned_by, raised_by}
+use Rattle.law_scans.specs.laws.StepLaw.{number_raised}
 use Rattle.law_steps.proofs.Raises.Raising.{spanned_along, raised_along, counts_along, still_spans, still_raises, still_counts, at_raised, base_raised, Out, Made, made_if, calm_still, calm_span}
 use Rattle.law_held.proofs.turns.TurnCounts.Tried.{is_follow, other_kind, is_other, calm_other, other_of_kind}
 use Rattle.law_held.proofs.turns.Withdrawals.Withdrawing.{tells_link}

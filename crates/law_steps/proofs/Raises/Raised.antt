@@ -2,30 +2,30 @@
 use Rattle.std.proofs.Common.{ℕ, ◌≡◌, ◌<◌, ◌+◌, ◌^◌, Bool, true, false, List, [], ◌∷◌, ◌++◌, Option, Some, refl, sym, ap, ◌∙◌, subst, arith}
 use Rattle.std.proofs.lemmas.Bool.Decides.{nat_tests}
 use Rattle.std.specs.Prelude.{◌==◌, ◌&&◌, ◌||◌, nat_le, is_some, if◌then◌else◌}
-use Rattle.wfe_core.specs.words.declared.config.SchemeKind.{SchemeKind}
-use Rattle.wfe_core.specs.words.declared.config.SchemeKind.TheVariants.{He, Ibr, Wfe}
-use Rattle.wfe_core.specs.words.declared.layout.Layout.{Layout}
-use Rattle.wfe_core.specs.defs.declared.call.Call.{Call}
-use Rattle.wfe_core.specs.defs.declared.event.Event.{Event}
-use Rattle.wfe_core.specs.defs.declared.event.Event.TheVariants as events
-use Rattle.wfe_core.specs.declared.ends.FollowEnd.TheVariants as follow_ends
-use Rattle.wfe_core.specs.defs.declared.lifetime.Interval.{Interval}
-use Rattle.wfe_core.specs.declared.post.Post.{Post}
-use Rattle.wfe_core.specs.Desks.{Desk}
-use Rattle.wfe_core.specs.Locals.{Local, busy_in, begun_post, told_by}
-use Rattle.wfe_core.specs.Machine as machine
-use Rattle.wfe_core.specs.Posts.{counted, stands, withdrawn, cleared}
-use Rattle.wfe_core.specs.Rest.{rest}
-use Rattle.wfe_core.specs.Rounds.{scheme_of, clearing_next}
-use Rattle.wfe_core.specs.Steps as steps
-use Rattle.wfe_core.specs.World.{World, begin, step, finds, is_busy, told_in}
-use Rattle.wfe_core.specs.Phases.{ProtectAt, Base, Turn, Ending, Outcome, Goes, Ends}
-use Rattle.wfe_core.specs.Phases.ProtectAt.{LoadClock, LoadWithin}
-use Rattle.wfe_core.specs.Phases.Base.{Protect, Reload}
-use Rattle.wfe_core.specs.Phases.Ending.{Done, Protected, Followed, Allocated, Retired, Clocked}
-use Rattle.wfe_core.specs.Calls.{Again, Why, Opens, FollowsHead, Fills, ClearsNext, Clears, Finishes, GivesUp, Retires, Tidies, Advances, Releases, ReadGuard, GiveBack, Phase, Idle, Runs, Scans, Works, CallTurn}
-use Rattle.wfe_core.proofs.Facts.{same_number, first_of, rest_of, zero_of_test}
-use Rattle.wfe_core.specs.words.Schemes.{is_ibr}
+use Rattle.law_scans.specs.inv.model.words.declared.config.SchemeKind.{SchemeKind}
+use Rattle.law_scans.specs.inv.model.words.declared.config.SchemeKind.TheVariants.{He, Ibr, Wfe}
+use Rattle.law_scans.specs.inv.model.words.declared.layout.Layout.{Layout}
+use Rattle.law_scans.specs.inv.model.defs.declared.call.Call.{Call}
+use Rattle.law_scans.specs.inv.model.defs.declared.event.Event.{Event}
+use Rattle.law_scans.specs.inv.model.defs.declared.event.Event.TheVariants as events
+use Rattle.law_scans.specs.inv.model.declared.ends.FollowEnd.TheVariants as follow_ends
+use Rattle.law_scans.specs.inv.model.defs.declared.lifetime.Interval.{Interval}
+use Rattle.law_scans.specs.inv.model.declared.post.Post.{Post}
+use Rattle.law_scans.specs.inv.model.Desks.{Desk}
+use Rattle.law_scans.specs.inv.model.Locals.{Local, busy_in, begun_post, told_by}
+use Rattle.law_scans.specs.inv.model.Machine as machine
+use Rattle.law_scans.specs.inv.model.Posts.{counted, stands, withdrawn, cleared}
+use Rattle.law_scans.specs.inv.model.Rest.{rest}
+use Rattle.law_scans.specs.inv.model.Rounds.{scheme_of, clearing_next}
+use Rattle.law_scans.specs.inv.model.Steps as steps
+use Rattle.law_scans.specs.inv.model.World.{World, begin, step, finds, is_busy, told_in}
+use Rattle.law_scans.specs.inv.model.Phases.{ProtectAt, Base, Turn, Ending, Outcome, Goes, Ends}
+use Rattle.law_scans.specs.inv.model.Phases.ProtectAt.{LoadClock, LoadWithin}
+use Rattle.law_scans.specs.inv.model.Phases.Base.{Protect, Reload}
+use Rattle.law_scans.specs.inv.model.Phases.Ending.{Done, Protected, Followed, Allocated, Retired, Clocked}
+use Rattle.law_scans.specs.inv.model.Calls.{Again, Why, Opens, FollowsHead, Fills, ClearsNext, Clears, Finishes, GivesUp, Retires, Tidies, Advances, Releases, ReadGuard, GiveBack, Phase, Idle, Runs, Scans, Works, CallTurn}
+use Rattle.law_scans.proofs.inv.model.Facts.{same_number, first_of, rest_of, zero_of_test}
+use Rattle.law_scans.specs.inv.model.words.Schemes.{is_ibr}
 use Rattle.law_held.specs.turns.inv.shapes.Frame.{Moves, phase_left}
 use Rattle.law_held.specs.turns.inv.shapes.Seats.{PostFits, PhaseFits, Run}
 use Rattle.law_held.proofs.turns.inv.shapes.Frame.{seat_stays, begin_stays, begin_begins}
@@ -48,15 +48,15 @@ use Rattle.law_held.specs.turns.answers.Heard.{IsCounted}
 use Rattle.law_held.proofs.turns.answers.Turns.Counted.{histories_count}
 use Rattle.law_held.proofs.turns.answers.OneStep.Along.{Around, Kept, history_keeps}
 use Rattle.law_held.proofs.turns.Counting.Runs.{bump_low}
-use Rattle.laws.specs.StateAt.{spanned_by, spanned_of, raised_by, raised_of}
-use Rattle.laws.specs.StepLaw.{number_raised, raise_ok}
+use Rattle.law_scans.specs.laws.StateAt.{spanned_by, spanned_of, raised_by, raised_of}
+use Rattle.law_scans.specs.laws.StepLaw.{number_raised, raise_ok}
 use Rattle.law_steps.specs.Records.{RecordsKeepRaises}
 use Rattle.law_held.proofs.turns.Withdrawals.Leaving.{protects_at, is_first, is_new, Leads, Left, stepped_leads, first_new}
 use Rattle.law_steps.proofs.Raises.Raising.{spanned_along, raised_along, counts_along, raised_both, still_spans, still_raises, still_counts, work_still, work_span, spans_closed, counts_closed, none_closed, at_raised, base_raised, Out}
 use Rattle.law_steps.proofs.Raises.Intervals.{Stage, run_made}
 use Rattle.law_held.proofs.turns.TurnCounts.Tried.{is_follow}
 use Rattle.law_held.proofs.turns.inv.requests.Parents.{why_counted}
-use Rattle.wfe_core.proofs.Standing.{stands-withdrawn_other}
+use Rattle.law_scans.proofs.inv.model.Standing.{stands-withdrawn_other}
 
 abbrev pub phase_raised : Phase → (most raised : ℕ) → Bool
 phase_raised (Runs why base) most raised = base_raised base most raised

@@ -1,35 +1,35 @@
 -- How often an interval was raised, by where its seat stands, over each step of a machine of 2GE.
 use Rattle.std.proofs.Common.{ℕ, ◌≡◌, ◌+◌, Bool, true, false, List, [], ◌∷◌, ◌++◌, Option, Some, None, refl, sym, ap, ◌∙◌}
 use Rattle.std.specs.Prelude.{◌==◌, ◌&&◌, ◌||◌, ◌*◌, nat_le, is_some, if◌then◌else◌}
-use Rattle.wfe_core.specs.words.Packed.{reservation_word, read_reservation}
-use Rattle.wfe_core.specs.words.declared.config.SchemeKind.{SchemeKind}
-use Rattle.wfe_core.specs.words.declared.config.SchemeKind.TheVariants.{He, Ibr, Wfe}
-use Rattle.wfe_core.specs.defs.declared.event.Event.{Event}
-use Rattle.wfe_core.specs.defs.declared.event.Event.TheVariants as events
-use Rattle.wfe_core.specs.defs.declared.event.Guard.TheVariants.{Helper, Index, Whole}
-use Rattle.wfe_core.specs.defs.declared.lifetime.Interval.{Interval}
-use Rattle.wfe_core.specs.declared.ends.FollowEnd.TheVariants as follow_ends
-use Rattle.wfe_core.specs.declared.post.Post.{Post}
-use Rattle.wfe_core.specs.Allocate as allocates
-use Rattle.wfe_core.specs.Machine as machine
-use Rattle.wfe_core.specs.MoveClock as movers
-use Rattle.wfe_core.specs.Calls.{Work, Getting, Changing, Enqueuing, Dequeuing, Keeping, Loosens, LoadHeld, StoreHeld, Looks, Misses}
-use Rattle.wfe_core.specs.Posts.{stands}
-use Rattle.wfe_core.specs.words.Schemes.{has_one_interval}
-use Rattle.wfe_core.specs.Rounds.{scheme_of, clear_told, clear_post}
-use Rattle.wfe_core.specs.SlowPath as slow
-use Rattle.wfe_core.specs.WriteRow.{last_written}
-use Rattle.wfe_core.specs.Phases.{ProtectAt, MoveAt, Walk, Base, Turn, Outcome, Goes, Ends}
-use Rattle.wfe_core.specs.Phases.ProtectAt.{LoadWithin, CheckUpper, RaiseUpper}
-use Rattle.wfe_core.specs.Phases.AllocateAt.{ClaimSlot}
-use Rattle.wfe_core.specs.Phases.RetireAt.{LoadLife}
-use Rattle.wfe_core.specs.Phases.MoveAt.{LoadEra, CheckEra, AnswerAsked, LoadReserved, HandOver, ExchangeClock}
-use Rattle.wfe_core.specs.Phases.Base.{Begin, Protect, Reload, Clear, Finish, Release, Allocate, Write, Retire, Move}
-use Rattle.wfe_core.specs.Phases.Ending.{Followed}
-use Rattle.wfe_core.proofs.Facts.{both, first_of, rest_of}
+use Rattle.law_scans.specs.inv.model.words.Packed.{reservation_word, read_reservation}
+use Rattle.law_scans.specs.inv.model.words.declared.config.SchemeKind.{SchemeKind}
+use Rattle.law_scans.specs.inv.model.words.declared.config.SchemeKind.TheVariants.{He, Ibr, Wfe}
+use Rattle.law_scans.specs.inv.model.defs.declared.event.Event.{Event}
+use Rattle.law_scans.specs.inv.model.defs.declared.event.Event.TheVariants as events
+use Rattle.law_scans.specs.inv.model.defs.declared.event.Guard.TheVariants.{Helper, Index, Whole}
+use Rattle.law_scans.specs.inv.model.defs.declared.lifetime.Interval.{Interval}
+use Rattle.law_scans.specs.inv.model.declared.ends.FollowEnd.TheVariants as follow_ends
+use Rattle.law_scans.specs.inv.model.declared.post.Post.{Post}
+use Rattle.law_scans.specs.inv.model.Allocate as allocates
+use Rattle.law_scans.specs.inv.model.Machine as machine
+use Rattle.law_scans.specs.inv.model.MoveClock as movers
+use Rattle.law_scans.specs.inv.model.Calls.{Work, Getting, Changing, Enqueuing, Dequeuing, Keeping, Loosens, LoadHeld, StoreHeld, Looks, Misses}
+use Rattle.law_scans.specs.inv.model.Posts.{stands}
+use Rattle.law_scans.specs.inv.model.words.Schemes.{has_one_interval}
+use Rattle.law_scans.specs.inv.model.Rounds.{scheme_of, clear_told, clear_post}
+use Rattle.law_scans.specs.inv.model.SlowPath as slow
+use Rattle.law_scans.specs.inv.model.WriteRow.{last_written}
+use Rattle.law_scans.specs.inv.model.Phases.{ProtectAt, MoveAt, Walk, Base, Turn, Outcome, Goes, Ends}
+use Rattle.law_scans.specs.inv.model.Phases.ProtectAt.{LoadWithin, CheckUpper, RaiseUpper}
+use Rattle.law_scans.specs.inv.model.Phases.AllocateAt.{ClaimSlot}
+use Rattle.law_scans.specs.inv.model.Phases.RetireAt.{LoadLife}
+use Rattle.law_scans.specs.inv.model.Phases.MoveAt.{LoadEra, CheckEra, AnswerAsked, LoadReserved, HandOver, ExchangeClock}
+use Rattle.law_scans.specs.inv.model.Phases.Base.{Begin, Protect, Reload, Clear, Finish, Release, Allocate, Write, Retire, Move}
+use Rattle.law_scans.specs.inv.model.Phases.Ending.{Followed}
+use Rattle.law_scans.proofs.inv.model.Facts.{both, first_of, rest_of}
 use Rattle.law_held.proofs.turns.inv.history.Passes.{is_quiet, all_quiet, Closed, copied_post, work_post, work_told}
-use Rattle.laws.specs.StateAt.{spanned_by, raised_by}
-use Rattle.laws.specs.StepLaw.{number_raised}
+use Rattle.law_scans.specs.laws.StateAt.{spanned_by, raised_by}
+use Rattle.law_scans.specs.laws.StepLaw.{number_raised}
 use Rattle.law_held.proofs.turns.Counting.Runs.{is_calm}
 use Rattle.law_held.proofs.turns.inv.history.MayTell.{Tells, base_all, clear_all, work_all}
 use Rattle.law_held.proofs.turns.inv.history.AllOf.{all_of, of_weaker}

@@ -2,36 +2,36 @@
 use Rattle.std.proofs.Common.{ℕ, ◌≡◌, ◌+◌, Bool, true, false, List, [], ◌∷◌, Option, Some, None, refl, sym, ◌∙◌, subst, arith}
 use Rattle.std.proofs.lemmas.Bool.Decides.{nat_tests}
 use Rattle.std.specs.Prelude.{◌==◌, ◌&&◌, ◌||◌, not, is_some, nat_lt, if◌then◌else◌, nat_le}
-use Rattle.wfe_core.specs.words.Place.{is_valid}
-use Rattle.wfe_core.specs.words.declared.layout.Layout.{Layout}
-use Rattle.wfe_core.specs.defs.declared.event.Event.{Event}
-use Rattle.wfe_core.specs.defs.declared.event.Event.TheVariants as events
-use Rattle.wfe_core.specs.defs.declared.event.Guard.{Guard}
-use Rattle.wfe_core.specs.defs.declared.event.Guard.TheVariants.{Helper, Index, Whole}
-use Rattle.wfe_core.specs.defs.declared.event.Root.{Root}
-use Rattle.wfe_core.specs.defs.declared.lifetime.Interval.{Interval}
-use Rattle.wfe_core.specs.Calls.{Why, Phase, Runs}
-use Rattle.wfe_core.specs.Phases.{Aim, Tries}
-use Rattle.wfe_core.specs.Phases.ProtectAt.{LoadClock}
-use Rattle.wfe_core.specs.Phases.Base.{Protect}
-use Rattle.wfe_core.proofs.Facts.{first_of, rest_of}
-use Rattle.wfe_core.specs.words.Schemes.{is_ibr}
+use Rattle.law_scans.specs.inv.model.words.Place.{is_valid}
+use Rattle.law_scans.specs.inv.model.words.declared.layout.Layout.{Layout}
+use Rattle.law_scans.specs.inv.model.defs.declared.event.Event.{Event}
+use Rattle.law_scans.specs.inv.model.defs.declared.event.Event.TheVariants as events
+use Rattle.law_scans.specs.inv.model.defs.declared.event.Guard.{Guard}
+use Rattle.law_scans.specs.inv.model.defs.declared.event.Guard.TheVariants.{Helper, Index, Whole}
+use Rattle.law_scans.specs.inv.model.defs.declared.event.Root.{Root}
+use Rattle.law_scans.specs.inv.model.defs.declared.lifetime.Interval.{Interval}
+use Rattle.law_scans.specs.inv.model.Calls.{Why, Phase, Runs}
+use Rattle.law_scans.specs.inv.model.Phases.{Aim, Tries}
+use Rattle.law_scans.specs.inv.model.Phases.ProtectAt.{LoadClock}
+use Rattle.law_scans.specs.inv.model.Phases.Base.{Protect}
+use Rattle.law_scans.proofs.inv.model.Facts.{first_of, rest_of}
+use Rattle.law_scans.specs.inv.model.words.Schemes.{is_ibr}
 use Rattle.law_held.specs.turns.inv.history.Record.{Past, tells_of}
 use Rattle.law_held.specs.turns.inv.history.Record.Past.{Then}
 use Rattle.law_held.specs.turns.inv.history.Turns as schedule
 use Rattle.law_held.specs.turns.inv.history.Turns.History.{Blank, Starts, Turns}
 use Rattle.law_held.specs.turns.inv.history.History.{Item, world_of, record_of}
-use Rattle.laws.specs.StateAt.{same_guard, value_of, is_index_word, one_more, reserves_of}
+use Rattle.law_scans.specs.laws.StateAt.{same_guard, value_of, is_index_word, one_more, reserves_of}
 use Rattle.law_held.specs.turns.answers.Heard.{IsCounted}
 use Rattle.law_held.specs.turns.inv.history.Heard.{heard_of}
 use Rattle.law_held.proofs.turns.answers.Turns.Counted.{histories_count}
-use Rattle.laws.specs.HistoryTurns.{turns_since, event_handed, events_handed, handed_right}
+use Rattle.law_scans.specs.laws.HistoryTurns.{turns_since, event_handed, events_handed, handed_right}
 use Rattle.law_held.specs.turns.inv.history.Turns.{EachTurn}
 use Rattle.law_held.proofs.turns.answers.OneStep.Along.{history_keeps}
 use Rattle.law_held.proofs.turns.Counting.Counting.{Keeps, first_kept, kept}
 use Rattle.law_held.proofs.turns.Counting.Fits.{own}
 use Rattle.law_held.proofs.turns.Handovers.{handovers_meet}
-use Rattle.laws.proofs.Along.{index_guard}
+use Rattle.law_scans.proofs.laws.Along.{index_guard}
 
 -- an index word that publishes has been told to since its seat told nothing of it
 abbrev marked : ℕ → ℕ → Past → Bool

@@ -2,29 +2,29 @@
 use Rattle.std.proofs.Common.{ℕ, ◌≡◌, ◌<◌, Bool, true, false, List, [], ◌∷◌, Option, None, refl, sym, ap, ◌∙◌, subst, arith}
 use Rattle.std.proofs.lemmas.Bool.Decides.{nat_tests}
 use Rattle.std.specs.Prelude.{◌==◌, is_some}
-use Rattle.wfe_core.specs.words.Place.Place.{Clock}
-use Rattle.wfe_core.specs.words.Place.{is_valid}
-use Rattle.wfe_core.specs.words.declared.layout.Layout.{Layout}
-use Rattle.wfe_core.specs.defs.declared.call.Call.{Call}
-use Rattle.wfe_core.specs.defs.declared.event.Event.{Event}
-use Rattle.wfe_core.specs.defs.declared.event.Event.TheVariants as events
-use Rattle.wfe_core.specs.defs.declared.event.Guard.{Guard}
-use Rattle.wfe_core.specs.defs.declared.event.Guard.TheVariants.{Helper, Index, Whole}
-use Rattle.wfe_core.specs.defs.declared.event.Root.{Root}
-use Rattle.wfe_core.specs.defs.declared.lifetime.Interval.{Interval}
-use Rattle.wfe_core.specs.declared.post.Post.{Post}
-use Rattle.wfe_core.specs.Calls.{Why, Phase, Idle, Runs, Scans, Works, ReadGuard, GiveBack}
-use Rattle.wfe_core.specs.Locals.{Local, after, begun, may_begin}
-use Rattle.wfe_core.specs.Phases.{Aim, Tries, ProtectAt, MoveAt, Base}
-use Rattle.wfe_core.specs.Phases.ProtectAt.{LoadClock, PublishEra, LoadAnswer, TakeAnswer, RaiseUpper}
-use Rattle.wfe_core.specs.Phases.MoveAt.{HandOver}
-use Rattle.wfe_core.specs.Phases.Base.{Begin, Protect, Move}
-use Rattle.wfe_core.specs.Posts.{counted}
-use Rattle.wfe_core.specs.World.{World, begin, step, finds, is_busy, told_in}
+use Rattle.law_scans.specs.inv.model.words.Place.Place.{Clock}
+use Rattle.law_scans.specs.inv.model.words.Place.{is_valid}
+use Rattle.law_scans.specs.inv.model.words.declared.layout.Layout.{Layout}
+use Rattle.law_scans.specs.inv.model.defs.declared.call.Call.{Call}
+use Rattle.law_scans.specs.inv.model.defs.declared.event.Event.{Event}
+use Rattle.law_scans.specs.inv.model.defs.declared.event.Event.TheVariants as events
+use Rattle.law_scans.specs.inv.model.defs.declared.event.Guard.{Guard}
+use Rattle.law_scans.specs.inv.model.defs.declared.event.Guard.TheVariants.{Helper, Index, Whole}
+use Rattle.law_scans.specs.inv.model.defs.declared.event.Root.{Root}
+use Rattle.law_scans.specs.inv.model.defs.declared.lifetime.Interval.{Interval}
+use Rattle.law_scans.specs.inv.model.declared.post.Post.{Post}
+use Rattle.law_scans.specs.inv.model.Calls.{Why, Phase, Idle, Runs, Scans, Works, ReadGuard, GiveBack}
+use Rattle.law_scans.specs.inv.model.Locals.{Local, after, begun, may_begin}
+use Rattle.law_scans.specs.inv.model.Phases.{Aim, Tries, ProtectAt, MoveAt, Base}
+use Rattle.law_scans.specs.inv.model.Phases.ProtectAt.{LoadClock, PublishEra, LoadAnswer, TakeAnswer, RaiseUpper}
+use Rattle.law_scans.specs.inv.model.Phases.MoveAt.{HandOver}
+use Rattle.law_scans.specs.inv.model.Phases.Base.{Begin, Protect, Move}
+use Rattle.law_scans.specs.inv.model.Posts.{counted}
+use Rattle.law_scans.specs.inv.model.World.{World, begin, step, finds, is_busy, told_in}
 use Rattle.law_held.specs.turns.inv.shapes.Eras.{PhaseEras}
 use Rattle.law_held.proofs.turns.inv.shapes.Frame.{after_seated, begun_seated, seat_stays, seat_steps, begin_stays, begin_begins}
 use Rattle.law_held.proofs.turns.inv.shapes.Kept.{begun_fits}
-use Rattle.wfe_core.specs.words.Schemes.{is_ibr}
+use Rattle.law_scans.specs.inv.model.words.Schemes.{is_ibr}
 use Rattle.law_held.specs.turns.inv.shapes.Frame.{Seated}
 use Rattle.law_held.specs.turns.inv.shapes.Seats.{PostFits, PhaseFits}
 use Rattle.law_held.specs.turns.inv.requests.Roles.{shows}
@@ -48,10 +48,10 @@ use Rattle.law_held.proofs.turns.inv.Inv.Shown.{shown_span}
 use Rattle.law_held.proofs.turns.inv.Inv.Whole.{origins_need, handover_need}
 use Rattle.law_held.proofs.turns.inv.history.Passes.{First, step_goes}
 use Rattle.law_held.specs.turns.inv.shapes.Slots.{PhaseIn, Slots}
-use Rattle.laws.specs.StateAt.{value_of}
+use Rattle.law_scans.specs.laws.StateAt.{value_of}
 use Rattle.law_scans.proofs.reuse.Holding.Holds.{record_values}
-use Rattle.laws.specs.HistoryEras.{span_rises}
-use Rattle.laws.specs.HistorySteps.{era_rises}
+use Rattle.law_scans.specs.laws.HistoryEras.{span_rises}
+use Rattle.law_scans.specs.laws.HistorySteps.{era_rises}
 use Rattle.law_steps.specs.Records.{RecordsRaiseSpans, RecordsRaiseEras}
 use Rattle.law_steps.proofs.Rising.Free.{free_index}
 use Rattle.law_scans.proofs.eras.Current.Keeps.{OfItems, next_items}

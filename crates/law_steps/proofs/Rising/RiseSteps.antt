@@ -2,17 +2,17 @@
 use Rattle.std.proofs.Common.{ℕ, ◌≡◌, ◌≤◌, ◌<◌, ◌⊎◌, inl, inr, Bool, true, false, Option, Some, None, refl, sym, ◌∙◌, subst, arith}
 use Rattle.std.proofs.lemmas.Bool.Decides.{nat_tests}
 use Rattle.std.specs.Prelude.{◌==◌, ◌&&◌, is_some, if◌then◌else◌}
-use Rattle.wfe_core.specs.words.Place.Place.{Clock}
-use Rattle.wfe_core.specs.defs.declared.event.Guard.TheVariants.{Helper, Index}
-use Rattle.wfe_core.specs.defs.declared.event.Root.{Root}
-use Rattle.wfe_core.specs.defs.declared.lifetime.Interval.{Interval}
-use Rattle.wfe_core.specs.Calls.{Why, Phase, Idle, Runs, Scans, Works}
-use Rattle.wfe_core.specs.Guards.{one_era, from_to}
-use Rattle.wfe_core.specs.Phases.{Aim, Tries, ProtectAt}
-use Rattle.wfe_core.specs.Phases.ProtectAt.{LoadClock, PublishEra, CheckClock, CheckOwnClock, AnswerOwn, LoadAnswer, TakeAnswer, CheckUpper, RaiseUpper}
-use Rattle.wfe_core.specs.Phases.Base.{Protect}
-use Rattle.wfe_core.specs.Posts.{counted, upper}
-use Rattle.wfe_core.specs.World.{World, step, finds}
+use Rattle.law_scans.specs.inv.model.words.Place.Place.{Clock}
+use Rattle.law_scans.specs.inv.model.defs.declared.event.Guard.TheVariants.{Helper, Index}
+use Rattle.law_scans.specs.inv.model.defs.declared.event.Root.{Root}
+use Rattle.law_scans.specs.inv.model.defs.declared.lifetime.Interval.{Interval}
+use Rattle.law_scans.specs.inv.model.Calls.{Why, Phase, Idle, Runs, Scans, Works}
+use Rattle.law_scans.specs.inv.model.Guards.{one_era, from_to}
+use Rattle.law_scans.specs.inv.model.Phases.{Aim, Tries, ProtectAt}
+use Rattle.law_scans.specs.inv.model.Phases.ProtectAt.{LoadClock, PublishEra, CheckClock, CheckOwnClock, AnswerOwn, LoadAnswer, TakeAnswer, CheckUpper, RaiseUpper}
+use Rattle.law_scans.specs.inv.model.Phases.Base.{Protect}
+use Rattle.law_scans.specs.inv.model.Posts.{counted, upper}
+use Rattle.law_scans.specs.inv.model.World.{World, step, finds}
 use Rattle.law_held.specs.turns.inv.shapes.Eras.{SpanIn, PhaseEras}
 use Rattle.law_held.specs.turns.inv.requests.Deals.{is_quiet}
 use Rattle.law_held.specs.turns.inv.requests.Roles.{shows, publishes}

@@ -2,38 +2,38 @@
 use Rattle.std.proofs.Common.{ℕ, ◌≡◌, ◌≤◌, ◌<◌, Bool, true, false, List, [], ◌∷◌, ◌++◌, Option, Some, None, refl, sym, ap, ◌∙◌, subst, arith}
 use Rattle.std.proofs.lemmas.Bool.Decides.{nat_tests}
 use Rattle.std.specs.Prelude.{◌==◌, ◌||◌, is_some, if◌then◌else◌, nat_lt, not}
-use Rattle.wfe_core.specs.words.Packed.{reservation_word}
-use Rattle.wfe_core.specs.defs.declared.event.Event.{Event}
-use Rattle.wfe_core.specs.defs.declared.event.Event.TheVariants as events
-use Rattle.wfe_core.specs.defs.declared.event.Guard.{Guard}
-use Rattle.wfe_core.specs.defs.declared.event.Guard.TheVariants.{Helper, Index, Whole}
-use Rattle.wfe_core.specs.defs.declared.event.Root.{Root}
-use Rattle.wfe_core.specs.defs.declared.lifetime.Interval.{Interval}
-use Rattle.wfe_core.specs.declared.post.Post.{Post}
-use Rattle.wfe_core.specs.Guards.{one_era, from_to}
-use Rattle.wfe_core.specs.Machine as machine
-use Rattle.wfe_core.specs.Memory.{bump}
-use Rattle.wfe_core.specs.MoveClock as movers
-use Rattle.wfe_core.specs.Phases.{Aim, ProtectAt, MoveAt, Base}
-use Rattle.wfe_core.specs.Phases.BeginAt.{LoadLower, PublishSpan}
-use Rattle.wfe_core.specs.Phases.ProtectAt.{PublishEra, PublishHelper, TakeAnswer, WithdrawHelper, RaiseUpper}
-use Rattle.wfe_core.specs.Phases.MoveAt.{ShowEra, HandOver, HideEra, HideLate}
-use Rattle.wfe_core.specs.Phases.Base.{Begin, Protect, Clear, Finish, Release, Move}
-use Rattle.wfe_core.specs.Posts.{stands, cleared, lower, upper, reserves_helper, reserves_index}
-use Rattle.wfe_core.specs.Calls.{Work, Getting, Changing, Enqueuing, Dequeuing, Keeping, Loosens, LoadHeld, StoreHeld, Looks, Misses}
-use Rattle.wfe_core.specs.words.Schemes.{has_one_interval}
-use Rattle.wfe_core.specs.words.declared.config.Config.{Config}
+use Rattle.law_scans.specs.inv.model.words.Packed.{reservation_word}
+use Rattle.law_scans.specs.inv.model.defs.declared.event.Event.{Event}
+use Rattle.law_scans.specs.inv.model.defs.declared.event.Event.TheVariants as events
+use Rattle.law_scans.specs.inv.model.defs.declared.event.Guard.{Guard}
+use Rattle.law_scans.specs.inv.model.defs.declared.event.Guard.TheVariants.{Helper, Index, Whole}
+use Rattle.law_scans.specs.inv.model.defs.declared.event.Root.{Root}
+use Rattle.law_scans.specs.inv.model.defs.declared.lifetime.Interval.{Interval}
+use Rattle.law_scans.specs.inv.model.declared.post.Post.{Post}
+use Rattle.law_scans.specs.inv.model.Guards.{one_era, from_to}
+use Rattle.law_scans.specs.inv.model.Machine as machine
+use Rattle.law_scans.specs.inv.model.Memory.{bump}
+use Rattle.law_scans.specs.inv.model.MoveClock as movers
+use Rattle.law_scans.specs.inv.model.Phases.{Aim, ProtectAt, MoveAt, Base}
+use Rattle.law_scans.specs.inv.model.Phases.BeginAt.{LoadLower, PublishSpan}
+use Rattle.law_scans.specs.inv.model.Phases.ProtectAt.{PublishEra, PublishHelper, TakeAnswer, WithdrawHelper, RaiseUpper}
+use Rattle.law_scans.specs.inv.model.Phases.MoveAt.{ShowEra, HandOver, HideEra, HideLate}
+use Rattle.law_scans.specs.inv.model.Phases.Base.{Begin, Protect, Clear, Finish, Release, Move}
+use Rattle.law_scans.specs.inv.model.Posts.{stands, cleared, lower, upper, reserves_helper, reserves_index}
+use Rattle.law_scans.specs.inv.model.Calls.{Work, Getting, Changing, Enqueuing, Dequeuing, Keeping, Loosens, LoadHeld, StoreHeld, Looks, Misses}
+use Rattle.law_scans.specs.inv.model.words.Schemes.{has_one_interval}
+use Rattle.law_scans.specs.inv.model.words.declared.config.Config.{Config}
 use Rattle.law_held.specs.turns.inv.shapes.Slots.{WorkIn}
-use Rattle.wfe_core.specs.Protect as protects
-use Rattle.wfe_core.specs.Rounds.{scheme_of, clear_told, let_index}
-use Rattle.wfe_core.proofs.Facts.{both, first_of, rest_of}
+use Rattle.law_scans.specs.inv.model.Protect as protects
+use Rattle.law_scans.specs.inv.model.Rounds.{scheme_of, clear_told, let_index}
+use Rattle.law_scans.proofs.inv.model.Facts.{both, first_of, rest_of}
 use Rattle.law_held.specs.turns.inv.history.Record.{Past, Test, Each, tells_of}
 use Rattle.law_held.specs.turns.inv.history.Record.Past.{Then}
 use Rattle.law_held.proofs.turns.inv.history.Passes.{is_quiet, Closed, copied_told, work_told}
-use Rattle.laws.specs.StateAt.{value_of}
+use Rattle.law_scans.specs.laws.StateAt.{value_of}
 use Rattle.law_held.proofs.turns.inv.history.AllOf.{all_of, of_along, of_weaker}
-use Rattle.laws.specs.HistoryEras.{span_grows}
-use Rattle.laws.specs.StateAt.{era_grows}
+use Rattle.law_scans.specs.laws.HistoryEras.{span_grows}
+use Rattle.law_scans.specs.laws.StateAt.{era_grows}
 use Rattle.law_steps.proofs.Rising.Rises.{era_under, protect_risen}
 use Rattle.law_held.proofs.turns.inv.history.MayTell.{publishes, is_reserve, no_reserve, held_any, cleared_all, clear_all, concluded_told}
 

@@ -1,33 +1,33 @@
 -- An era that is about to be published is later than what the index word publishes, and an interval is raised.
 use Rattle.std.proofs.Common.{ℕ, ◌≡◌, ◌<◌, ◌+◌, Bool, true, false, List, Option, Some, None, refl}
 use Rattle.std.specs.Prelude.{◌==◌, is_some, nat_le, nat_lt, if◌then◌else◌}
-use Rattle.wfe_core.specs.words.Packed.{read_request}
-use Rattle.wfe_core.specs.words.Place.{is_valid}
-use Rattle.wfe_core.specs.words.declared.config.Config.{Config}
-use Rattle.wfe_core.specs.words.declared.config.SchemeKind.{SchemeKind}
-use Rattle.wfe_core.specs.words.declared.config.SchemeKind.TheVariants.{He, Ibr, Wfe}
-use Rattle.wfe_core.specs.words.declared.layout.Layout.{Layout}
-use Rattle.wfe_core.specs.words.declared.packed.Request.{Request}
-use Rattle.wfe_core.specs.words.declared.packed.Request.TheVariants as requests
-use Rattle.wfe_core.specs.defs.declared.event.Event.{Event}
-use Rattle.wfe_core.specs.defs.declared.event.Root.{Root}
-use Rattle.wfe_core.specs.defs.declared.lifetime.Interval.{Interval}
-use Rattle.wfe_core.specs.declared.post.Post.{Post}
-use Rattle.wfe_core.specs.Allocate as allocates
-use Rattle.wfe_core.specs.Calls.{Why, Phase, Idle, Runs, Scans, Works}
-use Rattle.wfe_core.specs.Machine as machine
-use Rattle.wfe_core.specs.Memory.{bump}
-use Rattle.wfe_core.specs.Phases.{Aim, Alone, Follows, Tries, Endless, Failed, ProtectAt, Walk, Base, Turn, Outcome, Goes, Ends}
-use Rattle.wfe_core.specs.Phases.BeginAt.{LoadLower}
-use Rattle.wfe_core.specs.Phases.ProtectAt.{LoadClock, PublishEra, LoadLink, CheckClock, PublishRequest, CheckOwnClock, AnswerOwn, LoadAnswer, TakeAnswer, WithdrawHelper, CheckUpper, RaiseUpper}
-use Rattle.wfe_core.specs.Phases.AllocateAt.{ClaimSlot}
-use Rattle.wfe_core.specs.Phases.RetireAt.{LoadLife}
-use Rattle.wfe_core.specs.Phases.Base.{Begin, Protect, Reload, Allocate, Write, Retire, Move}
-use Rattle.wfe_core.specs.Posts.{counted, upper, reserves_helper}
-use Rattle.wfe_core.specs.Protect as protects
-use Rattle.wfe_core.specs.Rounds.{protect_at, scheme_of}
-use Rattle.wfe_core.specs.SlowPath.{own_request, answer_in, lost_turn}
-use Rattle.wfe_core.specs.WriteRow.{last_written}
+use Rattle.law_scans.specs.inv.model.words.Packed.{read_request}
+use Rattle.law_scans.specs.inv.model.words.Place.{is_valid}
+use Rattle.law_scans.specs.inv.model.words.declared.config.Config.{Config}
+use Rattle.law_scans.specs.inv.model.words.declared.config.SchemeKind.{SchemeKind}
+use Rattle.law_scans.specs.inv.model.words.declared.config.SchemeKind.TheVariants.{He, Ibr, Wfe}
+use Rattle.law_scans.specs.inv.model.words.declared.layout.Layout.{Layout}
+use Rattle.law_scans.specs.inv.model.words.declared.packed.Request.{Request}
+use Rattle.law_scans.specs.inv.model.words.declared.packed.Request.TheVariants as requests
+use Rattle.law_scans.specs.inv.model.defs.declared.event.Event.{Event}
+use Rattle.law_scans.specs.inv.model.defs.declared.event.Root.{Root}
+use Rattle.law_scans.specs.inv.model.defs.declared.lifetime.Interval.{Interval}
+use Rattle.law_scans.specs.inv.model.declared.post.Post.{Post}
+use Rattle.law_scans.specs.inv.model.Allocate as allocates
+use Rattle.law_scans.specs.inv.model.Calls.{Why, Phase, Idle, Runs, Scans, Works}
+use Rattle.law_scans.specs.inv.model.Machine as machine
+use Rattle.law_scans.specs.inv.model.Memory.{bump}
+use Rattle.law_scans.specs.inv.model.Phases.{Aim, Alone, Follows, Tries, Endless, Failed, ProtectAt, Walk, Base, Turn, Outcome, Goes, Ends}
+use Rattle.law_scans.specs.inv.model.Phases.BeginAt.{LoadLower}
+use Rattle.law_scans.specs.inv.model.Phases.ProtectAt.{LoadClock, PublishEra, LoadLink, CheckClock, PublishRequest, CheckOwnClock, AnswerOwn, LoadAnswer, TakeAnswer, WithdrawHelper, CheckUpper, RaiseUpper}
+use Rattle.law_scans.specs.inv.model.Phases.AllocateAt.{ClaimSlot}
+use Rattle.law_scans.specs.inv.model.Phases.RetireAt.{LoadLife}
+use Rattle.law_scans.specs.inv.model.Phases.Base.{Begin, Protect, Reload, Allocate, Write, Retire, Move}
+use Rattle.law_scans.specs.inv.model.Posts.{counted, upper, reserves_helper}
+use Rattle.law_scans.specs.inv.model.Protect as protects
+use Rattle.law_scans.specs.inv.model.Rounds.{protect_at, scheme_of}
+use Rattle.law_scans.specs.inv.model.SlowPath.{own_request, answer_in, lost_turn}
+use Rattle.law_scans.specs.inv.model.WriteRow.{last_written}
 use Rattle.law_held.specs.turns.inv.shapes.Frame.{Grows, Moves, Onward, Owes}
 use Rattle.law_held.specs.turns.inv.shapes.Seats.{PhaseFits, PostFits}
 use Rattle.law_held.proofs.turns.inv.shapes.Frame.{moves_with}

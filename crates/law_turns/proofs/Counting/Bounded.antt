@@ -2,24 +2,24 @@
 use Rattle.std.proofs.Common.{ℕ, ◌≡◌, ◌+◌, ◌*◌, Bool, true, false, List, [], ◌∷◌, refl, sym, subst, arith}
 use Rattle.std.proofs.lemmas.Bool.Decides.{nat_tests}
 use Rattle.std.specs.Prelude.{◌==◌, nat_le, if◌then◌else◌}
-use Rattle.wfe_core.specs.defs.declared.event.Event.{Event}
-use Rattle.wfe_core.specs.defs.declared.event.Event.TheVariants as events
-use Rattle.wfe_core.proofs.Facts.{both, first_of, rest_of}
+use Rattle.law_answers.specs.inv.model.defs.declared.event.Event.{Event}
+use Rattle.law_answers.specs.inv.model.defs.declared.event.Event.TheVariants as events
+use Rattle.law_answers.proofs.inv.model.Facts.{both, first_of, rest_of}
 use Rattle.law_answers.specs.inv.history.Record.{Past, Each, tells_of}
 use Rattle.law_answers.specs.inv.history.Record.Past.{Then}
 use Rattle.law_answers.proofs.inv.history.Entries.{each_of_entries}
 use Rattle.law_answers.specs.inv.history.Turns.{History, record_of, turns_of, EachTurn}
 use Rattle.law_answers.specs.inv.history.Turns.History.{Blank, Starts, Turns}
 use Rattle.law_answers.specs.inv.history.History as histories
-use Rattle.laws.specs.HistorySteps.{steps_ok, event_bounded, events_bounded, turns_bounded}
-use Rattle.laws.specs.StepLaw.{few_steps}
+use Rattle.law_answers.specs.laws.HistorySteps.{steps_ok, event_bounded, events_bounded, turns_bounded}
+use Rattle.law_answers.specs.laws.StepLaw.{few_steps}
 use Rattle.law_answers.proofs.Lawful.Counts.{records_keep_steps}
 use Rattle.law_answers.proofs.inv.history.AllOf.{all_of}
 use Rattle.law_answers.specs.inv.history.Heard.{heard_of}
 use Rattle.law_answers.specs.Heard.{IsCounted}
 use Rattle.law_answers.proofs.Turns.Counted.{histories_count}
-use Rattle.laws.specs.StateAt.{reserves_of}
-use Rattle.laws.specs.HistoryTurns.{turns_since, number_right, event_right, events_right, numbers_right}
+use Rattle.law_answers.specs.laws.StateAt.{reserves_of}
+use Rattle.law_answers.specs.laws.HistoryTurns.{turns_since, number_right, event_right, events_right, numbers_right}
 use Rattle.law_turns.specs.Records.{ProtectionsEnd}
 use Rattle.law_turns.proofs.Counting.Counting.{protections_count}
 use Rattle.law_answers.proofs.inv.steps_left.Rest.Falling.{wfe_plain}

@@ -2,34 +2,34 @@
 use Rattle.std.proofs.Common.{ℕ, ◌≡◌, ◌≤◌, ◌<◌, ◌+◌, ◌^◌, Bool, true, false, List, [], ◌∷◌, refl, sym, ap, ◌∙◌, subst, arith}
 use Rattle.std.proofs.lemmas.Bool.Decides.{nat_tests}
 use Rattle.std.specs.Prelude.{◌==◌, if◌then◌else◌}
-use Rattle.wfe_core.specs.words.Place.{is_valid, Place as places}
-use Rattle.wfe_core.specs.words.Place.Place.{Clock}
-use Rattle.wfe_core.specs.words.Packed.{reservation_word}
-use Rattle.wfe_core.specs.words.declared.layout.Layout.{Layout}
-use Rattle.wfe_core.specs.defs.declared.call.Call.{Call}
-use Rattle.wfe_core.specs.defs.declared.event.Event.{Event}
-use Rattle.wfe_core.specs.defs.declared.event.Event.TheVariants as events
-use Rattle.wfe_core.specs.defs.declared.event.Root.{Root}
-use Rattle.wfe_core.specs.declared.post.Post.{Post}
-use Rattle.wfe_core.specs.Links.{link_number}
-use Rattle.wfe_core.specs.Locals.{Local, busy_in, begun_post, turn}
-use Rattle.wfe_core.specs.Posts.{counted}
-use Rattle.wfe_core.specs.Rest.{rest}
-use Rattle.wfe_core.specs.Steps as steps
-use Rattle.wfe_core.specs.World.{World, begin, step, finds, is_busy, told_in}
-use Rattle.wfe_core.specs.Phases.{Aim, ProtectAt, MoveAt, Base}
-use Rattle.wfe_core.specs.Phases.ProtectAt.{PublishEra, TakeAnswer}
-use Rattle.wfe_core.specs.Phases.MoveAt.{HandOver}
-use Rattle.wfe_core.specs.Phases.Base.{Protect, Reload, Move}
-use Rattle.wfe_core.specs.Calls.{Why, KeepAt, StoreHeld, Work, Keeping, Phase, Idle, Runs, Scans, Works, ReadGuard, GiveBack, CallTurn}
-use Rattle.wfe_core.proofs.Facts.{same_number, both, first_of, rest_of}
-use Rattle.wfe_core.proofs.Ranges.{bounds_of}
+use Rattle.law_answers.specs.inv.model.words.Place.{is_valid, Place as places}
+use Rattle.law_answers.specs.inv.model.words.Place.Place.{Clock}
+use Rattle.law_answers.specs.inv.model.words.Packed.{reservation_word}
+use Rattle.law_answers.specs.inv.model.words.declared.layout.Layout.{Layout}
+use Rattle.law_answers.specs.inv.model.defs.declared.call.Call.{Call}
+use Rattle.law_answers.specs.inv.model.defs.declared.event.Event.{Event}
+use Rattle.law_answers.specs.inv.model.defs.declared.event.Event.TheVariants as events
+use Rattle.law_answers.specs.inv.model.defs.declared.event.Root.{Root}
+use Rattle.law_answers.specs.inv.model.declared.post.Post.{Post}
+use Rattle.law_answers.specs.inv.model.Links.{link_number}
+use Rattle.law_answers.specs.inv.model.Locals.{Local, busy_in, begun_post, turn}
+use Rattle.law_answers.specs.inv.model.Posts.{counted}
+use Rattle.law_answers.specs.inv.model.Rest.{rest}
+use Rattle.law_answers.specs.inv.model.Steps as steps
+use Rattle.law_answers.specs.inv.model.World.{World, begin, step, finds, is_busy, told_in}
+use Rattle.law_answers.specs.inv.model.Phases.{Aim, ProtectAt, MoveAt, Base}
+use Rattle.law_answers.specs.inv.model.Phases.ProtectAt.{PublishEra, TakeAnswer}
+use Rattle.law_answers.specs.inv.model.Phases.MoveAt.{HandOver}
+use Rattle.law_answers.specs.inv.model.Phases.Base.{Protect, Reload, Move}
+use Rattle.law_answers.specs.inv.model.Calls.{Why, KeepAt, StoreHeld, Work, Keeping, Phase, Idle, Runs, Scans, Works, ReadGuard, GiveBack, CallTurn}
+use Rattle.law_answers.proofs.inv.model.Facts.{same_number, both, first_of, rest_of}
+use Rattle.law_answers.proofs.inv.model.Ranges.{bounds_of}
 use Rattle.law_answers.specs.inv.history.Turns as schedule
 use Rattle.law_answers.specs.inv.history.Turns.{record_of, turns_of, EachTurn}
 use Rattle.law_answers.specs.inv.history.Turns.History.{Blank, Starts, Turns}
 use Rattle.law_answers.specs.inv.history.History.{Begins, Steps, Made, done, first_made}
 use Rattle.law_answers.specs.inv.shapes.Eras.{EraIn}
-use Rattle.wfe_core.specs.words.Schemes.{is_ibr}
+use Rattle.law_answers.specs.inv.model.words.Schemes.{is_ibr}
 use Rattle.law_answers.specs.inv.shapes.Frame.{phase_left}
 use Rattle.law_answers.specs.inv.shapes.Seats.{PostFits, PhaseFits}
 use Rattle.law_answers.specs.inv.shapes.Slots.{KeepIn, WorkIn, PhaseIn}
@@ -49,8 +49,8 @@ use Rattle.law_answers.proofs.inv.Inv.Shapes.{eras_of}
 use Rattle.law_answers.proofs.inv.Inv.Guards.{rests_need}
 use Rattle.law_answers.proofs.inv.Inv.Whole.{handover_need}
 use Rattle.law_answers.proofs.inv.history.Passes.{First, step_goes}
-use Rattle.laws.specs.StateAt.{reserves_of}
-use Rattle.laws.specs.HistoryTurns.{turns_since, event_right, events_right, numbers_right}
+use Rattle.law_answers.specs.laws.StateAt.{reserves_of}
+use Rattle.law_answers.specs.laws.HistoryTurns.{turns_since, event_right, events_right, numbers_right}
 use Rattle.law_turns.specs.Records.{ProtectionsCount}
 use Rattle.law_answers.proofs.OneStep.Along.{Around, Kept, history_keeps}
 use Rattle.law_turns.proofs.Counting.Fits.{own, base_own, unused, Clean, Fits, Left, WorkRight, first_fits}

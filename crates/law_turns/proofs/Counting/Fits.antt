@@ -3,44 +3,44 @@
 use Rattle.std.proofs.Common.{ℕ, ◌≡◌, ◌≢◌, ◌≤◌, ◌<◌, ◌+◌, ◌-◌, Bool, true, false, List, [], ◌∷◌, ◌++◌, length, Option, Some, None, refl, sym, ◌∙◌, subst, arith}
 use Rattle.std.proofs.lemmas.Bool.Decides.{nat_tests}
 use Rattle.std.specs.Prelude.{◌==◌, ◌&&◌, ◌||◌, ◌*◌, ◌%◌, not, nat_le, nat_lt, is_none, is_some, if◌then◌else◌}
-use Rattle.wfe_core.specs.words.declared.config.SchemeKind.{SchemeKind}
-use Rattle.wfe_core.specs.words.declared.config.SchemeKind.TheVariants.{He, Ibr, Wfe}
-use Rattle.wfe_core.specs.defs.declared.call.Answer.{Answer}
-use Rattle.wfe_core.specs.defs.declared.call.Answer.TheVariants as the_answers
-use Rattle.wfe_core.specs.defs.declared.call.Call.{Call}
-use Rattle.wfe_core.specs.defs.declared.call.Call.TheVariants as names
-use Rattle.wfe_core.specs.defs.declared.call.ClockMove.TheVariants as moves
-use Rattle.wfe_core.specs.defs.declared.event.Event.{Event}
-use Rattle.wfe_core.specs.defs.declared.event.Event.TheVariants as events
-use Rattle.wfe_core.specs.defs.declared.event.Root.{Root}
-use Rattle.wfe_core.specs.defs.declared.event.Root.TheVariants as roots
-use Rattle.wfe_core.specs.declared.ends.AllocateEnd.{AllocateEnd}
-use Rattle.wfe_core.specs.declared.ends.AllocateEnd.TheVariants as allocate_ends
-use Rattle.wfe_core.specs.declared.ends.FollowEnd.{FollowEnd}
-use Rattle.wfe_core.specs.declared.ends.FollowEnd.TheVariants as follow_ends
-use Rattle.wfe_core.specs.declared.ends.ProtectEnd.TheVariants as protect_ends
-use Rattle.wfe_core.specs.declared.post.Post.{Post}
-use Rattle.wfe_core.specs.Change as alters
-use Rattle.wfe_core.specs.Dequeue as dequeues
-use Rattle.wfe_core.specs.Desks.{Desk, with_life}
-use Rattle.wfe_core.specs.Enqueue as enqueues
-use Rattle.wfe_core.specs.Get as gets
-use Rattle.wfe_core.specs.Guards.{guards, guard_at, eras_in, one_era, published}
-use Rattle.wfe_core.specs.Keep as keeps
-use Rattle.wfe_core.specs.Posts.{reserves_index, stands, with_row}
-use Rattle.laws.specs.StateAt.{one_more}
-use Rattle.wfe_core.specs.Rounds.{scheme_of, bucket_of, index_of, root_of, taken_of, begin_base, protect_base, let_index, letting, letting_by, release_base, clear_base, finish_base, opening, round_by, round, given_up, closed, finishing_by, finishing, clearing_by, clearing, clearing_next_by, clearing_next}
-use Rattle.wfe_core.specs.Scan as scan
-use Rattle.wfe_core.specs.Steps as steps
-use Rattle.wfe_core.specs.Phases.{Tries, Endless, Failed, ProtectAt, Base, Ending, Outcome, Goes, Ends}
-use Rattle.wfe_core.specs.Phases.ProtectAt.{LoadClock, PublishEra, LoadLink, CheckClock, PublishRequest, LoadOwnClock, PublishHelper, LoadOwnLink, CheckOwnClock, AnswerOwn, LoadAnswer, TakeAnswer, WithdrawRequest, WithdrawHelper, LoadWithin, CheckUpper, RaiseUpper}
-use Rattle.wfe_core.specs.Phases.Base.{Protect, Reload}
-use Rattle.wfe_core.specs.Phases.Ending.{Done, Protected, Followed, Allocated, Retired, Clocked}
-use Rattle.wfe_core.specs.Calls.{Task, Gets, Changes, Holds, Enqueues, Dequeues, Next, Again, MakeRoom, Answering, Retiring, AfterScan, Answered, Repeated, Counted, ChangeKept, EnqueueKept, GetAt, FindVersion, FindCount, FindKey, FindValue, ChangeAt, LoadVersion, LoadCount, LoadKey, LoadValue, ExchangeRoot, EnqueueAt, LoadNumber, LoadNext, PassTail, ExchangeNext, ExchangeTail, DequeueAt, LoadTail, SwingTail, TakeNumber, TakeValue, ExchangeHead, Work, Getting, Changing, Enqueuing, Dequeuing, Keeping, KeepAt, Loosens, LoadHeld, StoreHeld, Looks, Misses, LetGo, Released, Rehold, Dropped, ScanAt, ReadGuard, GiveBack, Why, Opens, FollowsHead, Fills, ClearsNext, Clears, Finishes, GivesUp, Retires, Tidies, Advances, Releases, Phase, Idle, Runs, Scans, Works, CallTurn}
-use Rattle.wfe_core.specs.words.Schemes.{has_one_interval, is_ibr, is_he}
-use Rattle.wfe_core.specs.defs.declared.fold.Change.TheVariants as changes
-use Rattle.wfe_core.proofs.Facts.{false_not_true}
-use Rattle.wfe_core.proofs.Standing.{stands-with_row_same, stands-with_row_other}
+use Rattle.law_answers.specs.inv.model.words.declared.config.SchemeKind.{SchemeKind}
+use Rattle.law_answers.specs.inv.model.words.declared.config.SchemeKind.TheVariants.{He, Ibr, Wfe}
+use Rattle.law_answers.specs.inv.model.defs.declared.call.Answer.{Answer}
+use Rattle.law_answers.specs.inv.model.defs.declared.call.Answer.TheVariants as the_answers
+use Rattle.law_answers.specs.inv.model.defs.declared.call.Call.{Call}
+use Rattle.law_answers.specs.inv.model.defs.declared.call.Call.TheVariants as names
+use Rattle.law_answers.specs.inv.model.defs.declared.call.ClockMove.TheVariants as moves
+use Rattle.law_answers.specs.inv.model.defs.declared.event.Event.{Event}
+use Rattle.law_answers.specs.inv.model.defs.declared.event.Event.TheVariants as events
+use Rattle.law_answers.specs.inv.model.defs.declared.event.Root.{Root}
+use Rattle.law_answers.specs.inv.model.defs.declared.event.Root.TheVariants as roots
+use Rattle.law_answers.specs.inv.model.declared.ends.AllocateEnd.{AllocateEnd}
+use Rattle.law_answers.specs.inv.model.declared.ends.AllocateEnd.TheVariants as allocate_ends
+use Rattle.law_answers.specs.inv.model.declared.ends.FollowEnd.{FollowEnd}
+use Rattle.law_answers.specs.inv.model.declared.ends.FollowEnd.TheVariants as follow_ends
+use Rattle.law_answers.specs.inv.model.declared.ends.ProtectEnd.TheVariants as protect_ends
+use Rattle.law_answers.specs.inv.model.declared.post.Post.{Post}
+use Rattle.law_answers.specs.inv.model.Change as alters
+use Rattle.law_answers.specs.inv.model.Dequeue as dequeues
+use Rattle.law_answers.specs.inv.model.Desks.{Desk, with_life}
+use Rattle.law_answers.specs.inv.model.Enqueue as enqueues
+use Rattle.law_answers.specs.inv.model.Get as gets
+use Rattle.law_answers.specs.inv.model.Guards.{guards, guard_at, eras_in, one_era, published}
+use Rattle.law_answers.specs.inv.model.Keep as keeps
+use Rattle.law_answers.specs.inv.model.Posts.{reserves_index, stands, with_row}
+use Rattle.law_answers.specs.laws.StateAt.{one_more}
+use Rattle.law_answers.specs.inv.model.Rounds.{scheme_of, bucket_of, index_of, root_of, taken_of, begin_base, protect_base, let_index, letting, letting_by, release_base, clear_base, finish_base, opening, round_by, round, given_up, closed, finishing_by, finishing, clearing_by, clearing, clearing_next_by, clearing_next}
+use Rattle.law_answers.specs.inv.model.Scan as scan
+use Rattle.law_answers.specs.inv.model.Steps as steps
+use Rattle.law_answers.specs.inv.model.Phases.{Tries, Endless, Failed, ProtectAt, Base, Ending, Outcome, Goes, Ends}
+use Rattle.law_answers.specs.inv.model.Phases.ProtectAt.{LoadClock, PublishEra, LoadLink, CheckClock, PublishRequest, LoadOwnClock, PublishHelper, LoadOwnLink, CheckOwnClock, AnswerOwn, LoadAnswer, TakeAnswer, WithdrawRequest, WithdrawHelper, LoadWithin, CheckUpper, RaiseUpper}
+use Rattle.law_answers.specs.inv.model.Phases.Base.{Protect, Reload}
+use Rattle.law_answers.specs.inv.model.Phases.Ending.{Done, Protected, Followed, Allocated, Retired, Clocked}
+use Rattle.law_answers.specs.inv.model.Calls.{Task, Gets, Changes, Holds, Enqueues, Dequeues, Next, Again, MakeRoom, Answering, Retiring, AfterScan, Answered, Repeated, Counted, ChangeKept, EnqueueKept, GetAt, FindVersion, FindCount, FindKey, FindValue, ChangeAt, LoadVersion, LoadCount, LoadKey, LoadValue, ExchangeRoot, EnqueueAt, LoadNumber, LoadNext, PassTail, ExchangeNext, ExchangeTail, DequeueAt, LoadTail, SwingTail, TakeNumber, TakeValue, ExchangeHead, Work, Getting, Changing, Enqueuing, Dequeuing, Keeping, KeepAt, Loosens, LoadHeld, StoreHeld, Looks, Misses, LetGo, Released, Rehold, Dropped, ScanAt, ReadGuard, GiveBack, Why, Opens, FollowsHead, Fills, ClearsNext, Clears, Finishes, GivesUp, Retires, Tidies, Advances, Releases, Phase, Idle, Runs, Scans, Works, CallTurn}
+use Rattle.law_answers.specs.inv.model.words.Schemes.{has_one_interval, is_ibr, is_he}
+use Rattle.law_answers.specs.inv.model.defs.declared.fold.Change.TheVariants as changes
+use Rattle.law_answers.proofs.inv.model.Facts.{false_not_true}
+use Rattle.law_answers.proofs.inv.model.Standing.{stands-with_row_same, stands-with_row_other}
 use Rattle.law_answers.specs.inv.shapes.Frame.{KeepFits, phase_left}
 use Rattle.law_answers.specs.inv.covers.Rests.{spare, bare, beside, within, deep, vacant_later, vacant_work, vacant_released}
 use Rattle.law_answers.proofs.inv.covers.Resting.{bare_own}

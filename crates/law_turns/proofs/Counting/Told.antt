@@ -2,27 +2,27 @@
 use Rattle.std.proofs.Common.{ℕ, ◌≡◌, ◌≤◌, ◌+◌, Bool, true, false, List, [], ◌∷◌, ◌++◌, Option, Some, None, refl, ap, ◌∙◌, arith}
 use Rattle.std.proofs.lemmas.Bool.Decides.{nat_tests}
 use Rattle.std.specs.Prelude.{◌==◌, ◌&&◌, if◌then◌else◌, not, is_some}
-use Rattle.wfe_core.specs.words.declared.config.SchemeKind.{SchemeKind}
-use Rattle.wfe_core.specs.defs.declared.event.Event.{Event}
-use Rattle.wfe_core.specs.defs.declared.event.Event.TheVariants as events
-use Rattle.wfe_core.specs.defs.declared.event.Guard.TheVariants.{Helper, Index, Whole}
-use Rattle.wfe_core.specs.defs.declared.event.Root.{Root}
-use Rattle.wfe_core.specs.defs.declared.lifetime.Interval.{Interval}
-use Rattle.wfe_core.specs.declared.post.Post.{Post}
-use Rattle.wfe_core.specs.Guards.{one_era}
-use Rattle.wfe_core.specs.Machine as machine
-use Rattle.wfe_core.specs.Posts.{cleared, reserves_index, stands}
-use Rattle.wfe_core.specs.Protect as protects
-use Rattle.wfe_core.specs.Rounds.{scheme_of, clear_told, let_index}
-use Rattle.wfe_core.specs.words.Schemes.{has_one_interval}
-use Rattle.wfe_core.specs.Calls.{KeepAt, Loosens, LoadHeld, StoreHeld, Looks, Misses, Work, Keeping}
-use Rattle.wfe_core.specs.Phases.{Base}
-use Rattle.wfe_core.proofs.Facts.{same_number, both, first_of, rest_of, and_true}
+use Rattle.law_answers.specs.inv.model.words.declared.config.SchemeKind.{SchemeKind}
+use Rattle.law_answers.specs.inv.model.defs.declared.event.Event.{Event}
+use Rattle.law_answers.specs.inv.model.defs.declared.event.Event.TheVariants as events
+use Rattle.law_answers.specs.inv.model.defs.declared.event.Guard.TheVariants.{Helper, Index, Whole}
+use Rattle.law_answers.specs.inv.model.defs.declared.event.Root.{Root}
+use Rattle.law_answers.specs.inv.model.defs.declared.lifetime.Interval.{Interval}
+use Rattle.law_answers.specs.inv.model.declared.post.Post.{Post}
+use Rattle.law_answers.specs.inv.model.Guards.{one_era}
+use Rattle.law_answers.specs.inv.model.Machine as machine
+use Rattle.law_answers.specs.inv.model.Posts.{cleared, reserves_index, stands}
+use Rattle.law_answers.specs.inv.model.Protect as protects
+use Rattle.law_answers.specs.inv.model.Rounds.{scheme_of, clear_told, let_index}
+use Rattle.law_answers.specs.inv.model.words.Schemes.{has_one_interval}
+use Rattle.law_answers.specs.inv.model.Calls.{KeepAt, Loosens, LoadHeld, StoreHeld, Looks, Misses, Work, Keeping}
+use Rattle.law_answers.specs.inv.model.Phases.{Base}
+use Rattle.law_answers.proofs.inv.model.Facts.{same_number, both, first_of, rest_of, and_true}
 use Rattle.law_answers.specs.inv.history.Record.{Past, tells_of}
 use Rattle.law_answers.specs.inv.history.Record.Past.{Then}
 use Rattle.law_answers.proofs.inv.history.Passes.{is_quiet, all_quiet, Closed, copied_told, keep_told, work_told}
-use Rattle.laws.specs.StateAt.{one_more, reserves_by, reserves_of}
-use Rattle.laws.specs.HistoryTurns.{event_right, events_right}
+use Rattle.law_answers.specs.laws.StateAt.{one_more, reserves_by, reserves_of}
+use Rattle.law_answers.specs.laws.HistoryTurns.{event_right, events_right}
 use Rattle.law_answers.proofs.inv.history.MayTell.{Tells, base_all, held_any, cleared_all, clear_all, is_find, is_index, finds, stores_index, no_find, no_index, work_all}
 use Rattle.law_answers.proofs.inv.history.AllOf.{all_of, of_along, of_weaker, of_both}
 use Rattle.law_answers.specs.inv.shapes.Frame.{KeepFits, WorkFits}

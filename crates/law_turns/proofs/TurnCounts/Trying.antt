@@ -3,28 +3,28 @@ use Rattle.law_turns.proofs.Withdrawals.Leaving.{tries_none}
 use Rattle.std.proofs.Common.{ℕ, ◌≡◌, ◌-◌, ◌+◌, Bool, true, false, List, [], ◌∷◌, ◌++◌, Option, Some, None, refl, ap, ◌∙◌, arith}
 use Rattle.std.proofs.lemmas.Bool.Decides.{nat_tests}
 use Rattle.std.specs.Prelude.{◌==◌, ◌&&◌, ◌||◌, not, nat_le, if◌then◌else◌}
-use Rattle.wfe_core.specs.words.declared.config.Config.{Config}
-use Rattle.wfe_core.specs.defs.declared.event.Event.{Event}
-use Rattle.wfe_core.specs.defs.declared.event.Event.TheVariants as events
-use Rattle.wfe_core.specs.defs.declared.event.Guard.TheVariants.{Helper, Index, Whole}
-use Rattle.wfe_core.specs.defs.declared.event.Root.{Root}
-use Rattle.wfe_core.specs.defs.declared.event.Root.TheVariants as roots
-use Rattle.wfe_core.specs.declared.ends.FollowEnd.TheVariants as follow_ends
-use Rattle.wfe_core.specs.declared.post.Post.{Post}
-use Rattle.wfe_core.specs.Protect as protects
-use Rattle.wfe_core.specs.Guards.{one_era}
-use Rattle.wfe_core.specs.Posts.{cleared, reserves_index, stands}
-use Rattle.wfe_core.specs.words.Schemes.{has_one_interval}
-use Rattle.wfe_core.specs.Calls.{KeepAt, Loosens, LoadHeld, StoreHeld, Looks, Misses, Work, Keeping}
-use Rattle.wfe_core.specs.Rounds.{scheme_of, clear_told, let_index}
-use Rattle.wfe_core.specs.Phases.{Aim, Alone, Follows, Tries, Endless, Failed, ProtectAt, Base, Turn, Outcome, Goes, Ends}
-use Rattle.wfe_core.specs.Phases.ProtectAt.{LoadClock, PublishEra, LoadLink, CheckClock, WithdrawRequest, WithdrawHelper, LoadWithin, CheckUpper, RaiseUpper}
-use Rattle.wfe_core.specs.Phases.Base.{Protect, Reload}
-use Rattle.wfe_core.specs.Phases.Ending.{Followed}
-use Rattle.wfe_core.proofs.Facts.{first_of, rest_of}
+use Rattle.law_answers.specs.inv.model.words.declared.config.Config.{Config}
+use Rattle.law_answers.specs.inv.model.defs.declared.event.Event.{Event}
+use Rattle.law_answers.specs.inv.model.defs.declared.event.Event.TheVariants as events
+use Rattle.law_answers.specs.inv.model.defs.declared.event.Guard.TheVariants.{Helper, Index, Whole}
+use Rattle.law_answers.specs.inv.model.defs.declared.event.Root.{Root}
+use Rattle.law_answers.specs.inv.model.defs.declared.event.Root.TheVariants as roots
+use Rattle.law_answers.specs.inv.model.declared.ends.FollowEnd.TheVariants as follow_ends
+use Rattle.law_answers.specs.inv.model.declared.post.Post.{Post}
+use Rattle.law_answers.specs.inv.model.Protect as protects
+use Rattle.law_answers.specs.inv.model.Guards.{one_era}
+use Rattle.law_answers.specs.inv.model.Posts.{cleared, reserves_index, stands}
+use Rattle.law_answers.specs.inv.model.words.Schemes.{has_one_interval}
+use Rattle.law_answers.specs.inv.model.Calls.{KeepAt, Loosens, LoadHeld, StoreHeld, Looks, Misses, Work, Keeping}
+use Rattle.law_answers.specs.inv.model.Rounds.{scheme_of, clear_told, let_index}
+use Rattle.law_answers.specs.inv.model.Phases.{Aim, Alone, Follows, Tries, Endless, Failed, ProtectAt, Base, Turn, Outcome, Goes, Ends}
+use Rattle.law_answers.specs.inv.model.Phases.ProtectAt.{LoadClock, PublishEra, LoadLink, CheckClock, WithdrawRequest, WithdrawHelper, LoadWithin, CheckUpper, RaiseUpper}
+use Rattle.law_answers.specs.inv.model.Phases.Base.{Protect, Reload}
+use Rattle.law_answers.specs.inv.model.Phases.Ending.{Followed}
+use Rattle.law_answers.proofs.inv.model.Facts.{first_of, rest_of}
 use Rattle.law_answers.proofs.inv.history.Passes.{Closed, copied_told, keep_told, work_told}
 use Rattle.law_turns.proofs.Counting.Told.{is_dull, all_dull, cleared_dull}
-use Rattle.laws.specs.StateAt.{one_more, tried_by, last_by}
+use Rattle.law_answers.specs.laws.StateAt.{one_more, tried_by, last_by}
 use Rattle.law_turns.proofs.Withdrawals.Withdrawing.{is_mute, all_mute, quiet_mute, clear_mute, tells_link}
 use Rattle.law_answers.proofs.inv.history.AllOf.{of_weaker}
 

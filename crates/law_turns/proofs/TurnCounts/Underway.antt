@@ -2,20 +2,20 @@
 use Rattle.std.proofs.Common.{ℕ, ◌≡◌, ◌≤◌, ◌<◌, ◌+◌, Bool, true, false, List, refl, sym, ap, ◌∙◌, subst, arith}
 use Rattle.std.proofs.lemmas.Bool.Decides.{nat_tests}
 use Rattle.std.specs.Prelude.{◌==◌, ◌*◌, nat_le, if◌then◌else◌}
-use Rattle.wfe_core.specs.words.declared.config.Config.{Config}
-use Rattle.wfe_core.specs.words.declared.layout.Layout.{Layout}
-use Rattle.wfe_core.specs.defs.declared.call.Call.{Call}
-use Rattle.wfe_core.specs.defs.declared.event.Event.{Event}
-use Rattle.wfe_core.specs.Locals.{Local, busy_in, begun_post}
-use Rattle.wfe_core.specs.Machine as machine
-use Rattle.wfe_core.specs.Posts.{counted}
-use Rattle.wfe_core.specs.Steps as steps
-use Rattle.wfe_core.specs.World.{World, begin, step, finds, is_busy, told_in}
-use Rattle.wfe_core.specs.Phases.{Base, Turn}
-use Rattle.wfe_core.specs.Phases.Base.{Protect, Reload}
-use Rattle.wfe_core.specs.Calls.{Why, Opens, FollowsHead, Fills, ClearsNext, Clears, Finishes, GivesUp, Retires, Tidies, Advances, Releases, Phase, Idle, Runs, Scans, Works}
-use Rattle.wfe_core.proofs.Facts.{zero_of_test, le_test}
-use Rattle.wfe_core.specs.words.Schemes.{is_ibr, is_wfe}
+use Rattle.law_answers.specs.inv.model.words.declared.config.Config.{Config}
+use Rattle.law_answers.specs.inv.model.words.declared.layout.Layout.{Layout}
+use Rattle.law_answers.specs.inv.model.defs.declared.call.Call.{Call}
+use Rattle.law_answers.specs.inv.model.defs.declared.event.Event.{Event}
+use Rattle.law_answers.specs.inv.model.Locals.{Local, busy_in, begun_post}
+use Rattle.law_answers.specs.inv.model.Machine as machine
+use Rattle.law_answers.specs.inv.model.Posts.{counted}
+use Rattle.law_answers.specs.inv.model.Steps as steps
+use Rattle.law_answers.specs.inv.model.World.{World, begin, step, finds, is_busy, told_in}
+use Rattle.law_answers.specs.inv.model.Phases.{Base, Turn}
+use Rattle.law_answers.specs.inv.model.Phases.Base.{Protect, Reload}
+use Rattle.law_answers.specs.inv.model.Calls.{Why, Opens, FollowsHead, Fills, ClearsNext, Clears, Finishes, GivesUp, Retires, Tidies, Advances, Releases, Phase, Idle, Runs, Scans, Works}
+use Rattle.law_answers.proofs.inv.model.Facts.{zero_of_test, le_test}
+use Rattle.law_answers.specs.inv.model.words.Schemes.{is_ibr, is_wfe}
 use Rattle.law_answers.specs.inv.shapes.Frame.{Moves}
 use Rattle.law_answers.specs.inv.shapes.Seats.{PostFits, PhaseFits, Run, kind_of, suits, index_by}
 use Rattle.law_answers.proofs.inv.shapes.Frame.{seat_stays, begin_stays, begin_begins}
@@ -27,14 +27,14 @@ use Rattle.law_answers.specs.inv.history.Turns.{record_of, EachTurn}
 use Rattle.law_answers.specs.inv.history.Turns.History.{Blank, Starts, Turns}
 use Rattle.law_answers.specs.inv.history.History.{Begins, Steps, Made, done, first_made}
 use Rattle.law_answers.specs.inv.Inv.{Inv}
-use Rattle.laws.specs.HistoryTurns.{turns_since}
+use Rattle.law_answers.specs.laws.HistoryTurns.{turns_since}
 use Rattle.law_answers.proofs.OneStep.Along.{Around, Kept, history_keeps}
 use Rattle.law_turns.proofs.Counting.Counting as counting
 use Rattle.law_turns.proofs.Counting.Counting.{published, since_of, turned_here}
 use Rattle.law_turns.proofs.Counting.Fits.{own, base_own}
 use Rattle.law_turns.proofs.Counting.Passing.{turned}
-use Rattle.laws.specs.HistorySteps.{due_of, under_way, lasts_right}
-use Rattle.laws.specs.StateAt.{tried_of, last_of}
+use Rattle.law_answers.specs.laws.HistorySteps.{due_of, under_way, lasts_right}
+use Rattle.law_answers.specs.laws.StateAt.{tried_of, last_of}
 use Rattle.law_turns.specs.Records.{ProtectionsLast}
 use Rattle.law_turns.proofs.Withdrawals.Due as due
 use Rattle.law_turns.proofs.Withdrawals.Leaving.{Left, stepped_leads, first_new}

@@ -1,38 +1,38 @@
 -- Along a history it is known which helper words publish, and which have to be withdrawn.
-use Rattle.wfe_core.specs.words.Schemes.{is_ibr}
+use Rattle.law_answers.specs.inv.model.words.Schemes.{is_ibr}
 use Rattle.std.proofs.Common.{ℕ, ◌≡◌, ◌+◌, Bool, true, false, List, [], ◌∷◌, ◌++◌, refl, sym, ap, ◌∙◌, subst, arith, Option, Some, None}
 use Rattle.std.proofs.lemmas.Bool.Decides.{nat_tests}
 use Rattle.std.specs.Prelude.{◌==◌, nat_le, nat_lt, if◌then◌else◌}
-use Rattle.wfe_core.specs.words.Packed.{reservation_word, read_reservation, read_request}
-use Rattle.wfe_core.specs.words.declared.packed.Request.{Request}
-use Rattle.wfe_core.specs.words.declared.packed.Request.TheVariants as requests
-use Rattle.wfe_core.specs.words.declared.config.Config.{Config}
-use Rattle.wfe_core.specs.words.declared.layout.Layout.{Layout}
-use Rattle.wfe_core.specs.defs.declared.call.Call.{Call}
-use Rattle.wfe_core.specs.defs.declared.event.Event.{Event}
-use Rattle.wfe_core.specs.defs.declared.event.Root.{Root}
-use Rattle.wfe_core.specs.declared.post.Post.{Post}
-use Rattle.wfe_core.specs.Allocate as allocates
-use Rattle.wfe_core.specs.Desks.{Desk}
-use Rattle.wfe_core.specs.Locals.{Local, busy_in, begun_post, told_by}
-use Rattle.wfe_core.specs.Machine as machine
-use Rattle.wfe_core.specs.Memory.{bump}
-use Rattle.wfe_core.specs.MoveClock as movers
-use Rattle.wfe_core.specs.Posts.{counted, upper, reserves_helper}
-use Rattle.wfe_core.specs.Protect as protects
-use Rattle.wfe_core.specs.SlowPath as slow
-use Rattle.wfe_core.specs.Steps as steps
-use Rattle.wfe_core.specs.WriteRow.{last_written}
-use Rattle.wfe_core.specs.World.{World, begin, step, finds, is_busy, told_in}
-use Rattle.wfe_core.specs.Phases.{Aim, Alone, Follows, Tries, Endless, Failed, ProtectAt, MoveAt, Walk, Base, Turn, Outcome, Goes, Ends}
-use Rattle.wfe_core.specs.Phases.BeginAt.{LoadLower}
-use Rattle.wfe_core.specs.Phases.ProtectAt.{LoadClock, PublishEra, LoadLink, CheckClock, PublishRequest, PublishHelper, CheckOwnClock, AnswerOwn, LoadAnswer, WithdrawRequest, WithdrawHelper, LoadWithin, CheckUpper}
-use Rattle.wfe_core.specs.Phases.AllocateAt.{ClaimSlot}
-use Rattle.wfe_core.specs.Phases.RetireAt.{LoadLife}
-use Rattle.wfe_core.specs.Phases.MoveAt.{LoadEra, LoadRequest, ShowEra, CheckEra, AnswerAsked, LoadReserved, HandOver, ExchangeClock}
-use Rattle.wfe_core.specs.Phases.Base.{Begin, Protect, Reload, Allocate, Write, Retire, Move}
-use Rattle.wfe_core.specs.Calls.{Why, Phase, Idle, Runs, Scans, Works}
-use Rattle.wfe_core.proofs.Facts.{same_number}
+use Rattle.law_answers.specs.inv.model.words.Packed.{reservation_word, read_reservation, read_request}
+use Rattle.law_answers.specs.inv.model.words.declared.packed.Request.{Request}
+use Rattle.law_answers.specs.inv.model.words.declared.packed.Request.TheVariants as requests
+use Rattle.law_answers.specs.inv.model.words.declared.config.Config.{Config}
+use Rattle.law_answers.specs.inv.model.words.declared.layout.Layout.{Layout}
+use Rattle.law_answers.specs.inv.model.defs.declared.call.Call.{Call}
+use Rattle.law_answers.specs.inv.model.defs.declared.event.Event.{Event}
+use Rattle.law_answers.specs.inv.model.defs.declared.event.Root.{Root}
+use Rattle.law_answers.specs.inv.model.declared.post.Post.{Post}
+use Rattle.law_answers.specs.inv.model.Allocate as allocates
+use Rattle.law_answers.specs.inv.model.Desks.{Desk}
+use Rattle.law_answers.specs.inv.model.Locals.{Local, busy_in, begun_post, told_by}
+use Rattle.law_answers.specs.inv.model.Machine as machine
+use Rattle.law_answers.specs.inv.model.Memory.{bump}
+use Rattle.law_answers.specs.inv.model.MoveClock as movers
+use Rattle.law_answers.specs.inv.model.Posts.{counted, upper, reserves_helper}
+use Rattle.law_answers.specs.inv.model.Protect as protects
+use Rattle.law_answers.specs.inv.model.SlowPath as slow
+use Rattle.law_answers.specs.inv.model.Steps as steps
+use Rattle.law_answers.specs.inv.model.WriteRow.{last_written}
+use Rattle.law_answers.specs.inv.model.World.{World, begin, step, finds, is_busy, told_in}
+use Rattle.law_answers.specs.inv.model.Phases.{Aim, Alone, Follows, Tries, Endless, Failed, ProtectAt, MoveAt, Walk, Base, Turn, Outcome, Goes, Ends}
+use Rattle.law_answers.specs.inv.model.Phases.BeginAt.{LoadLower}
+use Rattle.law_answers.specs.inv.model.Phases.ProtectAt.{LoadClock, PublishEra, LoadLink, CheckClock, PublishRequest, PublishHelper, CheckOwnClock, AnswerOwn, LoadAnswer, WithdrawRequest, WithdrawHelper, LoadWithin, CheckUpper}
+use Rattle.law_answers.specs.inv.model.Phases.AllocateAt.{ClaimSlot}
+use Rattle.law_answers.specs.inv.model.Phases.RetireAt.{LoadLife}
+use Rattle.law_answers.specs.inv.model.Phases.MoveAt.{LoadEra, LoadRequest, ShowEra, CheckEra, AnswerAsked, LoadReserved, HandOver, ExchangeClock}
+use Rattle.law_answers.specs.inv.model.Phases.Base.{Begin, Protect, Reload, Allocate, Write, Retire, Move}
+use Rattle.law_answers.specs.inv.model.Calls.{Why, Phase, Idle, Runs, Scans, Works}
+use Rattle.law_answers.proofs.inv.model.Facts.{same_number}
 use Rattle.law_answers.specs.inv.shapes.Eras.{Eras}
 use Rattle.law_answers.proofs.inv.shapes.Frame.{seat_stays, begin_stays, begin_begins}
 use Rattle.law_answers.proofs.inv.shapes.Kept.{begun_fits}
@@ -47,8 +47,8 @@ use Rattle.law_answers.proofs.inv.Inv.Shapes.{eras_of}
 use Rattle.law_answers.proofs.inv.history.Passes.{Closed, step_goes}
 use Rattle.law_answers.proofs.OneStep.Along.{Around, Kept, history_keeps}
 use Rattle.law_answers.proofs.inv.history.MayTell.{concluded_told}
-use Rattle.laws.specs.StateAt.{shown_by, shown_of}
-use Rattle.laws.specs.HistorySteps.{found_shown, one_less, due_of, withdraws_first, withdraws_by, withdrawn_right}
+use Rattle.law_answers.specs.laws.StateAt.{shown_by, shown_of}
+use Rattle.law_answers.specs.laws.HistorySteps.{found_shown, one_less, due_of, withdraws_first, withdraws_by, withdrawn_right}
 use Rattle.law_turns.specs.Records.{WithdrawalsFollow}
 use Rattle.law_turns.proofs.Withdrawals.Leaving.{is_first, is_new, Leads, Left, stepped_leads, first_new}
 use Rattle.law_turns.proofs.Withdrawals.Withdrawing.{shown_along, at_shows, move_shows, base_shows, phase_shows, base_leaves, phase_leaves, tells_link, base_finds, phase_finds, Shows, PhaseEra, first_shown, shows_closed}

@@ -12,3 +12,9 @@ change_bucket-requires-in-Remove-clause-free g c = λ one. absurd (false≢true 
 
 pub change_bucket-requires-in-PutIf-clause-free : goal.change_bucket-requires-in-PutIf-clause-free
 change_bucket-requires-in-PutIf-clause-free g c = λ one. absurd (false≢true (sym (ap has_one_interval c.requires.scheme) ∙ one))
+
+pub enqueue_item-requires-clause-free : goal.enqueue_item-requires-clause-free
+enqueue_item-requires-clause-free g c = λ one. absurd (false≢true (sym (ap has_one_interval c.requires.scheme) ∙ one))
+
+pub dequeue_item-requires-clause-free : goal.dequeue_item-requires-clause-free
+dequeue_item-requires-clause-free g c = λ one. absurd (false≢true (sym (ap has_one_interval c.requires.scheme) ∙ one))

@@ -13,5 +13,5 @@ finish-requires g c =
     let may : MayAsk (at_phase (first_phase c.args.call c.args.post.now) c.args.post.now c.args.desk.now) = may_ask_at h.local _ (g.W.Words.comes c.args.words.now h.local c.requires.valid h.there) h.is in
     may.valid
 
-pub get_ibr-requires-clause-free : goal.get_ibr-requires-clause-free
-get_ibr-requires-clause-free g c = ends_free c.args.post.now _ (sym c.in-Some-finish.ensures)
+pub get_ibr_in-requires-clause-free : goal.get_ibr_in-requires-clause-free
+get_ibr_in-requires-clause-free g c = ends_free c.args.post.now _ (sym c.in-Some-finish.ensures)

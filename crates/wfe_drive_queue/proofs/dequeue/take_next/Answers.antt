@@ -1,17 +1,19 @@
 -- The tail is read and the next link followed; then the item is taken, or the round ends.
-use Rattle.std.proofs.Common.{ap, subst, sym, ◌∙◌}
-use Rattle.wfe_core.specs.words.Schemes.{has_one_interval}
-use Rattle.wfe_core.specs.words.declared.layout.Layout.{Layout}
+use Rattle.std.proofs.Common.{subst, sym}
 use Rattle.wfe_core.specs.Calls.{FollowsHead}
 use Rattle.wfe_core.specs.DeskHeld.{HasRoom, desk_of}
 use Rattle.wfe_core.specs.declared.post.Post.{Post}
+use Rattle.wfe_drive_queue.specs.drive_runs.Pieces.{IsFree, IsSpanned}
 use Rattle.wfe_drive_queue.proofs.Taking.{head_moved, next_held, next_lags, next_null}
 use Rattle.wfe_drive_runs.proofs.drive_words.Leading.{here_on, then_leads}
 use Rattle.wfe_drive_runs.proofs.Turning.{leads_so_after, may_here}
 use Rattle.wfe_drive_queue.proofs.dequeue.take_next.Goals as goal
 
-pub follow_next-requires-clause-clears : goal.follow_next-requires-clause-clears
-follow_next-requires-clause-clears g c = ap (λ (p : Post). has_one_interval p.layout.config.scheme) c.read_end-tail.ensures.post ∙ c.requires.clears
+pub follow_next-requires-clause-free : goal.follow_next-requires-clause-free
+follow_next-requires-clause-free g c = subst IsFree (sym c.read_end-tail.ensures.post) c.requires.free
+
+pub follow_next-requires-clause-spanned : goal.follow_next-requires-clause-spanned
+follow_next-requires-clause-spanned g c = subst IsSpanned (sym c.read_end-tail.ensures.post) c.requires.spanned
 
 pub follow_next-requires-clause-room : goal.follow_next-requires-clause-room
 follow_next-requires-clause-room g c = subst (λ (p : Post). HasRoom c.args.desk.now p.layout) (sym c.read_end-tail.ensures.post) c.requires.room
@@ -20,7 +22,13 @@ pub returns-then-tail-head-clause-room : goal.returns-then-tail-head-clause-room
 returns-then-tail-head-clause-room g c = subst (λ (p : Post). HasRoom c.follow_next.new.desk p.layout) (sym c.swing_tail.ensures.post) c.follow_next.ensures.room
 
 pub returns-else-tail-head-clause-room : goal.returns-else-tail-head-clause-room
-returns-else-tail-head-clause-room g c = subst (λ (layout : Layout). HasRoom c.follow_next.new.desk layout) (sym c.take.ensures.layout) c.follow_next.ensures.room
+returns-else-tail-head-clause-room g c = subst (λ (p : Post). HasRoom c.follow_next.new.desk p.layout) (sym c.take.ensures.post) c.follow_next.ensures.room
+
+pub returns-then-tail-head-clause-free : goal.returns-then-tail-head-clause-free
+returns-then-tail-head-clause-free g c = subst IsFree (sym c.swing_tail.ensures.post) c.follow_next.ensures.free
+
+pub returns-else-tail-head-clause-free : goal.returns-else-tail-head-clause-free
+returns-else-tail-head-clause-free g c = subst IsFree (sym c.take.ensures.post) c.follow_next.ensures.free
 
 pub follow_next-requires-clause-here : goal.follow_next-requires-clause-here
 follow_next-requires-clause-here g c =

@@ -1,111 +1,113 @@
 -- A round was made and ended, and what comes after it is the answer or another round.
-use Rattle.std.proofs.Common.{None, ap, false, refl, subst, sym, ◌∙◌, ◌≡◌}
-use Rattle.wfe_core.specs.words.Schemes.{has_one_interval}
+use Rattle.std.proofs.Common.{ap, refl, ◌∙◌}
 use Rattle.wfe_core.specs.words.declared.config.Config.{Config}
-use Rattle.wfe_core.specs.words.declared.layout.Layout.{Layout}
-use Rattle.wfe_core.specs.Calls.{Enqueues, Next, Repeated, Task}
-use Rattle.wfe_core.specs.DeskHeld.{HasRoom, desk_of}
-use Rattle.wfe_core.specs.Rounds.{helps, round}
+use Rattle.wfe_core.specs.Calls.{Answering, Enqueues, MakeRoom, Repeated, Task}
+use Rattle.wfe_core.specs.DeskHeld.{desk_of}
+use Rattle.wfe_core.specs.Rounds.{helps}
 use Rattle.wfe_core.specs.declared.desk.Desk.{Desk as HeldDesk}
-use Rattle.wfe_core.specs.declared.post.Post.{Post}
-use Rattle.wfe_drive_queue.specs.Items.{kept_of, next_of}
-use Rattle.wfe_drive_queue.specs.drive_words.Called.{at_phase}
-use Rattle.wfe_drive_runs.proofs.drive_words.Leading.{here_on, leads_as, leads_none, then_closes, then_leads}
-use Rattle.wfe_drive_runs.proofs.Rounding.{again_opens, answer_given, answer_gives_up, room_opens, room_tidies, round_at}
+use Rattle.wfe_drive_queue.specs.Items.{kept_of}
+use Rattle.wfe_drive_runs.proofs.Followings.{room_as}
+use Rattle.wfe_drive_runs.proofs.drive_words.Leading.{here_on, leads_none, then_closes, then_leads}
+use Rattle.wfe_drive_runs.proofs.Rounding.{answer_given, answer_gives_up, room_made, room_tidies}
+use Rattle.wfe_drive_runs.proofs.Spanning.{free_stays}
 use Rattle.wfe_drive_runs.proofs.Turning.{then_turns}
 use Rattle.wfe_drive_queue.proofs.enqueue.enqueue_item.Goals as goal
 
-pub loop-helps-init : goal.loop-helps-init
-loop-helps-init g c =
-    let task : Task = Enqueues (record { value = c.args.value; taken = None; walked = false; tail = 0; number = 0 }) in
+pub loop-words-init : goal.loop-words-init
+loop-words-init g c = record {
+  valid = c.requires.valid;
+  same = g.W.Words.same_self c.args.words.now;
+  room = c.requires.room;
+  free = c.requires.free;
+  leads = leads_none (g.W.Words.at c.args.words.now) (g.W.Words.stands c.args.words.now) _;
+}
+
+pub link_item-requires-clause-here : goal.link_item-requires-clause-here
+link_item-requires-clause-here g c = here_on c.requires.here c.loop-words.invariant.leads
+
+pub close_again-requires-clause-here : goal.close_again-requires-clause-here
+close_again-requires-clause-here g c =
+    let x = then_leads c.loop-words.invariant.leads c.in-Again.ensures.leads in
+    (Enqueues (kept_of c.link_item.new.item), desk_of c.link_item.new.desk, refl, here_on c.requires.here x)
+
+pub loop-words-preserved-in-Again : goal.loop-words-preserved-in-Again
+loop-words-preserved-in-Again g c =
+    let task : Task = Enqueues (kept_of c.link_item.new.item) in
+    let x = then_leads c.loop-words.invariant.leads c.in-Again.ensures.leads in
     record {
-      valid = c.requires.valid;
-      same = g.W.Words.same_self c.args.words.now;
-      room = c.requires.room;
-      layout = refl;
-      leads = leads_as _ _ (round_at task c.args.post.now c.args.desk.now c.requires.clears) (leads_none (g.W.Words.at c.args.words.now) (g.W.Words.stands c.args.words.now) (at_phase (round task c.args.post.now) c.args.post.now c.args.desk.now));
+      valid = c.close_again.ensures.valid;
+      same = g.W.Words.same_on _ _ _ (g.W.Words.same_on _ _ _ c.loop-words.invariant.same c.link_item.ensures.same) c.close_again.ensures.same;
+      room = room_as c.close_again.ensures.layout c.link_item.ensures.room;
+      free = c.close_again.ensures.free;
+      leads = then_leads x (c.close_again.ensures.leads task (desk_of c.link_item.new.desk) refl (here_on c.requires.here x));
     }
 
-pub link_item-ending-requires-clause-clears : goal.link_item-ending-requires-clause-clears
-link_item-ending-requires-clause-clears g c = ap (λ (layout : Layout). has_one_interval layout.config.scheme) c.loop-helps.invariant.layout ∙ c.requires.clears
-
-pub close-requires-clause-clears : goal.close-requires-clause-clears
-close-requires-clause-clears g c = ap (λ (layout : Layout). has_one_interval layout.config.scheme) (c.link_item-ending.ensures.layout ∙ c.loop-helps.invariant.layout) ∙ c.requires.clears
-
-pub loop-helps-preserved-in-Again : goal.loop-helps-preserved-in-Again
-loop-helps-preserved-in-Again g c =
-    let first = c.requires.here in
-    let post : Post = c.close.new.post in
-    let held : HeldDesk = c.link_item-ending.new.desk in
-    let task : Task = Enqueues (kept_of c.link_item-ending.new.item) in
-    let next : Next = next_of c.link_item-ending.result in
-    let x = then_leads c.loop-helps.invariant.leads c.link_item-ending.ensures.leads in
-    let t = then_turns x (c.close.ensures.turns task next (desk_of held) refl (here_on first x)) in
-    let one : has_one_interval post.layout.config.scheme ≡ false = ap (λ (p : Post). has_one_interval p.layout.config.scheme) c.close.ensures.post ∙ ap (λ (layout : Layout). has_one_interval layout.config.scheme) (c.link_item-ending.ensures.layout ∙ c.loop-helps.invariant.layout) ∙ c.requires.clears in
-    record {
-      valid = c.close.ensures.valid;
-      same = g.W.Words.same_on _ _ _ (g.W.Words.same_on _ _ _ c.loop-helps.invariant.same c.link_item-ending.ensures.same) c.close.ensures.same;
-      room = subst (λ (p : Post). HasRoom held p.layout) (sym c.close.ensures.post) c.link_item-ending.ensures.room;
-      layout = ap (λ (p : Post). p.layout) c.close.ensures.post ∙ c.link_item-ending.ensures.layout ∙ c.loop-helps.invariant.layout;
-      leads = again_opens task next post held (ap next_of c.in-Again.is) one t;
-    }
+pub close_round-requires-clause-here : goal.close_round-requires-clause-here
+close_round-requires-clause-here g c =
+    let x = then_leads c.loop-words.invariant.leads c.in-MakeRoom.ensures.leads in
+    (Enqueues (kept_of c.link_item.new.item), MakeRoom, desk_of c.link_item.new.desk, refl, tt, here_on c.requires.here x)
 
 pub tidy-requires-clause-here : goal.tidy-requires-clause-here
 tidy-requires-clause-here g c =
-    let first = c.requires.here in
-    let post : Post = c.close.new.post in
-    let held : HeldDesk = c.link_item-ending.new.desk in
-    let task : Task = Enqueues (kept_of c.link_item-ending.new.item) in
-    let next : Next = next_of c.link_item-ending.result in
-    let x = then_leads c.loop-helps.invariant.leads c.link_item-ending.ensures.leads in
-    let t = then_turns x (c.close.ensures.turns task next (desk_of held) refl (here_on first x)) in
-    (Repeated task, here_on first (room_tidies task next post held c.helps-helps.result (ap next_of c.in-MakeRoom.is) (c.helps-helps.ensures ∙ ap (λ (config : Config). helps config.scheme) c.config.ensures) t))
+    let held : HeldDesk = c.link_item.new.desk in
+    let task : Task = Enqueues (kept_of c.link_item.new.item) in
+    let x = then_leads c.loop-words.invariant.leads c.in-MakeRoom.ensures.leads in
+    let t = then_turns x (c.close_round.ensures.turns task MakeRoom (desk_of held) refl tt (here_on c.requires.here x)) in
+    (Repeated task, here_on c.requires.here (room_tidies task c.close_round.new.post held c.helps-helps.result (c.helps-helps.ensures ∙ ap (λ (config : Config). helps config.scheme) c.config.ensures) t))
 
-pub loop-helps-preserved : goal.loop-helps-preserved
-loop-helps-preserved g c =
-    let first = c.requires.here in
-    let post : Post = c.close.new.post in
-    let held : HeldDesk = c.link_item-ending.new.desk in
-    let task : Task = Enqueues (kept_of c.link_item-ending.new.item) in
-    let next : Next = next_of c.link_item-ending.result in
-    let x = then_leads c.loop-helps.invariant.leads c.link_item-ending.ensures.leads in
-    let t = then_turns x (c.close.ensures.turns task next (desk_of held) refl (here_on first x)) in
-    let one : has_one_interval post.layout.config.scheme ≡ false = ap (λ (p : Post). has_one_interval p.layout.config.scheme) c.close.ensures.post ∙ ap (λ (layout : Layout). has_one_interval layout.config.scheme) (c.link_item-ending.ensures.layout ∙ c.loop-helps.invariant.layout) ∙ c.requires.clears in
-    let y = room_tidies task next post held c.helps-helps.result (ap next_of c.in-MakeRoom.is) (c.helps-helps.ensures ∙ ap (λ (config : Config). helps config.scheme) c.config.ensures) t in
-    let z = c.tidy.ensures.ends (Repeated task) (here_on first y) in
-    let later : has_one_interval c.tidy.new.post.layout.config.scheme ≡ false = ap (λ (layout : Layout). has_one_interval layout.config.scheme) c.tidy.ensures.layout ∙ one in
+pub tidy-requires-clause-room : goal.tidy-requires-clause-room
+tidy-requires-clause-room g c = room_as c.close_round.ensures.layout c.link_item.ensures.room
+
+pub loop-words-preserved : goal.loop-words-preserved
+loop-words-preserved g c =
+    let held : HeldDesk = c.link_item.new.desk in
+    let task : Task = Enqueues (kept_of c.link_item.new.item) in
+    let x = then_leads c.loop-words.invariant.leads c.in-MakeRoom.ensures.leads in
+    let t = then_turns x (c.close_round.ensures.turns task MakeRoom (desk_of held) refl tt (here_on c.requires.here x)) in
+    let y = room_tidies task c.close_round.new.post held c.helps-helps.result (c.helps-helps.ensures ∙ ap (λ (config : Config). helps config.scheme) c.config.ensures) t in
+    let z = c.tidy.ensures.ends (Repeated task) (here_on c.requires.here y) in
     record {
       valid = c.tidy.ensures.valid;
-      same = g.W.Words.same_on _ _ _ (g.W.Words.same_on _ _ _ (g.W.Words.same_on _ _ _ c.loop-helps.invariant.same c.link_item-ending.ensures.same) c.close.ensures.same) c.tidy.ensures.same;
+      same = g.W.Words.same_on _ _ _ (g.W.Words.same_on _ _ _ (g.W.Words.same_on _ _ _ c.loop-words.invariant.same c.link_item.ensures.same) c.close_round.ensures.same) c.tidy.ensures.same;
       room = c.tidy.ensures.room;
-      layout = c.tidy.ensures.layout ∙ ap (λ (p : Post). p.layout) c.close.ensures.post ∙ c.link_item-ending.ensures.layout ∙ c.loop-helps.invariant.layout;
-      leads = then_leads y (room_opens task c.tidy.result c.tidy.new.post c.tidy.new.desk later z);
+      free = free_stays c.close_round.new.post c.tidy.new.post c.tidy.ensures.layout c.tidy.ensures.standing c.close_round.ensures.free;
+      leads = then_leads y (room_made task c.tidy.result c.tidy.new.post c.tidy.new.desk z);
     }
 
+pub close_round-requires-in-Answers-clause-here : goal.close_round-requires-in-Answers-clause-here
+close_round-requires-in-Answers-clause-here g c =
+    let x = then_leads c.loop-words.invariant.leads c.in-Answers.ensures.leads in
+    (Enqueues (kept_of c.link_item.new.item), Answering c.in-Answers.answer, desk_of c.link_item.new.desk, refl, tt, here_on c.requires.here x)
+
+pub give_up-requires-clause-here : goal.give_up-requires-clause-here
+give_up-requires-clause-here g c =
+    let held : HeldDesk = c.link_item.new.desk in
+    let task : Task = Enqueues (kept_of c.link_item.new.item) in
+    let x = then_leads c.loop-words.invariant.leads c.in-Answers.ensures.leads in
+    let t = then_turns x (c.close_round-in-Answers.ensures.turns task (Answering c.in-Answers.answer) (desk_of held) refl tt (here_on c.requires.here x)) in
+    here_on c.requires.here (answer_gives_up task c.in-Answers.answer c.in-Some.slot c.close_round-in-Answers.new.post held c.in-Some.is t)
+
+pub give_up-requires-clause-room : goal.give_up-requires-clause-room
+give_up-requires-clause-room g c = room_as c.close_round-in-Answers.ensures.layout c.link_item.ensures.room
+
 pub returns-in-Some-clause-same : goal.returns-in-Some-clause-same
-returns-in-Some-clause-same g c = g.W.Words.same_on _ _ _ (g.W.Words.same_on _ _ _ (g.W.Words.same_on _ _ _ c.loop-helps.invariant.same c.link_item-ending.ensures.same) c.close.ensures.same) c.give_up.ensures.same
+returns-in-Some-clause-same g c = g.W.Words.same_on _ _ _ (g.W.Words.same_on _ _ _ (g.W.Words.same_on _ _ _ c.loop-words.invariant.same c.link_item.ensures.same) c.close_round-in-Answers.ensures.same) c.give_up.ensures.same
 
 pub returns-in-Some-clause-made : goal.returns-in-Some-clause-made
 returns-in-Some-clause-made g c =
-    let first = c.requires.here in
-    let post : Post = c.close.new.post in
-    let held : HeldDesk = c.link_item-ending.new.desk in
-    let task : Task = Enqueues (kept_of c.link_item-ending.new.item) in
-    let next : Next = next_of c.link_item-ending.result in
-    let x = then_leads c.loop-helps.invariant.leads c.link_item-ending.ensures.leads in
-    let t = then_turns x (c.close.ensures.turns task next (desk_of held) refl (here_on first x)) in
-    then_closes (answer_gives_up task next c.in-Answers.answer c.in-Some.slot post held (ap next_of c.in-Answers.is) c.in-Some.is t) c.give_up.ensures.closes
+    let held : HeldDesk = c.link_item.new.desk in
+    let task : Task = Enqueues (kept_of c.link_item.new.item) in
+    let x = then_leads c.loop-words.invariant.leads c.in-Answers.ensures.leads in
+    let t = then_turns x (c.close_round-in-Answers.ensures.turns task (Answering c.in-Answers.answer) (desk_of held) refl tt (here_on c.requires.here x)) in
+    then_closes (answer_gives_up task c.in-Answers.answer c.in-Some.slot c.close_round-in-Answers.new.post held c.in-Some.is t) c.give_up.ensures.closes
 
 pub returns-in-None-clause-same : goal.returns-in-None-clause-same
-returns-in-None-clause-same g c = g.W.Words.same_on _ _ _ (g.W.Words.same_on _ _ _ c.loop-helps.invariant.same c.link_item-ending.ensures.same) c.close.ensures.same
+returns-in-None-clause-same g c = g.W.Words.same_on _ _ _ (g.W.Words.same_on _ _ _ c.loop-words.invariant.same c.link_item.ensures.same) c.close_round-in-Answers.ensures.same
 
 pub returns-in-None-clause-made : goal.returns-in-None-clause-made
 returns-in-None-clause-made g c =
-    let first = c.requires.here in
-    let post : Post = c.close.new.post in
-    let held : HeldDesk = c.link_item-ending.new.desk in
-    let task : Task = Enqueues (kept_of c.link_item-ending.new.item) in
-    let next : Next = next_of c.link_item-ending.result in
-    let x = then_leads c.loop-helps.invariant.leads c.link_item-ending.ensures.leads in
-    let t = then_turns x (c.close.ensures.turns task next (desk_of held) refl (here_on first x)) in
-    answer_given task next c.in-Answers.answer post held c.note_steps.new.desk (ap next_of c.in-Answers.is) c.in-None.is (ap desk_of c.note_steps.ensures) t
+    let held : HeldDesk = c.link_item.new.desk in
+    let task : Task = Enqueues (kept_of c.link_item.new.item) in
+    let x = then_leads c.loop-words.invariant.leads c.in-Answers.ensures.leads in
+    let t = then_turns x (c.close_round-in-Answers.ensures.turns task (Answering c.in-Answers.answer) (desk_of held) refl tt (here_on c.requires.here x)) in
+    answer_given task c.in-Answers.answer c.close_round-in-Answers.new.post held c.note_steps.new.desk c.in-None.is (ap desk_of c.note_steps.ensures) t

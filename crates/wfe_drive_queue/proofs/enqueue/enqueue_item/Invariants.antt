@@ -1,26 +1,26 @@
 -- The call stands before a round.
-use Rattle.std.proofs.Common.{◌≡◌}
 use Rattle.wfe_core.specs.defs.declared.call.Call.TheVariants.{Enqueue}
 use Rattle.wfe_core.specs.Calls.{Enqueues}
 use Rattle.wfe_core.specs.DeskHeld.{HasRoom}
-use Rattle.wfe_core.specs.Rounds.{opening}
+use Rattle.wfe_core.specs.Rounds.{round}
 use Rattle.wfe_core.specs.Steps.{first_phase}
 use Rattle.wfe_drive_queue.specs.Items.{kept_of}
 use Rattle.wfe_drive_queue.specs.drive_words.Called.{at_phase}
 use Rattle.wfe_drive_queue.specs.drive_words.Path.{Leads}
+use Rattle.wfe_drive_queue.specs.drive_runs.Pieces.{IsFree}
 use Rattle.wfe_drive_queue.proofs.enqueue.enqueue_item.Given as goal
 
-abbrev pub invariant-loop-helps : goal.invariant-loop-helps
-invariant-loop-helps g l =
+abbrev pub invariant-loop-words : goal.invariant-loop-words
+invariant-loop-words g l =
     let words = g.W.Words in
     record {
       valid : words.valid l.words;
       same : words.same l.fn.words l.words;
       room : HasRoom l.desk l.post.layout;
-      layout : l.post.layout ≡ l.fn.post.layout;
+      free : IsFree l.post;
       leads : Leads (words.at l.fn.words) (words.at l.words) (words.stands l.fn.words) (words.stands l.words)
-          (at_phase (first_phase (Enqueue l.value) l.fn.post) l.fn.post l.fn.desk) (at_phase (opening (Enqueues (kept_of l.item)) l.post) l.post l.desk);
+          (at_phase (first_phase (Enqueue l.value) l.fn.post) l.fn.post l.fn.desk) (at_phase (round (Enqueues (kept_of l.item)) l.post) l.post l.desk);
     }
 
-abbrev pub decreases-loop-helps : goal.decreases-loop-helps
-decreases-loop-helps g l = g.W.Words.rest l.words
+abbrev pub decreases-loop-words : goal.decreases-loop-words
+decreases-loop-words g l = g.W.Words.rest l.words

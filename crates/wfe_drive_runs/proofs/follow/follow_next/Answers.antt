@@ -1,12 +1,14 @@
--- The scheme is one of those two.
+-- The protection is the scheme's.
 use Rattle.std.proofs.Common.{ap, sym, ◌∙◌, ◌≡◌}
+use Rattle.wfe_core.specs.words.Schemes.{has_one_interval}
 use Rattle.wfe_core.specs.words.declared.config.Config.{Config}
 use Rattle.wfe_core.specs.words.declared.config.SchemeKind.{SchemeKind}
-use Rattle.wfe_core.specs.words.declared.config.SchemeKind.TheVariants.{He, Wfe}
+use Rattle.wfe_core.specs.words.declared.config.SchemeKind.TheVariants.{He, Ibr, Wfe}
 use Rattle.wfe_core.specs.Calls.{Runs}
 use Rattle.wfe_core.specs.Dequeue.{follow_base}
 use Rattle.wfe_drive_words.specs.Called.{at_phase}
-use Rattle.wfe_drive_runs.proofs.Followings.{no_interval, room_as, so_from}
+use Rattle.wfe_drive_runs.proofs.Followings.{room_as, so_from}
+use Rattle.wfe_drive_runs.proofs.Spanning.{free_kept, free_without}
 use Rattle.wfe_drive_words.proofs.Leading.{here_as}
 use Rattle.wfe_drive_runs.proofs.follow.follow_next.Goals as goal
 
@@ -18,6 +20,9 @@ follow_wfe-requires-clause-here g c =
     let kind : c.args.post.now.layout.config.scheme ≡ Wfe = ap (λ (config : Config). config.scheme) (sym c.config.ensures) ∙ c.in-Wfe.is in
     let (why, h) = c.requires.here in
     (why, here_as _ _ (ap (λ (scheme : SchemeKind). at_phase (Runs why (follow_base scheme c.args.parent)) c.args.post.now c.args.desk.now) kind) h)
+
+pub returns-in-Wfe-clause-free : goal.returns-in-Wfe-clause-free
+returns-in-Wfe-clause-free g c = free_without c.args.post.now c.follow_wfe.new.post c.follow_wfe.ensures.layout (ap has_one_interval (ap (λ (config : Config). config.scheme) (sym c.config.ensures) ∙ c.in-Wfe.is))
 
 pub returns-in-Wfe-clause-leads : goal.returns-in-Wfe-clause-leads
 returns-in-Wfe-clause-leads g c = λ why h.
@@ -37,20 +42,35 @@ follow_he-requires-clause-here g c =
 pub returns-in-He-clause-room : goal.returns-in-He-clause-room
 returns-in-He-clause-room g c = room_as c.follow_he.ensures.layout c.requires.room
 
+pub returns-in-He-clause-free : goal.returns-in-He-clause-free
+returns-in-He-clause-free g c = free_without c.args.post.now c.follow_he.new.post c.follow_he.ensures.layout (ap has_one_interval (ap (λ (config : Config). config.scheme) (sym c.config.ensures) ∙ c.in-He.is))
+
 pub returns-in-He-clause-leads : goal.returns-in-He-clause-leads
 returns-in-He-clause-leads g c = λ why h.
     let kind : c.args.post.now.layout.config.scheme ≡ He = ap (λ (config : Config). config.scheme) (sym c.config.ensures) ∙ c.in-He.is in
     let is = ap (λ (scheme : SchemeKind). at_phase (Runs why (follow_base scheme c.args.parent)) c.args.post.now c.args.desk.now) kind in
     so_from _ _ (sym is) (c.follow_he.ensures.leads why (here_as _ _ is h))
 
-pub follow_he-requires-in-Ibr-clause-scheme : goal.follow_he-requires-in-Ibr-clause-scheme
-follow_he-requires-in-Ibr-clause-scheme g c = absurd (no_interval _ (ap (λ (config : Config). config.scheme) (sym c.config.ensures) ∙ c.in-Ibr.is) c.requires.clears)
+pub follow_ibr-requires-clause-scheme : goal.follow_ibr-requires-clause-scheme
+follow_ibr-requires-clause-scheme g c = ap (λ (config : Config). config.scheme) (sym c.config.ensures) ∙ c.in-Ibr.is
 
-pub follow_he-requires-in-Ibr-clause-here : goal.follow_he-requires-in-Ibr-clause-here
-follow_he-requires-in-Ibr-clause-here g c = absurd (no_interval _ (ap (λ (config : Config). config.scheme) (sym c.config.ensures) ∙ c.in-Ibr.is) c.requires.clears)
+pub follow_ibr-requires-clause-span : goal.follow_ibr-requires-clause-span
+follow_ibr-requires-clause-span g c = c.requires.spanned (ap has_one_interval (ap (λ (config : Config). config.scheme) (sym c.config.ensures) ∙ c.in-Ibr.is))
+
+pub follow_ibr-requires-clause-here : goal.follow_ibr-requires-clause-here
+follow_ibr-requires-clause-here g c =
+    let kind : c.args.post.now.layout.config.scheme ≡ Ibr = ap (λ (config : Config). config.scheme) (sym c.config.ensures) ∙ c.in-Ibr.is in
+    let (why, h) = c.requires.here in
+    (why, here_as _ _ (ap (λ (scheme : SchemeKind). at_phase (Runs why (follow_base scheme c.args.parent)) c.args.post.now c.args.desk.now) kind) h)
 
 pub returns-in-Ibr-clause-room : goal.returns-in-Ibr-clause-room
-returns-in-Ibr-clause-room g c = absurd (no_interval _ (ap (λ (config : Config). config.scheme) (sym c.config.ensures) ∙ c.in-Ibr.is) c.requires.clears)
+returns-in-Ibr-clause-room g c = room_as c.follow_ibr.ensures.layout c.requires.room
+
+pub returns-in-Ibr-clause-free : goal.returns-in-Ibr-clause-free
+returns-in-Ibr-clause-free g c = free_kept c.args.post.now c.follow_ibr.new.post c.follow_ibr.ensures.layout c.follow_ibr.ensures.kept c.requires.free
 
 pub returns-in-Ibr-clause-leads : goal.returns-in-Ibr-clause-leads
-returns-in-Ibr-clause-leads g c = absurd (no_interval _ (ap (λ (config : Config). config.scheme) (sym c.config.ensures) ∙ c.in-Ibr.is) c.requires.clears)
+returns-in-Ibr-clause-leads g c = λ why h.
+    let kind : c.args.post.now.layout.config.scheme ≡ Ibr = ap (λ (config : Config). config.scheme) (sym c.config.ensures) ∙ c.in-Ibr.is in
+    let is = ap (λ (scheme : SchemeKind). at_phase (Runs why (follow_base scheme c.args.parent)) c.args.post.now c.args.desk.now) kind in
+    so_from _ _ (sym is) (c.follow_ibr.ensures.leads why (here_as _ _ is h))

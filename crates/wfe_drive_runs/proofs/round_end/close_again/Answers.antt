@@ -1,22 +1,16 @@
 -- Under 2GE nothing is to be done on the words; else the index is cleared.
-use Rattle.std.proofs.Common.{None, ap, arith, refl, sym, ◌∙◌}
-use Rattle.std.proofs.lemmas.List.{length-set}
+use Rattle.std.proofs.Common.{ap, arith, refl, sym, ◌∙◌}
 use Rattle.wfe_core.specs.Calls.{Again}
 use Rattle.wfe_core.specs.words.Schemes.{has_one_interval}
 use Rattle.wfe_core.specs.words.declared.config.Config.{Config}
 use Rattle.wfe_core.specs.Posts.{withdrawn}
 use Rattle.wfe_core.specs.declared.post.Post.{Post}
-use Rattle.wfe_drive_words.proofs.Leading.{here_as, leads_as, leads_none}
+use Rattle.wfe_drive_words.proofs.Leading.{leads_as, leads_none}
 use Rattle.wfe_drive_runs.proofs.Spanning.{again_is, free_without, kept_cleared}
-use Rattle.wfe_drive_runs.proofs.Turning.{may_here}
 use Rattle.wfe_drive_runs.proofs.round_end.close_again.Goals as goal
 
 pub bounds-post-0 : goal.bounds-post-0
-bounds-post-0 g c =
-    let (task, desk, i, first) = c.requires.here in
-    let h = here_as _ _ (again_is task c.args.post.now desk i (ap (λ (config : Config). config.scheme) (sym c.config.ensures) ∙ c.in-Ibr.is)) first in
-    let may = may_here (g.W.Words.comes c.args.words.now) c.requires.valid h in
-    omega (arith, may.valid.all_standing, length-set c.args.post.now.standing 0 None)
+bounds-post-0 g c = omega arith
 
 pub returns-in-Ibr-clause-free : goal.returns-in-Ibr-clause-free
 returns-in-Ibr-clause-free g c = λ one. kept_cleared c.args.post.now (withdrawn c.args.post.now 0) refl ∙ c.requires.free one

@@ -1,19 +1,60 @@
--- Index 0 comes after it.
-use Rattle.std.proofs.Common.{ap, sym, ◌∙◌}
+-- Under 2GE nothing is to be done on the words; else index 1 is cleared, and index 0 comes after it.
+use Rattle.std.proofs.Common.{None, ap, arith, refl, sym, ◌∙◌}
 use Rattle.wfe_core.specs.Calls.{ClearsNext, Dequeues}
+use Rattle.wfe_core.specs.words.Schemes.{has_one_interval}
+use Rattle.wfe_core.specs.words.declared.config.Config.{Config}
+use Rattle.wfe_core.specs.Posts.{withdrawn}
+use Rattle.wfe_core.specs.declared.post.Post.{Post}
 use Rattle.wfe_drive_runs.specs.Pieces.{clearing_at}
 use Rattle.wfe_drive_runs.proofs.Closing.{clearing_noted, clears_next_is}
-use Rattle.wfe_drive_words.proofs.Leading.{here_as, leads_as, leads_from}
+use Rattle.wfe_drive_words.proofs.Leading.{here_as, leads_as, leads_from, leads_none}
+use Rattle.wfe_drive_runs.proofs.Spanning.{free_without, kept_set, next_clears}
 use Rattle.wfe_drive_runs.proofs.round_end.close_next.Goals as goal
+
+pub bounds-post-1 : goal.bounds-post-1
+bounds-post-1 g c = omega arith
+
+pub returns-in-Ibr-clause-free : goal.returns-in-Ibr-clause-free
+returns-in-Ibr-clause-free g c = λ one. kept_set c.args.post.now (withdrawn c.args.post.now 1) 1 None (omega arith) refl ∙ c.requires.free one
+
+pub returns-in-Ibr-clause-leads : goal.returns-in-Ibr-clause-leads
+returns-in-Ibr-clause-leads g c = λ next desk h.
+    leads_as _ _ (next_clears next c.args.post.now desk (ap (λ (config : Config). config.scheme) (sym c.config.ensures) ∙ c.in-Ibr.is)) (leads_none (g.W.Words.at c.args.words.now) (g.W.Words.stands c.args.words.now) _)
 
 pub clear-requires-clause-here : goal.clear-requires-clause-here
 clear-requires-clause-here g c =
     let (next, desk, h) = c.requires.here in
-    (ClearsNext next, desk, here_as _ _ (clears_next_is next c.args.post.now desk c.requires.clears) h)
+    (ClearsNext next, desk, here_as _ _ (clears_next_is next c.args.post.now desk (ap has_one_interval (ap (λ (config : Config). config.scheme) (sym c.config.ensures) ∙ c.in-He.is))) h)
 
-pub returns-clause-leads : goal.returns-clause-leads
-returns-clause-leads g c = λ next desk h.
-    let is = clears_next_is next c.args.post.now desk c.requires.clears in
+pub returns-in-He-clause-layout : goal.returns-in-He-clause-layout
+returns-in-He-clause-layout g c = ap (λ (post : Post). post.layout) c.clear.ensures.post
+
+pub returns-in-He-clause-free : goal.returns-in-He-clause-free
+returns-in-He-clause-free g c =
+    free_without c.args.post.now c.clear.new.post (ap (λ (post : Post). post.layout) c.clear.ensures.post) (ap has_one_interval (ap (λ (config : Config). config.scheme) (sym c.config.ensures) ∙ c.in-He.is))
+
+pub returns-in-He-clause-leads : goal.returns-in-He-clause-leads
+returns-in-He-clause-leads g c = λ next desk h.
+    let is = clears_next_is next c.args.post.now desk (ap has_one_interval (ap (λ (config : Config). config.scheme) (sym c.config.ensures) ∙ c.in-He.is)) in
     let (told, quiet, x) = c.clear.ensures.turns (ClearsNext next) desk (here_as _ _ is h) in
     let post = c.clear.new.post in
+    leads_from _ _ (sym is) (leads_as _ _ (clearing_noted Dequeues next post desk told ∙ ap (clearing_at Dequeues next post) quiet) x.leads)
+
+pub clear-requires-in-Wfe-clause-here : goal.clear-requires-in-Wfe-clause-here
+clear-requires-in-Wfe-clause-here g c =
+    let (next, desk, h) = c.requires.here in
+    (ClearsNext next, desk, here_as _ _ (clears_next_is next c.args.post.now desk (ap has_one_interval (ap (λ (config : Config). config.scheme) (sym c.config.ensures) ∙ c.in-Wfe.is))) h)
+
+pub returns-in-Wfe-clause-layout : goal.returns-in-Wfe-clause-layout
+returns-in-Wfe-clause-layout g c = ap (λ (post : Post). post.layout) c.clear-in-Wfe.ensures.post
+
+pub returns-in-Wfe-clause-free : goal.returns-in-Wfe-clause-free
+returns-in-Wfe-clause-free g c =
+    free_without c.args.post.now c.clear-in-Wfe.new.post (ap (λ (post : Post). post.layout) c.clear-in-Wfe.ensures.post) (ap has_one_interval (ap (λ (config : Config). config.scheme) (sym c.config.ensures) ∙ c.in-Wfe.is))
+
+pub returns-in-Wfe-clause-leads : goal.returns-in-Wfe-clause-leads
+returns-in-Wfe-clause-leads g c = λ next desk h.
+    let is = clears_next_is next c.args.post.now desk (ap has_one_interval (ap (λ (config : Config). config.scheme) (sym c.config.ensures) ∙ c.in-Wfe.is)) in
+    let (told, quiet, x) = c.clear-in-Wfe.ensures.turns (ClearsNext next) desk (here_as _ _ is h) in
+    let post = c.clear-in-Wfe.new.post in
     leads_from _ _ (sym is) (leads_as _ _ (clearing_noted Dequeues next post desk told ∙ ap (clearing_at Dequeues next post) quiet) x.leads)

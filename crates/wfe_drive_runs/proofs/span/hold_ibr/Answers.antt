@@ -1,5 +1,5 @@
 -- The protection is the state's, and what stands is what it leaves.
-use Rattle.std.proofs.Common.{Option, ap, refl, sym, ◌≡◌, ℕ, Some}
+use Rattle.std.proofs.Common.{IsSome, Option, ap, refl, subst, sym, ◌≡◌, ℕ, Some}
 use Rattle.wfe_core.specs.Calls.{Runs, Why}
 use Rattle.wfe_core.specs.DeskHeld.{desk_of}
 use Rattle.wfe_core.specs.Desks.{Desk}
@@ -13,7 +13,7 @@ use Rattle.wfe_drive_words.specs.Path.{protecting, spanned}
 use Rattle.wfe_drive_runs.specs.Pieces.{asked_trial, seat_of}
 use Rattle.wfe_drive_runs.proofs.Holds.{stood_leads}
 use Rattle.wfe_drive_words.proofs.Leading.{few_here, here_as, leads_from}
-use Rattle.wfe_drive_runs.proofs.Spanning.{kept_stood}
+use Rattle.wfe_drive_runs.proofs.Spanning.{kept_stood, span_stood}
 use Rattle.wfe_drive_runs.proofs.Turning.{may_here}
 use Rattle.wfe_drive_runs.proofs.span.hold_ibr.Goals as goal
 
@@ -52,6 +52,9 @@ stand-requires-clause-few g c =
 
 pub returns-clause-kept : goal.returns-clause-kept
 returns-clause-kept g c = kept_stood c.args.index c.protect_within-guarded.result.link _ c.stand.new.post c.stand.result c.stand.ensures.stood c.requires.early
+
+pub returns-clause-spanned : goal.returns-clause-spanned
+returns-clause-spanned g c = subst IsSome (sym (span_stood c.args.index c.protect_within-guarded.result.link _ c.stand.new.post c.stand.result c.stand.ensures.stood)) refl
 
 pub returns-clause-leads : goal.returns-clause-leads
 returns-clause-leads g c = λ why h.

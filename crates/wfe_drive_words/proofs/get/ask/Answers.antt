@@ -12,17 +12,17 @@ overflow_add-post g c =
     let few : c.args.post.now.steps + c.args.steps < 2 ^ 62 = few_here (g.W.Words.comes c.args.words.now) c.requires.valid c.requires.here refl in
     omega (arith, few)
 
-pub drive_on-requires-clause-busy : goal.drive_on-requires-clause-busy
-drive_on-requires-clause-busy g c =
+pub drive_apart-requires-clause-busy : goal.drive_apart-requires-clause-busy
+drive_apart-requires-clause-busy g c =
     let post : Post = record c.args.post.now { steps = c.args.post.now.steps + c.args.steps } in
     ap busy_in (c.protecting.ensures post)
 
-pub drive_on-requires-clause-here : goal.drive_on-requires-clause-here
-drive_on-requires-clause-here g c =
+pub drive_apart-requires-clause-here : goal.drive_apart-requires-clause-here
+drive_apart-requires-clause-here g c =
     let post : Post = record c.args.post.now { steps = c.args.post.now.steps + c.args.steps } in
     here_as _ _ (ap (λ (phase : Phase). at_phase phase post c.args.desk.now) (sym (c.protecting.ensures post ∙ ap (Runs (Opens (Gets c.args.key))) c.asking-protect.ensures))) c.requires.here
 
 pub returns-clause-closes : goal.returns-clause-closes
 returns-clause-closes g c =
     let post : Post = record c.args.post.now { steps = c.args.post.now.steps + c.args.steps } in
-    closes_from _ _ (ap (λ (phase : Phase). at_phase phase post c.args.desk.now) (c.protecting.ensures post ∙ ap (Runs (Opens (Gets c.args.key))) c.asking-protect.ensures)) c.drive_on.ensures.made
+    closes_from _ _ (ap (λ (phase : Phase). at_phase phase post c.args.desk.now) (c.protecting.ensures post ∙ ap (Runs (Opens (Gets c.args.key))) c.asking-protect.ensures)) c.drive_apart.ensures.made

@@ -1,0 +1,69 @@
+-- What answers say of the queue is so by the values that the record has.
+use Rattle.std.proofs.Common.{List, Some, [], ap, arith, length, subst, sym, true, ℕ, ◌++◌, ◌-◌, ◌<◌, ◌∙◌, ◌∷◌, ◌≡◌, ◌≤◌}
+use Rattle.std.proofs.lemmas.Option.{slice_get-get_or}
+use Rattle.std.specs.Prelude.{slice_get, slice_index_or}
+use Rattle.law_logs.specs.inv.model.Locals.{Group}
+use Rattle.law_logs.specs.inv.model.defs.declared.call.Answer.TheVariants as answers
+use Rattle.law_logs.specs.inv.model.defs.declared.call.Answer.{Answer}
+use Rattle.law_logs.specs.inv.model.defs.declared.call.Call.TheVariants as calls
+use Rattle.law_logs.specs.inv.model.defs.declared.call.Call.{Call}
+use Rattle.law_logs.specs.inv.model.words.declared.config.Config.{Config}
+use Rattle.law_logs.specs.inv.model.words.declared.layout.Layout.{Layout}
+use Rattle.law_logs.specs.inv.history.History.{Item, record_of}
+use Rattle.law_logs.specs.inv.history.Record.{Past}
+use Rattle.law_logs.specs.Answered.{IsEmpty, Says}
+use Rattle.law_logs.specs.Versions.{Counts, counts_of, met_in}
+use Rattle.law_logs.proofs.Grows.{Grows, grows_tells}
+use Rattle.law_logs.specs.laws.AnswerLaw.{suits}
+use Rattle.law_logs.specs.laws.StateAt.{queued_of, taken_of}
+use Rattle.law_all.specs.RunLaw.{InOrder, IsCall, QueuesRight, is_queued_as}
+use Rattle.law_all.specs.Runs.{AtRest, logs_of}
+use Rattle.law_all.proofs.Runs.Bounds.{bounds}
+use Rattle.law_all.proofs.Runs.Calls.{Called, Follow, called, follow}
+use Rattle.law_all.proofs.Runs.Closes.{closes}
+use Rattle.law_all.proofs.Runs.Rises.{met_queued}
+
+-- the value under a number
+value_there : (values : List ℕ) (low number value : ℕ) → low < number → number ≤ length values → value ≡ slice_index_or values (number - 1) 0
+    → slice_get values (number - 1) ≡ Some value
+value_there values low number value since until e =
+    let within : number - 1 < length values = omega (arith, since, until) in
+    slice_get-get_or values (number - 1) 0 within ∙ ap (λ (x : ℕ). Some x) (sym e)
+
+all_numbers : (queued number last : ℕ) → number ≤ queued → number ≡ last → queued ≤ last → queued ≡ last
+all_numbers queued number last h e k = omega (arith, h, e, k)
+
+right_by : (c : Config) (from : Counts) (r : Past) (call : Call) (answer : Answer) → length (queued_of r) ≤ c.last_version → Says c from r call answer
+    → QueuesRight c (queued_of r) call answer
+right_by c from r (calls.Enqueue value) (answers.Queued number) most s = value_there (queued_of r) from.queued number value s.since s.until s.value_is
+right_by c from r (calls.Enqueue value) (answers.Spent number) most s = all_numbers (length (queued_of r)) number c.last_version s.until s.final most
+right_by c from r calls.Dequeue (answers.Taken number value clock) most s = value_there (queued_of r) from.taken number value s.since s.queued s.value_is
+right_by c from r call answer most s = tt
+
+pub queue : (layout : Layout) (items : List Item) → AtRest layout items → (before : List Group) (group : Group) → IsCall (logs_of layout items) before group
+    → QueuesRight layout.config (queued_of (record_of layout items)) group.call group.answer
+queue layout items rest before group h =
+    let a : Called layout items before group = called layout items before group rest.valid h in
+    right_by layout.config (counts_of a.is.begun.from) (record_of layout items) group.call group.answer (bounds layout items rest.valid).queued a.is.says
+
+-- where a call finds the queue empty, what its seat has queued was taken
+empty_said : (c : Config) (from : Counts) (r : Past) (call : Call) (answer : Answer) → answer ≡ answers.Empty → suits call answer ≡ true
+    → Says c from r call answer → IsEmpty from r
+empty_said c from r calls.Dequeue answers.Empty e u s = s
+empty_said c from r call answer e u s = absurd (cc)
+
+taken_by_then : (number met from queued taken last : ℕ) → met ≡ number → met ≤ from → from ≤ queued → taken ≡ queued → taken ≤ last → number ≤ last
+taken_by_then number met from queued taken last e h k same g = omega (arith, e, h, k, same, g)
+
+pub empty : (layout : Layout) (items : List Item) → AtRest layout items → (one two : Group) (number : ℕ) → InOrder (logs_of layout items) one two
+    → is_queued_as number one ≡ true → two.answer ≡ answers.Empty → number ≤ taken_of (record_of layout items)
+empty layout items rest one two number h l e =
+    let n : ℕ = layout.config.buckets in
+    let r : Past = record_of layout items in
+    let f : Follow layout items one two = follow layout items one two rest.valid h in
+    let from : Counts = counts_of f.second.begun.from in
+    let u : suits two.call two.answer ≡ true = (closes layout items f.seat (f.before ++ one ∷ f.between) two rest.valid f.second.end).suits in
+    let s : IsEmpty from r = empty_said layout.config from r two.call two.answer e u f.second.says in
+    let g : Grows s.at r = subst (Grows s.at) (sym s.cut) (grows_tells s.later s.at) in
+    taken_by_then number (met_in n (f.before ++ one ∷ [])).queued from.queued (length (queued_of s.at)) (taken_of s.at) (taken_of r)
+    (met_queued n number f.before one l) f.met.queued s.since.queued s.all g.taken

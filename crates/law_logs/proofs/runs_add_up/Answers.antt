@@ -1,5 +1,0 @@
-use Rattle.law_logs.proofs.Runs.Sums as sums
-use Rattle.law_logs.proofs.runs_add_up.Goals as goal
-
-pub returns : goal.returns
-returns c = sums.runs_add_up

@@ -1,5 +1,0 @@
-use Rattle.law_logs.proofs.Runs.Lawful as lawful
-use Rattle.law_logs.proofs.runs_are_lawful.Goals as goal
-
-pub returns : goal.returns
-returns c = lawful.runs_are_lawful

@@ -1,5 +1,0 @@
-use Rattle.law_logs.proofs.Runs.Keeping as keeping
-use Rattle.law_logs.proofs.runs_keep.Goals as goal
-
-pub returns : goal.returns
-returns c = keeping.runs_keep

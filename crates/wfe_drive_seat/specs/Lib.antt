@@ -1,0 +1,3 @@
+pub use Rattle.wfe_drive_cells.specs as drive_cells
+pub mod Seats
+pub mod Sound

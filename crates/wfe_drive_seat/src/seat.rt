@@ -1,0 +1,181 @@
+// A seat of a rig: its post, its desk and the call under way on it, and the seat's part of a unit.
+ghost use Rattle.std.specs.Prelude.{◌≡◌, ◌<◌, [], IfOk, length, true, false};
+ghost use Rattle.wfe_core.specs.words.Place.{is_valid};
+ghost use Rattle.wfe_drive_cells.specs.Operations.{answered, performed, word_in};
+ghost use Rattle.wfe_drive_cells.specs.Unit.{Leaves, SeatView, answer_in, asked, fresh_seat, seat_after, turned};
+ghost use Rattle.wfe_core.specs.CallReady.{IsCallPlausible, IsCallReady, NotesFit};
+ghost use Rattle.wfe_core.specs.Calls.{GoesOn, Phase};
+ghost use Rattle.wfe_core.specs.DeskHeld.{HasRoom, desk_of};
+ghost use Rattle.wfe_core.specs.Desks.{no_notes};
+ghost use Rattle.wfe_core.specs.Locals.{begun_post, busy_in, told_by};
+ghost use Rattle.wfe_core.specs.Posts.{counted};
+ghost use Rattle.wfe_core.specs.Steps.{call_op, phase_turn};
+ghost use Rattle.wfe_core.specs.Valid.{IsValid};
+ghost use Rattle.wfe_drive_seat.specs.Seats.{Suits, engaged_phase, is_engaged};
+
+use std::alloc::Global;
+use std::marker::Model;
+use wfe_core::{Answer, CallMachine, Desk, Layout, NoMemory, Post, Told};
+use wfe_drive_cells::Cells;
+
+/// A seat's call, by the table's scheme; none between calls.
+#[derive(Drop)]
+pub enum Engaged<H: CallMachine, I: CallMachine, W: CallMachine> {
+    Free,
+    /// Under Hazard Eras.
+    He(H),
+    /// Under 2GE intervals.
+    Ibr(I),
+    /// Under Wait-Free Eras.
+    Wfe(W),
+}
+
+/// A seat of a table. It is seen as what the model knows of a seat: where its call stands, its post
+/// and its desk.
+#[derive(Drop)]
+pub struct SeatState<H: CallMachine, I: CallMachine, W: CallMachine> {
+    post: Post,
+    desk: Desk,
+    engaged: Engaged<H, I, W>,
+}
+
+impl<H: CallMachine, I: CallMachine, W: CallMachine> Model for SeatState<H, I, W> {
+    ghost use Rattle.wfe_drive_cells.specs.Unit.{SeatView};
+    ghost use Rattle.wfe_core.specs.DeskHeld.{desk_of};
+    ghost use Rattle.wfe_drive_seat.specs.Seats.{engaged_phase};
+    ghost use Rattle.wfe_drive_seat.specs.Sound.{IsSound};
+
+    ghost Value = { SeatView };
+
+    ghost view = { λ s. record { phase = engaged_phase H.phase I.phase W.phase s.engaged s.post; post = s.post; desk = desk_of s.desk } };
+
+    ghost invariant = { λ s. IsSound H.suits I.suits W.suits H.phase I.phase W.phase s.engaged s.post s.desk };
+}
+
+impl<H: CallMachine, I: CallMachine, W: CallMachine> SeatState<H, I, W> {
+    /// A seat that has made no call.
+    pub fn new(alloc: Global, seat: u32, layout: Layout) -> Result<SeatState<H, I, W>, NoMemory>
+        requires layout { is_valid layout ≡ true }
+        requires seat { seat < layout.config.seats }
+        ensures { IfOk result (λ state. state ≡ fresh_seat layout seat) }
+    {
+        Ok(SeatState {
+            post: Post::new(seat, layout),
+            desk: Desk::new(alloc, layout)?,
+            engaged: Engaged::Free,
+        })
+    }
+
+    /// Whether a call is under way.
+    pub fn busy(&self) -> bool
+        ensures { result ≡ busy_in self.now.phase }
+    {
+        match self.engaged {
+            Engaged::Free => false,
+            _ => true,
+        }
+    }
+
+    /// A call begins.
+    pub fn engage(&mut self, engaged: Engaged<H, I, W>)
+        requires suits { Suits H.suits I.suits W.suits engaged self.old.post.layout.config.scheme }
+        requires busy { busy_in (engaged_phase H.phase I.phase W.phase engaged (begun_post self.old.post)) ≡ true }
+        requires engaged { is_engaged engaged ≡ true }
+        ensures phase { self.new.phase ≡ engaged_phase H.phase I.phase W.phase engaged (begun_post self.old.post) }
+        ensures post { self.new.post ≡ begun_post self.old.post }
+        ensures desk { self.new.desk ≡ record self.old.desk { notes = no_notes } }
+    {
+        self.post.steps = 0;
+        self.desk.notes.clear();
+        self.engaged = engaged;
+    }
+
+    /// Makes one step of the seat's call on the cells, tells its events, and answers where the call
+    /// ended. It takes no memory.
+    pub fn unit<C: Cells>(&mut self, cells: &mut C, told: &mut Told) -> Option<Answer>
+        requires busy { busy_in self.old.phase ≡ true }
+        requires there { word_in (asked self.old) < length (C.words cells.old) }
+        requires valid { IsValid self.old.post }
+        requires ready { IsCallReady self.old.phase self.old.post self.old.desk }
+        requires noted { NotesFit self.old.post self.old.desk }
+        requires plausible { IsCallPlausible self.old.phase self.old.post (answered (C.words cells.old) (asked self.old)) }
+        requires goes { (phase : Phase) → (turned self.old (answered (C.words cells.old) (asked self.old))).outcome ≡ GoesOn phase → busy_in phase ≡ true }
+        requires empty { told.old ≡ [] }
+        ensures words { C.words cells.new ≡ performed (C.words cells.old) (asked self.old) }
+        ensures seat { self.new ≡ seat_after (turned self.old (answered (C.words cells.old) (asked self.old))) }
+        ensures told { told.new ≡ told_by (turned self.old (answered (C.words cells.old) (asked self.old))) }
+        ensures answer { result ≡ answer_in (turned self.old (answered (C.words cells.old) (asked self.old))).outcome }
+        ensures layout { self.new.post.layout ≡ self.old.post.layout }
+    {
+        let answer = self
+            .engaged
+            .unit(cells, &mut self.post, &mut self.desk, told);
+        if answer.is_some() {
+            self.engaged = Engaged::Free;
+        }
+        answer
+    }
+}
+
+impl<H: CallMachine, I: CallMachine, W: CallMachine> Engaged<H, I, W> {
+    /// Makes one step of the call, under whichever scheme it is.
+    fn unit<C: Cells>(
+        &mut self,
+        cells: &mut C,
+        post: &mut Post,
+        desk: &mut Desk,
+        told: &mut Told,
+    ) -> Option<Answer>
+        requires engaged { is_engaged self.old ≡ true }
+        requires there { word_in (call_op (engaged_phase H.phase I.phase W.phase self.old post.old) post.old) < length (C.words cells.old) }
+        requires valid { IsValid post.old }
+        requires suits { Suits H.suits I.suits W.suits self.old post.old.layout.config.scheme }
+        requires room { HasRoom desk.old post.old.layout }
+        requires ready { IsCallReady (engaged_phase H.phase I.phase W.phase self.old post.old) post.old (desk_of desk.old) }
+        requires noted { NotesFit post.old (desk_of desk.old) }
+        requires plausible { IsCallPlausible (engaged_phase H.phase I.phase W.phase self.old post.old) post.old (answered (C.words cells.old) (call_op (engaged_phase H.phase I.phase W.phase self.old post.old) post.old)) }
+        requires empty { told.old ≡ [] }
+        ensures engaged { is_engaged self.new ≡ true }
+        ensures suits { Suits H.suits I.suits W.suits self.new post.new.layout.config.scheme }
+        ensures layout { post.new.layout ≡ post.old.layout }
+        ensures room { HasRoom desk.new post.new.layout }
+        ensures words { C.words cells.new ≡ performed (C.words cells.old) (call_op (engaged_phase H.phase I.phase W.phase self.old post.old) post.old) }
+        ensures leaves { Leaves (phase_turn (engaged_phase H.phase I.phase W.phase self.old post.old) (counted post.old) (desk_of desk.old) (answered (C.words cells.old) (call_op (engaged_phase H.phase I.phase W.phase self.old post.old) post.old))) post.new desk.new told.new result (engaged_phase H.phase I.phase W.phase self.new post.new) }
+    {
+        match self {
+            Engaged::Free => unreachable!(),
+            Engaged::He(machine) => make_unit(cells, machine, post, desk, told),
+            Engaged::Ibr(machine) => make_unit(cells, machine, post, desk, told),
+            Engaged::Wfe(machine) => make_unit(cells, machine, post, desk, told),
+        }
+    }
+}
+
+/// Makes one step of a seat's call, whatever machine it is: exactly one operation on the cells, and the
+/// model's turn of what it found. The events are told, and the answer is Some where the call ended. It
+/// takes no memory.
+fn make_unit<C: Cells, M: CallMachine>(
+    cells: &mut C,
+    machine: &mut M,
+    post: &mut Post,
+    desk: &mut Desk,
+    told: &mut Told,
+) -> Option<Answer>
+    requires there { word_in (call_op (M.phase machine.old post.old) post.old) < length (C.words cells.old) }
+    requires valid { IsValid post.old }
+    requires scheme { M.suits post.old.layout.config.scheme }
+    requires room { HasRoom desk.old post.old.layout }
+    requires ready { IsCallReady (M.phase machine.old post.old) post.old (desk_of desk.old) }
+    requires noted { NotesFit post.old (desk_of desk.old) }
+    requires plausible { IsCallPlausible (M.phase machine.old post.old) post.old (answered (C.words cells.old) (call_op (M.phase machine.old post.old) post.old)) }
+    requires empty { told.old ≡ [] }
+    ensures valid { IsValid post.new }
+    ensures layout { post.new.layout ≡ post.old.layout }
+    ensures room { HasRoom desk.new post.new.layout }
+    ensures words { C.words cells.new ≡ performed (C.words cells.old) (call_op (M.phase machine.old post.old) post.old) }
+    ensures leaves { Leaves (phase_turn (M.phase machine.old post.old) (counted post.old) (desk_of desk.old) (answered (C.words cells.old) (call_op (M.phase machine.old post.old) post.old))) post.new desk.new told.new result (M.phase machine.new post.new) }
+{
+    let op = machine.next_op(post, desk);
+    let found = cells.perform(post.seat, op);
+    machine.take(post, desk, found, told)
+}

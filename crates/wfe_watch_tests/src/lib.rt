@@ -1,0 +1,5 @@
+//! Tests of the watchers that count.
+#![tactic(auto)]
+
+#[cfg(test)]
+mod watch;
